@@ -1,0 +1,32 @@
+//! What every other crate stands on: ids, spans, budgets, sets of states, limits and places.
+#![tactic(auto)]
+
+mod ids;
+mod limits;
+mod places;
+mod states;
+
+pub use ids::{FnId, KeyId, SetId, StmtId, TypeId, VarId};
+pub use limits::limit;
+pub use places::{Span, place};
+pub use sqlite_items::{Boxed, Items};
+pub use states::StateSet;
+
+/// There was no memory for what was asked.
+#[derive(Clone, Copy, Debug, PartialEq, Eq)]
+pub struct Memory;
+
+/// A run has as many live objects as its budget allows.
+#[derive(Clone, Copy, Debug, PartialEq, Eq)]
+pub struct HeapEnd;
+
+/// What a run may use.
+#[derive(Clone, Copy, Debug, PartialEq, Eq)]
+pub struct Budgets {
+    /// How many turns of loops and calls together.
+    pub fuel: u64,
+    /// How many objects may be live at a time.
+    pub heap: u32,
+    /// How many calls may be under way at a time, that of `main` included.
+    pub depth: u32,
+}
