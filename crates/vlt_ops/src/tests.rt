@@ -1,0 +1,165 @@
+use super::*;
+
+#[test]
+fn applies_each_operator(rt: HostRuntime) {
+    let cases = [
+        (Op::Negate, 5, 9, Ok(-5)),
+        (Op::Negate, -5, 9, Ok(5)),
+        (Op::Negate, 0, 9, Ok(0)),
+        (Op::Negate, i64::MIN, 9, Err(TrapKind::Overflow)),
+        (Op::Negate, i64::MAX, 9, Ok(i64::MIN + 1)),
+        (Op::Negate, i64::MIN + 1, 9, Ok(i64::MAX)),
+        (Op::Not, 0, 9, Ok(1)),
+        (Op::Not, 1, 9, Ok(0)),
+        (Op::Not, -7, 9, Ok(0)),
+        (Op::Not, i64::MIN, 9, Ok(0)),
+        (Op::Multiply, 6, -7, Ok(-42)),
+        (Op::Multiply, 0, i64::MIN, Ok(0)),
+        (Op::Multiply, i64::MIN, -1, Err(TrapKind::Overflow)),
+        (Op::Multiply, -1, i64::MIN, Err(TrapKind::Overflow)),
+        (
+            Op::Multiply,
+            3037000500,
+            3037000500,
+            Err(TrapKind::Overflow),
+        ),
+        (
+            Op::Multiply,
+            3037000499,
+            3037000499,
+            Ok(9223372030926249001),
+        ),
+        (
+            Op::Multiply,
+            4294967296,
+            2147483648,
+            Err(TrapKind::Overflow),
+        ),
+        (Op::Multiply, 4294967296, -2147483648, Ok(i64::MIN)),
+        (Op::Multiply, i64::MAX, 1, Ok(i64::MAX)),
+        (Op::Divide, 7, 2, Ok(3)),
+        (Op::Divide, -7, 2, Ok(-3)),
+        (Op::Divide, 7, -2, Ok(-3)),
+        (Op::Divide, -7, -2, Ok(3)),
+        (Op::Divide, 1, 0, Err(TrapKind::ZeroDivisor)),
+        (Op::Divide, 0, 0, Err(TrapKind::ZeroDivisor)),
+        (Op::Divide, i64::MIN, 0, Err(TrapKind::ZeroDivisor)),
+        (Op::Divide, i64::MIN, -1, Err(TrapKind::Overflow)),
+        (Op::Divide, i64::MIN, 1, Ok(i64::MIN)),
+        (Op::Divide, i64::MAX, -1, Ok(i64::MIN + 1)),
+        (Op::Divide, 0, -5, Ok(0)),
+        (Op::Remainder, 7, 2, Ok(1)),
+        (Op::Remainder, -7, 2, Ok(-1)),
+        (Op::Remainder, 7, -2, Ok(1)),
+        (Op::Remainder, -7, -2, Ok(-1)),
+        (Op::Remainder, 1, 0, Err(TrapKind::ZeroDivisor)),
+        (Op::Remainder, i64::MIN, 0, Err(TrapKind::ZeroDivisor)),
+        (Op::Remainder, i64::MIN, -1, Err(TrapKind::Overflow)),
+        (Op::Remainder, i64::MIN, 10, Ok(-8)),
+        (Op::Remainder, i64::MAX, -1, Ok(0)),
+        (Op::Remainder, 0, -5, Ok(0)),
+        (Op::Add, 2, 3, Ok(5)),
+        (Op::Add, i64::MAX, 1, Err(TrapKind::Overflow)),
+        (Op::Add, i64::MAX, 0, Ok(i64::MAX)),
+        (Op::Add, i64::MIN, -1, Err(TrapKind::Overflow)),
+        (Op::Add, i64::MIN, i64::MAX, Ok(-1)),
+        (Op::Add, 1, -1, Ok(0)),
+        (Op::Subtract, 2, 3, Ok(-1)),
+        (Op::Subtract, i64::MIN, 1, Err(TrapKind::Overflow)),
+        (Op::Subtract, i64::MAX, -1, Err(TrapKind::Overflow)),
+        (Op::Subtract, 0, i64::MIN, Err(TrapKind::Overflow)),
+        (Op::Subtract, -1, i64::MIN, Ok(i64::MAX)),
+        (Op::Subtract, i64::MIN, i64::MIN, Ok(0)),
+        (Op::Less, 1, 2, Ok(1)),
+        (Op::Less, 2, 2, Ok(0)),
+        (Op::Less, 2, 1, Ok(0)),
+        (Op::Less, i64::MIN, i64::MAX, Ok(1)),
+        (Op::Less, -1, 0, Ok(1)),
+        (Op::LessOrEqual, 1, 2, Ok(1)),
+        (Op::LessOrEqual, 2, 2, Ok(1)),
+        (Op::LessOrEqual, 2, 1, Ok(0)),
+        (Op::LessOrEqual, i64::MAX, i64::MIN, Ok(0)),
+        (Op::Greater, 1, 2, Ok(0)),
+        (Op::Greater, 2, 2, Ok(0)),
+        (Op::Greater, 2, 1, Ok(1)),
+        (Op::Greater, 0, -1, Ok(1)),
+        (Op::GreaterOrEqual, 1, 2, Ok(0)),
+        (Op::GreaterOrEqual, 2, 2, Ok(1)),
+        (Op::GreaterOrEqual, 2, 1, Ok(1)),
+        (Op::GreaterOrEqual, i64::MIN, i64::MAX, Ok(0)),
+        (Op::Equal, 4, 4, Ok(1)),
+        (Op::Equal, 4, -4, Ok(0)),
+        (Op::Equal, i64::MIN, i64::MIN, Ok(1)),
+        (Op::Equal, 0, 1, Ok(0)),
+        (Op::NotEqual, 4, 4, Ok(0)),
+        (Op::NotEqual, 4, -4, Ok(1)),
+        (Op::NotEqual, i64::MIN, i64::MIN, Ok(0)),
+        (Op::NotEqual, 0, 1, Ok(1)),
+        (Op::BitAnd, 12, 10, Ok(8)),
+        (Op::BitAnd, -1, 37, Ok(37)),
+        (Op::BitAnd, -2, -4, Ok(-4)),
+        (Op::BitAnd, i64::MIN, -1, Ok(i64::MIN)),
+        (Op::BitAnd, i64::MIN, i64::MAX, Ok(0)),
+        (Op::BitXor, 12, 10, Ok(6)),
+        (Op::BitXor, -1, 37, Ok(-38)),
+        (Op::BitXor, -2, -4, Ok(2)),
+        (Op::BitXor, i64::MIN, -1, Ok(i64::MAX)),
+        (Op::BitXor, i64::MIN, i64::MAX, Ok(-1)),
+        (Op::BitOr, 12, 10, Ok(14)),
+        (Op::BitOr, -1, 37, Ok(-1)),
+        (Op::BitOr, -2, -4, Ok(-2)),
+        (Op::BitOr, i64::MIN, 5, Ok(-9223372036854775803)),
+        (Op::BitOr, i64::MIN, i64::MAX, Ok(-1)),
+        (Op::And, 0, 0, Ok(0)),
+        (Op::And, 0, 1, Ok(0)),
+        (Op::And, 1, 0, Ok(0)),
+        (Op::And, 1, 1, Ok(1)),
+        (Op::And, -3, 2, Ok(1)),
+        (Op::Or, 0, 0, Ok(0)),
+        (Op::Or, 0, 1, Ok(1)),
+        (Op::Or, 1, 0, Ok(1)),
+        (Op::Or, 1, 1, Ok(1)),
+        (Op::Or, -3, 0, Ok(1)),
+        (Op::Or, 0, i64::MIN, Ok(1)),
+    ];
+    for (op, a, b, want) in cases {
+        assert_eq!(rt; apply(op, a, b), want, "{op:?} at {a} and {b}");
+    }
+}
+
+#[test]
+fn tells_each_row(rt: HostRuntime) {
+    let cases = [
+        (Op::Negate, "-", 1, 11, Takes::Int, true),
+        (Op::Not, "!", 1, 11, Takes::Bool, false),
+        (Op::Multiply, "*", 2, 10, Takes::Int, true),
+        (Op::Divide, "/", 2, 10, Takes::Int, true),
+        (Op::Remainder, "%", 2, 10, Takes::Int, true),
+        (Op::Add, "+", 2, 9, Takes::Int, true),
+        (Op::Subtract, "-", 2, 9, Takes::Int, true),
+        (Op::Less, "<", 2, 8, Takes::Int, false),
+        (Op::LessOrEqual, "<=", 2, 8, Takes::Int, false),
+        (Op::Greater, ">", 2, 8, Takes::Int, false),
+        (Op::GreaterOrEqual, ">=", 2, 8, Takes::Int, false),
+        (Op::Equal, "==", 2, 7, Takes::Either, false),
+        (Op::NotEqual, "!=", 2, 7, Takes::Either, false),
+        (Op::BitAnd, "&", 2, 6, Takes::Int, true),
+        (Op::BitXor, "^", 2, 5, Takes::Int, true),
+        (Op::BitOr, "|", 2, 4, Takes::Int, true),
+        (Op::And, "&&", 2, 3, Takes::Bool, false),
+        (Op::Or, "||", 2, 2, Takes::Bool, false),
+    ];
+    for (number, (op, sign, arity, level, takes, gives_int)) in (0..).zip(cases) {
+        let row = row(op);
+        assert_eq!(rt; row.number, number, "{op:?}");
+        assert_eq!(rt; row.sign, sign, "{op:?}");
+        assert_eq!(rt; (row.arity, row.level), (arity, level), "{op:?}");
+        assert_eq!(rt; (row.takes, row.gives_int), (takes, gives_int), "{op:?}");
+    }
+}
+
+#[test]
+fn tells_each_trap(rt: HostRuntime) {
+    assert_eq!(rt; TrapKind::Overflow.number(), 1);
+    assert_eq!(rt; TrapKind::ZeroDivisor.number(), 2);
+}
