@@ -1,5 +1,5 @@
 -- The declarations that numbers stand for, and the programs whose numbers fit.
-use Rattle.std.specs.Prelude.{◌≡◌, ◌≢◌, ℕ, zero, ◌<◌, ◌≤◌, ℤ, pos, ◌≤ℤ◌, ◌-◌, ◌^◌, ◌==◌, Bool, false, List, [], ◌∷◌, length, Option, Some, None, IfSome, IsSome, slice_get}
+use Rattle.std.specs.Prelude.{◌≡◌, ◌≢◌, ℕ, zero, ◌<◌, ◌==◌, Bool, false, List, [], ◌∷◌, length, Option, Some, None, IfSome, IsSome, slice_get}
 use Rattle.std.specs.List.{Contains}
 use Rattle.vlt_core.specs.Core.{States, Ty, int, tracked, FieldDecl, StructDecl, Expr, number, field, add, Form, print, put, make, release, return, Stmt, KeyDecl, VarDecl, Func, Program}
 
@@ -64,7 +64,7 @@ pub record HasField (p : Program) (f : Func) (scope : Scope) (x position : ℕ) 
   pub within : position < length (fields_of p reference.type)
 
 abbrev pub IsKindedExpr : Program → Func → Scope → Expr → Type 0
-IsKindedExpr p f scope (number z) = (pos 0 ≤ℤ z) × (z ≤ℤ pos (2 ^ 63 - 1))
+IsKindedExpr p f scope (number z) = Unit {0}
 IsKindedExpr p f scope (field x i) = HasField p f scope x i
 IsKindedExpr p f scope (add a b) = IsKindedExpr p f scope a × IsKindedExpr p f scope b
 

@@ -3,3 +3,6 @@ pub mod View
 pub mod Kinds
 pub mod Rows
 pub mod Derives
+pub mod Tokens
+pub mod Tree
+pub mod Elaboration
