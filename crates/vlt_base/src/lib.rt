@@ -11,10 +11,23 @@ pub use limits::limit;
 pub use places::{Span, place};
 pub use sqlite_items::{Boxed, Items};
 pub use states::StateSet;
+use std::alloc::{AllocError, AllocFailed};
 
 /// There was no memory for what was asked.
 #[derive(Clone, Copy, Debug, PartialEq, Eq)]
 pub struct Memory;
+
+impl From<AllocError> for Memory {
+    fn from(_: AllocError) -> Memory {
+        Memory
+    }
+}
+
+impl<T: Drop> From<AllocFailed<T>> for Memory {
+    fn from(_: AllocFailed<T>) -> Memory {
+        Memory
+    }
+}
 
 /// A run has as many live objects as its budget allows.
 #[derive(Clone, Copy, Debug, PartialEq, Eq)]
