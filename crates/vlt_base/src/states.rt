@@ -27,7 +27,8 @@ impl StateSet {
 
     /// The number whose bits are 1 at the numbers of the set.
     pub fn mask(self) -> u32
-        ensures { (i : ℕ) → is_bit result i ≡ has_state self i }
+        ensures states { (i : ℕ) → is_bit result i ≡ has_state self i }
+        ensures some_below { (i : ℕ) × (i < 32) × IsTrue (has_state self i) }
     {
         self.mask
     }
@@ -53,5 +54,29 @@ impl StateSet {
         ensures { result ≡ has_state self s }
     {
         s < 32 && self.mask >> s & 1 == 1
+    }
+}
+
+#[cfg(test)]
+mod tests {
+    use super::*;
+
+    #[test]
+    fn sets(rt: HostRuntime) {
+        assert_eq!(rt; StateSet::of(0), None);
+        let cases = [
+            (0b101, 0b101, 0b101, true, 0, true),
+            (0b001, 0b101, 0b101, true, 2, false),
+            (0b101, 0b010, 0b111, false, 1, false),
+            (0x8000_0000, 1, 0x8000_0001, false, 31, true),
+            (u32::MAX, 1, u32::MAX, false, 32, false),
+        ];
+        for (mask, other, both, within, state, has) in cases {
+            let set = StateSet::of(mask).expect(&rt, "not empty");
+            let other = StateSet::of(other).expect(&rt, "not empty");
+            assert_eq!(rt; set.join(other).mask(), both, "join at {mask}");
+            assert_eq!(rt; set.within(other), within, "within at {mask}");
+            assert_eq!(rt; set.has(state), has, "{state} in {mask}");
+        }
     }
 }
