@@ -80,10 +80,17 @@ expr_spelling (sum a b) = operand_spelling a ++ plus ∷ operand_spelling b
 abbrev pub init_spelling : Init → List Token
 init_spelling i = name i.name ∷ colon ∷ expr_spelling i.value
 
+-- each of the things, one behind another, and then the closing tokens
+abbrev pub each_spelling : {X : Type 0} → (X → List Token) → List Token → List X → List Token
+each_spelling spelling closing [] = closing
+each_spelling spelling closing (x ∷ xs) = spelling x ++ each_spelling spelling closing xs
+
+abbrev pub further_init_spelling : Init → List Token
+further_init_spelling i = comma ∷ init_spelling i
+
 -- what follows the first field: each further one behind a comma, then the closing brace
 abbrev pub more_inits_spelling : List Init → List Token
-more_inits_spelling [] = close_brace ∷ []
-more_inits_spelling (i ∷ is) = comma ∷ (init_spelling i ++ more_inits_spelling is)
+more_inits_spelling = each_spelling further_init_spelling (close_brace ∷ [])
 
 abbrev pub inits_spelling : List Init → List Token
 inits_spelling [] = close_brace ∷ []
@@ -99,13 +106,14 @@ stmt_spelling (release x) = word (codes "release") ∷ name x ∷ semicolon ∷ 
 
 -- statements up to the closing brace of their block
 abbrev pub body_spelling : List Stmt → List Token
-body_spelling [] = close_brace ∷ []
-body_spelling (s ∷ rest) = stmt_spelling s ++ body_spelling rest
+body_spelling = each_spelling stmt_spelling (close_brace ∷ [])
+
+abbrev pub field_spelling : Name → List Token
+field_spelling f = word (codes "int") ∷ name f ∷ semicolon ∷ []
 
 -- fields up to the closing brace of their structure
 abbrev pub fields_spelling : List Name → List Token
-fields_spelling [] = close_brace ∷ []
-fields_spelling (f ∷ rest) = word (codes "int") ∷ name f ∷ semicolon ∷ fields_spelling rest
+fields_spelling = each_spelling field_spelling (close_brace ∷ [])
 
 abbrev pub struct_spelling : Struct → List Token
 struct_spelling s = word (codes "struct") ∷ name s.name ∷ open_brace ∷ fields_spelling s.fields
@@ -114,10 +122,9 @@ abbrev pub main_spelling : List Stmt → List Token
 main_spelling body =
     word (codes "void") ∷ name (codes "main") ∷ open_paren ∷ close_paren ∷ open_brace ∷ body_spelling body
 
-abbrev pub file_spelling : List Struct → List Stmt → List Token
-file_spelling [] body = main_spelling body
-file_spelling (s ∷ rest) body = struct_spelling s ++ file_spelling rest body
+abbrev pub file_spelling : File → List Token
+file_spelling tree = each_spelling struct_spelling (main_spelling tree.body) tree.structs
 
 -- the text's tokens spell the tree
 abbrev pub IsTreeOf : List ℕ → File → Type 0
-IsTreeOf text tree = tokens_of text ≡ Some (file_spelling tree.structs tree.body)
+IsTreeOf text tree = tokens_of text ≡ Some (file_spelling tree)
