@@ -7,5 +7,9 @@ use Rattle.vlt_io.specs.Faults.{count_of}
 abbrev pub files_faults : {R F D : Type 0} → DirStore R F D → ℕ
 files_faults store = count_of store.faults
 
+-- the writer below
+abbrev pub writer_of : {W : Type 0} → OutSink W → W
+writer_of sink = sink.writer
+
 abbrev pub writer_faults : {W : Type 0} → OutSink W → ℕ
 writer_faults sink = count_of sink.faults

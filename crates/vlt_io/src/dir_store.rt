@@ -1,6 +1,6 @@
 //! The real files.
 
-ghost use Rattle.std.specs.Prelude.{◌≡◌, ◌≤◌, ◌+◌, ◌<◌, ◌^◌, None, IfOk, vec_len};
+ghost use Rattle.std.specs.Prelude.{◌≡◌, ◌≤◌, ◌+◌, ◌<◌, ◌^◌, None, IfOk, IfSome, take, vec_len};
 
 use crate::faults::Faults;
 use crate::{Store, StoreError};
@@ -33,7 +33,8 @@ impl<'a, R: Files> DirStore<'a, R> {
 /// The first `limit + 1` bytes that the reader gives, or all if it has fewer.
 fn read_front<T: Read + Drop>(alloc: Global, reader: T, limit: usize) -> io::Result<Vec<u8>>
     requires { limit < 2 ^ 32 }
-    ensures { IfOk result (λ bytes. vec_len bytes ≤ limit + 1) }
+    ensures bounded { IfOk result (λ bytes. vec_len bytes ≤ limit + 1) }
+    ensures front { IfOk result (λ bytes. IfSome (T.remaining reader) (λ whole. bytes.items ≡ take (limit + 1) whole)) }
 {
     let most = limit + 1;
     let mut bytes = Vec::new(alloc);
@@ -66,5 +67,35 @@ impl<'a, R: Files> Store for DirStore<'a, R> {
                 Err(StoreError::Failed)
             }
         }
+    }
+}
+
+#[cfg(test)]
+mod tests {
+    use super::*;
+    use std::test::Fail;
+
+    #[test]
+    fn files(rt: HostRuntime) -> Result<(), Fail> {
+        let alloc = rt.alloc();
+        let name = "vlt_io_dir_store.txt";
+        fs::write(&rt, name, "abcde")?;
+        let mut store = DirStore::new(&rt);
+        for (limit, want) in [(9, "abcde"), (4, "abcde"), (3, "abcd"), (0, "a")] {
+            assert!(rt; limit < 10);
+            let bytes = store.read(alloc, name, limit).map_err(|_| "not read")?;
+            assert_eq!(rt; bytes.as_slice(), want.as_bytes());
+        }
+        fs::remove_file(&rt, name)?;
+        assert_eq!(rt; store.read(alloc, name, 9).err(), Some(StoreError::Failed));
+        assert_eq!(rt; store.read(alloc, ".", 9).err(), Some(StoreError::Failed));
+        Ok(())
+    }
+
+    #[test]
+    fn endless(rt: HostRuntime) -> Result<(), Fail> {
+        let bytes = read_front(rt.alloc(), io::repeat(b'x'), 3)?;
+        assert_eq!(rt; bytes.as_slice(), b"xxxx".as_slice());
+        Ok(())
     }
 }

@@ -81,3 +81,28 @@ impl Sink for MemSink {
         Ok(())
     }
 }
+
+#[cfg(test)]
+mod tests {
+    use super::*;
+    use std::test::Fail;
+
+    #[test]
+    fn writes(rt: HostRuntime) -> Result<(), Fail> {
+        let mut sink = MemSink::new(rt.alloc(), 6, &[2])?;
+        let cases = [
+            ("ab", true, "ab"),
+            ("cd", false, "ab"),
+            ("", true, "ab"),
+            ("efg", true, "abefg"),
+            ("hij", false, "abefgh"),
+            ("", true, "abefgh"),
+            ("k", false, "abefgh"),
+        ];
+        for (piece, ok, want) in cases {
+            assert_eq!(rt; sink.write(piece.as_bytes()).is_ok(), ok, "{piece}");
+            assert_eq!(rt; sink.bytes(), want.as_bytes());
+        }
+        Ok(())
+    }
+}

@@ -1,6 +1,8 @@
 //! A real writer, as standard output.
 
-ghost use Rattle.std.specs.Prelude.{◌≡◌, None};
+ghost use Rattle.std.specs.Prelude.{◌≡◌, ◌≤◌, None, OnOk, OnErr};
+ghost use Rattle.std.specs.Io.KnownBytes.{Appends};
+ghost use Rattle.vlt_io.specs.Outside.{Rose, Grew, GrewByPart};
 
 use crate::faults::Faults;
 use crate::{Sink, SinkFailed};
@@ -27,17 +29,58 @@ impl<W: Write> OutSink<W> {
 }
 
 impl<W: Write> Sink for OutSink<W> {
-    ghost use Rattle.vlt_io.specs.Real.{writer_faults};
+    ghost use Rattle.vlt_io.specs.Real.{writer_of, writer_faults};
 
     ghost faults = { writer_faults };
 
     ghost written = { λ _. None };
 
-    fn write(&mut self, piece: &[u8]) -> Result<(), SinkFailed> {
+    fn write(&mut self, piece: &[u8]) -> Result<(), SinkFailed>
+        ensures ok { OnOk result (Grew None None piece.now) }
+        ensures part { OnErr result (GrewByPart None None piece.now) }
+        ensures failed { OnErr result (Rose (writer_faults self.old) (writer_faults self.new)) }
+        ensures counted { writer_faults self.old ≤ writer_faults self.new }
+        ensures taken { OnOk result (Appends (W.contents (writer_of self.old)) (W.contents (writer_of self.new)) piece.now) }
+    {
         if self.writer.write_all(piece).is_err() {
             self.faults.add();
             return Err(SinkFailed);
         }
         Ok(())
+    }
+}
+
+#[cfg(test)]
+mod tests {
+    use super::*;
+    use std::io;
+
+    /// A writer that takes one byte a call, and none once it has taken as many as it may.
+    #[derive(Drop)]
+    struct Trickle {
+        left: usize,
+    }
+
+    impl Write for Trickle {
+        fn write(&mut self, bytes: &[u8]) -> io::Result<usize> {
+            if bytes.is_empty() || self.left == 0 {
+                return Ok(0);
+            }
+            self.left -= 1;
+            Ok(1)
+        }
+
+        fn flush(&mut self) -> io::Result<()> {
+            Ok(())
+        }
+    }
+
+    #[test]
+    fn whole_pieces_or_failures(rt: HostRuntime) {
+        let mut sink = OutSink::new(Trickle { left: 5 });
+        for (piece, ok) in [("abc", true), ("", true), ("def", false), ("", true)] {
+            assert_eq!(rt; sink.write(piece.as_bytes()).is_ok(), ok, "{piece}");
+        }
+        assert_eq!(rt; sink.writer.left, 0);
     }
 }
