@@ -1,12 +1,12 @@
 -- What the statements of a program do. A test that fails ends the run in a fault.
-use Rattle.std.specs.Prelude.{◌≡◌, ℕ, zero, suc, ◌==◌, nat_le, ℤ, Bool, true, false, ◌&&◌, if◌then◌else◌, List, [], ◌∷◌, ◌++◌, length, Option, Some, None, Result, Ok, Err, slice_get, slice_set}
+use Rattle.std.specs.Prelude.{ℕ, ◌==◌, ℤ, if◌then◌else◌, List, [], ◌∷◌, ◌++◌, length, Option, Some, None, Result, Ok, Err, slice_get, slice_set}
 use Rattle.std.specs.List.{list_any}
 use Rattle.vlt_ops.specs.Operator.{applied}
 use Rattle.vlt_ops.specs.declared.Op.TheVariants.{Add}
 use Rattle.vlt_ops.specs.declared.TrapKind.{TrapKind}
 use Rattle.vlt_core.specs.Core.{States, Expr, number, field, add, Form, print, put, make, release, return, Stmt, Func, Program}
 use Rattle.vlt_core.specs.Kinds.{Reference, reference_of, permitted_in, release_set}
-use Rattle.vlt_meaning.specs.World.{Owner, held, gone, Object, World, Frame, Event, printed, is_held_under, is_held_at, live_count, Outcome, done, trap, heap_end, depth_end, fault, Ran}
+use Rattle.vlt_meaning.specs.World.{held, gone, Object, World, Frame, Event, printed, is_held_under, is_held_at, is_full, Outcome, done, trap, heap_end, depth_end, fault, Ran}
 
 -- ---- objects that may be touched
 
@@ -141,7 +141,7 @@ does_step heap p f (put x i e) frame w =
 does_step heap p f (make x args) frame w =
     with_values (values_of p f args frame w.objects) w (λ zs.
     with_reference (reference_of f x) w (λ r.
-    if nat_le heap (live_count w.objects) then ends heap_end w else with_made r x zs frame w))
+    if is_full heap w.objects then ends heap_end w else with_made r x zs frame w))
 does_step heap p f (release x) frame w =
     with_object (releasable p f x frame w.objects) w (λ n.
     goes frame (with_changed w n.number (record n.object { owner = gone })))

@@ -1,5 +1,5 @@
 -- What a run works on, and what comes of it.
-use Rattle.std.specs.Prelude.{◌≡◌, ℕ, zero, ◌+◌, ◌==◌, ℤ, Bool, true, false, ◌&&◌, not, if◌then◌else◌, List, [], ◌∷◌, ◌++◌, length, Option, Some, None, slice_get, codes}
+use Rattle.std.specs.Prelude.{◌≡◌, ℕ, ◌==◌, nat_le, ℤ, Bool, true, false, ◌&&◌, ◌||◌, not, List, ◌++◌, length, Option, Some, slice_get, codes}
 use Rattle.std.specs.List.{flat_map, count_by}
 use Rattle.std.specs.Fmt.{signed_decimal}
 use Rattle.vlt_ops.specs.declared.TrapKind.{TrapKind}
@@ -42,6 +42,14 @@ pub record World : Type 0 where
 -- objects that aren't released
 abbrev pub live_count : List Object → ℕ
 live_count = count_by (λ o. not (is_gone o.owner))
+
+-- how many objects a run makes at most, so that the numbers of all of them, from 1, are of 64-bit range
+abbrev pub max_made : ℕ
+max_made = 9223372036854775807
+
+-- no object can be made: as many are live as the heap may have, or as many were made as a run makes at most
+abbrev pub is_full : (heap : ℕ) → List Object → Bool
+is_full heap objects = nat_le heap (live_count objects) || nat_le max_made (length objects)
 
 -- A running function: its depth, the object of each variable that has one, and the object that each key names.
 pub record Frame : Type 0 where

@@ -1,12 +1,12 @@
 -- Each statement whose rows the map passes goes right, and the map after the rows agrees with what it leaves.
-use Rattle.std.proofs.Common.{◌≡◌, ℕ, ◌<◌, nat_le, false, List, length, flat_map, All, Option, Some, None, IsSome, refl, ap, ◌∙◌, subst, get_or, slice_get, slice_set, length-set}
+use Rattle.std.proofs.Common.{◌≡◌, ℕ, ◌<◌, false, List, length, flat_map, All, Option, Some, None, IsSome, refl, ap, ◌∙◌, subst, get_or, slice_get, slice_set, length-set}
 use Rattle.std.proofs.lemmas.List.Folds.{list_any_none}
 use Rattle.std.proofs.lemmas.Option.{none-some, slice_get_within, slice_get-get_or}
 use Rattle.vlt_core.specs.Core.{Expr, Form, print, put, make, release, return, KeyDecl, Func, Program}
 use Rattle.vlt_core.specs.Kinds.{Reference, reference_of, release_set, only_state, Scope, IsKindedExpr, IsKindedNew, IsKindedForm, scope_after, IsReturn, key_type_in, IsKindedFunc}
 use Rattle.vlt_core.specs.Rows.{HeldMap, wants_absent, wants_in, becomes_absent, becomes_held, row, on_key, touch_rows, expr_rows, rows_of, IsBelow, CanPass, passed}
 use Rattle.vlt_core.specs.Derives.{Leads}
-use Rattle.vlt_meaning.specs.World.{Owner, held as held_by, gone, World, Frame, is_held_at, live_count, heap_end, IsClean}
+use Rattle.vlt_meaning.specs.World.{Owner, held as held_by, gone, World, Frame, is_held_at, is_full, heap_end, IsClean}
 use Rattle.vlt_meaning.specs.Run.{value_of, values_of, ends, with_made, does_step}
 use Rattle.vlt_sound.proofs.Maps.{row_changes, absent_if_wanted, can_pass_after, passed_after, wanted_on_key, passed_on_key, expr_keeps, exprs_keep, touch_keeps, absent_at_return}
 use Rattle.vlt_sound.proofs.Agrees.{Allows, IsOwnedWell, Agrees, finds}
@@ -55,7 +55,7 @@ module _ {p : Program} {f : Func} (kinded : IsKindedFunc p f) (heap : ℕ) {h : 
       let same = passed_after reads makes h (exprs_keep p f args) ∙ passed_on_key (reference_of f x) r make_row h fits.tracked in
       safe_values _ (length args) (values_of p f args frame w.objects) w _ (values_no_fault kinded agrees args fits.kinded both.0)
       (λ zs long.
-      rw (same, fits.tracked) (safe_if _ (nat_le heap (live_count w.objects)) (ends heap_end w) (with_made r x zs frame w) tt
+      rw (same, fits.tracked) (safe_if _ (is_full heap w.objects) (ends heap_end w) (with_made r x zs frame w) tt
       (agrees_made agrees x r zs fits.tracked (kinded.references x r fits.tracked).typed fits.fresh_key (long ∙ fits.complete) none (row_changes (make_row r) h))))
 
   release_safe : (x : ℕ) → IsKindedForm p f scope (release x) → CanPass (rows_of p f (release x)) h → IsSafeStep (release x) (passed (rows_of p f (release x)) h)
