@@ -1,0 +1,4 @@
+pub mod Spelled
+pub mod Cuts
+pub mod Reading
+pub mod Slices

@@ -1,0 +1,58 @@
+//! Files of numbers: the input of a run, and the answers of its host.
+#![tactic(auto)]
+
+ghost use Rattle.std.specs.Prelude.{◌≡◌, ℕ, ◌-◌, ◌^◌, ◌<◌, length, IfOk};
+ghost use Rattle.vlt_numbers.specs.Answers.{lists_of};
+ghost use Rattle.vlt_numbers.specs.Text.{answers_of, input_numbers};
+
+pub use answers::Answers;
+pub use error::NumbersError;
+use line::{cut, push_numbers};
+use std::alloc::Global;
+
+mod answers;
+mod error;
+mod line;
+#[cfg(test)]
+mod tests;
+mod word;
+
+const LINE_ENDS: &[u8] = b"\n";
+
+/// Reads an input file: numbers between spaces, tabs, carriage returns and line feeds.
+///
+/// # Errors
+///
+/// `Bad` with the first line that has anything else, and `Memory` where there is too little.
+pub fn read_input(alloc: Global, text: &[u8]) -> Result<Vec<i64>, NumbersError>
+    requires { length text.now < 2 ^ 32 - 1 }
+    ensures ok { IfOk result (λ numbers. input_numbers text.now ≡ Ok numbers.items) }
+    ensures bad { (line : ℕ) → result ≡ Err (NumbersError.Bad line) → input_numbers text.now ≡ Err line }
+{
+    let Answers { numbers, ends } = read_answers(alloc, text)?;
+    drop(ends);
+    Ok(numbers)
+}
+
+/// Reads an answers file: each line is an answer, with numbers between spaces, tabs and carriage returns.
+/// An empty line is an answer without numbers, and behind a last line feed no further line begins.
+///
+/// # Errors
+///
+/// `Bad` with the first line that has anything else, and `Memory` where there is too little.
+pub fn read_answers(alloc: Global, text: &[u8]) -> Result<Answers, NumbersError>
+    requires { length text.now < 2 ^ 32 - 1 }
+    ensures ok { IfOk result (λ answers. answers_of text.now ≡ Ok (lists_of answers)) }
+    ensures bad { (line : ℕ) → result ≡ Err (NumbersError.Bad line) → answers_of text.now ≡ Err line }
+{
+    let mut numbers = Vec::new(alloc);
+    let mut ends = Vec::new(alloc);
+    let mut rest = text;
+    while !rest.is_empty() {
+        let (line, behind) = cut(rest, LINE_ENDS);
+        push_numbers(&mut numbers, line, ends.len() as u32 + 1)?;
+        ends.push(numbers.len() as u32)?;
+        rest = behind;
+    }
+    Ok(Answers { numbers, ends })
+}
