@@ -1,0 +1,11 @@
+pub mod Bytes
+pub mod Found
+pub mod Heads
+pub mod OneAnswer
+pub mod OneKind
+pub mod OneReading
+pub mod Pieces
+pub mod Runs
+pub mod Tables
+pub mod Tokens
+pub mod Words

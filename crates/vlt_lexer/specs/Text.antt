@@ -1,0 +1,38 @@
+-- Whole texts, as bytes.
+use Rattle.std.specs.Prelude.{◌≡◌, ◌<◌, ◌≤◌, ℕ, ◌+◌, List, [], length, map}
+use Rattle.std.specs.Str.{chars, IsUtf8, IsValidUpTo}
+use Rattle.vlt_base.specs.Limits.{limit_of}
+use Rattle.vlt_lexer.specs.declared.token.Token.{Token}
+use Rattle.vlt_lexer.specs.declared.scan.Fault.{Fault}
+use Rattle.vlt_lexer.specs.declared.scan.Fault.TheVariants as fault
+use Rattle.vlt_lexer.specs.declared.lexer.LexError.{LexError}
+use Rattle.vlt_lexer.specs.declared.lexer.LexError.TheVariants as error
+use Rattle.vlt_lexer.specs.Characters.{width}
+use Rattle.vlt_lexer.specs.Reading.{Lexeme, Reads, IsStuck}
+
+abbrev pub lexeme : Token → Lexeme
+lexeme t = record { kind = t.kind; text = t.text.now; from = t.at.from; to = t.at.to }
+
+abbrev pub lexemes : List Token → List Lexeme
+lexemes ts = map lexeme ts
+
+-- The text is UTF-8, and is these tokens in order with only blanks and comments between them, each token the longest piece at its place.
+abbrev pub IsTokensOf : List ℕ → List Lexeme → Type 0
+IsTokensOf text ls = IsUtf8 text × Reads (length text) (chars text) ls []
+
+-- more tokens can be read from the text's start than may be
+abbrev pub HasTooMany : List ℕ → Type 0
+HasTooMany text = (ls : List Lexeme) × (left : List ℕ) × Reads (length text) (chars text) ls left × (limit_of 3 < length ls)
+
+-- tokens within the limit can be read up to this place, and behind it nothing can be
+abbrev pub StopsAt : Fault → ℕ → List ℕ → Type 0
+StopsAt f at text = (ls : List Lexeme) × (left : List ℕ) × Reads (length text) (chars text) ls left × (length ls ≤ limit_of 3) × IsStuck f left × (at + width left ≡ length text)
+
+-- why a text is refused
+abbrev pub IsRefused : List ℕ → LexError → Type 0
+IsRefused text (error.NotUtf8 at) = (IsUtf8 text → ⊥) × IsValidUpTo text at
+IsRefused text (error.BadByte at) = IsUtf8 text × StopsAt fault.BadByte at text
+IsRefused text (error.NumberTooLarge at) = IsUtf8 text × StopsAt fault.NumberTooLarge at text
+IsRefused text (error.OpenComment at) = IsUtf8 text × StopsAt fault.OpenComment at text
+IsRefused text (error.Limit n) = IsUtf8 text × (n ≡ 3) × HasTooMany text
+IsRefused text error.Memory = ⊥

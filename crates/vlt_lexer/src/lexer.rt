@@ -1,0 +1,136 @@
+//! Reads a whole text.
+
+ghost use Rattle.std.specs.Prelude.{◌≡◌, ◌⊎◌, ◌<◌, ◌≤◌, ◌+◌, ◌-◌, ◌^◌, List, length, take, IfOk, IfErr, MatchResult};
+ghost use Rattle.std.specs.Str.{chars, IsUtf8};
+ghost use Rattle.vlt_base.specs.Limits.{limit_of};
+ghost use Rattle.vlt_lexer.specs.Text.{lexemes, IsTokensOf, IsRefused};
+ghost use Rattle.vlt_lexer.specs.Places.{placed};
+ghost use Rattle.vlt_lexer.specs.Reading.{Lexeme};
+ghost use Rattle.vlt_lexer.specs.declared.lexer.LexError.{LexError};
+
+use crate::scan::{Fault, Piece, next_piece};
+use crate::token::{Token, TokenKind};
+use std::alloc::{AllocError, AllocFailed, Global};
+use vlt_base::{Span, limit};
+
+/// Why a text has no list of tokens. A place is the number of bytes before it.
+#[derive(Clone, Copy, Debug, PartialEq, Eq)]
+pub enum LexError {
+    /// The text isn't UTF-8: the first byte behind its longest valid prefix.
+    NotUtf8(u32),
+    /// A character with which no token, blank or comment begins.
+    BadByte(u32),
+    /// The first digit of a number above 9223372036854775807.
+    NumberTooLarge(u32),
+    /// The `/` of a `/*` that no `*/` closes.
+    OpenComment(u32),
+    /// There are more tokens than this limit says.
+    Limit(u8),
+    Memory,
+}
+
+impl From<AllocError> for LexError {
+    ghost use Rattle.vlt_lexer.specs.declared.lexer.LexError.TheVariants.{Memory};
+
+    ghost from_gives = { λ _ e. e ≡ Memory };
+
+    fn from(_: AllocError) -> LexError {
+        LexError::Memory
+    }
+}
+
+impl<T: Drop> From<AllocFailed<T>> for LexError {
+    ghost use Rattle.vlt_lexer.specs.declared.lexer.LexError.TheVariants.{Memory};
+
+    ghost from_gives = { λ _ e. e ≡ Memory };
+
+    fn from(_: AllocFailed<T>) -> LexError {
+        LexError::Memory
+    }
+}
+
+impl Fault {
+    fn at(self, at: u32) -> LexError
+        ensures { result ≡ placed self at }
+    {
+        match self {
+            Fault::BadByte => LexError::BadByte(at),
+            Fault::NumberTooLarge => LexError::NumberTooLarge(at),
+            Fault::OpenComment => LexError::OpenComment(at),
+        }
+    }
+}
+
+/// The token of the text between what is left of it before the token and behind it.
+fn token<'a>(kind: TokenKind, text: &str, left: &'a str, after: &str) -> Token<'a>
+    requires size { length text.now < 2 ^ 32 }
+    requires within { length left.now ≤ length text.now }
+    requires behind { length after.now ≤ length left.now }
+    ensures kind { result.kind ≡ kind }
+    ensures text { result.text.now ≡ take (length left.now - length after.now) left.now }
+    ensures from { result.at.from + length left.now ≡ length text.now }
+    ensures to { result.at.to + length after.now ≡ length text.now }
+{
+    Token {
+        kind,
+        text: &left.as_bytes()[..left.len() - after.len()],
+        at: Span {
+            from: (text.len() - left.len()) as u32,
+            to: (text.len() - after.len()) as u32,
+        },
+    }
+}
+
+/// Reads a text that is UTF-8.
+fn read_text(alloc: Global, text: &str) -> Result<Vec<Token<'_>>, LexError>
+    requires { length text.now < 2 ^ 32 }
+    ensures tokens { IfOk result (λ found. IsTokensOf text.now (lexemes found.items)) }
+    ensures few { IfOk result (λ found. length (lexemes found.items) ≤ limit_of 3) }
+    ensures refused { IfErr result (λ e. (e ≡ LexError.Memory) ⊎ IsRefused text.now e) }
+{
+    let mut found = Vec::new(alloc);
+    let mut left = text;
+    loop {
+        match next_piece(left) {
+            Ok(None) => return Ok(found),
+            Ok(Some(Piece::Gap(after))) => left = after,
+            Ok(Some(Piece::Token(kind, after))) => {
+                if found.len() as u64 == limit(3) {
+                    return Err(LexError::Limit(3));
+                }
+                found.push(token(kind, text, left, after))?;
+                left = after;
+            }
+            Err(fault) => return Err(fault.at((text.len() - left.len()) as u32)),
+        }
+    }
+}
+
+fn read(alloc: Global, text: &[u8]) -> Result<Vec<Token<'_>>, LexError>
+    requires { length text.now < 2 ^ 32 - 1 }
+    ensures tokens { IfOk result (λ found. IsTokensOf text.now (lexemes found.items)) }
+    ensures few { IfOk result (λ found. length (lexemes found.items) ≤ limit_of 3) }
+    ensures refused { IfErr result (λ e. (e ≡ LexError.Memory) ⊎ IsRefused text.now e) }
+{
+    match str::from_utf8(text) {
+        Ok(text) => read_text(alloc, text),
+        Err(error) => Err(LexError::NotUtf8(error.valid_up_to() as u32)),
+    }
+}
+
+/// The tokens of a text, at most 262144 of them.
+pub fn lex(alloc: Global, text: &[u8]) -> Result<Vec<Token<'_>>, LexError>
+    requires { length text.now < 2 ^ 32 - 1 }
+    ensures tokens { IfOk result (λ found. IsTokensOf text.now (lexemes found.items)) }
+    ensures few { IfOk result (λ found. length (lexemes found.items) ≤ limit_of 3) }
+    ensures refused { IfErr result (λ e. (e ≡ LexError.Memory) ⊎ IsRefused text.now e) }
+
+    // Where there is a list of tokens within the limit it is the answer, if there is memory, and likewise a refusal.
+    ensures all_tokens { (ls : List Lexeme) → IsTokensOf text.now ls → length ls ≤ limit_of 3 → MatchResult result (λ found. lexemes found.items ≡ ls) (λ e. e ≡ LexError.Memory) }
+    ensures all_refusals { (refusal : LexError) → IsRefused text.now refusal → MatchResult result (λ _. ⊥) (λ e. (e ≡ LexError.Memory) ⊎ (e ≡ refusal)) }
+
+    // A text has at most one list of tokens, however long.
+    ensures one_list { (ls ms : List Lexeme) → IsTokensOf text.now ls → IsTokensOf text.now ms → ls ≡ ms }
+{
+    read(alloc, text)
+}
