@@ -1,5 +1,5 @@
 -- What the statements of a program do. A test that fails ends the run in a fault.
-use Rattle.std.specs.Prelude.{ℕ, ◌==◌, ℤ, if◌then◌else◌, List, [], ◌∷◌, ◌++◌, length, Option, Some, None, Result, Ok, Err, slice_get, slice_set}
+use Rattle.std.specs.Prelude.{ℕ, ◌==◌, nat_lt, ℤ, if◌then◌else◌, List, [], ◌∷◌, ◌++◌, length, Option, Some, None, Result, Ok, Err, slice_get, slice_set}
 use Rattle.std.specs.List.{list_any}
 use Rattle.vlt_ops.specs.Operator.{applied}
 use Rattle.vlt_ops.specs.declared.Op.TheVariants.{Add}
@@ -38,6 +38,14 @@ object_in states (Some r) x frame objects = if_in (states r) (held_object r x fr
 -- the object that a touch of x's field goes to: it is held, in a state that the field permits
 abbrev pub touchable : Program → Func → (x position : ℕ) → Frame → List Object → Option Named
 touchable p f x i frame objects = object_in (λ r. permitted_in p r.type i) (reference_of f x) x frame objects
+
+abbrev pub if_cell : (position : ℕ) → Option Named → Option Named
+if_cell i None = None
+if_cell i (Some n) = if nat_lt i (length n.object.cells) then Some n else None
+
+-- the object that a write of x's field goes to: it may be touched, and it has a cell for the field
+abbrev pub writable : Program → Func → (x position : ℕ) → Frame → List Object → Option Named
+writable p f x i frame objects = if_cell i (touchable p f x i frame objects)
 
 -- the object that a release of x ends: it is held, in a state of its release set
 abbrev pub releasable : Program → Func → (x : ℕ) → Frame → List Object → Option Named
@@ -136,7 +144,7 @@ does_step heap p f (print e) frame w =
     with_value (value_of p f e frame w.objects) w (λ z. goes frame (with_event w (printed z)))
 does_step heap p f (put x i e) frame w =
     with_value (value_of p f e frame w.objects) w (λ z.
-    with_object (touchable p f x i frame w.objects) w (λ n.
+    with_object (writable p f x i frame w.objects) w (λ n.
     goes frame (with_changed w n.number (record n.object { cells = slice_set n.object.cells i z }))))
 does_step heap p f (make x args) frame w =
     with_values (values_of p f args frame w.objects) w (λ zs.

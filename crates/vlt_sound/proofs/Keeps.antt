@@ -111,10 +111,10 @@ module _ {p : Program} {f : Func} {h : HeldMap} {scope : Scope} {frame : Frame} 
 abbrev pub bound : (x key n : ℕ) → Frame → Frame
 bound x key n frame = record frame { vars = set_at x n frame.vars; keys = set_at key n frame.keys }
 
-set_here : (key n : ℕ) (old : ℕ → Option ℕ) → set_at key n old key ≡ Some n
+pub set_here : (key n : ℕ) (old : ℕ → Option ℕ) → set_at key n old key ≡ Some n
 set_here key n old = rw (eq-eqb key key refl) refl
 
-set_elsewhere : (key n j : ℕ) (old : ℕ → Option ℕ) → (j ≡ key → ⊥) → set_at key n old j ≡ old j
+pub set_elsewhere : (key n j : ℕ) (old : ℕ → Option ℕ) → (j ≡ key → ⊥) → set_at key n old j ≡ old j
 set_elsewhere key n j old other = rw (ne_eqb j key other) refl
 
 has_more : (x key : ℕ) (frame : Frame) (os : List Object) (o' : Object) (j : ℕ) (s : Status) → (j ≡ key → ⊥)

@@ -1,5 +1,6 @@
 -- Each statement whose rows the map passes goes right, and the map after the rows agrees with what it leaves.
-use Rattle.std.proofs.Common.{◌≡◌, ℕ, ◌<◌, false, List, length, flat_map, All, Option, Some, None, IsSome, refl, ap, ◌∙◌, subst, get_or, slice_get, slice_set, length-set}
+use Rattle.std.proofs.Common.{◌≡◌, ℕ, ◌<◌, false, List, length, flat_map, All, Option, Some, None, IsSome, refl, sym, ap, ◌∙◌, subst, get_or, slice_get, slice_set, length-set}
+use Rattle.std.proofs.lemmas.Bool.{lt-ltb}
 use Rattle.std.proofs.lemmas.List.Folds.{list_any_none}
 use Rattle.std.proofs.lemmas.Option.{none-some, slice_get_within, slice_get-get_or}
 use Rattle.vlt_core.specs.Core.{Expr, Form, print, put, make, release, return, KeyDecl, Func, Program}
@@ -41,8 +42,9 @@ module _ {p : Program} {f : Func} (kinded : IsKindedFunc p f) (heap : ℕ) {h : 
       let same = passed_after (expr_rows p f e) (touch_rows p f x i) h (expr_keeps p f e) ∙ (touch_keeps p f x i).same h in
       let found = touches kinded agrees x i fits.1 both.1 in
       let o = found.held in
+      let has_cell = lt-ltb i (length o.object.cells) (subst (λ n. i < n) (sym found.filled) fits.1.within) in
       safe_value _ (value_of p f e frame w.objects) w _ (value_no_fault kinded agrees e fits.0 both.0)
-      (λ z. rw (found.is, same) (agrees_with_cells agrees o.number o.object (slice_set o.object.cells i z) o.at (length-set o.object.cells i z)))
+      (λ z. rw (found.is, has_cell, same) (agrees_with_cells agrees o.number o.object (slice_set o.object.cells i z) o.at (length-set o.object.cells i z)))
 
   make_safe : (x : ℕ) (args : List Expr) → IsKindedNew p f scope x args → CanPass (rows_of p f (make x args)) h → IsSafeStep (make x args) (passed (rows_of p f (make x args)) h)
   make_safe x args fits can =
