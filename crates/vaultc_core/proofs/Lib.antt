@@ -1,0 +1,15 @@
+pub mod Splitting
+pub mod Digits
+pub mod Each
+pub mod Handed
+pub mod Spelling
+pub mod Statements
+pub mod Programs
+pub mod Replies
+pub mod Promises
+pub mod Positions
+pub mod Numbers
+pub mod Fields
+pub mod Bodies
+pub mod Sizes
+pub mod Kinded

@@ -1,0 +1,13 @@
+//! The program's commands, over any store of files and any sink of output.
+#![tactic(auto)]
+
+mod elaborate;
+mod judge;
+mod read;
+mod source;
+mod tokens;
+mod top;
+mod tree;
+mod words;
+
+pub use top::vaultc;
