@@ -29,33 +29,23 @@ line_gap cs inside after e a = line cs inside after (behind_splits (codes "//") 
 pub block_gap : (cs inside after : List ℕ) → behind (codes "/*") cs ≡ Some inside → after_close inside ≡ Some after → IsGap cs after
 block_gap cs inside after e a = block cs inside after (behind_splits (codes "/*") cs inside e) a
 
--- a text that begins with a digit begins with digits
-digits_at : (c : ℕ) (cs : List ℕ) → is_digit c ≡ true → run is_digit (c ∷ cs) ≡ c ∷ run is_digit cs
-digits_at c cs e = rw e refl
+-- a text that begins with a digit begins with digits, and no piece there is longer
+digits_stand : (text : List ℕ) (c : ℕ) (cs : List ℕ) → text ≡ c ∷ cs → is_digit c ≡ true → IsDigits (run is_digit text) × IsLongest (run is_digit text) text
+digits_stand text c cs e is =
+    let front_is : run is_digit text ≡ c ∷ run is_digit cs = ap (run is_digit) e ∙ rw is refl in (
+      subst IsDigits (sym front_is) (is, run_is is_digit cs),
+      subst (λ t. IsLongest (run is_digit text) t) (sym e) (subst (λ f. IsLongest f (c ∷ cs)) (sym front_is) (longest_digits c cs is)),
+    )
 
-pub number_found : (text : List ℕ) (c : ℕ) (cs : List ℕ) (z : ℤ) → text ≡ c ∷ cs → is_digit c ≡ true → Holds (Some z) (value_of (run is_digit text)) → Stands (kind.Number z) text (past_run is_digit text)
-number_found text c cs z e is held = (run is_digit text, run_splits is_digit text, longest, (digits, held.0, held.1))
-  where
-    front_is : run is_digit text ≡ c ∷ run is_digit cs
-    front_is = ap (run is_digit) e ∙ digits_at c cs is
-
-    longest : IsLongest (run is_digit text) text
-    longest = subst (λ t. IsLongest (run is_digit text) t) (sym e) (subst (λ f. IsLongest f (c ∷ cs)) (sym front_is) (longest_digits c cs is))
-
-    digits : IsDigits (run is_digit text)
-    digits = subst IsDigits (sym front_is) (is, run_is is_digit cs)
+pub number_stands : (text : List ℕ) (c : ℕ) (cs : List ℕ) (z : ℤ) → text ≡ c ∷ cs → is_digit c ≡ true → Holds (Some z) (value_of (run is_digit text)) → Stands (kind.Number z) text (past_run is_digit text)
+number_stands text c cs z e is held =
+    let stand = digits_stand text c cs e is in
+    (run is_digit text, run_splits is_digit text, stand.1, (stand.0, held.0, held.1))
 
 pub number_stuck : (text : List ℕ) (c : ℕ) (cs : List ℕ) → text ≡ c ∷ cs → is_digit c ≡ true → Holds None (value_of (run is_digit text)) → IsStuck fault.NumberTooLarge text
-number_stuck text c cs e is held = (run is_digit text, past_run is_digit text, run_splits is_digit text, digits, longest, held)
-  where
-    front_is : run is_digit text ≡ c ∷ run is_digit cs
-    front_is = ap (run is_digit) e ∙ digits_at c cs is
-
-    longest : IsLongest (run is_digit text) text
-    longest = subst (λ t. IsLongest (run is_digit text) t) (sym e) (subst (λ f. IsLongest f (c ∷ cs)) (sym front_is) (longest_digits c cs is))
-
-    digits : IsDigits (run is_digit text)
-    digits = subst IsDigits (sym front_is) (is, run_is is_digit cs)
+number_stuck text c cs e is held =
+    let stand = digits_stand text c cs e is in
+    (run is_digit text, past_run is_digit text, run_splits is_digit text, stand.0, stand.1, held)
 
 -- a number in range is what its bits are read as
 pub number_back : (z : ℤ) (n : ℕ) → z ≡ pos n → n ≤ max_number → to_z w64 (of_z w64 z) ≡ pos n
@@ -74,8 +64,8 @@ named (c ∷ ds) after e = at (is_name_start c) refl e
     at true starts h = (c, ds, refl, starts, sym (some_is h))
     at false starts h = absurd cc
 
-pub name_found : (cs after : List ℕ) → past_name cs ≡ Some after → (front : List ℕ) × (cs ≡ front ++ after) × IsLongest front cs × IsName front
-name_found cs after e = at (named cs after e)
+pub name_stands : (cs after : List ℕ) → past_name cs ≡ Some after → (front : List ℕ) × (cs ≡ front ++ after) × IsLongest front cs × IsName front
+name_stands cs after e = at (named cs after e)
   where
     at : ((c : ℕ) × (ds : List ℕ) × (cs ≡ c ∷ ds) × (is_name_start c ≡ true) × (after ≡ past_run is_name_more ds)) → (front : List ℕ) × (cs ≡ front ++ after) × IsLongest front cs × IsName front
     at (c, ds, same, starts, rest) = (
@@ -85,8 +75,8 @@ name_found cs after e = at (named cs after e)
       (starts, run_is is_name_more ds),
     )
 
-pub tick_found : (cs : List ℕ) (c : ℕ) (ds after : List ℕ) → cs ≡ c ∷ ds → c ≡ 39 → past_name ds ≡ Some after → Stands kind.Tick cs after
-tick_found cs c ds after same ticks e = at (named ds after e)
+pub tick_stands : (cs : List ℕ) (c : ℕ) (ds after : List ℕ) → cs ≡ c ∷ ds → c ≡ 39 → past_name ds ≡ Some after → Stands kind.Tick cs after
+tick_stands cs c ds after same ticks e = at (named ds after e)
   where
     at : ((d : ℕ) × (xs : List ℕ) × (ds ≡ d ∷ xs) × (is_name_start d ≡ true) × (after ≡ past_run is_name_more xs)) → Stands kind.Tick cs after
     at (d, xs, more, starts, rest) =
@@ -97,9 +87,9 @@ tick_found cs c ds after same ticks e = at (named ds after e)
           (d ∷ run is_name_more xs, ap (λ n. n ∷ d ∷ run is_name_more xs) ticks, (starts, run_is is_name_more xs)),
         )
 
-pub sign_found : (cs : List ℕ) (m : Mark) (after : List ℕ) → sign_of cs ≡ Some (m, after) → IsNoComment cs → Stands (kind.Sign m) cs after
+pub sign_stands : (cs : List ℕ) (m : Mark) (after : List ℕ) → sign_of cs ≡ Some (m, after) → IsNoComment cs → Stands (kind.Sign m) cs after
 unfolding sign_of
-sign_found cs m after e plain = (sign_text m, begun_splits sign_text signs.ALL cs m after e, longest_sign cs m after e plain, refl)
+sign_stands cs m after e plain = (sign_text m, begun_splits sign_text signs.ALL cs m after e, longest_sign cs m after e plain, refl)
 
 pub bad_stuck : (cs : List ℕ) (c : ℕ) (ds : List ℕ) → cs ≡ c ∷ ds → is_blank c ≡ false → past_name cs ≡ None → is_digit c ≡ false → (c ≡ 39 → past_name ds ≡ None) → sign_of cs ≡ None → IsStuck fault.BadByte cs
 unfolding sign_of

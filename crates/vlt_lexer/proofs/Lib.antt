@@ -6,6 +6,7 @@ pub mod OneKind
 pub mod OneReading
 pub mod Pieces
 pub mod Runs
+pub mod Slices
 pub mod Tables
 pub mod Tokens
 pub mod Words

@@ -10,8 +10,9 @@ use Rattle.vlt_lexer.specs.declared.lexer.LexError.{LexError}
 use Rattle.vlt_lexer.specs.declared.lexer.LexError.TheVariants as error
 use Rattle.vlt_lexer.specs.Characters.{width}
 use Rattle.vlt_lexer.specs.Reading.{Lexeme, Reads, IsStuck}
-use Rattle.vlt_lexer.specs.Text.{IsTokensOf, HasTooMany, StopsAt, IsRefused}
+use Rattle.vlt_lexer.specs.Text.{IsTokensOf, AreSlicesOf, HasTooMany, StopsAt, IsRefused}
 use Rattle.vlt_lexer.specs.Places.{placed}
+use Rattle.vlt_lexer.proofs.Slices.{tokens_slices}
 use Rattle.vlt_lexer.proofs.OneReading.{IsEnd, one_reading, no_more_tokens, same_faults, end_not_empty}
 
 pub one_list : (text : List ℕ) (ls ms : List Lexeme) → IsTokensOf text ls → IsTokensOf text ms → ls ≡ ms
@@ -74,3 +75,7 @@ module _ {X : Type 0} (see : X → List Lexeme) (text : List ℕ) where
   all_refusals (Ok x) ok few err refusal is = read_not_refused text (see x) refusal ok few (cause text refusal is)
   all_refusals (Err e) ok few (inl memory) refusal is = inl memory
   all_refusals (Err e) ok few (inr refused) refusal is = inr (one_refusal text e refusal (cause text e refused) (cause text refusal is))
+
+  pub all_slices : (r : Result X LexError) → IfOk r (λ x. IsTokensOf text (see x)) → IfOk r (λ x. AreSlicesOf text 0 (see x))
+  all_slices (Ok x) ok = tokens_slices text (see x) ok
+  all_slices (Err e) ok = ok

@@ -1,5 +1,5 @@
 -- A piece is a token of one kind only.
-use Rattle.std.proofs.Common.{◌≡◌, ℕ, ◌≤◌, true, List, [], ◌∷◌, ◌++◌, length, Some, None, refl, sym, ap, subst, ◌∙◌, arith}
+use Rattle.std.proofs.Common.{◌≡◌, ℕ, ◌≤◌, true, List, [], ◌∷◌, ◌++◌, length, None, refl, sym, ap, subst, ◌∙◌, arith}
 use Rattle.std.specs.Prelude.{pos, nat_le}
 use Rattle.vlt_lexer.specs.declared.token.Word.{Word}
 use Rattle.vlt_lexer.specs.declared.token.Mark.{Mark}
@@ -13,7 +13,7 @@ use Rattle.vlt_lexer.specs.Lexemes.{IsPiece, name, tick, digits, sign, line_open
 use Rattle.vlt_lexer.specs.Steps.{spelled}
 use Rattle.std.proofs.lemmas.Bool.Decides.{nat_tests}
 use Rattle.vlt_lexer.proofs.Pieces.{IsAt, at_name, at_tick, at_digits, at_mark, piece_at}
-use Rattle.vlt_lexer.proofs.Runs.{head_is, not_empty, some_is, true_false, same_fronts}
+use Rattle.vlt_lexer.proofs.Runs.{none_some, head_is, not_empty, some_is, true_false, same_fronts}
 use Rattle.vlt_lexer.proofs.Tables.{word_found, sign_found, spelled_passes}
 use Rattle.vlt_lexer.proofs.Heads.{name_head, digit_head, sign_head, is_sign_head, sign_opens, sign_some, word_name}
 
@@ -122,9 +122,6 @@ opener_no_token second k cs inside piece after opens no_sign o e longest h = go 
 
     slash : (p : ℕ) (ps : List ℕ) → cs ≡ (p ∷ ps) ++ after → 47 ≡ p
     slash p ps same = head_is (sym o ∙ same)
-
-    none_some : {m : Mark} → None ≡ Some m → ⊥
-    none_some n = cc
 
     go : (k : TokenKind) (piece : List ℕ) → cs ≡ piece ++ after → 2 ≤ length piece → IsOf k piece → ⊥
     go k [] same n is = omega arith

@@ -1,5 +1,5 @@
 -- A text is read in one way.
-use Rattle.std.proofs.Common.{◌≡◌, ℕ, ◌≤◌, true, List, [], ◌∷◌, ◌++◌, length, Some, None, ◌⊎◌, inl, inr, refl, sym, ap, subst, ◌∙◌, arith}
+use Rattle.std.proofs.Common.{◌≡◌, ℕ, ◌≤◌, true, List, [], ◌∷◌, ◌++◌, length, ◌⊎◌, inl, inr, refl, sym, ap, subst, ◌∙◌, arith}
 use Rattle.std.specs.Prelude.{codes, encode_utf8_all}
 use Rattle.std.proofs.lemmas.List.{length-append, append-nil}
 use Rattle.vlt_lexer.specs.declared.scan.Fault.{Fault}
@@ -7,7 +7,7 @@ use Rattle.vlt_lexer.specs.declared.scan.Fault.TheVariants as fault
 use Rattle.vlt_lexer.specs.Characters.{is_blank, is_digit, IsDigits, value_of, after_line, after_close, width}
 use Rattle.vlt_lexer.specs.Lexemes.{IsPiece, line_opens, block_opens, digits, IsLongest, IsOf, max_number}
 use Rattle.vlt_lexer.specs.Reading.{Lexeme, IsGap, blank, line, block, IsToken, Reads, nothing, gap, token, IsStuck}
-use Rattle.vlt_lexer.proofs.Runs.{head_is, tail_is, not_empty, some_is, true_false, same_fronts}
+use Rattle.vlt_lexer.proofs.Runs.{none_some, head_is, tail_is, not_empty, some_is, true_false, same_fronts}
 use Rattle.vlt_lexer.proofs.Heads.{digit_head}
 use Rattle.vlt_lexer.proofs.OneKind.{no_empty_piece, piece_of, number_only, one_kind, blank_no_token, opener_no_token}
 
@@ -54,9 +54,6 @@ same_tokens total cs a b l m s t =
 
 abbrev pub IsEnd : List ℕ → Type 0
 IsEnd cs = (cs ≡ []) ⊎ ((f : Fault) × IsStuck f cs)
-
-none_some : {A : Type 0} {x : A} → None ≡ Some x → ⊥
-none_some e = cc
 
 digits_first : (piece after cs : List ℕ) → cs ≡ piece ++ after → IsDigits piece → (c : ℕ) × (x : List ℕ) × (cs ≡ c ∷ x) × (is_digit c ≡ true)
 digits_first [] after cs e is = absurd is

@@ -8,7 +8,7 @@ use Rattle.vlt_lexer.specs.Spelling.{sign_text}
 use Rattle.vlt_lexer.specs.Characters.{is_digit, is_name_start, is_name_more, EachIs, IsName}
 use Rattle.vlt_lexer.specs.Lexemes.{IsPiece, name, tick, digits, sign, line_opens, block_opens, IsLongest}
 use Rattle.vlt_lexer.specs.Steps.{run, past_run, past_name, begun, IsNoComment}
-use Rattle.vlt_lexer.proofs.Runs.{head_is, tail_is, not_empty, true_false, run_longest, not_behind}
+use Rattle.vlt_lexer.proofs.Runs.{none_some, head_is, tail_is, not_empty, true_false, run_longest, not_behind}
 use Rattle.vlt_lexer.proofs.Tables.{sign_found, signs_fall, longest_begins, none_begins, begun_splits}
 use Rattle.vlt_lexer.proofs.Heads.{name_head, digit_head, sign_head, is_sign_head, sign_opens, sign_some}
 
@@ -112,11 +112,8 @@ pub no_piece : (c : ℕ) (cs : List ℕ) → is_name_start c ≡ false → is_di
     → (other rest : List ℕ) → c ∷ cs ≡ other ++ rest → IsPiece other → ⊥
 no_piece c cs no_name no_digit no_tick no_sign other rest e p = go (piece_at c cs other rest e p)
   where
-    not_none : {x : List ℕ} → None ≡ Some x → ⊥
-    not_none h = cc
-
     no_name_at : (t : ℕ) (ts : List ℕ) → is_name_start t ≡ true → past_name (t ∷ ts) ≡ None → ⊥
-    no_name_at t ts starts none = let some : past_name (t ∷ ts) ≡ Some (past_run is_name_more ts) = rw starts refl in not_none (sym none ∙ some)
+    no_name_at t ts starts none = let some : past_name (t ∷ ts) ≡ Some (past_run is_name_more ts) = rw starts refl in none_some (sym none ∙ some)
 
     named : (ts ds : List ℕ) → past_name ts ≡ None → IsName ds → ts ≡ ds ++ rest → ⊥
     named ts [] none is h = is

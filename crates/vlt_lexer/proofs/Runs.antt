@@ -19,6 +19,9 @@ true_false e = cc
 pub some_is : {A : Type 0} {x y : A} → Some x ≡ Some y → x ≡ y
 some_is e = cc
 
+pub none_some : {A : Type 0} {x : A} → None ≡ Some x → ⊥
+none_some e = cc
+
 -- fronts of one text that are equally long are one, and so is what follows them
 pub same_fronts : (a b x y : List ℕ) → length a ≡ length b → a ++ x ≡ b ++ y → (a ≡ b) × (x ≡ y)
 same_fronts [] [] x y h e = (refl, e)
@@ -70,6 +73,3 @@ splits_behind (f ∷ front) rest = rw (eq-eqb f f refl) (splits_behind front res
 -- a text that hasn't the front doesn't begin with it
 pub not_behind : (front cs rest : List ℕ) → behind front cs ≡ None → cs ≡ front ++ rest → ⊥
 not_behind front cs rest none e = none_some (sym none ∙ ap (behind front) e ∙ splits_behind front rest)
-  where
-    none_some : {x : List ℕ} → None ≡ Some x → ⊥
-    none_some h = cc

@@ -10,6 +10,7 @@ use Rattle.vlt_lexer.specs.Spelling.{word_text}
 use Rattle.vlt_lexer.specs.Characters.{IsName}
 use Rattle.vlt_lexer.specs.Lexemes.{IsOf}
 use Rattle.vlt_lexer.specs.Steps.{spelled, keyword_of, kind_of}
+use Rattle.vlt_lexer.proofs.Runs.{none_some}
 use Rattle.vlt_lexer.proofs.Tables.{word_found, spelled_is, spelled_passes}
 use Rattle.vlt_lexer.proofs.Bytes.{same_characters}
 
@@ -23,9 +24,6 @@ pub kind_is : (front : List ℕ) → IsName front → IsOf (kind_of (keyword_of 
 unfolding keyword_of
 kind_is front named = at (spelled word_text words.ALL (encode_utf8_all front)) refl
   where
-    none_some : {w : Word} → None ≡ Some w → ⊥
-    none_some h = cc
-
     at : (found : Option Word) → spelled word_text words.ALL (encode_utf8_all front) ≡ found → IsOf (kind_of found) front
     at None e = (named, λ w same. none_some (sym e ∙ ap (spelled word_text words.ALL) (ap encode_utf8_all same ∙ word_bytes w) ∙ word_found w))
     at (Some w) e = same_characters front (word_text w) (sym (spelled_is word_text words.ALL _ w e) ∙ sym (word_bytes w))

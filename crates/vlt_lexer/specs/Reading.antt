@@ -35,7 +35,8 @@ pub data Reads (total : ℕ) : List ℕ → List Lexeme → List ℕ → Type 0 
   gap : (cs after : List ℕ) (ls : List Lexeme) (left : List ℕ) → IsGap cs after → Reads total after ls left → Reads total cs ls left
   token : (cs : List ℕ) (l : Lexeme) (after : List ℕ) (ls : List Lexeme) (left : List ℕ) → IsToken total cs l after → Reads total after ls left → Reads total cs (l ∷ ls) left
 
--- no token, blank or comment can be read at the front of the text
+-- No token, blank or comment can be read at the front of the text: it begins with no blank and no piece, or with digits of too
+-- large a number, or with a comment that isn't closed.
 abbrev pub IsStuck : Fault → List ℕ → Type 0
 IsStuck fault.BadByte cs = (c : ℕ) × (after : List ℕ) × (cs ≡ c ∷ after) × (is_blank c ≡ false) × ((piece rest : List ℕ) → cs ≡ piece ++ rest → IsPiece piece → ⊥)
 IsStuck fault.NumberTooLarge cs = (piece after : List ℕ) × (cs ≡ piece ++ after) × IsDigits piece × IsLongest piece cs × (max_number < value_of piece)

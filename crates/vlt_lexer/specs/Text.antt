@@ -1,5 +1,5 @@
 -- Whole texts, as bytes.
-use Rattle.std.specs.Prelude.{◌≡◌, ◌<◌, ◌≤◌, ℕ, ◌+◌, List, [], length, map}
+use Rattle.std.specs.Prelude.{◌≡◌, ◌<◌, ◌≤◌, ℕ, ◌+◌, List, [], ◌∷◌, length, map, slice_range}
 use Rattle.std.specs.Str.{chars, IsUtf8, IsValidUpTo}
 use Rattle.vlt_base.specs.Limits.{limit_of}
 use Rattle.vlt_lexer.specs.declared.token.Token.{Token}
@@ -19,6 +19,11 @@ lexemes ts = map lexeme ts
 -- The text is UTF-8, and is these tokens in order with only blanks and comments between them, each token the longest piece at its place.
 abbrev pub IsTokensOf : List ℕ → List Lexeme → Type 0
 IsTokensOf text ls = IsUtf8 text × Reads (length text) (chars text) ls []
+
+-- each token is not empty, is the slice of the text at its place, and begins at or behind the end of the one before
+abbrev pub AreSlicesOf : List ℕ → ℕ → List Lexeme → Type 0
+AreSlicesOf text start [] = Unit {0}
+AreSlicesOf text start (l ∷ ls) = (start ≤ l.from) × (l.from < l.to) × (l.to ≤ length text) × (l.text ≡ slice_range text l.from l.to) × AreSlicesOf text l.to ls
 
 -- more tokens can be read from the text's start than may be
 abbrev pub HasTooMany : List ℕ → Type 0

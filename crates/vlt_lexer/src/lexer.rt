@@ -3,7 +3,7 @@
 ghost use Rattle.std.specs.Prelude.{◌≡◌, ◌⊎◌, ◌<◌, ◌≤◌, ◌+◌, ◌-◌, ◌^◌, List, length, take, IfOk, IfErr, MatchResult};
 ghost use Rattle.std.specs.Str.{chars, IsUtf8};
 ghost use Rattle.vlt_base.specs.Limits.{limit_of};
-ghost use Rattle.vlt_lexer.specs.Text.{lexemes, IsTokensOf, IsRefused};
+ghost use Rattle.vlt_lexer.specs.Text.{lexemes, IsTokensOf, AreSlicesOf, IsRefused};
 ghost use Rattle.vlt_lexer.specs.Places.{placed};
 ghost use Rattle.vlt_lexer.specs.Reading.{Lexeme};
 ghost use Rattle.vlt_lexer.specs.declared.lexer.LexError.{LexError};
@@ -106,6 +106,7 @@ fn read_text(alloc: Global, text: &str) -> Result<Vec<Token<'_>>, LexError>
     }
 }
 
+/// Reads a text of any bytes.
 fn read(alloc: Global, text: &[u8]) -> Result<Vec<Token<'_>>, LexError>
     requires { length text.now < 2 ^ 32 - 1 }
     ensures tokens { IfOk result (λ found. IsTokensOf text.now (lexemes found.items)) }
@@ -124,6 +125,8 @@ pub fn lex(alloc: Global, text: &[u8]) -> Result<Vec<Token<'_>>, LexError>
     ensures tokens { IfOk result (λ found. IsTokensOf text.now (lexemes found.items)) }
     ensures few { IfOk result (λ found. length (lexemes found.items) ≤ limit_of 3) }
     ensures refused { IfErr result (λ e. (e ≡ LexError.Memory) ⊎ IsRefused text.now e) }
+
+    ensures slices { IfOk result (λ found. AreSlicesOf text.now 0 (lexemes found.items)) }
 
     // Where there is a list of tokens within the limit it is the answer, if there is memory, and likewise a refusal.
     ensures all_tokens { (ls : List Lexeme) → IsTokensOf text.now ls → length ls ≤ limit_of 3 → MatchResult result (λ found. lexemes found.items ≡ ls) (λ e. e ≡ LexError.Memory) }

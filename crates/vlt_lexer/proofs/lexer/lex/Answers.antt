@@ -1,5 +1,5 @@
 use Rattle.vlt_lexer.specs.Text.{lexemes}
-use Rattle.vlt_lexer.proofs.OneAnswer.{one_list, all_tokens, all_refusals}
+use Rattle.vlt_lexer.proofs.OneAnswer.{one_list, all_tokens, all_refusals, all_slices}
 use Rattle.vlt_lexer.proofs.lexer.lex.Goals as goal
 
 pub returns-clause-all_tokens : goal.returns-clause-all_tokens
@@ -10,3 +10,6 @@ returns-clause-all_refusals c = λ refusal is. all_refusals (λ found. lexemes f
 
 pub returns-clause-one_list : goal.returns-clause-one_list
 returns-clause-one_list c = λ ls ms p q. one_list c.args.text.now ls ms p q
+
+pub returns-clause-slices : goal.returns-clause-slices
+returns-clause-slices c = all_slices (λ found. lexemes found.items) c.args.text.now c.read.result c.read.ensures.tokens

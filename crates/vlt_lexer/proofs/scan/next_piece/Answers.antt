@@ -7,7 +7,7 @@ use Rattle.vlt_lexer.specs.Reading.{blank}
 use Rattle.vlt_lexer.specs.Steps.{past_name, sign_of, keyword_of, kind_of, IsNoComment}
 use Rattle.vlt_lexer.proofs.Bytes.{front_bytes}
 use Rattle.vlt_lexer.proofs.Words.{kind_is}
-use Rattle.vlt_lexer.proofs.Found.{name_found, tick_found, sign_found, bad_stuck, tick_stuck}
+use Rattle.vlt_lexer.proofs.Found.{name_stands, tick_stands, sign_stands, bad_stuck, tick_stuck}
 use Rattle.vlt_lexer.proofs.scan.next_piece.Goals as goal
 
 pub returns-then-is_blank-clause-found : goal.returns-then-is_blank-clause-found
@@ -18,7 +18,7 @@ returns-then-is_blank-clause-found c =
 pub returns-in-Some-past_name-clause-found : goal.returns-in-Some-past_name-clause-found
 returns-in-Some-past_name-clause-found c =
     let behind : past_name (chars c.args.text.now) ≡ Some (chars c.in-Some-past_name.rest.now) = first_of (search rules, grind (arith, common_steps)) in
-    let found = name_found (chars c.args.text.now) (chars c.in-Some-past_name.rest.now) behind in
+    let found = name_stands (chars c.args.text.now) (chars c.in-Some-past_name.rest.now) behind in
     let utf8 : IsUtf8 c.in-Some-past_name.rest.now = first_of (search rules, grind (arith, common_steps)) in
     let bytes = front_bytes c.args.text.now c.in-Some-past_name.rest.now found.0 c.utf8.text utf8 found.1 in
     let count = length c.args.text.now - length c.in-Some-past_name.rest.now in
@@ -28,13 +28,13 @@ returns-in-Some-past_name-clause-found c =
 pub returns-in-Some-past_name-2-clause-found : goal.returns-in-Some-past_name-2-clause-found
 returns-in-Some-past_name-2-clause-found c =
     let behind : past_name (chars c.in-Some.after.now) ≡ Some (chars c.in-Some-past_name-2.rest.now) = first_of (search rules, grind (arith, common_steps)) in
-    tick_found (chars c.args.text.now) c.in-Some.c (chars c.in-Some.after.now) (chars c.in-Some-past_name-2.rest.now) c.in-Some.ensures.split.0 c.if-c-eq39.true behind
+    tick_stands (chars c.args.text.now) c.in-Some.c (chars c.in-Some.after.now) (chars c.in-Some-past_name-2.rest.now) c.in-Some.ensures.split.0 c.if-c-eq39.true behind
 
 pub returns-in-Some-sign-clause-found : goal.returns-in-Some-sign-clause-found
 returns-in-Some-sign-clause-found c =
     let found : sign_of (chars c.args.text.now) ≡ Some (c.in-Some-sign.mark, chars c.in-Some-sign.rest.now) = first_of (search rules, grind (arith, common_steps)) in
     let plain : IsNoComment (chars c.args.text.now) = first_of (search rules, grind (arith, common_steps)) in
-    sign_found (chars c.args.text.now) c.in-Some-sign.mark (chars c.in-Some-sign.rest.now) found plain
+    sign_stands (chars c.args.text.now) c.in-Some-sign.mark (chars c.in-Some-sign.rest.now) found plain
 
 pub returns-in-None-clause-stuck : goal.returns-in-None-clause-stuck
 returns-in-None-clause-stuck c =
