@@ -1,0 +1,198 @@
+//! What the commands answer, with its bytes.
+
+use std::alloc::Global;
+use std::test::Fail;
+use vaultc_core::vaultc;
+use vlt_io::{MemSink, MemStore};
+
+const USAGE: &str =
+    "usage: vaultc check F | explain F | fmt F | emit F | verify F | load N | run F OPTIONS | crun F OPTIONS\n";
+
+const POINT: &str = "struct point { int x; int y; }
+void main() {
+    tracked(K) point p = new point { x: 4, y: 2 };
+    print(p.x + p.y);
+    release p;
+}
+";
+
+const KEPT: &str = "struct point { int x; int y; }
+void main() {
+    tracked(K) point p = new point { x: 4, y: 2 };
+    print(p.x + p.y);
+}
+";
+
+const RELEASED_TWICE: &str = "struct point { int x; int y; }
+void main() {
+    tracked(K) point p = new point { x: 4, y: 2 };
+    print(p.x + p.y);
+    release p;
+    release p;
+}
+";
+
+const CHECK: &[&str] = &["check", "a.v"];
+
+const CHECK_OTHER: &[&str] = &["check", "none.v"];
+
+/// What of the outside fails: a read or a write by its number, from 1; and how many bytes the sink takes.
+#[derive(Clone, Copy)]
+struct Outside {
+    failing_read: u64,
+    failing_write: u64,
+    room: usize,
+}
+
+/// An outside where nothing fails: no call has the number 0.
+const SOUND: Outside = Outside {
+    failing_read: 0,
+    failing_write: 0,
+    room: 4096,
+};
+
+/// The status and the bytes written, where the one file `a.v` holds these bytes.
+fn answer(
+    alloc: Global,
+    outside: Outside,
+    file: &[u8],
+    words: &[&str],
+) -> Result<(u8, Vec<u8>), Fail> {
+    let mut store = MemStore::new(alloc, &[outside.failing_read]).map_err(|_| "memory")?;
+    store.add("a.v", file).map_err(|_| "memory")?;
+    let mut sink = MemSink::new(alloc, outside.room, &[outside.failing_write]).map_err(
+        |_| "memory",
+    )?;
+    let mut owned = Vec::new(alloc);
+    for word in words {
+        owned.push(String::from_str(alloc, word)?)?;
+    }
+    let status = vaultc(alloc, owned.as_slice(), &mut store, &mut sink);
+    Ok((status, Vec::from_slice(alloc, sink.bytes())?))
+}
+
+/// Files with the status and the line that `check` gives them.
+const FILES: [(&str, u8, &str); 18] = [
+    (POINT, 0, "accepted 1\n"),
+    (KEPT, 8, "protocol\n"),
+    (RELEASED_TWICE, 8, "protocol\n"),
+    ("", 6, "text\n"),
+    ("void main() {}", 0, "accepted 1\n"),
+    ("void main(){}\n struct a{}", 6, "text\n"),
+    ("struct a {} struct a {} void main() {}", 6, "text\n"),
+    ("struct main {} void main() {}", 6, "text\n"),
+    ("struct a { int x; int x; } void main() {}", 6, "text\n"),
+    (
+        "void main() { print(9223372036854775807 + 1); }",
+        0,
+        "accepted 1\n",
+    ),
+    ("void main() { print(9223372036854775808); }", 6, "text\n"),
+    ("void main() { print(1); } // no comments", 6, "text\n"),
+    ("void main() { print(1 + 2 + 3); }", 6, "text\n"),
+    (
+        "struct a { int x; } void main() { tracked(K) a p = new a { x: p.x }; release p; }",
+        6,
+        "text\n",
+    ),
+    (
+        "struct a { int x; } void main() { tracked(p) a p = new a { x: 0 }; release p; }",
+        6,
+        "text\n",
+    ),
+    (
+        "struct a { int x; int y; } void main() { tracked(K) a p = new a { y: 0, x: 0 }; release p; }",
+        6,
+        "text\n",
+    ),
+    (
+        "struct a { int x; } void main() { tracked(K) a p = new a { x: 1 }; release p; p.x = 2; }",
+        8,
+        "protocol\n",
+    ),
+    (
+        "struct a { int x; } void main() { tracked(K) a p = new a { x: 007 }; p.x = p.x + 1; release p; }",
+        0,
+        "accepted 1\n",
+    ),
+];
+
+#[test]
+fn files_are_checked(rt: HostRuntime) -> Result<(), Fail> {
+    for (file, status, text) in FILES {
+        let (found, written) = answer(rt.alloc(), SOUND, file.as_bytes(), CHECK)?;
+        assert_eq!(rt; found, status, "{file}");
+        assert_eq!(rt; written.as_slice(), text.as_bytes(), "{file}");
+    }
+    Ok(())
+}
+
+#[test]
+fn a_file_may_be_of_full_size(rt: HostRuntime) -> Result<(), Fail> {
+    for (size, status, text) in [
+        (1_048_576, 0, "accepted 1\n"),
+        (1_048_577, 5, "limit 1 1048576\n"),
+    ] {
+        let mut file = Vec::from_slice(rt.alloc(), POINT.as_bytes())?;
+        file.resize(size, b' ')?;
+        let (found, written) = answer(rt.alloc(), SOUND, file.as_slice(), CHECK)?;
+        assert_eq!(rt; found, status);
+        assert_eq!(rt; written.as_slice(), text.as_bytes());
+    }
+    Ok(())
+}
+
+#[test]
+fn other_words_are_refused(rt: HostRuntime) -> Result<(), Fail> {
+    let cases: [&[&str]; 8] = [
+        &[],
+        &["check"],
+        &["check", ""],
+        &["check", "-a.v"],
+        &["check", "a.v", "a.v"],
+        &["Check", "a.v"],
+        &["fmt", "a.v"],
+        &["--help"],
+    ];
+    for words in cases {
+        let (found, written) = answer(rt.alloc(), SOUND, POINT.as_bytes(), words)?;
+        assert_eq!(rt; found, 1);
+        assert_eq!(rt; written.as_slice(), USAGE.as_bytes());
+    }
+    Ok(())
+}
+
+/// Outsides with the words, the status and what is written.
+const OUTSIDES: [(Outside, &[&str], u8, &str); 4] = [
+    (SOUND, CHECK_OTHER, 2, "read none.v\n"),
+    (
+        Outside {
+            failing_read: 1,
+            ..SOUND
+        },
+        CHECK,
+        2,
+        "read a.v\n",
+    ),
+    (
+        Outside {
+            failing_write: 1,
+            ..SOUND
+        },
+        CHECK,
+        3,
+        "",
+    ),
+    (Outside { room: 8, ..SOUND }, CHECK, 3, "accepted"),
+];
+
+#[test]
+fn the_outside_may_fail(rt: HostRuntime) -> Result<(), Fail> {
+    let alloc = rt.alloc();
+    for (outside, words, status, text) in OUTSIDES {
+        let (found, written) = answer(alloc, outside, POINT.as_bytes(), words)?;
+        assert_eq!(rt; found, status);
+        assert_eq!(rt; written.as_slice(), text.as_bytes());
+    }
+    Ok(())
+}
