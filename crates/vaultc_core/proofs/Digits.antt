@@ -1,8 +1,8 @@
 -- What std's reader of numbers makes of a run of digits.
-use Rattle.std.proofs.Common.{◌≡◌, ◌≤◌, ℕ, zero, suc, ◌+◌, ◌-◌, ◌<◌, ◌^◌, inl, inr, subst, Bool, true, false, ◌&&◌, nat_le, ◌==◌, lit<, if◌then◌else◌, List, [], ◌∷◌, length, ℤ, pos, Option, Some, None, refl, sym, ap, ◌∙◌, arith}
+use Rattle.std.proofs.Common.{◌≡◌, ℕ, zero, suc, ◌+◌, ◌<◌, ◌^◌, inl, inr, subst, true, false, nat_le, ◌==◌, lit<, List, [], ◌∷◌, length, ℤ, pos, Some, None, refl, sym, ap, ◌∙◌, arith}
 use Rattle.std.proofs.lemmas.Bool.Decides.{nat_tests, leb_tells}
 use Rattle.std.proofs.lemmas.Str.{digit_value_digit, IsUtf8-from_ascii}
-use Rattle.std.specs.Prelude.{Result, Ok, Err, slice_index, option_map}
+use Rattle.std.specs.Prelude.{Result, Ok, Err, option_map}
 use Rattle.std.specs.Result.{result_ok}
 use Rattle.std.specs.List.{list_all}
 use Rattle.std.specs.Int.{IsInRange, w64}
@@ -10,7 +10,7 @@ use Rattle.std.specs.Int.RustNames.{FitsSigned}
 use Rattle.std.specs.Char.{digit_value}
 use Rattle.std.specs.Str.{IsAscii, IsUtf8}
 use Rattle.std.specs.Str.Parse.{AllDigits, IsNumeral, digits_value, without_leading_sign, without_leading_plus, signed_digits_value, ParsesSigned}
-use Rattle.vlt_core.specs.Tokens.{Token, number, is_digit, max_number, number_token}
+use Rattle.vlt_core.specs.Tokens.{number, is_digit, max_number, number_token}
 use Rattle.vaultc_core.proofs.Splitting.{both}
 
 in_range : (c : ℕ) → is_digit c ≡ true → IsInRange 48 57 c
@@ -27,7 +27,7 @@ all_ascii (c ∷ w) all (suc i) = all_ascii w (both (is_digit c) (list_all is_di
 pub digits_utf8 : (w : List ℕ) → list_all is_digit w ≡ true → IsUtf8 w
 digits_utf8 w all = IsUtf8-from_ascii w (all_ascii w all)
 
-all_digits : (w : List ℕ) → list_all is_digit w ≡ true → AllDigits 10 w
+pub all_digits : (w : List ℕ) → list_all is_digit w ≡ true → AllDigits 10 w
 all_digits [] all = tt
 all_digits (c ∷ w) all =
     let is = both (is_digit c) (list_all is_digit w) all in
@@ -40,6 +40,10 @@ no_plus c w is =
     let range : IsInRange 48 57 c = in_range c is in
     let other : (c == 43) ≡ false = grind (arith, nat_tests, range.0) in
     rw other refl
+
+pub plus_free : (w : List ℕ) → list_all is_digit w ≡ true → without_leading_plus w ≡ w
+plus_free [] all = refl
+plus_free (c ∷ w) all = no_plus c w (both (is_digit c) (list_all is_digit w) all).0
 
 is_no_minus : (c : ℕ) → is_digit c ≡ true → (c == 45) ≡ false
 is_no_minus c is = let range : IsInRange 48 57 c = in_range c is in grind (arith, nat_tests, range.0)

@@ -1,6 +1,6 @@
 -- Lists that are spelled thing by thing, and then closed.
 use Rattle.std.proofs.Common.{◌≡◌, ℕ, List, [], ◌∷◌, ◌++◌, refl, sym, ap, ◌∙◌, append_assoc}
-use Rattle.vlt_core.specs.Tokens.{Token, keyword, name, number, sign}
+use Rattle.vlt_core.specs.Tokens.{Token, name, sign}
 use Rattle.vlt_core.specs.Tree.{each_spelling}
 
 -- two lists that begin with different signs differ

@@ -13,3 +13,5 @@ pub mod Fields
 pub mod Bodies
 pub mod Sizes
 pub mod Kinded
+pub mod Options
+pub mod Ended

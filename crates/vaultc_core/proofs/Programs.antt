@@ -1,7 +1,7 @@
 -- A text has at most one program.
-use Rattle.std.proofs.Common.{◌≡◌, ℕ, List, Option, Some, None, sym, ap, ◌∙◌, subst}
+use Rattle.std.proofs.Common.{◌≡◌, ℕ, List, Option, Some, None, sym, ap, ◌∙◌}
 use Rattle.vlt_core.specs.Core.{Program}
-use Rattle.vlt_core.specs.Tokens.{Token, tokens_of}
+use Rattle.vlt_core.specs.Tokens.{Token}
 use Rattle.vlt_core.specs.Tree.{File, file_spelling, IsTreeOf}
 use Rattle.vlt_core.specs.Elaboration.{elaborated, IsProgramOf}
 use Rattle.vaultc_core.proofs.Statements.{one_file}

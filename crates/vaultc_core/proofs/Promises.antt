@@ -2,11 +2,11 @@
 use Rattle.std.proofs.Common.{◌≡◌, ℕ, suc, List, Option, Some, None, refl, ap, subst, arith}
 use Rattle.vlt_core.specs.Core.{Program}
 use Rattle.vlt_core.specs.Kinds.{IsKinded}
-use Rattle.vlt_core.specs.Derives.{IsAccepted}
 use Rattle.vlt_core.specs.Elaboration.{IsProgramOf}
 use Rattle.vlt_sound.specs.Promise.{IsSound}
 use Rattle.vlt_io.specs.Outside.{Grew}
-use Rattle.vaultc_core.specs.Told.{Source, too_long, unread, refused, accepted, IsSource, Reply, reply, check_reply, ToldFile}
+use Rattle.vaultc_core.specs.Commands.{check}
+use Rattle.vaultc_core.specs.Told.{Source, too_long, unread, refused, accepted, IsSource, reply, check_reply, ToldFile}
 use Rattle.vaultc_core.specs.Promised.{IsPromised}
 use Rattle.vaultc_core.proofs.Kinded.{elaborated_kinded}
 
@@ -33,6 +33,6 @@ of_source sound bytes text (accepted p) old new is e grew =
       written = subst (λ t. Grew old new t) (ap (λ r. r.text) e) grew;
     }
 
-pub promised : IsSound → (file : Option (List ℕ)) (text : List ℕ) (old new : Option (List ℕ)) → ToldFile file (reply 0 text) → Grew old new text → IsPromised file old new
-promised sound None text old new told grew = absurd told
-promised sound (Some bytes) text old new told grew = of_source sound bytes text told.0 old new told.1 told.2 grew
+pub promised : IsSound → (name : List ℕ) (file : Option (List ℕ)) (text : List ℕ) (old new : Option (List ℕ)) → ToldFile (check name) file (reply 0 text) → Grew old new text → IsPromised file old new
+promised sound name None text old new told grew = absurd told
+promised sound name (Some bytes) text old new told grew = of_source sound bytes text told.0 old new told.1 told.2 grew

@@ -1,9 +1,9 @@
 -- What is spelled so is spelled so by one thing only: expressions and fields.
 use Rattle.std.proofs.Common.{◌≡◌, ℕ, List, [], ◌∷◌, ◌++◌, refl, sym, ap, ◌∙◌, append_assoc, arith}
-use Rattle.vlt_core.specs.Tokens.{Token, keyword, name, number, sign}
-use Rattle.vlt_core.specs.Tree.{Operand, literal, field, Expr, one, sum, Init, plus, comma, colon, close_brace, operand_spelling, expr_spelling, init_spelling, further_init_spelling, each_spelling, more_inits_spelling, inits_spelling}
+use Rattle.vlt_core.specs.Tokens.{Token, name, sign}
+use Rattle.vlt_core.specs.Tree.{Operand, literal, field, Expr, one, sum, Init, plus, comma, colon, close_brace, operand_spelling, expr_spelling, init_spelling, further_init_spelling, more_inits_spelling, inits_spelling}
 use Rattle.vaultc_core.specs.Reading.{NoSum, EndsExpr}
-use Rattle.vaultc_core.proofs.Each.{signs_apart, one_rest, one_name, Same, each-cons, next_back, begins, one_each}
+use Rattle.vaultc_core.proofs.Each.{signs_apart, one_rest, one_name, Same, each-cons, one_each}
 
 one_operand : (a b : Operand) (r q : List Token) → operand_spelling a ++ r ≡ operand_spelling b ++ q → Same a b r q
 one_operand (literal m) (literal n) r q e = record { thing = cc; rest = cc }

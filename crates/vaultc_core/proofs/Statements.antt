@@ -1,9 +1,9 @@
 -- What is spelled so is spelled so by one thing only: declarations and statements.
 use Rattle.std.proofs.Common.{◌≡◌, ℕ, List, [], ◌∷◌, ◌++◌, refl, sym, ap, ◌∙◌, append_assoc, arith}
 use Rattle.std.specs.Prelude.{codes, Result, Ok, Err, OnErr}
-use Rattle.vlt_core.specs.Tokens.{Token, keyword, name, number, sign}
+use Rattle.vlt_core.specs.Tokens.{Token, keyword, name, sign}
 use Rattle.vlt_core.specs.Tree.{Expr, Init, Stmt, Struct, File, declare, assign, print, release, word, open_paren, close_paren, equals, open_brace, close_brace, semicolon, dot, expr_spelling, inits_spelling, stmt_spelling, body_spelling, field_spelling, fields_spelling, struct_spelling, main_spelling, file_spelling, each_spelling}
-use Rattle.vaultc_core.specs.Reading.{NoSum, EndsExpr, head_spelling, main_head_spelling}
+use Rattle.vaultc_core.specs.Reading.{NoSum, head_spelling, main_head_spelling}
 use Rattle.vaultc_core.proofs.Each.{Same, one_rest, one_name, signs_apart, one_each, next_back}
 use Rattle.vaultc_core.proofs.Spelling.{one_inits, one_expr, ends_without_sum}
 

@@ -1,11 +1,10 @@
 -- What status 0 of `check` promises of a file.
-use Rattle.std.specs.Prelude.{◌≡◌, ℕ, List, Option, Some, None}
+use Rattle.std.specs.Prelude.{◌≡◌, ℕ, List, Option, Some}
 use Rattle.vlt_core.specs.Core.{Program}
 use Rattle.vlt_core.specs.Derives.{IsAccepted}
 use Rattle.vlt_core.specs.Elaboration.{IsProgramOf}
 use Rattle.vlt_sound.specs.Promise.{NeverGoesWrong, LeavesOnlyItsClause}
-use Rattle.vlt_io.specs.Outside.{Files, Grew}
-use Rattle.vaultc_core.specs.Commands.{Command, check}
+use Rattle.vlt_io.specs.Outside.{Grew}
 use Rattle.vaultc_core.specs.Told.{accepted_line}
 
 -- The file is there, and its bytes are the text of a program that follows the rules. No run of it goes wrong, and one
@@ -19,8 +18,3 @@ pub record IsPromised (file : Option (List ℕ)) (old new : Option (List ℕ)) :
   pub never_goes_wrong : NeverGoesWrong program
   pub leaves_only_its_clause : LeavesOnlyItsClause program
   pub written : Grew old new (accepted_line program)
-
--- the same of the file that a command names
-abbrev pub PromisesOf : Option Command → Files → (old new : Option (List ℕ)) → Type 0
-PromisesOf None files old new = ⊥
-PromisesOf (Some (check file)) files old new = IsPromised (files file) old new

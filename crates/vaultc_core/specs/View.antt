@@ -1,11 +1,13 @@
 -- The plain tokens and trees that those of the code stand for.
-use Rattle.std.specs.Prelude.{ℕ, ℤ, List, map, drop}
+use Rattle.std.specs.Prelude.{ℕ, List, map, drop}
 use Rattle.std.specs.Borrow.{Bor}
 use Rattle.vlt_core.specs.Tokens as t
 use Rattle.vlt_core.specs.Tree as s
 use Rattle.vaultc_core.specs.Commands as commands
 use Rattle.vaultc_core.specs.declared.words.Command.{Command}
-use Rattle.vaultc_core.specs.declared.words.Command.TheVariants.{Check}
+use Rattle.vaultc_core.specs.declared.words.Command.TheVariants.{Check, Run}
+use Rattle.vaultc_core.specs.declared.words.Given.{Given}
+use Rattle.vlt_base.specs.declared.Budgets.{Budgets}
 use Rattle.vaultc_core.specs.declared.tokens.Token.{Token}
 use Rattle.vaultc_core.specs.declared.tokens.Token.TheVariants.{Keyword, Name, Number, Sign}
 use Rattle.vaultc_core.specs.declared.tree.Operand.{Operand}
@@ -70,5 +72,12 @@ structs_of = map struct_of
 abbrev pub file_of : File → s.File
 file_of f = record { structs = structs_of f.structs; body = stmts_of f.body }
 
+abbrev pub seen_budgets : Budgets → commands.Budgets
+seen_budgets b = record { fuel = b.fuel; heap = b.heap; depth = b.depth }
+
+abbrev pub seen_given : Given → commands.Given
+seen_given g = record { fuel = g.fuel; heap = g.heap; depth = g.depth }
+
 abbrev pub seen_command : Command → commands.Command
 seen_command (Check file) = commands.check file.now
+seen_command (Run file budgets) = commands.run file.now (seen_budgets budgets)

@@ -1,14 +1,14 @@
 //! What a source file's bytes are.
 
-ghost use Rattle.std.specs.Prelude.{◌≡◌, ◌≤◌, length, IfOk, string_bytes};
+ghost use Rattle.std.specs.Prelude.{◌≡◌, ◌≢◌, ◌≤◌, length, IfOk, string_bytes};
 ghost use Rattle.vlt_base.specs.Limits.{limit_of};
 ghost use Rattle.vlt_core.specs.Core.{Program as Plain};
 ghost use Rattle.vlt_core.specs.Elaboration.{IsProgramOf};
 ghost use Rattle.vlt_core.specs.View.{program_of};
 ghost use Rattle.vaultc_core.specs.Refusals.{OnRefused};
 ghost use Rattle.vaultc_core.specs.Told as told;
-ghost use Rattle.vaultc_core.specs.Told.{IsSource, check_reply};
-ghost use Rattle.vaultc_core.specs.Shown.{Shows, shown_reply};
+ghost use Rattle.vaultc_core.specs.Told.{IsSource, IsAnswer, check_reply};
+ghost use Rattle.vaultc_core.specs.Shown.{Shows, IsRunnable, shown_reply};
 
 use crate::elaborate::elaborate;
 use crate::read::read_tree;
@@ -50,7 +50,8 @@ fn read_program(alloc: Global, text: &[u8]) -> Result<Program, SourceError>
 
 /// What these bytes are, or want of memory.
 pub fn read_source(alloc: Global, bytes: &[u8]) -> Result<Source, AllocError>
-    ensures { IfOk result (λ s. (t : told.Source) × IsSource bytes.now t × Shows s t) }
+    ensures is { IfOk result (λ s. (t : told.Source) × IsSource bytes.now t × Shows s t) }
+    ensures runnable { IfOk result (λ s. IsRunnable s) }
 {
     if bytes.len() as u64 > limit(1) {
         return Ok(Source::TooLong);
@@ -69,7 +70,8 @@ pub fn read_source(alloc: Global, bytes: &[u8]) -> Result<Source, AllocError>
 
 /// What `check` says of a source.
 pub fn reply_to_check(alloc: Global, source: &Source) -> Result<Reply, AllocError>
-    ensures { IfOk result (λ r. (t : told.Source) → Shows source.now t → shown_reply r ≡ check_reply t) }
+    ensures reply { IfOk result (λ r. (t : told.Source) → Shows source.now t → shown_reply r ≡ check_reply t) }
+    ensures status { IfOk result (λ r. IsAnswer r.status × (r.status ≢ 1)) }
 {
     let reply = match source {
         Source::TooLong => Reply {

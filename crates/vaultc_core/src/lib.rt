@@ -2,8 +2,10 @@
 #![tactic(auto)]
 
 mod elaborate;
+mod finish;
 mod judge;
 mod read;
+mod run;
 mod source;
 mod tokens;
 mod top;

@@ -66,7 +66,7 @@ fn is_blank_byte(byte: u8) -> bool
     byte == b' ' || byte == b'\n'
 }
 
-fn is_digit_byte(byte: u8) -> bool
+pub fn is_digit_byte(byte: u8) -> bool
     ensures { result ≡ is_digit byte }
 {
     b'0' <= byte && byte <= b'9'

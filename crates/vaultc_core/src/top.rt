@@ -1,71 +1,124 @@
 //! The top call.
 
-ghost use Rattle.std.specs.Prelude.{◌≡◌, ◌≢◌, ◌⊎◌, ◌<◌, ℕ, List, Option, None, Some, [], map, string_bytes, IfOk};
+ghost use Rattle.std.specs.Prelude.{◌≡◌, ◌≢◌, ◌⊎◌, ◌<◌, ℕ, List, Option, None, Some, [], map, string_bytes, IfOk, IfSome, MatchOption};
+ghost use Rattle.vlt_core.specs.View.{program_of};
 ghost use Rattle.vlt_io.specs.Outside.{Files, Rose, Grew, GrewByPart, MayFail};
+ghost use Rattle.vaultc_core.specs.Commands as commands;
 ghost use Rattle.vaultc_core.specs.Commands.{command_of};
 ghost use Rattle.vaultc_core.specs.Told as told;
-ghost use Rattle.vaultc_core.specs.Told.{Told, ToldFile, IsAnswer, IsUnread, MayBeFor, MayBeWritten, reply, read_line, usage};
-ghost use Rattle.vaultc_core.specs.Promised.{IsPromised, PromisesOf};
-ghost use Rattle.vaultc_core.specs.Shown.{shown_reply};
+ghost use Rattle.vaultc_core.specs.Told.{Told, ToldFile, ToldSource, ToldText, IsAnswer, IsUnread, MayBeWritten, file_of, reply, read_line};
+ghost use Rattle.vaultc_core.specs.Promised.{IsPromised};
+ghost use Rattle.vaultc_core.specs.Shown.{Shows, IsRunnable, IsSourceOf, shown_reply};
+ghost use Rattle.vaultc_core.specs.View.{seen_command, seen_budgets};
 
-use crate::judge::{Reply, read_source, reply_to_check};
+use crate::finish::{finish, finish_unread};
+use crate::judge::{Source, read_source, reply_to_check};
+use crate::run::run_program;
 use crate::words::{Command, read_command};
 use std::alloc::{AllocError, Global};
-use vlt_base::limit;
-use vlt_io::{Sink, SinkFailed, Store, StoreError};
+use vlt_base::{Budgets, limit};
+use vlt_io::{Sink, Store, StoreError};
 use vlt_sound::accepted_never_goes_wrong;
 
 const USAGE: &str =
     "usage: vaultc check F | explain F | fmt F | emit F | verify F | load N | run F OPTIONS | crun F OPTIONS\n";
 
-/// Writes the text, and answers the status, or 3 where the sink fails.
-fn finish<K: Sink>(out: &mut K, status: u8, text: &[u8]) -> u8
-    requires { status ≢ 3 }
-    ensures ok { result ≢ 3 → (result ≡ status) × Grew (K.written out.old) (K.written out.new) text.now }
-    ensures failed { result ≡ 3 → Rose (K.faults out.old) (K.faults out.new) × GrewByPart (K.written out.old) (K.written out.new) text.now }
-{
-    match out.write(text) {
-        Ok(()) => status,
-        Err(SinkFailed) => 3,
-    }
-}
-
-/// The reply to `check` with a file: that of its bytes, or that it wasn't read.
-fn check_file<S: Store>(alloc: Global, store: &mut S, name: &str) -> Result<Reply, AllocError>
-    ensures told { (files : Files) → S.files store.old ≡ Some files → IfOk result (λ r. r.status ≢ 2 → ToldFile (files name.now) (shown_reply r)) }
-    ensures unread { IfOk result (λ r. r.status ≡ 2 → MayFail (S.files store.old) name.now (S.faults store.old) (S.faults store.new) × (string_bytes r.text ≡ read_line name.now)) }
-    ensures status { IfOk result (λ r. (r.status ≢ 1) × (r.status ≢ 3) × (r.status ≢ 4)) }
+/// What the file's bytes are, none where it wasn't read.
+fn read_file<S: Store>(
+    alloc: Global,
+    store: &mut S,
+    name: &str,
+) -> Result<Option<Source>, AllocError>
+    ensures source { IfOk result (λ o. MatchOption o (MayFail (S.files store.old) name.now (S.faults store.old) (S.faults store.new)) (λ s. IsSourceOf (S.files store.old) name.now s)) }
+    ensures runnable { IfOk result (λ o. IfSome o IsRunnable) }
 {
     match store.read(alloc, name, limit(1) as usize) {
-        Ok(bytes) => {
-            let source = read_source(alloc, bytes.as_slice())?;
-            reply_to_check(alloc, &source)
-        }
-        Err(StoreError::Failed) => Ok(Reply {
-            status: 2,
-            text: format!(in alloc; "read {name}\n")?,
-        }),
+        Ok(bytes) => Ok(Some(read_source(alloc, bytes.as_slice())?)),
+        Err(StoreError::Failed) => Ok(None),
         Err(StoreError::Memory) => Err(AllocError),
     }
 }
 
-/// Carries out `check` with a file, and answers the status.
-fn check_command<S: Store, K: Sink>(alloc: Global, name: &str, store: &mut S, out: &mut K) -> u8
+/// Says what `check` says of a source.
+fn check_source<K: Sink>(alloc: Global, source: &Source, out: &mut K) -> u8
+    ensures told { (t : told.Source) → Shows source.now t → IsAnswer result →
+        (text : List ℕ) × (reply result text ≡ told.check_reply t) × Grew (K.written out.old) (K.written out.new) text }
+    ensures failed { result ≡ 3 → Rose (K.faults out.old) (K.faults out.new) }
+    ensures part { (t : told.Source) → Shows source.now t → (result ≡ 3) ⊎ (result ≡ 4) →
+        (status : ℕ) × ((text : List ℕ) × (reply status text ≡ told.check_reply t) × GrewByPart (K.written out.old) (K.written out.new) text) }
+    ensures status { (result ≢ 1) × (result ≢ 2) }
+{
+    match reply_to_check(alloc, source) {
+        Ok(reply) => finish(out, reply.status, reply.text.as_bytes()),
+        Err(AllocError) => 4,
+    }
+}
+
+/// Runs the program of an accepted source, and says of another what `check` says of it.
+fn run_source<K: Sink>(alloc: Global, source: &Source, budgets: Budgets, out: &mut K) -> u8
+    requires { IsRunnable source.now }
+    ensures told { (t : told.Source) → Shows source.now t → IsAnswer result →
+        (text : List ℕ) × told.ToldRun (seen_budgets budgets) t (reply result text) × Grew (K.written out.old) (K.written out.new) text }
+    ensures failed { result ≡ 3 → Rose (K.faults out.old) (K.faults out.new) }
+    ensures part { (t : told.Source) → Shows source.now t → (result ≡ 3) ⊎ (result ≡ 4) →
+        (status : ℕ) × ((text : List ℕ) × told.ToldRun (seen_budgets budgets) t (reply status text) × GrewByPart (K.written out.old) (K.written out.new) text) }
+    ensures status { (result ≢ 1) × (result ≢ 2) }
+{
+    match source {
+        Source::Accepted(program) => run_program(alloc, program, budgets, out),
+        _ => check_source(alloc, source, out),
+    }
+}
+
+/// Answers a command for the source of its file.
+fn answer_source<K: Sink>(alloc: Global, command: Command<'_>, source: &Source, out: &mut K) -> u8
+    requires { IsRunnable source.now }
+    ensures told { (t : told.Source) → Shows source.now t → IsAnswer result →
+        (text : List ℕ) × ToldSource (seen_command command.entry) t (reply result text) × Grew (K.written out.old) (K.written out.new) text }
+    ensures failed { result ≡ 3 → Rose (K.faults out.old) (K.faults out.new) }
+    ensures part { (t : told.Source) → Shows source.now t → (result ≡ 3) ⊎ (result ≡ 4) →
+        (status : ℕ) × ((text : List ℕ) × ToldSource (seen_command command.entry) t (reply status text) × GrewByPart (K.written out.old) (K.written out.new) text) }
+    ensures status { (result ≢ 1) × (result ≢ 2) }
+{
+    match command {
+        Command::Check(_) => check_source(alloc, source, out),
+        Command::Run(_, budgets) => run_source(alloc, source, budgets, out),
+    }
+}
+
+/// The file that a command names.
+fn file_of_command<'a>(command: Command<'a>) -> &'a str
+    ensures { result.now ≡ file_of (seen_command command.entry) }
+{
+    match command {
+        Command::Check(file) => file,
+        Command::Run(file, _) => file,
+    }
+}
+
+/// Carries out a command, and answers its status.
+fn carry_out<S: Store, K: Sink>(
+    alloc: Global,
+    command: Command<'_>,
+    store: &mut S,
+    out: &mut K,
+) -> u8
     ensures told { (files : Files) → S.files store.old ≡ Some files → IsAnswer result →
-        (text : List ℕ) × ToldFile (files name.now) (reply result text) × Grew (K.written out.old) (K.written out.new) text }
-    ensures complete { (files : Files) (r : told.Reply) → S.files store.old ≡ Some files → ToldFile (files name.now) r →
+        (text : List ℕ) × ToldFile (seen_command command.entry) (files (file_of (seen_command command.entry))) (reply result text) × Grew (K.written out.old) (K.written out.new) text }
+    ensures complete { (files : Files) (r : told.Reply) → S.files store.old ≡ Some files → ToldFile (seen_command command.entry) (files (file_of (seen_command command.entry))) r →
         ¬ (Rose (S.faults store.old) (S.faults store.new)) → ¬ (Rose (K.faults out.old) (K.faults out.new)) → (result ≡ r.status) ⊎ (result ≡ 4) }
-    ensures accepted { (files : Files) → S.files store.old ≡ Some files → result ≡ 0 → IsPromised (files name.now) (K.written out.old) (K.written out.new) }
     ensures usage { result ≢ 1 }
-    ensures unread { result ≡ 2 → MayFail (S.files store.old) name.now (S.faults store.old) (S.faults store.new) × Grew (K.written out.old) (K.written out.new) (read_line name.now) }
+    ensures unread { result ≡ 2 → (text : List ℕ) × IsUnread (Some (seen_command command.entry)) (S.files store.old) (S.faults store.old) (S.faults store.new) text × Grew (K.written out.old) (K.written out.new) text }
     ensures failed { result ≡ 3 → Rose (K.faults out.old) (K.faults out.new) }
     ensures part { (files : Files) → S.files store.old ≡ Some files → result ≡ 3 →
-        (text : List ℕ) × MayBeFor (files name.now) name.now (Some files) (S.faults store.old) (S.faults store.new) text × GrewByPart (K.written out.old) (K.written out.new) text }
-    ensures memory { result ≡ 4 → Grew (K.written out.old) (K.written out.new) [] }
+        (text : List ℕ) × MayBeWritten (Some (seen_command command.entry)) files (S.faults store.old) (S.faults store.new) text × GrewByPart (K.written out.old) (K.written out.new) text }
+    ensures memory { (files : Files) → S.files store.old ≡ Some files → result ≡ 4 →
+        Grew (K.written out.old) (K.written out.new) [] ⊎ ((text : List ℕ) × ToldText (Some (seen_command command.entry)) files text × GrewByPart (K.written out.old) (K.written out.new) text) }
 {
-    accepted_never_goes_wrong();
-    match check_file(alloc, store, name) {
-        Ok(reply) => finish(out, reply.status, reply.text.as_bytes()),
+    let name = file_of_command(command);
+    match read_file(alloc, store, name) {
+        Ok(Some(source)) => answer_source(alloc, command, &source, out),
+        Ok(None) => finish_unread(alloc, out, name),
         Err(AllocError) => 4,
     }
 }
@@ -77,9 +130,10 @@ pub fn vaultc<S: Store, K: Sink>(alloc: Global, words: &[String], store: &mut S,
     // Of a store that tells its files, the answer is the one for its files.
     ensures told { (files : Files) → S.files store.old ≡ Some files → IsAnswer result →
         (text : List ℕ) × Told (map string_bytes words.now) files (reply result text) × Grew (K.written out.old) (K.written out.new) text }
-    // Status 0 comes only for a program that follows the rules, and no run of that one goes wrong.
-    ensures accepted { (files : Files) → S.files store.old ≡ Some files → result ≡ 0 →
-        PromisesOf (command_of (map string_bytes words.now)) files (K.written out.old) (K.written out.new) }
+    // `check` answers 0 only for a program that follows the rules, and no run of that one goes wrong.
+    ensures accepted { (files : Files) (file : List ℕ) → S.files store.old ≡ Some files →
+        command_of (map string_bytes words.now) ≡ Some (commands.check file) → result ≡ 0 →
+        IsPromised (files file) (K.written out.old) (K.written out.new) }
     // With the file there and no fault, the answer is that one, unless memory is wanting.
     ensures complete { (files : Files) (r : told.Reply) → S.files store.old ≡ Some files → Told (map string_bytes words.now) files r →
         ¬ (Rose (S.faults store.old) (S.faults store.new)) → ¬ (Rose (K.faults out.old) (K.faults out.new)) → (result ≡ r.status) ⊎ (result ≡ 4) }
@@ -91,12 +145,14 @@ pub fn vaultc<S: Store, K: Sink>(alloc: Global, words: &[String], store: &mut S,
     ensures failed { result ≡ 3 → Rose (K.faults out.old) (K.faults out.new) }
     // Then a part of an answer that these words and files may have was written.
     ensures part { (files : Files) → S.files store.old ≡ Some files → result ≡ 3 →
-        (text : List ℕ) × MayBeWritten (map string_bytes words.now) files (S.faults store.old) (S.faults store.new) text × GrewByPart (K.written out.old) (K.written out.new) text }
-    // Memory was wanting, and nothing is written.
-    ensures memory { result ≡ 4 → Grew (K.written out.old) (K.written out.new) [] }
+        (text : List ℕ) × MayBeWritten (command_of (map string_bytes words.now)) files (S.faults store.old) (S.faults store.new) text × GrewByPart (K.written out.old) (K.written out.new) text }
+    // Memory was wanting: nothing was written, or a part of the answer that these words and files have.
+    ensures memory { (files : Files) → S.files store.old ≡ Some files → result ≡ 4 →
+        Grew (K.written out.old) (K.written out.new) [] ⊎ ((text : List ℕ) × ToldText (command_of (map string_bytes words.now)) files text × GrewByPart (K.written out.old) (K.written out.new) text) }
 {
+    accepted_never_goes_wrong();
     match read_command(words) {
         None => finish(out, 1, USAGE.as_bytes()),
-        Some(Command::Check(name)) => check_command(alloc, name, store, out),
+        Some(command) => carry_out(alloc, command, store, out),
     }
 }

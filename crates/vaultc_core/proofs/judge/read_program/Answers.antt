@@ -1,4 +1,4 @@
-use Rattle.std.proofs.Common.{◌≡◌, Some, sym, ap, ◌∙◌, arith}
+use Rattle.std.proofs.Common.{Some, sym, ap, ◌∙◌, arith}
 use Rattle.vlt_core.specs.Tree.{IsTreeOf}
 use Rattle.vaultc_core.specs.View.{seen, file_of}
 use Rattle.vaultc_core.proofs.Programs.{no_program}

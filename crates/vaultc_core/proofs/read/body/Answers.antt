@@ -1,6 +1,6 @@
-use Rattle.std.proofs.Common.{◌≡◌, List, [], ◌∷◌, ◌++◌, refl, sym, ap, ◌∙◌, arith}
+use Rattle.std.proofs.Common.{◌≡◌, [], ◌∷◌, ◌++◌, sym, ap, ◌∙◌, arith}
 use Rattle.std.proofs.lemmas.List.{append-nil, map-append}
-use Rattle.vlt_core.specs.Tree.{Stmt, close_brace, stmt_spelling, body_spelling}
+use Rattle.vlt_core.specs.Tree.{close_brace, stmt_spelling, body_spelling}
 use Rattle.vaultc_core.specs.View.{left, stmts_of, stmt_of}
 use Rattle.vaultc_core.proofs.Each.{next_spelled, next_back, begins}
 use Rattle.vaultc_core.proofs.Handed.{refused_on}

@@ -1,4 +1,3 @@
-use Rattle.std.proofs.Common.{◌≡◌, ℕ, List, ◌∷◌}
 use Rattle.vaultc_core.specs.View.{left, inits_of}
 use Rattle.vaultc_core.proofs.Statements.{at_semicolon}
 use Rattle.vaultc_core.proofs.read.declaration.Goals as goal

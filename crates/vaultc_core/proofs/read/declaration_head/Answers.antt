@@ -1,5 +1,5 @@
-use Rattle.std.proofs.Common.{◌≡◌, ℕ, List, ◌∷◌}
-use Rattle.vlt_core.specs.Tokens.{Token, name}
+use Rattle.std.proofs.Common.{◌∷◌}
+use Rattle.vlt_core.specs.Tokens.{name}
 use Rattle.vlt_core.specs.Tree.{open_brace}
 use Rattle.vaultc_core.specs.View.{left}
 use Rattle.vaultc_core.proofs.Statements.{on_err, at_new}

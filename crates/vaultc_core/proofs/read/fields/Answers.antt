@@ -1,6 +1,6 @@
-use Rattle.std.proofs.Common.{◌≡◌, List, [], ◌∷◌, ◌++◌, refl, sym, ap, ◌∙◌, arith}
+use Rattle.std.proofs.Common.{◌≡◌, [], ◌∷◌, ◌++◌, sym, ap, ◌∙◌, arith}
 use Rattle.std.proofs.lemmas.List.{append-nil, map-append}
-use Rattle.vlt_core.specs.Tree.{Name, close_brace, field_spelling, fields_spelling}
+use Rattle.vlt_core.specs.Tree.{close_brace, field_spelling, fields_spelling}
 use Rattle.vaultc_core.specs.View.{left, names_of}
 use Rattle.vaultc_core.proofs.Each.{next_spelled, next_back, begins}
 use Rattle.vaultc_core.proofs.Statements.{one_field}

@@ -1,8 +1,6 @@
-use Rattle.std.proofs.Common.{◌≡◌, List, ◌∷◌, ◌++◌, sym, ◌∙◌}
-use Rattle.vlt_core.specs.Tokens.{Token}
-use Rattle.vlt_core.specs.Tree.{Init, close_brace, init_spelling, more_inits_spelling}
-use Rattle.vaultc_core.specs.View.{left, init_of, expr_of}
-use Rattle.vaultc_core.specs.Reading.{EndsExpr}
+use Rattle.std.proofs.Common.{◌++◌, sym, ◌∙◌}
+use Rattle.vlt_core.specs.Tree.{more_inits_spelling}
+use Rattle.vaultc_core.specs.View.{left, init_of}
 use Rattle.vaultc_core.proofs.Spelling.{inits_begin, no_sum_in_more, one_init}
 use Rattle.vaultc_core.proofs.read.inits.Goals as goal
 

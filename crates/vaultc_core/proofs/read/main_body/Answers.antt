@@ -1,6 +1,6 @@
-use Rattle.std.proofs.Common.{◌≡◌, ◌<◌, ◌≤◌, ℕ, zero, suc, ◌∷◌, List, [], ◌++◌, length, sym, ap, ◌∙◌, arith}
+use Rattle.std.proofs.Common.{◌≡◌, ◌<◌, ℕ, zero, suc, ◌∷◌, List, [], length, sym, ◌∙◌, arith}
 use Rattle.std.proofs.lemmas.List.{append-nil}
-use Rattle.vlt_core.specs.Tree.{Stmt, body_spelling}
+use Rattle.vlt_core.specs.Tree.{body_spelling}
 use Rattle.vaultc_core.specs.View.{left, stmts_of}
 use Rattle.vaultc_core.proofs.Handed.{refused_on}
 use Rattle.vaultc_core.proofs.Statements.{one_body, behind_main_head}

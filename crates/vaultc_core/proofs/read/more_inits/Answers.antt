@@ -1,11 +1,11 @@
-use Rattle.std.proofs.Common.{◌≡◌, ℕ, List, [], ◌∷◌, ◌++◌, Some, map, sym, ap, ◌∙◌, refl, append_assoc, rules, arith}
+use Rattle.std.proofs.Common.{◌≡◌, List, [], ◌∷◌, ◌++◌, sym, ap, ◌∙◌, rules, arith}
 use Rattle.std.proofs.lemmas.Grind.{common_steps}
 use Rattle.std.proofs.lemmas.List.{append-nil, map-append}
 use Rattle.vlt_core.specs.Tokens.{Token}
 use Rattle.vlt_core.specs.Tree.{Init, comma, close_brace, init_spelling, further_init_spelling, more_inits_spelling}
 use Rattle.vaultc_core.specs.View.{left, init_of, inits_of, expr_of}
 use Rattle.vaultc_core.specs.Reading.{EndsExpr, NoSum}
-use Rattle.vaultc_core.proofs.Each.{signs_apart, next_spelled, begins}
+use Rattle.vaultc_core.proofs.Each.{next_spelled, begins}
 use Rattle.vaultc_core.proofs.Spelling.{behind_comma, further_back, no_sum_in_more}
 use Rattle.vaultc_core.proofs.read.more_inits.Goals as goal
 

@@ -1,8 +1,7 @@
-use Rattle.std.proofs.Common.{◌≡◌, List, [], ◌∷◌, ◌++◌, sym, ap, ◌∙◌}
-use Rattle.std.specs.Prelude.{codes}
+use Rattle.std.proofs.Common.{◌≡◌, [], ◌∷◌, ◌++◌, sym, ap, ◌∙◌}
 use Rattle.std.proofs.lemmas.List.{append-nil, map-append}
-use Rattle.vlt_core.specs.Tree.{Stmt, Struct, word, each_spelling, struct_spelling, main_spelling, file_spelling}
-use Rattle.vaultc_core.specs.View.{seen, left, struct_of, structs_of, stmts_of, file_of}
+use Rattle.vlt_core.specs.Tree.{each_spelling, struct_spelling, main_spelling, file_spelling}
+use Rattle.vaultc_core.specs.View.{seen, left, struct_of, structs_of, stmts_of}
 use Rattle.vaultc_core.proofs.Each.{next_spelled, begins}
 use Rattle.vaultc_core.proofs.Handed.{refused_on}
 use Rattle.vaultc_core.proofs.Statements.{struct_back, struct_no_main}

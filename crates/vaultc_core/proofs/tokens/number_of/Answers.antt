@@ -1,4 +1,4 @@
-use Rattle.std.proofs.Common.{◌≡◌, ◌∙◌, ap, subst}
+use Rattle.std.proofs.Common.{◌∙◌, ap, subst}
 use Rattle.std.specs.Int.{w64}
 use Rattle.std.specs.Prelude.{option_map}
 use Rattle.std.specs.Str.Parse.{ParsesSigned}

@@ -1,4 +1,4 @@
-use Rattle.std.proofs.Common.{◌≡◌, [], ◌++◌, map, Some, ◌∙◌, ap, rules, arith}
+use Rattle.std.proofs.Common.{◌≡◌, [], map, Some, ◌∙◌, ap, rules, arith}
 use Rattle.std.proofs.lemmas.Grind.{common_steps}
 use Rattle.std.proofs.lemmas.List.{append-nil}
 use Rattle.vlt_core.specs.Tokens.{tokens_of}

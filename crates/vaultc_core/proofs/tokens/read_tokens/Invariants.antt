@@ -1,4 +1,4 @@
-use Rattle.std.proofs.Common.{◌≡◌, List, ◌++◌, length, map, Option, Some, None}
+use Rattle.std.proofs.Common.{◌≡◌, List, ◌++◌, length, map, Some, None}
 use Rattle.vlt_core.specs.Tokens.{Token, tokens_of}
 use Rattle.vaultc_core.specs.View.{seen_token}
 use Rattle.vaultc_core.proofs.tokens.read_tokens.Given as goal

@@ -1,4 +1,4 @@
-use Rattle.std.proofs.Common.{◌≡◌, ◌<◌, ◌++◌, ◌∙◌, ap, true, length, rules, arith, sym, subst}
+use Rattle.std.proofs.Common.{◌≡◌, ◌<◌, ◌∙◌, ap, true, length, rules, arith}
 use Rattle.std.proofs.lemmas.Grind.{common_steps}
 use Rattle.vlt_core.specs.Tokens.{words, is_word_byte, begins_with}
 use Rattle.vaultc_core.proofs.Splitting.{words-run, front_is_some, begins_at}
