@@ -1,0 +1,6 @@
+pub mod Tokens
+pub mod Tree
+pub mod View
+pub mod Lists
+pub mod Spelling
+pub mod Grammar
