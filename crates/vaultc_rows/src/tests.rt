@@ -36,6 +36,35 @@ const CHECK: &[&str] = &["check", "a.v"];
 
 const CHECK_OTHER: &[&str] = &["check", "none.v"];
 
+const RUN: &[&str] = &["run", "a.v"];
+
+const RUN_OTHER: &[&str] = &["run", "none.v"];
+
+const OVERFLOW: &str = "struct a { int x; }
+void main() {
+    tracked(K) a p = new a { x: 1 };
+    print(p.x);
+    print(9223372036854775807 + p.x);
+    release p;
+}
+";
+
+/// Four events, and two objects at one time.
+const COUNTS: &str = "struct a { int x; }
+void main() {
+    tracked(K) a p = new a { x: 40 };
+    print(p.x);
+    p.x = p.x + 1;
+    print(p.x);
+    tracked(L) a q = new a { x: p.x };
+    q.x = q.x + p.x;
+    release p;
+    print(q.x);
+    release q;
+    print(7);
+}
+";
+
 /// What of the outside fails: a read or a write by its number, from 1; and how many bytes the sink takes.
 #[derive(Clone, Copy)]
 struct Outside {
@@ -144,7 +173,20 @@ fn a_file_may_be_of_full_size(rt: HostRuntime) -> Result<(), Fail> {
 
 #[test]
 fn other_words_are_refused(rt: HostRuntime) -> Result<(), Fail> {
-    let cases: [&[&str]; 8] = [
+    let cases: [&[&str]; 21] = [
+        &["run"],
+        &["run", "-a.v"],
+        &["run", "a.v", "--heap"],
+        &["run", "a.v", "--heap", "1", "--heap", "1"],
+        &["run", "a.v", "--fuel", "1", "--depth", "1", "--fuel", "2"],
+        &["run", "a.v", "--depth", "0"],
+        &["run", "a.v", "--depth", "100001"],
+        &["run", "a.v", "--heap", "16777217"],
+        &["run", "a.v", "--fuel", "9223372036854775808"],
+        &["run", "a.v", "--fuel", "+1"],
+        &["run", "a.v", "--fuel", ""],
+        &["run", "a.v", "--speed", "1"],
+        &["check", "a.v", "--fuel", "1"],
         &[],
         &["check"],
         &["check", ""],
@@ -163,8 +205,37 @@ fn other_words_are_refused(rt: HostRuntime) -> Result<(), Fail> {
 }
 
 /// Outsides with the words, the status and what is written.
-const OUTSIDES: [(Outside, &[&str], u8, &str); 4] = [
+const OUTSIDES: [(Outside, &[&str], u8, &str); 9] = [
     (SOUND, CHECK_OTHER, 2, "read none.v\n"),
+    (SOUND, RUN_OTHER, 2, "read none.v\n"),
+    (
+        Outside {
+            failing_read: 1,
+            ..SOUND
+        },
+        RUN,
+        2,
+        "read a.v\n",
+    ),
+    (
+        Outside {
+            failing_write: 1,
+            ..SOUND
+        },
+        RUN,
+        3,
+        "",
+    ),
+    (
+        Outside {
+            failing_write: 2,
+            ..SOUND
+        },
+        RUN,
+        3,
+        "40\n",
+    ),
+    (Outside { room: 4, ..SOUND }, RUN, 3, "40\n4"),
     (
         Outside {
             failing_read: 1,
@@ -190,9 +261,85 @@ const OUTSIDES: [(Outside, &[&str], u8, &str); 4] = [
 fn the_outside_may_fail(rt: HostRuntime) -> Result<(), Fail> {
     let alloc = rt.alloc();
     for (outside, words, status, text) in OUTSIDES {
-        let (found, written) = answer(alloc, outside, POINT.as_bytes(), words)?;
+        let (found, written) = answer(alloc, outside, COUNTS.as_bytes(), words)?;
         assert_eq!(rt; found, status);
         assert_eq!(rt; written.as_slice(), text.as_bytes());
+    }
+    Ok(())
+}
+
+/// Files with the words of a run of them, its status and what is written.
+const RUNS: [(&str, &[&str], u8, &str); 18] = [
+    (POINT, RUN, 0, "6\n"),
+    (COUNTS, RUN, 0, "40\n41\n82\n7\n"),
+    (OVERFLOW, RUN, 9, "1\ntrap 1\n"),
+    ("void main() {}", RUN, 0, ""),
+    (POINT, &["run", "a.v", "--heap", "0"], 10, "budget heap\n"),
+    (
+        POINT,
+        &["run", "a.v", "--heap", "16777216"],
+        5,
+        "limit 13 16777216\n",
+    ),
+    (
+        COUNTS,
+        &["run", "a.v", "--heap", "1"],
+        10,
+        "40\n41\nbudget heap\n",
+    ),
+    (COUNTS, &["run", "a.v", "--heap", "2"], 0, "40\n41\n82\n7\n"),
+    (POINT, &["run", "a.v", "--fuel", "0"], 0, "6\n"),
+    (
+        POINT,
+        &[
+            "run",
+            "a.v",
+            "--fuel",
+            "9223372036854775807",
+            "--depth",
+            "1",
+            "--heap",
+            "1",
+        ],
+        0,
+        "6\n",
+    ),
+    (
+        POINT,
+        &["run", "a.v", "--heap", "0000000000000000001"],
+        0,
+        "6\n",
+    ),
+    (
+        POINT,
+        &["run", "a.v", "--heap", "00000000000000000001"],
+        1,
+        USAGE,
+    ),
+    (
+        "void main() { print(9223372036854775807 + 0); print(9223372036854775807 + 1); }",
+        RUN,
+        9,
+        "9223372036854775807\ntrap 1\n",
+    ),
+    (KEPT, RUN, 8, "protocol\n"),
+    (RELEASED_TWICE, RUN, 8, "protocol\n"),
+    ("", RUN, 6, "text\n"),
+    (KEPT, &["run", "a.v", "--heap", "16777216"], 8, "protocol\n"),
+    (
+        "void main() {}",
+        &["run", "a.v", "--depth", "100000"],
+        0,
+        "",
+    ),
+];
+
+#[test]
+fn programs_are_run(rt: HostRuntime) -> Result<(), Fail> {
+    for (file, words, status, text) in RUNS {
+        let (found, written) = answer(rt.alloc(), SOUND, file.as_bytes(), words)?;
+        assert_eq!(rt; found, status, "{file}");
+        assert_eq!(rt; written.as_slice(), text.as_bytes(), "{file}");
     }
     Ok(())
 }
