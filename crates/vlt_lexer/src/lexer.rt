@@ -162,90 +162,92 @@ mod tests {
         Ok(out)
     }
 
+    /// Texts with what is read of them.
+    const TEXTS: [(&str, &str); 40] = [
+        ("", ""),
+        (" \t\r\n", ""),
+        (
+            "abstract adopt as become",
+            "Keyword(Abstract) 0-8 Keyword(Adopt) 9-14 Keyword(As) 15-17 Keyword(Become) 18-24",
+        ),
+        (
+            "bool break case continue",
+            "Keyword(Bool) 0-4 Keyword(Break) 5-10 Keyword(Case) 11-15 Keyword(Continue) 16-24",
+        ),
+        (
+            "else extern false focus",
+            "Keyword(Else) 0-4 Keyword(Extern) 5-11 Keyword(False) 12-17 Keyword(Focus) 18-23",
+        ),
+        (
+            "if input int into more new",
+            "Keyword(If) 0-2 Keyword(Input) 3-8 Keyword(Int) 9-12 Keyword(Into) 13-17 Keyword(More) 18-22 Keyword(New) 23-26",
+        ),
+        (
+            "open print release return",
+            "Keyword(Open) 0-4 Keyword(Print) 5-10 Keyword(Release) 11-18 Keyword(Return) 19-25",
+        ),
+        (
+            "stateset struct swap switch",
+            "Keyword(Stateset) 0-8 Keyword(Struct) 9-15 Keyword(Swap) 16-20 Keyword(Switch) 21-27",
+        ),
+        (
+            "tracked true variant void while",
+            "Keyword(Tracked) 0-7 Keyword(True) 8-12 Keyword(Variant) 13-20 Keyword(Void) 21-25 Keyword(While) 26-31",
+        ),
+        (
+            "{}()[]",
+            "Sign(OpenBrace) 0-1 Sign(CloseBrace) 1-2 Sign(OpenParen) 2-3 Sign(CloseParen) 3-4 Sign(OpenBracket) 4-5 Sign(CloseBracket) 5-6",
+        ),
+        (
+            "< > , ; : . @",
+            "Sign(Less) 0-1 Sign(Greater) 2-3 Sign(Comma) 4-5 Sign(Semicolon) 6-7 Sign(Colon) 8-9 Sign(Dot) 10-11 Sign(At) 12-13",
+        ),
+        (
+            "= + - * / % ! & | ^",
+            "Sign(Assign) 0-1 Sign(Plus) 2-3 Sign(Minus) 4-5 Sign(Star) 6-7 Sign(Slash) 8-9 Sign(Percent) 10-11 Sign(Not) 12-13 Sign(And) 14-15 Sign(Or) 16-17 Sign(Xor) 18-19",
+        ),
+        ("->&&||", "Sign(Arrow) 0-2 Sign(AndAnd) 2-4 Sign(OrOr) 4-6"),
+        (
+            "==!=<=>=",
+            "Sign(Equal) 0-2 Sign(NotEqual) 2-4 Sign(LessEqual) 4-6 Sign(GreaterEqual) 6-8",
+        ),
+        ("<==", "Sign(LessEqual) 0-2 Sign(Assign) 2-3"),
+        ("< =", "Sign(Less) 0-1 Sign(Assign) 2-3"),
+        ("===", "Sign(Equal) 0-2 Sign(Assign) 2-3"),
+        (
+            "- >-->",
+            "Sign(Minus) 0-1 Sign(Greater) 2-3 Sign(Minus) 3-4 Sign(Arrow) 4-6",
+        ),
+        ("&&&", "Sign(AndAnd) 0-2 Sign(And) 2-3"),
+        ("'x", "Tick 0-2"),
+        ("'while'if", "Tick 0-6 Tick 6-9"),
+        ("while1 iff", "Name 0-6 Name 7-10"),
+        ("12ab", "Number(12) 0-2 Name 2-4"),
+        ("_ _1 x_", "Name 0-1 Name 2-4 Name 5-7"),
+        ("na\u{ef}ve e\u{301}", "Name 0-6 Name 7-10"),
+        (
+            "007 9223372036854775807",
+            "Number(7) 0-3 Number(9223372036854775807) 4-23",
+        ),
+        ("/**/ a//b\nc//", "Name 5-6 Name 10-11"),
+        ("/* * / */*/", "Sign(Star) 9-10 Sign(Slash) 10-11"),
+        ("a/b", "Name 0-1 Sign(Slash) 1-2 Name 2-3"),
+        ("#", "BadByte(0)"),
+        ("a\u{e9} #", "BadByte(4)"),
+        ("' x", "BadByte(0)"),
+        ("'1", "BadByte(0)"),
+        ("\u{301}", "BadByte(0)"),
+        ("\u{feff}a", "BadByte(0)"),
+        ("a\u{b}", "BadByte(1)"),
+        ("x 9223372036854775808", "NumberTooLarge(2)"),
+        ("18446744073709551617", "NumberTooLarge(0)"),
+        ("a /* b", "OpenComment(2)"),
+        ("/*/", "OpenComment(0)"),
+    ];
+
     #[test]
     fn texts(rt: HostRuntime) -> Result<(), Fail> {
-        let cases = [
-            ("", ""),
-            (" \t\r\n", ""),
-            (
-                "abstract adopt as become",
-                "Keyword(Abstract) 0-8 Keyword(Adopt) 9-14 Keyword(As) 15-17 Keyword(Become) 18-24",
-            ),
-            (
-                "bool break case continue",
-                "Keyword(Bool) 0-4 Keyword(Break) 5-10 Keyword(Case) 11-15 Keyword(Continue) 16-24",
-            ),
-            (
-                "else extern false focus",
-                "Keyword(Else) 0-4 Keyword(Extern) 5-11 Keyword(False) 12-17 Keyword(Focus) 18-23",
-            ),
-            (
-                "if input int into more new",
-                "Keyword(If) 0-2 Keyword(Input) 3-8 Keyword(Int) 9-12 Keyword(Into) 13-17 Keyword(More) 18-22 Keyword(New) 23-26",
-            ),
-            (
-                "open print release return",
-                "Keyword(Open) 0-4 Keyword(Print) 5-10 Keyword(Release) 11-18 Keyword(Return) 19-25",
-            ),
-            (
-                "stateset struct swap switch",
-                "Keyword(Stateset) 0-8 Keyword(Struct) 9-15 Keyword(Swap) 16-20 Keyword(Switch) 21-27",
-            ),
-            (
-                "tracked true variant void while",
-                "Keyword(Tracked) 0-7 Keyword(True) 8-12 Keyword(Variant) 13-20 Keyword(Void) 21-25 Keyword(While) 26-31",
-            ),
-            (
-                "{}()[]",
-                "Sign(OpenBrace) 0-1 Sign(CloseBrace) 1-2 Sign(OpenParen) 2-3 Sign(CloseParen) 3-4 Sign(OpenBracket) 4-5 Sign(CloseBracket) 5-6",
-            ),
-            (
-                "< > , ; : . @",
-                "Sign(Less) 0-1 Sign(Greater) 2-3 Sign(Comma) 4-5 Sign(Semicolon) 6-7 Sign(Colon) 8-9 Sign(Dot) 10-11 Sign(At) 12-13",
-            ),
-            (
-                "= + - * / % ! & | ^",
-                "Sign(Assign) 0-1 Sign(Plus) 2-3 Sign(Minus) 4-5 Sign(Star) 6-7 Sign(Slash) 8-9 Sign(Percent) 10-11 Sign(Not) 12-13 Sign(And) 14-15 Sign(Or) 16-17 Sign(Xor) 18-19",
-            ),
-            ("->&&||", "Sign(Arrow) 0-2 Sign(AndAnd) 2-4 Sign(OrOr) 4-6"),
-            (
-                "==!=<=>=",
-                "Sign(Equal) 0-2 Sign(NotEqual) 2-4 Sign(LessEqual) 4-6 Sign(GreaterEqual) 6-8",
-            ),
-            ("<==", "Sign(LessEqual) 0-2 Sign(Assign) 2-3"),
-            ("< =", "Sign(Less) 0-1 Sign(Assign) 2-3"),
-            ("===", "Sign(Equal) 0-2 Sign(Assign) 2-3"),
-            (
-                "- >-->",
-                "Sign(Minus) 0-1 Sign(Greater) 2-3 Sign(Minus) 3-4 Sign(Arrow) 4-6",
-            ),
-            ("&&&", "Sign(AndAnd) 0-2 Sign(And) 2-3"),
-            ("'x", "Tick 0-2"),
-            ("'while'if", "Tick 0-6 Tick 6-9"),
-            ("while1 iff", "Name 0-6 Name 7-10"),
-            ("12ab", "Number(12) 0-2 Name 2-4"),
-            ("_ _1 x_", "Name 0-1 Name 2-4 Name 5-7"),
-            ("na\u{ef}ve e\u{301}", "Name 0-6 Name 7-10"),
-            (
-                "007 9223372036854775807",
-                "Number(7) 0-3 Number(9223372036854775807) 4-23",
-            ),
-            ("/**/ a//b\nc//", "Name 5-6 Name 10-11"),
-            ("/* * / */*/", "Sign(Star) 9-10 Sign(Slash) 10-11"),
-            ("a/b", "Name 0-1 Sign(Slash) 1-2 Name 2-3"),
-            ("#", "BadByte(0)"),
-            ("a\u{e9} #", "BadByte(4)"),
-            ("' x", "BadByte(0)"),
-            ("'1", "BadByte(0)"),
-            ("\u{301}", "BadByte(0)"),
-            ("\u{feff}a", "BadByte(0)"),
-            ("a\u{b}", "BadByte(1)"),
-            ("x 9223372036854775808", "NumberTooLarge(2)"),
-            ("18446744073709551617", "NumberTooLarge(0)"),
-            ("a /* b", "OpenComment(2)"),
-            ("/*/", "OpenComment(0)"),
-        ];
-        for (text, want) in cases {
+        for (text, want) in TEXTS {
             assert!(rt; text.len() < 100);
             assert_eq!(rt; told(rt.alloc(), text.as_bytes())?.as_str(), want, "{text}");
         }
