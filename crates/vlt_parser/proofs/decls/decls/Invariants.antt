@@ -1,0 +1,19 @@
+use Rattle.std.proofs.Common.{◌≡◌, ◌≤◌, ◌-◌, length, map}
+use Rattle.vlt_syntax.specs.Tokens.{tokens_of}
+use Rattle.vlt_syntax.specs.Lists.{each_then, Each}
+use Rattle.vlt_syntax.specs.Spelling.{decl_then}
+use Rattle.vlt_syntax.specs.Grammar.{IsDecl, language}
+use Rattle.vlt_syntax.specs.View.{decl_of}
+use Rattle.vlt_parser.specs.Reading.{left}
+use Rattle.vlt_parser.proofs.decls.decls.Given as goal
+
+abbrev pub invariant-loop-here : goal.invariant-loop-here
+invariant-loop-here l = record {
+  spelled : tokens_of l.tokens ≡ each_then decl_then (map decl_of l.decls) (left l.tokens l.here);
+  right : Each (IsDecl language) (map decl_of l.decls);
+  few : length l.decls ≤ language.decls;
+  within : l.here ≤ length l.tokens;
+}
+
+abbrev pub decreases-loop-here : goal.decreases-loop-here
+decreases-loop-here l = length l.tokens - l.here

@@ -1,0 +1,19 @@
+use Rattle.std.proofs.Common.{◌≡◌, ◌≤◌, ◌-◌, length, map}
+use Rattle.vlt_syntax.specs.Lists.{each_then, Each}
+use Rattle.vlt_syntax.specs.Spelling.{field_then}
+use Rattle.vlt_syntax.specs.Grammar.{IsField, language}
+use Rattle.vlt_syntax.specs.View.{field_of}
+use Rattle.vlt_parser.specs.Reading.{left}
+use Rattle.vlt_parser.proofs.decls.fields.Given as goal
+
+abbrev pub invariant-loop-alloc : goal.invariant-loop-alloc
+invariant-loop-alloc l = record {
+  spelled : left l.tokens l.at ≡ each_then field_then (map field_of l.fields) (left l.tokens l.here);
+  right : Each IsField (map field_of l.fields);
+  few : length l.fields ≤ language.fields;
+  later : l.at ≤ l.here;
+  within : l.here ≤ length l.tokens;
+}
+
+abbrev pub decreases-loop-alloc : goal.decreases-loop-alloc
+decreases-loop-alloc l = length l.tokens - l.here

@@ -1,0 +1,33 @@
+use Rattle.std.proofs.Common.{◌≡◌, ◌≤◌, ◌<◌, ◌+◌, ◌-◌, ◌*◌, length}
+use Rattle.vlt_syntax.specs.Spelling.{expr_then}
+use Rattle.vlt_syntax.specs.Grammar.{BindsFrom, depth}
+use Rattle.vlt_syntax.specs.View.{expr_of}
+use Rattle.vlt_parser.specs.Reading.{left, next_level}
+use Rattle.vlt_parser.proofs.exprs.+expression.Given as goal
+
+abbrev pub decreases-primary : goal.decreases-primary
+decreases-primary l = 3 * (length l.tokens.now - l.at) + 1
+
+abbrev pub decreases-group : goal.decreases-group
+decreases-group l = 3 * (length l.tokens.now - l.at) + 3
+
+abbrev pub decreases-unary : goal.decreases-unary
+decreases-unary l = 3 * (length l.tokens.now - l.at)
+
+abbrev pub decreases-expression : goal.decreases-expression
+decreases-expression l = 3 * (length l.tokens.now - l.at) + 2
+
+abbrev pub invariant-expression-loop-op : goal.invariant-expression-loop-op
+invariant-expression-loop-op l = record {
+  spelled : left l.tokens l.at ≡ expr_then (expr_of l.first.expr) (left l.tokens l.here);
+  binds : BindsFrom l.least (expr_of l.first.expr);
+  next : BindsFrom (next_level (left l.tokens l.here)) (expr_of l.first.expr);
+  depth : l.first.depth ≡ depth (expr_of l.first.expr);
+  some : 1 ≤ l.first.depth;
+  fits : l.first.depth ≤ l.room;
+  later : l.at < l.here;
+  within : l.here ≤ length l.tokens;
+}
+
+abbrev pub decreases-expression-loop-op : goal.decreases-expression-loop-op
+decreases-expression-loop-op l = length l.tokens - l.here

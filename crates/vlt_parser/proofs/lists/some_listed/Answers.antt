@@ -1,0 +1,53 @@
+use Rattle.std.proofs.Common.{◌≡◌, ◌+◌, [], ◌∷◌, ◌++◌, map, subst, arith, length-append}
+use Rattle.std.proofs.lemmas.List.{length-map}
+use Rattle.vlt_parser.specs.Reading.{left, IsWithin}
+use Rattle.vlt_parser.proofs.Separated.{pushed, each-pushed, some-pushed, goes_on, closed}
+use Rattle.vlt_parser.proofs.lists.some_listed.Goals as goal
+
+pub loop-items-init : goal.loop-items-init
+loop-items-init g c = rw c.new-items.ensures record {
+  spelled = λ x xs rest e. e;
+  right = tt;
+  few = c.requires;
+  later = omega arith;
+}
+
+pub loop-items-preserved : goal.loop-items-preserved
+loop-items-preserved g c =
+    let start = left c.args.tokens.now in
+    let view = g.T.Part.view in
+    let before = c.loop-items.invariant in
+    let item = c.in_ok-item.item in
+    let all = c.push.new.self in
+    let grown : map view all ≡ map view c.loop-items.items ++ view item ∷ [] = pushed view all c.loop-items.items item c.in_ok-push.ensures.ok in
+    record {
+      spelled = goes_on g.T.Part.spell c.args.closing (start c.args.at) (map view all) (map view c.loop-items.items) (start c.loop-items.here) (start c.in_ok-item.behind) (start c.in_ok-next.next) (view item)
+          grown before.spelled c.in_ok-item.ensures.spelled c.in_ok-next.ensures.spelled;
+      right = each-pushed g.T.Part.right (map view all) (map view c.loop-items.items) (view item) grown before.right c.in_ok-item.ensures.right;
+      few = subst (λ n. IsWithin c.args.most (n + 1)) c.len.ensures c.in_ok-allow_one_more.ensures;
+      later = omega (arith, before.later, c.in_ok-item.ensures.moves.later, c.in_ok-next.ensures.moves.later);
+    }
+
+pub returns-in-Some-clause-spelled : goal.returns-in-Some-clause-spelled
+returns-in-Some-clause-spelled g c =
+    let start = left c.args.tokens.now in
+    let view = g.T.Part.view in
+    let item = c.in_ok-item.item in
+    let all = c.push.new.self in
+    closed g.T.Part.spell c.args.closing (start c.args.at) (map view all) (map view c.loop-items.items) (start c.loop-items.here) (start c.in_ok-item.behind) (start c.in-Some.end) (view item)
+    (pushed view all c.loop-items.items item c.in_ok-push.ensures.ok) c.loop-items.invariant.spelled c.in_ok-item.ensures.spelled c.in-Some.ensures.spelled
+
+pub returns-in-Some-clause-some : goal.returns-in-Some-clause-some
+returns-in-Some-clause-some g c =
+    let view = g.T.Part.view in
+    let all = c.push.new.self in
+    some-pushed (map view all) (map view c.loop-items.items) (view c.in_ok-item.item) (pushed view all c.loop-items.items c.in_ok-item.item c.in_ok-push.ensures.ok)
+
+pub returns-in-Some-clause-right : goal.returns-in-Some-clause-right
+returns-in-Some-clause-right g c =
+    let view = g.T.Part.view in
+    let all = c.push.new.self in
+    each-pushed g.T.Part.right (map view all) (map view c.loop-items.items) (view c.in_ok-item.item) (pushed view all c.loop-items.items c.in_ok-item.item c.in_ok-push.ensures.ok) c.loop-items.invariant.right c.in_ok-item.ensures.right
+
+pub returns-in-Some-clause-few : goal.returns-in-Some-clause-few
+returns-in-Some-clause-few g c = rw (length-map c.push.new.self g.T.Part.view) (rw c.in_ok-push.ensures.ok (rw (length-append c.loop-items.items (c.in_ok-item.item ∷ [])) c.loop-items.invariant.few))

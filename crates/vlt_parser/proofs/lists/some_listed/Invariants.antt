@@ -1,0 +1,16 @@
+use Rattle.std.proofs.Common.{◌≤◌, ◌+◌, ◌-◌, length, map}
+use Rattle.vlt_syntax.specs.Lists.{Each}
+use Rattle.vlt_parser.specs.Reading.{left, IsWithin}
+use Rattle.vlt_parser.proofs.Separated.{GoesOn}
+use Rattle.vlt_parser.proofs.lists.some_listed.Given as goal
+
+abbrev pub invariant-loop-items : goal.invariant-loop-items
+invariant-loop-items g l = record {
+  spelled : GoesOn g.T.Part.spell l.closing (left l.tokens l.at) (map g.T.Part.view l.items) (left l.tokens l.here);
+  right : Each g.T.Part.right (map g.T.Part.view l.items);
+  few : IsWithin l.most (length l.items + 1);
+  later : l.at ≤ l.here;
+}
+
+abbrev pub decreases-loop-items : goal.decreases-loop-items
+decreases-loop-items g l = length l.tokens - l.here

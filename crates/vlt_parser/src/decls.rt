@@ -1,0 +1,370 @@
+//! Declarations.
+
+ghost use Rattle.std.specs.Prelude.{◌≡◌, ◌∷◌, [], ◌≤◌, length, map, IfOk};
+ghost use Rattle.vlt_syntax.specs.Tokens.{tokens_of};
+ghost use Rattle.vlt_syntax.specs.Tree.{HeaderParam as SeenHeaderParam, Case as SeenCase};
+ghost use Rattle.vlt_syntax.specs.Lists.{each_then, Each};
+ghost use Rattle.vlt_syntax.specs.Spelling.{header_param_then, header_then, field_then, release_then, case_then, decl_then};
+ghost use Rattle.vlt_syntax.specs.Grammar.{AtMost, IfGiven, IsStates, IsField, IsCase, IsDecl, language};
+ghost use Rattle.vlt_syntax.specs.View.{option_of, name_of, states_of, header_param_of, field_of, case_of, decl_of};
+ghost use Rattle.vlt_parser.specs.Reading.{left, struct_head_then, Moves, Stays};
+
+use crate::error::ParseError;
+use crate::heads::{PARAMETERS, head};
+use crate::lists::{Part, allow_one_more, bound, enclosed, some_listed};
+use crate::stmts::block;
+use crate::tokens::{case_name, keyword, kind, name, sign, span, unexpected};
+use crate::types::{at_states, marked_name, states, ty};
+use std::alloc::Global;
+use vlt_base::{Items, limit};
+use vlt_lexer::{Mark, Token, TokenKind, Word};
+use vlt_syntax::{Case, Decl, Field, HeaderParam, Name, States};
+
+/// The limits on declarations, states, fields, cases, payload types and depth.
+const DECLS: u8 = 4;
+
+const STATES: u8 = 5;
+
+const FIELDS: u8 = 6;
+
+const CASES: u8 = 7;
+
+const PAYLOAD: u8 = 8;
+
+const DEPTH: u8 = 12;
+
+impl Part for HeaderParam {
+    ghost Seen = { SeenHeaderParam };
+
+    ghost view = { header_param_of };
+
+    ghost spell = { header_param_then };
+
+    ghost right = { λ p. Unit {0} };
+
+    fn part(
+        alloc: Global,
+        tokens: &[Token<'_>],
+        at: usize,
+    ) -> Result<(HeaderParam, usize), ParseError> {
+        let (key, next) = name(alloc, tokens, at)?;
+        let (key_type, next) = marked_name(alloc, tokens, next, Mark::Colon)?;
+        Ok((HeaderParam { key, key_type }, next))
+    }
+}
+
+/// The header of a type, if one comes next.
+fn header(
+    alloc: Global,
+    tokens: &[Token<'_>],
+    at: usize,
+) -> Result<(Items<HeaderParam>, usize), ParseError>
+    requires { at ≤ length tokens.now }
+    ensures spelled { IfOk result (λ x. left tokens.now at ≡ header_then (map header_param_of x.0) (left tokens.now x.1)) }
+    ensures few { IfOk result (λ x. AtMost language.parameters (map header_param_of x.0)) }
+    ensures moves { IfOk result (λ x. Stays tokens.now at x.1) }
+{
+    let most = Some(bound(PARAMETERS));
+    enclosed(alloc, tokens, at, Mark::Less, Mark::Greater, most)
+}
+
+/// `int x;` or `int x@s;`
+fn field(alloc: Global, tokens: &[Token<'_>], at: usize) -> Result<(Field, usize), ParseError>
+    ensures spelled { IfOk result (λ x. left tokens.now at ≡ field_then (field_of x.0) (left tokens.now x.1)) }
+    ensures right { IfOk result (λ x. IsField (field_of x.0)) }
+    ensures moves { IfOk result (λ x. Moves tokens.now at x.1) }
+{
+    let (ty, next) = ty(alloc, tokens, at)?;
+    let (name, next) = name(alloc, tokens, next)?;
+    let (states, next) = at_states(alloc, tokens, next)?;
+    let next = sign(tokens, next, Mark::Semicolon)?;
+    let at = span(tokens, at, next);
+    Ok((
+        Field {
+            ty,
+            name,
+            states,
+            at,
+        },
+        next,
+    ))
+}
+
+/// Whether a type begins here.
+fn begins_ty(tokens: &[Token<'_>], at: usize) -> bool {
+    matches!(
+        kind(tokens, at),
+        Some(TokenKind::Name | TokenKind::Keyword(Word::Int | Word::Bool | Word::Tracked))
+    )
+}
+
+/// The fields of a struct, as many as come.
+fn fields(
+    alloc: Global,
+    tokens: &[Token<'_>],
+    at: usize,
+) -> Result<(Items<Field>, usize), ParseError>
+    requires { at ≤ length tokens.now }
+    ensures spelled { IfOk result (λ x. left tokens.now at ≡ each_then field_then (map field_of x.0) (left tokens.now x.1)) }
+    ensures right { IfOk result (λ x. Each IsField (map field_of x.0)) }
+    ensures few { IfOk result (λ x. AtMost language.fields (map field_of x.0)) }
+    ensures moves { IfOk result (λ x. Stays tokens.now at x.1) }
+{
+    let most = Some(bound(FIELDS));
+    let mut fields = Items::new(alloc);
+    let mut here = at;
+    while begins_ty(tokens, here) {
+        allow_one_more(most, fields.len())?;
+        let (next, behind) = field(alloc, tokens, here)?;
+        fields.push(next)?;
+        here = behind;
+    }
+    Ok((fields, here))
+}
+
+/// The states in which an object may be released, if they come next.
+fn release(
+    alloc: Global,
+    tokens: &[Token<'_>],
+    at: usize,
+) -> Result<(Option<States>, usize), ParseError>
+    requires { at ≤ length tokens.now }
+    ensures spelled { IfOk result (λ x. left tokens.now at ≡ release_then (option_of states_of x.0) (left tokens.now x.1)) }
+    ensures right { IfOk result (λ x. IfGiven IsStates (option_of states_of x.0)) }
+    ensures moves { IfOk result (λ x. Stays tokens.now at x.1) }
+{
+    let Ok(next) = keyword(tokens, at, Word::Release) else {
+        return Ok((None, at));
+    };
+    let (found, next) = states(alloc, tokens, next)?;
+    let next = sign(tokens, next, Mark::Semicolon)?;
+    Ok((Some(found), next))
+}
+
+/// A case of a variant.
+fn case(alloc: Global, tokens: &[Token<'_>], at: usize) -> Result<(Case, usize), ParseError>
+    ensures spelled { IfOk result (λ x. left tokens.now at ≡ case_then (case_of x.0) (left tokens.now x.1)) }
+    ensures right { IfOk result (λ x. IsCase language (case_of x.0)) }
+    ensures moves { IfOk result (λ x. Moves tokens.now at x.1) }
+{
+    let (name, next) = case_name(alloc, tokens, at)?;
+    let most = Some(bound(PAYLOAD));
+    let (payload, next) = enclosed(alloc, tokens, next, Mark::OpenParen, Mark::CloseParen, most)?;
+    let (keys, next) = enclosed(alloc, tokens, next, Mark::OpenBrace, Mark::CloseBrace, None)?;
+    let at = span(tokens, at, next);
+    Ok((
+        Case {
+            name,
+            payload,
+            keys,
+            at,
+        },
+        next,
+    ))
+}
+
+impl Part for Case {
+    ghost Seen = { SeenCase };
+
+    ghost view = { case_of };
+
+    ghost spell = { case_then };
+
+    ghost right = { IsCase language };
+
+    fn part(alloc: Global, tokens: &[Token<'_>], at: usize) -> Result<(Case, usize), ParseError> {
+        case(alloc, tokens, at)
+    }
+}
+
+/// `stateset s { a, b }`
+fn stateset(alloc: Global, tokens: &[Token<'_>], at: usize) -> Result<(Decl, usize), ParseError>
+    ensures spelled { IfOk result (λ x. left tokens.now at ≡ decl_then (decl_of x.0) (left tokens.now x.1)) }
+    ensures right { IfOk result (λ x. IsDecl language (decl_of x.0)) }
+    ensures moves { IfOk result (λ x. Moves tokens.now at x.1) }
+{
+    let next = keyword(tokens, at, Word::Stateset)?;
+    let (name, next) = name(alloc, tokens, next)?;
+    let next = sign(tokens, next, Mark::OpenBrace)?;
+    let most = Some(bound(STATES));
+    let (states, next) = some_listed(alloc, tokens, next, Mark::CloseBrace, most)?;
+    let at = span(tokens, at, next);
+    Ok((Decl::StateSet { name, states, at }, next))
+}
+
+/// `abstract t@s;`
+fn abstract_decl(
+    alloc: Global,
+    tokens: &[Token<'_>],
+    at: usize,
+) -> Result<(Decl, usize), ParseError>
+    ensures spelled { IfOk result (λ x. left tokens.now at ≡ decl_then (decl_of x.0) (left tokens.now x.1)) }
+    ensures right { IfOk result (λ x. IsDecl language (decl_of x.0)) }
+    ensures moves { IfOk result (λ x. Moves tokens.now at x.1) }
+{
+    let next = keyword(tokens, at, Word::Abstract)?;
+    let (name, next) = name(alloc, tokens, next)?;
+    let (states, next) = marked_name(alloc, tokens, next, Mark::At)?;
+    let next = sign(tokens, next, Mark::Semicolon)?;
+    let at = span(tokens, at, next);
+    Ok((Decl::Abstract { name, states, at }, next))
+}
+
+/// What a struct has before its opening brace.
+#[derive(Drop)]
+struct StructHead {
+    name: Name,
+    params: Items<HeaderParam>,
+    states: Option<Name>,
+}
+
+/// `struct t<K> @ s {`
+fn struct_head(
+    alloc: Global,
+    tokens: &[Token<'_>],
+    at: usize,
+) -> Result<(StructHead, usize), ParseError>
+    ensures spelled { IfOk result (λ x. left tokens.now at ≡ struct_head_then (name_of x.0.name) (map header_param_of x.0.params) (option_of name_of x.0.states) (left tokens.now x.1)) }
+    ensures few { IfOk result (λ x. AtMost language.parameters (map header_param_of x.0.params)) }
+    ensures moves { IfOk result (λ x. Moves tokens.now at x.1) }
+{
+    let next = keyword(tokens, at, Word::Struct)?;
+    let (name, next) = name(alloc, tokens, next)?;
+    let (params, next) = header(alloc, tokens, next)?;
+    let (states, next) = marked_name(alloc, tokens, next, Mark::At)?;
+    let next = sign(tokens, next, Mark::OpenBrace)?;
+    Ok((
+        StructHead {
+            name,
+            params,
+            states,
+        },
+        next,
+    ))
+}
+
+/// `struct t<K> @ s { int x; release s; }`
+fn struct_decl(alloc: Global, tokens: &[Token<'_>], at: usize) -> Result<(Decl, usize), ParseError>
+    ensures spelled { IfOk result (λ x. left tokens.now at ≡ decl_then (decl_of x.0) (left tokens.now x.1)) }
+    ensures right { IfOk result (λ x. IsDecl language (decl_of x.0)) }
+    ensures moves { IfOk result (λ x. Moves tokens.now at x.1) }
+{
+    let (head, next) = struct_head(alloc, tokens, at)?;
+    let (fields, next) = fields(alloc, tokens, next)?;
+    let (release, next) = release(alloc, tokens, next)?;
+    let next = sign(tokens, next, Mark::CloseBrace)?;
+    let at = span(tokens, at, next);
+    Ok((
+        Decl::Struct {
+            name: head.name,
+            params: head.params,
+            states: head.states,
+            fields,
+            release,
+            at,
+        },
+        next,
+    ))
+}
+
+/// `variant t<K> { 'A, 'B(int) }`
+fn variant(alloc: Global, tokens: &[Token<'_>], at: usize) -> Result<(Decl, usize), ParseError>
+    ensures spelled { IfOk result (λ x. left tokens.now at ≡ decl_then (decl_of x.0) (left tokens.now x.1)) }
+    ensures right { IfOk result (λ x. IsDecl language (decl_of x.0)) }
+    ensures moves { IfOk result (λ x. Moves tokens.now at x.1) }
+{
+    let next = keyword(tokens, at, Word::Variant)?;
+    let (name, next) = name(alloc, tokens, next)?;
+    let (params, next) = header(alloc, tokens, next)?;
+    let next = sign(tokens, next, Mark::OpenBrace)?;
+    let most = Some(bound(CASES));
+    let (cases, next) = some_listed(alloc, tokens, next, Mark::CloseBrace, most)?;
+    let at = span(tokens, at, next);
+    Ok((
+        Decl::Variant {
+            name,
+            params,
+            cases,
+            at,
+        },
+        next,
+    ))
+}
+
+/// `extern void f(int x);`
+fn external(alloc: Global, tokens: &[Token<'_>], at: usize) -> Result<(Decl, usize), ParseError>
+    ensures spelled { IfOk result (λ x. left tokens.now at ≡ decl_then (decl_of x.0) (left tokens.now x.1)) }
+    ensures right { IfOk result (λ x. IsDecl language (decl_of x.0)) }
+    ensures moves { IfOk result (λ x. Moves tokens.now at x.1) }
+{
+    let next = keyword(tokens, at, Word::Extern)?;
+    let (head, next) = head(alloc, tokens, next)?;
+    let next = sign(tokens, next, Mark::Semicolon)?;
+    let at = span(tokens, at, next);
+    Ok((Decl::Extern { head, at }, next))
+}
+
+/// `void f(int x) { }`
+fn function(alloc: Global, tokens: &[Token<'_>], at: usize) -> Result<(Decl, usize), ParseError>
+    ensures spelled { IfOk result (λ x. left tokens.now at ≡ decl_then (decl_of x.0) (left tokens.now x.1)) }
+    ensures right { IfOk result (λ x. IsDecl language (decl_of x.0)) }
+    ensures moves { IfOk result (λ x. Moves tokens.now at x.1) }
+{
+    let (head, next) = head(alloc, tokens, at)?;
+    let (body, next) = block(alloc, tokens, next, limit(DEPTH) as usize)?;
+    let at = span(tokens, at, next);
+    Ok((Decl::Function { head, body, at }, next))
+}
+
+/// Whether a declaration begins here.
+fn begins_decl(tokens: &[Token<'_>], at: usize) -> bool {
+    match kind(tokens, at) {
+        Some(
+            TokenKind::Keyword(
+                Word::Stateset
+                | Word::Abstract
+                | Word::Struct
+                | Word::Variant
+                | Word::Extern
+                | Word::Void,
+            ),
+        ) => true,
+        _ => begins_ty(tokens, at),
+    }
+}
+
+fn decl(alloc: Global, tokens: &[Token<'_>], at: usize) -> Result<(Decl, usize), ParseError>
+    ensures spelled { IfOk result (λ x. left tokens.now at ≡ decl_then (decl_of x.0) (left tokens.now x.1)) }
+    ensures right { IfOk result (λ x. IsDecl language (decl_of x.0)) }
+    ensures moves { IfOk result (λ x. Moves tokens.now at x.1) }
+{
+    match kind(tokens, at) {
+        Some(TokenKind::Keyword(Word::Stateset)) => stateset(alloc, tokens, at),
+        Some(TokenKind::Keyword(Word::Abstract)) => abstract_decl(alloc, tokens, at),
+        Some(TokenKind::Keyword(Word::Struct)) => struct_decl(alloc, tokens, at),
+        Some(TokenKind::Keyword(Word::Variant)) => variant(alloc, tokens, at),
+        Some(TokenKind::Keyword(Word::Extern)) => external(alloc, tokens, at),
+        _ => function(alloc, tokens, at),
+    }
+}
+
+/// Declarations up to the last token.
+pub fn decls(alloc: Global, tokens: &[Token<'_>]) -> Result<Items<Decl>, ParseError>
+    ensures spelled { IfOk result (λ x. tokens_of tokens.now ≡ each_then decl_then (map decl_of x) []) }
+    ensures right { IfOk result (λ x. Each (IsDecl language) (map decl_of x)) }
+    ensures few { IfOk result (λ x. AtMost language.decls (map decl_of x)) }
+{
+    let most = Some(bound(DECLS));
+    let mut decls = Items::new(alloc);
+    let mut here = 0;
+    while here < tokens.len() {
+        if !begins_decl(tokens, here) {
+            return Err(unexpected(tokens, here));
+        }
+        allow_one_more(most, decls.len())?;
+        let (next, behind) = decl(alloc, tokens, here)?;
+        decls.push(next)?;
+        here = behind;
+    }
+    Ok(decls)
+}

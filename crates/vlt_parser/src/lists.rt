@@ -1,0 +1,150 @@
+//! Lists of things with commas between them.
+
+ghost use Rattle.std.specs.Prelude.{◌≡◌, ◌<◌, ◌≤◌, ℕ, ◌+◌, length, map, IfOk, OnOk, List};
+ghost use Rattle.vlt_base.specs.Limits.{limit_of};
+ghost use Rattle.vlt_syntax.specs.Tokens.{Token as Plain};
+ghost use Rattle.vlt_syntax.specs.Spelling.{name_then};
+ghost use Rattle.vlt_syntax.specs.Tree.{Name as SeenName};
+ghost use Rattle.vlt_syntax.specs.View.{name_of};
+ghost use Rattle.vlt_syntax.specs.Lists.{listed_then, enclosed_then, Each, IsSome};
+ghost use Rattle.vlt_parser.specs.Reading.{left, Moves, Stays, IsWithin, IsSomeMost};
+
+use crate::error::ParseError;
+use crate::tokens::{behind_sign, name, sign};
+use std::alloc::Global;
+use vlt_base::{Items, limit};
+use vlt_lexer::{Mark, Token};
+use vlt_syntax::Name;
+
+/// A thing that stands in lists.
+pub trait Part: Sized + Drop {
+    ghost Seen: { Type 0 };
+
+    ghost view: { Self → Seen };
+
+    ghost spell: { Seen → List Plain → List Plain };
+
+    ghost right: { Seen → Type 0 };
+
+    /// Reads one.
+    fn part(alloc: Global, tokens: &[Token<'_>], at: usize) -> Result<(Self, usize), ParseError>
+        ensures spelled { IfOk result (λ x. left tokens.now at ≡ spell (view x.0) (left tokens.now x.1)) }
+        ensures right { IfOk result (λ x. right (view x.0)) }
+        ensures moves { IfOk result (λ x. Moves tokens.now at x.1) };
+}
+
+impl Part for Name {
+    ghost Seen = { SeenName };
+
+    ghost view = { name_of };
+
+    ghost spell = { name_then };
+
+    ghost right = { λ n. Unit {0} };
+
+    fn part(alloc: Global, tokens: &[Token<'_>], at: usize) -> Result<(Name, usize), ParseError> {
+        name(alloc, tokens, at)
+    }
+}
+
+/// How many things a list may have.
+#[derive(Clone, Copy)]
+pub struct Most {
+    /// The number of the limit.
+    pub limit: u8,
+    pub count: usize,
+}
+
+/// What the limit of a number allows.
+pub fn bound(number: u8) -> Most
+    requires from { 1 ≤ number }
+    requires to { number ≤ 15 }
+    ensures count { result.count ≡ limit_of number }
+    ensures limit { result.limit ≡ number }
+{
+    Most {
+        limit: number,
+        count: limit(number) as usize,
+    }
+}
+
+/// Whether one more may stand beside so many.
+pub fn allow_one_more(most: Option<Most>, count: usize) -> Result<(), ParseError>
+    ensures { OnOk result (IsWithin most (count + 1)) }
+{
+    match most {
+        Some(most) if count >= most.count => Err(ParseError::Limit(most.limit)),
+        _ => Ok(()),
+    }
+}
+
+/// One thing or more, up to the closing sign.
+pub fn some_listed<T: Part>(
+    alloc: Global,
+    tokens: &[Token<'_>],
+    at: usize,
+    closing: Mark,
+    most: Option<Most>,
+) -> Result<(Items<T>, usize), ParseError>
+    requires { IsSomeMost most }
+    ensures spelled { IfOk result (λ x. left tokens.now at ≡ listed_then T.spell closing (map T.view x.0) (left tokens.now x.1)) }
+    ensures some { IfOk result (λ x. IsSome (map T.view x.0)) }
+    ensures right { IfOk result (λ x. Each T.right (map T.view x.0)) }
+    ensures few { IfOk result (λ x. IsWithin most (length (map T.view x.0))) }
+    ensures moves { IfOk result (λ x. Moves tokens.now at x.1) }
+{
+    let mut items = Items::new(alloc);
+    let mut here = at;
+    loop {
+        let (item, behind) = T::part(alloc, tokens, here)?;
+        items.push(item)?;
+        if let Some(end) = behind_sign(tokens, behind, closing) {
+            return Ok((items, end));
+        }
+        let next = sign(tokens, behind, Mark::Comma)?;
+        allow_one_more(most, items.len())?;
+        here = next;
+    }
+}
+
+/// Things up to the closing sign, if need be none.
+pub fn listed<T: Part>(
+    alloc: Global,
+    tokens: &[Token<'_>],
+    at: usize,
+    closing: Mark,
+    most: Option<Most>,
+) -> Result<(Items<T>, usize), ParseError>
+    requires { IsSomeMost most }
+    ensures spelled { IfOk result (λ x. left tokens.now at ≡ listed_then T.spell closing (map T.view x.0) (left tokens.now x.1)) }
+    ensures right { IfOk result (λ x. Each T.right (map T.view x.0)) }
+    ensures few { IfOk result (λ x. IsWithin most (length (map T.view x.0))) }
+    ensures moves { IfOk result (λ x. Moves tokens.now at x.1) }
+{
+    if let Some(end) = behind_sign(tokens, at, closing) {
+        return Ok((Items::new(alloc), end));
+    }
+    some_listed(alloc, tokens, at, closing, most)
+}
+
+/// Things between two signs, or none and no signs.
+pub fn enclosed<T: Part>(
+    alloc: Global,
+    tokens: &[Token<'_>],
+    at: usize,
+    opening: Mark,
+    closing: Mark,
+    most: Option<Most>,
+) -> Result<(Items<T>, usize), ParseError>
+    requires some { IsSomeMost most }
+    requires within { at ≤ length tokens.now }
+    ensures spelled { IfOk result (λ x. left tokens.now at ≡ enclosed_then T.spell opening closing (map T.view x.0) (left tokens.now x.1)) }
+    ensures right { IfOk result (λ x. Each T.right (map T.view x.0)) }
+    ensures few { IfOk result (λ x. IsWithin most (length (map T.view x.0))) }
+    ensures moves { IfOk result (λ x. Stays tokens.now at x.1) }
+{
+    match behind_sign(tokens, at, opening) {
+        Some(inside) => some_listed(alloc, tokens, inside, closing, most),
+        None => Ok((Items::new(alloc), at)),
+    }
+}

@@ -1,0 +1,221 @@
+//! Right sides of declarations and assignments, calls, and what a `return` gives.
+
+ghost use Rattle.std.specs.Prelude.{◌≡◌, ◌∷◌, ◌≤◌, length, IfOk};
+ghost use Rattle.vlt_lexer.specs.declared.token.Word.TheVariants.{New, Adopt};
+ghost use Rattle.vlt_lexer.specs.declared.token.Mark.TheVariants.{OpenParen, CloseParen};
+ghost use Rattle.vlt_syntax.specs.Tokens.{keyword as a_keyword, sign as a_sign};
+ghost use Rattle.vlt_syntax.specs.Tree.{Init as SeenInit};
+ghost use Rattle.vlt_syntax.specs.Spelling.{build_then, call_then, init_then, owner_then, right_then, returned_then};
+ghost use Rattle.vlt_syntax.specs.Grammar.{IsBuild, IsCall, IsInit, IsRight, IsReturned, language};
+ghost use Rattle.vlt_syntax.specs.View.{option_of, name_of, build_of, call_of, init_of, right_of, returned_of};
+ghost use Rattle.vlt_parser.specs.Reading.{left, Moves, Stays};
+
+use crate::error::ParseError;
+use crate::exprs::expr;
+use crate::lists::{Part, enclosed, listed};
+use crate::tokens::{behind_sign, case_name, keyword, kind, name, sign, span};
+use crate::types::named;
+use std::alloc::Global;
+use vlt_lexer::{Mark, Token, TokenKind, Word};
+use vlt_syntax::{Build, Call, Init, Name, Returned, Right};
+
+/// A case with its payload.
+fn build(alloc: Global, tokens: &[Token<'_>], at: usize) -> Result<(Build, usize), ParseError>
+    ensures spelled { IfOk result (λ x. left tokens.now at ≡ build_then (build_of x.0) (left tokens.now x.1)) }
+    ensures right { IfOk result (λ x. IsBuild language (build_of x.0)) }
+    ensures moves { IfOk result (λ x. Moves tokens.now at x.1) }
+{
+    let (case, next) = case_name(alloc, tokens, at)?;
+    let (payload, next) = enclosed(alloc, tokens, next, Mark::OpenParen, Mark::CloseParen, None)?;
+    let at = span(tokens, at, next);
+    Ok((Build { case, payload, at }, next))
+}
+
+pub fn call(alloc: Global, tokens: &[Token<'_>], at: usize) -> Result<(Call, usize), ParseError>
+    ensures spelled { IfOk result (λ x. left tokens.now at ≡ call_then (call_of x.0) (left tokens.now x.1)) }
+    ensures right { IfOk result (λ x. IsCall language (call_of x.0)) }
+    ensures moves { IfOk result (λ x. Moves tokens.now at x.1) }
+{
+    let (function, next) = name(alloc, tokens, at)?;
+    let next = sign(tokens, next, Mark::OpenParen)?;
+    let (arguments, next) = listed(alloc, tokens, next, Mark::CloseParen, None)?;
+    let at = span(tokens, at, next);
+    Ok((
+        Call {
+            function,
+            arguments,
+            at,
+        },
+        next,
+    ))
+}
+
+/// A field with its value.
+fn init(alloc: Global, tokens: &[Token<'_>], at: usize) -> Result<(Init, usize), ParseError>
+    ensures spelled { IfOk result (λ x. left tokens.now at ≡ init_then (init_of x.0) (left tokens.now x.1)) }
+    ensures right { IfOk result (λ x. IsInit language (init_of x.0)) }
+    ensures moves { IfOk result (λ x. Moves tokens.now at x.1) }
+{
+    let (field, next) = name(alloc, tokens, at)?;
+    let next = sign(tokens, next, Mark::Colon)?;
+    let (value, next) = expr(alloc, tokens, next)?;
+    Ok((Init { field, value }, next))
+}
+
+impl Part for Init {
+    ghost Seen = { SeenInit };
+
+    ghost view = { init_of };
+
+    ghost spell = { init_then };
+
+    ghost right = { IsInit language };
+
+    fn part(alloc: Global, tokens: &[Token<'_>], at: usize) -> Result<(Init, usize), ParseError> {
+        init(alloc, tokens, at)
+    }
+}
+
+/// The variable of an object that adopts, in parentheses, if one comes next.
+fn owner(
+    alloc: Global,
+    tokens: &[Token<'_>],
+    at: usize,
+) -> Result<(Option<Name>, usize), ParseError>
+    requires { at ≤ length tokens.now }
+    ensures spelled { IfOk result (λ x. left tokens.now at ≡ owner_then (option_of name_of x.0) (left tokens.now x.1)) }
+    ensures moves { IfOk result (λ x. Stays tokens.now at x.1) }
+{
+    match behind_sign(tokens, at, Mark::OpenParen) {
+        Some(next) => {
+            let (found, next) = name(alloc, tokens, next)?;
+            let next = sign(tokens, next, Mark::CloseParen)?;
+            Ok((Some(found), next))
+        }
+        None => Ok((None, at)),
+    }
+}
+
+/// A `new`, behind its word.
+fn make(
+    alloc: Global,
+    tokens: &[Token<'_>],
+    at: usize,
+    from: usize,
+) -> Result<(Right, usize), ParseError>
+    requires { Moves tokens.now from at }
+    ensures spelled { IfOk result (λ x. a_keyword New ∷ left tokens.now at ≡ right_then (right_of x.0) (left tokens.now x.1)) }
+    ensures right { IfOk result (λ x. IsRight language (right_of x.0)) }
+    ensures moves { IfOk result (λ x. Moves tokens.now at x.1) }
+{
+    let (owner, next) = owner(alloc, tokens, at)?;
+    let (named, next) = named(alloc, tokens, next)?;
+    let next = sign(tokens, next, Mark::OpenBrace)?;
+    let (fields, next) = listed(alloc, tokens, next, Mark::CloseBrace, None)?;
+    let at = span(tokens, from, next);
+    Ok((
+        Right::New {
+            owner,
+            named,
+            fields,
+            at,
+        },
+        next,
+    ))
+}
+
+/// An adoption, behind its word.
+fn adopt(
+    alloc: Global,
+    tokens: &[Token<'_>],
+    at: usize,
+    from: usize,
+) -> Result<(Right, usize), ParseError>
+    requires { Moves tokens.now from at }
+    ensures spelled { IfOk result (λ x. a_keyword Adopt ∷ left tokens.now at ≡ right_then (right_of x.0) (left tokens.now x.1)) }
+    ensures right { IfOk result (λ x. IsRight language (right_of x.0)) }
+    ensures moves { IfOk result (λ x. Moves tokens.now at x.1) }
+{
+    let (variable, next) = name(alloc, tokens, at)?;
+    let next = keyword(tokens, next, Word::Into)?;
+    let (owner, next) = name(alloc, tokens, next)?;
+    let at = span(tokens, from, next);
+    Ok((
+        Right::Adopt {
+            variable,
+            owner,
+            at,
+        },
+        next,
+    ))
+}
+
+/// Whether a call begins here: a name and a `(`.
+fn begins_call(tokens: &[Token<'_>], at: usize) -> bool {
+    matches!(kind(tokens, at), Some(TokenKind::Name))
+        && behind_sign(tokens, at + 1, Mark::OpenParen).is_some()
+}
+
+/// The pair of parentheses behind `input` or `more`.
+fn no_arguments(tokens: &[Token<'_>], at: usize) -> Result<usize, ParseError>
+    ensures spelled { IfOk result (λ next. left tokens.now at ≡ a_sign OpenParen ∷ a_sign CloseParen ∷ left tokens.now next) }
+    ensures moves { IfOk result (λ next. Moves tokens.now at next) }
+{
+    let next = sign(tokens, at, Mark::OpenParen)?;
+    sign(tokens, next, Mark::CloseParen)
+}
+
+pub fn right(alloc: Global, tokens: &[Token<'_>], at: usize) -> Result<(Right, usize), ParseError>
+    ensures spelled { IfOk result (λ x. left tokens.now at ≡ right_then (right_of x.0) (left tokens.now x.1)) }
+    ensures right { IfOk result (λ x. IsRight language (right_of x.0)) }
+    ensures moves { IfOk result (λ x. Moves tokens.now at x.1) }
+{
+    match kind(tokens, at) {
+        Some(TokenKind::Tick) => {
+            let (built, next) = build(alloc, tokens, at)?;
+            Ok((Right::Build(built), next))
+        }
+        Some(TokenKind::Keyword(Word::Input)) => {
+            let next = no_arguments(tokens, at + 1)?;
+            Ok((Right::Input(span(tokens, at, next)), next))
+        }
+        Some(TokenKind::Keyword(Word::More)) => {
+            let next = no_arguments(tokens, at + 1)?;
+            Ok((Right::More(span(tokens, at, next)), next))
+        }
+        Some(TokenKind::Keyword(Word::New)) => make(alloc, tokens, at + 1, at),
+        Some(TokenKind::Keyword(Word::Adopt)) => adopt(alloc, tokens, at + 1, at),
+        Some(TokenKind::Name) if begins_call(tokens, at) => {
+            let (called, next) = call(alloc, tokens, at)?;
+            Ok((Right::Call(called), next))
+        }
+        _ => {
+            let (value, next) = expr(alloc, tokens, at)?;
+            Ok((Right::Value(value), next))
+        }
+    }
+}
+
+/// What stands between `return` and its semicolon.
+pub fn returned(
+    alloc: Global,
+    tokens: &[Token<'_>],
+    at: usize,
+) -> Result<(Returned, usize), ParseError>
+    requires { at ≤ length tokens.now }
+    ensures spelled { IfOk result (λ x. left tokens.now at ≡ returned_then (returned_of x.0) (left tokens.now x.1)) }
+    ensures right { IfOk result (λ x. IsReturned language (returned_of x.0)) }
+    ensures moves { IfOk result (λ x. Stays tokens.now at x.1) }
+{
+    match kind(tokens, at) {
+        Some(TokenKind::Sign(Mark::Semicolon)) => Ok((Returned::Nothing, at)),
+        Some(TokenKind::Tick) => {
+            let (built, next) = build(alloc, tokens, at)?;
+            Ok((Returned::Build(built), next))
+        }
+        _ => {
+            let (value, next) = expr(alloc, tokens, at)?;
+            Ok((Returned::Value(value), next))
+        }
+    }
+}

@@ -1,0 +1,186 @@
+//! States, keys with their states, and types.
+
+ghost use Rattle.std.specs.Prelude.{◌≡◌, ◌∷◌, ◌≤◌, length, IfOk, Option, Some, None};
+ghost use Rattle.vlt_lexer.specs.declared.token.Word.TheVariants.{Tracked};
+ghost use Rattle.vlt_syntax.specs.Tokens.{keyword as a_keyword};
+ghost use Rattle.vlt_syntax.specs.Tree.{KeyStates as SeenKeyStates, Ty as SeenTy};
+ghost use Rattle.vlt_syntax.specs.Spelling.{states_then, at_states_then, marked_name_then, key_states_then, named_then, ty_then};
+ghost use Rattle.vlt_syntax.specs.Grammar.{IfGiven, IsStates, IsKeyStates, IsTy};
+ghost use Rattle.vlt_syntax.specs.View.{option_of, name_of, states_of, key_states_of, named_of, ty_of};
+ghost use Rattle.vlt_parser.specs.Reading.{left, Moves, Stays};
+
+use crate::error::ParseError;
+use crate::lists::{Part, enclosed, some_listed};
+use crate::tokens::{behind_sign, keyword, kind, name, sign, span, unexpected};
+use std::alloc::Global;
+use vlt_lexer::{Mark, Token, TokenKind, Word};
+use vlt_syntax::{KeyStates, Name, Named, States, Ty};
+
+/// A sign and the name behind it, if the sign comes next.
+pub fn marked_name(
+    alloc: Global,
+    tokens: &[Token<'_>],
+    at: usize,
+    mark: Mark,
+) -> Result<(Option<Name>, usize), ParseError>
+    requires { at ≤ length tokens.now }
+    ensures spelled { IfOk result (λ x. left tokens.now at ≡ marked_name_then mark (option_of name_of x.0) (left tokens.now x.1)) }
+    ensures moves { IfOk result (λ x. Stays tokens.now at x.1) }
+{
+    match behind_sign(tokens, at, mark) {
+        Some(next) => {
+            let (found, next) = name(alloc, tokens, next)?;
+            Ok((Some(found), next))
+        }
+        None => Ok((None, at)),
+    }
+}
+
+/// One state, or some between braces.
+pub fn states(alloc: Global, tokens: &[Token<'_>], at: usize) -> Result<(States, usize), ParseError>
+    ensures spelled { IfOk result (λ x. left tokens.now at ≡ states_then (states_of x.0) (left tokens.now x.1)) }
+    ensures right { IfOk result (λ x. IsStates (states_of x.0)) }
+    ensures moves { IfOk result (λ x. Moves tokens.now at x.1) }
+{
+    match behind_sign(tokens, at, Mark::OpenBrace) {
+        Some(inside) => {
+            let (names, next) = some_listed(alloc, tokens, inside, Mark::CloseBrace, None)?;
+            Ok((States::Several(names, span(tokens, at, next)), next))
+        }
+        None => {
+            let (one, next) = name(alloc, tokens, at)?;
+            Ok((States::One(one), next))
+        }
+    }
+}
+
+/// `@` and states, if the sign comes next.
+pub fn at_states(
+    alloc: Global,
+    tokens: &[Token<'_>],
+    at: usize,
+) -> Result<(Option<States>, usize), ParseError>
+    requires { at ≤ length tokens.now }
+    ensures spelled { IfOk result (λ x. left tokens.now at ≡ at_states_then (option_of states_of x.0) (left tokens.now x.1)) }
+    ensures right { IfOk result (λ x. IfGiven IsStates (option_of states_of x.0)) }
+    ensures moves { IfOk result (λ x. Stays tokens.now at x.1) }
+{
+    match behind_sign(tokens, at, Mark::At) {
+        Some(next) => {
+            let (found, next) = states(alloc, tokens, next)?;
+            Ok((Some(found), next))
+        }
+        None => Ok((None, at)),
+    }
+}
+
+/// A key, and the states in which it is held.
+pub fn key_states(
+    alloc: Global,
+    tokens: &[Token<'_>],
+    at: usize,
+) -> Result<(KeyStates, usize), ParseError>
+    ensures spelled { IfOk result (λ x. left tokens.now at ≡ key_states_then (key_states_of x.0) (left tokens.now x.1)) }
+    ensures right { IfOk result (λ x. IsKeyStates (key_states_of x.0)) }
+    ensures moves { IfOk result (λ x. Moves tokens.now at x.1) }
+{
+    let (key, next) = name(alloc, tokens, at)?;
+    let (states, next) = at_states(alloc, tokens, next)?;
+    Ok((KeyStates { key, states }, next))
+}
+
+impl Part for KeyStates {
+    ghost Seen = { SeenKeyStates };
+
+    ghost view = { key_states_of };
+
+    ghost spell = { key_states_then };
+
+    ghost right = { IsKeyStates };
+
+    fn part(
+        alloc: Global,
+        tokens: &[Token<'_>],
+        at: usize,
+    ) -> Result<(KeyStates, usize), ParseError> {
+        key_states(alloc, tokens, at)
+    }
+}
+
+/// The name of a type with its key arguments.
+pub fn named(alloc: Global, tokens: &[Token<'_>], at: usize) -> Result<(Named, usize), ParseError>
+    ensures spelled { IfOk result (λ x. left tokens.now at ≡ named_then (named_of x.0) (left tokens.now x.1)) }
+    ensures moves { IfOk result (λ x. Moves tokens.now at x.1) }
+{
+    let (name, next) = name(alloc, tokens, at)?;
+    let (keys, next) = enclosed(alloc, tokens, next, Mark::Less, Mark::Greater, None)?;
+    Ok((Named { name, keys }, next))
+}
+
+/// A tracked type, behind its word.
+fn tracked(
+    alloc: Global,
+    tokens: &[Token<'_>],
+    at: usize,
+    from: usize,
+) -> Result<(Ty, usize), ParseError>
+    requires { Moves tokens.now from at }
+    ensures spelled { IfOk result (λ x. a_keyword Tracked ∷ left tokens.now at ≡ ty_then (ty_of x.0) (left tokens.now x.1)) }
+    ensures right { IfOk result (λ x. IsTy (ty_of x.0)) }
+    ensures moves { IfOk result (λ x. Moves tokens.now at x.1) }
+{
+    if let Some(next) = behind_sign(tokens, at, Mark::OpenParen) {
+        let (key, next) = name(alloc, tokens, next)?;
+        let next = sign(tokens, next, Mark::CloseParen)?;
+        let (named, next) = named(alloc, tokens, next)?;
+        let at = span(tokens, from, next);
+        return Ok((Ty::Keyed { key, named, at }, next));
+    }
+    let (states, next) = at_states(alloc, tokens, at)?;
+    let (named, next) = named(alloc, tokens, next)?;
+    let at = span(tokens, from, next);
+    Ok((Ty::Tracked { states, named, at }, next))
+}
+
+/// A type that begins with a name.
+fn named_ty(alloc: Global, tokens: &[Token<'_>], at: usize) -> Result<(Ty, usize), ParseError>
+    ensures spelled { IfOk result (λ x. left tokens.now at ≡ ty_then (ty_of x.0) (left tokens.now x.1)) }
+    ensures right { IfOk result (λ x. IsTy (ty_of x.0)) }
+    ensures moves { IfOk result (λ x. Moves tokens.now at x.1) }
+{
+    let (first, next) = name(alloc, tokens, at)?;
+    if let Some(next) = behind_sign(tokens, next, Mark::Colon) {
+        let (named, next) = named(alloc, tokens, next)?;
+        return Ok((Ty::Guarded { key: first, named }, next));
+    }
+    let (keys, next) = enclosed(alloc, tokens, next, Mark::Less, Mark::Greater, None)?;
+    Ok((Ty::Plain(Named { name: first, keys }), next))
+}
+
+pub fn ty(alloc: Global, tokens: &[Token<'_>], at: usize) -> Result<(Ty, usize), ParseError>
+    ensures spelled { IfOk result (λ x. left tokens.now at ≡ ty_then (ty_of x.0) (left tokens.now x.1)) }
+    ensures right { IfOk result (λ x. IsTy (ty_of x.0)) }
+    ensures moves { IfOk result (λ x. Moves tokens.now at x.1) }
+{
+    match kind(tokens, at) {
+        Some(TokenKind::Keyword(Word::Int)) => Ok((Ty::Int(span(tokens, at, at + 1)), at + 1)),
+        Some(TokenKind::Keyword(Word::Bool)) => Ok((Ty::Bool(span(tokens, at, at + 1)), at + 1)),
+        Some(TokenKind::Keyword(Word::Tracked)) => tracked(alloc, tokens, at + 1, at),
+        Some(TokenKind::Name) => named_ty(alloc, tokens, at),
+        _ => Err(unexpected(tokens, at)),
+    }
+}
+
+impl Part for Ty {
+    ghost Seen = { SeenTy };
+
+    ghost view = { ty_of };
+
+    ghost spell = { ty_then };
+
+    ghost right = { IsTy };
+
+    fn part(alloc: Global, tokens: &[Token<'_>], at: usize) -> Result<(Ty, usize), ParseError> {
+        ty(alloc, tokens, at)
+    }
+}
