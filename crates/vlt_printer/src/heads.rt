@@ -1,0 +1,93 @@
+//! Heads of functions.
+
+ghost use Rattle.std.specs.Prelude.{◌≡◌, map, OnOk};
+ghost use Rattle.vlt_syntax.specs.Tree.{Entry as SeenEntry, Parameter as SeenParameter};
+ghost use Rattle.vlt_syntax.specs.View.{option_of, entry_of, outcome_of, parameter_of, head_of};
+ghost use Rattle.vlt_printer.specs.Layout.{entry_after, outcome_after, parameter_after, clause_after, head_after};
+
+use crate::lists::{Part, write_listed, write_text};
+use crate::types::{write_name, write_states, write_ty};
+use vlt_base::{Items, Memory};
+use vlt_syntax::{Entry, Head, Outcome, Parameter};
+
+impl Part for Parameter {
+    ghost Seen = { SeenParameter };
+
+    ghost view = { parameter_of };
+
+    ghost after = { parameter_after };
+
+    fn write(&self, out: &mut Vec<u8>) -> Result<(), Memory> {
+        write_ty(out, &self.ty)?;
+        write_text(out, b" ")?;
+        write_name(out, &self.name)
+    }
+}
+
+impl Part for Entry {
+    ghost Seen = { SeenEntry };
+
+    ghost view = { entry_of };
+
+    ghost after = { entry_after };
+
+    fn write(&self, out: &mut Vec<u8>) -> Result<(), Memory> {
+        match self {
+            Entry::Held(held) => held.write(out),
+            Entry::Changed { key, before, after } => {
+                write_name(out, key)?;
+                write_text(out, b"@")?;
+                write_states(out, before)?;
+                write_text(out, b"->")?;
+                write_states(out, after)
+            }
+            Entry::Taken(held, _) => {
+                write_text(out, b"-")?;
+                held.write(out)
+            }
+            Entry::Given(held, _) => {
+                write_text(out, b"+")?;
+                held.write(out)
+            }
+            Entry::Fresh(held, _) => {
+                write_text(out, b"new ")?;
+                held.write(out)
+            }
+        }
+    }
+}
+
+fn write_outcome(out: &mut Vec<u8>, outcome: &Outcome) -> Result<(), Memory>
+    ensures { OnOk result (out.new.items ≡ outcome_after out.old.items (outcome_of outcome.now)) }
+{
+    match outcome {
+        Outcome::Void(_) => write_text(out, b"void"),
+        Outcome::Value(ty) => write_ty(out, ty),
+    }
+}
+
+/// Writes the clause of a head, or nothing.
+fn write_clause(out: &mut Vec<u8>, clause: &Option<Items<Entry>>) -> Result<(), Memory>
+    ensures { OnOk result (out.new.items ≡ clause_after out.old.items (option_of (map entry_of) clause.now)) }
+{
+    match clause {
+        Some(entries) => {
+            write_text(out, b" [")?;
+            write_listed(out, entries.as_slice())?;
+            write_text(out, b"]")
+        }
+        None => Ok(()),
+    }
+}
+
+pub fn write_head(out: &mut Vec<u8>, head: &Head) -> Result<(), Memory>
+    ensures { OnOk result (out.new.items ≡ head_after out.old.items (head_of head.now)) }
+{
+    write_outcome(out, &head.outcome)?;
+    write_text(out, b" ")?;
+    write_name(out, &head.name)?;
+    write_text(out, b"(")?;
+    write_listed(out, head.parameters.as_slice())?;
+    write_text(out, b")")?;
+    write_clause(out, &head.clause)
+}

@@ -1,0 +1,30 @@
+//! The layout of a tree as text.
+#![tactic(auto)]
+
+ghost use Rattle.std.specs.Prelude.{◌≡◌, IfOk};
+ghost use Rattle.vlt_syntax.specs.View.{tree_of};
+ghost use Rattle.vlt_printer.specs.Layout.{layout};
+
+mod decls;
+mod exprs;
+mod heads;
+mod lists;
+mod rights;
+mod simple;
+mod stmts;
+#[cfg(test)]
+mod tests;
+mod types;
+
+use std::alloc::Global;
+use vlt_base::Memory;
+use vlt_syntax::Tree;
+
+/// The layout of a file.
+pub fn print(alloc: Global, tree: &Tree) -> Result<Vec<u8>, Memory>
+    ensures { IfOk result (λ text. text.items ≡ layout (tree_of tree.now)) }
+{
+    let mut out = Vec::new(alloc);
+    decls::write_decls(alloc, &mut out, tree.decls.as_slice())?;
+    Ok(out)
+}
