@@ -1,5 +1,7 @@
-//! Tests of the commands over files in memory.
+//! Tests across the crates: the commands over files in memory, and texts that are read and laid out.
 #![tactic(auto)]
 
+#[cfg(test)]
+mod layouts;
 #[cfg(test)]
 mod tests;
