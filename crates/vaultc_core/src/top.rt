@@ -139,6 +139,8 @@ pub fn vaultc<S: Store, K: Sink>(alloc: Global, words: &[String], store: &mut S,
         ¬ (Rose (S.faults store.old) (S.faults store.new)) → ¬ (Rose (K.faults out.old) (K.faults out.new)) → (result ≡ r.status) ⊎ (result ≡ 4) }
     // The words are no command, whatever the store.
     ensures usage { result ≡ 1 → command_of (map string_bytes words.now) ≡ None }
+    // Words that are no command have the usage line and status 1, or 3, whatever the store.
+    ensures no_command { command_of (map string_bytes words.now) ≡ None → (result ≡ 3) ⊎ ((result ≡ 1) × Grew (K.written out.old) (K.written out.new) told.usage) }
     // The command's file wasn't read, and that is written.
     ensures unread { result ≡ 2 → (text : List ℕ) × IsUnread (command_of (map string_bytes words.now)) (S.files store.old) (S.faults store.old) (S.faults store.new) text × Grew (K.written out.old) (K.written out.new) text }
     // The sink failed.

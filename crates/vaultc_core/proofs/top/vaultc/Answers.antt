@@ -1,4 +1,5 @@
-use Rattle.std.proofs.Common.{◌≡◌, ◌⊎◌, inl, ℕ, List, Some, sym, ap, subst, ◌∙◌, arith}
+use Rattle.std.proofs.Common.{◌≡◌, ◌⊎◌, inl, inr, ℕ, List, Option, Some, None, sym, ap, subst, ◌∙◌, arith}
+use Rattle.std.proofs.lemmas.Bool.Decides.{eqb_tells}
 use Rattle.std.specs.Prelude.{[]}
 use Rattle.vlt_io.specs.Outside.{Grew, GrewByPart}
 use Rattle.vaultc_core.specs.Commands.{Command, check}
@@ -9,6 +10,22 @@ use Rattle.vaultc_core.proofs.top.vaultc.Goals as goal
 
 same_command : (a b : Command) → Some a ≡ Some b → a ≡ b
 same_command a b e = cc
+
+not_none : (o : Option Command) (a : Command) → o ≡ Some a → o ≡ None → ⊥
+not_none o a some none = cc
+
+pub returns-in-None-clause-no_command : goal.returns-in-None-clause-no_command
+returns-in-None-clause-no_command g c = λ none.
+    let written = g.K.Sink.written in
+    elim (eqb_tells c.finish.result 3) [
+      | inl three ↦ inl three.1
+      | inr not_three ↦
+          let ok = c.finish.ensures.ok not_three.1 in
+          inr (ok.0, subst (λ text. Grew (written c.args.out.now) (written c.finish.new.out) text) c.as_bytes.ensures.value ok.1)
+    ]
+
+pub returns-in-Some-clause-no_command : goal.returns-in-Some-clause-no_command
+returns-in-Some-clause-no_command g c = λ none. absurd (not_none _ _ c.in-Some.ensures none)
 
 pub returns-in-None-clause-part : goal.returns-in-None-clause-part
 returns-in-None-clause-part g c = λ files tells fails.
