@@ -1,17 +1,14 @@
 -- What is written of a run, in two parts.
-use Rattle.std.proofs.Common.{◌≡◌, ◌⊎◌, inl, inr, ℕ, ◌+◌, List, [], ◌++◌, Option, Some, None, refl, sym, ap, subst, ◌∙◌, append_assoc, arith}
-use Rattle.std.proofs.lemmas.Bool.Decides.{leb_tells}
-use Rattle.std.proofs.lemmas.List.{append-nil}
+use Rattle.std.proofs.Common.{◌≡◌, ◌⊎◌, inl, inr, ℕ, List, [], ◌++◌, Option, Some, None, refl, sym, ap, subst, ◌∙◌, append_assoc, arith}
 use Rattle.std.specs.Prelude.{◌≢◌, codes, IfSome, Result, Ok, Err}
-use Rattle.vlt_base.specs.Limits.{limit_of}
 use Rattle.vlt_core.specs.Core.{Program}
 use Rattle.vlt_meaning.specs.World.{Outcome, done, trap, heap_end, depth_end, fault, Ran, event_text}
-use Rattle.vlt_sound.specs.Promise.{NeverGoesWrong}
-use Rattle.vlt_interp.specs.Width.{slots_needed}
 use Rattle.vlt_interp.specs.Stops.{IsTold}
 use Rattle.vlt_io.specs.Outside.{Grew, GrewByPart}
 use Rattle.vaultc_core.specs.Commands.{Budgets}
-use Rattle.vaultc_core.specs.Told.{reply, trap_line, EndsWith, ToldRan, IsTooWide, run_within, ToldProgram, IsAnswer}
+use Rattle.vaultc_core.specs.Lines.{reply, trap_line}
+use Rattle.vaultc_core.specs.Told.{EndsWith, ToldRan, IsTooWide, run_within, ToldProgram, IsAnswer}
+use Rattle.vaultc_core.specs.Answers.{WrotePart}
 
 pub grew_twice : (a b c : Option (List ℕ)) (x y : List ℕ) → Grew a b x → Grew b c y → Grew a c (x ++ y)
 grew_twice None b c x y p q = subst (λ o. Grew o c y) p q
@@ -25,14 +22,6 @@ part_first a b x y (front, rest, is, grew) = (front, rest ++ y, ap (λ z. z ++ y
 pub part_after : (a b c : Option (List ℕ)) (x y : List ℕ) → Grew a b x → GrewByPart b c y → GrewByPart a c (x ++ y)
 part_after a b c x y p (front, rest, is, grew) = (x ++ front, rest, ap (λ l. x ++ l) is ∙ sym (append_assoc x front rest), grew_twice a b c x front p grew)
 
--- nothing is a part of each text
-pub part_none : (a b : Option (List ℕ)) (x : List ℕ) → Grew a b [] → GrewByPart a b x
-part_none a b x grew = ([], x, refl, grew)
-
-pub grew_none : (a : Option (List ℕ)) → Grew a a []
-grew_none None = refl
-grew_none (Some s) = ap (λ l. Some l) (sym (append-nil s))
-
 -- every outcome but a fault has its status and its line
 pub ended_some : (o : Outcome) → (o ≡ fault → ⊥) → (status : ℕ) × ((line : List ℕ) × EndsWith o status line)
 ended_some done never = (0, ([], (refl, refl)))
@@ -40,15 +29,6 @@ ended_some (trap t) never = (9, (trap_line t, (refl, refl)))
 ended_some heap_end never = (10, (codes "budget heap\n", (refl, refl)))
 ended_some depth_end never = (10, (codes "budget depth\n", (refl, refl)))
 ended_some fault never = absurd (never refl)
-
--- a program that never goes wrong has a reply, whose text is that of its events and more where it isn't too wide
-pub told_some : (p : Program) (b : Budgets) → NeverGoesWrong p → (status : ℕ) × ((text : List ℕ) × ToldProgram p b (reply status text))
-told_some p b safe = elim (leb_tells (limit_of 13 + 1) (slots_needed p b.depth b.heap)) [
-  | inl wide ↦ (5, (codes "limit 13 16777216\n", inl (omega (arith, wide.1), refl)))
-  | inr fits ↦
-      let e = ended_some (run_within p b).outcome (safe b.fuel b.heap b.depth [] []) in
-      (e.0, (event_text (run_within p b).world.events ++ e.1.0, inr ((λ wide. omega (arith, fits.1, wide)), (e.1.0, e.1.1, refl))))
-]
 
 no_status_four : (o : Outcome) (line : List ℕ) → EndsWith o 4 line → ⊥
 no_status_four done line e = omega (arith, e.0)
@@ -76,18 +56,18 @@ pub part_ran : (p : Program) (b : Budgets) (ran : Ran) (o : Option Outcome) (res
     → (IsTooWide p b → ⊥) → ran ≡ run_within p b → (ran.outcome ≡ fault → ⊥) → IfSome o (λ x. x ≡ ran.outcome) → IsTold o (event_text ran.world.events) old mid
     → IfSome o (λ x. result ≢ 3 → (line : List ℕ) × EndsWith x result line × Grew mid new line)
     → IfSome o (λ x. result ≡ 3 → (status : ℕ) × ((line : List ℕ) × EndsWith x status line × GrewByPart mid new line)) → (o ≡ None → new ≡ mid) → (result ≡ 3) ⊎ (result ≡ 4)
-    → (status : ℕ) × ((text : List ℕ) × ToldProgram p b (reply status text) × GrewByPart old new text)
+    → WrotePart (ToldProgram p b) old new
 part_ran p b ran None result old mid new fits within safe outcome told ended part cut which =
     let e = ended_some ran.outcome safe in
     let text = event_text ran.world.events ++ e.1.0 in
     let replies : ToldRan (run_within p b) (reply e.0 text) = subst (λ x. ToldRan x (reply e.0 text)) within (e.1.0, e.1.1, refl) in
-    (e.0, (text, inr (fits, replies), part_first old new (event_text ran.world.events) e.1.0 (subst (λ x. GrewByPart old x (event_text ran.world.events)) (sym (cut refl)) told)))
+    (e.0, text, inr (fits, replies), part_first old new (event_text ran.world.events) e.1.0 (subst (λ x. GrewByPart old x (event_text ran.world.events)) (sym (cut refl)) told))
 part_ran p b ran (Some o) result old mid new fits within safe outcome told ended part cut (inl three) =
     let e = part three in
     let text = event_text ran.world.events ++ e.1.0 in
     let ends : EndsWith ran.outcome e.0 e.1.0 = subst (λ x. EndsWith x e.0 e.1.0) outcome e.1.1 in
     let replies : ToldRan (run_within p b) (reply e.0 text) = subst (λ x. ToldRan x (reply e.0 text)) within (e.1.0, ends, refl) in
-    (e.0, (text, inr (fits, replies), part_after old mid new (event_text ran.world.events) e.1.0 told e.1.2))
+    (e.0, text, inr (fits, replies), part_after old mid new (event_text ran.world.events) e.1.0 told e.1.2)
 part_ran p b ran (Some o) result old mid new fits within safe outcome told ended part cut (inr four) =
     let e = ended (λ three. omega arith) in
     absurd (no_status_four o e.0 (subst (λ n. EndsWith o n e.0) four e.1))

@@ -4,8 +4,9 @@ use Rattle.std.proofs.lemmas.Bool.Decides.{nat_tests, leb_tells}
 use Rattle.std.specs.Prelude.{slice_get}
 use Rattle.std.specs.List.{list_all}
 use Rattle.std.specs.Str.Parse.{IsNumeral, digits_value, without_leading_plus}
-use Rattle.vlt_core.specs.Tokens.{is_digit}
-use Rattle.vaultc_core.specs.Commands.{Given, with_option, then_given, options_of, number_within}
+use Rattle.std.specs.Char.{is_ascii_digit}
+use Rattle.std.specs.Option.{option_and_then}
+use Rattle.vaultc_core.specs.Commands.{Given, with_option, options_of, number_within}
 use Rattle.vaultc_core.proofs.Digits.{all_digits, plus_free}
 
 -- one option more was taken
@@ -15,7 +16,7 @@ options_step (w ∷ []) zero option number g g' is_option is_number took = cc
 options_step (w ∷ n ∷ rest) zero option number g g' is_option is_number took =
     let same_w : w ≡ option = cc in
     let same_n : n ≡ number = cc in
-    sym (ap (λ x. then_given x (options_of rest)) (ap (λ x. with_option g x n) same_w ∙ ap (with_option g option) same_n ∙ took))
+    sym (ap (λ x. option_and_then (options_of rest) x) (ap (λ x. with_option g x n) same_w ∙ ap (with_option g option) same_n ∙ took))
 options_step (w ∷ ws) (suc at) option number g g' is_option is_number took = options_step ws at option number g g' is_option is_number took
 
 -- an option that isn't taken refuses all
@@ -25,7 +26,7 @@ options_refused (w ∷ []) zero option number g is_option is_number refuses = cc
 options_refused (w ∷ n ∷ rest) zero option number g is_option is_number refuses =
     let same_w : w ≡ option = cc in
     let same_n : n ≡ number = cc in
-    ap (λ x. then_given x (options_of rest)) (ap (λ x. with_option g x n) same_w ∙ ap (with_option g option) same_n ∙ refuses)
+    ap (λ x. option_and_then (options_of rest) x) (ap (λ x. with_option g x n) same_w ∙ ap (with_option g option) same_n ∙ refuses)
 options_refused (w ∷ ws) (suc at) option number g is_option is_number refuses = options_refused ws at option number g is_option is_number refuses
 
 -- an option wants its number
@@ -44,10 +45,10 @@ and_false false b is = refl
 no_number_above : (low high : ℕ) (w : List ℕ) → high < digits_value 10 w → None ≡ number_within low high w
 no_number_above low high w above =
     let test : nat_le (digits_value 10 w) high ≡ false = grind (arith, nat_tests) in
-    rw (and_false (nat_le 1 (length w) && nat_le (length w) 19 && list_all is_digit w && nat_le low (digits_value 10 w)) (nat_le (digits_value 10 w) high) test) refl
+    rw (and_false (nat_le 1 (length w) && nat_le (length w) 19 && list_all is_ascii_digit w && nat_le low (digits_value 10 w)) (nat_le (digits_value 10 w) high) test) refl
 
 -- digits that aren't read as a number of 64 bits are too large
-pub number_unread : (low high : ℕ) (w : List ℕ) → 0 < length w → list_all is_digit w ≡ true → high < 2 ^ 64
+pub number_unread : (low high : ℕ) (w : List ℕ) → 0 < length w → list_all is_ascii_digit w ≡ true → high < 2 ^ 64
     → (IsNumeral 10 (without_leading_plus w) × (digits_value 10 (without_leading_plus w) < 2 ^ 64) → ⊥) → None ≡ number_within low high w
 number_unread low high w some all small never = elim (leb_tells (digits_value 10 w) high) [
   | inl within ↦ absurd (never (
@@ -56,6 +57,3 @@ number_unread low high w some all small never = elim (leb_tells (digits_value 10
   ))
   | inr above ↦ no_number_above low high w (omega (arith, above.1))
 ]
-
-pub value_read : (w : List ℕ) (n : ℕ) → list_all is_digit w ≡ true → n ≡ digits_value 10 (without_leading_plus w) → n ≡ digits_value 10 w
-value_read w n all is = is ∙ ap (digits_value 10) (plus_free w all)

@@ -2,64 +2,95 @@
 use Rattle.std.proofs.Common.{◌≡◌, inl, inr, ℕ, ◌+◌, ◌<◌, List, length, take, Option, Some, None, refl, sym, ap, ◌∙◌, subst, arith}
 use Rattle.std.proofs.lemmas.List.{length-take, take_all}
 use Rattle.std.proofs.lemmas.Bool.Decides.{leb_tells}
+use Rattle.std.specs.Prelude.{Ok, Err}
 use Rattle.vlt_base.specs.Limits.{limit_of}
 use Rattle.vlt_core.specs.Core.{Program}
 use Rattle.vlt_core.specs.Derives.{IsAccepted}
-use Rattle.vlt_io.specs.Outside.{Files, IsRead, IsFrontOf, Rose, MayFail, Lacks}
+use Rattle.vlt_io.specs.Outside.{Files, IsRead, IsFrontOf}
+use Rattle.vlt_lexer.specs.Reading.{Lexeme}
+use Rattle.vlt_lexer.proofs.OneAnswer.{one_list, cause, one_refusal, read_not_refused}
 use Rattle.vlt_meaning.specs.World.{Outcome, done, trap, heap_end, depth_end, fault}
-use Rattle.vlt_core.specs.declared.program.Program as code
-use Rattle.vaultc_core.specs.declared.judge.Source as shown
-use Rattle.vaultc_core.specs.declared.judge.Source.TheVariants.{TooLong, Unread, Refused, Accepted}
-use Rattle.vaultc_core.specs.Shown.{Shows, IsNotAccepted}
-use Rattle.vlt_core.specs.View.{program_of}
+use Rattle.vlt_resolve.specs.Files.{resolved}
+use Rattle.vlt_resolve.proofs.OneProgram.{one_program}
+use Rattle.vlt_syntax.specs.Grammar.{IsTreeOf}
+use Rattle.vlt_syntax.specs.Machine.{Fault, Verdict, verdict}
+use Rattle.vlt_syntax.specs.Tokens.{Token, tokens_in}
+use Rattle.vlt_syntax.specs.Tree.{Tree}
 use Rattle.vaultc_core.specs.Commands as command
-use Rattle.vaultc_core.specs.Commands.{Budgets, Command, check}
-use Rattle.vaultc_core.specs.Told.{Source, too_long, unread, refused, accepted, IsSource, Reply, check_reply, EndsWith, run_within, ToldProgram, ToldRun, ToldSource, ToldFile}
-use Rattle.vaultc_core.proofs.Programs.{one_program}
+use Rattle.vaultc_core.specs.Commands.{Budgets, Command, check, fmt}
+use Rattle.vaultc_core.specs.Lines.{Reply}
+use Rattle.vaultc_core.specs.Texts.{AreTokens, IsTextOf, Refusal, too_long, unlexed, unparsed, AreRefused, refusal_reply}
+use Rattle.vaultc_core.specs.Sources.{Source, unresolved, refused, accepted, IsSource, check_reply}
+use Rattle.vaultc_core.specs.Told.{EndsWith, run_within, ToldProgram, ToldSource, ToldTree, ToldBytes, ToldFile}
 
-long_source : (whole bytes : List ℕ) (s : Source) → limit_of 1 < length bytes → limit_of 1 < length whole → IsSource bytes s → IsSource whole s
-long_source whole bytes too_long long_bytes long_whole is = long_whole
-long_source whole bytes unread long_bytes long_whole is = absurd (omega (arith, is.0))
-long_source whole bytes (refused p) long_bytes long_whole is = absurd (omega (arith, is.0))
-long_source whole bytes (accepted p) long_bytes long_whole is = absurd (omega (arith, is.0))
+-- ---- the first bytes of a file
+
+long_refused : (whole bytes : List ℕ) (e : Refusal) → limit_of 1 < length bytes → limit_of 1 < length whole → AreRefused bytes e → AreRefused whole e
+long_refused whole bytes too_long long_bytes long_whole is = long_whole
+long_refused whole bytes (unlexed e) long_bytes long_whole is = absurd (omega (arith, is.0))
+long_refused whole bytes (unparsed f) long_bytes long_whole is = absurd (omega (arith, is.1.short))
+
+long_reply : (whole bytes : List ℕ) (e : Refusal) → limit_of 1 < length bytes → AreRefused bytes e → refusal_reply bytes e ≡ refusal_reply whole e
+long_reply whole bytes too_long long is = refl
+long_reply whole bytes (unlexed e) long is = absurd (omega (arith, is.0))
+long_reply whole bytes (unparsed f) long is = absurd (omega (arith, is.1.short))
+
+told_long : (command : Command) (whole bytes : List ℕ) (r : Reply) → limit_of 1 < length bytes → limit_of 1 < length whole → ToldBytes command bytes r → ToldBytes command whole r
+told_long command whole bytes r long_bytes long_whole (inl (e, is, same)) =
+    inl (e, long_refused whole bytes e long_bytes long_whole is, same ∙ long_reply whole bytes e long_bytes is)
+told_long command whole bytes r long_bytes long_whole (inr (t, is, told)) = absurd (omega (arith, is.1.short))
 
 -- what is read of a longer file is too long too, and of another file it is the whole
-source_of_front : (whole bytes : List ℕ) (s : Source) → bytes ≡ take (limit_of 1 + 1) whole → IsSource bytes s → IsSource whole s
-source_of_front whole bytes s front is = elim (leb_tells (limit_of 1 + 1) (length whole)) [
+told_front : (command : Command) (whole bytes : List ℕ) (r : Reply) → bytes ≡ take (limit_of 1 + 1) whole → ToldBytes command bytes r → ToldBytes command whole r
+told_front command whole bytes r front told = elim (leb_tells (limit_of 1 + 1) (length whole)) [
   | inl long ↦
       let size : length bytes ≡ limit_of 1 + 1 = omega (arith, ap length front, length-take (limit_of 1 + 1) whole, long.1) in
-      long_source whole bytes s (omega (arith, size)) (omega (arith, long.1)) is
-  | inr short ↦ subst (λ b. IsSource b s) (front ∙ take_all (limit_of 1 + 1) whole (omega (arith, short.1))) is
+      told_long command whole bytes r (omega (arith, size)) (omega (arith, long.1)) told
+  | inr short ↦ subst (λ b. ToldBytes command b r) (front ∙ take_all (limit_of 1 + 1) whole (omega (arith, short.1))) told
 ]
 
--- the reply for the file of which these are the first bytes
-told_front : (command : Command) (file : Option (List ℕ)) (bytes : List ℕ) (s : Source) (r : Reply) → IsFrontOf file (limit_of 1) bytes → IsSource bytes s → ToldSource command s r → ToldFile command file r
-told_front command None bytes s r front is e = absurd front
-told_front command (Some whole) bytes s r front is e = (s, source_of_front whole bytes s front is, e)
+told_of_front : (command : Command) (file : Option (List ℕ)) (bytes : List ℕ) (r : Reply) → IsFrontOf file (limit_of 1) bytes → ToldBytes command bytes r → ToldFile command file r
+told_of_front command None bytes r front told = absurd front
+told_of_front command (Some whole) bytes r front told = told_front command whole bytes r front told
 
-pub told_read : (command : Command) (store : Option Files) (files : Files) (name bytes : List ℕ) (s : Source) (r : Reply) → store ≡ Some files → IsRead store name (limit_of 1) bytes → IsSource bytes s → ToldSource command s r → ToldFile command (files name) r
-told_read command store files name bytes s r tells read is e =
+-- the reply for the bytes that are read of a file is one for the file
+pub told_read : (command : Command) (store : Option Files) (files : Files) (name bytes : List ℕ) (r : Reply) → store ≡ Some files → IsRead store name (limit_of 1) bytes → ToldBytes command bytes r → ToldFile command (files name) r
+told_read command store files name bytes r tells read told =
     let front : IsFrontOf (files name) (limit_of 1) bytes = subst (λ o. IsRead o name (limit_of 1) bytes) tells read in
-    told_front command (files name) bytes s r front is e
+    told_of_front command (files name) bytes r front told
 
--- bytes are one source
-one_source : (bytes : List ℕ) (s t : Source) → IsSource bytes s → IsSource bytes t → s ≡ t
-one_source bytes too_long too_long is_s is_t = refl
-one_source bytes too_long unread is_s is_t = absurd (omega (arith, is_t.0))
-one_source bytes too_long (refused q) is_s is_t = absurd (omega (arith, is_t.0))
-one_source bytes too_long (accepted q) is_s is_t = absurd (omega (arith, is_t.0))
-one_source bytes unread too_long is_s is_t = absurd (omega (arith, is_s.0))
-one_source bytes unread unread is_s is_t = refl
-one_source bytes unread (refused q) is_s is_t = absurd (is_s.1 q is_t.1)
-one_source bytes unread (accepted q) is_s is_t = absurd (is_s.1 q is_t.1)
-one_source bytes (refused p) too_long is_s is_t = absurd (omega (arith, is_s.0))
-one_source bytes (refused p) unread is_s is_t = absurd (is_t.1 p is_s.1)
-one_source bytes (refused p) (refused q) is_s is_t = ap refused (one_program bytes p q is_s.1 is_t.1)
-one_source bytes (refused p) (accepted q) is_s is_t = absurd (is_s.2 (subst IsAccepted (one_program bytes q p is_t.1 is_s.1) is_t.2))
-one_source bytes (accepted p) too_long is_s is_t = absurd (omega (arith, is_s.0))
-one_source bytes (accepted p) unread is_s is_t = absurd (is_t.1 p is_s.1)
-one_source bytes (accepted p) (refused q) is_s is_t = absurd (is_t.2 (subst IsAccepted (one_program bytes p q is_s.1 is_t.1) is_s.2))
-one_source bytes (accepted p) (accepted q) is_s is_t = ap accepted (one_program bytes p q is_s.1 is_t.1)
+-- ---- one status
+
+same_status : (r q x : Reply) → r ≡ x → q ≡ x → r.status ≡ q.status
+same_status r q x is_r is_q = ap (λ z. z.status) (is_r ∙ sym is_q)
+
+same_fault : (f g : Fault) → (let v : Verdict = Err f in v ≡ Err g) → f ≡ g
+same_fault f g e = cc
+
+no_fault : (f : Fault) → (let v : Verdict = Ok tt in v ≡ Err f) → ⊥
+no_fault f e = cc
+
+lists_alike : (bytes : List ℕ) (ls ms : List Lexeme) → AreTokens bytes ls → AreTokens bytes ms → ls ≡ ms
+lists_alike bytes ls ms are also = one_list bytes ls ms are.tokens also.tokens
+
+-- bytes are refused in one way
+refusals_alike : (bytes : List ℕ) (d e : Refusal) → AreRefused bytes d → AreRefused bytes e → d ≡ e
+refusals_alike bytes too_long too_long p q = refl
+refusals_alike bytes too_long (unlexed e) p q = absurd (omega (arith, q.0))
+refusals_alike bytes too_long (unparsed g) p q = absurd (omega (arith, q.1.short))
+refusals_alike bytes (unlexed d) too_long p q = absurd (omega (arith, p.0))
+refusals_alike bytes (unlexed d) (unlexed e) p q = ap (λ x. unlexed x) (one_refusal bytes d e (cause bytes d p.1) (cause bytes e q.1))
+refusals_alike bytes (unlexed d) (unparsed g) p q = absurd (read_not_refused bytes q.0 d q.1.tokens q.1.few (cause bytes d p.1))
+refusals_alike bytes (unparsed f) too_long p q = absurd (omega (arith, p.1.short))
+refusals_alike bytes (unparsed f) (unlexed e) p q = absurd (read_not_refused bytes p.0 e p.1.tokens p.1.few (cause bytes e q.1))
+refusals_alike bytes (unparsed f) (unparsed g) p q =
+    ap (λ x. unparsed x) (same_fault f g (sym p.2 ∙ ap verdict (lists_alike bytes p.0 q.0 p.1 q.1) ∙ q.2))
+
+-- the text of a tree isn't refused
+text_not_refused : (bytes : List ℕ) (t : Tree) (e : Refusal) → IsTextOf t bytes → AreRefused bytes e → ⊥
+text_not_refused bytes t too_long p q = omega (arith, p.1.short)
+text_not_refused bytes t (unlexed e) p q = read_not_refused bytes p.0 e p.1.tokens p.1.few (cause bytes e q.1)
+text_not_refused bytes t (unparsed f) p q = no_fault f (sym p.2 ∙ ap verdict (lists_alike bytes p.0 q.0 p.1 q.1) ∙ q.2)
 
 -- an outcome has one status
 one_end : (o : Outcome) (m n : ℕ) (k l : List ℕ) → EndsWith o m k → EndsWith o n l → m ≡ n
@@ -75,51 +106,48 @@ one_of_program p b r q (inl x) (inr y) = absurd (y.0 x.0)
 one_of_program p b r q (inr x) (inl y) = absurd (x.0 y.0)
 one_of_program p b r q (inr x) (inr y) = one_end (run_within p b).outcome r.status q.status x.1.0 y.1.0 x.1.1 y.1.1
 
-same_status : (r q x : Reply) → r ≡ x → q ≡ x → r.status ≡ q.status
-same_status r q x is_r is_q = ap (λ z. z.status) (is_r ∙ sym is_q)
+one_of_source : (b : Budgets) (s : Source) (r q : Reply) → ToldSource b s r → ToldSource b s q → r.status ≡ q.status
+one_of_source b unresolved r q x y = same_status r q (check_reply unresolved) x y
+one_of_source b (refused p) r q x y = same_status r q (check_reply (refused p)) x y
+one_of_source b (accepted p) r q x y = one_of_program p b r q x y
 
-one_of_run : (b : Budgets) (s : Source) (r q : Reply) → ToldRun b s r → ToldRun b s q → r.status ≡ q.status
-one_of_run b too_long r q x y = same_status r q (check_reply too_long) x y
-one_of_run b unread r q x y = same_status r q (check_reply unread) x y
-one_of_run b (refused p) r q x y = same_status r q (check_reply (refused p)) x y
-one_of_run b (accepted p) r q x y = one_of_program p b r q x y
+same_program : (p q : Program) → Some p ≡ Some q → p ≡ q
+same_program p q e = cc
 
-one_of_source : (command : Command) (s : Source) (r q : Reply) → ToldSource command s r → ToldSource command s q → r.status ≡ q.status
-one_of_source (check file) s r q x y = same_status r q (check_reply s) x y
-one_of_source (command.run file b) s r q x y = one_of_run b s r q x y
+none_some : (o : Option Program) (p : Program) → o ≡ None → o ≡ Some p → ⊥
+none_some o p none some = cc
+
+-- the trees of the same tokens are one source
+one_source : (ts : List Token) (t u : Tree) (r s : Source) → IsTreeOf ts t → IsTreeOf ts u → IsSource t r → IsSource u s → r ≡ s
+one_source ts t u unresolved unresolved is_t is_u p q = refl
+one_source ts t u unresolved (refused b) is_t is_u p q = absurd (none_some (resolved t) b p (one_program ts u t is_u is_t b q.0))
+one_source ts t u unresolved (accepted b) is_t is_u p q = absurd (none_some (resolved t) b p (one_program ts u t is_u is_t b q.0))
+one_source ts t u (refused a) unresolved is_t is_u p q = absurd (none_some (resolved u) a q (one_program ts t u is_t is_u a p.0))
+one_source ts t u (refused a) (refused b) is_t is_u p q =
+    ap (λ x. refused x) (same_program a b (sym (one_program ts t u is_t is_u a p.0) ∙ q.0))
+one_source ts t u (refused a) (accepted b) is_t is_u p q =
+    absurd (p.1 (subst IsAccepted (same_program b a (sym q.0 ∙ one_program ts t u is_t is_u a p.0)) q.1))
+one_source ts t u (accepted a) unresolved is_t is_u p q = absurd (none_some (resolved u) a q (one_program ts t u is_t is_u a p.0))
+one_source ts t u (accepted a) (refused b) is_t is_u p q =
+    absurd (q.1 (subst IsAccepted (same_program a b (sym (one_program ts t u is_t is_u a p.0) ∙ q.0)) p.1))
+one_source ts t u (accepted a) (accepted b) is_t is_u p q =
+    ap (λ x. accepted x) (same_program a b (sym (one_program ts t u is_t is_u a p.0) ∙ q.0))
+
+one_of_trees : (command : Command) (ts : List Token) (t u : Tree) (r q : Reply) → IsTreeOf ts t → IsTreeOf ts u → ToldTree command t r → ToldTree command u q → r.status ≡ q.status
+one_of_trees (check file) ts t u r q is_t is_u (a, of_t, is_r) (b, of_u, is_q) =
+    same_status r q (check_reply b) (is_r ∙ ap check_reply (one_source ts t u a b is_t is_u of_t of_u)) is_q
+one_of_trees (command.run file budgets) ts t u r q is_t is_u (a, of_t, is_r) (b, of_u, is_q) =
+    one_of_source budgets b r q (subst (λ s. ToldSource budgets s r) (one_source ts t u a b is_t is_u of_t of_u) is_r) is_q
+one_of_trees (fmt file) ts t u r q is_t is_u is_r is_q = ap (λ z. z.status) is_r ∙ sym (ap (λ z. z.status) is_q)
+
+one_of_bytes : (command : Command) (bytes : List ℕ) (r q : Reply) → ToldBytes command bytes r → ToldBytes command bytes q → r.status ≡ q.status
+one_of_bytes command bytes r q (inl (d, p, is_r)) (inl (e, n, is_q)) = same_status r q (refusal_reply bytes e) (is_r ∙ ap (refusal_reply bytes) (refusals_alike bytes d e p n)) is_q
+one_of_bytes command bytes r q (inl (d, p, is_r)) (inr (u, n, is_q)) = absurd (text_not_refused bytes u d n p)
+one_of_bytes command bytes r q (inr (t, p, is_r)) (inl (e, n, is_q)) = absurd (text_not_refused bytes t e p n)
+one_of_bytes command bytes r q (inr (t, p, is_r)) (inr (u, n, is_q)) =
+    one_of_trees command (tokens_in n.0) t u r q (subst (λ ls. IsTreeOf (tokens_in ls) t) (lists_alike bytes p.0 n.0 p.1 n.1) p.3) n.3 is_r is_q
 
 -- a command has one status for a file
 pub one_reply : (command : Command) (file : Option (List ℕ)) (r q : Reply) → ToldFile command file r → ToldFile command file q → r.status ≡ q.status
 one_reply command None r q told_r told_q = absurd told_r
-one_reply command (Some bytes) r q told_r told_q =
-    one_of_source command told_q.0 r q (subst (λ s. ToldSource command s r) (one_source bytes told_r.0 told_q.0 told_r.1 told_q.1) told_r.2) told_q.2
-
--- a file that has a reply isn't missing
-pub told_is_there : (command : Command) (store : Option Files) (files : Files) (name : List ℕ) (q : Reply) (before after : ℕ) → store ≡ Some files → ToldFile command (files name) q → MayFail store name before after → Rose before after
-told_is_there command store files name q before after tells told (inl rose) = rose
-told_is_there command store files name q before after tells told (inr lacks) =
-    let missing : files name ≡ None = subst (λ o. Lacks o name) tells lacks in
-    let none : ToldFile command None q = subst (λ o. ToldFile command o q) missing told in
-    absurd none
-
--- `run` says of a source that isn't accepted what `check` says of it
-pub check_is_run : (b : Budgets) (s : shown.Source) (t : Source) (r : Reply) → IsNotAccepted s → Shows s t → r ≡ check_reply t → ToldRun b t r
-check_is_run b s too_long r none shows e = e
-check_is_run b s unread r none shows e = e
-check_is_run b s (refused p) r none shows e = e
-check_is_run b (Accepted q) (accepted p) r none shows e = absurd none
-check_is_run b TooLong (accepted p) r none shows e = absurd shows
-check_is_run b Unread (accepted p) r none shows e = absurd shows
-check_is_run b Refused (accepted p) r none shows e = absurd shows
-
-pub not_accepted : (s : shown.Source) → ((q : code.Program) → s ≡ Accepted q → ⊥) → IsNotAccepted s
-not_accepted (Accepted q) never = never q refl
-not_accepted TooLong never = tt
-not_accepted Unread never = tt
-not_accepted Refused never = tt
-
-pub accepted_run : (b : Budgets) (q : code.Program) (t : Source) (r : Reply) → Shows (Accepted q) t → ToldProgram (program_of q) b r → ToldRun b t r
-accepted_run b q too_long r shows told = absurd shows
-accepted_run b q unread r shows told = absurd shows
-accepted_run b q (refused p) r shows told = absurd shows
-accepted_run b q (accepted p) r shows told = subst (λ x. ToldProgram x b r) (sym shows) told
+one_reply command (Some bytes) r q told_r told_q = one_of_bytes command bytes r q told_r told_q

@@ -1,8 +1,9 @@
-pub mod View
-pub mod Refusals
-pub mod Reading
 pub mod Commands
+pub mod Lines
+pub mod Texts
+pub mod Sources
 pub mod Told
-pub mod Shown
 pub mod Promised
-pub mod Scopes
+pub mod Answers
+pub mod View
+pub mod Shown

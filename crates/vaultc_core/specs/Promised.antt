@@ -2,10 +2,10 @@
 use Rattle.std.specs.Prelude.{◌≡◌, ℕ, List, Option, Some}
 use Rattle.vlt_core.specs.Core.{Program}
 use Rattle.vlt_core.specs.Derives.{IsAccepted}
-use Rattle.vlt_core.specs.Elaboration.{IsProgramOf}
 use Rattle.vlt_sound.specs.Promise.{NeverGoesWrong, LeavesOnlyItsClause}
 use Rattle.vlt_io.specs.Outside.{Grew}
-use Rattle.vaultc_core.specs.Told.{accepted_line}
+use Rattle.vaultc_core.specs.Lines.{accepted_line}
+use Rattle.vaultc_core.specs.Sources.{IsProgramOf}
 
 -- The file is there, and its bytes are the text of a program that follows the rules. No run of it goes wrong, and one
 -- that comes to main's end leaves nothing. That it is accepted was written.

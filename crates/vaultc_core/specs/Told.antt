@@ -1,62 +1,20 @@
 -- What the program answers.
-use Rattle.std.specs.Prelude.{◌≡◌, ◌≢◌, ◌<◌, ◌≤◌, ℕ, List, [], ◌++◌, length, Option, Some, None, ◌⊎◌, codes}
-use Rattle.std.specs.Fmt.{decimal}
+use Rattle.std.specs.Prelude.{◌≡◌, ◌≢◌, ◌<◌, ℕ, List, [], ◌++◌, Option, Some, None, ◌⊎◌, codes}
 use Rattle.vlt_base.specs.Limits.{limit_of}
 use Rattle.vlt_core.specs.Core.{Program}
-use Rattle.vlt_core.specs.Derives.{IsAccepted}
-use Rattle.vlt_core.specs.Elaboration.{IsProgramOf}
-use Rattle.vlt_ops.specs.declared.TrapKind.{TrapKind}
-use Rattle.vlt_ops.specs.declared.TrapKind.TheVariants.{Overflow, ZeroDivisor}
 use Rattle.vlt_meaning.specs.World.{Outcome, done, trap, heap_end, depth_end, fault, Ran, event_text}
 use Rattle.vlt_meaning.specs.Run.{run}
 use Rattle.vlt_interp.specs.Width.{slots_needed}
 use Rattle.vlt_io.specs.Outside.{Files, MayFail}
+use Rattle.vlt_syntax.specs.Tree.{Tree}
+use Rattle.vlt_printer.specs.Layout.{layout}
 use Rattle.vaultc_core.specs.Commands as command
-use Rattle.vaultc_core.specs.Commands.{Budgets, Command, check, command_of}
-
--- What the bytes of a source file are: too many, no text of a program, or that of a program that breaks the rules on
--- keys or follows them.
-pub data Source : Type 0 where
-  too_long : Source
-  unread : Source
-  refused : Program → Source
-  accepted : Program → Source
-
-abbrev pub IsSource : List ℕ → Source → Type 0
-IsSource bytes too_long = limit_of 1 < length bytes
-IsSource bytes unread = (length bytes ≤ limit_of 1) × ((p : Program) → IsProgramOf bytes p → ⊥)
-IsSource bytes (refused p) = (length bytes ≤ limit_of 1) × IsProgramOf bytes p × (IsAccepted p → ⊥)
-IsSource bytes (accepted p) = (length bytes ≤ limit_of 1) × IsProgramOf bytes p × IsAccepted p
-
--- a status with the text that is written
-pub record Reply : Type 0 where
-  pub status : ℕ
-  pub text : List ℕ
-
-abbrev pub reply : ℕ → List ℕ → Reply
-reply status text = record { status = status; text = text }
-
-abbrev pub usage : List ℕ
-usage = codes "usage: vaultc check F | explain F | fmt F | emit F | verify F | load N | run F OPTIONS | crun F OPTIONS\n"
-
-abbrev pub read_line : List ℕ → List ℕ
-read_line name = codes "read " ++ name ++ codes "\n"
-
--- how many functions with a body were accepted
-abbrev pub accepted_line : Program → List ℕ
-accepted_line p = codes "accepted " ++ decimal (length p.fns) ++ codes "\n"
-
-abbrev pub check_reply : Source → Reply
-check_reply too_long = reply 5 (codes "limit 1 1048576\n")
-check_reply unread = reply 6 (codes "text\n")
-check_reply (refused p) = reply 8 (codes "protocol\n")
-check_reply (accepted p) = reply 0 (accepted_line p)
+use Rattle.vaultc_core.specs.Commands.{Budgets, Command, check, fmt, command_of}
+use Rattle.vaultc_core.specs.Lines.{Reply, reply, usage, read_line, trap_line}
+use Rattle.vaultc_core.specs.Texts.{Refusal, AreRefused, IsTextOf, over_reply, refusal_reply}
+use Rattle.vaultc_core.specs.Sources.{Source, accepted, IsSource, check_reply}
 
 -- ---- runs
-
-abbrev pub trap_line : TrapKind → List ℕ
-trap_line Overflow = codes "trap 1\n"
-trap_line ZeroDivisor = codes "trap 2\n"
 
 -- the status of a run that ends so, and the line behind its events; a fault has none
 abbrev pub EndsWith : Outcome → (status : ℕ) → (line : List ℕ) → Type 0
@@ -79,22 +37,31 @@ abbrev pub run_within : Program → Budgets → Ran
 run_within p b = run p b.fuel b.heap b.depth [] []
 
 abbrev pub ToldProgram : Program → Budgets → Reply → Type 0
-ToldProgram p b r = (IsTooWide p b × (r ≡ reply 5 (codes "limit 13 16777216\n"))) ⊎ ((IsTooWide p b → ⊥) × ToldRan (run_within p b) r)
+ToldProgram p b r = (IsTooWide p b × (r ≡ over_reply 13)) ⊎ ((IsTooWide p b → ⊥) × ToldRan (run_within p b) r)
 
 -- `run` replies as `check` does where that isn't accepted
-abbrev pub ToldRun : Budgets → Source → Reply → Type 0
-ToldRun b (accepted p) r = ToldProgram p b r
-ToldRun b s r = r ≡ check_reply s
+abbrev pub ToldSource : Budgets → Source → Reply → Type 0
+ToldSource b (accepted p) r = ToldProgram p b r
+ToldSource b s r = r ≡ check_reply s
 
 -- ---- commands
 
--- what a command replies for a source
-abbrev pub ToldSource : Command → Source → Reply → Type 0
-ToldSource (check file) s r = r ≡ check_reply s
-ToldSource (command.run file b) s r = ToldRun b s r
+abbrev pub ToldCheck : Tree → Reply → Type 0
+ToldCheck t r = (s : Source) × IsSource t s × (r ≡ check_reply s)
 
+abbrev pub ToldRun : Budgets → Tree → Reply → Type 0
+ToldRun b t r = (s : Source) × IsSource t s × ToldSource b s r
+
+-- what a command replies for a tree
+abbrev pub ToldTree : Command → Tree → Reply → Type 0
+ToldTree (check file) t r = ToldCheck t r
+ToldTree (command.run file b) t r = ToldRun b t r
+ToldTree (fmt file) t r = r ≡ reply 0 (layout t)
+
+-- every command says the same of bytes that are refused
 abbrev pub ToldBytes : Command → List ℕ → Reply → Type 0
-ToldBytes command bytes r = (s : Source) × IsSource bytes s × ToldSource command s r
+ToldBytes command bytes r =
+    ((e : Refusal) × AreRefused bytes e × (r ≡ refusal_reply bytes e)) ⊎ ((t : Tree) × IsTextOf t bytes × ToldTree command t r)
 
 -- the reply for a file, where there is one
 abbrev pub ToldFile : Command → Option (List ℕ) → Reply → Type 0
@@ -104,6 +71,7 @@ ToldFile command (Some bytes) r = ToldBytes command bytes r
 abbrev pub file_of : Command → List ℕ
 file_of (check file) = file
 file_of (command.run file b) = file
+file_of (fmt file) = file
 
 abbrev pub ToldCommand : Option Command → Files → Reply → Type 0
 ToldCommand None files r = r ≡ reply 1 usage

@@ -1,9 +1,13 @@
 //! What is written at the end.
 
-ghost use Rattle.std.specs.Prelude.{◌≡◌, ◌≢◌, ◌⊎◌, ◌≤◌, []};
+ghost use Rattle.std.specs.Prelude.{◌≡◌, ◌≢◌, ◌⊎◌, ◌≤◌, [], IfOk};
 ghost use Rattle.vlt_io.specs.Outside.{Rose, Grew, GrewByPart};
-ghost use Rattle.vaultc_core.specs.Told.{read_line};
+ghost use Rattle.vaultc_core.specs.Lines.{read_line};
+ghost use Rattle.vaultc_core.specs.Told.{IsAnswer};
+ghost use Rattle.vaultc_core.specs.Answers.{Answers};
+ghost use Rattle.vaultc_core.specs.Shown.{IsReplyOf};
 
+use crate::refusals::Reply;
 use std::alloc::{AllocError, Global};
 use vlt_io::{Sink, SinkFailed};
 
@@ -17,6 +21,17 @@ pub fn finish<K: Sink>(out: &mut K, status: u8, text: &[u8]) -> u8
     match out.write(text) {
         Ok(()) => status,
         Err(SinkFailed) => 3,
+    }
+}
+
+/// Writes a reply, where there was memory for it.
+pub fn finish_reply<K: Sink>(out: &mut K, reply: Result<Reply, AllocError>) -> u8
+    requires { IfOk reply (λ r. IsAnswer r.status × (r.status ≢ 1)) }
+    ensures { Answers (IsReplyOf reply) result (K.written out.old) (K.written out.new) (K.faults out.old) (K.faults out.new) }
+{
+    match reply {
+        Ok(reply) => finish(out, reply.status, reply.text.as_bytes()),
+        Err(AllocError) => 4,
     }
 }
 

@@ -1,65 +1,40 @@
-//! What a source file's bytes are.
+//! What a tree is as a program.
 
-ghost use Rattle.std.specs.Prelude.{◌≡◌, ◌≢◌, ◌≤◌, length, IfOk, string_bytes};
-ghost use Rattle.vlt_base.specs.Limits.{limit_of};
-ghost use Rattle.vlt_core.specs.Core.{Program as Plain};
-ghost use Rattle.vlt_core.specs.Elaboration.{IsProgramOf};
-ghost use Rattle.vlt_core.specs.View.{program_of};
-ghost use Rattle.vaultc_core.specs.Refusals.{OnRefused};
-ghost use Rattle.vaultc_core.specs.Told as told;
-ghost use Rattle.vaultc_core.specs.Told.{IsSource, IsAnswer, check_reply};
+ghost use Rattle.std.specs.Prelude.{◌≡◌, ◌≢◌, ◌<◌, ◌^◌, length, IfOk};
+ghost use Rattle.vlt_syntax.specs.Spelling.{spelling};
+ghost use Rattle.vlt_syntax.specs.View.{tree_of};
+ghost use Rattle.vaultc_core.specs.Told.{IsAnswer};
+ghost use Rattle.vaultc_core.specs.Sources as s;
+ghost use Rattle.vaultc_core.specs.Sources.{IsSource, check_reply};
 ghost use Rattle.vaultc_core.specs.Shown.{Shows, IsRunnable, shown_reply};
 
-use crate::elaborate::elaborate;
-use crate::read::read_tree;
-use crate::source::SourceError;
-use crate::tokens::read_tokens;
+use crate::refusals::Reply;
 use std::alloc::{AllocError, Global};
-use vlt_base::limit;
 use vlt_check::{CheckError, check};
 use vlt_core::Program;
+use vlt_resolve::{ResolveError, resolve};
+use vlt_syntax::Tree;
 
-/// What the bytes of a source file are.
+/// What a tree is as a program.
 #[derive(Drop)]
 pub enum Source {
-    TooLong,
-    /// They are no text of a program.
-    Unread,
-    /// Their program breaks the rules on keys.
+    /// A rule on names and kinds refuses it.
+    Unresolved,
+    /// Its program breaks the rules on keys.
     Refused,
     Accepted(Program),
 }
 
-/// A status with the text that is written.
-#[derive(Drop)]
-pub struct Reply {
-    pub status: u8,
-    pub text: String,
-}
-
-/// The program of a text.
-fn read_program(alloc: Global, text: &[u8]) -> Result<Program, SourceError>
-    requires { length text.now ≤ limit_of 1 }
-    ensures ok { IfOk result (λ p. IsProgramOf text.now (program_of p)) }
-    ensures refused { OnRefused result ((p : Plain) → IsProgramOf text.now p → ⊥) }
+/// What this tree is, or want of memory.
+pub fn judge(alloc: Global, tree: &Tree) -> Result<Source, AllocError>
+    requires { length (spelling (tree_of tree.now)) < 2 ^ 32 }
+    ensures is { IfOk result (λ x. (t : s.Source) × IsSource (tree_of tree.now) t × Shows x t) }
+    ensures runnable { IfOk result IsRunnable }
 {
-    let tokens = read_tokens(alloc, text)?;
-    let tree = read_tree(alloc, tokens.as_slice())?;
-    elaborate(alloc, &tree)
-}
-
-/// What these bytes are, or want of memory.
-pub fn read_source(alloc: Global, bytes: &[u8]) -> Result<Source, AllocError>
-    ensures is { IfOk result (λ s. (t : told.Source) × IsSource bytes.now t × Shows s t) }
-    ensures runnable { IfOk result (λ s. IsRunnable s) }
-{
-    if bytes.len() as u64 > limit(1) {
-        return Ok(Source::TooLong);
-    }
-    let program = match read_program(alloc, bytes) {
+    let program = match resolve(alloc, tree) {
         Ok(program) => program,
-        Err(SourceError::Refused) => return Ok(Source::Unread),
-        Err(SourceError::Memory) => return Err(AllocError),
+        Err(ResolveError::Kind) => return Ok(Source::Unresolved),
+        Err(ResolveError::Memory) => return Err(AllocError),
     };
     match check(alloc, &program) {
         Ok(()) => Ok(Source::Accepted(program)),
@@ -70,17 +45,13 @@ pub fn read_source(alloc: Global, bytes: &[u8]) -> Result<Source, AllocError>
 
 /// What `check` says of a source.
 pub fn reply_to_check(alloc: Global, source: &Source) -> Result<Reply, AllocError>
-    ensures reply { IfOk result (λ r. (t : told.Source) → Shows source.now t → shown_reply r ≡ check_reply t) }
+    ensures reply { IfOk result (λ r. (t : s.Source) → Shows source.now t → shown_reply r ≡ check_reply t) }
     ensures status { IfOk result (λ r. IsAnswer r.status × (r.status ≢ 1)) }
 {
     let reply = match source {
-        Source::TooLong => Reply {
-            status: 5,
-            text: String::from_str(alloc, "limit 1 1048576\n")?,
-        },
-        Source::Unread => Reply {
-            status: 6,
-            text: String::from_str(alloc, "text\n")?,
+        Source::Unresolved => Reply {
+            status: 7,
+            text: String::from_str(alloc, "kind\n")?,
         },
         Source::Refused => Reply {
             status: 8,

@@ -1,15 +1,13 @@
 //! The program's commands, over any store of files and any sink of output.
 #![tactic(auto)]
 
-mod elaborate;
+mod answer;
 mod finish;
 mod judge;
-mod read;
+mod refusals;
 mod run;
-mod source;
-mod tokens;
+mod text;
 mod top;
-mod tree;
 mod words;
 
 pub use top::vaultc;

@@ -6,10 +6,12 @@ ghost use Rattle.vlt_core.specs.Derives.{IsAccepted};
 ghost use Rattle.vlt_core.specs.View.{program_of};
 ghost use Rattle.vlt_io.specs.Outside.{Rose, Grew, GrewByPart};
 ghost use Rattle.vlt_interp.specs.Stops.{outcome_of};
-ghost use Rattle.vaultc_core.specs.Told.{EndsWith, ToldProgram, IsAnswer, reply};
+ghost use Rattle.vaultc_core.specs.Told.{EndsWith, ToldProgram};
+ghost use Rattle.vaultc_core.specs.Answers.{Answers};
 ghost use Rattle.vaultc_core.specs.View.{seen_budgets};
 
-use crate::finish::finish;
+use crate::finish::{finish, finish_reply};
+use crate::refusals::over_limit;
 use std::alloc::Global;
 use vlt_base::Budgets;
 use vlt_core::Program;
@@ -44,12 +46,7 @@ fn finish_run<K: Sink>(out: &mut K, stop: Stop) -> u8
 pub fn run_program<K: Sink>(alloc: Global, program: &Program, budgets: Budgets, out: &mut K) -> u8
     requires kinded { IsKinded (program_of program.now) }
     requires accepted { IsAccepted (program_of program.now) }
-    ensures told { IsAnswer result →
-        (text : List ℕ) × ToldProgram (program_of program.now) (seen_budgets budgets) (reply result text) × Grew (K.written out.old) (K.written out.new) text }
-    ensures failed { result ≡ 3 → Rose (K.faults out.old) (K.faults out.new) }
-    ensures part { (result ≡ 3) ⊎ (result ≡ 4) →
-        (status : ℕ) × ((text : List ℕ) × ToldProgram (program_of program.now) (seen_budgets budgets) (reply status text) × GrewByPart (K.written out.old) (K.written out.new) text) }
-    ensures status { (result ≢ 1) × (result ≢ 2) }
+    ensures { Answers (ToldProgram (program_of program.now) (seen_budgets budgets)) result (K.written out.old) (K.written out.new) (K.faults out.old) (K.faults out.new) }
 {
     accepted_never_goes_wrong();
     match Machine::open(alloc, program, budgets) {
@@ -57,7 +54,7 @@ pub fn run_program<K: Sink>(alloc: Global, program: &Program, budgets: Budgets, 
             let stop = machine.go(out);
             finish_run(out, stop)
         }
-        Err(OpenError::TooWide) => finish(out, 5, b"limit 13 16777216\n"),
+        Err(OpenError::TooWide) => finish_reply(out, over_limit(alloc, 13)),
         Err(OpenError::Memory) => 4,
     }
 }

@@ -1,90 +1,25 @@
 //! The top call.
 
-ghost use Rattle.std.specs.Prelude.{◌≡◌, ◌≢◌, ◌⊎◌, ◌<◌, ℕ, List, Option, None, Some, [], map, string_bytes, IfOk, IfSome, MatchOption};
-ghost use Rattle.vlt_core.specs.View.{program_of};
-ghost use Rattle.vlt_io.specs.Outside.{Files, Rose, Grew, GrewByPart, MayFail};
+ghost use Rattle.std.specs.Prelude.{◌≡◌, ◌≢◌, ◌⊎◌, ℕ, List, Option, None, Some, [], map, string_bytes};
+ghost use Rattle.vlt_io.specs.Outside.{Files, Rose, Grew, GrewByPart};
 ghost use Rattle.vaultc_core.specs.Commands as commands;
 ghost use Rattle.vaultc_core.specs.Commands.{command_of};
-ghost use Rattle.vaultc_core.specs.Told as told;
-ghost use Rattle.vaultc_core.specs.Told.{Told, ToldFile, ToldSource, ToldText, IsAnswer, IsUnread, MayBeWritten, file_of, reply, read_line};
+ghost use Rattle.vaultc_core.specs.Lines as lines;
+ghost use Rattle.vaultc_core.specs.Lines.{reply};
+ghost use Rattle.vaultc_core.specs.Told.{Told, ToldFile, ToldText, IsAnswer, IsUnread, MayBeWritten, file_of};
 ghost use Rattle.vaultc_core.specs.Promised.{IsPromised};
-ghost use Rattle.vaultc_core.specs.Shown.{Shows, IsRunnable, IsSourceOf, shown_reply};
-ghost use Rattle.vaultc_core.specs.View.{seen_command, seen_budgets};
+ghost use Rattle.vaultc_core.specs.View.{seen_command};
 
+use crate::answer::answer;
 use crate::finish::{finish, finish_unread};
-use crate::judge::{Source, read_source, reply_to_check};
-use crate::run::run_program;
 use crate::words::{Command, read_command};
-use std::alloc::{AllocError, Global};
-use vlt_base::{Budgets, limit};
+use std::alloc::Global;
+use vlt_base::limit;
 use vlt_io::{Sink, Store, StoreError};
 use vlt_sound::accepted_never_goes_wrong;
 
 const USAGE: &str =
     "usage: vaultc check F | explain F | fmt F | emit F | verify F | load N | run F OPTIONS | crun F OPTIONS\n";
-
-/// What the file's bytes are, none where it wasn't read.
-fn read_file<S: Store>(
-    alloc: Global,
-    store: &mut S,
-    name: &str,
-) -> Result<Option<Source>, AllocError>
-    ensures source { IfOk result (λ o. MatchOption o (MayFail (S.files store.old) name.now (S.faults store.old) (S.faults store.new)) (λ s. IsSourceOf (S.files store.old) name.now s)) }
-    ensures runnable { IfOk result (λ o. IfSome o IsRunnable) }
-{
-    match store.read(alloc, name, limit(1) as usize) {
-        Ok(bytes) => Ok(Some(read_source(alloc, bytes.as_slice())?)),
-        Err(StoreError::Failed) => Ok(None),
-        Err(StoreError::Memory) => Err(AllocError),
-    }
-}
-
-/// Says what `check` says of a source.
-fn check_source<K: Sink>(alloc: Global, source: &Source, out: &mut K) -> u8
-    ensures told { (t : told.Source) → Shows source.now t → IsAnswer result →
-        (text : List ℕ) × (reply result text ≡ told.check_reply t) × Grew (K.written out.old) (K.written out.new) text }
-    ensures failed { result ≡ 3 → Rose (K.faults out.old) (K.faults out.new) }
-    ensures part { (t : told.Source) → Shows source.now t → (result ≡ 3) ⊎ (result ≡ 4) →
-        (status : ℕ) × ((text : List ℕ) × (reply status text ≡ told.check_reply t) × GrewByPart (K.written out.old) (K.written out.new) text) }
-    ensures status { (result ≢ 1) × (result ≢ 2) }
-{
-    match reply_to_check(alloc, source) {
-        Ok(reply) => finish(out, reply.status, reply.text.as_bytes()),
-        Err(AllocError) => 4,
-    }
-}
-
-/// Runs the program of an accepted source, and says of another what `check` says of it.
-fn run_source<K: Sink>(alloc: Global, source: &Source, budgets: Budgets, out: &mut K) -> u8
-    requires { IsRunnable source.now }
-    ensures told { (t : told.Source) → Shows source.now t → IsAnswer result →
-        (text : List ℕ) × told.ToldRun (seen_budgets budgets) t (reply result text) × Grew (K.written out.old) (K.written out.new) text }
-    ensures failed { result ≡ 3 → Rose (K.faults out.old) (K.faults out.new) }
-    ensures part { (t : told.Source) → Shows source.now t → (result ≡ 3) ⊎ (result ≡ 4) →
-        (status : ℕ) × ((text : List ℕ) × told.ToldRun (seen_budgets budgets) t (reply status text) × GrewByPart (K.written out.old) (K.written out.new) text) }
-    ensures status { (result ≢ 1) × (result ≢ 2) }
-{
-    match source {
-        Source::Accepted(program) => run_program(alloc, program, budgets, out),
-        _ => check_source(alloc, source, out),
-    }
-}
-
-/// Answers a command for the source of its file.
-fn answer_source<K: Sink>(alloc: Global, command: Command<'_>, source: &Source, out: &mut K) -> u8
-    requires { IsRunnable source.now }
-    ensures told { (t : told.Source) → Shows source.now t → IsAnswer result →
-        (text : List ℕ) × ToldSource (seen_command command.entry) t (reply result text) × Grew (K.written out.old) (K.written out.new) text }
-    ensures failed { result ≡ 3 → Rose (K.faults out.old) (K.faults out.new) }
-    ensures part { (t : told.Source) → Shows source.now t → (result ≡ 3) ⊎ (result ≡ 4) →
-        (status : ℕ) × ((text : List ℕ) × ToldSource (seen_command command.entry) t (reply status text) × GrewByPart (K.written out.old) (K.written out.new) text) }
-    ensures status { (result ≢ 1) × (result ≢ 2) }
-{
-    match command {
-        Command::Check(_) => check_source(alloc, source, out),
-        Command::Run(_, budgets) => run_source(alloc, source, budgets, out),
-    }
-}
 
 /// The file that a command names.
 fn file_of_command<'a>(command: Command<'a>) -> &'a str
@@ -93,6 +28,7 @@ fn file_of_command<'a>(command: Command<'a>) -> &'a str
     match command {
         Command::Check(file) => file,
         Command::Run(file, _) => file,
+        Command::Fmt(file) => file,
     }
 }
 
@@ -105,7 +41,7 @@ fn carry_out<S: Store, K: Sink>(
 ) -> u8
     ensures told { (files : Files) → S.files store.old ≡ Some files → IsAnswer result →
         (text : List ℕ) × ToldFile (seen_command command.entry) (files (file_of (seen_command command.entry))) (reply result text) × Grew (K.written out.old) (K.written out.new) text }
-    ensures complete { (files : Files) (r : told.Reply) → S.files store.old ≡ Some files → ToldFile (seen_command command.entry) (files (file_of (seen_command command.entry))) r →
+    ensures complete { (files : Files) (r : lines.Reply) → S.files store.old ≡ Some files → ToldFile (seen_command command.entry) (files (file_of (seen_command command.entry))) r →
         ¬ (Rose (S.faults store.old) (S.faults store.new)) → ¬ (Rose (K.faults out.old) (K.faults out.new)) → (result ≡ r.status) ⊎ (result ≡ 4) }
     ensures usage { result ≢ 1 }
     ensures unread { result ≡ 2 → (text : List ℕ) × IsUnread (Some (seen_command command.entry)) (S.files store.old) (S.faults store.old) (S.faults store.new) text × Grew (K.written out.old) (K.written out.new) text }
@@ -116,10 +52,10 @@ fn carry_out<S: Store, K: Sink>(
         Grew (K.written out.old) (K.written out.new) [] ⊎ ((text : List ℕ) × ToldText (Some (seen_command command.entry)) files text × GrewByPart (K.written out.old) (K.written out.new) text) }
 {
     let name = file_of_command(command);
-    match read_file(alloc, store, name) {
-        Ok(Some(source)) => answer_source(alloc, command, &source, out),
-        Ok(None) => finish_unread(alloc, out, name),
-        Err(AllocError) => 4,
+    match store.read(alloc, name, limit(1) as usize) {
+        Ok(bytes) => answer(alloc, command, bytes.as_slice(), out),
+        Err(StoreError::Failed) => finish_unread(alloc, out, name),
+        Err(StoreError::Memory) => 4,
     }
 }
 
@@ -135,12 +71,12 @@ pub fn vaultc<S: Store, K: Sink>(alloc: Global, words: &[String], store: &mut S,
         command_of (map string_bytes words.now) ≡ Some (commands.check file) → result ≡ 0 →
         IsPromised (files file) (K.written out.old) (K.written out.new) }
     // With the file there and no fault, the answer is that one, unless memory is wanting.
-    ensures complete { (files : Files) (r : told.Reply) → S.files store.old ≡ Some files → Told (map string_bytes words.now) files r →
+    ensures complete { (files : Files) (r : lines.Reply) → S.files store.old ≡ Some files → Told (map string_bytes words.now) files r →
         ¬ (Rose (S.faults store.old) (S.faults store.new)) → ¬ (Rose (K.faults out.old) (K.faults out.new)) → (result ≡ r.status) ⊎ (result ≡ 4) }
     // The words are no command, whatever the store.
     ensures usage { result ≡ 1 → command_of (map string_bytes words.now) ≡ None }
     // Words that are no command have the usage line and status 1, or 3, whatever the store.
-    ensures no_command { command_of (map string_bytes words.now) ≡ None → (result ≡ 3) ⊎ ((result ≡ 1) × Grew (K.written out.old) (K.written out.new) told.usage) }
+    ensures no_command { command_of (map string_bytes words.now) ≡ None → (result ≡ 3) ⊎ ((result ≡ 1) × Grew (K.written out.old) (K.written out.new) lines.usage) }
     // The command's file wasn't read, and that is written.
     ensures unread { result ≡ 2 → (text : List ℕ) × IsUnread (command_of (map string_bytes words.now)) (S.files store.old) (S.faults store.old) (S.faults store.new) text × Grew (K.written out.old) (K.written out.new) text }
     // The sink failed.

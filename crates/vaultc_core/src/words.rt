@@ -2,11 +2,10 @@
 
 ghost use Rattle.std.specs.Prelude.{◌≡◌, ◌≤◌, ◌<◌, ◌+◌, length, slice_get, MatchOption, IfSome, IfNone, None, Some, drop, map, string_bytes, option_map};
 ghost use Rattle.std.specs.List.{list_all};
-ghost use Rattle.vlt_core.specs.Tokens.{is_digit};
-ghost use Rattle.vaultc_core.specs.Commands.{command_of, is_file_word, number_within, with_option, options_of, nothing_given, budgets_of};
+ghost use Rattle.std.specs.Char.{is_ascii_digit};
+ghost use Rattle.vaultc_core.specs.Commands.{command_of, is_file_word, number_within, with_option, options_of, nothing_given, budgets_of, without_options};
 ghost use Rattle.vaultc_core.specs.View.{seen_command, seen_given, seen_budgets};
 
-use crate::tokens::is_digit_byte;
 use vlt_base::Budgets;
 
 /// A command with its file.
@@ -14,6 +13,7 @@ use vlt_base::Budgets;
 pub enum Command<'a> {
     Check(&'a str),
     Run(&'a str, Budgets),
+    Fmt(&'a str),
 }
 
 /// The budgets that were given.
@@ -32,9 +32,9 @@ fn is_file(word: &str) -> bool
 }
 
 fn is_all_digits(word: &str) -> bool
-    ensures { result ≡ list_all is_digit word.now }
+    ensures { result ≡ list_all is_ascii_digit word.now }
 {
-    word.as_bytes().iter().all(|byte| is_digit_byte(*byte))
+    word.as_bytes().iter().all(|byte| byte.is_ascii_digit())
 }
 
 /// The value of 1 to 19 decimal digits, where it lies between two numbers.
@@ -126,6 +126,17 @@ fn read_budgets(words: &[String]) -> Option<Budgets>
     })
 }
 
+/// A command that takes no options.
+fn without_options<'a>(command: Command<'a>, options: &[String]) -> Option<Command<'a>>
+    ensures { option_map seen_command result ≡ without_options (seen_command command.entry) (map string_bytes options.now) }
+{
+    if options.is_empty() {
+        Some(command)
+    } else {
+        None
+    }
+}
+
 /// The command that the words are, if they are one.
 pub fn read_command(words: &[String]) -> Option<Command<'_>>
     ensures { MatchOption result (command_of (map string_bytes words.now) ≡ None) (λ c. command_of (map string_bytes words.now) ≡ Some (seen_command c)) }
@@ -137,7 +148,8 @@ pub fn read_command(words: &[String]) -> Option<Command<'_>>
         return None;
     }
     match command.as_str() {
-        "check" if options.is_empty() => Some(Command::Check(file.as_str())),
+        "check" => without_options(Command::Check(file.as_str()), options),
+        "fmt" => without_options(Command::Fmt(file.as_str()), options),
         "run" => {
             let budgets = read_budgets(options)?;
             Some(Command::Run(file.as_str(), budgets))

@@ -1,23 +1,12 @@
-//! Texts of the whole language, read and laid out.
+//! Texts of the whole language and their layouts. Each keyword, each sign and each form of the grammar stands in one.
 
-use std::alloc::Global;
-use std::process::Abort;
+use crate::outside::{SOUND, answer};
 use std::test::Fail;
-use vlt_lexer::lex;
-use vlt_parser::parse;
-use vlt_printer::print;
 
-/// The layout of a text that is one of the language.
-fn laid(rt: &impl Abort, alloc: Global, text: &[u8]) -> Result<Vec<u8>, Fail> {
-    assert!(rt; text.len() < 100_000);
-    let tokens = lex(alloc, text).map_err(|_| "tokens")?;
-    let tree = parse(alloc, &tokens).map_err(|_| "tree")?;
-    let layout = print(alloc, &tree).map_err(|_| "memory")?;
-    Ok(layout)
-}
+const FMT: &[&str] = &["fmt", "a.v"];
 
 /// Texts with their layouts.
-const LAYOUTS: [(&str, &str); 18] = [
+const LAYOUTS: [(&str, &str); 19] = [
     ("", ""),
     ("stateset s{a,b}", "stateset s { a, b }\n"),
     (
@@ -42,6 +31,10 @@ const LAYOUTS: [(&str, &str); 18] = [
     (
         "void f(){int x=007;x=-x+- -1*(2-x)!=!y.z;print(x);}",
         "void f() {\n    int x = 7;\n    x = -x + --1 * (2 - x) != !y.z;\n    print(x);\n}\n",
+    ),
+    (
+        "void f(){x=1*2/3%4+5-6<7<=8>9>=10==11!=12&13^14|15&&16||!y;}",
+        "void f() {\n    x = 1 * 2 / 3 % 4 + 5 - 6 < 7 <= 8 > 9 >= 10 == 11 != 12 & 13 ^ 14 | 15 && 16 || !y;\n}\n",
     ),
     (
         "void f(){x=input();y=more();z.w=true;g();g(1,false);}",
@@ -80,9 +73,11 @@ const LAYOUTS: [(&str, &str); 18] = [
 #[test]
 fn texts_are_laid_out(rt: HostRuntime) -> Result<(), Fail> {
     for (text, layout) in LAYOUTS {
-        let found = laid(&rt, rt.alloc(), text.as_bytes())?;
+        let (status, found) = answer(rt.alloc(), SOUND, text.as_bytes(), FMT)?;
+        assert_eq!(rt; status, 0, "{text}");
         assert_eq!(rt; found.as_slice(), layout.as_bytes(), "{text}");
-        let again = laid(&rt, rt.alloc(), found.as_slice())?;
+        let (status, again) = answer(rt.alloc(), SOUND, found.as_slice(), FMT)?;
+        assert_eq!(rt; status, 0, "{text}");
         assert_eq!(rt; again.as_slice(), layout.as_bytes(), "{text}");
     }
     Ok(())

@@ -1,9 +1,7 @@
 //! What the commands answer, with its bytes.
 
-use std::alloc::Global;
+use crate::outside::{Outside, SOUND, answer};
 use std::test::Fail;
-use vaultc_core::vaultc;
-use vlt_io::{MemSink, MemStore};
 
 const USAGE: &str =
     "usage: vaultc check F | explain F | fmt F | emit F | verify F | load N | run F OPTIONS | crun F OPTIONS\n";
@@ -36,6 +34,10 @@ const CHECK: &[&str] = &["check", "a.v"];
 
 const CHECK_OTHER: &[&str] = &["check", "none.v"];
 
+const FMT: &[&str] = &["fmt", "a.v"];
+
+const FMT_OTHER: &[&str] = &["fmt", "none.v"];
+
 const RUN: &[&str] = &["run", "a.v"];
 
 const RUN_OTHER: &[&str] = &["run", "none.v"];
@@ -65,74 +67,50 @@ void main() {
 }
 ";
 
-/// What of the outside fails: a read or a write by its number, from 1; and how many bytes the sink takes.
-#[derive(Clone, Copy)]
-struct Outside {
-    failing_read: u64,
-    failing_write: u64,
-    room: usize,
-}
-
-/// An outside where nothing fails: no call has the number 0.
-const SOUND: Outside = Outside {
-    failing_read: 0,
-    failing_write: 0,
-    room: 4096,
-};
-
-/// The status and the bytes written, where the one file `a.v` holds these bytes.
-fn answer(
-    alloc: Global,
-    outside: Outside,
-    file: &[u8],
-    words: &[&str],
-) -> Result<(u8, Vec<u8>), Fail> {
-    let mut store = MemStore::new(alloc, &[outside.failing_read]).map_err(|_| "memory")?;
-    store.add("a.v", file).map_err(|_| "memory")?;
-    let mut sink = MemSink::new(alloc, outside.room, &[outside.failing_write]).map_err(
-        |_| "memory",
-    )?;
-    let mut owned = Vec::new(alloc);
-    for word in words {
-        owned.push(String::from_str(alloc, word)?)?;
-    }
-    let status = vaultc(alloc, owned.as_slice(), &mut store, &mut sink);
-    Ok((status, Vec::from_slice(alloc, sink.bytes())?))
-}
-
 /// Files with the status and the line that `check` gives them.
-const FILES: [(&str, u8, &str); 18] = [
+const FILES: [(&str, u8, &str); 21] = [
     (POINT, 0, "accepted 1\n"),
     (KEPT, 8, "protocol\n"),
     (RELEASED_TWICE, 8, "protocol\n"),
-    ("", 6, "text\n"),
+    ("", 7, "kind\n"),
     ("void main() {}", 0, "accepted 1\n"),
-    ("void main(){}\n struct a{}", 6, "text\n"),
-    ("struct a {} struct a {} void main() {}", 6, "text\n"),
-    ("struct main {} void main() {}", 6, "text\n"),
-    ("struct a { int x; int x; } void main() {}", 6, "text\n"),
+    ("void main() {}\nvoid", 6, "text end\n"),
+    ("void main() {}\n void ()", 6, "text token 2:7\n"),
+    ("void main(){}\n struct a{}", 7, "kind\n"),
+    ("struct a {} struct a {} void main() {}", 7, "kind\n"),
+    ("struct main {} void main() {}", 7, "kind\n"),
+    ("struct a { int x; int x; } void main() {}", 7, "kind\n"),
+    ("struct a\u{e9} { int x; } void main() {}", 7, "kind\n"),
     (
         "void main() { print(9223372036854775807 + 1); }",
         0,
         "accepted 1\n",
     ),
-    ("void main() { print(9223372036854775808); }", 6, "text\n"),
-    ("void main() { print(1); } // no comments", 6, "text\n"),
-    ("void main() { print(1 + 2 + 3); }", 6, "text\n"),
+    (
+        "void main() { print(9223372036854775808); }",
+        6,
+        "text number 1:21\n",
+    ),
+    (
+        "void main() { /* one */ print(1); } // two",
+        0,
+        "accepted 1\n",
+    ),
+    ("void main() { print(1 + 2 + 3); }", 7, "kind\n"),
     (
         "struct a { int x; } void main() { tracked(K) a p = new a { x: p.x }; release p; }",
-        6,
-        "text\n",
+        7,
+        "kind\n",
     ),
     (
         "struct a { int x; } void main() { tracked(p) a p = new a { x: 0 }; release p; }",
-        6,
-        "text\n",
+        7,
+        "kind\n",
     ),
     (
         "struct a { int x; int y; } void main() { tracked(K) a p = new a { y: 0, x: 0 }; release p; }",
-        6,
-        "text\n",
+        7,
+        "kind\n",
     ),
     (
         "struct a { int x; } void main() { tracked(K) a p = new a { x: 1 }; release p; p.x = 2; }",
@@ -173,7 +151,7 @@ fn a_file_may_be_of_full_size(rt: HostRuntime) -> Result<(), Fail> {
 
 #[test]
 fn other_words_are_refused(rt: HostRuntime) -> Result<(), Fail> {
-    let cases: [&[&str]; 21] = [
+    let cases: [&[&str]; 24] = [
         &["run"],
         &["run", "-a.v"],
         &["run", "a.v", "--heap"],
@@ -193,7 +171,10 @@ fn other_words_are_refused(rt: HostRuntime) -> Result<(), Fail> {
         &["check", "-a.v"],
         &["check", "a.v", "a.v"],
         &["Check", "a.v"],
-        &["fmt", "a.v"],
+        &["fmt"],
+        &["fmt", "-a.v"],
+        &["fmt", "a.v", "a.v"],
+        &["emit", "a.v"],
         &["--help"],
     ];
     for words in cases {
@@ -205,9 +186,20 @@ fn other_words_are_refused(rt: HostRuntime) -> Result<(), Fail> {
 }
 
 /// Outsides with the words, the status and what is written.
-const OUTSIDES: [(Outside, &[&str], u8, &str); 9] = [
+const OUTSIDES: [(Outside, &[&str], u8, &str); 12] = [
     (SOUND, CHECK_OTHER, 2, "read none.v\n"),
     (SOUND, RUN_OTHER, 2, "read none.v\n"),
+    (SOUND, FMT_OTHER, 2, "read none.v\n"),
+    (
+        Outside {
+            failing_write: 1,
+            ..SOUND
+        },
+        FMT,
+        3,
+        "",
+    ),
+    (Outside { room: 8, ..SOUND }, FMT, 3, "struct a"),
     (
         Outside {
             failing_read: 1,
@@ -269,7 +261,7 @@ fn the_outside_may_fail(rt: HostRuntime) -> Result<(), Fail> {
 }
 
 /// Files with the words of a run of them, its status and what is written.
-const RUNS: [(&str, &[&str], u8, &str); 18] = [
+const RUNS: [(&str, &[&str], u8, &str); 19] = [
     (POINT, RUN, 0, "6\n"),
     (COUNTS, RUN, 0, "40\n41\n82\n7\n"),
     (OVERFLOW, RUN, 9, "1\ntrap 1\n"),
@@ -324,7 +316,8 @@ const RUNS: [(&str, &[&str], u8, &str); 18] = [
     ),
     (KEPT, RUN, 8, "protocol\n"),
     (RELEASED_TWICE, RUN, 8, "protocol\n"),
-    ("", RUN, 6, "text\n"),
+    ("", RUN, 7, "kind\n"),
+    ("void", RUN, 6, "text end\n"),
     (KEPT, &["run", "a.v", "--heap", "16777216"], 8, "protocol\n"),
     (
         "void main() {}",

@@ -1,10 +1,11 @@
--- The core program of a tree, or none where a rule on names and kinds refuses it.
-use Rattle.std.specs.Prelude.{◌≡◌, ℕ, ◌==◌, Bool, true, false, not, ◌&&◌, ◌||◌, if◌then◌else◌, List, [], ◌∷◌, ◌++◌, length, map, Option, Some, None, slice_get, codes}
+-- The core program of a small file, or none where a rule on names and kinds refuses it.
+use Rattle.std.specs.Prelude.{ℕ, Bool, true, false, not, ◌&&◌, ◌||◌, if◌then◌else◌, List, [], ◌∷◌, ◌++◌, length, map, Option, Some, None, slice_get, codes}
 use Rattle.std.specs.List.{list_any, list_all, position}
+use Rattle.std.specs.Option.{option_and_then}
 use Rattle.std.specs.Str.{bytes_eq}
 use Rattle.vlt_core.specs.Core as core
 use Rattle.vlt_core.specs.Kinds.{only_state}
-use Rattle.vlt_core.specs.Tree.{Name, Operand, literal, field, Expr, one, sum, Init, Stmt, declare, assign, print, release, Struct, File, IsTreeOf}
+use Rattle.vlt_core.specs.Tree.{Name, Operand, literal, field, Expr, one, sum, Init, Stmt, declare, assign, print, release, Struct, File}
 
 abbrev pub are_distinct : List Name → Bool
 are_distinct [] = true
@@ -34,9 +35,9 @@ abbrev pub is_taken : List Struct → Scope → Name → Bool
 is_taken structs scope n =
     list_any (bytes_eq n) (global_names structs) || list_any (λ b. bytes_eq n b.variable || bytes_eq n b.key) scope
 
+-- `o.and_then(go)`, in the order in which it is read
 abbrev pub then_with : {A B : Type 0} → Option A → (A → Option B) → Option B
-then_with None go = None
-then_with (Some x) go = go x
+then_with o go = option_and_then go o
 
 abbrev pub binding_of : Scope → Name → Option Binding
 binding_of scope x = then_with (position (λ b. bytes_eq x b.variable) scope) (slice_get scope)
@@ -151,9 +152,3 @@ elaborated tree =
     then then_with (elaborated_body tree.structs [] tree.body) (λ b.
     Some (record { types = map struct_decl tree.structs; fns = main_of b ∷ []; main = 0 }))
     else None
-
--- the text is that of a tree, whose core program this is
-pub record IsProgramOf (text : List ℕ) (p : core.Program) : Type 0 where
-  pub tree : File
-  pub reads : IsTreeOf text tree
-  pub elaborates : elaborated tree ≡ Some p

@@ -3,6 +3,5 @@ pub mod View
 pub mod Kinds
 pub mod Rows
 pub mod Derives
-pub mod Tokens
 pub mod Tree
 pub mod Elaboration

@@ -1,15 +1,13 @@
 -- What a part of the parser says of the tokens before it.
 use Rattle.std.specs.Prelude.{◌<◌, ◌≤◌, ℕ, List, ◌∷◌, length, drop, Option, Some, None}
-use Rattle.vlt_ops.specs.declared.Op.{Op}
-use Rattle.vlt_lexer.specs.declared.token.Mark.{Mark}
 use Rattle.vlt_lexer.specs.declared.token.Mark.TheVariants as mark
 use Rattle.vlt_lexer.specs.declared.token.Word.TheVariants as word
 use Rattle.vlt_lexer.specs.declared.token.Token.{Token as Placed}
 use Rattle.vlt_parser.specs.declared.lists.Most.{Most}
 use Rattle.vlt_syntax.specs.Tokens.{Token, sign, keyword, tokens_of}
-use Rattle.vlt_syntax.specs.Spelling.{operator_of, name_then, marked_name_then, header_then}
+use Rattle.vlt_syntax.specs.Spelling.{name_then, marked_name_then, header_then}
 use Rattle.vlt_syntax.specs.Tree.{Name, HeaderParam, Stmt}
-use Rattle.vlt_syntax.specs.Grammar.{level, language, IsStmt}
+use Rattle.vlt_syntax.specs.Grammar.{language, IsStmt}
 
 -- the tokens from a position on
 abbrev pub left : List Placed → ℕ → List Token
@@ -33,23 +31,6 @@ IsWithin (Some most) n = n ≤ most.count
 -- one thing is allowed
 abbrev pub IsSomeMost : Option Most → Type 0
 IsSomeMost most = IsWithin most 1
-
--- the sign at the front
-abbrev pub first_sign : List Token → Option Mark
-first_sign (sign m ∷ ts) = Some m
-first_sign _ = None
-
-abbrev pub level_of : Option Op → ℕ
-level_of None = 0
-level_of (Some o) = level o
-
-abbrev pub sign_level : Option Mark → ℕ
-sign_level None = 0
-sign_level (Some m) = level_of (operator_of m)
-
--- the level of the operator between two operands that comes next, or 0 where none comes
-abbrev pub next_level : List Token → ℕ
-next_level ts = sign_level (first_sign ts)
 
 -- a statement of the language that has no block in it, so it may stand at every depth
 abbrev pub IsSimple : Stmt → Type 0

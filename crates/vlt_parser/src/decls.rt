@@ -1,16 +1,21 @@
 //! Declarations.
 
 ghost use Rattle.std.specs.Prelude.{◌≡◌, ◌∷◌, [], ◌≤◌, length, map, IfOk};
+ghost use Rattle.vlt_lexer.specs.declared.token.Word.TheVariants.{Stateset, Abstract, Struct, Variant, Extern};
+ghost use Rattle.vlt_lexer.specs.declared.token.Mark.TheVariants.{At, OpenBrace, CloseBrace, Semicolon};
 ghost use Rattle.vlt_syntax.specs.Tokens.{tokens_of};
 ghost use Rattle.vlt_syntax.specs.Tree.{HeaderParam as SeenHeaderParam, Case as SeenCase};
 ghost use Rattle.vlt_syntax.specs.Lists.{each_then, Each};
 ghost use Rattle.vlt_syntax.specs.Spelling.{header_param_then, header_then, field_then, release_then, case_then, decl_then};
 ghost use Rattle.vlt_syntax.specs.Grammar.{AtMost, IfGiven, IsStates, IsField, IsCase, IsDecl, language};
 ghost use Rattle.vlt_syntax.specs.View.{option_of, name_of, states_of, header_param_of, field_of, case_of, decl_of};
+ghost use Rattle.vlt_syntax.specs.Machine as machine;
 ghost use Rattle.vlt_parser.specs.Reading.{left, struct_head_then, Moves, Stays};
+ghost use Rattle.vlt_parser.specs.Ahead.{ahead, fields_left, decls_left, can_begin, Follows, Turns, Ends};
 
 use crate::error::ParseError;
-use crate::heads::{PARAMETERS, head};
+use crate::heads::head;
+use crate::limits::{CASES, DECLS, DEPTH, FIELDS, PARAMETERS, PAYLOAD, STATES};
 use crate::lists::{Part, allow_one_more, bound, enclosed, some_listed};
 use crate::stmts::block;
 use crate::tokens::{case_name, keyword, kind, name, sign, span, unexpected};
@@ -19,19 +24,6 @@ use std::alloc::Global;
 use vlt_base::{Items, limit};
 use vlt_lexer::{Mark, Token, TokenKind, Word};
 use vlt_syntax::{Case, Decl, Field, HeaderParam, Name, States};
-
-/// The limits on declarations, states, fields, cases, payload types and depth.
-const DECLS: u8 = 4;
-
-const STATES: u8 = 5;
-
-const FIELDS: u8 = 6;
-
-const CASES: u8 = 7;
-
-const PAYLOAD: u8 = 8;
-
-const DEPTH: u8 = 12;
 
 impl Part for HeaderParam {
     ghost Seen = { SeenHeaderParam };
@@ -42,6 +34,9 @@ impl Part for HeaderParam {
 
     ghost right = { λ p. Unit {0} };
 
+    ghost thing = { machine.a_param };
+
+    #[tactic(auto, using(crate::proofs::Declarations::param_is))]
     fn part(
         alloc: Global,
         tokens: &[Token<'_>],
@@ -63,6 +58,7 @@ fn header(
     ensures spelled { IfOk result (λ x. left tokens.now at ≡ header_then (map header_param_of x.0) (left tokens.now x.1)) }
     ensures few { IfOk result (λ x. AtMost language.parameters (map header_param_of x.0)) }
     ensures moves { IfOk result (λ x. Stays tokens.now at x.1) }
+    ensures place { Follows (machine.header ∷ []) (λ x. x.1) tokens.now at result }
 {
     let most = Some(bound(PARAMETERS));
     enclosed(alloc, tokens, at, Mark::Less, Mark::Greater, most)
@@ -73,6 +69,7 @@ fn field(alloc: Global, tokens: &[Token<'_>], at: usize) -> Result<(Field, usize
     ensures spelled { IfOk result (λ x. left tokens.now at ≡ field_then (field_of x.0) (left tokens.now x.1)) }
     ensures right { IfOk result (λ x. IsField (field_of x.0)) }
     ensures moves { IfOk result (λ x. Moves tokens.now at x.1) }
+    ensures place { Follows (machine.thing machine.a_ty ∷ machine.name ∷ machine.at_states ∷ machine.sign Semicolon ∷ []) (λ x. x.1) tokens.now at result }
 {
     let (ty, next) = ty(alloc, tokens, at)?;
     let (name, next) = name(alloc, tokens, next)?;
@@ -91,7 +88,9 @@ fn field(alloc: Global, tokens: &[Token<'_>], at: usize) -> Result<(Field, usize
 }
 
 /// Whether a type begins here.
-fn begins_ty(tokens: &[Token<'_>], at: usize) -> bool {
+fn begins_ty(tokens: &[Token<'_>], at: usize) -> bool
+    ensures { result ≡ can_begin machine.start_ty (ahead tokens.now at) }
+{
     matches!(
         kind(tokens, at),
         Some(TokenKind::Name | TokenKind::Keyword(Word::Int | Word::Bool | Word::Tracked))
@@ -99,6 +98,7 @@ fn begins_ty(tokens: &[Token<'_>], at: usize) -> bool {
 }
 
 /// The fields of a struct, as many as come.
+#[tactic(auto, using(crate::proofs::Declarations::fields_end))]
 fn fields(
     alloc: Global,
     tokens: &[Token<'_>],
@@ -109,6 +109,7 @@ fn fields(
     ensures right { IfOk result (λ x. Each IsField (map field_of x.0)) }
     ensures few { IfOk result (λ x. AtMost language.fields (map field_of x.0)) }
     ensures moves { IfOk result (λ x. Stays tokens.now at x.1) }
+    ensures place { Turns (machine.fields (fields_left 0) ∷ []) (λ x. machine.behind_fields ∷ []) (λ x. x.1) tokens.now at result }
 {
     let most = Some(bound(FIELDS));
     let mut fields = Items::new(alloc);
@@ -123,6 +124,7 @@ fn fields(
 }
 
 /// The states in which an object may be released, if they come next.
+#[tactic(auto, using(crate::proofs::Declarations::release_some, crate::proofs::Declarations::release_none))]
 fn release(
     alloc: Global,
     tokens: &[Token<'_>],
@@ -132,6 +134,7 @@ fn release(
     ensures spelled { IfOk result (λ x. left tokens.now at ≡ release_then (option_of states_of x.0) (left tokens.now x.1)) }
     ensures right { IfOk result (λ x. IfGiven IsStates (option_of states_of x.0)) }
     ensures moves { IfOk result (λ x. Stays tokens.now at x.1) }
+    ensures place { Turns (machine.behind_fields ∷ []) (λ x. machine.sign CloseBrace ∷ []) (λ x. x.1) tokens.now at result }
 {
     let Ok(next) = keyword(tokens, at, Word::Release) else {
         return Ok((None, at));
@@ -142,10 +145,12 @@ fn release(
 }
 
 /// A case of a variant.
+#[tactic(auto, using(crate::proofs::Declarations::case_is))]
 fn case(alloc: Global, tokens: &[Token<'_>], at: usize) -> Result<(Case, usize), ParseError>
     ensures spelled { IfOk result (λ x. left tokens.now at ≡ case_then (case_of x.0) (left tokens.now x.1)) }
     ensures right { IfOk result (λ x. IsCase language (case_of x.0)) }
     ensures moves { IfOk result (λ x. Moves tokens.now at x.1) }
+    ensures place { Follows (machine.thing machine.a_case ∷ []) (λ x. x.1) tokens.now at result }
 {
     let (name, next) = case_name(alloc, tokens, at)?;
     let most = Some(bound(PAYLOAD));
@@ -172,6 +177,8 @@ impl Part for Case {
 
     ghost right = { IsCase language };
 
+    ghost thing = { machine.a_case };
+
     fn part(alloc: Global, tokens: &[Token<'_>], at: usize) -> Result<(Case, usize), ParseError> {
         case(alloc, tokens, at)
     }
@@ -182,6 +189,7 @@ fn stateset(alloc: Global, tokens: &[Token<'_>], at: usize) -> Result<(Decl, usi
     ensures spelled { IfOk result (λ x. left tokens.now at ≡ decl_then (decl_of x.0) (left tokens.now x.1)) }
     ensures right { IfOk result (λ x. IsDecl language (decl_of x.0)) }
     ensures moves { IfOk result (λ x. Moves tokens.now at x.1) }
+    ensures place { Follows (machine.keyword Stateset ∷ machine.behind_stateset) (λ x. x.1) tokens.now at result }
 {
     let next = keyword(tokens, at, Word::Stateset)?;
     let (name, next) = name(alloc, tokens, next)?;
@@ -201,6 +209,7 @@ fn abstract_decl(
     ensures spelled { IfOk result (λ x. left tokens.now at ≡ decl_then (decl_of x.0) (left tokens.now x.1)) }
     ensures right { IfOk result (λ x. IsDecl language (decl_of x.0)) }
     ensures moves { IfOk result (λ x. Moves tokens.now at x.1) }
+    ensures place { Follows (machine.keyword Abstract ∷ machine.behind_abstract) (λ x. x.1) tokens.now at result }
 {
     let next = keyword(tokens, at, Word::Abstract)?;
     let (name, next) = name(alloc, tokens, next)?;
@@ -227,6 +236,7 @@ fn struct_head(
     ensures spelled { IfOk result (λ x. left tokens.now at ≡ struct_head_then (name_of x.0.name) (map header_param_of x.0.params) (option_of name_of x.0.states) (left tokens.now x.1)) }
     ensures few { IfOk result (λ x. AtMost language.parameters (map header_param_of x.0.params)) }
     ensures moves { IfOk result (λ x. Moves tokens.now at x.1) }
+    ensures place { Follows (machine.keyword Struct ∷ machine.name ∷ machine.header ∷ machine.marked_name At ∷ machine.sign OpenBrace ∷ []) (λ x. x.1) tokens.now at result }
 {
     let next = keyword(tokens, at, Word::Struct)?;
     let (name, next) = name(alloc, tokens, next)?;
@@ -248,6 +258,7 @@ fn struct_decl(alloc: Global, tokens: &[Token<'_>], at: usize) -> Result<(Decl, 
     ensures spelled { IfOk result (λ x. left tokens.now at ≡ decl_then (decl_of x.0) (left tokens.now x.1)) }
     ensures right { IfOk result (λ x. IsDecl language (decl_of x.0)) }
     ensures moves { IfOk result (λ x. Moves tokens.now at x.1) }
+    ensures place { Follows (machine.keyword Struct ∷ machine.behind_struct) (λ x. x.1) tokens.now at result }
 {
     let (head, next) = struct_head(alloc, tokens, at)?;
     let (fields, next) = fields(alloc, tokens, next)?;
@@ -272,6 +283,7 @@ fn variant(alloc: Global, tokens: &[Token<'_>], at: usize) -> Result<(Decl, usiz
     ensures spelled { IfOk result (λ x. left tokens.now at ≡ decl_then (decl_of x.0) (left tokens.now x.1)) }
     ensures right { IfOk result (λ x. IsDecl language (decl_of x.0)) }
     ensures moves { IfOk result (λ x. Moves tokens.now at x.1) }
+    ensures place { Follows (machine.keyword Variant ∷ machine.behind_variant) (λ x. x.1) tokens.now at result }
 {
     let next = keyword(tokens, at, Word::Variant)?;
     let (name, next) = name(alloc, tokens, next)?;
@@ -296,6 +308,7 @@ fn external(alloc: Global, tokens: &[Token<'_>], at: usize) -> Result<(Decl, usi
     ensures spelled { IfOk result (λ x. left tokens.now at ≡ decl_then (decl_of x.0) (left tokens.now x.1)) }
     ensures right { IfOk result (λ x. IsDecl language (decl_of x.0)) }
     ensures moves { IfOk result (λ x. Moves tokens.now at x.1) }
+    ensures place { Follows (machine.keyword Extern ∷ machine.behind_extern) (λ x. x.1) tokens.now at result }
 {
     let next = keyword(tokens, at, Word::Extern)?;
     let (head, next) = head(alloc, tokens, next)?;
@@ -309,6 +322,7 @@ fn function(alloc: Global, tokens: &[Token<'_>], at: usize) -> Result<(Decl, usi
     ensures spelled { IfOk result (λ x. left tokens.now at ≡ decl_then (decl_of x.0) (left tokens.now x.1)) }
     ensures right { IfOk result (λ x. IsDecl language (decl_of x.0)) }
     ensures moves { IfOk result (λ x. Moves tokens.now at x.1) }
+    ensures place { Follows (machine.head ∷ machine.block language.depth ∷ []) (λ x. x.1) tokens.now at result }
 {
     let (head, next) = head(alloc, tokens, at)?;
     let (body, next) = block(alloc, tokens, next, limit(DEPTH) as usize)?;
@@ -317,7 +331,10 @@ fn function(alloc: Global, tokens: &[Token<'_>], at: usize) -> Result<(Decl, usi
 }
 
 /// Whether a declaration begins here.
-fn begins_decl(tokens: &[Token<'_>], at: usize) -> bool {
+#[tactic(auto, using(crate::proofs::Declarations::other_begins))]
+fn begins_decl(tokens: &[Token<'_>], at: usize) -> bool
+    ensures { result ≡ can_begin machine.start_decl (ahead tokens.now at) }
+{
     match kind(tokens, at) {
         Some(
             TokenKind::Keyword(
@@ -333,10 +350,12 @@ fn begins_decl(tokens: &[Token<'_>], at: usize) -> bool {
     }
 }
 
+#[tactic(auto, using(crate::proofs::Declarations::decl_word, crate::proofs::Declarations::decl_other, crate::proofs::Runs::instead))]
 fn decl(alloc: Global, tokens: &[Token<'_>], at: usize) -> Result<(Decl, usize), ParseError>
     ensures spelled { IfOk result (λ x. left tokens.now at ≡ decl_then (decl_of x.0) (left tokens.now x.1)) }
     ensures right { IfOk result (λ x. IsDecl language (decl_of x.0)) }
     ensures moves { IfOk result (λ x. Moves tokens.now at x.1) }
+    ensures place { Follows (machine.thing machine.a_decl ∷ []) (λ x. x.1) tokens.now at result }
 {
     match kind(tokens, at) {
         Some(TokenKind::Keyword(Word::Stateset)) => stateset(alloc, tokens, at),
@@ -349,10 +368,12 @@ fn decl(alloc: Global, tokens: &[Token<'_>], at: usize) -> Result<(Decl, usize),
 }
 
 /// Declarations up to the last token.
+#[tactic(auto, using(crate::proofs::Declarations::decls_over))]
 pub fn decls(alloc: Global, tokens: &[Token<'_>]) -> Result<Items<Decl>, ParseError>
     ensures spelled { IfOk result (λ x. tokens_of tokens.now ≡ each_then decl_then (map decl_of x) []) }
     ensures right { IfOk result (λ x. Each (IsDecl language) (map decl_of x)) }
     ensures few { IfOk result (λ x. AtMost language.decls (map decl_of x)) }
+    ensures place { Ends (machine.decls (decls_left 0)) tokens.now result }
 {
     let most = Some(bound(DECLS));
     let mut decls = Items::new(alloc);

@@ -1,6 +1,6 @@
 //! Expressions, by precedence climbing.
 
-ghost use Rattle.std.specs.Prelude.{◌≡◌, ◌∷◌, ◌+◌, ◌<◌, ◌≤◌, ℕ, suc, length, IfOk, IfSome, IfNone, Some};
+ghost use Rattle.std.specs.Prelude.{◌≡◌, ◌≢◌, ◌∷◌, [], ◌+◌, ◌<◌, ◌≤◌, ℕ, suc, length, List, IfOk, IfErr, IfSome, IfNone, Some};
 ghost use Rattle.vlt_ops.specs.Operator.{row_of};
 ghost use Rattle.vlt_lexer.specs.declared.token.Mark.TheVariants.{OpenParen};
 ghost use Rattle.vlt_syntax.specs.Tokens.{sign as a_sign};
@@ -8,9 +8,13 @@ ghost use Rattle.vlt_syntax.specs.Tree.{Expr as SeenExpr};
 ghost use Rattle.vlt_syntax.specs.Spelling.{sign_of, operator_of, prefix_of, expr_then};
 ghost use Rattle.vlt_syntax.specs.Grammar.{level, BindsFrom, depth as depth_of, IsExpr, language};
 ghost use Rattle.vlt_syntax.specs.View.{expr_of};
-ghost use Rattle.vlt_parser.specs.Reading.{left, next_level, Moves};
+ghost use Rattle.vlt_parser.specs.declared.error.ParseError.TheVariants.{Limit};
+ghost use Rattle.vlt_syntax.specs.Machine as machine;
+ghost use Rattle.vlt_parser.specs.Reading.{left, Moves};
+ghost use Rattle.vlt_parser.specs.Ahead.{ahead, next_level, Begins, BeginsOperator, Follows, Turns};
 
 use crate::error::ParseError;
+use crate::limits::DEPTH;
 use crate::lists::Part;
 use crate::tokens::{behind_sign, kind, name, next_sign, sign, span, unexpected};
 use std::alloc::Global;
@@ -26,9 +30,6 @@ struct Deep {
     depth: usize,
 }
 
-/// The limit on the depth.
-const DEPTH: u8 = 12;
-
 /// The level of the operators that bind the least.
 const LEAST: u8 = 2;
 
@@ -36,6 +37,7 @@ const LEAST: u8 = 2;
 fn deeper(depth: usize, room: usize) -> Result<usize, ParseError>
     ensures room { IfOk result (λ inside. room ≡ suc inside) }
     ensures fits { IfOk result (λ inside. depth ≤ inside) }
+    ensures full { IfErr result (λ e. (room ≤ depth) × (e ≡ Limit 12)) }
 {
     if depth >= room {
         return Err(ParseError::Limit(DEPTH));
@@ -86,9 +88,10 @@ fn operator(tokens: &[Token<'_>], at: usize, least: u8) -> Option<Op>
     requires { 1 ≤ least }
     ensures spelled { IfSome result (λ op. left tokens.now at ≡ a_sign (sign_of op) ∷ left tokens.now (at + 1)) }
     ensures arity { IfSome result (λ op. (row_of op).arity ≡ 2) }
-    ensures level { IfSome result (λ op. (least ≤ level op) × (next_level (left tokens.now at) ≡ level op)) }
-    ensures none { IfNone result (next_level (left tokens.now at) < least) }
+    ensures level { IfSome result (λ op. (least ≤ level op) × (next_level (ahead tokens.now at) ≡ level op)) }
+    ensures none { IfNone result (next_level (ahead tokens.now at) < least) }
     ensures moves { IfSome result (λ op. Moves tokens.now at (at + 1)) }
+    ensures begins { IfSome result (λ op. BeginsOperator op (ahead tokens.now at) (ahead tokens.now (at + 1))) }
 {
     let op = infix(next_sign(tokens, at)?)?;
     if row(op).level < least {
@@ -98,11 +101,13 @@ fn operator(tokens: &[Token<'_>], at: usize, least: u8) -> Option<Op>
 }
 
 /// A variable, or a field of one.
+#[tactic(auto, using(crate::proofs::Expressions::variable_dot, crate::proofs::Expressions::variable_alone))]
 fn variable(alloc: Global, tokens: &[Token<'_>], at: usize) -> Result<(Expr, usize), ParseError>
     ensures spelled { IfOk result (λ x. left tokens.now at ≡ expr_then (expr_of x.0) (left tokens.now x.1)) }
     ensures binds { IfOk result (λ x. (least : ℕ) → BindsFrom least (expr_of x.0)) }
     ensures depth { IfOk result (λ x. depth_of (expr_of x.0) ≡ 1) }
     ensures moves { IfOk result (λ x. Moves tokens.now at x.1) }
+    ensures place { (fs : List machine.Frame) → Turns (machine.name ∷ machine.behind_variable 1 fs ∷ []) (λ x. machine.behind_operand 1 fs ∷ []) (λ x. x.1) tokens.now at result }
 {
     let (base, next) = name(alloc, tokens, at)?;
     match behind_sign(tokens, next, Mark::Dot) {
@@ -115,6 +120,7 @@ fn variable(alloc: Global, tokens: &[Token<'_>], at: usize) -> Result<(Expr, usi
 }
 
 /// What begins with no operator but one before an operand.
+#[tactic(auto, using(crate::proofs::Expressions::operand_named, crate::proofs::Expressions::operand_taken))]
 #[cycle(expression)]
 fn primary(
     alloc: Global,
@@ -128,6 +134,7 @@ fn primary(
     ensures depth { IfOk result (λ x. x.0.depth ≡ depth_of (expr_of x.0.expr)) }
     ensures within { IfOk result (λ x. (1 ≤ x.0.depth) × (x.0.depth ≤ room)) }
     ensures moves { IfOk result (λ x. Moves tokens.now at x.1) }
+    ensures place { (fs : List machine.Frame) → Turns (machine.operand room fs ∷ []) (λ x. machine.behind_operand x.0.depth fs ∷ []) (λ x. x.1) tokens.now at result }
 {
     let (expr, next) = match kind(tokens, at) {
         Some(TokenKind::Number(value)) => (Expr::Number(value, span(tokens, at, at + 1)), at + 1),
@@ -142,6 +149,7 @@ fn primary(
 }
 
 /// An expression in parentheses, behind the first one.
+#[tactic(auto, using(crate::proofs::Expressions::group_opens, crate::proofs::Expressions::group_full, crate::proofs::Expressions::group_closes, crate::proofs::Expressions::group_stays_open))]
 #[cycle(expression)]
 fn group(
     alloc: Global,
@@ -152,11 +160,13 @@ fn group(
 ) -> Result<(Deep, usize), ParseError>
     requires room { 1 ≤ room }
     requires behind { Moves tokens.now from at }
+    requires opens { Begins (a_sign OpenParen) (ahead tokens.now from) (ahead tokens.now at) }
     ensures spelled { IfOk result (λ x. a_sign OpenParen ∷ left tokens.now at ≡ expr_then (expr_of x.0.expr) (left tokens.now x.1)) }
     ensures binds { IfOk result (λ x. (least : ℕ) → BindsFrom least (expr_of x.0.expr)) }
     ensures depth { IfOk result (λ x. x.0.depth ≡ depth_of (expr_of x.0.expr)) }
     ensures within { IfOk result (λ x. (1 ≤ x.0.depth) × (x.0.depth ≤ room)) }
     ensures moves { IfOk result (λ x. Moves tokens.now at x.1) }
+    ensures place { (fs : List machine.Frame) → Turns (machine.operand room fs ∷ []) (λ x. machine.behind_operand x.0.depth fs ∷ []) (λ x. x.1) tokens.now from result }
 {
     let inside = deeper(1, room)?;
     let (inner, next) = expression(alloc, tokens, at, LEAST, inside)?;
@@ -167,6 +177,7 @@ fn group(
 }
 
 /// An operator with its operand, where the sign is one.
+#[tactic(auto, using(crate::proofs::Expressions::prefix_opens, crate::proofs::Expressions::prefix_full, crate::proofs::Expressions::no_prefix))]
 #[cycle(expression)]
 fn unary(
     alloc: Global,
@@ -178,11 +189,14 @@ fn unary(
     requires room { 1 ≤ room }
     requires here { left tokens.now at ≡ a_sign mark ∷ left tokens.now (at + 1) }
     requires within { Moves tokens.now at (at + 1) }
+    requires begins { Begins (a_sign mark) (ahead tokens.now at) (ahead tokens.now (at + 1)) }
+    requires no_group { mark ≢ OpenParen }
     ensures spelled { IfOk result (λ x. left tokens.now at ≡ expr_then (expr_of x.0.expr) (left tokens.now x.1)) }
     ensures binds { IfOk result (λ x. (least : ℕ) → least ≤ 11 → BindsFrom least (expr_of x.0.expr)) }
     ensures depth { IfOk result (λ x. x.0.depth ≡ depth_of (expr_of x.0.expr)) }
     ensures within { IfOk result (λ x. (1 ≤ x.0.depth) × (x.0.depth ≤ room)) }
     ensures moves { IfOk result (λ x. Moves tokens.now at x.1) }
+    ensures place { (fs : List machine.Frame) → Turns (machine.operand room fs ∷ []) (λ x. machine.behind_operand x.0.depth fs ∷ []) (λ x. x.1) tokens.now at result }
 {
     let Some(op) = prefix(mark) else {
         return Err(unexpected(tokens, at));
@@ -199,6 +213,7 @@ fn unary(
 }
 
 /// The longest expression whose operators outside of operands are of level `least` or above.
+#[tactic(auto, using(crate::proofs::Expressions::operator_goes_on, crate::proofs::Expressions::operator_full, crate::proofs::Expressions::right_ended))]
 #[cycle(expression)]
 fn expression(
     alloc: Global,
@@ -211,10 +226,11 @@ fn expression(
     requires levels { (1 ≤ least) × (least ≤ 11) }
     ensures spelled { IfOk result (λ x. left tokens.now at ≡ expr_then (expr_of x.0.expr) (left tokens.now x.1)) }
     ensures binds { IfOk result (λ x. BindsFrom least (expr_of x.0.expr)) }
-    ensures stops { IfOk result (λ x. next_level (left tokens.now x.1) < least) }
+    ensures stops { IfOk result (λ x. next_level (ahead tokens.now x.1) < least) }
     ensures depth { IfOk result (λ x. x.0.depth ≡ depth_of (expr_of x.0.expr)) }
     ensures within { IfOk result (λ x. (1 ≤ x.0.depth) × (x.0.depth ≤ room)) }
     ensures moves { IfOk result (λ x. Moves tokens.now at x.1) }
+    ensures place { (fs : List machine.Frame) → Turns (machine.operand room (machine.level_from least room ∷ fs) ∷ []) (λ x. machine.operations x.0.depth (machine.level_from least room ∷ fs) ∷ []) (λ x. x.1) tokens.now at result }
 {
     let (mut first, mut here) = primary(alloc, tokens, at, room)?;
     while let Some(op) = operator(tokens, here, least) {
@@ -234,10 +250,12 @@ fn expression(
 }
 
 /// The longest expression.
+#[tactic(auto, using(crate::proofs::Expressions::expr_is, crate::proofs::Expressions::expr_ended))]
 pub fn expr(alloc: Global, tokens: &[Token<'_>], at: usize) -> Result<(Expr, usize), ParseError>
     ensures spelled { IfOk result (λ x. left tokens.now at ≡ expr_then (expr_of x.0) (left tokens.now x.1)) }
     ensures right { IfOk result (λ x. IsExpr language (expr_of x.0)) }
     ensures moves { IfOk result (λ x. Moves tokens.now at x.1) }
+    ensures place { Follows (machine.thing machine.an_expr ∷ []) (λ x. x.1) tokens.now at result }
 {
     let (found, next) = expression(alloc, tokens, at, LEAST, limit(DEPTH) as usize)?;
     Ok((found.expr, next))
@@ -251,6 +269,8 @@ impl Part for Expr {
     ghost spell = { expr_then };
 
     ghost right = { IsExpr language };
+
+    ghost thing = { machine.an_expr };
 
     fn part(alloc: Global, tokens: &[Token<'_>], at: usize) -> Result<(Expr, usize), ParseError> {
         expr(alloc, tokens, at)

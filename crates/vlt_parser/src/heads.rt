@@ -1,23 +1,26 @@
 //! Heads of functions, with their clauses.
 
-ghost use Rattle.std.specs.Prelude.{◌≡◌, ◌∷◌, ◌≤◌, length, IfOk};
+ghost use Rattle.std.specs.Prelude.{◌≡◌, ◌∷◌, [], ◌≤◌, length, map, IfOk};
 ghost use Rattle.vlt_syntax.specs.Tree.{Entry as SeenEntry, Parameter as SeenParameter};
 ghost use Rattle.vlt_syntax.specs.Lists.{Each};
 ghost use Rattle.vlt_syntax.specs.Spelling.{entry_then, outcome_then, parameter_then, clause_then, head_then};
 ghost use Rattle.vlt_syntax.specs.Grammar.{IfGiven, IsEntry, IsOutcome, IsParameter, IsHead, language};
 ghost use Rattle.vlt_syntax.specs.View.{option_of, entry_of, outcome_of, parameter_of, head_of};
-ghost use Rattle.std.specs.Prelude.{map};
+ghost use Rattle.vlt_syntax.specs.Machine as machine;
 ghost use Rattle.vlt_parser.specs.Reading.{left, Moves, Stays};
+ghost use Rattle.vlt_parser.specs.Ahead.{Follows};
 
 use crate::error::ParseError;
+use crate::limits::PARAMETERS;
 use crate::lists::{Part, bound, listed};
 use crate::tokens::{behind_sign, kind, name, sign, span};
-use crate::types::{at_states, key_states, states, ty};
+use crate::types::{key_states, states, ty};
 use std::alloc::Global;
 use vlt_base::Items;
 use vlt_lexer::{Mark, Token, TokenKind, Word};
 use vlt_syntax::{Entry, Head, KeyStates, Outcome, Parameter};
 
+#[tactic(auto, using(crate::proofs::Functions::parameter_is))]
 fn parameter(
     alloc: Global,
     tokens: &[Token<'_>],
@@ -26,6 +29,7 @@ fn parameter(
     ensures spelled { IfOk result (λ x. left tokens.now at ≡ parameter_then (parameter_of x.0) (left tokens.now x.1)) }
     ensures right { IfOk result (λ x. IsParameter (parameter_of x.0)) }
     ensures moves { IfOk result (λ x. Moves tokens.now at x.1) }
+    ensures place { Follows (machine.thing machine.a_parameter ∷ []) (λ x. x.1) tokens.now at result }
 {
     let (ty, next) = ty(alloc, tokens, at)?;
     let (name, next) = name(alloc, tokens, next)?;
@@ -41,6 +45,8 @@ impl Part for Parameter {
 
     ghost right = { IsParameter };
 
+    ghost thing = { machine.a_parameter };
+
     fn part(
         alloc: Global,
         tokens: &[Token<'_>],
@@ -51,16 +57,18 @@ impl Part for Parameter {
 }
 
 /// An entry that begins with its key.
+#[tactic(auto, using(crate::proofs::Functions::entry_at, crate::proofs::Functions::entry_alone, crate::proofs::Functions::entry_changes, crate::proofs::Functions::entry_stays))]
 fn held_entry(alloc: Global, tokens: &[Token<'_>], at: usize) -> Result<(Entry, usize), ParseError>
     ensures spelled { IfOk result (λ x. left tokens.now at ≡ entry_then (entry_of x.0) (left tokens.now x.1)) }
     ensures right { IfOk result (λ x. IsEntry (entry_of x.0)) }
     ensures moves { IfOk result (λ x. Moves tokens.now at x.1) }
+    ensures place { Follows (machine.name ∷ machine.entry_states ∷ []) (λ x. x.1) tokens.now at result }
 {
     let (key, next) = name(alloc, tokens, at)?;
-    let (before, next) = at_states(alloc, tokens, next)?;
-    let Some(before) = before else {
+    let Some(next) = behind_sign(tokens, next, Mark::At) else {
         return Ok((Entry::Held(KeyStates { key, states: None }), next));
     };
+    let (before, next) = states(alloc, tokens, next)?;
     match behind_sign(tokens, next, Mark::Arrow) {
         Some(next) => {
             let (after, next) = states(alloc, tokens, next)?;
@@ -73,10 +81,12 @@ fn held_entry(alloc: Global, tokens: &[Token<'_>], at: usize) -> Result<(Entry, 
     }
 }
 
+#[tactic(auto, using(crate::proofs::Functions::entry_with))]
 fn entry(alloc: Global, tokens: &[Token<'_>], at: usize) -> Result<(Entry, usize), ParseError>
     ensures spelled { IfOk result (λ x. left tokens.now at ≡ entry_then (entry_of x.0) (left tokens.now x.1)) }
     ensures right { IfOk result (λ x. IsEntry (entry_of x.0)) }
     ensures moves { IfOk result (λ x. Moves tokens.now at x.1) }
+    ensures place { Follows (machine.thing machine.an_entry ∷ []) (λ x. x.1) tokens.now at result }
 {
     match kind(tokens, at) {
         Some(TokenKind::Sign(Mark::Minus)) => {
@@ -104,15 +114,19 @@ impl Part for Entry {
 
     ghost right = { IsEntry };
 
+    ghost thing = { machine.an_entry };
+
     fn part(alloc: Global, tokens: &[Token<'_>], at: usize) -> Result<(Entry, usize), ParseError> {
         entry(alloc, tokens, at)
     }
 }
 
+#[tactic(auto, using(crate::proofs::Functions::outcome_void))]
 fn outcome(alloc: Global, tokens: &[Token<'_>], at: usize) -> Result<(Outcome, usize), ParseError>
     ensures spelled { IfOk result (λ x. left tokens.now at ≡ outcome_then (outcome_of x.0) (left tokens.now x.1)) }
     ensures right { IfOk result (λ x. IsOutcome (outcome_of x.0)) }
     ensures moves { IfOk result (λ x. Moves tokens.now at x.1) }
+    ensures place { Follows (machine.thing machine.an_outcome ∷ []) (λ x. x.1) tokens.now at result }
 {
     match kind(tokens, at) {
         Some(TokenKind::Keyword(Word::Void)) => Ok((
@@ -127,6 +141,7 @@ fn outcome(alloc: Global, tokens: &[Token<'_>], at: usize) -> Result<(Outcome, u
 }
 
 /// A clause, if one comes next.
+#[tactic(auto, using(crate::proofs::Functions::clause_some, crate::proofs::Functions::clause_none))]
 fn clause(
     alloc: Global,
     tokens: &[Token<'_>],
@@ -136,6 +151,7 @@ fn clause(
     ensures spelled { IfOk result (λ x. left tokens.now at ≡ clause_then (option_of (map entry_of) x.0) (left tokens.now x.1)) }
     ensures right { IfOk result (λ x. IfGiven (Each IsEntry) (option_of (map entry_of) x.0)) }
     ensures moves { IfOk result (λ x. Stays tokens.now at x.1) }
+    ensures place { Follows (machine.clause ∷ []) (λ x. x.1) tokens.now at result }
 {
     match behind_sign(tokens, at, Mark::OpenBracket) {
         Some(next) => {
@@ -146,13 +162,12 @@ fn clause(
     }
 }
 
-/// The limit on parameters, of a function and of a type's header.
-pub const PARAMETERS: u8 = 9;
-
+#[tactic(auto, using(crate::proofs::Functions::head_is))]
 pub fn head(alloc: Global, tokens: &[Token<'_>], at: usize) -> Result<(Head, usize), ParseError>
     ensures spelled { IfOk result (λ x. left tokens.now at ≡ head_then (head_of x.0) (left tokens.now x.1)) }
     ensures right { IfOk result (λ x. IsHead language (head_of x.0)) }
     ensures moves { IfOk result (λ x. Moves tokens.now at x.1) }
+    ensures place { Follows (machine.head ∷ []) (λ x. x.1) tokens.now at result }
 {
     let (outcome, next) = outcome(alloc, tokens, at)?;
     let (name, next) = name(alloc, tokens, next)?;

@@ -1,13 +1,15 @@
 //! Lists of things with commas between them.
 
-ghost use Rattle.std.specs.Prelude.{◌≡◌, ◌<◌, ◌≤◌, ℕ, ◌+◌, length, map, IfOk, OnOk, List};
+ghost use Rattle.std.specs.Prelude.{◌≡◌, ◌<◌, ◌≤◌, ℕ, ◌+◌, ◌∷◌, [], length, map, IfOk, IfErr, OnOk, List};
 ghost use Rattle.vlt_base.specs.Limits.{limit_of};
+ghost use Rattle.vlt_syntax.specs.Machine as machine;
 ghost use Rattle.vlt_syntax.specs.Tokens.{Token as Plain};
 ghost use Rattle.vlt_syntax.specs.Spelling.{name_then};
 ghost use Rattle.vlt_syntax.specs.Tree.{Name as SeenName};
 ghost use Rattle.vlt_syntax.specs.View.{name_of};
 ghost use Rattle.vlt_syntax.specs.Lists.{listed_then, enclosed_then, Each, IsSome};
 ghost use Rattle.vlt_parser.specs.Reading.{left, Moves, Stays, IsWithin, IsSomeMost};
+ghost use Rattle.vlt_parser.specs.Ahead.{Follows, left_of, IsFull};
 
 use crate::error::ParseError;
 use crate::tokens::{behind_sign, name, sign};
@@ -26,11 +28,14 @@ pub trait Part: Sized + Drop {
 
     ghost right: { Seen → Type 0 };
 
+    ghost thing: { machine.Thing };
+
     /// Reads one.
     fn part(alloc: Global, tokens: &[Token<'_>], at: usize) -> Result<(Self, usize), ParseError>
         ensures spelled { IfOk result (λ x. left tokens.now at ≡ spell (view x.0) (left tokens.now x.1)) }
         ensures right { IfOk result (λ x. right (view x.0)) }
-        ensures moves { IfOk result (λ x. Moves tokens.now at x.1) };
+        ensures moves { IfOk result (λ x. Moves tokens.now at x.1) }
+        ensures place { Follows (machine.thing thing ∷ []) (λ x. x.1) tokens.now at result };
 }
 
 impl Part for Name {
@@ -41,6 +46,8 @@ impl Part for Name {
     ghost spell = { name_then };
 
     ghost right = { λ n. Unit {0} };
+
+    ghost thing = { machine.a_name };
 
     fn part(alloc: Global, tokens: &[Token<'_>], at: usize) -> Result<(Name, usize), ParseError> {
         name(alloc, tokens, at)
@@ -70,7 +77,8 @@ pub fn bound(number: u8) -> Most
 
 /// Whether one more may stand beside so many.
 pub fn allow_one_more(most: Option<Most>, count: usize) -> Result<(), ParseError>
-    ensures { OnOk result (IsWithin most (count + 1)) }
+    ensures within { OnOk result (IsWithin most (count + 1)) }
+    ensures full { IfErr result (λ e. IsFull most count e) }
 {
     match most {
         Some(most) if count >= most.count => Err(ParseError::Limit(most.limit)),
@@ -79,6 +87,7 @@ pub fn allow_one_more(most: Option<Most>, count: usize) -> Result<(), ParseError
 }
 
 /// One thing or more, up to the closing sign.
+#[tactic(auto, using(crate::proofs::Runs::further_closed, crate::proofs::Runs::further_full, crate::proofs::Runs::further_refused))]
 pub fn some_listed<T: Part>(
     alloc: Global,
     tokens: &[Token<'_>],
@@ -92,6 +101,7 @@ pub fn some_listed<T: Part>(
     ensures right { IfOk result (λ x. Each T.right (map T.view x.0)) }
     ensures few { IfOk result (λ x. IsWithin most (length (map T.view x.0))) }
     ensures moves { IfOk result (λ x. Moves tokens.now at x.1) }
+    ensures place { Follows (machine.thing T.thing ∷ machine.further T.thing closing (left_of most 1) ∷ []) (λ x. x.1) tokens.now at result }
 {
     let mut items = Items::new(alloc);
     let mut here = at;
@@ -108,6 +118,7 @@ pub fn some_listed<T: Part>(
 }
 
 /// Things up to the closing sign, if need be none.
+#[tactic(auto, using(crate::proofs::Runs::listed_closed, crate::proofs::Runs::listed_some))]
 pub fn listed<T: Part>(
     alloc: Global,
     tokens: &[Token<'_>],
@@ -120,6 +131,7 @@ pub fn listed<T: Part>(
     ensures right { IfOk result (λ x. Each T.right (map T.view x.0)) }
     ensures few { IfOk result (λ x. IsWithin most (length (map T.view x.0))) }
     ensures moves { IfOk result (λ x. Moves tokens.now at x.1) }
+    ensures place { Follows (machine.listed T.thing closing (left_of most 0) ∷ []) (λ x. x.1) tokens.now at result }
 {
     if let Some(end) = behind_sign(tokens, at, closing) {
         return Ok((Items::new(alloc), end));
@@ -128,6 +140,7 @@ pub fn listed<T: Part>(
 }
 
 /// Things between two signs, or none and no signs.
+#[tactic(auto, using(crate::proofs::Runs::enclosed_some, crate::proofs::Runs::enclosed_none, crate::proofs::Runs::instead))]
 pub fn enclosed<T: Part>(
     alloc: Global,
     tokens: &[Token<'_>],
@@ -142,6 +155,7 @@ pub fn enclosed<T: Part>(
     ensures right { IfOk result (λ x. Each T.right (map T.view x.0)) }
     ensures few { IfOk result (λ x. IsWithin most (length (map T.view x.0))) }
     ensures moves { IfOk result (λ x. Stays tokens.now at x.1) }
+    ensures place { Follows (machine.enclosed T.thing opening closing (left_of most 0) ∷ []) (λ x. x.1) tokens.now at result }
 {
     match behind_sign(tokens, at, opening) {
         Some(inside) => some_listed(alloc, tokens, inside, closing, most),

@@ -1,14 +1,17 @@
 //! Right sides of declarations and assignments, calls, and what a `return` gives.
 
-ghost use Rattle.std.specs.Prelude.{◌≡◌, ◌∷◌, ◌≤◌, length, IfOk};
-ghost use Rattle.vlt_lexer.specs.declared.token.Word.TheVariants.{New, Adopt};
-ghost use Rattle.vlt_lexer.specs.declared.token.Mark.TheVariants.{OpenParen, CloseParen};
+ghost use Rattle.std.specs.Prelude.{◌≡◌, ◌∷◌, [], ◌≤◌, ◌+◌, ℕ, true, false, length, None, IfOk};
+ghost use Rattle.vlt_lexer.specs.declared.token.Word.TheVariants.{New, Adopt, Into};
+ghost use Rattle.vlt_lexer.specs.declared.token.Mark.TheVariants.{OpenParen, CloseParen, OpenBrace, CloseBrace};
+ghost use Rattle.vlt_lexer.specs.declared.token.TokenKind.TheVariants as kinds;
 ghost use Rattle.vlt_syntax.specs.Tokens.{keyword as a_keyword, sign as a_sign};
 ghost use Rattle.vlt_syntax.specs.Tree.{Init as SeenInit};
 ghost use Rattle.vlt_syntax.specs.Spelling.{build_then, call_then, init_then, owner_then, right_then, returned_then};
 ghost use Rattle.vlt_syntax.specs.Grammar.{IsBuild, IsCall, IsInit, IsRight, IsReturned, language};
 ghost use Rattle.vlt_syntax.specs.View.{option_of, name_of, build_of, call_of, init_of, right_of, returned_of};
+ghost use Rattle.vlt_syntax.specs.Machine as machine;
 ghost use Rattle.vlt_parser.specs.Reading.{left, Moves, Stays};
+ghost use Rattle.vlt_parser.specs.Ahead.{ahead, Begins, BeginsWith, LacksSign, Follows};
 
 use crate::error::ParseError;
 use crate::exprs::expr;
@@ -24,6 +27,7 @@ fn build(alloc: Global, tokens: &[Token<'_>], at: usize) -> Result<(Build, usize
     ensures spelled { IfOk result (λ x. left tokens.now at ≡ build_then (build_of x.0) (left tokens.now x.1)) }
     ensures right { IfOk result (λ x. IsBuild language (build_of x.0)) }
     ensures moves { IfOk result (λ x. Moves tokens.now at x.1) }
+    ensures place { Follows (machine.tick ∷ machine.enclosed machine.an_expr OpenParen CloseParen None ∷ []) (λ x. x.1) tokens.now at result }
 {
     let (case, next) = case_name(alloc, tokens, at)?;
     let (payload, next) = enclosed(alloc, tokens, next, Mark::OpenParen, Mark::CloseParen, None)?;
@@ -35,6 +39,7 @@ pub fn call(alloc: Global, tokens: &[Token<'_>], at: usize) -> Result<(Call, usi
     ensures spelled { IfOk result (λ x. left tokens.now at ≡ call_then (call_of x.0) (left tokens.now x.1)) }
     ensures right { IfOk result (λ x. IsCall language (call_of x.0)) }
     ensures moves { IfOk result (λ x. Moves tokens.now at x.1) }
+    ensures place { Follows (machine.name ∷ machine.sign OpenParen ∷ machine.listed machine.an_expr CloseParen None ∷ []) (λ x. x.1) tokens.now at result }
 {
     let (function, next) = name(alloc, tokens, at)?;
     let next = sign(tokens, next, Mark::OpenParen)?;
@@ -51,10 +56,12 @@ pub fn call(alloc: Global, tokens: &[Token<'_>], at: usize) -> Result<(Call, usi
 }
 
 /// A field with its value.
+#[tactic(auto, using(crate::proofs::Sides::init_is))]
 fn init(alloc: Global, tokens: &[Token<'_>], at: usize) -> Result<(Init, usize), ParseError>
     ensures spelled { IfOk result (λ x. left tokens.now at ≡ init_then (init_of x.0) (left tokens.now x.1)) }
     ensures right { IfOk result (λ x. IsInit language (init_of x.0)) }
     ensures moves { IfOk result (λ x. Moves tokens.now at x.1) }
+    ensures place { Follows (machine.thing machine.an_init ∷ []) (λ x. x.1) tokens.now at result }
 {
     let (field, next) = name(alloc, tokens, at)?;
     let next = sign(tokens, next, Mark::Colon)?;
@@ -71,12 +78,15 @@ impl Part for Init {
 
     ghost right = { IsInit language };
 
+    ghost thing = { machine.an_init };
+
     fn part(alloc: Global, tokens: &[Token<'_>], at: usize) -> Result<(Init, usize), ParseError> {
         init(alloc, tokens, at)
     }
 }
 
 /// The variable of an object that adopts, in parentheses, if one comes next.
+#[tactic(auto, using(crate::proofs::Sides::owner_some, crate::proofs::Sides::owner_none))]
 fn owner(
     alloc: Global,
     tokens: &[Token<'_>],
@@ -85,6 +95,7 @@ fn owner(
     requires { at ≤ length tokens.now }
     ensures spelled { IfOk result (λ x. left tokens.now at ≡ owner_then (option_of name_of x.0) (left tokens.now x.1)) }
     ensures moves { IfOk result (λ x. Stays tokens.now at x.1) }
+    ensures place { Follows (machine.owner ∷ []) (λ x. x.1) tokens.now at result }
 {
     match behind_sign(tokens, at, Mark::OpenParen) {
         Some(next) => {
@@ -107,6 +118,7 @@ fn make(
     ensures spelled { IfOk result (λ x. a_keyword New ∷ left tokens.now at ≡ right_then (right_of x.0) (left tokens.now x.1)) }
     ensures right { IfOk result (λ x. IsRight language (right_of x.0)) }
     ensures moves { IfOk result (λ x. Moves tokens.now at x.1) }
+    ensures place { Follows (machine.owner ∷ machine.named ∷ machine.sign OpenBrace ∷ machine.listed machine.an_init CloseBrace None ∷ []) (λ x. x.1) tokens.now at result }
 {
     let (owner, next) = owner(alloc, tokens, at)?;
     let (named, next) = named(alloc, tokens, next)?;
@@ -135,6 +147,7 @@ fn adopt(
     ensures spelled { IfOk result (λ x. a_keyword Adopt ∷ left tokens.now at ≡ right_then (right_of x.0) (left tokens.now x.1)) }
     ensures right { IfOk result (λ x. IsRight language (right_of x.0)) }
     ensures moves { IfOk result (λ x. Moves tokens.now at x.1) }
+    ensures place { Follows (machine.name ∷ machine.keyword Into ∷ machine.name ∷ []) (λ x. x.1) tokens.now at result }
 {
     let (variable, next) = name(alloc, tokens, at)?;
     let next = keyword(tokens, next, Word::Into)?;
@@ -151,7 +164,10 @@ fn adopt(
 }
 
 /// Whether a call begins here: a name and a `(`.
-fn begins_call(tokens: &[Token<'_>], at: usize) -> bool {
+fn begins_call(tokens: &[Token<'_>], at: usize) -> bool
+    ensures yes { result ≡ true → (next : ℕ) × Begins (a_sign OpenParen) (ahead tokens.now (at + 1)) (ahead tokens.now next) }
+    ensures no { result ≡ false → BeginsWith kinds.Name (ahead tokens.now at) (ahead tokens.now (at + 1)) → LacksSign OpenParen (ahead tokens.now (at + 1)) }
+{
     matches!(kind(tokens, at), Some(TokenKind::Name))
         && behind_sign(tokens, at + 1, Mark::OpenParen).is_some()
 }
@@ -160,15 +176,18 @@ fn begins_call(tokens: &[Token<'_>], at: usize) -> bool {
 fn no_arguments(tokens: &[Token<'_>], at: usize) -> Result<usize, ParseError>
     ensures spelled { IfOk result (λ next. left tokens.now at ≡ a_sign OpenParen ∷ a_sign CloseParen ∷ left tokens.now next) }
     ensures moves { IfOk result (λ next. Moves tokens.now at next) }
+    ensures place { Follows (machine.sign OpenParen ∷ machine.sign CloseParen ∷ []) (λ x. x) tokens.now at result }
 {
     let next = sign(tokens, at, Mark::OpenParen)?;
     sign(tokens, next, Mark::CloseParen)
 }
 
+#[tactic(auto, using(crate::proofs::Sides::right_build, crate::proofs::Sides::right_word, crate::proofs::Sides::right_call, crate::proofs::Sides::right_variable, crate::proofs::Runs::instead))]
 pub fn right(alloc: Global, tokens: &[Token<'_>], at: usize) -> Result<(Right, usize), ParseError>
     ensures spelled { IfOk result (λ x. left tokens.now at ≡ right_then (right_of x.0) (left tokens.now x.1)) }
     ensures right { IfOk result (λ x. IsRight language (right_of x.0)) }
     ensures moves { IfOk result (λ x. Moves tokens.now at x.1) }
+    ensures place { Follows (machine.right ∷ []) (λ x. x.1) tokens.now at result }
 {
     match kind(tokens, at) {
         Some(TokenKind::Tick) => {
@@ -197,6 +216,7 @@ pub fn right(alloc: Global, tokens: &[Token<'_>], at: usize) -> Result<(Right, u
 }
 
 /// What stands between `return` and its semicolon.
+#[tactic(auto, using(crate::proofs::Sides::returned_nothing, crate::proofs::Sides::returned_build))]
 pub fn returned(
     alloc: Global,
     tokens: &[Token<'_>],
@@ -206,6 +226,7 @@ pub fn returned(
     ensures spelled { IfOk result (λ x. left tokens.now at ≡ returned_then (returned_of x.0) (left tokens.now x.1)) }
     ensures right { IfOk result (λ x. IsReturned language (returned_of x.0)) }
     ensures moves { IfOk result (λ x. Stays tokens.now at x.1) }
+    ensures place { Follows (machine.returned ∷ []) (λ x. x.1) tokens.now at result }
 {
     match kind(tokens, at) {
         Some(TokenKind::Sign(Mark::Semicolon)) => Ok((Returned::Nothing, at)),

@@ -1,10 +1,15 @@
 //! Statements without blocks.
 
-ghost use Rattle.std.specs.Prelude.{◌≡◌, ◌∷◌, ◌<◌, length, IfOk};
+ghost use Rattle.std.specs.Prelude.{◌≡◌, ◌∷◌, [], ◌+◌, None, IfOk};
+ghost use Rattle.vlt_lexer.specs.declared.token.TokenKind.TheVariants as kinds;
+ghost use Rattle.vlt_lexer.specs.declared.token.Word.TheVariants.{Print, Return, Release, Become, Swap, Open, Into};
+ghost use Rattle.vlt_lexer.specs.declared.token.Mark.TheVariants.{OpenParen, CloseParen, Assign, Semicolon, Dot, At, Comma};
 ghost use Rattle.vlt_syntax.specs.Spelling.{condition_then, stmt_then};
 ghost use Rattle.vlt_syntax.specs.Grammar.{IsExpr, IsStmt, language};
 ghost use Rattle.vlt_syntax.specs.View.{expr_of, stmt_of};
+ghost use Rattle.vlt_syntax.specs.Machine as machine;
 ghost use Rattle.vlt_parser.specs.Reading.{left, Moves, IsSimple};
+ghost use Rattle.vlt_parser.specs.Ahead.{ahead, BeginsWith, Follows};
 
 use crate::error::ParseError;
 use crate::exprs::expr;
@@ -25,6 +30,7 @@ pub fn condition(
     ensures spelled { IfOk result (λ x. left tokens.now at ≡ condition_then (expr_of x.0) (left tokens.now x.1)) }
     ensures right { IfOk result (λ x. IsExpr language (expr_of x.0)) }
     ensures moves { IfOk result (λ x. Moves tokens.now at x.1) }
+    ensures place { Follows (machine.sign OpenParen ∷ machine.thing machine.an_expr ∷ machine.sign CloseParen ∷ []) (λ x. x.1) tokens.now at result }
 {
     let next = sign(tokens, at, Mark::OpenParen)?;
     let (found, next) = expr(alloc, tokens, next)?;
@@ -37,6 +43,7 @@ fn declare(alloc: Global, tokens: &[Token<'_>], at: usize) -> Result<(Stmt, usiz
     ensures spelled { IfOk result (λ x. left tokens.now at ≡ stmt_then (stmt_of x.0) (left tokens.now x.1)) }
     ensures right { IfOk result (λ x. IsSimple (stmt_of x.0)) }
     ensures moves { IfOk result (λ x. Moves tokens.now at x.1) }
+    ensures place { Follows (machine.thing machine.a_ty ∷ machine.name ∷ machine.sign Assign ∷ machine.right ∷ machine.sign Semicolon ∷ []) (λ x. x.1) tokens.now at result }
 {
     let (ty, next) = ty(alloc, tokens, at)?;
     let (name, next) = name(alloc, tokens, next)?;
@@ -60,6 +67,7 @@ fn assign(alloc: Global, tokens: &[Token<'_>], at: usize) -> Result<(Stmt, usize
     ensures spelled { IfOk result (λ x. left tokens.now at ≡ stmt_then (stmt_of x.0) (left tokens.now x.1)) }
     ensures right { IfOk result (λ x. IsSimple (stmt_of x.0)) }
     ensures moves { IfOk result (λ x. Moves tokens.now at x.1) }
+    ensures place { Follows (machine.name ∷ machine.sign Assign ∷ machine.right ∷ machine.sign Semicolon ∷ []) (λ x. x.1) tokens.now at result }
 {
     let (name, next) = name(alloc, tokens, at)?;
     let next = sign(tokens, next, Mark::Assign)?;
@@ -74,6 +82,7 @@ fn put(alloc: Global, tokens: &[Token<'_>], at: usize) -> Result<(Stmt, usize), 
     ensures spelled { IfOk result (λ x. left tokens.now at ≡ stmt_then (stmt_of x.0) (left tokens.now x.1)) }
     ensures right { IfOk result (λ x. IsSimple (stmt_of x.0)) }
     ensures moves { IfOk result (λ x. Moves tokens.now at x.1) }
+    ensures place { Follows (machine.name ∷ machine.sign Dot ∷ machine.name ∷ machine.sign Assign ∷ machine.thing machine.an_expr ∷ machine.sign Semicolon ∷ []) (λ x. x.1) tokens.now at result }
 {
     let (base, next) = name(alloc, tokens, at)?;
     let next = sign(tokens, next, Mark::Dot)?;
@@ -98,6 +107,7 @@ fn call_stmt(alloc: Global, tokens: &[Token<'_>], at: usize) -> Result<(Stmt, us
     ensures spelled { IfOk result (λ x. left tokens.now at ≡ stmt_then (stmt_of x.0) (left tokens.now x.1)) }
     ensures right { IfOk result (λ x. IsSimple (stmt_of x.0)) }
     ensures moves { IfOk result (λ x. Moves tokens.now at x.1) }
+    ensures place { Follows (machine.name ∷ machine.sign OpenParen ∷ machine.listed machine.an_expr CloseParen None ∷ machine.sign Semicolon ∷ []) (λ x. x.1) tokens.now at result }
 {
     let (called, next) = call(alloc, tokens, at)?;
     let next = sign(tokens, next, Mark::Semicolon)?;
@@ -106,11 +116,13 @@ fn call_stmt(alloc: Global, tokens: &[Token<'_>], at: usize) -> Result<(Stmt, us
 }
 
 /// A statement that begins with a name.
+#[tactic(auto, using(crate::proofs::Statements::stmt_assigns, crate::proofs::Statements::stmt_puts, crate::proofs::Statements::stmt_calls, crate::proofs::Statements::stmt_declares, crate::proofs::Runs::instead))]
 fn named_stmt(alloc: Global, tokens: &[Token<'_>], at: usize) -> Result<(Stmt, usize), ParseError>
-    requires { at < length tokens.now }
+    requires { BeginsWith kinds.Name (ahead tokens.now at) (ahead tokens.now (at + 1)) }
     ensures spelled { IfOk result (λ x. left tokens.now at ≡ stmt_then (stmt_of x.0) (left tokens.now x.1)) }
     ensures right { IfOk result (λ x. IsSimple (stmt_of x.0)) }
     ensures moves { IfOk result (λ x. Moves tokens.now at x.1) }
+    ensures place { Follows (machine.name ∷ machine.behind_stmt_name ∷ []) (λ x. x.1) tokens.now at result }
 {
     match next_sign(tokens, at + 1) {
         Some(Mark::Assign) => assign(alloc, tokens, at),
@@ -125,6 +137,7 @@ fn print(alloc: Global, tokens: &[Token<'_>], at: usize) -> Result<(Stmt, usize)
     ensures spelled { IfOk result (λ x. left tokens.now at ≡ stmt_then (stmt_of x.0) (left tokens.now x.1)) }
     ensures right { IfOk result (λ x. IsSimple (stmt_of x.0)) }
     ensures moves { IfOk result (λ x. Moves tokens.now at x.1) }
+    ensures place { Follows (machine.keyword Print ∷ machine.sign OpenParen ∷ machine.thing machine.an_expr ∷ machine.sign CloseParen ∷ machine.sign Semicolon ∷ []) (λ x. x.1) tokens.now at result }
 {
     let next = keyword(tokens, at, Word::Print)?;
     let (value, next) = condition(alloc, tokens, next)?;
@@ -138,6 +151,7 @@ fn return_stmt(alloc: Global, tokens: &[Token<'_>], at: usize) -> Result<(Stmt, 
     ensures spelled { IfOk result (λ x. left tokens.now at ≡ stmt_then (stmt_of x.0) (left tokens.now x.1)) }
     ensures right { IfOk result (λ x. IsSimple (stmt_of x.0)) }
     ensures moves { IfOk result (λ x. Moves tokens.now at x.1) }
+    ensures place { Follows (machine.keyword Return ∷ machine.returned ∷ machine.sign Semicolon ∷ []) (λ x. x.1) tokens.now at result }
 {
     let next = keyword(tokens, at, Word::Return)?;
     let (value, next) = returned(alloc, tokens, next)?;
@@ -146,26 +160,12 @@ fn return_stmt(alloc: Global, tokens: &[Token<'_>], at: usize) -> Result<(Stmt, 
     Ok((Stmt::Return(value, at), next))
 }
 
-/// `break;` or `continue;`
-fn jump(tokens: &[Token<'_>], at: usize) -> Result<(Stmt, usize), ParseError>
-    ensures spelled { IfOk result (λ x. left tokens.now at ≡ stmt_then (stmt_of x.0) (left tokens.now x.1)) }
-    ensures right { IfOk result (λ x. IsSimple (stmt_of x.0)) }
-    ensures moves { IfOk result (λ x. Moves tokens.now at x.1) }
-{
-    if let Some(TokenKind::Keyword(Word::Break)) = kind(tokens, at) {
-        let next = sign(tokens, at + 1, Mark::Semicolon)?;
-        return Ok((Stmt::Break(span(tokens, at, next)), next));
-    }
-    let next = keyword(tokens, at, Word::Continue)?;
-    let next = sign(tokens, next, Mark::Semicolon)?;
-    Ok((Stmt::Continue(span(tokens, at, next)), next))
-}
-
 /// `release x;`
 fn release(alloc: Global, tokens: &[Token<'_>], at: usize) -> Result<(Stmt, usize), ParseError>
     ensures spelled { IfOk result (λ x. left tokens.now at ≡ stmt_then (stmt_of x.0) (left tokens.now x.1)) }
     ensures right { IfOk result (λ x. IsSimple (stmt_of x.0)) }
     ensures moves { IfOk result (λ x. Moves tokens.now at x.1) }
+    ensures place { Follows (machine.keyword Release ∷ machine.name ∷ machine.sign Semicolon ∷ []) (λ x. x.1) tokens.now at result }
 {
     let next = keyword(tokens, at, Word::Release)?;
     let (variable, next) = name(alloc, tokens, next)?;
@@ -179,6 +179,7 @@ fn change_state(alloc: Global, tokens: &[Token<'_>], at: usize) -> Result<(Stmt,
     ensures spelled { IfOk result (λ x. left tokens.now at ≡ stmt_then (stmt_of x.0) (left tokens.now x.1)) }
     ensures right { IfOk result (λ x. IsSimple (stmt_of x.0)) }
     ensures moves { IfOk result (λ x. Moves tokens.now at x.1) }
+    ensures place { Follows (machine.keyword Become ∷ machine.name ∷ machine.sign At ∷ machine.name ∷ machine.sign Semicolon ∷ []) (λ x. x.1) tokens.now at result }
 {
     let next = keyword(tokens, at, Word::Become)?;
     let (variable, next) = name(alloc, tokens, next)?;
@@ -201,6 +202,7 @@ fn swap(alloc: Global, tokens: &[Token<'_>], at: usize) -> Result<(Stmt, usize),
     ensures spelled { IfOk result (λ x. left tokens.now at ≡ stmt_then (stmt_of x.0) (left tokens.now x.1)) }
     ensures right { IfOk result (λ x. IsSimple (stmt_of x.0)) }
     ensures moves { IfOk result (λ x. Moves tokens.now at x.1) }
+    ensures place { Follows (machine.keyword Swap ∷ machine.name ∷ machine.sign Dot ∷ machine.name ∷ machine.sign Comma ∷ machine.name ∷ machine.sign Semicolon ∷ []) (λ x. x.1) tokens.now at result }
 {
     let next = keyword(tokens, at, Word::Swap)?;
     let (base, next) = name(alloc, tokens, next)?;
@@ -226,6 +228,7 @@ fn open(alloc: Global, tokens: &[Token<'_>], at: usize) -> Result<(Stmt, usize),
     ensures spelled { IfOk result (λ x. left tokens.now at ≡ stmt_then (stmt_of x.0) (left tokens.now x.1)) }
     ensures right { IfOk result (λ x. IsSimple (stmt_of x.0)) }
     ensures moves { IfOk result (λ x. Moves tokens.now at x.1) }
+    ensures place { Follows (machine.keyword Open ∷ machine.name ∷ machine.keyword Into ∷ machine.sign OpenParen ∷ machine.name ∷ machine.further machine.a_name CloseParen None ∷ machine.sign Semicolon ∷ []) (λ x. x.1) tokens.now at result }
 {
     let next = keyword(tokens, at, Word::Open)?;
     let (variable, next) = name(alloc, tokens, next)?;
@@ -245,17 +248,26 @@ fn open(alloc: Global, tokens: &[Token<'_>], at: usize) -> Result<(Stmt, usize),
 }
 
 /// A statement without blocks.
+#[tactic(auto, using(crate::proofs::Statements::simple_named, crate::proofs::Statements::simple_word, crate::proofs::Runs::instead))]
 pub fn simple(alloc: Global, tokens: &[Token<'_>], at: usize) -> Result<(Stmt, usize), ParseError>
     ensures spelled { IfOk result (λ x. left tokens.now at ≡ stmt_then (stmt_of x.0) (left tokens.now x.1)) }
     ensures right { IfOk result (λ x. IsSimple (stmt_of x.0)) }
     ensures moves { IfOk result (λ x. Moves tokens.now at x.1) }
+    ensures place { Follows (machine.thing machine.a_simple ∷ []) (λ x. x.1) tokens.now at result }
 {
     match kind(tokens, at) {
         Some(TokenKind::Name) => named_stmt(alloc, tokens, at),
         Some(TokenKind::Keyword(word)) => match word {
             Word::Print => print(alloc, tokens, at),
             Word::Return => return_stmt(alloc, tokens, at),
-            Word::Break | Word::Continue => jump(tokens, at),
+            Word::Break => {
+                let next = sign(tokens, at + 1, Mark::Semicolon)?;
+                Ok((Stmt::Break(span(tokens, at, next)), next))
+            }
+            Word::Continue => {
+                let next = sign(tokens, at + 1, Mark::Semicolon)?;
+                Ok((Stmt::Continue(span(tokens, at, next)), next))
+            }
             Word::Release => release(alloc, tokens, at),
             Word::Become => change_state(alloc, tokens, at),
             Word::Swap => swap(alloc, tokens, at),

@@ -1,14 +1,20 @@
 //! Statements with blocks. `room` is how many more blocks may stand in one another where a part stands.
 
-ghost use Rattle.std.specs.Prelude.{◌≡◌, ◌∷◌, [], ◌-◌, ◌≤◌, length, IfOk, OnOk};
-ghost use Rattle.vlt_lexer.specs.declared.token.Mark.TheVariants.{CloseBrace};
+ghost use Rattle.std.specs.Prelude.{◌≡◌, ◌∷◌, [], ◌-◌, ◌≤◌, length, ◌+◌, IfOk, IfErr, OnOk};
+ghost use Rattle.vlt_lexer.specs.declared.token.TokenKind.TheVariants as kinds;
+ghost use Rattle.vlt_lexer.specs.declared.token.Word.TheVariants as words;
+ghost use Rattle.vlt_lexer.specs.declared.token.Mark.TheVariants.{OpenParen, CloseParen, CloseBrace};
 ghost use Rattle.vlt_syntax.specs.Tokens.{sign as a_sign};
 ghost use Rattle.vlt_syntax.specs.Spelling.{stmt_then, block_then, if_then, else_then, arms_then};
 ghost use Rattle.vlt_syntax.specs.Grammar.{IsStmt, IsBlock, IsIf, IsElse, IsSomeArm, AreArms, language};
 ghost use Rattle.vlt_syntax.specs.View.{stmt_of, block_of, if_of, else_of, arm_of, arms_of, arms_made, name_of};
+ghost use Rattle.vlt_parser.specs.declared.error.ParseError.TheVariants.{Limit};
+ghost use Rattle.vlt_syntax.specs.Machine as machine;
 ghost use Rattle.vlt_parser.specs.Reading.{left, Moves, Stays, focus_then};
+ghost use Rattle.vlt_parser.specs.Ahead.{ahead, BeginsWith, Follows};
 
 use crate::error::ParseError;
+use crate::limits::DEPTH;
 use crate::lists::enclosed;
 use crate::simple::{condition, simple};
 use crate::tokens::{behind_sign, case_name, keyword, kind, name, sign, span};
@@ -17,12 +23,10 @@ use vlt_base::{Boxed, Items};
 use vlt_lexer::{Mark, Token, TokenKind, Word};
 use vlt_syntax::{Arm, Block, Else, If, Name, Stmt};
 
-/// The limit on the depth.
-const DEPTH: u8 = 12;
-
 /// Whether one more block may stand here.
 fn enter(room: usize) -> Result<(), ParseError>
-    ensures { OnOk result (1 ≤ room) }
+    ensures some { OnOk result (1 ≤ room) }
+    ensures full { IfErr result (λ e. (room ≡ 0) × (e ≡ Limit 12)) }
 {
     if room == 0 {
         return Err(ParseError::Limit(DEPTH));
@@ -46,6 +50,7 @@ fn focus_head(
 ) -> Result<(FocusHead, usize), ParseError>
     ensures spelled { IfOk result (λ x. left tokens.now at ≡ focus_then (name_of x.0.variable) (name_of x.0.key) (name_of x.0.alias) (left tokens.now x.1)) }
     ensures moves { IfOk result (λ x. Moves tokens.now at x.1) }
+    ensures place { Follows (machine.keyword words.Focus ∷ machine.name ∷ machine.keyword words.As ∷ machine.keyword words.Tracked ∷ machine.sign OpenParen ∷ machine.name ∷ machine.sign CloseParen ∷ machine.name ∷ []) (λ x. x.1) tokens.now at result }
 {
     let next = keyword(tokens, at, Word::Focus)?;
     let (variable, next) = name(alloc, tokens, next)?;
@@ -66,6 +71,7 @@ fn focus_head(
 }
 
 /// A block, where one may stand.
+#[tactic(auto, using(crate::proofs::Blocks::block_is, crate::proofs::Blocks::stmts_closed))]
 #[cycle(statements)]
 pub fn block(
     alloc: Global,
@@ -77,6 +83,7 @@ pub fn block(
     ensures spelled { IfOk result (λ x. left tokens.now at ≡ block_then (block_of x.0) (left tokens.now x.1)) }
     ensures right { IfOk result (λ x. IsBlock language room (block_of x.0)) }
     ensures moves { IfOk result (λ x. Moves tokens.now at x.1) }
+    ensures place { Follows (machine.block room ∷ []) (λ x. x.1) tokens.now at result }
 {
     let inside = sign(tokens, at, Mark::OpenBrace)?;
     let mut stmts = Items::new(alloc);
@@ -92,6 +99,7 @@ pub fn block(
     }
 }
 
+#[tactic(auto, using(crate::proofs::Blocks::stmt_block, crate::proofs::Blocks::stmt_too_deep, crate::proofs::Blocks::stmt_simple, crate::proofs::Runs::instead))]
 #[cycle(statements)]
 fn stmt(
     alloc: Global,
@@ -102,6 +110,7 @@ fn stmt(
     ensures spelled { IfOk result (λ x. left tokens.now at ≡ stmt_then (stmt_of x.0) (left tokens.now x.1)) }
     ensures right { IfOk result (λ x. IsStmt language room (stmt_of x.0)) }
     ensures moves { IfOk result (λ x. Moves tokens.now at x.1) }
+    ensures place { Follows (machine.thing (machine.a_stmt room) ∷ []) (λ x. x.1) tokens.now at result }
 {
     match kind(tokens, at) {
         Some(TokenKind::Sign(Mark::OpenBrace)) => {
@@ -121,6 +130,7 @@ fn stmt(
 }
 
 /// An `if`, which stands here or behind an `else`.
+#[tactic(auto, using(crate::proofs::Blocks::stmt_enters, crate::proofs::Blocks::stmt_too_deep))]
 #[cycle(statements)]
 fn if_stmt(
     alloc: Global,
@@ -128,9 +138,11 @@ fn if_stmt(
     at: usize,
     room: usize,
 ) -> Result<(If, usize), ParseError>
+    requires { BeginsWith (kinds.Keyword words.If) (ahead tokens.now at) (ahead tokens.now (at + 1)) }
     ensures spelled { IfOk result (λ x. left tokens.now at ≡ if_then (if_of x.0) (left tokens.now x.1)) }
     ensures right { IfOk result (λ x. IsIf language room (if_of x.0)) }
     ensures moves { IfOk result (λ x. Moves tokens.now at x.1) }
+    ensures place { Follows (machine.thing (machine.a_stmt room) ∷ []) (λ x. x.1) tokens.now at result }
 {
     let next = keyword(tokens, at, Word::If)?;
     enter(room)?;
@@ -150,6 +162,7 @@ fn if_stmt(
 }
 
 /// What stands behind `else`, if that comes next.
+#[tactic(auto, using(crate::proofs::Blocks::otherwise_some, crate::proofs::Blocks::otherwise_none, crate::proofs::Blocks::else_if, crate::proofs::Blocks::else_block))]
 #[cycle(statements)]
 fn otherwise(
     alloc: Global,
@@ -162,6 +175,7 @@ fn otherwise(
     ensures spelled { IfOk result (λ x. left tokens.now at ≡ else_then (else_of x.0) (left tokens.now x.1)) }
     ensures right { IfOk result (λ x. IsElse language room (else_of x.0)) }
     ensures moves { IfOk result (λ x. Stays tokens.now at x.1) }
+    ensures place { Follows (machine.otherwise room ∷ []) (λ x. x.1) tokens.now at result }
 {
     let Ok(next) = keyword(tokens, at, Word::Else) else {
         return Ok((Else::Nothing, at));
@@ -174,6 +188,7 @@ fn otherwise(
     Ok((Else::Last(last), next))
 }
 
+#[tactic(auto, using(crate::proofs::Blocks::stmt_enters, crate::proofs::Blocks::stmt_too_deep))]
 #[cycle(statements)]
 fn while_stmt(
     alloc: Global,
@@ -181,9 +196,11 @@ fn while_stmt(
     at: usize,
     room: usize,
 ) -> Result<(Stmt, usize), ParseError>
+    requires { BeginsWith (kinds.Keyword words.While) (ahead tokens.now at) (ahead tokens.now (at + 1)) }
     ensures spelled { IfOk result (λ x. left tokens.now at ≡ stmt_then (stmt_of x.0) (left tokens.now x.1)) }
     ensures right { IfOk result (λ x. IsStmt language room (stmt_of x.0)) }
     ensures moves { IfOk result (λ x. Moves tokens.now at x.1) }
+    ensures place { Follows (machine.thing (machine.a_stmt room) ∷ []) (λ x. x.1) tokens.now at result }
 {
     let next = keyword(tokens, at, Word::While)?;
     enter(room)?;
@@ -200,6 +217,7 @@ fn while_stmt(
     ))
 }
 
+#[tactic(auto, using(crate::proofs::Blocks::focus_is, crate::proofs::Blocks::stmt_too_deep))]
 #[cycle(statements)]
 fn focus(
     alloc: Global,
@@ -207,9 +225,11 @@ fn focus(
     at: usize,
     room: usize,
 ) -> Result<(Stmt, usize), ParseError>
+    requires { BeginsWith (kinds.Keyword words.Focus) (ahead tokens.now at) (ahead tokens.now (at + 1)) }
     ensures spelled { IfOk result (λ x. left tokens.now at ≡ stmt_then (stmt_of x.0) (left tokens.now x.1)) }
     ensures right { IfOk result (λ x. IsStmt language room (stmt_of x.0)) }
     ensures moves { IfOk result (λ x. Moves tokens.now at x.1) }
+    ensures place { Follows (machine.thing (machine.a_stmt room) ∷ []) (λ x. x.1) tokens.now at result }
 {
     enter(room)?;
     let (head, next) = focus_head(alloc, tokens, at)?;
@@ -227,6 +247,7 @@ fn focus(
     ))
 }
 
+#[tactic(auto, using(crate::proofs::Blocks::stmt_enters, crate::proofs::Blocks::stmt_too_deep))]
 #[cycle(statements)]
 fn switch(
     alloc: Global,
@@ -234,9 +255,11 @@ fn switch(
     at: usize,
     room: usize,
 ) -> Result<(Stmt, usize), ParseError>
+    requires { BeginsWith (kinds.Keyword words.Switch) (ahead tokens.now at) (ahead tokens.now (at + 1)) }
     ensures spelled { IfOk result (λ x. left tokens.now at ≡ stmt_then (stmt_of x.0) (left tokens.now x.1)) }
     ensures right { IfOk result (λ x. IsStmt language room (stmt_of x.0)) }
     ensures moves { IfOk result (λ x. Moves tokens.now at x.1) }
+    ensures place { Follows (machine.thing (machine.a_stmt room) ∷ []) (λ x. x.1) tokens.now at result }
 {
     let next = keyword(tokens, at, Word::Switch)?;
     enter(room)?;
@@ -250,6 +273,7 @@ fn switch(
 }
 
 /// The arms of a `switch`, up to the closing brace.
+#[tactic(auto, using(crate::proofs::Blocks::arms_closed))]
 #[cycle(statements)]
 fn arms(
     alloc: Global,
@@ -262,6 +286,7 @@ fn arms(
     ensures some { IfOk result (λ x. IsSomeArm (arms_of x.0)) }
     ensures right { IfOk result (λ x. AreArms language room (arms_of x.0)) }
     ensures moves { IfOk result (λ x. Moves tokens.now at x.1) }
+    ensures place { Follows (machine.arm room ∷ machine.arms room ∷ []) (λ x. x.1) tokens.now at result }
 {
     let mut arms = Items::new(alloc);
     let mut here = at;
@@ -275,6 +300,7 @@ fn arms(
     }
 }
 
+#[tactic(auto, using(crate::proofs::Blocks::arm_is))]
 #[cycle(statements)]
 fn arm(
     alloc: Global,
@@ -286,6 +312,7 @@ fn arm(
     ensures spelled { IfOk result (λ x. left tokens.now at ≡ arms_then (arms_made (arm_of x.0 ∷ [])) (left tokens.now x.1)) }
     ensures right { IfOk result (λ x. AreArms language room (arms_made (arm_of x.0 ∷ []))) }
     ensures moves { IfOk result (λ x. Moves tokens.now at x.1) }
+    ensures place { Follows (machine.arm room ∷ []) (λ x. x.1) tokens.now at result }
 {
     let next = keyword(tokens, at, Word::Case)?;
     let (case, next) = case_name(alloc, tokens, next)?;

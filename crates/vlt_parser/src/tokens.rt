@@ -1,11 +1,13 @@
 //! Single tokens. Each part of the parser takes the position of a token, counted from 0, and answers what it
 //! read with the position behind it.
 
-ghost use Rattle.std.specs.Prelude.{◌≡◌, ◌∷◌, ◌+◌, ℕ, List, IfOk, IfSome};
+ghost use Rattle.std.specs.Prelude.{◌≡◌, ◌∷◌, [], ◌+◌, ℕ, List, IfOk, IfErr, IfSome, IfNone};
 ghost use Rattle.vlt_syntax.specs.Tokens.{token_from, sign as a_sign, keyword as a_keyword};
 ghost use Rattle.vlt_syntax.specs.Spelling.{name_then, case_name_then};
 ghost use Rattle.vlt_syntax.specs.View.{name_of};
-ghost use Rattle.vlt_parser.specs.Reading.{left, first_sign, Moves};
+ghost use Rattle.vlt_syntax.specs.Machine as machine;
+ghost use Rattle.vlt_parser.specs.Reading.{left, Moves};
+ghost use Rattle.vlt_parser.specs.Ahead.{ahead, first_sign, Begins, BeginsWith, LacksSign, LacksKeyword, refusal, Follows};
 
 use crate::error::ParseError;
 use std::alloc::Global;
@@ -14,7 +16,9 @@ use vlt_lexer::{Mark, Token, TokenKind, Word};
 use vlt_syntax::Name;
 
 /// Why nothing goes on with the token at a position.
-pub fn unexpected(tokens: &[Token<'_>], at: usize) -> ParseError {
+pub fn unexpected(tokens: &[Token<'_>], at: usize) -> ParseError
+    ensures { result ≡ refusal (ahead tokens.now at) }
+{
     match tokens.get(at) {
         Some(token) => ParseError::Unexpected(token.at.from),
         None => ParseError::EndOfText,
@@ -25,15 +29,18 @@ pub fn unexpected(tokens: &[Token<'_>], at: usize) -> ParseError {
 pub fn kind(tokens: &[Token<'_>], at: usize) -> Option<TokenKind>
     ensures here { IfSome result (λ kind. (text : List ℕ) × (left tokens.now at ≡ token_from kind text ∷ left tokens.now (at + 1))) }
     ensures within { IfSome result (λ kind. Moves tokens.now at (at + 1)) }
+    ensures ahead { IfSome result (λ kind. BeginsWith kind (ahead tokens.now at) (ahead tokens.now (at + 1))) }
+    ensures none { IfNone result (ahead tokens.now at ≡ []) }
 {
     Some(tokens.get(at)?.kind)
 }
 
 /// The sign at a position, where there is one.
 pub fn next_sign(tokens: &[Token<'_>], at: usize) -> Option<Mark>
-    ensures which { result ≡ first_sign (left tokens.now at) }
+    ensures which { result ≡ first_sign (ahead tokens.now at) }
     ensures here { IfSome result (λ mark. left tokens.now at ≡ a_sign mark ∷ left tokens.now (at + 1)) }
     ensures within { IfSome result (λ mark. Moves tokens.now at (at + 1)) }
+    ensures ahead { IfSome result (λ mark. Begins (a_sign mark) (ahead tokens.now at) (ahead tokens.now (at + 1))) }
 {
     match tokens.get(at) {
         Some(
@@ -60,6 +67,8 @@ pub fn span(tokens: &[Token<'_>], from: usize, to: usize) -> Span
 pub fn behind_sign(tokens: &[Token<'_>], at: usize, mark: Mark) -> Option<usize>
     ensures spelled { IfSome result (λ next. left tokens.now at ≡ a_sign mark ∷ left tokens.now next) }
     ensures moves { IfSome result (λ next. Moves tokens.now at next) }
+    ensures ahead { IfSome result (λ next. Begins (a_sign mark) (ahead tokens.now at) (ahead tokens.now next)) }
+    ensures lacks { IfNone result (LacksSign mark (ahead tokens.now at)) }
 {
     match tokens.get(at)?.kind {
         TokenKind::Sign(found) if found == mark => Some(at + 1),
@@ -71,6 +80,9 @@ pub fn behind_sign(tokens: &[Token<'_>], at: usize, mark: Mark) -> Option<usize>
 pub fn sign(tokens: &[Token<'_>], at: usize, mark: Mark) -> Result<usize, ParseError>
     ensures spelled { IfOk result (λ next. left tokens.now at ≡ a_sign mark ∷ left tokens.now next) }
     ensures moves { IfOk result (λ next. Moves tokens.now at next) }
+    ensures place { Follows (machine.sign mark ∷ []) (λ next. next) tokens.now at result }
+    ensures takes { IfOk result (λ next. Begins (a_sign mark) (ahead tokens.now at) (ahead tokens.now next)) }
+    ensures lacks { IfErr result (λ e. (e ≡ refusal (ahead tokens.now at)) × LacksSign mark (ahead tokens.now at)) }
 {
     match behind_sign(tokens, at, mark) {
         Some(next) => Ok(next),
@@ -82,6 +94,9 @@ pub fn sign(tokens: &[Token<'_>], at: usize, mark: Mark) -> Result<usize, ParseE
 pub fn keyword(tokens: &[Token<'_>], at: usize, word: Word) -> Result<usize, ParseError>
     ensures spelled { IfOk result (λ next. left tokens.now at ≡ a_keyword word ∷ left tokens.now next) }
     ensures moves { IfOk result (λ next. Moves tokens.now at next) }
+    ensures place { Follows (machine.keyword word ∷ []) (λ next. next) tokens.now at result }
+    ensures takes { IfOk result (λ next. Begins (a_keyword word) (ahead tokens.now at) (ahead tokens.now next)) }
+    ensures lacks { IfErr result (λ e. (e ≡ refusal (ahead tokens.now at)) × LacksKeyword word (ahead tokens.now at)) }
 {
     match tokens.get(at) {
         Some(
@@ -97,6 +112,7 @@ pub fn keyword(tokens: &[Token<'_>], at: usize, word: Word) -> Result<usize, Par
 pub fn name(alloc: Global, tokens: &[Token<'_>], at: usize) -> Result<(Name, usize), ParseError>
     ensures spelled { IfOk result (λ x. left tokens.now at ≡ name_then (name_of x.0) (left tokens.now x.1)) }
     ensures moves { IfOk result (λ x. Moves tokens.now at x.1) }
+    ensures place { Follows (machine.name ∷ []) (λ x. x.1) tokens.now at result }
 {
     match tokens.get(at) {
         Some(token) if matches!(token.kind, TokenKind::Name) => {
@@ -115,6 +131,7 @@ pub fn case_name(
 ) -> Result<(Name, usize), ParseError>
     ensures spelled { IfOk result (λ x. left tokens.now at ≡ case_name_then (name_of x.0) (left tokens.now x.1)) }
     ensures moves { IfOk result (λ x. Moves tokens.now at x.1) }
+    ensures place { Follows (machine.tick ∷ []) (λ x. x.1) tokens.now at result }
 {
     match tokens.get(at) {
         Some(token) if matches!(token.kind, TokenKind::Tick) => {

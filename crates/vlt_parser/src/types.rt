@@ -1,13 +1,15 @@
 //! States, keys with their states, and types.
 
-ghost use Rattle.std.specs.Prelude.{◌≡◌, ◌∷◌, ◌≤◌, length, IfOk, Option, Some, None};
+ghost use Rattle.std.specs.Prelude.{◌≡◌, ◌∷◌, [], ◌≤◌, length, IfOk, Option, Some, None};
 ghost use Rattle.vlt_lexer.specs.declared.token.Word.TheVariants.{Tracked};
 ghost use Rattle.vlt_syntax.specs.Tokens.{keyword as a_keyword};
 ghost use Rattle.vlt_syntax.specs.Tree.{KeyStates as SeenKeyStates, Ty as SeenTy};
 ghost use Rattle.vlt_syntax.specs.Spelling.{states_then, at_states_then, marked_name_then, key_states_then, named_then, ty_then};
 ghost use Rattle.vlt_syntax.specs.Grammar.{IfGiven, IsStates, IsKeyStates, IsTy};
 ghost use Rattle.vlt_syntax.specs.View.{option_of, name_of, states_of, key_states_of, named_of, ty_of};
+ghost use Rattle.vlt_syntax.specs.Machine as machine;
 ghost use Rattle.vlt_parser.specs.Reading.{left, Moves, Stays};
+ghost use Rattle.vlt_parser.specs.Ahead.{Follows};
 
 use crate::error::ParseError;
 use crate::lists::{Part, enclosed, some_listed};
@@ -17,6 +19,7 @@ use vlt_lexer::{Mark, Token, TokenKind, Word};
 use vlt_syntax::{KeyStates, Name, Named, States, Ty};
 
 /// A sign and the name behind it, if the sign comes next.
+#[tactic(auto, using(crate::proofs::Runs::marked_some, crate::proofs::Runs::marked_none))]
 pub fn marked_name(
     alloc: Global,
     tokens: &[Token<'_>],
@@ -26,6 +29,7 @@ pub fn marked_name(
     requires { at ≤ length tokens.now }
     ensures spelled { IfOk result (λ x. left tokens.now at ≡ marked_name_then mark (option_of name_of x.0) (left tokens.now x.1)) }
     ensures moves { IfOk result (λ x. Stays tokens.now at x.1) }
+    ensures place { Follows (machine.marked_name mark ∷ []) (λ x. x.1) tokens.now at result }
 {
     match behind_sign(tokens, at, mark) {
         Some(next) => {
@@ -37,10 +41,12 @@ pub fn marked_name(
 }
 
 /// One state, or some between braces.
+#[tactic(auto, using(crate::proofs::Runs::states_several, crate::proofs::Runs::states_one))]
 pub fn states(alloc: Global, tokens: &[Token<'_>], at: usize) -> Result<(States, usize), ParseError>
     ensures spelled { IfOk result (λ x. left tokens.now at ≡ states_then (states_of x.0) (left tokens.now x.1)) }
     ensures right { IfOk result (λ x. IsStates (states_of x.0)) }
     ensures moves { IfOk result (λ x. Moves tokens.now at x.1) }
+    ensures place { Follows (machine.states ∷ []) (λ x. x.1) tokens.now at result }
 {
     match behind_sign(tokens, at, Mark::OpenBrace) {
         Some(inside) => {
@@ -55,6 +61,7 @@ pub fn states(alloc: Global, tokens: &[Token<'_>], at: usize) -> Result<(States,
 }
 
 /// `@` and states, if the sign comes next.
+#[tactic(auto, using(crate::proofs::Runs::at_states_some, crate::proofs::Runs::at_states_none))]
 pub fn at_states(
     alloc: Global,
     tokens: &[Token<'_>],
@@ -64,6 +71,7 @@ pub fn at_states(
     ensures spelled { IfOk result (λ x. left tokens.now at ≡ at_states_then (option_of states_of x.0) (left tokens.now x.1)) }
     ensures right { IfOk result (λ x. IfGiven IsStates (option_of states_of x.0)) }
     ensures moves { IfOk result (λ x. Stays tokens.now at x.1) }
+    ensures place { Follows (machine.at_states ∷ []) (λ x. x.1) tokens.now at result }
 {
     match behind_sign(tokens, at, Mark::At) {
         Some(next) => {
@@ -75,6 +83,7 @@ pub fn at_states(
 }
 
 /// A key, and the states in which it is held.
+#[tactic(auto, using(crate::proofs::Runs::key_is))]
 pub fn key_states(
     alloc: Global,
     tokens: &[Token<'_>],
@@ -83,6 +92,7 @@ pub fn key_states(
     ensures spelled { IfOk result (λ x. left tokens.now at ≡ key_states_then (key_states_of x.0) (left tokens.now x.1)) }
     ensures right { IfOk result (λ x. IsKeyStates (key_states_of x.0)) }
     ensures moves { IfOk result (λ x. Moves tokens.now at x.1) }
+    ensures place { Follows (machine.thing machine.a_key ∷ []) (λ x. x.1) tokens.now at result }
 {
     let (key, next) = name(alloc, tokens, at)?;
     let (states, next) = at_states(alloc, tokens, next)?;
@@ -98,6 +108,8 @@ impl Part for KeyStates {
 
     ghost right = { IsKeyStates };
 
+    ghost thing = { machine.a_key };
+
     fn part(
         alloc: Global,
         tokens: &[Token<'_>],
@@ -108,9 +120,11 @@ impl Part for KeyStates {
 }
 
 /// The name of a type with its key arguments.
+#[tactic(auto, using(crate::proofs::Runs::named_is))]
 pub fn named(alloc: Global, tokens: &[Token<'_>], at: usize) -> Result<(Named, usize), ParseError>
     ensures spelled { IfOk result (λ x. left tokens.now at ≡ named_then (named_of x.0) (left tokens.now x.1)) }
     ensures moves { IfOk result (λ x. Moves tokens.now at x.1) }
+    ensures place { Follows (machine.named ∷ []) (λ x. x.1) tokens.now at result }
 {
     let (name, next) = name(alloc, tokens, at)?;
     let (keys, next) = enclosed(alloc, tokens, next, Mark::Less, Mark::Greater, None)?;
@@ -118,6 +132,7 @@ pub fn named(alloc: Global, tokens: &[Token<'_>], at: usize) -> Result<(Named, u
 }
 
 /// A tracked type, behind its word.
+#[tactic(auto, using(crate::proofs::Runs::tracked_keyed, crate::proofs::Runs::tracked_plain))]
 fn tracked(
     alloc: Global,
     tokens: &[Token<'_>],
@@ -128,6 +143,7 @@ fn tracked(
     ensures spelled { IfOk result (λ x. a_keyword Tracked ∷ left tokens.now at ≡ ty_then (ty_of x.0) (left tokens.now x.1)) }
     ensures right { IfOk result (λ x. IsTy (ty_of x.0)) }
     ensures moves { IfOk result (λ x. Moves tokens.now at x.1) }
+    ensures place { Follows (machine.behind_tracked ∷ []) (λ x. x.1) tokens.now at result }
 {
     if let Some(next) = behind_sign(tokens, at, Mark::OpenParen) {
         let (key, next) = name(alloc, tokens, next)?;
@@ -143,10 +159,12 @@ fn tracked(
 }
 
 /// A type that begins with a name.
+#[tactic(auto, using(crate::proofs::Runs::type_name_guards, crate::proofs::Runs::type_name_plain))]
 fn named_ty(alloc: Global, tokens: &[Token<'_>], at: usize) -> Result<(Ty, usize), ParseError>
     ensures spelled { IfOk result (λ x. left tokens.now at ≡ ty_then (ty_of x.0) (left tokens.now x.1)) }
     ensures right { IfOk result (λ x. IsTy (ty_of x.0)) }
     ensures moves { IfOk result (λ x. Moves tokens.now at x.1) }
+    ensures place { Follows (machine.name ∷ machine.behind_type_name ∷ []) (λ x. x.1) tokens.now at result }
 {
     let (first, next) = name(alloc, tokens, at)?;
     if let Some(next) = behind_sign(tokens, next, Mark::Colon) {
@@ -157,10 +175,12 @@ fn named_ty(alloc: Global, tokens: &[Token<'_>], at: usize) -> Result<(Ty, usize
     Ok((Ty::Plain(Named { name: first, keys }), next))
 }
 
+#[tactic(auto, using(crate::proofs::Runs::ty_word, crate::proofs::Runs::ty_named, crate::proofs::Runs::instead))]
 pub fn ty(alloc: Global, tokens: &[Token<'_>], at: usize) -> Result<(Ty, usize), ParseError>
     ensures spelled { IfOk result (λ x. left tokens.now at ≡ ty_then (ty_of x.0) (left tokens.now x.1)) }
     ensures right { IfOk result (λ x. IsTy (ty_of x.0)) }
     ensures moves { IfOk result (λ x. Moves tokens.now at x.1) }
+    ensures place { Follows (machine.thing machine.a_ty ∷ []) (λ x. x.1) tokens.now at result }
 {
     match kind(tokens, at) {
         Some(TokenKind::Keyword(Word::Int)) => Ok((Ty::Int(span(tokens, at, at + 1)), at + 1)),
@@ -179,6 +199,8 @@ impl Part for Ty {
     ghost spell = { ty_then };
 
     ghost right = { IsTy };
+
+    ghost thing = { machine.a_ty };
 
     fn part(alloc: Global, tokens: &[Token<'_>], at: usize) -> Result<(Ty, usize), ParseError> {
         ty(alloc, tokens, at)

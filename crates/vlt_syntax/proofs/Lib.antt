@@ -1,1 +1,3 @@
 pub mod Viewing
+pub mod Sameness
+mod Trials

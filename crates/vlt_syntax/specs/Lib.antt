@@ -4,3 +4,5 @@ pub mod View
 pub mod Lists
 pub mod Spelling
 pub mod Grammar
+pub mod Kinds
+pub mod Machine

@@ -5,6 +5,7 @@ use Rattle.vlt_lexer.specs.declared.token.Mark.{Mark}
 use Rattle.vlt_lexer.specs.declared.token.TokenKind.{TokenKind}
 use Rattle.vlt_lexer.specs.declared.token.TokenKind.TheVariants as kind
 use Rattle.vlt_lexer.specs.declared.token.Token.{Token as Placed}
+use Rattle.vlt_lexer.specs.Reading.{Lexeme}
 
 -- A token. Names have their bytes, ticks theirs with the `'`.
 pub data Token : Type 0 where
@@ -26,3 +27,7 @@ token_of t = token_from t.kind t.text.now
 
 abbrev pub tokens_of : List Placed → List Token
 tokens_of = map token_of
+
+-- the tokens of a text, without their places
+abbrev pub tokens_in : List Lexeme → List Token
+tokens_in = map (λ l. token_from l.kind l.text)

@@ -1,4 +1,4 @@
-use Rattle.vaultc_core.proofs.Ended.{grew_none}
+use Rattle.vaultc_core.proofs.Written.{grew_none}
 use Rattle.vaultc_core.proofs.finish.finish_unread.Goals as goal
 
 pub returns-in-Err-clause-memory : goal.returns-in-Err-clause-memory

@@ -1,77 +1,66 @@
-use Rattle.std.proofs.Common.{◌≡◌, inl, inr, ℕ, List, Option, Some, ap, subst}
-use Rattle.std.proofs.lemmas.Bool.Decides.{eqb_tells}
-use Rattle.std.specs.Prelude.{MatchOption}
-use Rattle.vlt_io.specs.Outside.{Files, MayFail}
+use Rattle.std.proofs.Common.{◌≡◌, ◌⊎◌, inl, inr, ℕ, List, [], Option, Some, ap, subst, rules, arith}
+use Rattle.std.proofs.lemmas.Grind.{common_steps}
+use Rattle.vlt_base.specs.Limits.{limit_of}
+use Rattle.vlt_io.specs.Outside.{Files, IsRead, MayFail, Grew, GrewByPart}
 use Rattle.vaultc_core.specs.Commands.{Command}
-use Rattle.vaultc_core.specs.Told.{ToldFile, ToldSource, Reply, reply, read_line, file_of, IsAnswer}
-use Rattle.vaultc_core.specs.Shown.{IsSourceOf}
+use Rattle.vaultc_core.specs.Lines.{Reply, read_line}
+use Rattle.vaultc_core.specs.Told.{ToldBytes, ToldFile, ToldText, MayBeWritten, file_of}
+use Rattle.vaultc_core.specs.Answers.{WrotePart, Answers}
 use Rattle.vaultc_core.specs.View.{seen_command}
-use Rattle.vaultc_core.specs.declared.judge.Source.{Source}
 use Rattle.vaultc_core.proofs.Replies.{told_read, one_reply}
+use Rattle.vaultc_core.proofs.Written.{answers_as, one_status, part_of_text}
 use Rattle.vaultc_core.proofs.top.carry_out.Goals as goal
 
--- the reply for the source of the command's file is one for the file
-of_file : (command : Command) (store : Option Files) (files : Files) (name : List ℕ) (s : Source) (r : Reply) → store ≡ Some files → name ≡ file_of command → (so : IsSourceOf store name s) → ToldSource command so.source r → ToldFile command (files (file_of command)) r
-of_file command store files name s r tells named so told =
-    subst (λ n. ToldFile command (files n) r) named (told_read command store files name so.bytes so.source r tells so.read so.is told)
+-- the reply for the bytes that were read of the command's file is one for the file
+of_file : (command : Command) (store : Option Files) (files : Files) (name bytes slice : List ℕ) (r : Reply) → store ≡ Some files → name ≡ file_of command → IsRead store name (limit_of 1) bytes → slice ≡ bytes → ToldBytes command slice r → ToldFile command (files (file_of command)) r
+of_file command store files name bytes slice r tells named read same told =
+    subst (λ n. ToldFile command (files n) r) named (told_read command store files name bytes r tells read (subst (λ b. ToldBytes command b r) same told))
 
-source_there : (store : Option Files) (name : List ℕ) (before after : ℕ) (o : Option Source) (s : Source) → o ≡ Some s → MatchOption o (MayFail store name before after) (λ x. IsSourceOf store name x) → IsSourceOf store name s
-source_there store name before after o s is found = subst (λ x. MatchOption x (MayFail store name before after) (λ y. IsSourceOf store name y)) is found
+text_or_none : (command : Command) (files : Files) (old new : Option (List ℕ)) → Grew old new [] ⊎ WrotePart (ToldFile command (files (file_of command))) old new → Grew old new [] ⊎ ((text : List ℕ) × ToldText (Some command) files text × GrewByPart old new text)
+text_or_none command files old new (inl none) = inl none
+text_or_none command files old new (inr part) = inr (part_of_text (ToldFile command (files (file_of command))) old new part)
 
-pub returns-in-Ok-Some-clause-told : goal.returns-in-Ok-Some-clause-told
-returns-in-Ok-Some-clause-told g c = λ files tells answer.
+may_be_written : (command : Command) (files : Files) (before after : ℕ) (old new : Option (List ℕ)) → WrotePart (ToldFile command (files (file_of command))) old new → (text : List ℕ) × MayBeWritten (Some command) files before after text × GrewByPart old new text
+may_be_written command files before after old new part =
+    let x = part_of_text (ToldFile command (files (file_of command))) old new part in
+    (x.0, inl x.1, x.2)
+
+-- the answers for the file's bytes are those for the file
+of_bytes : (command : Command) (store : Option Files) (files : Files) (name bytes slice : List ℕ) (status : ℕ) (old new : Option (List ℕ)) (before after : ℕ) → store ≡ Some files → name ≡ file_of command → IsRead store name (limit_of 1) bytes → slice ≡ bytes
+    → Answers (ToldBytes command slice) status old new before after → Answers (ToldFile command (files (file_of command))) status old new before after
+of_bytes command store files name bytes slice status old new before after tells named read same answers =
+    answers_as (ToldBytes command slice) (ToldFile command (files (file_of command))) status old new before after
+    (λ r told. of_file command store files name bytes slice r tells named read same told) answers
+
+pub returns-in-Ok : goal.returns-in-Ok
+returns-in-Ok g c =
     let command = seen_command c.args.command in
     let store = g.S.Store.files c.args.store.now in
     let name = c.file_of_command-name.result.now in
-    let so = source_there store name (g.S.Store.faults c.args.store.now) (g.S.Store.faults c.read_file.new.store) c.in-Ok-Some.field-0 c.in-Ok-Some.source c.in-Ok-Some.field-0-is c.in-Ok-Some.ensures.source in
-    let x = c.answer_source.ensures.told so.source so.shows answer in
-    (x.0, of_file command store files name c.in-Ok-Some.source (reply c.answer_source.result x.0) tells c.file_of_command-name.ensures so x.1, x.2)
+    let result = c.answer.result in
+    let old = g.K.Sink.written c.args.out.now in
+    let new = g.K.Sink.written c.answer.new.out in
+    let before = g.K.Sink.faults c.args.out.now in
+    let after = g.K.Sink.faults c.answer.new.out in
+    let read : IsRead store name (limit_of 1) c.in-Ok.bytes.items = first_of (search rules, grind (arith, common_steps)) in
+    let answers : (files : Files) → store ≡ Some files → Answers (ToldFile command (files (file_of command))) result old new before after = λ files tells.
+    of_bytes command store files name c.in-Ok.bytes.items c.as_slice.result.now result old new before after tells c.file_of_command-name.ensures read c.as_slice.ensures.value c.answer.ensures in
+    record {
+      told = λ files tells answer. (answers files tells).told answer;
+      complete = λ files r tells told no_store no_sink.
+          one_status (ToldFile command (files (file_of command))) result r old new before after (answers files tells) (one_reply command (files (file_of command))) told no_sink;
+      usage = c.answer.ensures.not_usage;
+      unread = λ two. absurd (c.answer.ensures.not_unread two);
+      failed = c.answer.ensures.failed;
+      part = λ files tells three. may_be_written command files (g.S.Store.faults c.args.store.now) (g.S.Store.faults c.read.new.self) old new ((answers files tells).part three);
+      memory = λ files tells four. text_or_none command files old new ((answers files tells).memory four);
+    }
 
-pub returns-in-Ok-Some-clause-complete : goal.returns-in-Ok-Some-clause-complete
-returns-in-Ok-Some-clause-complete g c = λ files r tells told no_store no_sink.
-    let command = seen_command c.args.command in
-    let store = g.S.Store.files c.args.store.now in
-    let name = c.file_of_command-name.result.now in
-    let result = c.answer_source.result in
-    let so = source_there store name (g.S.Store.faults c.args.store.now) (g.S.Store.faults c.read_file.new.store) c.in-Ok-Some.field-0 c.in-Ok-Some.source c.in-Ok-Some.field-0-is c.in-Ok-Some.ensures.source in
-    elim (eqb_tells result 3) [
-      | inl three ↦ absurd (no_sink (c.answer_source.ensures.failed three.1))
-      | inr not_three ↦
-          elim (eqb_tells result 4) [
-            | inl four ↦ inr four.1
-            | inr not_four ↦
-                let answer : IsAnswer result = (c.answer_source.ensures.status.1, not_three.1, not_four.1) in
-                let x = c.answer_source.ensures.told so.source so.shows answer in
-                let mine = of_file command store files name c.in-Ok-Some.source (reply result x.0) tells c.file_of_command-name.ensures so x.1 in
-                inl (one_reply command (files (file_of command)) (reply result x.0) r mine told)
-          ]
-    ]
-
-pub returns-in-Ok-Some-clause-part : goal.returns-in-Ok-Some-clause-part
-returns-in-Ok-Some-clause-part g c = λ files tells three.
-    let command = seen_command c.args.command in
-    let store = g.S.Store.files c.args.store.now in
-    let name = c.file_of_command-name.result.now in
-    let so = source_there store name (g.S.Store.faults c.args.store.now) (g.S.Store.faults c.read_file.new.store) c.in-Ok-Some.field-0 c.in-Ok-Some.source c.in-Ok-Some.field-0-is c.in-Ok-Some.ensures.source in
-    let x = c.answer_source.ensures.part so.source so.shows (inl three) in
-    (x.1.0, inl (x.0, of_file command store files name c.in-Ok-Some.source (reply x.0 x.1.0) tells c.file_of_command-name.ensures so x.1.1), x.1.2)
-
-pub returns-in-Ok-Some-clause-memory : goal.returns-in-Ok-Some-clause-memory
-returns-in-Ok-Some-clause-memory g c = λ files tells four.
-    let command = seen_command c.args.command in
-    let store = g.S.Store.files c.args.store.now in
-    let name = c.file_of_command-name.result.now in
-    let so = source_there store name (g.S.Store.faults c.args.store.now) (g.S.Store.faults c.read_file.new.store) c.in-Ok-Some.field-0 c.in-Ok-Some.source c.in-Ok-Some.field-0-is c.in-Ok-Some.ensures.source in
-    let x = c.answer_source.ensures.part so.source so.shows (inr four) in
-    inr (x.1.0, (x.0, of_file command store files name c.in-Ok-Some.source (reply x.0 x.1.0) tells c.file_of_command-name.ensures so x.1.1), x.1.2)
-
-pub returns-in-Ok-None-clause-part : goal.returns-in-Ok-None-clause-part
-returns-in-Ok-None-clause-part g c = λ files tells three.
-    let command = seen_command c.args.command in
-    let store = g.S.Store.files c.args.store.now in
-    let name = c.file_of_command-name.result.now in
+pub returns-in-Err-Failed-clause-part : goal.returns-in-Err-Failed-clause-part
+returns-in-Err-Failed-clause-part g c = λ files tells three.
     let before = g.S.Store.faults c.args.store.now in
-    let after = g.S.Store.faults c.read_file.new.store in
-    let failed : MayFail store name before after = subst (λ o. MatchOption o (MayFail store name before after) (λ s. IsSourceOf store name s)) c.in-Ok-None.field-0-is c.in-Ok-None.ensures.source in
-    let missing : MayFail (Some files) (file_of command) before after = subst (λ n. MayFail (Some files) n before after) c.file_of_command-name.ensures (subst (λ o. MayFail o name before after) tells failed) in
+    let after = g.S.Store.faults c.read.new.self in
+    let name = c.file_of_command-name.result.now in
+    let failed : MayFail (g.S.Store.files c.args.store.now) name before after = first_of (search rules, grind (arith, common_steps)) in
+    let missing : MayFail (Some files) (file_of (seen_command c.args.command)) before after = subst (λ n. MayFail (Some files) n before after) c.file_of_command-name.ensures (subst (λ o. MayFail o name before after) tells failed) in
     (read_line name, inr (missing, ap read_line c.file_of_command-name.ensures), (c.finish_unread.ensures.failed three).1)

@@ -3,7 +3,8 @@ use Rattle.std.proofs.lemmas.Bool.Decides.{eqb_tells}
 use Rattle.std.specs.Prelude.{[]}
 use Rattle.vlt_io.specs.Outside.{Grew, GrewByPart}
 use Rattle.vaultc_core.specs.Commands.{Command, check}
-use Rattle.vaultc_core.specs.Told.{ToldFile, ToldText, MayBeWritten, IsAnswer, reply, file_of}
+use Rattle.vaultc_core.specs.Lines.{reply}
+use Rattle.vaultc_core.specs.Told.{ToldFile, ToldText, MayBeWritten, IsAnswer, file_of}
 use Rattle.vaultc_core.specs.View.{seen_command}
 use Rattle.vaultc_core.proofs.Promises.{promised}
 use Rattle.vaultc_core.proofs.top.vaultc.Goals as goal

@@ -1,9 +1,12 @@
-use Rattle.std.proofs.Common.{◌≡◌, ◌≤◌, ◌-◌, length, map}
+use Rattle.std.proofs.Common.{◌≡◌, ◌≤◌, ◌-◌, [], ◌∷◌, length, map}
 use Rattle.vlt_syntax.specs.Tokens.{tokens_of}
 use Rattle.vlt_syntax.specs.Lists.{each_then, Each}
 use Rattle.vlt_syntax.specs.Spelling.{decl_then}
 use Rattle.vlt_syntax.specs.Grammar.{IsDecl, language}
 use Rattle.vlt_syntax.specs.View.{decl_of}
+use Rattle.vlt_syntax.specs.Machine as m
+use Rattle.vlt_syntax.specs.Machine.{run}
+use Rattle.vlt_parser.specs.Ahead.{ahead, decls_left}
 use Rattle.vlt_parser.specs.Reading.{left}
 use Rattle.vlt_parser.proofs.decls.decls.Given as goal
 
@@ -13,6 +16,7 @@ invariant-loop-here l = record {
   right : Each (IsDecl language) (map decl_of l.decls);
   few : length l.decls ≤ language.decls;
   within : l.here ≤ length l.tokens;
+  place : run (m.decls (decls_left 0) ∷ []) (ahead l.tokens 0) ≡ run (m.decls (decls_left (length l.decls)) ∷ []) (ahead l.tokens l.here);
 }
 
 abbrev pub decreases-loop-here : goal.decreases-loop-here

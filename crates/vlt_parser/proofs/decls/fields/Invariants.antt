@@ -1,8 +1,11 @@
-use Rattle.std.proofs.Common.{◌≡◌, ◌≤◌, ◌-◌, length, map}
+use Rattle.std.proofs.Common.{◌≡◌, ◌≤◌, ◌-◌, List, ◌∷◌, length, map}
 use Rattle.vlt_syntax.specs.Lists.{each_then, Each}
 use Rattle.vlt_syntax.specs.Spelling.{field_then}
 use Rattle.vlt_syntax.specs.Grammar.{IsField, language}
 use Rattle.vlt_syntax.specs.View.{field_of}
+use Rattle.vlt_syntax.specs.Machine as m
+use Rattle.vlt_syntax.specs.Machine.{Symbol, run}
+use Rattle.vlt_parser.specs.Ahead.{ahead, fields_left}
 use Rattle.vlt_parser.specs.Reading.{left}
 use Rattle.vlt_parser.proofs.decls.fields.Given as goal
 
@@ -13,6 +16,7 @@ invariant-loop-alloc l = record {
   few : length l.fields ≤ language.fields;
   later : l.at ≤ l.here;
   within : l.here ≤ length l.tokens;
+  place : (s : List Symbol) → run (m.fields (fields_left 0) ∷ s) (ahead l.tokens l.at) ≡ run (m.fields (fields_left (length l.fields)) ∷ s) (ahead l.tokens l.here);
 }
 
 abbrev pub decreases-loop-alloc : goal.decreases-loop-alloc

@@ -1,6 +1,9 @@
-use Rattle.std.proofs.Common.{◌≡◌, ◌+◌, [], ◌∷◌, ◌++◌, map, subst, arith, length-append}
+use Rattle.std.proofs.Common.{◌≡◌, refl, ap, ◌∙◌, length, ◌+◌, [], ◌∷◌, ◌++◌, map, subst, arith, length-append}
 use Rattle.std.proofs.lemmas.List.{length-map}
 use Rattle.vlt_parser.specs.Reading.{left, IsWithin}
+use Rattle.vlt_syntax.specs.Machine as m
+use Rattle.vlt_parser.specs.Ahead.{ahead, left_of}
+use Rattle.vlt_parser.proofs.Runs.{further_one}
 use Rattle.vlt_parser.proofs.Separated.{pushed, each-pushed, some-pushed, goes_on, closed}
 use Rattle.vlt_parser.proofs.lists.some_listed.Goals as goal
 
@@ -10,6 +13,7 @@ loop-items-init g c = rw c.new-items.ensures record {
   right = tt;
   few = c.requires;
   later = omega arith;
+  place = λ s. refl;
 }
 
 pub loop-items-preserved : goal.loop-items-preserved
@@ -20,12 +24,16 @@ loop-items-preserved g c =
     let item = c.in_ok-item.item in
     let all = c.push.new.self in
     let grown : map view all ≡ map view c.loop-items.items ++ view item ∷ [] = pushed view all c.loop-items.items item c.in_ok-push.ensures.ok in
+    let one_longer : length all ≡ length c.loop-items.items + 1 = rw c.in_ok-push.ensures.ok (length-append c.loop-items.items (item ∷ [])) in
     record {
       spelled = goes_on g.T.Part.spell c.args.closing (start c.args.at) (map view all) (map view c.loop-items.items) (start c.loop-items.here) (start c.in_ok-item.behind) (start c.in_ok-next.next) (view item)
           grown before.spelled c.in_ok-item.ensures.spelled c.in_ok-next.ensures.spelled;
       right = each-pushed g.T.Part.right (map view all) (map view c.loop-items.items) (view item) grown before.right c.in_ok-item.ensures.right;
-      few = subst (λ n. IsWithin c.args.most (n + 1)) c.len.ensures c.in_ok-allow_one_more.ensures;
+      few = subst (λ n. IsWithin c.args.most (n + 1)) c.len.ensures c.in_ok-allow_one_more.ensures.within;
       later = omega (arith, before.later, c.in_ok-item.ensures.moves.later, c.in_ok-next.ensures.moves.later);
+      place = λ s. before.place s ∙ c.in_ok-item.ensures.place (m.further g.T.Part.thing c.args.closing (left_of c.args.most (length c.loop-items.items + 1)) ∷ s)
+          ∙ further_one g.T.Part.thing c.args.closing c.args.most (length c.loop-items.items + 1) (length all + 1) s (ahead c.args.tokens.now c.in_ok-item.behind) (ahead c.args.tokens.now c.in_ok-next.next)
+          c.in_default.ensures.lacks c.in_ok-next.ensures.takes (ap (λ n. n + 1) one_longer) (subst (λ n. IsWithin c.args.most (n + 1)) c.len.ensures c.in_ok-allow_one_more.ensures.within);
     }
 
 pub returns-in-Some-clause-spelled : goal.returns-in-Some-clause-spelled

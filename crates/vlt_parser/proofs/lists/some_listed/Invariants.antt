@@ -1,5 +1,8 @@
-use Rattle.std.proofs.Common.{◌≤◌, ◌+◌, ◌-◌, length, map}
+use Rattle.std.proofs.Common.{◌≡◌, ◌≤◌, ◌∷◌, List, ◌+◌, ◌-◌, length, map}
 use Rattle.vlt_syntax.specs.Lists.{Each}
+use Rattle.vlt_syntax.specs.Machine as m
+use Rattle.vlt_syntax.specs.Machine.{Symbol, run}
+use Rattle.vlt_parser.specs.Ahead.{ahead, left_of}
 use Rattle.vlt_parser.specs.Reading.{left, IsWithin}
 use Rattle.vlt_parser.proofs.Separated.{GoesOn}
 use Rattle.vlt_parser.proofs.lists.some_listed.Given as goal
@@ -10,6 +13,8 @@ invariant-loop-items g l = record {
   right : Each g.T.Part.right (map g.T.Part.view l.items);
   few : IsWithin l.most (length l.items + 1);
   later : l.at ≤ l.here;
+  place : (s : List Symbol) → run (m.thing g.T.Part.thing ∷ m.further g.T.Part.thing l.closing (left_of l.most 1) ∷ s) (ahead l.tokens l.at)
+      ≡ run (m.thing g.T.Part.thing ∷ m.further g.T.Part.thing l.closing (left_of l.most (length l.items + 1)) ∷ s) (ahead l.tokens l.here);
 }
 
 abbrev pub decreases-loop-items : goal.decreases-loop-items

@@ -1,9 +1,17 @@
-use Rattle.std.proofs.Common.{◌≡◌, ℕ, ◌-◌, [], ◌∷◌, ◌++◌, List, map, sym, ap, ◌∙◌, arith}
-use Rattle.vlt_syntax.specs.Tokens.{Token}
+use Rattle.std.proofs.Common.{◌≡◌, ℕ, ◌+◌, Err, rules, refl, subst, ◌-◌, [], ◌∷◌, ◌++◌, List, map, sym, ap, ◌∙◌, arith}
+use Rattle.vlt_lexer.specs.declared.token.TokenKind.TheVariants as kind
+use Rattle.vlt_syntax.specs.Tokens.{Token, keyword}
 use Rattle.vlt_syntax.specs.declared.tree.Arm.{Arm}
 use Rattle.vlt_syntax.specs.Spelling.{stmts_then, arms_then}
 use Rattle.vlt_syntax.specs.Grammar.{AreArms, language}
 use Rattle.vlt_syntax.specs.View.{stmt_of, stmts_made, arm_of, arms_of, arms_made}
+use Rattle.std.proofs.lemmas.Grind.{common_steps}
+use Rattle.vlt_lexer.specs.declared.token.Word.TheVariants as word
+use Rattle.vlt_lexer.specs.declared.token.Mark.TheVariants as mark
+use Rattle.vlt_syntax.specs.Machine as m
+use Rattle.vlt_syntax.specs.Machine.{Symbol, run}
+use Rattle.vlt_parser.specs.Ahead.{ahead, BeginsWith}
+use Rattle.vlt_parser.proofs.Blocks.{stmts_one, arms_one, block_is, focus_is, otherwise_some, else_if, else_block, stmt_block, stmt_enters}
 use Rattle.vlt_parser.specs.Reading.{left}
 use Rattle.vlt_parser.proofs.Separated.{pushed}
 use Rattle.vlt_parser.proofs.Sequences.{stmts_then-append, are_stmts-append, arms_then-append, are_arms-append, some_arm-append}
@@ -20,6 +28,7 @@ block-loop-end-preserved t c =
       spelled = before.spelled ∙ ap (stmts_then (stmts_made stmts)) c.in_ok-next.ensures.spelled ∙ sym (stmts_then-append stmts next (start c.in_ok-next.behind)) ∙ ap (λ xs. stmts_then (stmts_made xs) (start c.in_ok-next.behind)) (sym grown);
       right = rw grown (are_stmts-append (c.args.room - 1) stmts next before.right c.in_ok-next.ensures.right);
       later = omega (arith, before.later, c.in_ok-next.ensures.moves.later);
+      place = λ s. before.place s ∙ stmts_one (c.args.room - 1) s (ahead c.args.tokens.now c.loop-end.here) c.in_default.ensures.lacks ∙ c.in_ok-next.ensures.place (m.stmts (c.args.room - 1) ∷ s);
     }
 
 -- one more arm was read
@@ -41,6 +50,7 @@ arms-loop-arms-preserved t c =
       spelled = arm_read c.push.new.self c.loop-arms.arms next (start c.args.at) (start c.loop-arms.here) (start c.in_ok-next.behind) c.in_ok-push.ensures.ok before.spelled c.in_ok-next.ensures.spelled;
       right = arms_right c.args.room c.push.new.self c.loop-arms.arms next c.in_ok-push.ensures.ok before.right c.in_ok-next.ensures.right;
       later = omega (arith, before.later, c.in_ok-next.ensures.moves.later);
+      place = λ s. before.place s ∙ c.in_ok-next.ensures.place (m.arms c.args.room ∷ s) ∙ arms_one c.args.room s (ahead c.args.tokens.now c.in_ok-next.behind) c.in_default.ensures.lacks;
     }
 
 pub arms-returns-in-Some-clause-spelled : goal.arms-returns-in-Some-clause-spelled
@@ -54,3 +64,71 @@ arms-returns-in-Some-clause-some t c = rw (pushed arm_of c.push.new.self c.loop-
 
 pub arms-returns-in-Some-clause-right : goal.arms-returns-in-Some-clause-right
 arms-returns-in-Some-clause-right t c = arms_right c.args.room c.push.new.self c.loop-arms.arms c.in_ok-next.next c.in_ok-push.ensures.ok c.loop-arms.invariant.right c.in_ok-next.ensures.right
+
+pub block-returns-in_err-next-clause-place : goal.block-returns-in_err-next-clause-place
+block-returns-in_err-next-clause-place t c =
+    let places = ahead c.args.tokens.now in
+    let is : c.from_residual-in_err-next.result ≡ Err c.in_err-next.field-0.0 = first_of (search rules, grind (arith, common_steps)) in
+    rw is (λ s f told.
+    block_is c.args.room s (places c.args.at)
+    ∙ c.in_ok-inside.ensures.place (m.stmts (c.args.room - 1) ∷ s)
+    ∙ c.loop-end.invariant.place s
+    ∙ stmts_one (c.args.room - 1) s (places c.loop-end.here) c.in_default.ensures.lacks
+    ∙ c.in_err-next.ensures.place (m.stmts (c.args.room - 1) ∷ s) f told)
+
+pub focus-returns-in_err-head-clause-place : goal.focus-returns-in_err-head-clause-place
+focus-returns-in_err-head-clause-place t c =
+    let places = ahead c.args.tokens.now in
+    let is : c.from_residual-in_err-head.result ≡ Err c.in_err-head.field-0.0 = first_of (search rules, grind (arith, common_steps)) in
+    rw is (λ s f told.
+    focus_is c.args.room s (places c.args.at) (places (c.args.at + 1)) c.in_ok-enter.ensures.some c.requires.begins
+    ∙ c.in_err-head.ensures.place (m.block c.args.room ∷ s) f told)
+
+pub focus-returns-in_err-body-clause-place : goal.focus-returns-in_err-body-clause-place
+focus-returns-in_err-body-clause-place t c =
+    let places = ahead c.args.tokens.now in
+    let is : c.from_residual-in_err-body.result ≡ Err c.in_err-body.field-0.0 = first_of (search rules, grind (arith, common_steps)) in
+    rw is (λ s f told.
+    focus_is c.args.room s (places c.args.at) (places (c.args.at + 1)) c.in_ok-enter.ensures.some c.requires.begins
+    ∙ c.in_ok-head.ensures.place (m.block c.args.room ∷ s)
+    ∙ c.in_err-body.ensures.place s f told)
+
+pub otherwise-returns-in_err-choice-clause-place : goal.otherwise-returns-in_err-choice-clause-place
+otherwise-returns-in_err-choice-clause-place t c =
+    let places = ahead c.args.tokens.now in
+    let next = places c.in-Ok.next in
+    let behind = places (c.in-Ok.next + 1) in
+    let is : c.from_residual.result ≡ Err c.in_err-choice.field-0.0 = first_of (search rules, grind (arith, common_steps)) in
+    let chosen : BeginsWith (kind.Keyword word.If) next behind = subst (λ k. BeginsWith k next behind) (c.in-Some-Keyword-If.field-0-is ∙ ap kind.Keyword c.in-Some-Keyword-If.field-0-0-is) c.in-Some-Keyword-If.ensures.ahead in
+    rw is (λ s f told.
+    otherwise_some c.args.room s (places c.args.at) next c.in-Ok.ensures.takes
+    ∙ else_if c.args.room s next behind chosen.begins
+    ∙ c.in_err-choice.ensures.place s f told)
+
+pub otherwise-returns-in_err-last-clause-place : goal.otherwise-returns-in_err-last-clause-place
+otherwise-returns-in_err-last-clause-place t c =
+    let places = ahead c.args.tokens.now in
+    let next = places c.in-Ok.next in
+    let is : c.from_residual-in_err-last.result ≡ Err c.in_err-last.field-0.0 = first_of (search rules, grind (arith, common_steps)) in
+    let same : (s : List Symbol) → run (m.behind_else c.args.room ∷ s) next ≡ run (m.block c.args.room ∷ s) next = first_of (search (rules, else_block), grind (arith, common_steps)) in
+    rw is (λ s f told. otherwise_some c.args.room s (places c.args.at) next c.in-Ok.ensures.takes ∙ same s ∙ c.in_err-last.ensures.place s f told)
+
+pub stmt-returns-in_err-body-in-Some-Sign-OpenBrace-clause-place : goal.stmt-returns-in_err-body-in-Some-Sign-OpenBrace-clause-place
+stmt-returns-in_err-body-in-Some-Sign-OpenBrace-clause-place t c =
+    let here = ahead c.args.tokens.now c.args.at in
+    let behind = ahead c.args.tokens.now (c.args.at + 1) in
+    let is : c.from_residual-in_err-body-in-Some-Sign-OpenBrace.result ≡ Err c.in_err-body-in-Some-Sign-OpenBrace.field-0.0 = first_of (search rules, grind (arith, common_steps)) in
+    let opens : BeginsWith (kind.Sign mark.OpenBrace) here behind = subst (λ k. BeginsWith k here behind) (c.in-Some-Sign-OpenBrace.field-0-is ∙ ap kind.Sign c.in-Some-Sign-OpenBrace.field-0-0-is) c.in-Some-Sign-OpenBrace.ensures.ahead in
+    rw is (λ s f told. stmt_block c.args.room s here behind c.in_ok-enter-in-Some-Sign-OpenBrace.ensures.some opens.begins ∙ c.in_err-body-in-Some-Sign-OpenBrace.ensures.place s f told)
+
+pub switch-returns-in_err-arms-clause-place : goal.switch-returns-in_err-arms-clause-place
+switch-returns-in_err-arms-clause-place t c =
+    let places = ahead c.args.tokens.now in
+    let is : c.from_residual-in_err-arms.result ≡ Err c.in_err-arms.field-0.0 = first_of (search rules, grind (arith, common_steps)) in
+    rw is (λ s f told.
+    stmt_enters (keyword word.Switch) c.args.room (m.sign mark.OpenParen ∷ m.name ∷ m.sign mark.CloseParen ∷ m.sign mark.OpenBrace ∷ m.arm c.args.room ∷ m.arms c.args.room ∷ []) s (places c.args.at) (places c.in_ok-next.next) refl c.in_ok-enter.ensures.some c.in_ok-next.ensures.takes
+    ∙ c.in_ok-next-2.ensures.place (m.name ∷ m.sign mark.CloseParen ∷ m.sign mark.OpenBrace ∷ m.arm c.args.room ∷ m.arms c.args.room ∷ s)
+    ∙ c.in_ok-variable.ensures.place (m.sign mark.CloseParen ∷ m.sign mark.OpenBrace ∷ m.arm c.args.room ∷ m.arms c.args.room ∷ s)
+    ∙ c.in_ok-next-3.ensures.place (m.sign mark.OpenBrace ∷ m.arm c.args.room ∷ m.arms c.args.room ∷ s)
+    ∙ c.in_ok-next-4.ensures.place (m.arm c.args.room ∷ m.arms c.args.room ∷ s)
+    ∙ c.in_err-arms.ensures.place s f told)

@@ -1,7 +1,10 @@
-use Rattle.std.proofs.Common.{◌≡◌, ◌≤◌, ◌+◌, ◌-◌, ◌*◌, length}
+use Rattle.std.proofs.Common.{◌≡◌, ◌≤◌, ◌+◌, ◌-◌, ◌*◌, List, ◌∷◌, length}
 use Rattle.vlt_syntax.specs.Spelling.{stmts_then, arms_then}
 use Rattle.vlt_syntax.specs.Grammar.{AreStmts, AreArms, language}
 use Rattle.vlt_syntax.specs.View.{stmts_of, arms_of}
+use Rattle.vlt_syntax.specs.Machine as m
+use Rattle.vlt_syntax.specs.Machine.{Symbol, run}
+use Rattle.vlt_parser.specs.Ahead.{ahead}
 use Rattle.vlt_parser.specs.Reading.{left}
 use Rattle.vlt_parser.proofs.stmts.+statements.Given as goal
 
@@ -37,6 +40,7 @@ invariant-block-loop-end l = record {
   spelled : left l.tokens l.inside ≡ stmts_then (stmts_of l.stmts) (left l.tokens l.here);
   right : AreStmts language (l.room - 1) (stmts_of l.stmts);
   later : l.inside ≤ l.here;
+  place : (s : List Symbol) → run (m.stmts (l.room - 1) ∷ s) (ahead l.tokens l.inside) ≡ run (m.stmts (l.room - 1) ∷ s) (ahead l.tokens l.here);
 }
 
 abbrev pub decreases-block-loop-end : goal.decreases-block-loop-end
@@ -47,6 +51,7 @@ invariant-arms-loop-arms l = record {
   spelled : left l.tokens l.at ≡ arms_then (arms_of l.arms) (left l.tokens l.here);
   right : AreArms language l.room (arms_of l.arms);
   later : l.at ≤ l.here;
+  place : (s : List Symbol) → run (m.arm l.room ∷ m.arms l.room ∷ s) (ahead l.tokens l.at) ≡ run (m.arm l.room ∷ m.arms l.room ∷ s) (ahead l.tokens l.here);
 }
 
 abbrev pub decreases-arms-loop-arms : goal.decreases-arms-loop-arms

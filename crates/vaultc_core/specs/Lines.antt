@@ -1,0 +1,38 @@
+-- What is written: a status with its text, and the lines of the texts.
+use Rattle.std.specs.Prelude.{ℕ, List, ◌++◌, length, codes}
+use Rattle.std.specs.Fmt.{decimal}
+use Rattle.vlt_base.specs.Limits.{limit_of}
+use Rattle.vlt_base.specs.Place.{line_of, column_of}
+use Rattle.vlt_core.specs.Core.{Program}
+use Rattle.vlt_ops.specs.declared.TrapKind.{TrapKind}
+use Rattle.vlt_ops.specs.declared.TrapKind.TheVariants.{Overflow, ZeroDivisor}
+
+-- a status with the text that is written
+pub record Reply : Type 0 where
+  pub status : ℕ
+  pub text : List ℕ
+
+abbrev pub reply : ℕ → List ℕ → Reply
+reply status text = record { status = status; text = text }
+
+abbrev pub usage : List ℕ
+usage = codes "usage: vaultc check F | explain F | fmt F | emit F | verify F | load N | run F OPTIONS | crun F OPTIONS\n"
+
+abbrev pub read_line : List ℕ → List ℕ
+read_line name = codes "read " ++ name ++ codes "\n"
+
+-- more than the limit of this number allows
+abbrev pub limit_line : ℕ → List ℕ
+limit_line n = codes "limit " ++ decimal n ++ codes " " ++ decimal (limit_of n) ++ codes "\n"
+
+-- what is wrong with a text, with the line and the column of the byte before which so many stand
+abbrev pub place_line : (what text : List ℕ) → ℕ → List ℕ
+place_line what text at = codes "text " ++ what ++ codes " " ++ decimal (line_of text at) ++ codes ":" ++ decimal (column_of text at) ++ codes "\n"
+
+-- how many functions with a body were accepted
+abbrev pub accepted_line : Program → List ℕ
+accepted_line p = codes "accepted " ++ decimal (length p.fns) ++ codes "\n"
+
+abbrev pub trap_line : TrapKind → List ℕ
+trap_line Overflow = codes "trap 1\n"
+trap_line ZeroDivisor = codes "trap 2\n"

@@ -1,0 +1,16 @@
+use Rattle.std.proofs.Common.{◌≡◌, Err, ◌∷◌, ◌∙◌, ap, rules, arith}
+use Rattle.std.proofs.lemmas.Grind.{common_steps}
+use Rattle.vlt_syntax.specs.Grammar.{language}
+use Rattle.vlt_syntax.specs.Machine as m
+use Rattle.vlt_syntax.specs.Machine.{run}
+use Rattle.vlt_parser.specs.Ahead.{ahead}
+use Rattle.vlt_parser.proofs.decls.function.Goals as goal
+
+pub returns-in_err-body-clause-place : goal.returns-in_err-body-clause-place
+returns-in_err-body-clause-place c =
+    let is : c.from_residual-in_err-body.result ≡ Err c.in_err-body.field-0.0 = first_of (search rules, grind (arith, common_steps)) in
+    let deepest : language.depth ≡ c.limit.result = first_of (search rules, grind (arith, common_steps)) in
+    rw is (λ s f told.
+    c.in_ok-head.ensures.place (m.block language.depth ∷ s)
+    ∙ ap (λ room. run (m.block room ∷ s) (ahead c.args.tokens.now c.in_ok-head.next)) deepest
+    ∙ c.in_err-body.ensures.place s f told)

@@ -1,0 +1,22 @@
+use Rattle.std.proofs.Common.{◌≡◌, ◌-◌, Err, Some, ◌∷◌, ◌∙◌, sym, ap, rules, arith}
+use Rattle.std.proofs.lemmas.Grind.{common_steps}
+use Rattle.vlt_lexer.specs.declared.token.Mark.TheVariants as mark
+use Rattle.vlt_syntax.specs.Grammar.{language}
+use Rattle.vlt_syntax.specs.Machine as m
+use Rattle.vlt_syntax.specs.Machine.{Symbol, Left, run}
+use Rattle.vlt_parser.specs.Ahead.{ahead, left_of}
+use Rattle.vlt_parser.proofs.Runs.{bounded_below}
+use Rattle.vlt_parser.proofs.decls.variant.Goals as goal
+
+pub returns-in_err-cases-clause-place : goal.returns-in_err-cases-clause-place
+returns-in_err-cases-clause-place c =
+    let at = ahead c.args.tokens.now c.in_ok-next-2.next in
+    let bound : left_of (Some c.bound.result) 1 ≡ Some (record { limit = 7; more = language.cases - 1 }) = bounded_below c.bound.result 7 language.cases c.bound.ensures.limit c.bound.ensures.count in
+    let is : c.from_residual-in_err-cases.result ≡ Err c.in_err-cases.field-0.0 = first_of (search rules, grind (arith, common_steps)) in
+    rw is (λ s f told.
+    c.in_ok-next.ensures.place (m.name ∷ m.header ∷ m.sign mark.OpenBrace ∷ m.thing m.a_case ∷ m.further m.a_case mark.CloseBrace (Some (record { limit = 7; more = language.cases - 1 })) ∷ s)
+    ∙ c.in_ok-name.ensures.place (m.header ∷ m.sign mark.OpenBrace ∷ m.thing m.a_case ∷ m.further m.a_case mark.CloseBrace (Some (record { limit = 7; more = language.cases - 1 })) ∷ s)
+    ∙ c.in_ok-params.ensures.place (m.sign mark.OpenBrace ∷ m.thing m.a_case ∷ m.further m.a_case mark.CloseBrace (Some (record { limit = 7; more = language.cases - 1 })) ∷ s)
+    ∙ c.in_ok-next-2.ensures.place (m.thing m.a_case ∷ m.further m.a_case mark.CloseBrace (Some (record { limit = 7; more = language.cases - 1 })) ∷ s)
+    ∙ ap (λ l. run (m.thing m.a_case ∷ m.further m.a_case mark.CloseBrace l ∷ s) at) (sym bound)
+    ∙ c.in_err-cases.ensures.place s f told)
