@@ -1,7 +1,6 @@
 pub mod Digits
 pub mod Options
 pub mod Places
-pub mod Limits
 pub mod Written
 pub mod Ended
 pub mod Commanded

@@ -17,9 +17,13 @@ struct Limited {
     counts: [usize; 3],
     /// What is said of the last.
     line: &'static str,
+    /// The token that asks for one more than are allowed.
+    decides: &'static str,
+    /// What is said of the text as far as that token.
+    before: &'static str,
 }
 
-const LIMITED: [Limited; 11] = [
+const LIMITED: [Limited; 13] = [
     Limited {
         front: "",
         opening: "stateset s { a } ",
@@ -28,6 +32,8 @@ const LIMITED: [Limited; 11] = [
         back: "",
         counts: [4095, 4096, 4097],
         line: "limit 4 4096\n",
+        decides: "stateset",
+        before: "kind\n",
     },
     Limited {
         front: "stateset s { a",
@@ -37,6 +43,8 @@ const LIMITED: [Limited; 11] = [
         back: "}",
         counts: [30, 31, 32],
         line: "limit 5 32\n",
+        decides: ",",
+        before: "text end\n",
     },
     Limited {
         front: "struct t { ",
@@ -46,6 +54,8 @@ const LIMITED: [Limited; 11] = [
         back: "}",
         counts: [31, 32, 33],
         line: "limit 6 32\n",
+        decides: "int",
+        before: "text end\n",
     },
     Limited {
         front: "variant v { 'A",
@@ -55,6 +65,8 @@ const LIMITED: [Limited; 11] = [
         back: "}",
         counts: [30, 31, 32],
         line: "limit 7 32\n",
+        decides: ",",
+        before: "text end\n",
     },
     Limited {
         front: "variant v { 'A(int",
@@ -64,6 +76,8 @@ const LIMITED: [Limited; 11] = [
         back: ") }",
         counts: [6, 7, 8],
         line: "limit 8 8\n",
+        decides: ",",
+        before: "text end\n",
     },
     Limited {
         front: "void f(int a",
@@ -73,6 +87,8 @@ const LIMITED: [Limited; 11] = [
         back: ") { }",
         counts: [14, 15, 16],
         line: "limit 9 16\n",
+        decides: ",",
+        before: "text end\n",
     },
     Limited {
         front: "struct t<A",
@@ -82,6 +98,8 @@ const LIMITED: [Limited; 11] = [
         back: "> { }",
         counts: [14, 15, 16],
         line: "limit 9 16\n",
+        decides: ",",
+        before: "text end\n",
     },
     Limited {
         front: "void f() ",
@@ -91,6 +109,8 @@ const LIMITED: [Limited; 11] = [
         back: "",
         counts: [63, 64, 65],
         line: "limit 12 64\n",
+        decides: "{",
+        before: "text end\n",
     },
     Limited {
         front: "void f() {",
@@ -100,6 +120,8 @@ const LIMITED: [Limited; 11] = [
         back: "}",
         counts: [62, 63, 64],
         line: "limit 12 64\n",
+        decides: "if",
+        before: "text end\n",
     },
     Limited {
         front: "void f() { x = ",
@@ -109,6 +131,8 @@ const LIMITED: [Limited; 11] = [
         back: "; }",
         counts: [62, 63, 64],
         line: "limit 12 64\n",
+        decides: "(",
+        before: "text end\n",
     },
     Limited {
         front: "void f() { x = ",
@@ -118,6 +142,30 @@ const LIMITED: [Limited; 11] = [
         back: "; }",
         counts: [62, 63, 64],
         line: "limit 12 64\n",
+        decides: "-",
+        before: "text end\n",
+    },
+    Limited {
+        front: "void f() { x = 1",
+        opening: " + 1",
+        middle: "",
+        closing: "",
+        back: "; }",
+        counts: [62, 63, 64],
+        line: "limit 12 64\n",
+        decides: "+",
+        before: "text end\n",
+    },
+    Limited {
+        front: "void f() {",
+        opening: "while (a) {",
+        middle: "",
+        closing: "}",
+        back: "}",
+        counts: [62, 63, 64],
+        line: "limit 12 64\n",
+        decides: "while",
+        before: "text end\n",
     },
 ];
 
@@ -161,6 +209,22 @@ fn limits_are_kept(rt: HostRuntime) -> Result<(), Fail> {
             let found = checked(rt.alloc(), row, count)?;
             assert_eq!(rt; found.as_slice(), line.as_bytes(), "{count}");
         }
+    }
+    Ok(())
+}
+
+/// A limit is exceeded at the token that asks for one more, and not before it.
+#[test]
+fn a_token_decides(rt: HostRuntime) -> Result<(), Fail> {
+    for row in &LIMITED {
+        let mut text = Vec::new(rt.alloc());
+        text.extend_from_slice(row.front.as_bytes())?;
+        push_times(&mut text, row.opening, row.counts[1])?;
+        let (_, before) = answer(rt.alloc(), SOUND, text.as_slice(), CHECK)?;
+        assert_eq!(rt; before.as_slice(), row.before.as_bytes(), "{}", row.decides);
+        text.extend_from_slice(row.decides.as_bytes())?;
+        let (_, found) = answer(rt.alloc(), SOUND, text.as_slice(), CHECK)?;
+        assert_eq!(rt; found.as_slice(), row.line.as_bytes(), "{}", row.decides);
     }
     Ok(())
 }

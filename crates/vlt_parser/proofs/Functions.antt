@@ -1,13 +1,15 @@
 -- What the stack machine does with heads of functions.
-use Rattle.std.proofs.Common.{◌≡◌, List, [], ◌∷◌, None, refl}
+use Rattle.std.proofs.Common.{Option, Some, ◌≡◌, List, [], ◌∷◌, None, refl, sym, ap, ◌∙◌}
 use Rattle.vlt_lexer.specs.declared.token.Word.TheVariants as word
 use Rattle.vlt_lexer.specs.declared.token.Mark.TheVariants as mark
 use Rattle.vlt_syntax.specs.Tokens as t
 use Rattle.vlt_syntax.specs.Tokens.{Token}
+use Rattle.vlt_syntax.specs.Grammar.{language}
 use Rattle.vlt_syntax.specs.Machine as m
 use Rattle.vlt_syntax.specs.Machine.{Symbol, Reaction, Thing, Frame, Left, Located, run, followed, settled, gone_on, reaction_behind, may_skip, depth_read, on_sign}
-use Rattle.vlt_parser.proofs.Runs.{begins, sign_taken, sign_skipped, ty_takes, outcome_takes}
-use Rattle.vlt_parser.specs.Ahead.{Begins, LacksSign}
+use Rattle.vlt_parser.proofs.Runs.{bounded, begins, sign_taken, sign_skipped, ty_takes, outcome_takes}
+use Rattle.vlt_parser.specs.declared.lists.Most.{Most}
+use Rattle.vlt_parser.specs.Ahead.{left_of, Begins, LacksSign}
 
 pub parameter_is : (s : List Symbol) (ts : List Located) → run (m.thing m.a_parameter ∷ s) ts ≡ run (m.thing m.a_ty ∷ m.name ∷ s) ts
 parameter_is s ts = begins (m.thing m.a_parameter) (m.thing m.a_ty) (m.name ∷ []) refl refl (λ x. refl) ty_takes s ts
@@ -40,3 +42,15 @@ clause_none s ts = sign_skipped m.clause mark.OpenBracket (m.take (m.listed m.an
 
 pub head_is : (s : List Symbol) (ts : List Located) → run (m.head ∷ s) ts ≡ run (m.thing m.an_outcome ∷ m.name ∷ m.sign mark.OpenParen ∷ m.listed m.a_parameter mark.CloseParen m.parameters_left ∷ m.clause ∷ s) ts
 head_is s ts = begins m.head (m.thing m.an_outcome) m.head_rest refl refl (λ x. refl) outcome_takes s ts
+
+abbrev parameters : Option Left → List Symbol → List Symbol
+parameters left s = m.listed m.a_parameter mark.CloseParen left ∷ m.clause ∷ s
+
+-- a head was read as far as its parameters
+pub head_read : (most : Most) (s : List Symbol) (at outcome name paren : List Located) → most.limit ≡ 9 → most.count ≡ language.parameters
+    → run (m.thing m.an_outcome ∷ m.name ∷ m.sign mark.OpenParen ∷ parameters m.parameters_left s) at ≡ run (m.name ∷ m.sign mark.OpenParen ∷ parameters m.parameters_left s) outcome
+    → run (m.name ∷ m.sign mark.OpenParen ∷ parameters m.parameters_left s) outcome ≡ run (m.sign mark.OpenParen ∷ parameters m.parameters_left s) name
+    → run (m.sign mark.OpenParen ∷ parameters m.parameters_left s) name ≡ run (parameters m.parameters_left s) paren
+    → run (m.head ∷ s) at ≡ run (m.listed m.a_parameter mark.CloseParen (left_of (Some most) 0) ∷ m.clause ∷ s) paren
+head_read most s at outcome name paren limit count first second third =
+    head_is s at ∙ first ∙ second ∙ third ∙ ap (λ l. run (parameters l s) paren) (sym (bounded most 9 language.parameters limit count))

@@ -2,3 +2,4 @@ pub mod Files
 pub mod View
 pub mod Refusals
 pub mod Scopes
+pub mod Law

@@ -8,6 +8,7 @@ ghost use Rattle.vlt_core.specs.Kinds.{IsKinded};
 ghost use Rattle.vlt_core.specs.View.{program_of};
 ghost use Rattle.vlt_resolve.specs.declared.error.ResolveError.TheVariants.{Kind};
 ghost use Rattle.vlt_resolve.specs.Files.{resolved};
+ghost use Rattle.vlt_resolve.specs.Law.{HaveOneProgram};
 
 mod elaborate;
 mod error;
@@ -33,3 +34,8 @@ pub fn resolve(alloc: Global, tree: &Tree) -> Result<Program, ResolveError>
     let file = narrow::narrow(alloc, tree)?;
     elaborate::elaborate(alloc, &file)
 }
+
+/// A text has at most one program, whichever of its trees is taken.
+pub fn trees_have_one_program()
+    ensures { HaveOneProgram }
+{}

@@ -1,3 +1,4 @@
 pub mod Viewing
 pub mod Sameness
+pub mod Limits
 mod Trials

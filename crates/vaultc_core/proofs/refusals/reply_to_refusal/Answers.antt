@@ -7,7 +7,7 @@ use Rattle.vaultc_core.specs.Texts.{AreRefused, unparsed}
 use Rattle.vaultc_core.specs.Shown.{refusal_of}
 use Rattle.vaultc_core.specs.declared.text.TextError.TheVariants as error
 use Rattle.vaultc_core.proofs.Places.{token_within}
-use Rattle.vaultc_core.proofs.Limits.{limit_there}
+use Rattle.vlt_syntax.proofs.Limits.{limit_there}
 use Rattle.vaultc_core.proofs.refusals.reply_to_refusal.Goals as goal
 
 pub wrong_at-requires-in-Parse-Unexpected-clause-within : goal.wrong_at-requires-in-Parse-Unexpected-clause-within
