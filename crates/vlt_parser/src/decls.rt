@@ -1,14 +1,14 @@
 //! Declarations.
 
-ghost use Rattle.std.specs.Prelude.{◌≡◌, ◌∷◌, [], ◌≤◌, length, map, IfOk};
+ghost use Rattle.std.specs.Prelude.{◌≡◌, ◌∷◌, [], ◌≤◌, length, map, IfOk, option_map, IfSome};
 ghost use Rattle.vlt_lexer.specs.declared.token.Word.TheVariants.{Stateset, Abstract, Struct, Variant, Extern};
 ghost use Rattle.vlt_lexer.specs.declared.token.Mark.TheVariants.{At, OpenBrace, CloseBrace, Semicolon};
 ghost use Rattle.vlt_syntax.specs.Tokens.{tokens_of};
 ghost use Rattle.vlt_syntax.specs.Tree.{HeaderParam as SeenHeaderParam, Case as SeenCase};
 ghost use Rattle.vlt_syntax.specs.Lists.{each_then, Each};
 ghost use Rattle.vlt_syntax.specs.Spelling.{header_param_then, header_then, field_then, release_then, case_then, decl_then};
-ghost use Rattle.vlt_syntax.specs.Grammar.{AtMost, IfGiven, IsStates, IsField, IsCase, IsDecl, language};
-ghost use Rattle.vlt_syntax.specs.View.{option_of, name_of, states_of, header_param_of, field_of, case_of, decl_of};
+ghost use Rattle.vlt_syntax.specs.Grammar.{AtMost, IsStates, IsField, IsCase, IsDecl, language};
+ghost use Rattle.vlt_syntax.specs.View.{name_of, states_of, header_param_of, field_of, case_of, decl_of};
 ghost use Rattle.vlt_syntax.specs.Machine as machine;
 ghost use Rattle.vlt_parser.specs.Reading.{left, struct_head_then, Moves, Stays};
 ghost use Rattle.vlt_parser.specs.Ahead.{ahead, fields_left, decls_left, can_begin, Follows, Turns, Ends};
@@ -131,8 +131,8 @@ fn release(
     at: usize,
 ) -> Result<(Option<States>, usize), ParseError>
     requires { at ≤ length tokens.now }
-    ensures spelled { IfOk result (λ x. left tokens.now at ≡ release_then (option_of states_of x.0) (left tokens.now x.1)) }
-    ensures right { IfOk result (λ x. IfGiven IsStates (option_of states_of x.0)) }
+    ensures spelled { IfOk result (λ x. left tokens.now at ≡ release_then (option_map states_of x.0) (left tokens.now x.1)) }
+    ensures right { IfOk result (λ x. IfSome (option_map states_of x.0) IsStates) }
     ensures moves { IfOk result (λ x. Stays tokens.now at x.1) }
     ensures place { Turns (machine.behind_fields ∷ []) (λ x. machine.sign CloseBrace ∷ []) (λ x. x.1) tokens.now at result }
 {
@@ -233,7 +233,7 @@ fn struct_head(
     tokens: &[Token<'_>],
     at: usize,
 ) -> Result<(StructHead, usize), ParseError>
-    ensures spelled { IfOk result (λ x. left tokens.now at ≡ struct_head_then (name_of x.0.name) (map header_param_of x.0.params) (option_of name_of x.0.states) (left tokens.now x.1)) }
+    ensures spelled { IfOk result (λ x. left tokens.now at ≡ struct_head_then (name_of x.0.name) (map header_param_of x.0.params) (option_map name_of x.0.states) (left tokens.now x.1)) }
     ensures few { IfOk result (λ x. AtMost language.parameters (map header_param_of x.0.params)) }
     ensures moves { IfOk result (λ x. Moves tokens.now at x.1) }
     ensures place { Follows (machine.keyword Struct ∷ machine.name ∷ machine.header ∷ machine.marked_name At ∷ machine.sign OpenBrace ∷ []) (λ x. x.1) tokens.now at result }

@@ -1,11 +1,11 @@
 //! Heads of functions, with their clauses.
 
-ghost use Rattle.std.specs.Prelude.{◌≡◌, ◌∷◌, [], ◌≤◌, length, map, IfOk};
+ghost use Rattle.std.specs.Prelude.{◌≡◌, ◌∷◌, [], ◌≤◌, length, map, IfOk, option_map, IfSome};
 ghost use Rattle.vlt_syntax.specs.Tree.{Entry as SeenEntry, Parameter as SeenParameter};
 ghost use Rattle.vlt_syntax.specs.Lists.{Each};
 ghost use Rattle.vlt_syntax.specs.Spelling.{entry_then, outcome_then, parameter_then, clause_then, head_then};
-ghost use Rattle.vlt_syntax.specs.Grammar.{IfGiven, IsEntry, IsOutcome, IsParameter, IsHead, language};
-ghost use Rattle.vlt_syntax.specs.View.{option_of, entry_of, outcome_of, parameter_of, head_of};
+ghost use Rattle.vlt_syntax.specs.Grammar.{IsEntry, IsOutcome, IsParameter, IsHead, language};
+ghost use Rattle.vlt_syntax.specs.View.{entry_of, outcome_of, parameter_of, head_of};
 ghost use Rattle.vlt_syntax.specs.Machine as machine;
 ghost use Rattle.vlt_parser.specs.Reading.{left, Moves, Stays};
 ghost use Rattle.vlt_parser.specs.Ahead.{Follows};
@@ -148,8 +148,8 @@ fn clause(
     at: usize,
 ) -> Result<(Option<Items<Entry>>, usize), ParseError>
     requires { at ≤ length tokens.now }
-    ensures spelled { IfOk result (λ x. left tokens.now at ≡ clause_then (option_of (map entry_of) x.0) (left tokens.now x.1)) }
-    ensures right { IfOk result (λ x. IfGiven (Each IsEntry) (option_of (map entry_of) x.0)) }
+    ensures spelled { IfOk result (λ x. left tokens.now at ≡ clause_then (option_map (map entry_of) x.0) (left tokens.now x.1)) }
+    ensures right { IfOk result (λ x. IfSome (option_map (map entry_of) x.0) (Each IsEntry)) }
     ensures moves { IfOk result (λ x. Stays tokens.now at x.1) }
     ensures place { Follows (machine.clause ∷ []) (λ x. x.1) tokens.now at result }
 {

@@ -1,6 +1,6 @@
 //! Right sides of declarations and assignments, calls, and what a `return` gives.
 
-ghost use Rattle.std.specs.Prelude.{◌≡◌, ◌∷◌, [], ◌≤◌, ◌+◌, ℕ, true, false, length, None, IfOk};
+ghost use Rattle.std.specs.Prelude.{◌≡◌, ◌∷◌, [], ◌≤◌, ◌+◌, ℕ, true, false, length, None, IfOk, option_map};
 ghost use Rattle.vlt_lexer.specs.declared.token.Word.TheVariants.{New, Adopt, Into};
 ghost use Rattle.vlt_lexer.specs.declared.token.Mark.TheVariants.{OpenParen, CloseParen, OpenBrace, CloseBrace};
 ghost use Rattle.vlt_lexer.specs.declared.token.TokenKind.TheVariants as kinds;
@@ -8,7 +8,7 @@ ghost use Rattle.vlt_syntax.specs.Tokens.{keyword as a_keyword, sign as a_sign};
 ghost use Rattle.vlt_syntax.specs.Tree.{Init as SeenInit};
 ghost use Rattle.vlt_syntax.specs.Spelling.{build_then, call_then, init_then, owner_then, right_then, returned_then};
 ghost use Rattle.vlt_syntax.specs.Grammar.{IsBuild, IsCall, IsInit, IsRight, IsReturned, language};
-ghost use Rattle.vlt_syntax.specs.View.{option_of, name_of, build_of, call_of, init_of, right_of, returned_of};
+ghost use Rattle.vlt_syntax.specs.View.{name_of, build_of, call_of, init_of, right_of, returned_of};
 ghost use Rattle.vlt_syntax.specs.Machine as machine;
 ghost use Rattle.vlt_parser.specs.Reading.{left, Moves, Stays};
 ghost use Rattle.vlt_parser.specs.Ahead.{ahead, Begins, BeginsWith, LacksSign, Follows};
@@ -93,7 +93,7 @@ fn owner(
     at: usize,
 ) -> Result<(Option<Name>, usize), ParseError>
     requires { at ≤ length tokens.now }
-    ensures spelled { IfOk result (λ x. left tokens.now at ≡ owner_then (option_of name_of x.0) (left tokens.now x.1)) }
+    ensures spelled { IfOk result (λ x. left tokens.now at ≡ owner_then (option_map name_of x.0) (left tokens.now x.1)) }
     ensures moves { IfOk result (λ x. Stays tokens.now at x.1) }
     ensures place { Follows (machine.owner ∷ []) (λ x. x.1) tokens.now at result }
 {

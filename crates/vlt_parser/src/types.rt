@@ -1,12 +1,12 @@
 //! States, keys with their states, and types.
 
-ghost use Rattle.std.specs.Prelude.{◌≡◌, ◌∷◌, [], ◌≤◌, length, IfOk, Option, Some, None};
+ghost use Rattle.std.specs.Prelude.{◌≡◌, ◌∷◌, [], ◌≤◌, length, IfOk, Option, Some, None, option_map, IfSome};
 ghost use Rattle.vlt_lexer.specs.declared.token.Word.TheVariants.{Tracked};
 ghost use Rattle.vlt_syntax.specs.Tokens.{keyword as a_keyword};
 ghost use Rattle.vlt_syntax.specs.Tree.{KeyStates as SeenKeyStates, Ty as SeenTy};
 ghost use Rattle.vlt_syntax.specs.Spelling.{states_then, at_states_then, marked_name_then, key_states_then, named_then, ty_then};
-ghost use Rattle.vlt_syntax.specs.Grammar.{IfGiven, IsStates, IsKeyStates, IsTy};
-ghost use Rattle.vlt_syntax.specs.View.{option_of, name_of, states_of, key_states_of, named_of, ty_of};
+ghost use Rattle.vlt_syntax.specs.Grammar.{IsStates, IsKeyStates, IsTy};
+ghost use Rattle.vlt_syntax.specs.View.{name_of, states_of, key_states_of, named_of, ty_of};
 ghost use Rattle.vlt_syntax.specs.Machine as machine;
 ghost use Rattle.vlt_parser.specs.Reading.{left, Moves, Stays};
 ghost use Rattle.vlt_parser.specs.Ahead.{Follows};
@@ -27,7 +27,7 @@ pub fn marked_name(
     mark: Mark,
 ) -> Result<(Option<Name>, usize), ParseError>
     requires { at ≤ length tokens.now }
-    ensures spelled { IfOk result (λ x. left tokens.now at ≡ marked_name_then mark (option_of name_of x.0) (left tokens.now x.1)) }
+    ensures spelled { IfOk result (λ x. left tokens.now at ≡ marked_name_then mark (option_map name_of x.0) (left tokens.now x.1)) }
     ensures moves { IfOk result (λ x. Stays tokens.now at x.1) }
     ensures place { Follows (machine.marked_name mark ∷ []) (λ x. x.1) tokens.now at result }
 {
@@ -68,8 +68,8 @@ pub fn at_states(
     at: usize,
 ) -> Result<(Option<States>, usize), ParseError>
     requires { at ≤ length tokens.now }
-    ensures spelled { IfOk result (λ x. left tokens.now at ≡ at_states_then (option_of states_of x.0) (left tokens.now x.1)) }
-    ensures right { IfOk result (λ x. IfGiven IsStates (option_of states_of x.0)) }
+    ensures spelled { IfOk result (λ x. left tokens.now at ≡ at_states_then (option_map states_of x.0) (left tokens.now x.1)) }
+    ensures right { IfOk result (λ x. IfSome (option_map states_of x.0) IsStates) }
     ensures moves { IfOk result (λ x. Stays tokens.now at x.1) }
     ensures place { Follows (machine.at_states ∷ []) (λ x. x.1) tokens.now at result }
 {

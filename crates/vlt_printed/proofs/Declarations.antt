@@ -1,10 +1,10 @@
 -- Declarations, and whole files.
 use Rattle.std.proofs.Common.{ℕ, List, [], ◌∷◌, ◌++◌, Option, Some, None, refl}
-use Rattle.std.specs.Prelude.{codes}
+use Rattle.std.specs.Prelude.{codes, IfSome}
 use Rattle.vlt_lexer.specs.declared.token.Word.TheVariants as words
 use Rattle.vlt_lexer.specs.declared.token.Mark.TheVariants as marks
 use Rattle.vlt_syntax.specs.Lists.{each_then, listed_then, Each}
-use Rattle.vlt_syntax.specs.Grammar.{Bounds, IsField, IsCase, IsKeyStates, IsTy, IsEntry, IsParameter, IsHead, IsDecl, IfGiven}
+use Rattle.vlt_syntax.specs.Grammar.{Bounds, IsField, IsCase, IsKeyStates, IsTy, IsEntry, IsParameter, IsHead, IsDecl}
 use Rattle.vlt_syntax.specs.Tokens.{Token, sign}
 use Rattle.vlt_syntax.specs.Tree as s
 use Rattle.vlt_syntax.specs.Tree.{Name, States, HeaderParam, Field, Case, Entry, Outcome, Parameter, Head, Decl}
@@ -108,7 +108,7 @@ each_parameter : {all : List Token} → IsPrinted all parameter_then parameter_a
 each_parameter p before rest is h = name_printed p.name (text_begins (space ∷ []) refl (ty_printed p.ty h))
 
 module _ {all : List Token} {before : List ℕ} {rest : List Token} where
-  clause_printed : (clause : Option (List Entry)) → IfGiven (Each IsEntry) clause → Begins all before (clause_then clause rest) signed → Begins all (clause_after before clause) rest signed
+  clause_printed : (clause : Option (List Entry)) → IfSome clause (Each IsEntry) → Begins all before (clause_then clause rest) signed → Begins all (clause_after before clause) rest signed
   clause_printed None is h = h
   clause_printed (Some es) is h =
       text_begins (mark marks.CloseBracket ∷ []) refl

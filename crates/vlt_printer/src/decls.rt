@@ -1,8 +1,8 @@
 //! Declarations.
 
-ghost use Rattle.std.specs.Prelude.{◌≡◌, map, OnOk};
+ghost use Rattle.std.specs.Prelude.{◌≡◌, map, OnOk, option_map};
 ghost use Rattle.vlt_syntax.specs.Tree.{HeaderParam as SeenHeaderParam, Field as SeenField, Case as SeenCase};
-ghost use Rattle.vlt_syntax.specs.View.{option_of, states_of, header_param_of, field_of, case_of, decl_of};
+ghost use Rattle.vlt_syntax.specs.View.{states_of, header_param_of, field_of, case_of, decl_of};
 ghost use Rattle.vlt_printer.specs.Lists.{each_after};
 ghost use Rattle.vlt_printer.specs.Layout.{header_param_after, header_after, field_line_after, release_line_after, fields_after, case_after, cases_after, decl_after, decl_line_after};
 
@@ -73,7 +73,7 @@ fn write_header(out: &mut Vec<u8>, params: &[HeaderParam]) -> Result<(), Memory>
 
 /// Writes the line of the states in which an object is released, or nothing.
 fn write_release_line(out: &mut Vec<u8>, release: &Option<States>) -> Result<(), Memory>
-    ensures { OnOk result (out.new.items ≡ release_line_after out.old.items (option_of states_of release.now)) }
+    ensures { OnOk result (out.new.items ≡ release_line_after out.old.items (option_map states_of release.now)) }
 {
     match release {
         Some(states) => {
@@ -87,7 +87,7 @@ fn write_release_line(out: &mut Vec<u8>, release: &Option<States>) -> Result<(),
 
 /// Writes the body of a struct.
 fn write_fields(out: &mut Vec<u8>, fields: &[Field], release: &Option<States>) -> Result<(), Memory>
-    ensures { OnOk result (out.new.items ≡ fields_after out.old.items (map field_of fields.now) (option_of states_of release.now)) }
+    ensures { OnOk result (out.new.items ≡ fields_after out.old.items (map field_of fields.now) (option_map states_of release.now)) }
 {
     if fields.is_empty() && release.is_none() {
         return write_text(out, b"{}");

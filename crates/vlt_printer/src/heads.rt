@@ -1,8 +1,8 @@
 //! Heads of functions.
 
-ghost use Rattle.std.specs.Prelude.{◌≡◌, map, OnOk};
+ghost use Rattle.std.specs.Prelude.{◌≡◌, map, OnOk, option_map};
 ghost use Rattle.vlt_syntax.specs.Tree.{Entry as SeenEntry, Parameter as SeenParameter};
-ghost use Rattle.vlt_syntax.specs.View.{option_of, entry_of, outcome_of, parameter_of, head_of};
+ghost use Rattle.vlt_syntax.specs.View.{entry_of, outcome_of, parameter_of, head_of};
 ghost use Rattle.vlt_printer.specs.Layout.{entry_after, outcome_after, parameter_after, clause_after, head_after};
 
 use crate::lists::{Part, write_listed, write_text};
@@ -68,7 +68,7 @@ fn write_outcome(out: &mut Vec<u8>, outcome: &Outcome) -> Result<(), Memory>
 
 /// Writes the clause of a head, or nothing.
 fn write_clause(out: &mut Vec<u8>, clause: &Option<Items<Entry>>) -> Result<(), Memory>
-    ensures { OnOk result (out.new.items ≡ clause_after out.old.items (option_of (map entry_of) clause.now)) }
+    ensures { OnOk result (out.new.items ≡ clause_after out.old.items (option_map (map entry_of) clause.now)) }
 {
     match clause {
         Some(entries) => {

@@ -1,8 +1,8 @@
 //! Right sides.
 
-ghost use Rattle.std.specs.Prelude.{◌≡◌, OnOk};
+ghost use Rattle.std.specs.Prelude.{◌≡◌, OnOk, option_map};
 ghost use Rattle.vlt_syntax.specs.Tree.{Init as SeenInit};
-ghost use Rattle.vlt_syntax.specs.View.{name_of, option_of, build_of, call_of, init_of, right_of, returned_of};
+ghost use Rattle.vlt_syntax.specs.View.{name_of, build_of, call_of, init_of, right_of, returned_of};
 ghost use Rattle.vlt_printer.specs.Layout.{build_after, call_after, init_after, owner_after, right_after, returned_after};
 
 use crate::exprs::write_expr;
@@ -43,7 +43,7 @@ pub fn write_call(out: &mut Vec<u8>, call: &Call) -> Result<(), Memory>
 
 /// Writes the variable of an object that adopts, or nothing.
 fn write_owner(out: &mut Vec<u8>, owner: &Option<Name>) -> Result<(), Memory>
-    ensures { OnOk result (out.new.items ≡ owner_after out.old.items (option_of name_of owner.now)) }
+    ensures { OnOk result (out.new.items ≡ owner_after out.old.items (option_map name_of owner.now)) }
 {
     match owner {
         Some(owner) => {

@@ -1,8 +1,8 @@
 //! Names, states and types.
 
-ghost use Rattle.std.specs.Prelude.{◌≡◌, OnOk};
+ghost use Rattle.std.specs.Prelude.{◌≡◌, OnOk, option_map};
 ghost use Rattle.vlt_syntax.specs.Tree.{Name as SeenName, KeyStates as SeenKeyStates, Ty as SeenTy};
-ghost use Rattle.vlt_syntax.specs.View.{name_of, option_of, states_of, key_states_of, named_of, ty_of};
+ghost use Rattle.vlt_syntax.specs.View.{name_of, states_of, key_states_of, named_of, ty_of};
 ghost use Rattle.vlt_printer.specs.Layout.{name_after, at_name_after, states_after, at_states_after, key_states_after, named_after, ty_after};
 
 use crate::lists::{Part, write_braced, write_enclosed, write_text};
@@ -54,7 +54,7 @@ pub fn write_name(out: &mut Vec<u8>, name: &Name) -> Result<(), Memory>
 
 /// Writes `@` and a name, or nothing.
 pub fn write_at_name(out: &mut Vec<u8>, name: &Option<Name>) -> Result<(), Memory>
-    ensures { OnOk result (out.new.items ≡ at_name_after out.old.items (option_of name_of name.now)) }
+    ensures { OnOk result (out.new.items ≡ at_name_after out.old.items (option_map name_of name.now)) }
 {
     match name {
         Some(name) => {
@@ -76,7 +76,7 @@ pub fn write_states(out: &mut Vec<u8>, states: &States) -> Result<(), Memory>
 
 /// Writes `@` and states, or nothing.
 pub fn write_at_states(out: &mut Vec<u8>, states: &Option<States>) -> Result<(), Memory>
-    ensures { OnOk result (out.new.items ≡ at_states_after out.old.items (option_of states_of states.now)) }
+    ensures { OnOk result (out.new.items ≡ at_states_after out.old.items (option_map states_of states.now)) }
 {
     match states {
         Some(states) => {

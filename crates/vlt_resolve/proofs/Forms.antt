@@ -1,9 +1,10 @@
 -- What isn't of the forms that are built.
+use Rattle.std.specs.Prelude.{option_map}
 use Rattle.std.proofs.Common.{◌≡◌, List, [], ◌∷◌, ◌++◌, map, Bool, true, false, true≢false, Option, Some, None, IsTrue, ◌↔◌, refl, sym, ap, ◌∙◌}
 use Rattle.std.proofs.lemmas.List.{map-append}
 use Rattle.vlt_base.specs.declared.places.Span.{Span}
 use Rattle.vlt_syntax.specs.Tree as s
-use Rattle.vlt_syntax.specs.View.{ArmView, else_step, stmt_step, arm_step, block_step, if_step, stmt_of, block_of, decl_of, option_of, name_of, names_of, states_of, header_param_of, parameter_of, stmts_made}
+use Rattle.vlt_syntax.specs.View.{ArmView, else_step, stmt_step, arm_step, block_step, if_step, stmt_of, block_of, decl_of, name_of, names_of, states_of, header_param_of, parameter_of, stmts_made}
 use Rattle.vlt_syntax.specs.declared.tree.Name.{Name}
 use Rattle.vlt_syntax.specs.declared.tree.States.{States}
 use Rattle.vlt_syntax.specs.declared.tree.HeaderParam.{HeaderParam}
@@ -23,12 +24,12 @@ pub header_refused : (n : s.Name) (ps : List HeaderParam) (ss : Option s.Name) (
 header_refused n [] ss fs r at some = absurd (some refl)
 header_refused n (p ∷ ps) ss fs r at some = refl
 
-pub states_refused : (n : s.Name) (ps : List s.HeaderParam) (ss : Option Name) (fs : List s.Field) (r : Option s.States) (at : Span) → (ss ≡ None → ⊥) → as_struct (s.struct n ps (option_of name_of ss) fs r at) ≡ None
+pub states_refused : (n : s.Name) (ps : List s.HeaderParam) (ss : Option Name) (fs : List s.Field) (r : Option s.States) (at : Span) → (ss ≡ None → ⊥) → as_struct (s.struct n ps (option_map name_of ss) fs r at) ≡ None
 states_refused n [] None fs r at some = absurd (some refl)
 states_refused n (p ∷ ps) ss fs r at some = refl
 states_refused n [] (Some x) fs r at some = refl
 
-pub release_refused : (n : s.Name) (ps : List s.HeaderParam) (ss : Option s.Name) (fs : List s.Field) (r : Option States) (at : Span) → (r ≡ None → ⊥) → as_struct (s.struct n ps ss fs (option_of states_of r) at) ≡ None
+pub release_refused : (n : s.Name) (ps : List s.HeaderParam) (ss : Option s.Name) (fs : List s.Field) (r : Option States) (at : Span) → (r ≡ None → ⊥) → as_struct (s.struct n ps ss fs (option_map states_of r) at) ≡ None
 release_refused n [] None fs None at some = absurd (some refl)
 release_refused n (p ∷ ps) ss fs r at some = refl
 release_refused n [] (Some x) fs r at some = refl

@@ -1,5 +1,5 @@
 -- Which trees are of the language: lists that must have one thing or more, levels of operators, limits.
-use Rattle.std.specs.Prelude.{◌≡◌, ◌≤◌, ℕ, suc, ◌-◌, max, List, length, Option, Some, None}
+use Rattle.std.specs.Prelude.{◌≡◌, ◌≤◌, ℕ, suc, ◌-◌, max, List, length, IfSome}
 use Rattle.vlt_base.specs.Limits.{limit_of}
 use Rattle.vlt_ops.specs.declared.Op.{Op}
 use Rattle.vlt_ops.specs.Operator.{row_of}
@@ -35,20 +35,16 @@ language = record {
 abbrev pub AtMost : {X : Type 0} → ℕ → List X → Type 0
 AtMost n xs = length xs ≤ n
 
-abbrev pub IfGiven : {X : Type 0} → (X → Type 0) → Option X → Type 0
-IfGiven P None = Unit {0}
-IfGiven P (Some x) = P x
-
 -- one state or more
 abbrev pub IsStates : States → Type 0
 IsStates (s.one n) = Unit {0}
 IsStates (s.several ns at) = IsSome ns
 
 abbrev pub IsKeyStates : KeyStates → Type 0
-IsKeyStates k = IfGiven IsStates k.states
+IsKeyStates k = IfSome k.states IsStates
 
 abbrev pub IsTy : Ty → Type 0
-IsTy (s.tracked ss n at) = IfGiven IsStates ss
+IsTy (s.tracked ss n at) = IfSome ss IsStates
 IsTy (s.int at) = Unit {0}
 IsTy (s.bool at) = Unit {0}
 IsTy (s.keyed k n at) = Unit {0}
@@ -158,7 +154,7 @@ abbrev mutual
 -- ---- declarations
 
 abbrev pub IsField : Field → Type 0
-IsField f = IsTy f.ty × IfGiven IsStates f.states
+IsField f = IsTy f.ty × IfSome f.states IsStates
 
 abbrev pub IsCase : Bounds → Case → Type 0
 IsCase b c = Each IsTy c.payload × AtMost b.payload c.payload × Each IsKeyStates c.keys
@@ -182,12 +178,12 @@ pub record IsHead (b : Bounds) (h : Head) : Type 0 where
   pub outcome : IsOutcome h.outcome
   pub parameters : Each IsParameter h.parameters
   pub few : AtMost b.parameters h.parameters
-  pub clause : IfGiven (Each IsEntry) h.clause
+  pub clause : IfSome h.clause (Each IsEntry)
 
 abbrev pub IsDecl : Bounds → Decl → Type 0
 IsDecl b (s.stateset n ss at) = IsSome ss × AtMost b.states ss
 IsDecl b (s.abstract n ss at) = Unit {0}
-IsDecl b (s.struct n ps ss fs r at) = AtMost b.parameters ps × Each IsField fs × AtMost b.fields fs × IfGiven IsStates r
+IsDecl b (s.struct n ps ss fs r at) = AtMost b.parameters ps × Each IsField fs × AtMost b.fields fs × IfSome r IsStates
 IsDecl b (s.variant n ps cs at) = AtMost b.parameters ps × IsSome cs × Each (IsCase b) cs × AtMost b.cases cs
 IsDecl b (s.extern h at) = IsHead b h
 IsDecl b (s.function h body at) = IsHead b h × IsBlock b b.depth body

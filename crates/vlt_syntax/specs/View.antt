@@ -1,5 +1,5 @@
 -- The plain tree that a tree of the code stands for. Nothing is forgotten.
-use Rattle.std.specs.Prelude.{List, [], ◌∷◌, map, Option, Some, None}
+use Rattle.std.specs.Prelude.{List, [], ◌∷◌, map, option_map}
 use Rattle.vlt_base.specs.declared.places.Span.{Span}
 use Rattle.vlt_syntax.specs.Tree as s
 use Rattle.vlt_syntax.specs.declared.tree.Name.{Name}
@@ -45,16 +45,12 @@ name_of n = record { text = n.text; at = n.at }
 abbrev pub names_of : List Name → List s.Name
 names_of = map name_of
 
-abbrev pub option_of : {X Y : Type 0} → (X → Y) → Option X → Option Y
-option_of f None = None
-option_of f (Some x) = Some (f x)
-
 abbrev pub states_of : States → s.States
 states_of (states.One n) = s.one (name_of n)
 states_of (states.Several ns at) = s.several (names_of ns) at
 
 abbrev pub key_states_of : KeyStates → s.KeyStates
-key_states_of k = record { key = name_of k.key; states = option_of states_of k.states }
+key_states_of k = record { key = name_of k.key; states = option_map states_of k.states }
 
 abbrev pub named_of : Named → s.Named
 named_of n = record { name = name_of n.name; keys = names_of n.keys }
@@ -63,7 +59,7 @@ abbrev pub ty_of : Ty → s.Ty
 ty_of (ty.Int at) = s.int at
 ty_of (ty.Bool at) = s.bool at
 ty_of (ty.Keyed k n at) = s.keyed (name_of k) (named_of n) at
-ty_of (ty.Tracked ss n at) = s.tracked (option_of states_of ss) (named_of n) at
+ty_of (ty.Tracked ss n at) = s.tracked (option_map states_of ss) (named_of n) at
 ty_of (ty.Guarded k n) = s.guarded (name_of k) (named_of n)
 ty_of (ty.Plain n) = s.plain (named_of n)
 
@@ -97,7 +93,7 @@ right_of (right.Build b) = s.build (build_of b)
 right_of (right.Call c) = s.call (call_of c)
 right_of (right.Input at) = s.input at
 right_of (right.More at) = s.more at
-right_of (right.New o n fs at) = s.make (option_of name_of o) (named_of n) (map init_of fs) at
+right_of (right.New o n fs at) = s.make (option_map name_of o) (named_of n) (map init_of fs) at
 right_of (right.Adopt x r at) = s.adopt (name_of x) (name_of r) at
 
 abbrev pub returned_of : Returned → s.Returned
@@ -176,10 +172,10 @@ arms_of xs = arms_made (map arm_of xs)
 -- ---- declarations
 
 abbrev pub header_param_of : HeaderParam → s.HeaderParam
-header_param_of p = record { key = name_of p.key; key_type = option_of name_of p.key_type }
+header_param_of p = record { key = name_of p.key; key_type = option_map name_of p.key_type }
 
 abbrev pub field_of : Field → s.Field
-field_of f = record { ty = ty_of f.ty; name = name_of f.name; states = option_of states_of f.states; at = f.at }
+field_of f = record { ty = ty_of f.ty; name = name_of f.name; states = option_map states_of f.states; at = f.at }
 
 abbrev pub case_of : Case → s.Case
 case_of c = record { name = name_of c.name; payload = map ty_of c.payload; keys = map key_states_of c.keys; at = c.at }
@@ -203,14 +199,14 @@ head_of h = record {
   outcome = outcome_of h.outcome;
   name = name_of h.name;
   parameters = map parameter_of h.parameters;
-  clause = option_of (map entry_of) h.clause;
+  clause = option_map (map entry_of) h.clause;
   at = h.at;
 }
 
 abbrev pub decl_of : Decl → s.Decl
 decl_of (decl.StateSet n ss at) = s.stateset (name_of n) (names_of ss) at
-decl_of (decl.Abstract n ss at) = s.abstract (name_of n) (option_of name_of ss) at
-decl_of (decl.Struct n ps ss fs r at) = s.struct (name_of n) (map header_param_of ps) (option_of name_of ss) (map field_of fs) (option_of states_of r) at
+decl_of (decl.Abstract n ss at) = s.abstract (name_of n) (option_map name_of ss) at
+decl_of (decl.Struct n ps ss fs r at) = s.struct (name_of n) (map header_param_of ps) (option_map name_of ss) (map field_of fs) (option_map states_of r) at
 decl_of (decl.Variant n ps cs at) = s.variant (name_of n) (map header_param_of ps) (map case_of cs) at
 decl_of (decl.Extern h at) = s.extern (head_of h) at
 decl_of (decl.Function h b at) = s.function (head_of h) (block_of b) at
