@@ -11,3 +11,4 @@ pub mod Expressions
 pub mod Statements
 pub mod Declarations
 pub mod ReadAgain
+pub mod AcceptedAgain
