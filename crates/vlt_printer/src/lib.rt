@@ -20,7 +20,7 @@ use std::alloc::Global;
 use vlt_base::Memory;
 use vlt_syntax::Tree;
 
-/// The layout of a file.
+/// The layout of a file. `Memory` says that there was none for the text.
 pub fn print(alloc: Global, tree: &Tree) -> Result<Vec<u8>, Memory>
     ensures { IfOk result (λ text. text.items ≡ layout (tree_of tree.now)) }
 {
