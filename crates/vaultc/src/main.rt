@@ -1,10 +1,16 @@
-//! The program: the commands over the real files and standard output.
+//! The program: words and real files go in, a status comes out, and lines go to standard output.
+//! Read `status_of` first.
+//! Rests on it: nothing. It rests on `vaultc_core::vaultc`, which does the rest.
 #![tactic(auto)]
+
+ghost use Rattle.std.specs.Prelude.{◌≡◌, ◌≢◌, ◌⊎◌, IfErr};
+ghost use Rattle.std.specs.IoError.{error_kind};
 
 use std::env;
 use std::io::{self, ErrorKind};
 use std::process::ExitCode;
 use std::rt::{Env, Files};
+use vaultc_core::status::{NO_COMMAND, NO_MEMORY, SINK_FAILED};
 use vaultc_core::vaultc;
 use vlt_io::{DirStore, OutSink};
 
@@ -18,19 +24,24 @@ fn words_of<R: Env + AllocGlobal>(rt: &R) -> io::Result<Vec<String>> {
     Ok(words)
 }
 
-/// Carries out a command with these words, and answers its status.
-fn status_of<R: Files + Print + AllocGlobal>(rt: &R, words: &[String]) -> u8 {
+/// Carries out the command that the words are, and gives its status. Words that aren't text are no command, and where memory is
+/// wanting for the words the status says so.
+fn status_of<R: Files + Print + AllocGlobal>(rt: &R, words: io::Result<Vec<String>>) -> u8
+    ensures no_text { IfErr words (λ e. error_kind e ≢ ErrorKind.OutOfMemory →
+        (result ≡ NO_COMMAND) ⊎ (result ≡ SINK_FAILED)) }
+    ensures no_memory { IfErr words (λ e. error_kind e ≡ ErrorKind.OutOfMemory →
+        result ≡ NO_MEMORY) }
+{
     let mut store = DirStore::new(rt);
     let mut out = OutSink::new(io::writer(rt));
-    vaultc(rt.alloc(), words, &mut store, &mut out)
+    match words {
+        Ok(words) => vaultc(rt.alloc(), words.as_slice(), &mut store, &mut out),
+        Err(error) if error.kind() == ErrorKind::OutOfMemory => NO_MEMORY,
+        Err(_) => vaultc(rt.alloc(), &[], &mut store, &mut out),
+    }
 }
 
-/// Words that aren't text are no command's. Where memory is wanting for the words, the status is 4.
 fn main(rt: HostRuntime) -> ExitCode {
-    let status = match words_of(&rt) {
-        Ok(words) => status_of(&rt, words.as_slice()),
-        Err(error) if error.kind() == ErrorKind::OutOfMemory => 4,
-        Err(_) => status_of(&rt, &[]),
-    };
-    ExitCode::from(status)
+    let words = words_of(&rt);
+    ExitCode::from(status_of(&rt, words))
 }

@@ -1,8 +1,10 @@
 pub mod Digits
-pub mod Options
-pub mod Places
-pub mod Written
+pub mod Settings
+pub mod Finished
 pub mod Ended
-pub mod Commanded
-pub mod Replies
+pub mod Said
+pub mod Lexed
+pub mod Read
+pub mod Single
+pub mod Told
 pub mod Promises

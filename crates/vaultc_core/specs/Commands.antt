@@ -5,12 +5,10 @@ use Rattle.std.specs.Char.{is_ascii_digit}
 use Rattle.std.specs.Option.{unwrap_or, option_map, option_and_then}
 use Rattle.std.specs.Str.{bytes_eq}
 use Rattle.std.specs.Str.Parse.{digits_value}
-
--- what a run may use
-pub record Budgets : Type 0 where
-  pub fuel : ℕ
-  pub heap : ℕ
-  pub depth : ℕ
+use Rattle.vlt_base.specs.declared.Budgets.{Budgets}
+use Rattle.vaultc_core.specs.declared.words.Setting.{Setting}
+use Rattle.vaultc_core.specs.declared.words.Setting.TheVariants.{Fuel, Heap, Depth}
+use Rattle.vaultc_core.specs.declared.words.Settings.{Settings}
 
 pub data Command : Type 0 where
   check : (file : List ℕ) → Command
@@ -28,49 +26,41 @@ number_within low high w =
     if nat_le 1 (length w) && nat_le (length w) 19 && list_all is_ascii_digit w && nat_le low (digits_value 10 w) && nat_le (digits_value 10 w) high
     then Some (digits_value 10 w) else None
 
--- the budgets that were given
-pub record Given : Type 0 where
-  pub fuel : Option ℕ
-  pub heap : Option ℕ
-  pub depth : Option ℕ
+abbrev pub most_fuel : ℕ
+most_fuel = 2 ^ 63 - 1
 
-abbrev pub nothing_given : Given
-nothing_given = record { fuel = None; heap = None; depth = None }
-
--- a value that is given for the first time
-abbrev pub first_value : Option ℕ → Option ℕ → Option ℕ
-first_value None value = value
-first_value (Some n) value = None
-
-abbrev pub with_fuel : Given → Option ℕ → Option Given
-with_fuel g None = None
-with_fuel g (Some n) = Some (record g { fuel = Some n })
-
-abbrev pub with_heap : Given → Option ℕ → Option Given
-with_heap g None = None
-with_heap g (Some n) = Some (record g { heap = Some n })
-
-abbrev pub with_depth : Given → Option ℕ → Option Given
-with_depth g None = None
-with_depth g (Some n) = Some (record g { depth = Some n })
-
--- one option with its number, where the option wasn't given before
-abbrev pub with_option : Given → (option number : List ℕ) → Option Given
-with_option g option number =
-    if bytes_eq option (codes "--fuel") then with_fuel g (first_value g.fuel (number_within 0 (2 ^ 63 - 1) number))
-    else if bytes_eq option (codes "--heap") then with_heap g (first_value g.heap (number_within 0 16777216 number))
-    else if bytes_eq option (codes "--depth") then with_depth g (first_value g.depth (number_within 1 100000 number))
+-- the option of this name with this value, if there is one
+abbrev pub setting_of : (option value : List ℕ) → Option Setting
+setting_of option value =
+    if bytes_eq option (codes "--fuel") then option_map (λ n. Fuel n) (number_within 0 most_fuel value)
+    else if bytes_eq option (codes "--heap") then option_map (λ n. Heap n) (number_within 0 16777216 value)
+    else if bytes_eq option (codes "--depth") then option_map (λ n. Depth n) (number_within 1 100000 value)
     else None
 
--- options with their numbers, each at most once, in any order
-abbrev pub options_of : List (List ℕ) → Given → Option Given
-options_of [] g = Some g
-options_of (option ∷ []) g = None
-options_of (option ∷ number ∷ rest) g = option_and_then (options_of rest) (with_option g option number)
+abbrev pub nothing_set : Settings
+nothing_set = record { fuel = None; heap = None; depth = None }
 
--- what wasn't given has its default
-abbrev pub budgets_of : Given → Budgets
-budgets_of g = record { fuel = unwrap_or g.fuel 1000000; heap = unwrap_or g.heap 65536; depth = unwrap_or g.depth 1000 }
+-- a value that is set for the first time
+abbrev pub first_value : Option ℕ → ℕ → Option (Option ℕ)
+first_value None n = Some (Some n)
+first_value (Some m) n = None
+
+-- one setting more, where it wasn't made before
+abbrev pub with_setting : Settings → Setting → Option Settings
+with_setting s (Fuel n) = option_map (λ fuel. record s { fuel = fuel }) (first_value s.fuel n)
+with_setting s (Heap n) = option_map (λ heap. record s { heap = heap }) (first_value s.heap n)
+with_setting s (Depth n) = option_map (λ depth. record s { depth = depth }) (first_value s.depth n)
+
+-- options with their values, each at most once, in any order
+abbrev pub settings_of : List (List ℕ) → Settings → Option Settings
+settings_of [] s = Some s
+settings_of (option ∷ []) s = None
+settings_of (option ∷ value ∷ rest) s =
+    option_and_then (settings_of rest) (option_and_then (with_setting s) (setting_of option value))
+
+-- what isn't set has its default
+abbrev pub budgets_of : Settings → Budgets
+budgets_of s = record { fuel = unwrap_or s.fuel 1000000; heap = unwrap_or s.heap 65536; depth = unwrap_or s.depth 1000 }
 
 -- a command that takes no options
 abbrev pub without_options : Command → (options : List (List ℕ)) → Option Command
@@ -83,6 +73,12 @@ command_of (word ∷ file ∷ options) =
     if not (is_file_word file) then None
     else if bytes_eq word (codes "check") then without_options (check file) options
     else if bytes_eq word (codes "fmt") then without_options (fmt file) options
-    else if bytes_eq word (codes "run") then option_map (run file) (option_map budgets_of (options_of options nothing_given))
+    else if bytes_eq word (codes "run") then option_map (λ s. run file (budgets_of s)) (settings_of options nothing_set)
     else None
 command_of _ = None
+
+-- the file that a command reads
+abbrev pub file_of : Command → List ℕ
+file_of (check file) = file
+file_of (run file b) = file
+file_of (fmt file) = file

@@ -1,9 +1,10 @@
 pub mod Commands
 pub mod Lines
 pub mod Texts
-pub mod Sources
-pub mod Told
+pub mod Verdicts
+pub mod Runs
+pub mod Replies
 pub mod Promised
-pub mod Answers
+pub mod Finishes
 pub mod View
 pub mod Shown

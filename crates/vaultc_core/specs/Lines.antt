@@ -3,9 +3,10 @@ use Rattle.std.specs.Prelude.{ℕ, List, ◌++◌, length, codes}
 use Rattle.std.specs.Fmt.{decimal}
 use Rattle.vlt_base.specs.Limits.{limit_of}
 use Rattle.vlt_base.specs.Place.{line_of, column_of}
-use Rattle.vlt_core.specs.Core.{Program}
+use Rattle.first_core.specs.Core.{Program}
 use Rattle.vlt_ops.specs.declared.TrapKind.{TrapKind}
 use Rattle.vlt_ops.specs.declared.TrapKind.TheVariants.{Overflow, ZeroDivisor}
+use Rattle.vaultc_core.specs.declared.status.TheConstants.{NO_COMMAND, UNREAD, OVER_LIMIT, NO_TEXT}
 
 -- a status with the text that is written
 pub record Reply : Type 0 where
@@ -14,6 +15,8 @@ pub record Reply : Type 0 where
 
 abbrev pub reply : ℕ → List ℕ → Reply
 reply status text = record { status = status; text = text }
+
+-- ---- lines
 
 abbrev pub usage : List ℕ
 usage = codes "usage: vaultc check F | explain F | fmt F | emit F | verify F | load N | run F OPTIONS | crun F OPTIONS\n"
@@ -36,3 +39,21 @@ accepted_line p = codes "accepted " ++ decimal (length p.fns) ++ codes "\n"
 abbrev pub trap_line : TrapKind → List ℕ
 trap_line Overflow = codes "trap 1\n"
 trap_line ZeroDivisor = codes "trap 2\n"
+
+-- ---- replies
+
+-- the words are no command
+abbrev pub usage_reply : Reply
+usage_reply = reply NO_COMMAND usage
+
+-- the file of this name wasn't read
+abbrev pub unread_reply : List ℕ → Reply
+unread_reply name = reply UNREAD (read_line name)
+
+-- more than the limit of this number allows
+abbrev pub over_reply : ℕ → Reply
+over_reply n = reply OVER_LIMIT (limit_line n)
+
+-- something is wrong with a text at a byte
+abbrev pub place_reply : (what text : List ℕ) → ℕ → Reply
+place_reply what text at = reply NO_TEXT (place_line what text at)

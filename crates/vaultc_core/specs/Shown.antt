@@ -1,24 +1,30 @@
--- The plain refusals, sources and replies that those of the code stand for.
-use Rattle.std.specs.Prelude.{◌≡◌, Option, Some, None, Result, Ok, Err, string_bytes}
+-- The plain refusals, verdicts and replies that those of the code stand for.
+use Rattle.std.specs.Prelude.{◌≡◌, ◌⊎◌, ℕ, MatchOption, Option, Some, None, Result, Ok, Err}
 use Rattle.std.specs.declared.alloc.AllocError.{AllocError}
-use Rattle.vlt_core.specs.Kinds.{IsKinded}
-use Rattle.vlt_core.specs.Derives.{IsAccepted}
-use Rattle.vlt_core.specs.View.{program_of}
+use Rattle.first_core.specs.Kinds.{IsKinded}
+use Rattle.first_core.specs.Derives.{IsAccepted}
+use Rattle.first_core.specs.View.{program_of}
 use Rattle.vlt_lexer.specs.declared.lexer.LexError.TheVariants as lex
-use Rattle.vlt_parser.specs.declared.error.ParseError.TheVariants as parse
-use Rattle.vlt_syntax.specs.Machine.{unexpected_at, over_limit, ended}
+use Rattle.vlt_parser_exprs.specs.declared.error.ParseError.TheVariants as parse
+use Rattle.vlt_syntax.specs.Refusals.{unexpected_at, over_limit, ended}
+use Rattle.first_interp.specs.Stops.{outcome_of}
+use Rattle.first_interp.specs.declared.stop.Stop.{Stop}
+use Rattle.first_interp.specs.declared.stop.Stop.TheVariants.{SinkFault}
+use Rattle.vlt_io.specs.declared.sink.Sink.{Ghosts}
+use Rattle.vaultc_core.specs.declared.status.TheConstants.{SINK_FAILED, NO_MEMORY}
+use Rattle.vaultc_core.specs.Finishes.{Finishes}
+use Rattle.vaultc_core.specs.Runs.{EndsWith}
 use Rattle.vaultc_core.specs.Lines as lines
-use Rattle.vaultc_core.specs.Texts.{Refusal, too_long, unlexed, unparsed}
-use Rattle.vaultc_core.specs.Sources as s
-use Rattle.vaultc_core.specs.declared.text.TextError.{TextError}
-use Rattle.vaultc_core.specs.declared.text.TextError.TheVariants as error
-use Rattle.vaultc_core.specs.declared.judge.Source.{Source}
-use Rattle.vaultc_core.specs.declared.judge.Source.TheVariants as source
-use Rattle.vaultc_core.specs.declared.refusals.Reply.{Reply}
+use Rattle.vaultc_core.specs.Texts.{Refusal, unlexed, unparsed}
+use Rattle.vaultc_core.specs.Verdicts as v
+use Rattle.vaultc_core.specs.declared.source.TextError.{TextError}
+use Rattle.vaultc_core.specs.declared.source.TextError.TheVariants as error
+use Rattle.vaultc_core.specs.declared.verdict.Verdict.{Verdict}
+use Rattle.vaultc_core.specs.declared.verdict.Verdict.TheVariants as verdict
+use Rattle.vaultc_core.specs.declared.reply.Reply.{Reply}
 
 -- the refusal that an error tells; want of memory is none
 abbrev pub refusal_of : TextError → Option Refusal
-refusal_of error.TooLong = Some too_long
 refusal_of (error.Lex lex.Memory) = None
 refusal_of (error.Lex e) = Some (unlexed e)
 refusal_of (error.Parse (parse.Unexpected at)) = Some (unparsed (unexpected_at at))
@@ -26,27 +32,34 @@ refusal_of (error.Parse parse.EndOfText) = Some (unparsed ended)
 refusal_of (error.Parse (parse.Limit n)) = Some (unparsed (over_limit n))
 refusal_of (error.Parse parse.Memory) = None
 
--- the code keeps the program of an accepted source alone
-abbrev pub Shows : Source → s.Source → Type 0
-Shows source.Unresolved s.unresolved = Unit {0}
-Shows source.Refused (s.refused p) = Unit {0}
-Shows (source.Accepted q) (s.accepted p) = p ≡ program_of q
+-- the code keeps the program of an accepted verdict alone
+abbrev pub Shows : Verdict → v.Verdict → Type 0
+Shows verdict.Unresolved v.unresolved = Unit {0}
+Shows verdict.Refused (v.refused p) = Unit {0}
+Shows (verdict.Accepted q) (v.accepted p) = p ≡ program_of q
 Shows _ _ = ⊥
 
 abbrev pub shown_reply : Reply → lines.Reply
-shown_reply r = lines.reply r.status (string_bytes r.text)
+shown_reply r = lines.reply r.status r.text.items
 
 -- the one reply that there is; want of memory gives none
 abbrev pub IsReplyOf : Result Reply AllocError → lines.Reply → Type 0
 IsReplyOf (Ok r) q = q ≡ shown_reply r
 IsReplyOf (Err e) q = ⊥
 
--- the source has no accepted program
-abbrev pub IsNotAccepted : Source → Type 0
-IsNotAccepted (source.Accepted q) = ⊥
+-- the verdict has no accepted program
+abbrev pub IsNotAccepted : Verdict → Type 0
+IsNotAccepted (verdict.Accepted q) = ⊥
 IsNotAccepted _ = Unit {0}
 
 -- a program that is accepted has numbers that fit, and follows the rules
-abbrev pub IsRunnable : Source → Type 0
-IsRunnable (source.Accepted q) = IsKinded (program_of q) × IsAccepted (program_of q)
+abbrev pub IsRunnable : Verdict → Type 0
+IsRunnable (verdict.Accepted q) = IsKinded (program_of q) × IsAccepted (program_of q)
 IsRunnable _ = Unit {0}
+
+-- How the last line of a run is written, by how the run stopped: where it has an outcome, one that ends with the line; else
+-- nothing more, the sink having failed or memory being wanting.
+abbrev pub EndsRun : {K : Type 0} (g : Ghosts K) → Stop → (old new : K) → (status : ℕ) → Type 0
+EndsRun g stop old new status = MatchOption (outcome_of stop)
+    ((new ≡ old) × (((status ≡ SINK_FAILED) × (stop ≡ SinkFault)) ⊎ (status ≡ NO_MEMORY)))
+    (λ o. Finishes g (λ r. EndsWith o r.status r.text) old new status)

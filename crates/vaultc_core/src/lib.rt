@@ -1,13 +1,92 @@
-//! The program's commands, over any store of files and any sink of output.
+//! The program's commands: words and files go in, a status comes out, and lines go to a sink.
+//! Read `specs/Replies.antt` (IsReplyTo) first.
+//! Rests on it: the clauses of `vaultc`, above all `promised`, which rests on `first_sound::accepted_never_goes_wrong`.
 #![tactic(auto)]
 
-mod answer;
-mod finish;
-mod judge;
-mod refusals;
-mod run;
-mod text;
-mod top;
-mod words;
+ghost use Rattle.std.specs.Prelude.{◌≡◌, ◌⊎◌, ℕ, List, Option, None, Some, [], map, string_bytes};
+ghost use Rattle.first_core.specs.Core.{Program as CoreProgram};
+ghost use Rattle.first_core.specs.Derives.{IsAccepted};
+ghost use Rattle.vlt_io.specs.Outside.{Files, Rose, Grew, GrewByPart};
+ghost use Rattle.vaultc_core.specs.Commands as commands;
+ghost use Rattle.vaultc_core.specs.Commands.{command_of};
+ghost use Rattle.vaultc_core.specs.Lines as lines;
+ghost use Rattle.vaultc_core.specs.declared.status.TheConstants.{DONE, NO_COMMAND, UNREAD, SINK_FAILED, NO_MEMORY};
+ghost use Rattle.vaultc_core.specs.Texts.{AreReadInOneWay};
+ghost use Rattle.vaultc_core.specs.Verdicts.{IsProgramOf};
+ghost use Rattle.vaultc_core.specs.Replies.{HasOneReply, IsReplyTo, IsInside, IsOneRead, IsUnread, MayReply};
+ghost use Rattle.vaultc_core.specs.Finishes.{Finishes, WrotePart, WroteReply};
+ghost use Rattle.vaultc_core.specs.Promised.{IsPromised};
 
-pub use top::vaultc;
+mod commands;
+mod lines;
+mod reply;
+mod runs;
+mod source;
+pub mod status;
+mod verdict;
+mod words;
+mod write;
+
+use first_sound::accepted_never_goes_wrong;
+use std::alloc::Global;
+use vlt_io::{Sink, Store};
+
+/// Carries out the command that the words are, and gives its status.
+///
+/// It reads files from the store and writes all its lines to the sink.
+pub fn vaultc<S: Store, K: Sink>(alloc: Global, words: &[String], store: &mut S, out: &mut K) -> u8
+    // Whatever the store: the status and the text are a reply to the bytes that one read of the command's file gave, or tell
+    // that the file wasn't read.
+    ensures every_store { Finishes K.Sink
+        (MayReply S.Store store.old store.new (command_of (map string_bytes words.now)))
+        out.old out.new result }
+    // Of a store that tells its files, the status and the text are the reply to its files.
+    ensures told { (files : Files) → S.files store.old ≡ Some files → IsInside result →
+        WroteReply K.Sink (IsReplyTo (map string_bytes words.now) files) out.old out.new result }
+    // `check` gives 0 only for bytes of a program that follows the rules, and no run of that one goes wrong.
+    ensures promised { (file : List ℕ) →
+        command_of (map string_bytes words.now) ≡ Some (commands.check file) → result ≡ DONE →
+        (bytes : List ℕ) × IsOneRead S.Store store.old store.new file bytes
+        × IsPromised (S.files store.old) file bytes (K.written out.old) (K.written out.new) }
+    // With the file there, its bytes those of an accepted program, and no fault, `check` gives 0 unless memory is wanting.
+    ensures accepts { (files : Files) (file bytes : List ℕ) (p : CoreProgram) →
+        S.files store.old ≡ Some files →
+        command_of (map string_bytes words.now) ≡ Some (commands.check file) → files file ≡ Some bytes →
+        IsProgramOf bytes p → IsAccepted p →
+        ¬ (Rose (S.faults store.old) (S.faults store.new)) →
+        ¬ (Rose (K.faults out.old) (K.faults out.new)) → (result ≡ DONE) ⊎ (result ≡ NO_MEMORY) }
+    // With the file there and no fault, the status is that of the reply, unless memory is wanting.
+    ensures complete { (files : Files) (r : lines.Reply) → S.files store.old ≡ Some files →
+        IsReplyTo (map string_bytes words.now) files r →
+        ¬ (Rose (S.faults store.old) (S.faults store.new)) →
+        ¬ (Rose (K.faults out.old) (K.faults out.new)) → (result ≡ r.status) ⊎ (result ≡ NO_MEMORY) }
+    // The words are no command.
+    ensures usage { result ≡ NO_COMMAND → command_of (map string_bytes words.now) ≡ None }
+    // Words that are no command have the usage line, or a part of it where the sink failed.
+    ensures no_command { command_of (map string_bytes words.now) ≡ None →
+        ((result ≡ NO_COMMAND) × Grew (K.written out.old) (K.written out.new) lines.usage)
+        ⊎ ((result ≡ SINK_FAILED) × GrewByPart (K.written out.old) (K.written out.new) lines.usage) }
+    // The command's file wasn't read, and that is written.
+    ensures unread { result ≡ UNREAD →
+        (command : commands.Command) × (command_of (map string_bytes words.now) ≡ Some command)
+        × WroteReply K.Sink (IsUnread S.Store store.old store.new command) out.old out.new UNREAD }
+    // The sink failed.
+    ensures failed { result ≡ SINK_FAILED → Rose (K.faults out.old) (K.faults out.new) }
+    // Memory was wanting: nothing was written, or a part of a reply to the store's files.
+    ensures memory { (files : Files) → S.files store.old ≡ Some files → result ≡ NO_MEMORY →
+        Grew (K.written out.old) (K.written out.new) []
+        ⊎ WrotePart K.Sink (IsReplyTo (map string_bytes words.now) files) out.old out.new }
+{
+    accepted_never_goes_wrong();
+    commands::carry_out(alloc, words, store, out)
+}
+
+/// A command has one reply to the bytes of its file.
+pub fn a_command_has_one_reply()
+    ensures { HasOneReply }
+{}
+
+/// All bytes are a text of one tree, or they are refused for one reason.
+pub fn bytes_are_read_in_one_way()
+    ensures { (bytes : List ℕ) → AreReadInOneWay bytes }
+{}

@@ -1,10 +1,10 @@
-//! The words of a command.
+//! From words to a command.
 
 ghost use Rattle.std.specs.Prelude.{◌≡◌, ◌≤◌, ◌<◌, ◌+◌, length, slice_get, MatchOption, IfSome, IfNone, None, Some, drop, map, string_bytes, option_map};
 ghost use Rattle.std.specs.List.{list_all};
 ghost use Rattle.std.specs.Char.{is_ascii_digit};
-ghost use Rattle.vaultc_core.specs.Commands.{command_of, is_file_word, number_within, with_option, options_of, nothing_given, budgets_of, without_options};
-ghost use Rattle.vaultc_core.specs.View.{seen_command, seen_given, seen_budgets};
+ghost use Rattle.vaultc_core.specs.Commands.{command_of, file_of, is_file_word, number_within, setting_of, with_setting, settings_of, nothing_set, budgets_of, without_options};
+ghost use Rattle.vaultc_core.specs.View.{seen_command};
 
 use vlt_base::Budgets;
 
@@ -16,9 +16,30 @@ pub enum Command<'a> {
     Fmt(&'a str),
 }
 
-/// The budgets that were given.
+impl<'a> Command<'a> {
+    /// The file that it reads.
+    pub fn file(self) -> &'a str
+        ensures { result.now ≡ file_of (seen_command self.entry) }
+    {
+        match self {
+            Command::Check(file) => file,
+            Command::Run(file, _) => file,
+            Command::Fmt(file) => file,
+        }
+    }
+}
+
+/// An option with its value.
 #[derive(Clone, Copy, Debug)]
-struct Given {
+enum Setting {
+    Fuel(u64),
+    Heap(u32),
+    Depth(u32),
+}
+
+/// What options have set.
+#[derive(Clone, Copy, Debug)]
+struct Settings {
     fuel: Option<u64>,
     heap: Option<u32>,
     depth: Option<u32>,
@@ -55,42 +76,67 @@ fn read_number(word: &str, low: u64, high: u64) -> Option<u64>
     }
 }
 
-/// One option with its number, where the option wasn't given before.
-fn add_option(given: Given, option: &str, number: &str) -> Option<Given>
-    ensures { option_map seen_given result ≡ with_option (seen_given given) option.now number.now }
+/// The option of this name with this value, if there is one.
+fn read_setting(option: &str, value: &str) -> Option<Setting>
+    ensures { result ≡ setting_of option.now value.now }
 {
     match option {
-        "--fuel" if given.fuel.is_none() => {
-            let fuel = read_number(number, 0, i64::MAX as u64)?;
-            Some(Given {
-                fuel: Some(fuel),
-                ..given
-            })
+        "--fuel" => {
+            let fuel = read_number(value, 0, i64::MAX as u64)?;
+            Some(Setting::Fuel(fuel))
         }
-        "--heap" if given.heap.is_none() => {
-            let heap = read_number(number, 0, 16_777_216)?;
-            Some(Given {
-                heap: Some(heap as u32),
-                ..given
-            })
+        "--heap" => {
+            let heap = read_number(value, 0, 16_777_216)?;
+            Some(Setting::Heap(heap as u32))
         }
-        "--depth" if given.depth.is_none() => {
-            let depth = read_number(number, 1, 100_000)?;
-            Some(Given {
-                depth: Some(depth as u32),
-                ..given
-            })
+        "--depth" => {
+            let depth = read_number(value, 1, 100_000)?;
+            Some(Setting::Depth(depth as u32))
         }
         _ => None,
     }
 }
 
-/// An option and its number, the words at a position and behind it.
+impl Settings {
+    /// These with one more, where it wasn't set before.
+    fn with(self, setting: Setting) -> Option<Settings>
+        ensures { result ≡ with_setting self setting }
+    {
+        match setting {
+            Setting::Fuel(fuel) if self.fuel.is_none() => Some(Settings {
+                fuel: Some(fuel),
+                ..self
+            }),
+            Setting::Heap(heap) if self.heap.is_none() => Some(Settings {
+                heap: Some(heap),
+                ..self
+            }),
+            Setting::Depth(depth) if self.depth.is_none() => Some(Settings {
+                depth: Some(depth),
+                ..self
+            }),
+            _ => None,
+        }
+    }
+
+    /// The budgets of a run: what isn't set has its default.
+    fn budgets(self) -> Budgets
+        ensures { result ≡ budgets_of self }
+    {
+        Budgets {
+            fuel: self.fuel.unwrap_or(1_000_000),
+            heap: self.heap.unwrap_or(65_536),
+            depth: self.depth.unwrap_or(1_000),
+        }
+    }
+}
+
+/// The option at a position and its value, the word behind it.
 fn option_at(words: &[String], at: usize) -> Option<(&str, &str)>
     requires { at < length words.now }
     ensures none { IfNone result (length words.now ≤ at + 1) }
     ensures option { IfSome result (λ x. slice_get (map string_bytes words.now) at ≡ Some x.0.now) }
-    ensures number { IfSome result (λ x. slice_get (map string_bytes words.now) (at + 1) ≡ Some x.1.now) }
+    ensures value { IfSome result (λ x. slice_get (map string_bytes words.now) (at + 1) ≡ Some x.1.now) }
 {
     if at + 1 < words.len() {
         Some((words[at].as_str(), words[at + 1].as_str()))
@@ -99,36 +145,29 @@ fn option_at(words: &[String], at: usize) -> Option<(&str, &str)>
     }
 }
 
-/// The budgets that options with their numbers give, each option at most once, in any order.
-fn read_budgets(words: &[String]) -> Option<Budgets>
-    ensures { option_map seen_budgets result ≡ option_map budgets_of (options_of (map string_bytes words.now) nothing_given) }
+/// What pairs of options and values set, each option at most once, in any order.
+fn read_settings(words: &[String]) -> Option<Settings>
+    ensures { result ≡ settings_of (map string_bytes words.now) nothing_set }
 {
-    let mut given = Given {
+    let mut settings = Settings {
         fuel: None,
         heap: None,
         depth: None,
     };
     let mut at = 0;
     while at < words.len() {
-        let Some((option, number)) = option_at(words, at) else {
-            return None;
-        };
-        match add_option(given, option, number) {
-            Some(next) => given = next,
-            None => return None,
-        }
+        let (option, value) = option_at(words, at)?;
+        let setting = read_setting(option, value)?;
+        settings = settings.with(setting)?;
         at += 2;
     }
-    Some(Budgets {
-        fuel: given.fuel.unwrap_or(1_000_000),
-        heap: given.heap.unwrap_or(65_536),
-        depth: given.depth.unwrap_or(1_000),
-    })
+    Some(settings)
 }
 
 /// A command that takes no options.
 fn without_options<'a>(command: Command<'a>, options: &[String]) -> Option<Command<'a>>
-    ensures { option_map seen_command result ≡ without_options (seen_command command.entry) (map string_bytes options.now) }
+    ensures { option_map seen_command result
+        ≡ without_options (seen_command command.entry) (map string_bytes options.now) }
 {
     if options.is_empty() {
         Some(command)
@@ -139,7 +178,7 @@ fn without_options<'a>(command: Command<'a>, options: &[String]) -> Option<Comma
 
 /// The command that the words are, if they are one.
 pub fn read_command(words: &[String]) -> Option<Command<'_>>
-    ensures { MatchOption result (command_of (map string_bytes words.now) ≡ None) (λ c. command_of (map string_bytes words.now) ≡ Some (seen_command c)) }
+    ensures { option_map seen_command result ≡ command_of (map string_bytes words.now) }
 {
     let [command, file, options @ ..] = words else {
         return None;
@@ -151,8 +190,8 @@ pub fn read_command(words: &[String]) -> Option<Command<'_>>
         "check" => without_options(Command::Check(file.as_str()), options),
         "fmt" => without_options(Command::Fmt(file.as_str()), options),
         "run" => {
-            let budgets = read_budgets(options)?;
-            Some(Command::Run(file.as_str(), budgets))
+            let settings = read_settings(options)?;
+            Some(Command::Run(file.as_str(), settings.budgets()))
         }
         _ => None,
     }

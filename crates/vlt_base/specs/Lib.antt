@@ -1,3 +1,4 @@
 pub mod Limits
 pub mod Place
 pub mod States
+pub mod Parents

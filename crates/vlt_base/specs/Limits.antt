@@ -24,7 +24,7 @@ limits =
     -- 13: value slots of a machine
     16777216 ∷
     -- 14, 15: depth of C blocks, and of C expressions
-    192 ∷ 15 ∷ []
+    192 ∷ 16 ∷ []
 
 -- the limit of a number from 1 to 15
 abbrev pub limit_of : ℕ → ℕ

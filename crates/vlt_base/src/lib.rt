@@ -1,4 +1,6 @@
-//! What every other crate stands on: ids, spans, budgets, sets of states, limits and places.
+//! Ground: ids, spans, budgets, sets of states, limits, and places in a text; nothing goes in.
+//! Read `specs/States.antt` first, then `Limits`, `Place` and `Parents`.
+//! Every other crate rests on it.
 #![tactic(auto)]
 
 mod ids;
@@ -7,7 +9,10 @@ mod places;
 mod states;
 
 pub use ids::{FnId, KeyId, SetId, StmtId, TypeId, VarId};
-pub use limits::limit;
+pub use limits::{
+    C_BLOCK_DEPTH, C_BYTES, C_EXPRESSION_DEPTH, CASES, DECLARATIONS, DEPTH, FIELDS, KEYS,
+    PARAMETERS, PAYLOADS, SOURCE_BYTES, STATES, TOKENS, VALUE_SLOTS, VARIABLES, limit,
+};
 pub use places::{Span, place};
 pub use sqlite_items::{Boxed, Items};
 pub use states::StateSet;

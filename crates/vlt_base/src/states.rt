@@ -1,6 +1,6 @@
 //! Sets of states.
 
-ghost use Rattle.std.specs.Prelude.{◌≡◌, ◌↔◌, ℕ, ◌<◌, ◌^◌, ◌||◌, IsTrue, IsNone, IfSome};
+ghost use Rattle.std.specs.Prelude.{◌≡◌, ◌↔◌, ℕ, ◌<◌, ◌≤◌, ◌^◌, ◌||◌, ◌==◌, nat_lt, IsTrue, IsNone, IfSome};
 
 /// A set of numbers below 32 that has at least one.
 #[derive(Clone, Copy, Debug, PartialEq, Eq)]
@@ -22,6 +22,26 @@ impl StateSet {
             None
         } else {
             Some(StateSet { mask })
+        }
+    }
+
+    /// The set of one number.
+    #[tactic(auto, using(crate::proofs::Sets::shifted_bit))]
+    pub fn only(s: u8) -> StateSet
+        requires { s < 32 }
+        ensures { (i : ℕ) → has_state result i ≡ (i == s) }
+    {
+        StateSet::of(1 << s).unwrap()
+    }
+
+    /// The set of the numbers below one from 1 to 32.
+    pub fn first(n: u8) -> StateSet
+        requires some { 1 ≤ n }
+        requires within { n ≤ 32 }
+        ensures { (i : ℕ) → has_state result i ≡ nat_lt i n }
+    {
+        StateSet {
+            mask: ((1_u64 << n) - 1) as u32,
         }
     }
 
@@ -77,6 +97,16 @@ mod tests {
             assert_eq!(rt; set.join(other).mask(), both, "join at {mask}");
             assert_eq!(rt; set.within(other), within, "within at {mask}");
             assert_eq!(rt; set.has(state), has, "{state} in {mask}");
+        }
+        let counts = [(1, 1), (2, 3), (31, 0x7fff_ffff), (32, u32::MAX)];
+        for (count, mask) in counts {
+            assert!(rt; 1 <= count && count <= 32);
+            assert_eq!(rt; StateSet::first(count).mask(), mask, "the first {count}");
+        }
+        let numbers = [(0, 1), (31, 0x8000_0000)];
+        for (number, mask) in numbers {
+            assert!(rt; number < 32);
+            assert_eq!(rt; StateSet::only(number).mask(), mask, "only {number}");
         }
     }
 }

@@ -1,4 +1,2 @@
-pub mod States
-pub mod Passing
-pub mod Deriving
-pub mod Accepting
+pub mod Listed
+pub mod Faultless

@@ -1,3 +1,2 @@
-pub mod Answers
-pub mod Maps
-pub mod Lookups
+pub mod Checks
+pub mod Tellings

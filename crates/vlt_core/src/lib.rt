@@ -1,6 +1,18 @@
-//! The core program, and what it means for it to follow the rules on keys.
+//! Core: a program whose names are numbers, and what the rules on keys say of it; no code but look-ups.
+//! Read `specs/Core.antt` first, then the modules of `specs/Lib.antt` in their order.
+//! The check, the runs, the lowering and the certificate all rest on it.
 #![tactic(auto)]
 
+mod held;
+mod lookups;
+mod notes;
 mod program;
+pub mod rules;
 
-pub use program::{Expr, FieldDecl, Form, Func, KeyDecl, Program, Stmt, StructDecl, Ty, VarDecl};
+pub use held::{After, FaultKind, FlowFault, Row, Status, Tok, Wanted};
+pub use lookups::{Reference, VariantOf};
+pub use notes::{Annotation, Choice, Note, Pick, TokMap, Witness};
+pub use program::{
+    Arm, Block, CaseDecl, Entry, Expr, FieldDecl, Form, Func, KeyDecl, Mode, Operand, Program,
+    SetDecl, Stmt, Ty, TypeDecl, VarDecl,
+};

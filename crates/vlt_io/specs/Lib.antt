@@ -1,5 +1,5 @@
-pub mod Calls
-pub mod Faults
-pub mod Memory
 pub mod Outside
+pub mod Memory
 pub mod Real
+pub mod Faults
+pub mod Calls

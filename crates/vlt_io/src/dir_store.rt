@@ -1,6 +1,6 @@
 //! The real files.
 
-ghost use Rattle.std.specs.Prelude.{◌≡◌, ◌≤◌, ◌+◌, ◌<◌, ◌^◌, None, IfOk, IfSome, take, vec_len};
+ghost use Rattle.std.specs.Prelude.{◌≡◌, ◌≤◌, ◌+◌, ◌<◌, ◌^◌, ℕ, List, Option, None, Some, IfOk, IfSome, take, vec_len};
 
 use crate::faults::Faults;
 use crate::{Store, StoreError};
@@ -30,11 +30,39 @@ impl<'a, R: Files> DirStore<'a, R> {
     }
 }
 
+/// A file that can be opened, once.
+trait Openable {
+    type Reader: Read + Drop;
+
+    /// The file's bytes, where they are known.
+    ghost bytes: { Self → Option (List ℕ) };
+
+    fn open(self) -> io::Result<Self::Reader>
+        ensures { IfOk result (λ reader. IfSome (bytes self) (λ whole. Self.Reader.remaining reader ≡ Some whole)) };
+}
+
+/// A file of the system by its name. Nothing is known of its bytes.
+#[derive(Drop)]
+struct NamedFile<'a, R: Files> {
+    files: &'a R,
+    name: &'a str,
+}
+
+impl<'a, R: Files> Openable for NamedFile<'a, R> {
+    type Reader = R::File;
+
+    ghost bytes = { λ _. None };
+
+    fn open(self) -> io::Result<R::File> {
+        fs::open(self.files, self.name)
+    }
+}
+
 /// The first `limit + 1` bytes that the reader gives, or all if it has fewer.
-fn read_front<T: Read + Drop>(alloc: Global, reader: T, limit: usize) -> io::Result<Vec<u8>>
+fn read_prefix<T: Read + Drop>(alloc: Global, reader: T, limit: usize) -> io::Result<Vec<u8>>
     requires { limit < 2 ^ 32 }
     ensures bounded { IfOk result (λ bytes. vec_len bytes ≤ limit + 1) }
-    ensures front { IfOk result (λ bytes. IfSome (T.remaining reader) (λ whole. bytes.items ≡ take (limit + 1) whole)) }
+    ensures prefix { IfOk result (λ bytes. IfSome (T.remaining reader) (λ whole. bytes.items ≡ take (limit + 1) whole)) }
 {
     let most = limit + 1;
     let mut bytes = Vec::new(alloc);
@@ -43,12 +71,14 @@ fn read_front<T: Read + Drop>(alloc: Global, reader: T, limit: usize) -> io::Res
     Ok(bytes)
 }
 
-fn read_file<R: Files>(files: &R, alloc: Global, name: &str, limit: usize) -> io::Result<Vec<u8>>
+/// The file's first `limit + 1` bytes, or all if it has fewer.
+fn read_file<F: Openable>(alloc: Global, file: F, limit: usize) -> io::Result<Vec<u8>>
     requires { limit < 2 ^ 32 }
-    ensures { IfOk result (λ bytes. vec_len bytes ≤ limit + 1) }
+    ensures bounded { IfOk result (λ bytes. vec_len bytes ≤ limit + 1) }
+    ensures prefix { IfOk result (λ bytes. IfSome (F.bytes file) (λ whole. bytes.items ≡ take (limit + 1) whole)) }
 {
-    let file = fs::open(files, name)?;
-    read_front(alloc, file, limit)
+    let reader = file.open()?;
+    read_prefix(alloc, reader, limit)
 }
 
 impl<'a, R: Files> Store for DirStore<'a, R> {
@@ -58,8 +88,14 @@ impl<'a, R: Files> Store for DirStore<'a, R> {
 
     ghost files = { λ _. None };
 
+    ghost reads = { λ _ _ _ _. Unit {0} };
+
     fn read(&mut self, alloc: Global, name: &str, limit: usize) -> Result<Vec<u8>, StoreError> {
-        match read_file(self.files, alloc, name, limit) {
+        let file = NamedFile {
+            files: self.files,
+            name,
+        };
+        match read_file(alloc, file, limit) {
             Ok(bytes) => Ok(bytes),
             Err(error) if error.kind() == ErrorKind::OutOfMemory => Err(StoreError::Memory),
             Err(_) => {
@@ -71,31 +107,4 @@ impl<'a, R: Files> Store for DirStore<'a, R> {
 }
 
 #[cfg(test)]
-mod tests {
-    use super::*;
-    use std::test::Fail;
-
-    #[test]
-    fn files(rt: HostRuntime) -> Result<(), Fail> {
-        let alloc = rt.alloc();
-        let name = "vlt_io_dir_store.txt";
-        fs::write(&rt, name, "abcde")?;
-        let mut store = DirStore::new(&rt);
-        for (limit, want) in [(9, "abcde"), (4, "abcde"), (3, "abcd"), (0, "a")] {
-            assert!(rt; limit < 10);
-            let bytes = store.read(alloc, name, limit).map_err(|_| "not read")?;
-            assert_eq!(rt; bytes.as_slice(), want.as_bytes());
-        }
-        fs::remove_file(&rt, name)?;
-        assert_eq!(rt; store.read(alloc, name, 9).err(), Some(StoreError::Failed));
-        assert_eq!(rt; store.read(alloc, ".", 9).err(), Some(StoreError::Failed));
-        Ok(())
-    }
-
-    #[test]
-    fn endless(rt: HostRuntime) -> Result<(), Fail> {
-        let bytes = read_front(rt.alloc(), io::repeat(b'x'), 3)?;
-        assert_eq!(rt; bytes.as_slice(), b"xxxx".as_slice());
-        Ok(())
-    }
-}
+mod tests;

@@ -1,7 +1,6 @@
-//! The outside as two traits: files that are read, and bytes that are written.
-//!
-//! `MemStore` and `MemSink` live in memory and tell all that they hold. `DirStore` and `OutSink` stand for the real
-//! files and a real writer, of which nothing is known but the count of failures.
+//! The outside: names go in and bytes come out of a store, and bytes go into a sink.
+//! Read `specs/Outside.antt` first.
+//! Rests on it: the clauses of `vaultc_core::vaultc`, which hold for every store and every sink.
 #![tactic(auto)]
 
 mod calls;

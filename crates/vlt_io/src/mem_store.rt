@@ -56,14 +56,17 @@ impl Store for MemStore {
 
     ghost files = { λ store. Some (file_at store) };
 
+    ghost reads = { λ old _ _ new. reads_of new ≡ one_more (reads_of old) };
+
     fn read(&mut self, alloc: Global, name: &str, limit: usize) -> Result<Vec<u8>, StoreError>
         requires { limit < 2 ^ 32 }
         ensures bytes { IfOk result (λ bytes. IsRead (Some (file_at self.old)) name.now limit bytes.items) }
         ensures bounded { IfOk result (λ bytes. vec_len bytes ≤ limit + 1) }
+        ensures reads { IfOk result (λ _. reads_of self.new ≡ one_more (reads_of self.old)) }
         ensures failed { IsErrOf result StoreError.Failed → MayFail (Some (file_at self.old)) name.now (store_faults self.old) (store_faults self.new) }
         ensures unchanged { file_at self.new ≡ file_at self.old }
         ensures counted { store_faults self.old ≤ store_faults self.new }
-        ensures reads { reads_of self.new ≡ one_more (reads_of self.old) }
+        ensures counted_reads { reads_of self.new ≡ one_more (reads_of self.old) }
         ensures failing { failing_reads self.new ≡ failing_reads self.old }
         ensures told_to_fail { fails_next_read self.old ≡ true → (result ≡ Err StoreError.Failed) × (store_faults self.new ≡ one_more (store_faults self.old)) }
         ensures else_as_before { fails_next_read self.old ≡ false → store_faults self.new ≡ store_faults self.old }

@@ -3,8 +3,11 @@
 ghost use Rattle.std.specs.Prelude.{◌≤◌, ℕ, List, Option, OnOk, OnErr};
 ghost use Rattle.vlt_io.specs.Outside.{Rose, Grew, GrewByPart};
 
+use thiserror::Error;
+
 /// The sink did not take the whole piece.
-#[derive(Clone, Copy, Debug, PartialEq, Eq)]
+#[derive(Clone, Copy, Debug, PartialEq, Eq, Error)]
+#[error("the sink did not take the whole piece")]
 pub struct SinkFailed;
 
 /// Where bytes go, one piece after another.

@@ -1,2 +1,12 @@
 pub mod World
+pub mod Found
+pub mod Objects
+pub mod Values
+pub mod Step
+pub mod Operands
+pub mod Calls
+pub mod Answers
+pub mod Externals
 pub mod Run
+pub mod Does
+pub mod Clean

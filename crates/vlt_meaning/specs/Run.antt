@@ -1,168 +1,221 @@
--- What the statements of a program do. A test that fails ends the run in a fault.
-use Rattle.std.specs.Prelude.{ℕ, ◌==◌, nat_lt, ℤ, if◌then◌else◌, List, [], ◌∷◌, ◌++◌, length, Option, Some, None, Result, Ok, Err, slice_get, slice_set}
-use Rattle.std.specs.List.{list_any}
-use Rattle.vlt_ops.specs.Operator.{applied}
-use Rattle.vlt_ops.specs.declared.Op.TheVariants.{Add}
-use Rattle.vlt_ops.specs.declared.TrapKind.{TrapKind}
-use Rattle.vlt_core.specs.Core.{States, Expr, number, field, add, Form, print, put, make, release, return, Stmt, Func, Program}
-use Rattle.vlt_core.specs.Kinds.{Reference, reference_of, permitted_in, release_set}
-use Rattle.vlt_meaning.specs.World.{held, gone, Object, World, Frame, Event, printed, is_held_under, is_held_at, is_full, Outcome, done, trap, heap_end, depth_end, fault, Ran}
+-- What the statements of a program do, and whole runs.
+use Rattle.std.specs.Prelude.{ℕ, zero, suc, ◌==◌, nat_lt, ℤ, Bool, true, false, not, if◌then◌else◌, List, [], length, map, Option, Some, None, slice_get}
+use Rattle.std.specs.List.{list_all, flat_map}
+use Rattle.std.specs.Result.{is_ok}
+use Rattle.vlt_ops.specs.Operator.{is_true}
+use Rattle.vlt_core.specs.Core.{States, Operand, Form, Block, block, Stmts, done, next, Arms, no_arms, arm, Simple, set, print, put, make, become, release, drop, own, unpack, build, swap, open_into, adopt, simple, call, choose, loop, switch, focus, scope, return, jump, CaseDecl, Func, Program}
+use Rattle.vlt_core.specs.Core as core
+use Rattle.vlt_core.specs.Lookups.{fields_of, Reference, reference_of, guarded_of, owning_states, variant_of, case_keys, case_at, permitted_in, release_set, first_state}
+use Rattle.vlt_meaning.specs.World.{reference, Value, one, of_case, objects_in, Object, held, lent, loose, inside, adopted_by, is_loose, is_inside, is_lent_under, printed, World, Frame, fuel_end, depth_end, fault, missing, no_value, same_object, other_object, not_held, not_owned, left_behind, not_empty, no_return, Outcome, Ran}
+use Rattle.vlt_meaning.specs.World as world
+use Rattle.vlt_meaning.specs.Found.{Found, ◌>>=◌, or_fault, Named, if_so}
+use Rattle.vlt_meaning.specs.Objects.{object_at, in_states, owned_at, with_owner, with_state, with_cell}
+use Rattle.vlt_meaning.specs.Values.{held_object, object_of, guarded_object, touchable, value_of, number_of}
+use Rattle.vlt_meaning.specs.Step.{Step, goes, jumps, leaves, ends, with_found, where_so, with_objects, with_changed, with_event, spend, with_input, with_made, with_moved, with_released, with_dropped, with_var, with_key, fill, with_filled, left_block, then_do, then_turn}
+use Rattle.vlt_meaning.specs.Operands.{with_operand, with_operands, owning_cells, parts_of, with_case_packed, with_case_opened, Case, case_in, emptied, owned_in}
+use Rattle.vlt_meaning.specs.Calls.{entries_after, passed_objects, handed_over, callee_frame, back_in, with_returned, returned_objects, holds_only, is_emptied}
+use Rattle.vlt_meaning.specs.Externals.{payload_in, call_external}
 
--- ---- objects that may be touched
+-- what never changes in a run
+pub record Setup : Type 0 where
+  pub program : Program
+  pub heap : ℕ
+  pub depth : ℕ
 
--- an object with its number
-pub record Named : Type 0 where
-  pub number : ℕ
-  pub object : Object
+-- what lists of statements of a function do
+abbrev pub Meaning : Type 0
+Meaning = Func → Stmts → Frame → World → Step
 
-abbrev pub if_held : (depth key number : ℕ) → Option Object → Option Named
-if_held d k n None = None
-if_held d k n (Some o) = if is_held_under d k o.owner then Some (record { number = n; object = o }) else None
+-- ---- statements without blocks
 
-abbrev pub if_same : (depth key : ℕ) → (by_var by_key : Option ℕ) → List Object → Option Named
-if_same d k (Some n) (Some m) objects = if n == m then if_held d k n (slice_get objects n) else None
-if_same d k _ _ objects = None
+abbrev pub any_state : Reference → States
+any_state r s = true
 
--- the object of a tracked variable, where its key names the same object and the frame holds it under the key
-abbrev pub held_object : Reference → (x : ℕ) → Frame → List Object → Option Named
-held_object r x frame objects = if_same frame.depth r.key (frame.vars x) (frame.keys r.key) objects
+abbrev pub new_object : Reference → List Value → Frame → Object
+new_object q cells frame =
+    record { type = q.type; state = first_state; cells = cells; owner = held frame.depth q.key }
 
-abbrev pub if_in : States → Option Named → Option Named
-if_in states None = None
-if_in states (Some n) = if states n.object.state then Some n else None
+-- an object in its first state, with its owning values' objects in it
+unfoldable pub made_in : Setup → Reference → (x : ℕ) → List Value → Frame → World → Step
+made_in r q x cells frame w =
+    with_made r.heap (new_object q cells frame) w (λ n w.
+    with_moved is_loose (inside n) (flat_map objects_in cells) w (λ w.
+    goes (with_var x (Some (one (reference n))) (with_key q.key n frame)) w))
 
-abbrev pub object_in : (Reference → States) → Option Reference → (x : ℕ) → Frame → List Object → Option Named
-object_in states None x frame objects = None
-object_in states (Some r) x frame objects = if_in (states r) (held_object r x frame objects)
+-- An owning variable's value is exchanged for a field's. The new objects are loose before the old ones are.
+unfoldable pub swapped : (position v : ℕ) → Named → (old new : Value) → Frame → World → Step
+swapped i v n old new frame w =
+    where_so (list_all (λ m. is_ok (owned_at is_loose w.objects m)) (objects_in new)) not_owned None w (λ w.
+    with_moved (is_inside n.number) loose (objects_in old) w (λ w.
+    with_moved is_loose (inside n.number) (objects_in new) w (λ w.
+    goes (with_var v (Some old) frame) (with_changed w n.number (with_cell i new)))))
 
--- the object that a touch of x's field goes to: it is held, in a state that the field permits
-abbrev pub touchable : Program → Func → (x position : ℕ) → Frame → List Object → Option Named
-touchable p f x i frame objects = object_in (λ r. permitted_in p r.type i) (reference_of f x) x frame objects
+-- the values of the owning fields go into the variables; the object ends, and all that it adopted
+unfoldable pub opened : Setup → (n : ℕ) → List Value → Func → (vs : List ℕ) → Frame → World → Step
+opened r n cells f vs frame w =
+    with_moved (is_inside n) loose (flat_map objects_in cells) w (λ w.
+    with_released r.program n w (λ w.
+    with_filled f vs cells frame w (λ frame. goes frame w)))
 
-abbrev pub if_cell : (position : ℕ) → Option Named → Option Named
-if_cell i None = None
-if_cell i (Some n) = if nat_lt i (length n.object.cells) then Some n else None
+abbrev pub does_simple : Setup → Func → Simple → Frame → World → Step
+does_simple r f (set v e) frame w =
+    with_found (value_of r.program f e frame w.objects) w (λ a. goes (with_var v (Some a) frame) w)
+does_simple r f (core.input v more) frame w =
+    with_input more w (λ z w. goes (with_var v (Some (one (world.number z))) frame) w)
+does_simple r f (print e) frame w =
+    with_found (number_of r.program f e frame w.objects) w (λ z. goes frame (with_event w (printed z)))
+does_simple r f (put x i e) frame w =
+    with_found (value_of r.program f e frame w.objects) w (λ a.
+    with_found (touchable r.program f x i frame w.objects) w (λ n.
+    where_so (nat_lt i (length n.object.cells)) missing (Some n.number) w (λ w.
+    goes frame (with_changed w n.number (with_cell i a)))))
+does_simple r f (make x args) frame w =
+    with_found (or_fault missing (reference_of f x)) w (λ q.
+    where_so (length args == length (fields_of r.program q.type)) missing None w (λ w.
+    with_operands r.program f args frame w (λ cells frame w. made_in r q x cells frame w)))
+does_simple r f (become x s) frame w =
+    with_found (object_of f any_state x frame w.objects) w (λ n. goes frame (with_changed w n.number (with_state s)))
+does_simple r f (release x) frame w =
+    with_found (object_of f any_state x frame w.objects) w (λ n. with_released r.program n.number w (goes frame))
+does_simple r f (drop v) frame w =
+    with_found (or_fault no_value (frame.vars v)) w (λ a.
+    with_dropped r.program (objects_in a) w (goes (with_var v None frame)))
+does_simple r f (own v o) frame w = with_operand r.program f o frame w (λ a frame w. fill f v a frame w)
+does_simple r f (unpack x v) frame w =
+    with_found (or_fault missing (reference_of f x)) w (λ q.
+    with_found (or_fault missing (owning_states f v)) w (λ states.
+    with_found (owned_in (frame.vars v)) w (λ n.
+    with_found (owned_at is_loose w.objects n >>= in_states states) w (λ m.
+    goes (with_var x (Some (one (reference n))) (with_key q.key n (with_var v None frame)))
+    (with_changed w n (with_owner (held frame.depth q.key)))))))
+does_simple r f (build v c args) frame w =
+    with_found (or_fault missing (variant_of f v)) w (λ t.
+    where_so (length args == length (payload_in (case_at r.program t.type c))) missing None w (λ w.
+    with_operands r.program f args frame w (λ values frame w.
+    with_found (parts_of values) w (λ parts.
+    with_case_packed (case_keys r.program t c) frame w (λ ns w. fill f v (of_case c parts ns) frame w)))))
+does_simple r f (swap x i v) frame w =
+    with_found (object_of f (λ q. permitted_in r.program q.type i) x frame w.objects) w (λ n.
+    with_found (or_fault missing (slice_get n.object.cells i)) w (λ old.
+    with_found (or_fault no_value (frame.vars v)) w (λ new. swapped i v n old new frame w)))
+does_simple r f (open_into x vs) frame w =
+    with_found (or_fault missing (reference_of f x)) w (λ q.
+    with_found (object_of f any_state x frame w.objects) w (λ n.
+    opened r n.number (owning_cells (fields_of r.program q.type) n.object.cells) f vs frame w))
+does_simple r f (adopt y x q) frame w =
+    with_found (object_of f (λ t. release_set r.program t.type) x frame w.objects) w (λ n.
+    with_found (object_of f any_state q frame w.objects) w (λ a.
+    where_so (not (n.number == a.number)) same_object (Some n.number) w (λ w.
+    goes (with_var y (Some (one (reference n.number))) frame)
+    (with_changed w n.number (with_owner (adopted_by a.number))))))
 
--- the object that a write of x's field goes to: it may be touched, and it has a cell for the field
-abbrev pub writable : Program → Func → (x position : ℕ) → Frame → List Object → Option Named
-writable p f x i frame objects = if_cell i (touchable p f x i frame objects)
+-- ---- calls, returns and foci
 
--- the object that a release of x ends: it is held, in a state of its release set
-abbrev pub releasable : Program → Func → (x : ℕ) → Frame → List Object → Option Named
-releasable p f x frame objects = object_in (λ r. release_set p r.type) (reference_of f x) x frame objects
+unfoldable pub call_body : Setup → Meaning → Func → (target : Option ℕ) → (keys : List ℕ) → Func →
+    List Value → Frame → World → Step
+call_body r rest_of f target keys g args frame w =
+    if nat_lt frame.depth r.depth then
+    with_found (passed_objects r.program g keys frame w.objects g.clause) w (λ ns.
+    back_in f target keys g frame
+    (rest_of g g.body (callee_frame g keys args frame) (with_objects w (handed_over keys frame g.clause w.objects))))
+    else ends depth_end w
 
--- ---- expressions
+unfoldable pub call_by : (external : Bool) → Setup → Meaning → Func → (target : Option ℕ) → (keys : List ℕ) →
+    Func → List Value → Frame → World → Step
+call_by true r rest_of f target keys g args frame w = call_external r.heap r.program f target keys g args frame w
+call_by false r rest_of f target keys g args frame w = call_body r rest_of f target keys g args frame w
 
-pub data Value : Type 0 where
-  is : ℤ → Value
-  traps : TrapKind → Value
-  faults : Value
+unfoldable pub left_function : Setup → Func → Option Operand → Option Value → Frame → World → Step
+left_function r f value a frame w =
+    with_found (returned_objects r.program f value (entries_after f) frame w.objects) w (λ kept.
+    where_so (holds_only kept frame w.objects) left_behind None w (λ w.
+    where_so (is_emptied f frame) left_behind None w (λ w. leaves a kept w)))
 
-abbrev pub cell_in : (position : ℕ) → Option Named → Value
-cell_in i None = faults
-cell_in i (Some n) = cell (slice_get n.object.cells i)
-  where
-    cell : Option ℤ → Value
-    cell None = faults
-    cell (Some z) = is z
+-- the object of an open focus, which the key names still, in a state of its release set
+abbrev pub focused_object : Setup → (key : Reference) → (number : ℕ) → Frame → List Object → Found Named
+focused_object r q n frame objects = do
+  m ← held_object q.key frame objects
+  o ← if_so (m.number == n) other_object m
+  in_states (release_set r.program q.type) o
 
-abbrev pub value_of_result : Result ℤ TrapKind → Value
-value_of_result (Ok z) = is z
-value_of_result (Err t) = traps t
+abbrev pub lent_object : (key number : ℕ) → Frame → List Object → Found Named
+lent_object k a frame objects = do
+  m ← object_at objects a
+  if_so (is_lent_under frame.depth k m.object.owner) not_held m
 
--- operands are evaluated from the left
-abbrev pub sum : Value → Value → Value
-sum (is a) (is b) = value_of_result (applied Add a b)
-sum (is a) other = other
-sum other _ = other
+-- at the end of a focus the object goes back to its adopter, which is held again
+unfoldable pub unfocused : Setup → (guard key : Reference) → (adopter number : ℕ) → Frame → World → Step
+unfocused r g q a n frame w =
+    with_found (focused_object r q n frame w.objects) w (λ m.
+    with_found (lent_object g.key a frame w.objects) w (λ b.
+    goes frame
+    (with_changed (with_changed w n (with_owner (adopted_by a))) a (with_owner (held frame.depth g.key)))))
 
-abbrev pub value_of : Program → Func → Expr → Frame → List Object → Value
-value_of p f (number z) frame objects = is z
-value_of p f (field x i) frame objects = cell_in i (touchable p f x i frame objects)
-value_of p f (add a b) frame objects = sum (value_of p f a frame objects) (value_of p f b frame objects)
-
-pub data Values : Type 0 where
-  are : List ℤ → Values
-  trap_at : TrapKind → Values
-  fault_at : Values
-
-abbrev pub first : Value → Values → Values
-first (is z) (are zs) = are (z ∷ zs)
-first (is z) other = other
-first (traps t) _ = trap_at t
-first faults _ = fault_at
-
-abbrev pub values_of : Program → Func → List Expr → Frame → List Object → Values
-values_of p f [] frame objects = are []
-values_of p f (e ∷ es) frame objects = first (value_of p f e frame objects) (values_of p f es frame objects)
+unfoldable pub focus_end : Setup → (guard key : Reference) → (adopter number : ℕ) → Step → Step
+focus_end r g q a n (goes frame w) = unfocused r g q a n frame w
+focus_end r g q a n other = other
 
 -- ---- statements
 
--- where a statement comes to: the next one, the function's end, or the end of the run
-pub data After : Type 0 where
-  goes : Frame → World → After
-  leaves : World → After
-  ends : Outcome → World → After
+abbrev mutual
+  -- one statement of `f`; `rest_of` says what statements do that come after a unit of fuel was spent
+  pub does_form : Setup → Meaning → Func → Form → Frame → World → Step
+  does_form r rest_of f (simple s) frame w = does_simple r f s frame w
+  does_form r rest_of f (call g target keys args) frame w =
+      with_found (or_fault missing (slice_get r.program.fns g)) w (λ g.
+      where_so (length args == g.params) missing None w (λ w.
+      with_operands r.program f args frame w (λ values frame w.
+      spend w (λ w. call_by g.external r rest_of f target keys g values frame w))))
+  does_form r rest_of f (choose e a b) frame w =
+      with_found (number_of r.program f e frame w.objects) w (λ z.
+      if is_true z then does_block r rest_of f a frame w else does_block r rest_of f b frame w)
+  does_form r rest_of f (loop e body) frame w =
+      spend w (λ w.
+      with_found (number_of r.program f e frame w.objects) w (λ z.
+      if is_true z then then_turn (does_block r rest_of f body frame w) (rest_of f (next 0 (loop e body) done))
+      else goes frame w))
+  does_form r rest_of f (switch v arms end) frame w =
+      with_found (or_fault missing (variant_of f v)) w (λ t.
+      with_found (case_in (frame.vars v)) w (λ c.
+      with_case_opened (case_keys r.program t c.number) c.keys frame w (λ w.
+      does_arm r rest_of f c arms (emptied f v frame) w)))
+  does_form r rest_of f (focus y z body) frame w =
+      with_found (or_fault missing (guarded_of f y)) w (λ g.
+      with_found (or_fault missing (reference_of f z)) w (λ q.
+      with_found (held_object g.key frame w.objects) w (λ a.
+      with_found (guarded_object g y frame w.objects) w (λ n.
+      focus_end r g q a.number n.number
+      (does_block r rest_of f body
+      (with_var z (Some (one (reference n.number))) (with_key q.key n.number frame))
+      (with_changed (with_changed w a.number (with_owner (lent frame.depth g.key)))
+      n.number (with_owner (held frame.depth q.key))))))))
+  does_form r rest_of f (scope body) frame w = does_block r rest_of f body frame w
+  does_form r rest_of f (return value) frame w =
+      with_returned r.program f value frame w (λ a frame w. left_function r f value a frame w)
+  does_form r rest_of f (jump c) frame w = jumps c frame w
 
-abbrev pub with_value : Value → World → (ℤ → After) → After
-with_value (is z) w go = go z
-with_value (traps t) w go = ends (trap t) w
-with_value faults w go = ends fault w
+  pub does_block : Setup → Meaning → Func → Block → Frame → World → Step
+  does_block r rest_of f (block stmts bound end) frame w = left_block bound (does_stmts r rest_of f stmts frame w)
 
-abbrev pub with_values : Values → World → (List ℤ → After) → After
-with_values (are zs) w go = go zs
-with_values (trap_at t) w go = ends (trap t) w
-with_values fault_at w go = ends fault w
+  pub does_stmts : Setup → Meaning → Func → Stmts → Frame → World → Step
+  does_stmts r rest_of f done frame w = goes frame w
+  does_stmts r rest_of f (next at form rest) frame w =
+      then_do (does_form r rest_of f form frame w) (does_stmts r rest_of f rest)
 
-abbrev pub with_object : Option Named → World → (Named → After) → After
-with_object None w go = ends fault w
-with_object (Some n) w go = go n
+  pub does_arm : Setup → Meaning → Func → Case → Arms → Frame → World → Step
+  does_arm r rest_of f c no_arms frame w = ends (fault missing None) w
+  does_arm r rest_of f c (arm n vs body rest) frame w =
+      if c.number == n then
+      with_filled f vs (map one c.parts) frame w (λ frame. does_block r rest_of f body frame w)
+      else does_arm r rest_of f c rest frame w
 
-abbrev pub with_reference : Option Reference → World → (Reference → After) → After
-with_reference None w go = ends fault w
-with_reference (Some r) w go = go r
+abbrev pub out_of_fuel : Meaning
+out_of_fuel f ss frame w = ends fuel_end w
 
--- a map from numbers, changed at one
-abbrev pub set_at : ℕ → ℕ → (ℕ → Option ℕ) → ℕ → Option ℕ
-set_at x n old y = if y == x then Some n else old y
-
-abbrev pub with_event : World → Event → World
-with_event w e = record w { events = w.events ++ e ∷ [] }
-
-abbrev pub with_changed : World → ℕ → Object → World
-with_changed w n o = record w { objects = slice_set w.objects n o }
-
--- The new object is held under the key, which names it; it is the last one of the list.
-abbrev pub with_made : Reference → (x : ℕ) → List ℤ → Frame → World → After
-with_made r x cells frame w =
-    goes
-    (record frame { vars = set_at x (length w.objects) frame.vars; keys = set_at r.key (length w.objects) frame.keys })
-    (record w { objects = w.objects ++ record { type = r.type; state = 0; cells = cells; owner = held frame.depth r.key } ∷ [] })
-
-abbrev pub does_step : (heap : ℕ) → Program → Func → Form → Frame → World → After
-does_step heap p f (print e) frame w =
-    with_value (value_of p f e frame w.objects) w (λ z. goes frame (with_event w (printed z)))
-does_step heap p f (put x i e) frame w =
-    with_value (value_of p f e frame w.objects) w (λ z.
-    with_object (writable p f x i frame w.objects) w (λ n.
-    goes frame (with_changed w n.number (record n.object { cells = slice_set n.object.cells i z }))))
-does_step heap p f (make x args) frame w =
-    with_values (values_of p f args frame w.objects) w (λ zs.
-    with_reference (reference_of f x) w (λ r.
-    if is_full heap w.objects then ends heap_end w else with_made r x zs frame w))
-does_step heap p f (release x) frame w =
-    with_object (releasable p f x frame w.objects) w (λ n.
-    goes frame (with_changed w n.number (record n.object { owner = gone })))
-does_step heap p f return frame w =
-    if list_any (λ o. is_held_at frame.depth o.owner) w.objects then ends fault w else leaves w
-
-abbrev pub then_do : After → (Frame → World → After) → After
-then_do (goes frame w) go = go frame w
-then_do other go = other
-
-abbrev pub does : (heap : ℕ) → Program → Func → List Stmt → Frame → World → After
-does heap p f [] frame w = goes frame w
-does heap p f (s ∷ rest) frame w = then_do (does_step heap p f s.form frame w) (does heap p f rest)
+-- what statements do that come after a unit of fuel was spent, where n units were there
+abbrev pub less : Setup → ℕ → Meaning
+less r zero = out_of_fuel
+less r (suc n) = does_stmts r (less r n)
 
 -- ---- whole runs
 
@@ -171,20 +224,25 @@ abbrev pub first_frame : (depth : ℕ) → Frame
 first_frame d = record { depth = d; vars = λ x. None; keys = λ k. None }
 
 abbrev pub start : (fuel : ℕ) → (input : List ℤ) → (answers : List (List ℤ)) → World
-start fuel input answers = record { objects = []; fuel = fuel; input = input; answers = answers; events = [] }
+start fuel input answers =
+    record { objects = []; fuel = fuel; input = input; answers = answers; taken = 0; events = [] }
 
--- A body that doesn't return ends in a fault.
-abbrev pub ended : After → Ran
-ended (goes frame w) = record { outcome = fault; world = w }
-ended (leaves w) = record { outcome = done; world = w }
-ended (ends o w) = record { outcome = o; world = w }
+abbrev pub ran : Outcome → (kept : List ℕ) → World → Ran
+ran o kept w = record { outcome = o; kept = kept; world = w }
 
-abbrev pub main_run : (heap : ℕ) → Program → Option Func → World → After
-main_run heap p None w = ends fault w
-main_run heap p (Some f) w = does heap p f f.body (first_frame 1) w
+abbrev pub ended : Step → Ran
+ended (goes frame w) = ran (fault no_return None) [] w
+ended (jumps c frame w) = ran (fault no_return None) [] w
+ended (leaves a kept w) = ran world.done kept w
+ended (ends o w) = ran o [] w
+
+abbrev pub main_run : Setup → (fuel : ℕ) → Option Func → World → Step
+main_run r fuel None w = ends (fault missing None) w
+main_run r fuel (Some f) w = does_stmts r (less r fuel) f f.body (first_frame 1) w
 
 -- the run of a program: main's frame is the first one of the depth
 abbrev pub run : Program → (fuel heap depth : ℕ) → (input : List ℤ) → (answers : List (List ℤ)) → Ran
 run p fuel heap depth input answers =
     let w = start fuel input answers in
-    ended (if depth == 0 then ends depth_end w else main_run heap p (slice_get p.fns p.main) w)
+    ended (if depth == 0 then ends depth_end w
+    else main_run (record { program = p; heap = heap; depth = depth }) fuel (slice_get p.fns p.main) w)

@@ -1,4 +1,6 @@
-//! Files of numbers: the input of a run, and the answers of its host.
+//! Files of numbers: bytes go in, a run's input numbers or its host's answers come out, or the first bad line.
+//! Read `specs/Text.antt` first.
+//! `run` and `crun` with `--input` and `--answers` are going to rest on it.
 #![tactic(auto)]
 
 ghost use Rattle.std.specs.Prelude.{◌≡◌, ℕ, ◌-◌, ◌^◌, ◌<◌, length, IfOk};
@@ -27,7 +29,8 @@ const LINE_ENDS: &[u8] = b"\n";
 pub fn read_input(alloc: Global, text: &[u8]) -> Result<Vec<i64>, NumbersError>
     requires { length text.now < 2 ^ 32 - 1 }
     ensures ok { IfOk result (λ numbers. input_numbers text.now ≡ Ok numbers.items) }
-    ensures bad { (line : ℕ) → result ≡ Err (NumbersError.Bad line) → input_numbers text.now ≡ Err line }
+    ensures bad { (line : ℕ) → result ≡ Err (NumbersError.Bad line) →
+        input_numbers text.now ≡ Err line }
 {
     let Answers { numbers, ends } = read_answers(alloc, text)?;
     drop(ends);
@@ -43,7 +46,8 @@ pub fn read_input(alloc: Global, text: &[u8]) -> Result<Vec<i64>, NumbersError>
 pub fn read_answers(alloc: Global, text: &[u8]) -> Result<Answers, NumbersError>
     requires { length text.now < 2 ^ 32 - 1 }
     ensures ok { IfOk result (λ answers. answers_of text.now ≡ Ok (lists_of answers)) }
-    ensures bad { (line : ℕ) → result ≡ Err (NumbersError.Bad line) → answers_of text.now ≡ Err line }
+    ensures bad { (line : ℕ) → result ≡ Err (NumbersError.Bad line) →
+        answers_of text.now ≡ Err line }
 {
     let mut numbers = Vec::new(alloc);
     let mut ends = Vec::new(alloc);

@@ -13,7 +13,8 @@ pub fn push_numbers(numbers: &mut Vec<i64>, line: &[u8], at: u32) -> Result<(), 
     ensures good { OnOk result (IsTrue (is_good line.now)) }
     ensures pushed { OnOk result (numbers.new.items ≡ numbers.old.items ++ numbers_of line.now) }
     ensures few { OnOk result (vec_len numbers.new ≤ vec_len numbers.old + length line.now) }
-    ensures bad { (n : ℕ) → result ≡ Err (NumbersError.Bad n) → (n ≡ at) × (is_good line.now ≡ false) }
+    ensures bad { (n : ℕ) → result ≡ Err (NumbersError.Bad n) →
+        (n ≡ at) × (is_good line.now ≡ false) }
 {
     let mut rest = line;
     while !rest.is_empty() {

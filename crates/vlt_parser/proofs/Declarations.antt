@@ -1,5 +1,5 @@
 -- What the stack machine does with declarations.
-use Rattle.std.proofs.Common.{◌≡◌, ◌≤◌, ◌-◌, ◌+◌, ◌==◌, ◌<◌, if◌then◌else◌, length, ℕ, zero, suc, Bool, true, false, List, [], ◌∷◌, ◌++◌, Some, None, ◌⊎◌, inl, inr, Err, refl, sym, ap, subst, ◌∙◌, arith, append_assoc}
+use Rattle.std.proofs.Common.{◌≡◌, ◌≤◌, ◌-◌, ◌+◌, ◌==◌, ◌<◌, if◌then◌else◌, length, ℕ, zero, suc, Bool, true, false, List, [], ◌∷◌, ◌++◌, Some, ◌⊎◌, inl, inr, Err, refl, sym, ap, subst, ◌∙◌, arith, append_assoc}
 use Rattle.std.proofs.lemmas.Bool.{true≢false, eq-eqb, ne_eqb}
 use Rattle.vlt_lexer.specs.declared.token.Word.{Word}
 use Rattle.vlt_lexer.specs.declared.token.Word.TheVariants as word
@@ -11,18 +11,12 @@ use Rattle.vlt_syntax.specs.Grammar.{language}
 use Rattle.vlt_syntax.specs.Machine.{Symbol, Reaction, Thing, Frame, Left, Located, run, followed, settled, gone_on, reaction_behind, may_skip, depth_read, on_sign}
 use Rattle.vlt_syntax.proofs.Sameness.{same_word-refl}
 use Rattle.vlt_lexer.specs.declared.token.Token.{Token as Placed}
-use Rattle.vlt_parser.specs.declared.lists.Most.{Most}
-use Rattle.vlt_parser.specs.declared.error.ParseError.{ParseError}
-use Rattle.vlt_parser.specs.declared.error.ParseError.TheVariants.{Limit}
-use Rattle.vlt_parser.proofs.Runs.{fails_with, begins, settled_followed, name_takes, tick_takes, outcome_takes, skips_followed}
-use Rattle.vlt_parser.specs.Ahead.{ahead, Begins, refusal, IsFull, Fails, takes, can_begin, fields_left, decls_left, LacksKeyword}
-
-pub param_is : (s : List Symbol) (ts : List Located) → run (m.thing m.a_param ∷ s) ts ≡ run (m.name ∷ m.marked_name mark.Colon ∷ s) ts
-param_is s ts = begins (m.thing m.a_param) m.name (m.marked_name mark.Colon ∷ []) refl refl (λ x. refl) name_takes s ts
-
-pub case_is : (s : List Symbol) (ts : List Located) → run (m.thing m.a_case ∷ s) ts
-    ≡ run (m.tick ∷ m.enclosed m.a_ty mark.OpenParen mark.CloseParen (Some (record { limit = 8; more = language.payload })) ∷ m.enclosed m.a_key mark.OpenBrace mark.CloseBrace None ∷ s) ts
-case_is s ts = begins (m.thing m.a_case) m.tick (m.enclosed m.a_ty mark.OpenParen mark.CloseParen (Some (record { limit = 8; more = language.payload })) ∷ m.enclosed m.a_key mark.OpenBrace mark.CloseBrace None ∷ []) refl refl (λ x. refl) tick_takes s ts
+use Rattle.vlt_parser_exprs.specs.declared.lists.Most.{Most}
+use Rattle.vlt_parser_exprs.specs.declared.error.ParseError.{ParseError}
+use Rattle.vlt_parser_exprs.specs.declared.error.ParseError.TheVariants.{Limit}
+use Rattle.vlt_parser_exprs.proofs.Runs.{fails_with, settled_followed, outcome_takes, skips_followed}
+use Rattle.vlt_parser_exprs.specs.Ahead.{ahead, Begins, refusal, IsFull, Fails, LacksKeyword}
+use Rattle.vlt_parser.specs.Declarations.{takes, can_begin, fields_left, decls_left}
 
 -- a token begins something or is refused
 abbrev pub CanBegin : (Token → Reaction) → List Located → Type 0

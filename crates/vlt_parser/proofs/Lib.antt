@@ -1,10 +1,3 @@
-pub mod Separated
 pub mod Sequences
-pub mod Runs
-pub mod Expressions
-pub mod Sides
-pub mod Statements
-pub mod Functions
 pub mod Declarations
-pub mod Blocks
 pub mod Places

@@ -4,10 +4,12 @@ use Rattle.vlt_lexer.specs.declared.token.Token.{Token as Placed}
 use Rattle.vlt_lexer.specs.Text.{lexeme, lexemes}
 use Rattle.vlt_syntax.specs.Tokens.{token_of, tokens_of, tokens_in}
 use Rattle.vlt_syntax.specs.Machine as m
-use Rattle.vlt_parser.specs.declared.error.ParseError.{ParseError}
-use Rattle.vlt_parser.specs.declared.error.ParseError.TheVariants as error
-use Rattle.vlt_parser.specs.Refusals.{IsRefusal}
-use Rattle.vlt_parser.specs.Ahead.{ahead, Fails}
+use Rattle.vlt_parser_exprs.specs.declared.error.ParseError.{ParseError}
+use Rattle.vlt_parser_exprs.specs.declared.error.ParseError.TheVariants as error
+use Rattle.vlt_lexer.specs.Reading.{Lexeme}
+use Rattle.vlt_syntax_laws.proofs.Refused.{refused}
+use Rattle.vlt_parser.specs.Refusals.{IsRefusedFor}
+use Rattle.vlt_parser_exprs.specs.Ahead.{ahead, Fails}
 
 pub tokens_seen : (ts : List Placed) → tokens_in (lexemes ts) ≡ tokens_of ts
 tokens_seen [] = refl
@@ -17,8 +19,9 @@ pub places_seen : (ts : List Placed) → map m.located_of (lexemes ts) ≡ ahead
 places_seen [] = refl
 places_seen (x ∷ xs) = ap (λ ts. m.located_of (lexeme x) ∷ ts) (places_seen xs)
 
-pub is_refusal : (v : m.Verdict) (e : ParseError) → Fails v e → IsRefusal v e
-is_refusal v (error.Unexpected at) fails = fails (m.unexpected_at at) refl
-is_refusal v error.EndOfText fails = fails m.ended refl
-is_refusal v (error.Limit n) fails = fails (m.over_limit n) refl
-is_refusal v error.Memory fails = tt
+-- what the automaton refuses the grammar refuses
+pub refused_for : (ls : List Lexeme) (e : ParseError) → Fails (m.verdict ls) e → IsRefusedFor ls e
+refused_for ls (error.Unexpected at) fails = refused ls (m.unexpected_at at) (fails (m.unexpected_at at) refl)
+refused_for ls error.EndOfText fails = refused ls m.ended (fails m.ended refl)
+refused_for ls (error.Limit n) fails = refused ls (m.over_limit n) (fails (m.over_limit n) refl)
+refused_for ls error.Memory fails = tt

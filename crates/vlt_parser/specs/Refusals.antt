@@ -1,12 +1,13 @@
 -- The refusal that an error tells.
-use Rattle.std.specs.Prelude.{◌≡◌, Err}
-use Rattle.vlt_syntax.specs.Machine.{Verdict, unexpected_at, over_limit, ended}
-use Rattle.vlt_parser.specs.declared.error.ParseError.{ParseError}
-use Rattle.vlt_parser.specs.declared.error.ParseError.TheVariants as error
+use Rattle.std.specs.Prelude.{List}
+use Rattle.vlt_lexer.specs.Reading.{Lexeme}
+use Rattle.vlt_syntax.specs.Refusals.{IsRefusal, unexpected_at, over_limit, ended}
+use Rattle.vlt_parser_exprs.specs.declared.error.ParseError.{ParseError}
+use Rattle.vlt_parser_exprs.specs.declared.error.ParseError.TheVariants as error
 
--- want of memory is no refusal
-abbrev pub IsRefusal : Verdict → ParseError → Type 0
-IsRefusal v (error.Unexpected at) = v ≡ Err (unexpected_at at)
-IsRefusal v error.EndOfText = v ≡ Err ended
-IsRefusal v (error.Limit n) = v ≡ Err (over_limit n)
-IsRefusal v error.Memory = Unit {0}
+-- The tokens are refused by the grammar for the error's reason. Want of memory is no refusal.
+abbrev pub IsRefusedFor : List Lexeme → ParseError → Type 0
+IsRefusedFor ls (error.Unexpected at) = IsRefusal ls (unexpected_at at)
+IsRefusedFor ls error.EndOfText = IsRefusal ls ended
+IsRefusedFor ls (error.Limit n) = IsRefusal ls (over_limit n)
+IsRefusedFor ls error.Memory = Unit {0}

@@ -1,75 +1,42 @@
 //! Declarations.
 
-ghost use Rattle.std.specs.Prelude.{◌≡◌, ◌∷◌, [], ◌≤◌, length, map, IfOk, option_map, IfSome};
+ghost use Rattle.std.specs.Prelude.{◌≡◌, ◌∷◌, [], ◌≤◌, length, map, IfOk, option_map};
 ghost use Rattle.vlt_lexer.specs.declared.token.Word.TheVariants.{Stateset, Abstract, Struct, Variant, Extern};
 ghost use Rattle.vlt_lexer.specs.declared.token.Mark.TheVariants.{At, OpenBrace, CloseBrace, Semicolon};
 ghost use Rattle.vlt_syntax.specs.Tokens.{tokens_of};
-ghost use Rattle.vlt_syntax.specs.Tree.{HeaderParam as SeenHeaderParam, Case as SeenCase};
 ghost use Rattle.vlt_syntax.specs.Lists.{each_then, Each};
-ghost use Rattle.vlt_syntax.specs.Spelling.{header_param_then, header_then, field_then, release_then, case_then, decl_then};
-ghost use Rattle.vlt_syntax.specs.Grammar.{AtMost, IsStates, IsField, IsCase, IsDecl, language};
-ghost use Rattle.vlt_syntax.specs.View.{name_of, states_of, header_param_of, field_of, case_of, decl_of};
+ghost use Rattle.vlt_syntax.specs.Spelling.{field_then, release_then, decl_then};
+ghost use Rattle.vlt_syntax.specs.Grammar.{AtMost, IsStates, IsField, IsDecl, language};
+ghost use Rattle.vlt_syntax.specs.Places.{decl_at, each_at, field_at, release_at};
+ghost use Rattle.vlt_syntax.specs.View.{name_of, states_of, header_param_of, field_of, decl_of};
 ghost use Rattle.vlt_syntax.specs.Machine as machine;
-ghost use Rattle.vlt_parser.specs.Reading.{left, struct_head_then, Moves, Stays};
-ghost use Rattle.vlt_parser.specs.Ahead.{ahead, fields_left, decls_left, can_begin, Follows, Turns, Ends};
+ghost use Rattle.vlt_parser_exprs.specs.Reading.{left, Stands};
+ghost use Rattle.vlt_parser.specs.Declarations.{struct_head_then, struct_head_at};
+ghost use Rattle.vlt_parser_exprs.specs.Ahead.{ahead, Turns};
+ghost use Rattle.vlt_parser.specs.Declarations.{fields_left, decls_left, can_begin, Ends};
+ghost use Rattle.vlt_parser_exprs.specs.Promises.{Advances, Holds, Lies, MayAdvance, MayBe, Spells, Takes};
 
-use crate::error::ParseError;
-use crate::heads::head;
-use crate::limits::{CASES, DECLS, DEPTH, FIELDS, PARAMETERS, PAYLOAD, STATES};
-use crate::lists::{Part, allow_one_more, bound, enclosed, some_listed};
-use crate::stmts::block;
-use crate::tokens::{case_name, keyword, kind, name, sign, span, unexpected};
-use crate::types::{at_states, marked_name, states, ty};
 use std::alloc::Global;
 use vlt_base::{Items, limit};
 use vlt_lexer::{Mark, Token, TokenKind, Word};
-use vlt_syntax::{Case, Decl, Field, HeaderParam, Name, States};
-
-impl Part for HeaderParam {
-    ghost Seen = { SeenHeaderParam };
-
-    ghost view = { header_param_of };
-
-    ghost spell = { header_param_then };
-
-    ghost right = { λ p. Unit {0} };
-
-    ghost thing = { machine.a_param };
-
-    #[tactic(auto, using(crate::proofs::Declarations::param_is))]
-    fn part(
-        alloc: Global,
-        tokens: &[Token<'_>],
-        at: usize,
-    ) -> Result<(HeaderParam, usize), ParseError> {
-        let (key, next) = name(alloc, tokens, at)?;
-        let (key_type, next) = marked_name(alloc, tokens, next, Mark::Colon)?;
-        Ok((HeaderParam { key, key_type }, next))
-    }
-}
-
-/// The header of a type, if one comes next.
-fn header(
-    alloc: Global,
-    tokens: &[Token<'_>],
-    at: usize,
-) -> Result<(Items<HeaderParam>, usize), ParseError>
-    requires { at ≤ length tokens.now }
-    ensures spelled { IfOk result (λ x. left tokens.now at ≡ header_then (map header_param_of x.0) (left tokens.now x.1)) }
-    ensures few { IfOk result (λ x. AtMost language.parameters (map header_param_of x.0)) }
-    ensures moves { IfOk result (λ x. Stays tokens.now at x.1) }
-    ensures place { Follows (machine.header ∷ []) (λ x. x.1) tokens.now at result }
-{
-    let most = Some(bound(PARAMETERS));
-    enclosed(alloc, tokens, at, Mark::Less, Mark::Greater, most)
-}
+use vlt_parser_exprs::ParseError;
+use vlt_parser_exprs::headers::header;
+use vlt_parser_exprs::heads::head;
+use vlt_parser_exprs::limits::{CASES, DECLS, DEPTH, FIELDS, STATES};
+use vlt_parser_exprs::lists::{allow_one_more, bound, some_listed};
+use vlt_parser_exprs::tokens::{keyword, kind, name, sign, span, unexpected};
+use vlt_parser_exprs::types::{at_states, marked_name, states, ty};
+use vlt_parser_stmts::block;
+use vlt_syntax::{Decl, Field, HeaderParam, Name, States};
 
 /// `int x;` or `int x@s;`
 fn field(alloc: Global, tokens: &[Token<'_>], at: usize) -> Result<(Field, usize), ParseError>
-    ensures spelled { IfOk result (λ x. left tokens.now at ≡ field_then (field_of x.0) (left tokens.now x.1)) }
-    ensures right { IfOk result (λ x. IsField (field_of x.0)) }
-    ensures moves { IfOk result (λ x. Moves tokens.now at x.1) }
-    ensures place { Follows (machine.thing machine.a_ty ∷ machine.name ∷ machine.at_states ∷ machine.sign Semicolon ∷ []) (λ x. x.1) tokens.now at result }
+    ensures spelled { Spells field_of field_then tokens.now at result }
+    ensures placed { Lies field_of field_at tokens.now at result }
+    ensures right { Holds field_of IsField result }
+    ensures moves { Advances tokens.now at result }
+    ensures place { Takes (machine.thing machine.a_ty ∷ machine.name ∷ machine.at_states ∷
+        machine.sign Semicolon ∷ []) tokens.now at result }
 {
     let (ty, next) = ty(alloc, tokens, at)?;
     let (name, next) = name(alloc, tokens, next)?;
@@ -105,11 +72,13 @@ fn fields(
     at: usize,
 ) -> Result<(Items<Field>, usize), ParseError>
     requires { at ≤ length tokens.now }
-    ensures spelled { IfOk result (λ x. left tokens.now at ≡ each_then field_then (map field_of x.0) (left tokens.now x.1)) }
-    ensures right { IfOk result (λ x. Each IsField (map field_of x.0)) }
-    ensures few { IfOk result (λ x. AtMost language.fields (map field_of x.0)) }
-    ensures moves { IfOk result (λ x. Stays tokens.now at x.1) }
-    ensures place { Turns (machine.fields (fields_left 0) ∷ []) (λ x. machine.behind_fields ∷ []) (λ x. x.1) tokens.now at result }
+    ensures spelled { Spells (map field_of) (each_then field_then) tokens.now at result }
+    ensures placed { Lies (map field_of) (each_at field_at) tokens.now at result }
+    ensures right { Holds (map field_of) (Each IsField) result }
+    ensures few { Holds (map field_of) (AtMost language.fields) result }
+    ensures moves { MayAdvance tokens.now at result }
+    ensures place { Turns (machine.fields (fields_left 0) ∷ []) (λ x. machine.behind_fields ∷
+        []) (λ x. x.1) tokens.now at result }
 {
     let most = Some(bound(FIELDS));
     let mut fields = Items::new(alloc);
@@ -131,10 +100,12 @@ fn release(
     at: usize,
 ) -> Result<(Option<States>, usize), ParseError>
     requires { at ≤ length tokens.now }
-    ensures spelled { IfOk result (λ x. left tokens.now at ≡ release_then (option_map states_of x.0) (left tokens.now x.1)) }
-    ensures right { IfOk result (λ x. IfSome (option_map states_of x.0) IsStates) }
-    ensures moves { IfOk result (λ x. Stays tokens.now at x.1) }
-    ensures place { Turns (machine.behind_fields ∷ []) (λ x. machine.sign CloseBrace ∷ []) (λ x. x.1) tokens.now at result }
+    ensures spelled { Spells (option_map states_of) release_then tokens.now at result }
+    ensures placed { Lies (option_map states_of) release_at tokens.now at result }
+    ensures right { MayBe (option_map states_of) IsStates result }
+    ensures moves { MayAdvance tokens.now at result }
+    ensures place { Turns (machine.behind_fields ∷ []) (λ x. machine.sign CloseBrace ∷
+        []) (λ x. x.1) tokens.now at result }
 {
     let Ok(next) = keyword(tokens, at, Word::Release) else {
         return Ok((None, at));
@@ -144,52 +115,14 @@ fn release(
     Ok((Some(found), next))
 }
 
-/// A case of a variant.
-#[tactic(auto, using(crate::proofs::Declarations::case_is))]
-fn case(alloc: Global, tokens: &[Token<'_>], at: usize) -> Result<(Case, usize), ParseError>
-    ensures spelled { IfOk result (λ x. left tokens.now at ≡ case_then (case_of x.0) (left tokens.now x.1)) }
-    ensures right { IfOk result (λ x. IsCase language (case_of x.0)) }
-    ensures moves { IfOk result (λ x. Moves tokens.now at x.1) }
-    ensures place { Follows (machine.thing machine.a_case ∷ []) (λ x. x.1) tokens.now at result }
-{
-    let (name, next) = case_name(alloc, tokens, at)?;
-    let most = Some(bound(PAYLOAD));
-    let (payload, next) = enclosed(alloc, tokens, next, Mark::OpenParen, Mark::CloseParen, most)?;
-    let (keys, next) = enclosed(alloc, tokens, next, Mark::OpenBrace, Mark::CloseBrace, None)?;
-    let at = span(tokens, at, next);
-    Ok((
-        Case {
-            name,
-            payload,
-            keys,
-            at,
-        },
-        next,
-    ))
-}
-
-impl Part for Case {
-    ghost Seen = { SeenCase };
-
-    ghost view = { case_of };
-
-    ghost spell = { case_then };
-
-    ghost right = { IsCase language };
-
-    ghost thing = { machine.a_case };
-
-    fn part(alloc: Global, tokens: &[Token<'_>], at: usize) -> Result<(Case, usize), ParseError> {
-        case(alloc, tokens, at)
-    }
-}
-
 /// `stateset s { a, b }`
 fn stateset(alloc: Global, tokens: &[Token<'_>], at: usize) -> Result<(Decl, usize), ParseError>
-    ensures spelled { IfOk result (λ x. left tokens.now at ≡ decl_then (decl_of x.0) (left tokens.now x.1)) }
-    ensures right { IfOk result (λ x. IsDecl language (decl_of x.0)) }
-    ensures moves { IfOk result (λ x. Moves tokens.now at x.1) }
-    ensures place { Follows (machine.keyword Stateset ∷ machine.behind_stateset) (λ x. x.1) tokens.now at result }
+    ensures spelled { Spells decl_of decl_then tokens.now at result }
+    ensures placed { Lies decl_of decl_at tokens.now at result }
+    ensures right { Holds decl_of (IsDecl language) result }
+    ensures moves { Advances tokens.now at result }
+    ensures place { Takes (machine.keyword Stateset ∷ machine.behind_stateset)
+        tokens.now at result }
 {
     let next = keyword(tokens, at, Word::Stateset)?;
     let (name, next) = name(alloc, tokens, next)?;
@@ -206,10 +139,12 @@ fn abstract_decl(
     tokens: &[Token<'_>],
     at: usize,
 ) -> Result<(Decl, usize), ParseError>
-    ensures spelled { IfOk result (λ x. left tokens.now at ≡ decl_then (decl_of x.0) (left tokens.now x.1)) }
-    ensures right { IfOk result (λ x. IsDecl language (decl_of x.0)) }
-    ensures moves { IfOk result (λ x. Moves tokens.now at x.1) }
-    ensures place { Follows (machine.keyword Abstract ∷ machine.behind_abstract) (λ x. x.1) tokens.now at result }
+    ensures spelled { Spells decl_of decl_then tokens.now at result }
+    ensures placed { Lies decl_of decl_at tokens.now at result }
+    ensures right { Holds decl_of (IsDecl language) result }
+    ensures moves { Advances tokens.now at result }
+    ensures place { Takes (machine.keyword Abstract ∷ machine.behind_abstract)
+        tokens.now at result }
 {
     let next = keyword(tokens, at, Word::Abstract)?;
     let (name, next) = name(alloc, tokens, next)?;
@@ -233,10 +168,16 @@ fn struct_head(
     tokens: &[Token<'_>],
     at: usize,
 ) -> Result<(StructHead, usize), ParseError>
-    ensures spelled { IfOk result (λ x. left tokens.now at ≡ struct_head_then (name_of x.0.name) (map header_param_of x.0.params) (option_map name_of x.0.states) (left tokens.now x.1)) }
+    ensures spelled { IfOk result (λ x. left tokens.now at ≡
+        struct_head_then (name_of x.0.name) (map header_param_of x.0.params)
+        (option_map name_of x.0.states) (left tokens.now x.1)) }
+    ensures placed { IfOk result (λ x. Stands struct_head_at
+        tokens.now at
+        (name_of x.0.name, map header_param_of x.0.params, option_map name_of x.0.states) x.1) }
     ensures few { IfOk result (λ x. AtMost language.parameters (map header_param_of x.0.params)) }
-    ensures moves { IfOk result (λ x. Moves tokens.now at x.1) }
-    ensures place { Follows (machine.keyword Struct ∷ machine.name ∷ machine.header ∷ machine.marked_name At ∷ machine.sign OpenBrace ∷ []) (λ x. x.1) tokens.now at result }
+    ensures moves { Advances tokens.now at result }
+    ensures place { Takes (machine.keyword Struct ∷ machine.name ∷ machine.header ∷
+        machine.marked_name At ∷ machine.sign OpenBrace ∷ []) tokens.now at result }
 {
     let next = keyword(tokens, at, Word::Struct)?;
     let (name, next) = name(alloc, tokens, next)?;
@@ -255,10 +196,11 @@ fn struct_head(
 
 /// `struct t<K> @ s { int x; release s; }`
 fn struct_decl(alloc: Global, tokens: &[Token<'_>], at: usize) -> Result<(Decl, usize), ParseError>
-    ensures spelled { IfOk result (λ x. left tokens.now at ≡ decl_then (decl_of x.0) (left tokens.now x.1)) }
-    ensures right { IfOk result (λ x. IsDecl language (decl_of x.0)) }
-    ensures moves { IfOk result (λ x. Moves tokens.now at x.1) }
-    ensures place { Follows (machine.keyword Struct ∷ machine.behind_struct) (λ x. x.1) tokens.now at result }
+    ensures spelled { Spells decl_of decl_then tokens.now at result }
+    ensures placed { Lies decl_of decl_at tokens.now at result }
+    ensures right { Holds decl_of (IsDecl language) result }
+    ensures moves { Advances tokens.now at result }
+    ensures place { Takes (machine.keyword Struct ∷ machine.behind_struct) tokens.now at result }
 {
     let (head, next) = struct_head(alloc, tokens, at)?;
     let (fields, next) = fields(alloc, tokens, next)?;
@@ -280,10 +222,11 @@ fn struct_decl(alloc: Global, tokens: &[Token<'_>], at: usize) -> Result<(Decl, 
 
 /// `variant t<K> { 'A, 'B(int) }`
 fn variant(alloc: Global, tokens: &[Token<'_>], at: usize) -> Result<(Decl, usize), ParseError>
-    ensures spelled { IfOk result (λ x. left tokens.now at ≡ decl_then (decl_of x.0) (left tokens.now x.1)) }
-    ensures right { IfOk result (λ x. IsDecl language (decl_of x.0)) }
-    ensures moves { IfOk result (λ x. Moves tokens.now at x.1) }
-    ensures place { Follows (machine.keyword Variant ∷ machine.behind_variant) (λ x. x.1) tokens.now at result }
+    ensures spelled { Spells decl_of decl_then tokens.now at result }
+    ensures placed { Lies decl_of decl_at tokens.now at result }
+    ensures right { Holds decl_of (IsDecl language) result }
+    ensures moves { Advances tokens.now at result }
+    ensures place { Takes (machine.keyword Variant ∷ machine.behind_variant) tokens.now at result }
 {
     let next = keyword(tokens, at, Word::Variant)?;
     let (name, next) = name(alloc, tokens, next)?;
@@ -305,10 +248,11 @@ fn variant(alloc: Global, tokens: &[Token<'_>], at: usize) -> Result<(Decl, usiz
 
 /// `extern void f(int x);`
 fn external(alloc: Global, tokens: &[Token<'_>], at: usize) -> Result<(Decl, usize), ParseError>
-    ensures spelled { IfOk result (λ x. left tokens.now at ≡ decl_then (decl_of x.0) (left tokens.now x.1)) }
-    ensures right { IfOk result (λ x. IsDecl language (decl_of x.0)) }
-    ensures moves { IfOk result (λ x. Moves tokens.now at x.1) }
-    ensures place { Follows (machine.keyword Extern ∷ machine.behind_extern) (λ x. x.1) tokens.now at result }
+    ensures spelled { Spells decl_of decl_then tokens.now at result }
+    ensures placed { Lies decl_of decl_at tokens.now at result }
+    ensures right { Holds decl_of (IsDecl language) result }
+    ensures moves { Advances tokens.now at result }
+    ensures place { Takes (machine.keyword Extern ∷ machine.behind_extern) tokens.now at result }
 {
     let next = keyword(tokens, at, Word::Extern)?;
     let (head, next) = head(alloc, tokens, next)?;
@@ -319,10 +263,11 @@ fn external(alloc: Global, tokens: &[Token<'_>], at: usize) -> Result<(Decl, usi
 
 /// `void f(int x) { }`
 fn function(alloc: Global, tokens: &[Token<'_>], at: usize) -> Result<(Decl, usize), ParseError>
-    ensures spelled { IfOk result (λ x. left tokens.now at ≡ decl_then (decl_of x.0) (left tokens.now x.1)) }
-    ensures right { IfOk result (λ x. IsDecl language (decl_of x.0)) }
-    ensures moves { IfOk result (λ x. Moves tokens.now at x.1) }
-    ensures place { Follows (machine.head ∷ machine.block language.depth ∷ []) (λ x. x.1) tokens.now at result }
+    ensures spelled { Spells decl_of decl_then tokens.now at result }
+    ensures placed { Lies decl_of decl_at tokens.now at result }
+    ensures right { Holds decl_of (IsDecl language) result }
+    ensures moves { Advances tokens.now at result }
+    ensures place { Takes (machine.head ∷ machine.block language.depth ∷ []) tokens.now at result }
 {
     let (head, next) = head(alloc, tokens, at)?;
     let (body, next) = block(alloc, tokens, next, limit(DEPTH) as usize)?;
@@ -350,12 +295,13 @@ fn begins_decl(tokens: &[Token<'_>], at: usize) -> bool
     }
 }
 
-#[tactic(auto, using(crate::proofs::Declarations::decl_word, crate::proofs::Declarations::decl_other, crate::proofs::Runs::instead))]
+#[tactic(auto, using(crate::proofs::Declarations::decl_word, crate::proofs::Declarations::decl_other, vlt_parser_exprs::proofs::Runs::instead))]
 fn decl(alloc: Global, tokens: &[Token<'_>], at: usize) -> Result<(Decl, usize), ParseError>
-    ensures spelled { IfOk result (λ x. left tokens.now at ≡ decl_then (decl_of x.0) (left tokens.now x.1)) }
-    ensures right { IfOk result (λ x. IsDecl language (decl_of x.0)) }
-    ensures moves { IfOk result (λ x. Moves tokens.now at x.1) }
-    ensures place { Follows (machine.thing machine.a_decl ∷ []) (λ x. x.1) tokens.now at result }
+    ensures spelled { Spells decl_of decl_then tokens.now at result }
+    ensures placed { Lies decl_of decl_at tokens.now at result }
+    ensures right { Holds decl_of (IsDecl language) result }
+    ensures moves { Advances tokens.now at result }
+    ensures place { Takes (machine.thing machine.a_decl ∷ []) tokens.now at result }
 {
     match kind(tokens, at) {
         Some(TokenKind::Keyword(Word::Stateset)) => stateset(alloc, tokens, at),
@@ -368,9 +314,12 @@ fn decl(alloc: Global, tokens: &[Token<'_>], at: usize) -> Result<(Decl, usize),
 }
 
 /// Declarations up to the last token.
-#[tactic(auto, using(crate::proofs::Declarations::decls_over))]
+#[tactic(auto, using(crate::proofs::Declarations::decls_over, vlt_parser_exprs::proofs::Placings::stands_end))]
 pub fn decls(alloc: Global, tokens: &[Token<'_>]) -> Result<Items<Decl>, ParseError>
-    ensures spelled { IfOk result (λ x. tokens_of tokens.now ≡ each_then decl_then (map decl_of x) []) }
+    ensures spelled { IfOk result (λ x. tokens_of tokens.now ≡
+        each_then decl_then (map decl_of x) []) }
+    ensures placed { IfOk result (λ x. Stands (each_at decl_at) tokens.now 0 (map decl_of x)
+        (length tokens.now)) }
     ensures right { IfOk result (λ x. Each (IsDecl language) (map decl_of x)) }
     ensures few { IfOk result (λ x. AtMost language.decls (map decl_of x)) }
     ensures place { Ends (machine.decls (decls_left 0)) tokens.now result }

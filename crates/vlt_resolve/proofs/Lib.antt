@@ -1,14 +1,2 @@
+pub mod Walking
 pub mod Steps
-pub mod Grown
-pub mod Sets
-pub mod Positions
-pub mod Numbers
-pub mod Fields
-pub mod Bodies
-pub mod Kinded
-pub mod Forms
-pub mod Spelled
-pub mod Sizes
-pub mod Operands
-pub mod Readings
-pub mod OneProgram

@@ -1,64 +1,50 @@
--- Steps that give something.
-use Rattle.std.proofs.Common.{◌≡◌, Bool, true, false, cond, Option, Some, None, refl}
-use Rattle.std.proofs.lemmas.Option.{none-some, same_Some}
-use Rattle.std.specs.Option.{option_map}
-use Rattle.vlt_core.specs.Elaboration.{then_with}
+-- One function more.
+use Rattle.std.proofs.Common.{◌≡◌, ◌<◌, ◌+◌, ◌∙◌, ℕ, true, if◌then◌else◌, List, [], ◌∷◌, ◌++◌, map, length, drop, get_or, Result, Ok, sym, ap, subst}
+use Rattle.std.proofs.lemmas.List.{drop_more, map-append, length-append}
+use Rattle.vlt_kinds_names.specs.declared.found.Refusal.{Refusal}
+use Rattle.vlt_syntax.specs.Tree.{Decl}
+use Rattle.vlt_syntax.specs.declared.tree.Decl as code
+use Rattle.vlt_syntax.specs.View.{decl_of}
+use Rattle.vlt_core.specs.Core.{Func}
+use Rattle.vlt_core.specs.declared.program.Func as made
+use Rattle.vlt_core.specs.View.{func_of}
+use Rattle.vlt_kinds.specs.Kinds.{Kinds}
+use Rattle.vlt_resolve.specs.Walk.{then_do}
+use Rattle.vlt_resolve.specs.Elaboration.{walk_decls, walk_function, is_function}
+use Rattle.vlt_resolve.proofs.Walking.{behind_funcs, behind_more_funcs}
 
--- the first step gives something, from which the second gives this
-pub record Gives {A B : Type 0} (o : Option A) (go : A → Option B) (y : B) : Type 0 where
-  pub value : A
-  pub first : o ≡ Some value
-  pub second : go value ≡ Some y
+abbrev Walked : Type 0
+Walked = Result (List Func) Refusal
 
-pub gives : {A B : Type 0} (o : Option A) (go : A → Option B) (y : B) → then_with o go ≡ Some y → Gives o go y
-gives None go y is = absurd (none-some y is)
-gives (Some x) go y is = record { value = x; first = refl; second = is }
+one_more : (k : Kinds) (hs : List Func) (ds : List Decl) (h : Func) (d : Decl) (f : Func) (before : List Func)
+    → is_function d ≡ true → walk_function k h d ≡ Ok f
+    → behind_funcs before (walk_decls k (h ∷ hs) (d ∷ ds)) ≡ behind_funcs (before ++ f ∷ []) (walk_decls k hs ds)
+one_more k hs ds h d f before is makes =
+    ap (λ b. behind_funcs before (if b then then_do (walk_function k h d) (λ g. then_do (walk_decls k hs ds) (λ fs. Ok (g ∷ fs))) else walk_decls k (h ∷ hs) ds)) is
+    ∙ ap (λ r. behind_funcs before (then_do r (λ g. then_do (walk_decls k hs ds) (λ fs. Ok (g ∷ fs))))) makes
+    ∙ behind_more_funcs (walk_decls k hs ds) before f
 
-pub if_gives : {A : Type 0} (b : Bool) (o : Option A) (y : A) → cond b o None ≡ Some y → (b ≡ true) × (o ≡ Some y)
-if_gives true o y is = (refl, is)
-if_gives false o y is = absurd (none-some y is)
+pub next_function : (k : Kinds) (heads : List made.Func) (decls : List code.Decl) (n i : ℕ) (h : made.Func) (d : code.Decl) (f : Func)
+    (before : List Func) → n < length heads → h ≡ get_or heads n h → i < length decls → d ≡ get_or decls i d
+    → is_function (decl_of d) ≡ true → walk_function k (func_of h) (decl_of d) ≡ Ok f
+    → behind_funcs before (walk_decls k (map func_of (drop n heads)) (map decl_of (drop i decls)))
+    ≡ behind_funcs (before ++ f ∷ []) (walk_decls k (map func_of (drop (n + 1) heads)) (map decl_of (drop (i + 1) decls)))
+next_function k heads decls n i h d f before some h-is more d-is is makes =
+    ap (λ hs. behind_funcs before (walk_decls k (map func_of hs) (map decl_of (drop i decls)))) (drop_more heads n h some ∙ ap (λ x. x ∷ drop (n + 1) heads) (sym h-is))
+    ∙ ap (λ ds. behind_funcs before (walk_decls k (map func_of (h ∷ drop (n + 1) heads)) (map decl_of ds))) (drop_more decls i d more ∙ ap (λ x. x ∷ drop (i + 1) decls) (sym d-is))
+    ∙ one_more k (map func_of (drop (n + 1) heads)) (map decl_of (drop (i + 1) decls)) (func_of h) (decl_of d) f before is makes
 
-pub unless_gives : {A : Type 0} (b : Bool) (o : Option A) (y : A) → cond b None o ≡ Some y → o ≡ Some y
-unless_gives true o y is = absurd (none-some y is)
-unless_gives false o y is = is
-
-pub map_gives : {A B : Type 0} (f : A → B) (o : Option A) (y : B) → option_map f o ≡ Some y → (x : A) × (o ≡ Some x) × (f x ≡ y)
-map_gives f None y is = absurd (none-some y is)
-map_gives f (Some x) y is = (x, refl, same_Some (f x) y is)
-
--- two steps give something, of which this is made
-pub record Two {A B C : Type 0} (o : Option A) (p : Option B) (make : A → B → C) (z : C) : Type 0 where
-  pub left : A
-  pub right : B
-  pub is_left : o ≡ Some left
-  pub is_right : p ≡ Some right
-  pub made : make left right ≡ z
-
-pub two_give : {A B C : Type 0} (o : Option A) (p : Option B) (make : A → B → C) (z : C) → then_with o (λ x. then_with p (λ y. Some (make x y))) ≡ Some z → Two o p make z
-two_give None p make z is = absurd (none-some z is)
-two_give (Some x) None make z is = absurd (none-some z is)
-two_give (Some x) (Some y) make z is = record { left = x; right = y; is_left = refl; is_right = refl; made = same_Some (make x y) z is }
-
-pub two_made : {A B C : Type 0} (o : Option A) (p : Option B) (make : A → B → C) (x : A) (y : B) → o ≡ Some x → p ≡ Some y → then_with o (λ x. then_with p (λ y. Some (make x y))) ≡ Some (make x y)
-two_made o p make x y is_x is_y = rw (is_x, is_y) refl
-
--- the same of three steps
-pub record Three {A B C D : Type 0} (o : Option A) (p : Option B) (q : Option C) (make : A → B → C → D) (z : D) : Type 0 where
-  pub first : A
-  pub second : B
-  pub third : C
-  pub is_first : o ≡ Some first
-  pub is_second : p ≡ Some second
-  pub is_third : q ≡ Some third
-  pub made : make first second third ≡ z
-
-pub three_give : {A B C D : Type 0} (o : Option A) (p : Option B) (q : Option C) (make : A → B → C → D) (z : D)
-    → then_with o (λ x. then_with p (λ y. then_with q (λ w. Some (make x y w)))) ≡ Some z → Three o p q make z
-three_give None p q make z is = absurd (none-some z is)
-three_give (Some x) p q make z is =
-    let t = two_give p q (make x) z is in
-    record { first = x; second = t.left; third = t.right; is_first = refl; is_second = t.is_left; is_third = t.is_right; made = t.made }
-
-pub three_made : {A B C D : Type 0} (o : Option A) (p : Option B) (q : Option C) (make : A → B → C → D) (x : A) (y : B) (w : C) → o ≡ Some x → p ≡ Some y → q ≡ Some w
-    → then_with o (λ x. then_with p (λ y. then_with q (λ w. Some (make x y w)))) ≡ Some (make x y w)
-three_made o p q make x y w is_x is_y is_w = rw (is_x, is_y, is_w) refl
+pub next_walked : (k : Kinds) (heads table : List made.Func) (decls : List code.Decl) (number i : ℕ) (h : made.Func) (d : code.Decl) (f : made.Func)
+    (before after : List made.Func) → table ≡ heads → number ≡ length before → number < length table → h ≡ get_or table number h
+    → i < length decls → d ≡ get_or decls i d → is_function (decl_of d) ≡ true → walk_function k (func_of h) (decl_of d) ≡ Ok (func_of f)
+    → after ≡ before ++ f ∷ []
+    → behind_funcs (map func_of before) (walk_decls k (map func_of (drop (length before) heads)) (map decl_of (drop i decls)))
+    ≡ behind_funcs (map func_of after) (walk_decls k (map func_of (drop (length after) heads)) (map decl_of (drop (i + 1) decls)))
+next_walked k heads table decls number i h d f before after all n some h-is more d-is is makes grown =
+    next_function k heads decls (length before) i h d (func_of f) (map func_of before)
+    (subst (λ m. m < length heads) n (subst (λ xs. number < length xs) all some))
+    (h-is ∙ ap (λ xs. get_or xs number h) all ∙ ap (λ m. get_or heads m h) n)
+    more d-is is makes
+    ∙ ap (λ ms. behind_funcs ms (walk_decls k (map func_of (drop (length before + 1) heads)) (map decl_of (drop (i + 1) decls)))) (sym (map-append func_of before (f ∷ [])))
+    ∙ ap (λ m. behind_funcs (map func_of (before ++ f ∷ [])) (walk_decls k (map func_of (drop m heads)) (map decl_of (drop (i + 1) decls)))) (sym (length-append before (f ∷ [])))
+    ∙ ap (λ xs. behind_funcs (map func_of xs) (walk_decls k (map func_of (drop (length xs) heads)) (map decl_of (drop (i + 1) decls)))) (sym grown)

@@ -1,5 +1,4 @@
-pub mod Files
-pub mod View
+pub mod Blocks
+pub mod Walk
+pub mod Elaboration
 pub mod Refusals
-pub mod Scopes
-pub mod Law

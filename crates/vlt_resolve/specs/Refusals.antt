@@ -1,8 +1,23 @@
 -- What a refusal says.
-use Rattle.std.specs.Prelude.{◌≡◌, Result, Err}
-use Rattle.vlt_resolve.specs.declared.error.ResolveError.{ResolveError}
-use Rattle.vlt_resolve.specs.declared.error.ResolveError.TheVariants.{Kind}
+use Rattle.std.specs.Prelude.{◌≡◌, ℕ, Option, Some, None, Result, Err}
+use Rattle.vlt_kinds_names.specs.declared.found.Refusal.{Refusal}
+use Rattle.vlt_resolve.specs.declared.error.Stop.{Stop}
+use Rattle.vlt_resolve.specs.declared.error.Stop.TheVariants.{Refused}
+use Rattle.vlt_resolve.specs.declared.error.ElabError.{ElabError}
+use Rattle.vlt_resolve.specs.declared.error.ElabError.TheVariants.{Rule, Limit, Memory}
+use Rattle.vlt_resolve.specs.Elaboration.{Told, broken, exceeded}
 
--- a fact for the one error that isn't want of memory
-pub record OnRefused {A : Type 0} (r : Result A ResolveError) (p : Type 0) : Type 0 where
-  pub holds : r ≡ Err Kind → p
+-- a fact for the refusal at which the walk stopped
+pub record OnRefused {A : Type 0} (r : Result A Stop) (p : Refusal → Type 0) : Type 0 where
+  pub holds : (x : Refusal) → r ≡ Err (Refused x) → p x
+
+-- a fact for what is told
+pub record OnTold {A : Type 0} (r : Result A ElabError) (p : Told → Type 0) : Type 0 where
+  pub rule : (n at : ℕ) → r ≡ Err (Rule n at) → p (broken n at)
+  pub limit : (n : ℕ) → r ≡ Err (Limit n) → p (exceeded n)
+
+-- what an error tells, but for want of memory
+abbrev pub error_seen : ElabError → Option Told
+error_seen (Rule n at) = Some (broken n at)
+error_seen (Limit n) = Some (exceeded n)
+error_seen Memory = None

@@ -1,22 +1,35 @@
-//! Why a tree has no program.
+//! Why a tree isn't elaborated.
 
 ghost use Rattle.std.specs.Prelude.{◌≡◌};
-ghost use Rattle.vlt_resolve.specs.declared.error.ResolveError.TheVariants.{Memory};
+ghost use Rattle.vlt_resolve.specs.declared.error.Stop.TheVariants as stop;
 
 use std::alloc::AllocError;
+use thiserror::Error;
+use vlt_kinds_names::Refusal;
 
-/// Why a tree has no program here.
-#[derive(Clone, Copy, Debug, PartialEq, Eq)]
-pub enum ResolveError {
-    /// The tree isn't of the forms that are built, or a rule on names and kinds refuses it.
-    Kind,
+/// Why a tree isn't elaborated. A rule goes by its number, and its place is a byte of the source counted from 0.
+#[derive(Clone, Copy, Debug, PartialEq, Eq, Error)]
+pub enum ElabError {
+    #[error("rule {rule} at byte {at}")]
+    Rule { rule: u8, at: u32 },
+    /// Of variables or of keys a function has more than 256: `VARIABLES` or `KEYS`.
+    #[error("limit {0}")]
+    Limit(u8),
+    #[error("out of memory")]
     Memory,
 }
 
-impl From<AllocError> for ResolveError {
-    ghost from_gives = { λ _ e. e ≡ Memory };
+/// Why a walk stopped.
+#[derive(Clone, Copy, Debug, PartialEq, Eq)]
+pub enum Stop {
+    Refused(Refusal),
+    Memory,
+}
+
+impl From<AllocError> for Stop {
+    ghost from_gives = { λ _ e. e ≡ stop.Memory };
 
     fn from(_error: AllocError) -> Self {
-        ResolveError::Memory
+        Stop::Memory
     }
 }

@@ -1,41 +1,70 @@
-//! The core program of a tree.
+//! Elaboration: a tree and the table of its kinds in, the core program out, or the first rule or limit that refuses a body.
+//! Read `specs/Elaboration.antt` first, then `Walk`, `Statements` and `Declarations`.
+//! The check, the runs and the lowering rest on the program that comes out.
 #![tactic(auto)]
 
-ghost use Rattle.std.specs.Prelude.{◌≡◌, ◌<◌, ◌^◌, length, Err, Some, None, IfOk};
+ghost use Rattle.std.specs.Prelude.{◌≡◌, Some, Ok, Err, IfOk};
 ghost use Rattle.vlt_syntax.specs.View.{tree_of};
-ghost use Rattle.vlt_syntax.specs.Spelling.{spelling};
-ghost use Rattle.vlt_core.specs.Kinds.{IsKinded};
 ghost use Rattle.vlt_core.specs.View.{program_of};
-ghost use Rattle.vlt_resolve.specs.declared.error.ResolveError.TheVariants.{Kind};
-ghost use Rattle.vlt_resolve.specs.Files.{resolved};
-ghost use Rattle.vlt_resolve.specs.Law.{HaveOneProgram};
+ghost use Rattle.vlt_kinds.specs.Seen.{kinds_seen};
+ghost use Rattle.vlt_resolve.specs.Elaboration.{elaborated, told_of, walk_tree};
+ghost use Rattle.vlt_resolve.specs.Refusals.{OnRefused, OnTold, error_seen};
 
-mod elaborate;
+mod blocks;
+mod copies;
 mod error;
-mod narrow;
-mod small;
-#[cfg(test)]
-mod tests;
+mod functions;
+mod walk;
 
-pub use error::ResolveError;
-use std::alloc::Global;
+pub use error::{ElabError, Stop};
+use std::alloc::Global as Heap;
+use vlt_base::{KEYS, VARIABLES};
 use vlt_core::Program;
+use vlt_kinds::Kinds;
+use vlt_kinds_names::Refusal;
+use vlt_resolve_exprs::limits::{TOO_MANY_KEYS, TOO_MANY_VARIABLES};
 use vlt_syntax::Tree;
 
-/// The core program of a tree, of one function. The tree is spelled by fewer than 2^32 tokens, so that positions have
-/// numbers of 32 bits. Errors: `Kind`, the tree isn't of the forms that are built, or a rule on names and kinds
-/// refuses it; `Memory`, which leaves it open.
-pub fn resolve(alloc: Global, tree: &Tree) -> Result<Program, ResolveError>
-    requires { length (spelling (tree_of tree.now)) < 2 ^ 32 }
-    ensures ok { IfOk result (λ p. resolved (tree_of tree.now) ≡ Some (program_of p)) }
-    ensures refused { result ≡ Err Kind → resolved (tree_of tree.now) ≡ None }
-    ensures kinded { IfOk result (λ p. IsKinded (program_of p)) }
+fn program(alloc: Heap, tree: &Tree, kinds: &Kinds<'_>) -> Result<Program, Stop>
+    ensures ok { IfOk result (λ p. walk_tree (tree_of tree.now) (kinds_seen kinds.now) ≡ Ok (program_of p)) }
+    ensures refused { OnRefused result (λ r. walk_tree (tree_of tree.now) (kinds_seen kinds.now) ≡ Err r) }
 {
-    let file = narrow::narrow(alloc, tree)?;
-    elaborate::elaborate(alloc, &file)
+    let fns = functions::walk_decls(alloc, kinds, tree.decls.as_slice())?;
+    let sets = copies::copy_sets(alloc, kinds.file.sets.as_slice())?;
+    let types = copies::copy_decls(alloc, kinds.types.as_slice())?;
+    let main = functions::main_of(kinds.heads.as_slice())?;
+    Ok(Program {
+        sets,
+        types,
+        fns,
+        main,
+    })
 }
 
-/// A text has at most one program, whichever of its trees is taken.
-pub fn trees_have_one_program()
-    ensures { HaveOneProgram }
-{}
+fn error_of(refusal: Refusal) -> ElabError
+    ensures { error_seen result ≡ Some (told_of refusal) }
+{
+    match refusal.rule {
+        TOO_MANY_VARIABLES => ElabError::Limit(VARIABLES),
+        TOO_MANY_KEYS => ElabError::Limit(KEYS),
+        rule => ElabError::Rule {
+            rule,
+            at: refusal.at,
+        },
+    }
+}
+
+/// Gives the core program of a tree whose declarations are of these kinds.
+///
+/// The bodies are read in the order of the text, and the first refusal is told. At one place limits go before rules, and
+/// lesser numbers before greater ones.
+pub fn elaborate(alloc: Heap, tree: &Tree, kinds: &Kinds<'_>) -> Result<Program, ElabError>
+    ensures ok { IfOk result (λ p. elaborated (tree_of tree.now) (kinds_seen kinds.now) ≡ Ok (program_of p)) }
+    ensures refused { OnTold result (λ t. elaborated (tree_of tree.now) (kinds_seen kinds.now) ≡ Err t) }
+{
+    match program(alloc, tree, kinds) {
+        Ok(made) => Ok(made),
+        Err(Stop::Refused(refusal)) => Err(error_of(refusal)),
+        Err(Stop::Memory) => Err(ElabError::Memory),
+    }
+}

@@ -1,8 +1,4 @@
-pub mod Lists
-pub mod Maps
-pub mod Agrees
-pub mod Keeps
-pub mod Values
-pub mod Safe
-pub mod Steps
-pub mod Soundness
+pub mod Start
+pub mod Clean
+pub mod Levels
+pub mod Whole

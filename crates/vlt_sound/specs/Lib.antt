@@ -1,1 +1,3 @@
 pub mod Promise
+pub mod Main
+pub mod Whole

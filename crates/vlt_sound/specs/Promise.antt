@@ -1,23 +1,19 @@
--- What is promised of a program that follows the rules.
-use Rattle.std.specs.Prelude.{◌≡◌, ℕ, ℤ, List}
+-- What is promised of programs that break no rule.
+use Rattle.std.specs.Prelude.{◌≡◌, ℕ, ℤ, false, List, Option, slice_get}
 use Rattle.vlt_core.specs.Core.{Program}
-use Rattle.vlt_core.specs.Kinds.{IsKinded}
-use Rattle.vlt_core.specs.Derives.{IsAccepted}
-use Rattle.vlt_meaning.specs.World.{Ran, fault, done, IsClean}
-use Rattle.vlt_meaning.specs.Run.{run}
+use Rattle.vlt_meaning.specs.World.{Value, World, done, is_fault}
+use Rattle.vlt_meaning.specs.Step.{leaves}
+use Rattle.vlt_meaning.specs.Run.{start, ran, main_run, run}
+use Rattle.vlt_meaning.specs.Clean.{IsClean}
 
--- a fact about each run of a program, whatever its budgets, its input and its answers
-abbrev pub EachRun : Program → (Ran → Type 0) → Type 0
-EachRun p P = (fuel heap depth : ℕ) (input : List ℤ) (answers : List (List ℤ)) → P (run p fuel heap depth input answers)
-
--- no run ends in a fault
+-- no run ends in a fault, whatever the bounds, the input and the answers of the host
 abbrev pub NeverGoesWrong : Program → Type 0
-NeverGoesWrong p = EachRun p (λ r. r.outcome ≡ fault → ⊥)
+NeverGoesWrong p = (fuel heap depth : ℕ) (zs : List ℤ) (answers : List (List ℤ)) →
+    is_fault (run p fuel heap depth zs answers).outcome ≡ false
 
--- a run that comes to main's end leaves no object behind
+-- A run that comes to main's end leaves only objects that the host or main's clause has, and what is below those.
 abbrev pub LeavesOnlyItsClause : Program → Type 0
-LeavesOnlyItsClause p = EachRun p (λ r. r.outcome ≡ done → IsClean r.world)
-
--- The rules are sound.
-abbrev pub IsSound : Type 0
-IsSound = (p : Program) → IsKinded p → IsAccepted p → NeverGoesWrong p × LeavesOnlyItsClause p
+LeavesOnlyItsClause p = (fuel heap depth : ℕ) (zs : List ℤ) (answers : List (List ℤ)) (a : Option Value)
+    (kept : List ℕ) (w : World) →
+    main_run (record { program = p; heap = heap; depth = depth }) fuel (slice_get p.fns p.main)
+    (start fuel zs answers) ≡ leaves a kept w → IsClean (ran done kept w)

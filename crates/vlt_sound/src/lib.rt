@@ -1,9 +1,23 @@
-//! The law of the rules: what they accept never goes wrong.
+//! The law on whole runs: nothing goes in and nothing comes out.
+//! Read `specs/Promise.antt` first: what is promised of programs that break no rule.
+//! Programs that are checked and accepted rest on it.
 #![tactic(auto)]
 
-ghost use Rattle.vlt_sound.specs.Promise.{IsSound};
+ghost use Rattle.vlt_core.specs.Core.{Program};
+ghost use Rattle.vlt_core.specs.Kinded.{IsKinded};
+ghost use Rattle.vlt_core.specs.Derives.{IsAccepted};
+ghost use Rattle.vlt_core_laws.specs.States.{HasStates};
+ghost use Rattle.vlt_sound_typed.specs.Sizes.{HasSizes};
+ghost use Rattle.vlt_sound.specs.Promise.{NeverGoesWrong, LeavesOnlyItsClause};
+ghost use Rattle.vlt_sound.specs.Whole.{IsProvided, HasNoExternal};
 
-/// The rules are sound: no run of an accepted program ends in a fault, and one that comes to main's end leaves nothing.
-pub fn accepted_never_goes_wrong()
-    ensures { IsSound }
+/// No run of an accepted program ends in a fault, and one that comes to main's end leaves only what its clause has.
+/// Where a program calls no host, that rests on the rules alone; else on calls of hosts.
+pub fn accepted_programs_go_right()
+    ensures never { (p : Program) → IsKinded p → IsAccepted p → HasSizes p → HasStates p → HasNoExternal p →
+        NeverGoesWrong p }
+    ensures leaves { (p : Program) → IsKinded p → IsAccepted p → HasSizes p → HasStates p → HasNoExternal p →
+        LeavesOnlyItsClause p }
+    ensures never_with_hosts { (p : Program) → IsKinded p → IsAccepted p → IsProvided p → NeverGoesWrong p }
+    ensures leaves_with_hosts { (p : Program) → IsKinded p → IsAccepted p → IsProvided p → LeavesOnlyItsClause p }
 {}

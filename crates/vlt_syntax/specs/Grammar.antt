@@ -3,11 +3,13 @@ use Rattle.std.specs.Prelude.{◌≡◌, ◌≤◌, ℕ, suc, ◌-◌, max, List
 use Rattle.vlt_base.specs.Limits.{limit_of}
 use Rattle.vlt_ops.specs.declared.Op.{Op}
 use Rattle.vlt_ops.specs.Operator.{row_of}
-use Rattle.vlt_syntax.specs.Tokens.{Token}
+use Rattle.vlt_lexer.specs.Reading.{Lexeme}
+use Rattle.vlt_syntax.specs.Tokens.{Token, tokens_in}
 use Rattle.vlt_syntax.specs.Tree as s
 use Rattle.vlt_syntax.specs.Tree.{Name, States, KeyStates, Named, Ty, Expr, Build, Call, Init, Right, Returned, Stmt, Block, If, Else, Stmts, Arms, HeaderParam, Field, Case, Entry, Outcome, Parameter, Head, Decl, Tree}
 use Rattle.vlt_syntax.specs.Lists.{Each, IsSome}
 use Rattle.vlt_syntax.specs.Spelling.{spelling}
+use Rattle.vlt_syntax.specs.Places.{StandsIn}
 
 -- how many there may be of each, and how deep blocks and expressions may nest
 pub record Bounds : Type 0 where
@@ -192,6 +194,10 @@ IsDecl b (s.function h body at) = IsHead b h × IsBlock b b.depth body
 abbrev pub IsTree : Bounds → Tree → Type 0
 IsTree b t = Each (IsDecl b) t.decls × AtMost b.decls t.decls
 
--- the tokens spell this tree of the language
+-- the tokens spell this tree of the language, wherever its parts stand
 abbrev pub IsTreeOf : List Token → Tree → Type 0
 IsTreeOf tokens t = IsTree language t × (tokens ≡ spelling t)
+
+-- the tokens of a text spell this tree of the language, whose parts stand where they do in the text
+abbrev pub IsPlacedTreeOf : List Lexeme → Tree → Type 0
+IsPlacedTreeOf ls t = IsTree language t × (tokens_in ls ≡ spelling t) × StandsIn ls t

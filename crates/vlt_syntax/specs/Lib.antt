@@ -3,6 +3,9 @@ pub mod Tree
 pub mod View
 pub mod Lists
 pub mod Spelling
+pub mod Places
 pub mod Grammar
+pub mod Refusals
 pub mod Kinds
+pub mod Automaton
 pub mod Machine

@@ -1,542 +1,72 @@
--- Reading token by token. A stack says what is still to come, the next first; a token takes from it what it begins.
--- The stack knows what is left of each limit, so that a refusal comes at the very token that decides it.
-use Rattle.std.specs.Prelude.{ℕ, zero, suc, ◌-◌, max, Bool, true, false, ◌==◌, nat_lt, if◌then◌else◌, List, [], ◌∷◌, ◌++◌, map, Option, Some, None, Result, Ok, Err}
-use Rattle.vlt_ops.specs.declared.Op.{Op}
-use Rattle.vlt_lexer.specs.declared.token.Word.{Word}
-use Rattle.vlt_lexer.specs.declared.token.Word.TheVariants as word
-use Rattle.vlt_lexer.specs.declared.token.Mark.{Mark}
-use Rattle.vlt_lexer.specs.declared.token.Mark.TheVariants as mark
+-- The automaton within the bounds of the language.
+use Rattle.std.specs.Prelude.{ℕ, List, [], ◌∷◌, Option, map}
 use Rattle.vlt_lexer.specs.Reading.{Lexeme}
-use Rattle.vlt_syntax.specs.Tokens as t
-use Rattle.vlt_syntax.specs.Tokens.{Token, token_from}
-use Rattle.vlt_syntax.specs.Kinds.{same_word, same_mark}
-use Rattle.vlt_syntax.specs.Spelling.{operator_of}
-use Rattle.vlt_syntax.specs.Grammar.{level, language}
-
--- a token with its first byte
-pub record Located : Type 0 where
-  pub token : Token
-  pub at : ℕ
-
-abbrev pub located_of : Lexeme → Located
-located_of x = record { token = token_from x.kind x.text; at = x.from }
-
--- the number of a limit, and how many more it allows
-pub record Left : Type 0 where
-  pub limit : ℕ
-  pub more : ℕ
-
--- things that stand beside each other, as many as come, or in one place of several kinds
-pub data Thing : Type 0 where
-  a_name : Thing
-  a_param : Thing
-  a_ty : Thing
-  a_key : Thing
-  a_case : Thing
-  a_parameter : Thing
-  an_entry : Thing
-  an_expr : Thing
-  an_init : Thing
-  an_outcome : Thing
-  -- a statement without blocks, and one with so much room for blocks
-  a_simple : Thing
-  a_stmt : ℕ → Thing
-  a_decl : Thing
-
--- What an operand that is being read stands in, the innermost first.
-pub data Frame : Type 0 where
-  -- an expression whose operators bind at least so tightly, and which may be no deeper than this
-  level_from : (least room : ℕ) → Frame
-  -- such an expression with a left operand of that depth, of whose operator this is the right one
-  right_of : (least room depth : ℕ) → Frame
-  -- an operator before an operand
-  prefixed : Frame
-
-pub data Symbol : Type 0 where
-  tick : Symbol
-  sign : Mark → Symbol
-  keyword : Word → Symbol
-  thing : Thing → Symbol
-  -- further things, each behind a comma, and the closing sign
-  further : Thing → Mark → Option Left → Symbol
-  -- things with commas between them, if any, and the closing sign
-  listed : Thing → Mark → Option Left → Symbol
-  -- a list of one or more between two signs, or nothing
-  enclosed : Thing → Mark → Mark → Option Left → Symbol
-  -- the sign and a name, or nothing
-  marked_name : Mark → Symbol
-  states : Symbol
-  at_states : Symbol
-  named : Symbol
-  -- behind the word `tracked`, and behind the name that a type begins with
-  behind_tracked : Symbol
-  behind_type_name : Symbol
-  -- an operand that may be no deeper than this, and then operators
-  operand : ℕ → List Frame → Symbol
-  -- the same, behind a name, and behind an operand of this depth
-  behind_name : ℕ → List Frame → Symbol
-  operations : ℕ → List Frame → Symbol
-  -- the parenthesis that closes such an operand
-  close_group : List Frame → Symbol
-  -- the end of an expression
-  end_expr : Symbol
-  owner : Symbol
-  right : Symbol
-  behind_right_name : Symbol
-  returned : Symbol
-  block : ℕ → Symbol
-  stmts : ℕ → Symbol
-  -- behind the name that a statement begins with
-  behind_stmt_name : Symbol
-  otherwise : ℕ → Symbol
-  behind_else : ℕ → Symbol
-  arm : ℕ → Symbol
-  arms : ℕ → Symbol
-  entry_states : Symbol
-  arrow_states : Symbol
-  clause : Symbol
-  head : Symbol
-  fields : Left → Symbol
-  -- behind the last field
-  behind_fields : Symbol
-  decls : Left → Symbol
-
-abbrev pub name : Symbol
-name = thing a_name
-
--- what a symbol does with a token
-pub data Reaction : Type 0 where
-  -- the token is taken, and these come in the symbol's place
-  take : List Symbol → Reaction
-  -- nothing of the symbol comes
-  skip : Reaction
-  refuse : Reaction
-  exceed : ℕ → Reaction
-
-abbrev pub followed : Reaction → List Symbol → Reaction
-followed (take xs) ys = take (xs ++ ys)
-followed skip ys = skip
-followed refuse ys = refuse
-followed (exceed n) ys = exceed n
-
--- the second alternative, where the token begins no such thing as the first is
-abbrev pub or_else : Reaction → Reaction → Reaction
-or_else refuse other = other
-or_else (take xs) other = take xs
-or_else skip other = skip
-or_else (exceed n) other = exceed n
-
-abbrev pub is_sign : Mark → Token → Bool
-is_sign m (t.sign n) = same_mark n m
-is_sign m _ = false
-
-abbrev pub is_keyword : Word → Token → Bool
-is_keyword w (t.keyword v) = same_word v w
-is_keyword w _ = false
-
-abbrev pub is_name : Token → Bool
-is_name (t.name text) = true
-is_name _ = false
-
-abbrev pub is_tick : Token → Bool
-is_tick (t.tick text) = true
-is_tick _ = false
-
-abbrev pub on_sign : Mark → Token → Reaction → Reaction → Reaction
-on_sign m x then_this other = if is_sign m x then then_this else other
-
-abbrev pub on_keyword : Word → Token → Reaction → Reaction → Reaction
-on_keyword w x then_this other = if is_keyword w x then then_this else other
-
-abbrev pub on_name : Token → Reaction → Reaction → Reaction
-on_name x then_this other = if is_name x then then_this else other
-
-abbrev pub on_tick : Token → Reaction → Reaction → Reaction
-on_tick x then_this other = if is_tick x then then_this else other
-
-abbrev pub start_name : Token → Reaction
-start_name x = on_name x (take []) refuse
-
-abbrev pub start_tick : Token → Reaction
-start_tick x = on_tick x (take []) refuse
-
--- ---- types
-
-abbrev pub named_rest : List Symbol
-named_rest = enclosed a_name mark.Less mark.Greater None ∷ []
-
-abbrev pub start_states : Token → Reaction
-start_states x = on_sign mark.OpenBrace x (take (name ∷ further a_name mark.CloseBrace None ∷ [])) (start_name x)
-
-abbrev pub start_key : Token → Reaction
-start_key x = followed (start_name x) (at_states ∷ [])
-
-abbrev pub start_ty : Token → Reaction
-start_ty (t.keyword word.Int) = take []
-start_ty (t.keyword word.Bool) = take []
-start_ty (t.keyword word.Tracked) = take (behind_tracked ∷ [])
-start_ty (t.name text) = take (behind_type_name ∷ [])
-start_ty _ = refuse
-
-abbrev pub react_tracked : Token → Reaction
-react_tracked x =
-    on_sign mark.OpenParen x (take (name ∷ sign mark.CloseParen ∷ named ∷ []))
-    (on_sign mark.At x (take (states ∷ named ∷ [])) (followed (start_name x) named_rest))
-
-abbrev pub react_type_name : Token → Reaction
-react_type_name x =
-    on_sign mark.Colon x (take (named ∷ []))
-    (on_sign mark.Less x (take (name ∷ further a_name mark.Greater None ∷ [])) skip)
-
--- ---- expressions
-
--- the number of the limit on depth
-abbrev pub depth_limit : ℕ
-depth_limit = 12
-
--- behind an operand of this depth, those before it taken to it
-abbrev pub behind_operand : ℕ → List Frame → Symbol
-behind_operand depth [] = operations depth []
-behind_operand depth (prefixed ∷ fs) = behind_operand (suc depth) fs
-behind_operand depth (level_from least room ∷ fs) = operations depth (level_from least room ∷ fs)
-behind_operand depth (right_of least room left ∷ fs) = operations depth (right_of least room left ∷ fs)
-
--- the same behind a name
-abbrev pub behind_variable : ℕ → List Frame → Symbol
-behind_variable depth [] = behind_name depth []
-behind_variable depth (prefixed ∷ fs) = behind_variable (suc depth) fs
-behind_variable depth (level_from least room ∷ fs) = behind_name depth (level_from least room ∷ fs)
-behind_variable depth (right_of least room left ∷ fs) = behind_name depth (right_of least room left ∷ fs)
-
--- a part of this depth may stand in something of that room
-abbrev pub if_deeper : ℕ → ℕ → List Symbol → Reaction
-if_deeper depth room xs = if nat_lt depth room then take xs else exceed depth_limit
-
--- the level of the operators that bind the least
-abbrev pub lowest : ℕ
-lowest = 2
-
-abbrev pub start_operand : ℕ → List Frame → Token → Reaction
-start_operand room fs (t.number z) = take (behind_operand 1 fs ∷ [])
-start_operand room fs (t.keyword word.True) = take (behind_operand 1 fs ∷ [])
-start_operand room fs (t.keyword word.False) = take (behind_operand 1 fs ∷ [])
-start_operand room fs (t.name text) = take (behind_variable 1 fs ∷ [])
-start_operand room fs (t.sign mark.OpenParen) = if_deeper 1 room (operand (room - 1) (level_from lowest (room - 1) ∷ []) ∷ close_group fs ∷ [])
-start_operand room fs (t.sign mark.Minus) = if_deeper 1 room (operand (room - 1) (prefixed ∷ fs) ∷ [])
-start_operand room fs (t.sign mark.Not) = if_deeper 1 room (operand (room - 1) (prefixed ∷ fs) ∷ [])
-start_operand room fs _ = refuse
-
--- the depth of all that the frames enclose, where the innermost operand has this one
-abbrev pub whole_depth : ℕ → List Frame → ℕ
-whole_depth depth [] = depth
-whole_depth depth (level_from least room ∷ fs) = whole_depth depth fs
-whole_depth depth (right_of least room left ∷ fs) = whole_depth (suc (max left depth)) fs
-whole_depth depth (prefixed ∷ fs) = whole_depth (suc depth) fs
-
--- An operator of this level comes behind an operand of that depth. Where it binds less tightly than the expression
--- at hand must, that one has ended, and what it was the right operand of is the left one now.
-abbrev pub climb : (l depth : ℕ) → List Frame → Reaction
-climb l depth [] = refuse
-climb l depth (prefixed ∷ fs) = climb l (suc depth) fs
-climb l depth (level_from least room ∷ fs) =
-    if nat_lt l least then climb l depth fs
-    else if_deeper depth room (operand (room - 1) (level_from (suc l) (room - 1) ∷ right_of least room depth ∷ fs) ∷ [])
-climb l depth (right_of least room left ∷ fs) =
-    if nat_lt l least then climb l (suc (max left depth)) fs
-    else if_deeper (suc (max left depth)) room (operand (room - 1) (level_from (suc l) (room - 1) ∷ right_of least room (suc (max left depth)) ∷ fs) ∷ [])
-
-abbrev pub climb_by : Option Op → ℕ → List Frame → Reaction
-climb_by None depth fs = skip
-climb_by (Some o) depth fs = climb (level o) depth fs
-
-abbrev pub react_operations : ℕ → List Frame → Token → Reaction
-react_operations depth fs (t.sign m) = climb_by (operator_of m) depth fs
-react_operations depth fs _ = skip
+use Rattle.vlt_syntax.specs.Tokens.{Token}
+use Rattle.vlt_syntax.specs.Grammar.{language}
+use Rattle.vlt_syntax.specs.Automaton as a
+pub use Rattle.vlt_syntax.specs.Automaton.{Located, Left, Thing, Frame, Symbol, Reaction, Next, a_name, a_param, a_ty, a_key, a_case, a_parameter, an_entry, an_expr, an_init, an_outcome, a_simple, a_stmt, a_decl, level_from, right_of, prefixed, tick, sign, keyword, thing, further, listed, enclosed, marked_name, states, at_states, named, behind_tracked, behind_type_name, operand, behind_name, operations, close_group, end_expr, owner, right, behind_right_name, returned, block, stmts, behind_stmt_name, otherwise, behind_else, arm, arms, entry_states, arrow_states, clause, head, fields, behind_fields, decls, take, skip, refuse, exceed, to, unexpected, over, located_of, name, followed, or_else, is_sign, is_keyword, is_name, is_tick, on_sign, on_keyword, on_name, on_tick, start_name, start_tick, named_rest, start_states, start_key, start_ty, react_tracked, react_type_name, depth_limit, behind_operand, behind_variable, if_deeper, lowest, start_operand, whole_depth, climb, climb_by, react_operations, start_build, enter, behind_if, declared, start_simple, start_stmt, react_stmt_name, start_block, start_arm, start_outcome, start_entry, behind_abstract, behind_extern, counted, react_behind_fields, less, one_more, react_further, depth_read, settled, may_skip, may_end, Verdict, gone_on}
+pub use Rattle.vlt_syntax.specs.Refusals.{Refusal as Fault, unexpected_at, over_limit, ended}
 
 abbrev pub whole_expr : List Frame
-whole_expr = level_from lowest language.depth ∷ []
+whole_expr = a.whole_expr language
 
--- an expression of its own
 abbrev pub start_expr : Token → Reaction
-start_expr x = followed (start_operand language.depth whole_expr x) (end_expr ∷ [])
-
--- ---- right sides
-
-abbrev pub start_build : Token → Reaction
-start_build x = followed (start_tick x) (enclosed an_expr mark.OpenParen mark.CloseParen None ∷ [])
+start_expr = a.start_expr language
 
 abbrev pub start_right : Token → Reaction
-start_right (t.keyword word.Input) = take (sign mark.OpenParen ∷ sign mark.CloseParen ∷ [])
-start_right (t.keyword word.More) = take (sign mark.OpenParen ∷ sign mark.CloseParen ∷ [])
-start_right (t.keyword word.New) = take (owner ∷ named ∷ sign mark.OpenBrace ∷ listed an_init mark.CloseBrace None ∷ [])
-start_right (t.keyword word.Adopt) = take (name ∷ keyword word.Into ∷ name ∷ [])
-start_right (t.tick text) = take (enclosed an_expr mark.OpenParen mark.CloseParen None ∷ [])
-start_right (t.name text) = take (behind_right_name ∷ [])
-start_right x = start_expr x
+start_right = a.start_right language
 
 abbrev pub react_right_name : Token → Reaction
-react_right_name x =
-    on_sign mark.OpenParen x (take (listed an_expr mark.CloseParen None ∷ []))
-    (on_sign mark.Dot x (take (name ∷ operations 1 whole_expr ∷ end_expr ∷ []))
-    (followed (react_operations 1 whole_expr x) (end_expr ∷ [])))
+react_right_name = a.react_right_name language
 
 abbrev pub react_returned : Token → Reaction
-react_returned x = on_sign mark.Semicolon x skip (on_tick x (start_build x) (start_expr x))
-
--- ---- statements
-
--- a block may stand here, or else the depth is exceeded
-abbrev pub enter : ℕ → List Symbol → Reaction
-enter zero xs = exceed depth_limit
-enter (suc room) xs = take xs
-
-abbrev pub behind_if : ℕ → List Symbol
-behind_if room = sign mark.OpenParen ∷ thing an_expr ∷ sign mark.CloseParen ∷ block room ∷ otherwise room ∷ []
-
--- behind the type of a declaration
-abbrev pub declared : List Symbol
-declared = name ∷ sign mark.Assign ∷ right ∷ sign mark.Semicolon ∷ []
-
--- a statement without blocks
-abbrev pub start_simple : Token → Reaction
-start_simple (t.keyword word.Print) = take (sign mark.OpenParen ∷ thing an_expr ∷ sign mark.CloseParen ∷ sign mark.Semicolon ∷ [])
-start_simple (t.keyword word.Return) = take (returned ∷ sign mark.Semicolon ∷ [])
-start_simple (t.keyword word.Break) = take (sign mark.Semicolon ∷ [])
-start_simple (t.keyword word.Continue) = take (sign mark.Semicolon ∷ [])
-start_simple (t.keyword word.Release) = take (name ∷ sign mark.Semicolon ∷ [])
-start_simple (t.keyword word.Become) = take (name ∷ sign mark.At ∷ name ∷ sign mark.Semicolon ∷ [])
-start_simple (t.keyword word.Swap) = take (name ∷ sign mark.Dot ∷ name ∷ sign mark.Comma ∷ name ∷ sign mark.Semicolon ∷ [])
-start_simple (t.keyword word.Open) = take (name ∷ keyword word.Into ∷ sign mark.OpenParen ∷ name ∷ further a_name mark.CloseParen None ∷ sign mark.Semicolon ∷ [])
-start_simple (t.name text) = take (behind_stmt_name ∷ [])
-start_simple x = followed (start_ty x) declared
-
-abbrev pub start_stmt : ℕ → Token → Reaction
-start_stmt room (t.sign mark.OpenBrace) = enter room (stmts (room - 1) ∷ [])
-start_stmt room (t.keyword word.If) = enter room (behind_if room)
-start_stmt room (t.keyword word.While) = enter room (sign mark.OpenParen ∷ thing an_expr ∷ sign mark.CloseParen ∷ block room ∷ [])
-start_stmt room (t.keyword word.Switch) = enter room (sign mark.OpenParen ∷ name ∷ sign mark.CloseParen ∷ sign mark.OpenBrace ∷ arm room ∷ arms room ∷ [])
-start_stmt room (t.keyword word.Focus) = enter room (name ∷ keyword word.As ∷ keyword word.Tracked ∷ sign mark.OpenParen ∷ name ∷ sign mark.CloseParen ∷ name ∷ block room ∷ [])
-start_stmt room x = start_simple x
-
-abbrev pub react_stmt_name : Token → Reaction
-react_stmt_name (t.sign mark.Assign) = take (right ∷ sign mark.Semicolon ∷ [])
-react_stmt_name (t.sign mark.Dot) = take (name ∷ sign mark.Assign ∷ thing an_expr ∷ sign mark.Semicolon ∷ [])
-react_stmt_name (t.sign mark.OpenParen) = take (listed an_expr mark.CloseParen None ∷ sign mark.Semicolon ∷ [])
-react_stmt_name (t.sign mark.Colon) = take (named ∷ declared)
-react_stmt_name (t.sign mark.Less) = take (name ∷ further a_name mark.Greater None ∷ declared)
-react_stmt_name (t.name text) = take (sign mark.Assign ∷ right ∷ sign mark.Semicolon ∷ [])
-react_stmt_name _ = refuse
-
-abbrev pub start_block : ℕ → Token → Reaction
-start_block room x = on_sign mark.OpenBrace x (take (stmts (room - 1) ∷ [])) refuse
-
-abbrev pub start_arm : ℕ → Token → Reaction
-start_arm room x = on_keyword word.Case x (take (tick ∷ enclosed a_name mark.OpenParen mark.CloseParen None ∷ sign mark.Colon ∷ block room ∷ [])) refuse
-
--- ---- declarations
+react_returned = a.react_returned language
 
 abbrev pub parameters_left : Option Left
-parameters_left = Some (record { limit = 9; more = language.parameters })
+parameters_left = a.parameters_left language
 
 abbrev pub head_rest : List Symbol
-head_rest = name ∷ sign mark.OpenParen ∷ listed a_parameter mark.CloseParen parameters_left ∷ clause ∷ []
-
-abbrev pub start_outcome : Token → Reaction
-start_outcome x = on_keyword word.Void x (take []) (start_ty x)
+head_rest = a.head_rest language
 
 abbrev pub start_head : Token → Reaction
-start_head x = followed (start_outcome x) head_rest
-
-abbrev pub start_entry : Token → Reaction
-start_entry (t.sign mark.Minus) = take (thing a_key ∷ [])
-start_entry (t.sign mark.Plus) = take (thing a_key ∷ [])
-start_entry (t.keyword word.New) = take (thing a_key ∷ [])
-start_entry (t.name text) = take (entry_states ∷ [])
-start_entry _ = refuse
+start_head = a.start_head language
 
 abbrev pub header : Symbol
-header = enclosed a_param mark.Less mark.Greater parameters_left
+header = a.header language
 
 abbrev pub behind_stateset : List Symbol
-behind_stateset = name ∷ sign mark.OpenBrace ∷ name ∷ further a_name mark.CloseBrace (Some (record { limit = 5; more = language.states - 1 })) ∷ []
-
-abbrev pub behind_abstract : List Symbol
-behind_abstract = name ∷ marked_name mark.At ∷ sign mark.Semicolon ∷ []
+behind_stateset = a.behind_stateset language
 
 abbrev pub behind_struct : List Symbol
-behind_struct = name ∷ header ∷ marked_name mark.At ∷ sign mark.OpenBrace ∷ fields (record { limit = 6; more = language.fields }) ∷ []
+behind_struct = a.behind_struct language
 
 abbrev pub behind_variant : List Symbol
-behind_variant = name ∷ header ∷ sign mark.OpenBrace ∷ thing a_case ∷ further a_case mark.CloseBrace (Some (record { limit = 7; more = language.cases - 1 })) ∷ []
-
-abbrev pub behind_extern : List Symbol
-behind_extern = head ∷ sign mark.Semicolon ∷ []
+behind_variant = a.behind_variant language
 
 abbrev pub start_decl : Token → Reaction
-start_decl (t.keyword word.Stateset) = take behind_stateset
-start_decl (t.keyword word.Abstract) = take behind_abstract
-start_decl (t.keyword word.Struct) = take behind_struct
-start_decl (t.keyword word.Variant) = take behind_variant
-start_decl (t.keyword word.Extern) = take behind_extern
-start_decl x = followed (start_head x) (block language.depth ∷ [])
-
--- where one more thing begins, it must be allowed
-abbrev pub counted : Left → Reaction → (Left → List Symbol) → Reaction
-counted left (take xs) rest = if left.more == 0 then exceed left.limit else take (xs ++ rest (record { limit = left.limit; more = left.more - 1 }))
-counted left skip rest = skip
-counted left refuse rest = refuse
-counted left (exceed n) rest = exceed n
-
--- behind the last field: the states in which an object may be released, if they are given, and the closing brace
-abbrev pub react_behind_fields : Token → Reaction
-react_behind_fields x =
-    on_keyword word.Release x (take (states ∷ sign mark.Semicolon ∷ sign mark.CloseBrace ∷ []))
-    (on_sign mark.CloseBrace x (take []) refuse)
-
--- ---- things and lists
+start_decl = a.start_decl language
 
 abbrev pub start_thing : Thing → Token → Reaction
-start_thing a_name x = start_name x
-start_thing a_param x = followed (start_name x) (marked_name mark.Colon ∷ [])
-start_thing a_ty x = start_ty x
-start_thing a_key x = start_key x
-start_thing a_case x = followed (start_tick x) (enclosed a_ty mark.OpenParen mark.CloseParen (Some (record { limit = 8; more = language.payload })) ∷ enclosed a_key mark.OpenBrace mark.CloseBrace None ∷ [])
-start_thing a_parameter x = followed (start_ty x) (name ∷ [])
-start_thing an_entry x = start_entry x
-start_thing an_expr x = start_expr x
-start_thing an_init x = followed (start_name x) (sign mark.Colon ∷ thing an_expr ∷ [])
-start_thing an_outcome x = start_outcome x
-start_thing a_simple x = start_simple x
-start_thing (a_stmt room) x = start_stmt room x
-start_thing a_decl x = start_decl x
-
--- one less is left
-abbrev pub less : Option Left → Option Left
-less None = None
-less (Some left) = Some (record { limit = left.limit; more = left.more - 1 })
-
--- a comma, where one more thing is allowed
-abbrev pub one_more : Thing → Mark → Option Left → Reaction
-one_more k closing None = take (thing k ∷ further k closing None ∷ [])
-one_more k closing (Some left) = if left.more == 0 then exceed left.limit else take (thing k ∷ further k closing (less (Some left)) ∷ [])
-
-abbrev pub react_further : Thing → Mark → Option Left → Token → Reaction
-react_further k closing left x = on_sign closing x (take []) (on_sign mark.Comma x (one_more k closing left) refuse)
-
--- ---- the machine
+start_thing = a.start_thing language
 
 abbrev pub reaction : Symbol → Token → Reaction
-reaction tick x = start_tick x
-reaction (sign m) x = on_sign m x (take []) refuse
-reaction (keyword w) x = on_keyword w x (take []) refuse
-reaction (thing k) x = start_thing k x
-reaction (further k closing left) x = react_further k closing left x
-reaction (listed k closing left) x = on_sign closing x (take []) (followed (start_thing k x) (further k closing (less left) ∷ []))
-reaction (enclosed k opening closing left) x = on_sign opening x (take (thing k ∷ further k closing (less left) ∷ [])) skip
-reaction (marked_name m) x = on_sign m x (take (name ∷ [])) skip
-reaction states x = start_states x
-reaction at_states x = on_sign mark.At x (take (states ∷ [])) skip
-reaction named x = followed (start_name x) named_rest
-reaction behind_tracked x = react_tracked x
-reaction behind_type_name x = react_type_name x
-reaction (operand room fs) x = start_operand room fs x
-reaction (behind_name depth fs) x = on_sign mark.Dot x (take (name ∷ operations depth fs ∷ [])) (react_operations depth fs x)
-reaction (operations depth fs) x = react_operations depth fs x
-reaction (close_group fs) x = refuse
-reaction end_expr x = skip
-reaction owner x = on_sign mark.OpenParen x (take (name ∷ sign mark.CloseParen ∷ [])) skip
-reaction right x = start_right x
-reaction behind_right_name x = react_right_name x
-reaction returned x = react_returned x
-reaction (block room) x = start_block room x
-reaction (stmts room) x = on_sign mark.CloseBrace x (take []) (followed (start_stmt room x) (stmts room ∷ []))
-reaction behind_stmt_name x = react_stmt_name x
-reaction (otherwise room) x = on_keyword word.Else x (take (behind_else room ∷ [])) skip
-reaction (behind_else room) x = on_keyword word.If x (enter (room - 1) (behind_if (room - 1))) (start_block room x)
-reaction (arm room) x = start_arm room x
-reaction (arms room) x = on_sign mark.CloseBrace x (take []) (followed (start_arm room x) (arms room ∷ []))
-reaction entry_states x = on_sign mark.At x (take (states ∷ arrow_states ∷ [])) skip
-reaction arrow_states x = on_sign mark.Arrow x (take (states ∷ [])) skip
-reaction clause x = on_sign mark.OpenBracket x (take (listed an_entry mark.CloseBracket None ∷ [])) skip
-reaction head x = start_head x
-reaction (fields left) x = or_else (counted left (start_ty x) (λ rest. name ∷ at_states ∷ sign mark.Semicolon ∷ fields rest ∷ [])) (react_behind_fields x)
-reaction behind_fields x = react_behind_fields x
-reaction (decls left) x = counted left (start_decl x) (λ rest. decls rest ∷ [])
+reaction = a.reaction language
 
-pub data Next : Type 0 where
-  to : List Symbol → Next
-  unexpected : Next
-  over : ℕ → Next
-
--- the depth of an expression that has ended where this symbol is skipped
-abbrev pub depth_read : Symbol → ℕ
-depth_read (operations depth fs) = whole_depth depth fs
-depth_read (behind_name depth fs) = whole_depth depth fs
-depth_read _ = 0
-
--- what the symbol does behind an expression of this depth: a group takes the depth up
 abbrev pub reaction_behind : ℕ → Symbol → Token → Reaction
-reaction_behind depth (close_group fs) x = on_sign mark.CloseParen x (take (behind_operand (suc depth) fs ∷ [])) refuse
-reaction_behind depth y x = reaction y x
+reaction_behind = a.reaction_behind language
 
-abbrev pub settled : Reaction → List Symbol → (Unit {0} → Next) → Next
-settled (take xs) s below = to (xs ++ s)
-settled skip s below = below tt
-settled refuse s below = unexpected
-settled (exceed n) s below = over n
-
--- what the token does with the stack: a symbol of which nothing comes leaves it to the next
 abbrev pub step_behind : ℕ → List Symbol → Token → Next
-step_behind depth [] x = unexpected
-step_behind depth (y ∷ s) x = settled (reaction_behind depth y x) s (λ u. step_behind (depth_read y) s x)
+step_behind = a.step_behind language
 
 abbrev pub step : List Symbol → Token → Next
-step s x = step_behind 0 s x
+step = a.step language
 
-abbrev pub may_skip : Symbol → Bool
-may_skip (enclosed k opening closing left) = true
-may_skip (marked_name m) = true
-may_skip at_states = true
-may_skip behind_type_name = true
-may_skip (behind_name depth fs) = true
-may_skip (operations depth fs) = true
-may_skip end_expr = true
-may_skip owner = true
-may_skip behind_right_name = true
-may_skip (otherwise room) = true
-may_skip entry_states = true
-may_skip arrow_states = true
-may_skip clause = true
-may_skip (decls left) = true
-may_skip _ = false
-
--- nothing more has to come
-abbrev pub may_end : List Symbol → Bool
-may_end [] = true
-may_end (y ∷ s) = if may_skip y then may_end s else false
-
--- why a text is no tree: at the token with this first byte, by a limit, or at its end
-pub data Fault : Type 0 where
-  unexpected_at : ℕ → Fault
-  over_limit : ℕ → Fault
-  ended : Fault
-
-abbrev pub Verdict : Type 0
-Verdict = Result (Unit {0}) Fault
-
-abbrev pub gone_on : (List Symbol → Verdict) → ℕ → Next → Verdict
-gone_on rest at (to s) = rest s
-gone_on rest at unexpected = Err (unexpected_at at)
-gone_on rest at (over n) = Err (over_limit n)
-
--- reads the tokens with this on the stack
 abbrev pub run_over : List Located → List Symbol → Verdict
-run_over [] s = if may_end s then Ok tt else Err ended
-run_over (x ∷ xs) s = gone_on (run_over xs) x.at (step s x.token)
+run_over = a.run_over language
 
 abbrev pub run : List Symbol → List Located → Verdict
-run s xs = run_over xs s
+run = a.run language
 
 -- what becomes of the tokens of a whole file
 abbrev pub verdict : List Lexeme → Verdict
-verdict tokens = run (decls (record { limit = 4; more = language.decls }) ∷ []) (map located_of tokens)
+verdict tokens = a.run language (a.start language) (map located_of tokens)

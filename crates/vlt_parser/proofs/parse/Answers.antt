@@ -2,17 +2,20 @@ use Rattle.std.proofs.Common.{◌≡◌, Err, [], ◌∷◌, ap, ◌∙◌, rule
 use Rattle.std.proofs.lemmas.Grind.{common_steps}
 use Rattle.vlt_lexer.specs.Text.{lexemes}
 use Rattle.vlt_syntax.specs.Machine as m
-use Rattle.vlt_parser.specs.Ahead.{decls_left}
-use Rattle.vlt_parser.proofs.Places.{tokens_seen, places_seen, is_refusal}
+use Rattle.vlt_parser.specs.Declarations.{decls_left}
+use Rattle.vlt_syntax.specs.Tree.{Tree}
+use Rattle.vlt_parser.proofs.Places.{tokens_seen, places_seen, refused_for}
 use Rattle.vlt_parser.proofs.parse.Goals as goal
 
 pub returns-clause-ok : goal.returns-clause-ok
-returns-clause-ok c = ((c.in_ok-decls.ensures.right, c.in_ok-decls.ensures.few), tokens_seen c.args.tokens.now ∙ c.in_ok-decls.ensures.spelled)
-
-pub returns-clause-accepted : goal.returns-clause-accepted
-returns-clause-accepted c = ap (m.run (m.decls (decls_left 0) ∷ [])) (places_seen c.args.tokens.now) ∙ c.in_ok-decls.ensures.place
+returns-clause-ok c = (
+  (c.in_ok-decls.ensures.right, c.in_ok-decls.ensures.few),
+  tokens_seen c.args.tokens.now ∙ c.in_ok-decls.ensures.spelled,
+  ap (λ r. let t : Tree = record { decls = r.0 } in t) c.in_ok-decls.ensures.placed,
+)
 
 pub returns-in_err-decls-clause-refused : goal.returns-in_err-decls-clause-refused
 returns-in_err-decls-clause-refused c =
     let is : c.from_residual.result ≡ Err c.in_err-decls.field-0.0 = first_of (search rules, grind (arith, common_steps)) in
-    rw is (is_refusal (m.verdict (lexemes c.args.tokens.now)) c.in_err-decls.field-0.0 (λ f told. ap (m.run (m.decls (decls_left 0) ∷ [])) (places_seen c.args.tokens.now) ∙ c.in_err-decls.ensures.place f told))
+    rw is (refused_for (lexemes c.args.tokens.now) c.in_err-decls.field-0.0
+    (λ f told. ap (m.run (m.decls (decls_left 0) ∷ [])) (places_seen c.args.tokens.now) ∙ c.in_err-decls.ensures.place f told))

@@ -6,9 +6,12 @@ use Rattle.vlt_syntax.specs.View.{decl_of}
 use Rattle.std.proofs.lemmas.Grind.{common_steps}
 use Rattle.vlt_syntax.specs.Machine as m
 use Rattle.vlt_syntax.specs.Machine.{Symbol, run}
-use Rattle.vlt_parser.specs.Ahead.{ahead, can_begin, decls_left}
+use Rattle.vlt_parser_exprs.specs.Ahead.{ahead}
+use Rattle.vlt_parser.specs.Declarations.{can_begin, decls_left}
 use Rattle.vlt_parser.proofs.Declarations.{decls_one, decl_can, decls_stop, some_ahead}
-use Rattle.vlt_parser.specs.Reading.{left}
+use Rattle.vlt_parser_exprs.specs.Reading.{left}
+use Rattle.vlt_syntax.specs.Places.{decl_at}
+use Rattle.vlt_parser_exprs.proofs.Placings.{one_more_stands}
 use Rattle.vlt_parser.proofs.Sequences.{one_more, each_more, still_few}
 use Rattle.vlt_parser.proofs.decls.decls.Goals as goal
 
@@ -26,6 +29,7 @@ loop-here-preserved c =
     let few : length all ≤ language.decls = still_few all c.loop-here.decls c.in_ok-next.next c.len.result c.bound.result.count language.decls pushed c.len.ensures c.in_ok-allow_one_more.ensures.within c.bound.ensures.count in
     record {
       spelled = one_more decl_of decl_then all c.loop-here.decls c.in_ok-next.next (tokens_of c.args.tokens.now) (start c.loop-here.here) (start c.in_ok-next.behind) pushed before.spelled c.in_ok-next.ensures.spelled;
+      stands = one_more_stands decl_of decl_at c.args.tokens.now all c.loop-here.decls c.in_ok-next.next 0 c.loop-here.here c.in_ok-next.behind pushed before.stands c.in_ok-next.ensures.placed;
       right = each_more decl_of (IsDecl language) all c.loop-here.decls c.in_ok-next.next pushed before.right c.in_ok-next.ensures.right;
       few = few;
       within = c.in_ok-next.ensures.moves.within;

@@ -5,9 +5,12 @@ use Rattle.vlt_syntax.specs.View.{field_of}
 use Rattle.std.proofs.lemmas.Grind.{common_steps}
 use Rattle.vlt_syntax.specs.Machine as m
 use Rattle.vlt_syntax.specs.Machine.{Symbol, run}
-use Rattle.vlt_parser.specs.Ahead.{ahead, fields_left}
+use Rattle.vlt_parser_exprs.specs.Ahead.{ahead}
+use Rattle.vlt_parser.specs.Declarations.{fields_left}
 use Rattle.vlt_parser.proofs.Declarations.{fields_one, ty_can}
-use Rattle.vlt_parser.specs.Reading.{left}
+use Rattle.vlt_parser_exprs.specs.Reading.{left}
+use Rattle.vlt_syntax.specs.Places.{field_at}
+use Rattle.vlt_parser_exprs.proofs.Placings.{one_more_stands}
 use Rattle.vlt_parser.proofs.Sequences.{one_more, each_more, still_few}
 use Rattle.vlt_parser.proofs.decls.fields.Goals as goal
 
@@ -24,6 +27,7 @@ loop-alloc-preserved c =
     ∙ c.in_ok-next.ensures.place (m.fields (fields_left (length all)) ∷ s) in
     record {
       spelled = one_more field_of field_then all c.loop-alloc.fields c.in_ok-next.next (start c.args.at) (start c.loop-alloc.here) (start c.in_ok-next.behind) pushed before.spelled c.in_ok-next.ensures.spelled;
+      stands = one_more_stands field_of field_at c.args.tokens.now all c.loop-alloc.fields c.in_ok-next.next c.args.at c.loop-alloc.here c.in_ok-next.behind pushed before.stands c.in_ok-next.ensures.placed;
       right = each_more field_of IsField all c.loop-alloc.fields c.in_ok-next.next pushed before.right c.in_ok-next.ensures.right;
       few = few;
       later = omega (arith, before.later, c.in_ok-next.ensures.moves.later);

@@ -5,13 +5,16 @@ use Rattle.vlt_syntax.specs.Grammar.{IsField, language}
 use Rattle.vlt_syntax.specs.View.{field_of}
 use Rattle.vlt_syntax.specs.Machine as m
 use Rattle.vlt_syntax.specs.Machine.{Symbol, run}
-use Rattle.vlt_parser.specs.Ahead.{ahead, fields_left}
-use Rattle.vlt_parser.specs.Reading.{left}
+use Rattle.vlt_parser_exprs.specs.Ahead.{ahead}
+use Rattle.vlt_parser.specs.Declarations.{fields_left}
+use Rattle.vlt_syntax.specs.Places.{each_at, field_at}
+use Rattle.vlt_parser_exprs.specs.Reading.{left, Stands}
 use Rattle.vlt_parser.proofs.decls.fields.Given as goal
 
 abbrev pub invariant-loop-alloc : goal.invariant-loop-alloc
 invariant-loop-alloc l = record {
   spelled : left l.tokens l.at ≡ each_then field_then (map field_of l.fields) (left l.tokens l.here);
+  stands : Stands (each_at field_at) l.tokens l.at (map field_of l.fields) l.here;
   right : Each IsField (map field_of l.fields);
   few : length l.fields ≤ language.fields;
   later : l.at ≤ l.here;

@@ -3,7 +3,7 @@ use Rattle.std.proofs.lemmas.Grind.{common_steps}
 use Rattle.vlt_syntax.specs.Grammar.{language}
 use Rattle.vlt_syntax.specs.Machine as m
 use Rattle.vlt_syntax.specs.Machine.{run}
-use Rattle.vlt_parser.specs.Ahead.{ahead}
+use Rattle.vlt_parser_exprs.specs.Ahead.{ahead}
 use Rattle.vlt_parser.proofs.decls.function.Goals as goal
 
 pub returns-in_err-body-clause-place : goal.returns-in_err-body-clause-place

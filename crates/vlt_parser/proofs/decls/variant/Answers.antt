@@ -4,8 +4,8 @@ use Rattle.vlt_lexer.specs.declared.token.Mark.TheVariants as mark
 use Rattle.vlt_syntax.specs.Grammar.{language}
 use Rattle.vlt_syntax.specs.Machine as m
 use Rattle.vlt_syntax.specs.Machine.{Symbol, Left, run}
-use Rattle.vlt_parser.specs.Ahead.{ahead, left_of}
-use Rattle.vlt_parser.proofs.Runs.{bounded_below}
+use Rattle.vlt_parser_exprs.specs.Ahead.{ahead, left_of}
+use Rattle.vlt_parser_exprs.proofs.Runs.{bounded_below}
 use Rattle.vlt_parser.proofs.decls.variant.Goals as goal
 
 pub returns-in_err-cases-clause-place : goal.returns-in_err-cases-clause-place

@@ -1,0 +1,9 @@
+pub mod Declared
+pub mod Measure
+pub mod Names
+pub mod Keeping
+pub mod Leading
+pub mod Fitting
+pub mod Growing
+pub mod Starting
+pub mod Theorems

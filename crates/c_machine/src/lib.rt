@@ -1,0 +1,10 @@
+//! A C program in; the run of a machine on plain data, and how large its tables have to be, out.
+//! Read `specs/Machine.antt` (moved) first, then `specs/Bounds.antt` and `specs/Laws.antt`: they serve `c_interp` alone.
+//! Rests on it: `c_interp::CMachine::go`.
+#![tactic(auto)]
+
+mod laws;
+mod sizes;
+
+pub use laws::{machine_is_the_run, tables_suffice};
+pub use sizes::{block_cells, is_too_wide, tall, value_slots};

@@ -1,0 +1,5 @@
+pub mod Blocks
+pub mod World
+pub mod Values
+pub mod Primitives
+pub mod Run

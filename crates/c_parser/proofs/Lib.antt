@@ -1,0 +1,5 @@
+mod Arguments
+mod Heads
+mod Lexing
+mod Runs
+mod Statements

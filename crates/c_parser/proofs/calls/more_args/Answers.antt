@@ -1,0 +1,34 @@
+use Rattle.std.proofs.Common.{◌≡◌, ◌+◌, ◌++◌, ◌∷◌, [], refl, ap, ◌∙◌, arith}
+use Rattle.c_syntax.specs.Spelling.{arg_token}
+use Rattle.c_syntax.specs.View.{arg_of}
+use Rattle.c_parser.specs.View.{tokens_from}
+use Rattle.c_parser.proofs.Arguments.{all_read, one_read, none_more}
+use Rattle.c_parser.proofs.calls.more_args.Goals as goal
+
+pub loop-alloc-preserved : goal.loop-alloc-preserved
+loop-alloc-preserved c =
+    let tokens = tokens_from c.args.lexemes.now in
+    let here = c.loop-alloc.here in
+    let xs = c.loop-alloc.invariant.begun.0 in
+    let y = c.in_ok-arg.field-0 in
+    let two : here + 1 + 1 ≡ here + 2 = omega arith in
+    record {
+      begun = (
+        xs ++ y ∷ [],
+        c.in_ok-push-2.ensures.ok ∙ ap (λ x. x ++ y ∷ []) c.loop-alloc.invariant.begun.1,
+        one_read xs y (tokens c.args.at) (tokens here) (tokens (here + 1)) (tokens (here + 2)) c.loop-alloc.invariant.begun.2 (c.loop-alloc-test.ensures refl).spells
+            (c.in_ok-arg.ensures.reads.spells ∙ ap (λ n. arg_token (arg_of y) ∷ tokens n) two),
+      );
+      are = λ none. none_more c.push-in-loop-alloc.new.self c.loop-alloc.args y c.in_ok-push-2.ensures.ok (c.loop-alloc.invariant.are none) (c.in_ok-arg.ensures.is none);
+      later = omega (arith, c.loop-alloc.invariant.later);
+    }
+
+pub returns-clause-reads : goal.returns-clause-reads
+returns-clause-reads c =
+    let tokens = tokens_from c.args.lexemes.now in
+    record {
+      spells = all_read c.args.first c.loop-alloc.invariant.begun.0 c.loop-alloc.args (tokens c.args.at) (tokens c.loop-alloc.here) (tokens c.in_ok-next.next)
+          c.loop-alloc.invariant.begun.1 c.loop-alloc.invariant.begun.2 c.in_ok-next.ensures.spells;
+      later = omega (arith, c.loop-alloc.invariant.later, c.in_ok-next.ensures.later);
+      within = c.in_ok-next.ensures.within;
+    }

@@ -1,0 +1,14 @@
+use Rattle.std.proofs.Common.{◌≡◌, ◌≤◌, ◌-◌, length, map}
+use Rattle.c_syntax.specs.Spelling.{vars_then}
+use Rattle.c_parser.specs.View.{declaration_of, tokens_from}
+use Rattle.c_parser.proofs.functions.vars.Given as goal
+
+abbrev pub decreases-loop-vars : goal.decreases-loop-vars
+decreases-loop-vars l = length l.lexemes - l.here
+
+abbrev pub invariant-loop-vars : goal.invariant-loop-vars
+invariant-loop-vars l = record {
+  spells : tokens_from l.lexemes l.at ≡ vars_then (map declaration_of l.vars) (tokens_from l.lexemes l.here);
+  later : l.at ≤ l.here;
+  within : l.here ≤ length l.lexemes;
+}

@@ -1,0 +1,31 @@
+use Rattle.std.proofs.Common.{◌≡◌, ◌≤◌, ◌+◌, ◌-◌, ◌*◌, length}
+use Rattle.c_syntax.specs.Spelling.{stmts_then}
+use Rattle.c_syntax.specs.Grammar.{AreStmts, language}
+use Rattle.c_syntax.specs.View.{stmts_of}
+use Rattle.c_parser.specs.View.{tokens_from}
+use Rattle.c_parser.proofs.stmts.+statements.Given as goal
+
+abbrev pub decreases-block : goal.decreases-block
+decreases-block l = 4 * l.room + 2
+
+abbrev pub decreases-stmts : goal.decreases-stmts
+decreases-stmts l = 4 * l.room + 1
+
+abbrev pub decreases-stmt : goal.decreases-stmt
+decreases-stmt l = 4 * l.room
+
+abbrev pub decreases-behind_if : goal.decreases-behind_if
+decreases-behind_if l = 4 * l.room + 3
+
+abbrev pub decreases-behind_while : goal.decreases-behind_while
+decreases-behind_while l = 4 * l.room + 3
+
+abbrev pub decreases-stmts-loop-alloc : goal.decreases-stmts-loop-alloc
+decreases-stmts-loop-alloc l = length l.lexemes - l.here
+
+abbrev pub invariant-stmts-loop-alloc : goal.invariant-stmts-loop-alloc
+invariant-stmts-loop-alloc l = record {
+  spells : tokens_from l.lexemes l.at ≡ stmts_then (stmts_of l.found) (tokens_from l.lexemes l.here);
+  are : AreStmts language.expressions l.room (stmts_of l.found);
+  later : l.at ≤ l.here;
+}

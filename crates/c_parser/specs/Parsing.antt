@@ -1,0 +1,43 @@
+-- What a part of the parser reads. Only private contracts cite this.
+use Rattle.std.specs.Prelude.{◌≡◌, ◌<◌, ◌≤◌, ℕ, List, ◌∷◌, length}
+use Rattle.c_syntax.specs.Tokens.{Token}
+use Rattle.c_syntax.specs.Unit.{Declaration, Head, Body}
+use Rattle.c_syntax.specs.Spelling.{declaration_then, params_then, head_then, body_then}
+use Rattle.c_parser.specs.declared.token.Lexeme.{Lexeme}
+use Rattle.c_parser.specs.View.{tokens_from}
+
+-- The tokens from the first position up to the second are the part's own: `spelled` puts them before those that come.
+pub record Reads (ls : List Lexeme) (at next : ℕ) (spelled : List Token → List Token) : Type 0 where
+  pub spells : tokens_from ls at ≡ spelled (tokens_from ls next)
+  pub later : at < next
+  pub within : next ≤ length ls
+
+-- there may be none
+pub record ReadsSome (ls : List Lexeme) (at next : ℕ) (spelled : List Token → List Token) : Type 0 where
+  pub spells : tokens_from ls at ≡ spelled (tokens_from ls next)
+  pub later : at ≤ next
+  pub within : next ≤ length ls
+
+-- behind a token that was read before
+pub record ReadsBehind (first : Token) (ls : List Lexeme) (at next : ℕ) (spelled : List Token → List Token) : Type 0 where
+  pub spells : first ∷ tokens_from ls at ≡ spelled (tokens_from ls next)
+  pub later : at < next
+  pub within : next ≤ length ls
+
+-- behind two such tokens
+pub record ReadsBehindTwo (first second : Token) (ls : List Lexeme) (at next : ℕ) (spelled : List Token → List Token) : Type 0 where
+  pub spells : first ∷ second ∷ tokens_from ls at ≡ spelled (tokens_from ls next)
+  pub later : at < next
+  pub within : next ≤ length ls
+
+-- parameters behind the first, which is that one
+pub record ReadsParams (ls : List Lexeme) (at next : ℕ) (first : Declaration) (params : List Declaration) : Type 0 where
+  pub spells : declaration_then first (tokens_from ls at) ≡ params_then params (tokens_from ls next)
+  pub later : at < next
+  pub within : next ≤ length ls
+
+-- a function behind its head
+pub record ReadsBody (ls : List Lexeme) (at next : ℕ) (head : Head) (body : Body) : Type 0 where
+  pub spells : head_then head (tokens_from ls at) ≡ body_then body (tokens_from ls next)
+  pub later : at < next
+  pub within : next ≤ length ls

@@ -1,0 +1,41 @@
+-- What one step of reading finds. Only private contracts cite this.
+use Rattle.std.specs.Prelude.{◌≡◌, ℕ, Bool, List, ◌∷◌, ◌++◌}
+use Rattle.c_syntax.specs.Tokens as t
+use Rattle.c_syntax.specs.Text.{Lexeme, AreTokensOf, fixed, is_blank, is_run_byte, piece, Piece}
+use Rattle.c_parser.specs.declared.lex.Class.{Class}
+use Rattle.c_parser.specs.declared.lex.Class.TheVariants as class
+use Rattle.c_parser.specs.declared.lex.Mark.{Mark}
+use Rattle.c_parser.specs.declared.lex.Mark.TheVariants as mark
+use Rattle.c_parser.specs.declared.lex.First.{First}
+use Rattle.c_parser.specs.declared.lex.First.TheVariants as first
+
+abbrev pub is_in : Class → ℕ → Bool
+is_in class.Blank b = is_blank b
+is_in class.Run b = is_run_byte b
+
+abbrev pub mark_token : Mark → t.Token
+mark_token (mark.Sign x) = t.sign x
+mark_token (mark.Operator o) = t.operator o
+
+-- the text begins with this token, behind which that text stands, as those pieces say
+pub record IsFirst (pieces : ℕ → List ℕ → Piece) (bytes : List ℕ) (token : t.Token) (after : List ℕ) : Type 0 where
+  pub byte : ℕ
+  pub rest : List ℕ
+  pub begins : bytes ≡ byte ∷ rest
+  pub is : token ≡ (pieces byte rest).0
+  pub behind : after ≡ (pieces byte rest).1
+
+abbrev pub IsPiece : List ℕ → t.Token → List ℕ → Type 0
+IsPiece bytes token after = IsFirst piece bytes token after
+
+abbrev pub first_piece : First → ℕ → List ℕ → Piece
+first_piece first.Include = fixed t.include
+first_piece first.LineEnd = fixed t.line_end
+first_piece first.Define = fixed t.define
+first_piece first.Number = piece
+
+-- behind these tokens stand those of the rest of a text of so many bytes
+pub record AreOthers (total : ℕ) (bytes : List ℕ) (before all : List Lexeme) : Type 0 where
+  pub more : List Lexeme
+  pub are : AreTokensOf total bytes more
+  pub behind : all ≡ before ++ more

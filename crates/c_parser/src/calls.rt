@@ -1,0 +1,88 @@
+//! Calls.
+
+ghost use Rattle.std.specs.Prelude.{◌≡◌, ◌+◌, [], ◌∷◌, false, map, IfOk};
+ghost use Rattle.c_syntax.specs.Spelling.{arg_token, args_then, call_then, more_args_then};
+ghost use Rattle.c_syntax.specs.Grammar.{HasNoText, IsCall};
+ghost use Rattle.c_syntax.specs.View.{arg_of, call_of};
+ghost use Rattle.c_parser.specs.Parsing.{Reads, ReadsBehind};
+
+use crate::cursor::{is_sign, refuse, sign, token};
+use crate::error::CError;
+use crate::token::{Lexeme, Token};
+use c_syntax::{CArg, CCall, CPrim, CSign, CWord};
+use std::alloc::Global;
+use vlt_base::Items;
+
+/// An argument. Where it may not, it is no string.
+fn arg(alloc: Global, lexemes: &[Lexeme<'_>], at: usize, texts: bool) -> Result<CArg, CError>
+    ensures reads { IfOk result (λ x. Reads lexemes.now at (at + 1) (λ rest. arg_token (arg_of x) ∷ rest)) }
+    ensures is { IfOk result (λ x. texts ≡ false → HasNoText (arg_of x ∷ [])) }
+{
+    match token(lexemes, at) {
+        Some(Token::Number(value)) => Ok(CArg::Number(value)),
+        Some(Token::Var(variable)) => Ok(CArg::Var(variable)),
+        Some(Token::Word(CWord::Null)) => Ok(CArg::Null),
+        Some(Token::Text(name)) if texts => Ok(CArg::Text(Items::from_slice(alloc, name)?)),
+        _ => Err(refuse(lexemes, at)),
+    }
+}
+
+/// The arguments behind the first, and the closing parenthesis.
+fn more_args(
+    alloc: Global,
+    lexemes: &[Lexeme<'_>],
+    at: usize,
+    texts: bool,
+    first: CArg,
+) -> Result<(Items<CArg>, usize), CError>
+    requires { texts ≡ false → HasNoText (arg_of first ∷ []) }
+    ensures reads { IfOk result (λ x. ReadsBehind (arg_token (arg_of first)) lexemes.now at x.1 (args_then (map arg_of x.0))) }
+    ensures is { IfOk result (λ x. texts ≡ false → HasNoText (map arg_of x.0)) }
+{
+    let mut args = Items::new(alloc);
+    args.push(first)?;
+    let mut here = at;
+    while is_sign(lexemes, here, CSign::Comma) {
+        args.push(arg(alloc, lexemes, here + 1, texts)?)?;
+        here += 2;
+    }
+    let next = sign(lexemes, here, CSign::CloseParen)?;
+    Ok((args, next))
+}
+
+/// Arguments, and the closing parenthesis.
+fn args(
+    alloc: Global,
+    lexemes: &[Lexeme<'_>],
+    at: usize,
+    texts: bool,
+) -> Result<(Items<CArg>, usize), CError>
+    ensures reads { IfOk result (λ x. Reads lexemes.now at x.1 (args_then (map arg_of x.0))) }
+    ensures is { IfOk result (λ x. texts ≡ false → HasNoText (map arg_of x.0)) }
+{
+    if is_sign(lexemes, at, CSign::CloseParen) {
+        return Ok((Items::new(alloc), at + 1));
+    }
+    let first = arg(alloc, lexemes, at, texts)?;
+    more_args(alloc, lexemes, at + 1, texts, first)
+}
+
+/// A call.
+pub fn call(alloc: Global, lexemes: &[Lexeme<'_>], at: usize) -> Result<(CCall, usize), CError>
+    ensures reads { IfOk result (λ x. Reads lexemes.now at x.1 (call_then (call_of x.0))) }
+    ensures is { IfOk result (λ x. IsCall (call_of x.0)) }
+{
+    match token(lexemes, at) {
+        Some(Token::Name(name)) => {
+            let open = sign(lexemes, at + 1, CSign::OpenParen)?;
+            let (args, next) = args(alloc, lexemes, open, false)?;
+            Ok((CCall::Function(name, args), next))
+        }
+        Some(Token::Primitive(primitive)) => {
+            let open = sign(lexemes, at + 1, CSign::OpenParen)?;
+            let (args, next) = args(alloc, lexemes, open, primitive == CPrim::Call)?;
+            Ok((CCall::Primitive(primitive, args), next))
+        }
+        _ => Err(refuse(lexemes, at)),
+    }
+}

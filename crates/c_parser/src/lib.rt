@@ -1,0 +1,44 @@
+//! C texts in, the text as it is written out, with the places of its tokens.
+//! Read `c_syntax/specs/Reading.antt` (IsUnitOf) first.
+//! Rests on it: what is judged of the names and types of a C text.
+#![tactic(auto)]
+
+ghost use Rattle.std.specs.Prelude.{◌≡◌, ◌<◌, ◌-◌, ◌^◌, length, IfOk};
+ghost use Rattle.c_syntax.specs.Reading.{IsUnitOf};
+ghost use Rattle.c_parser.specs.View.{lexemes_of, unit_of};
+
+mod calls;
+mod cursor;
+mod error;
+mod exprs;
+mod functions;
+mod lex;
+mod stmts;
+#[cfg(test)]
+mod tests;
+mod token;
+mod unit;
+
+pub use error::CError;
+use std::alloc::Global;
+pub use token::{Lexeme, Token};
+pub use unit::{Body, Declaration, Head, Unit};
+
+/// A C text as it is written, with the tokens that it has.
+#[derive(Drop)]
+pub struct Written<'a> {
+    pub lexemes: Vec<Lexeme<'a>>,
+    pub unit: Unit,
+}
+
+/// Reads a C text up to the first mark of a certificate, by the grammar and within its limits.
+///
+/// Names and types aren't judged here. `Unexpected`, `EndOfText` and `Limit` say where reading stopped.
+pub fn read_unit(alloc: Global, text: &[u8]) -> Result<Written<'_>, CError>
+    requires size { length text.now < 2 ^ 32 - 1 }
+    ensures { IfOk result (λ x. IsUnitOf text.now (lexemes_of x.lexemes.items) (unit_of x.unit)) }
+{
+    let lexemes = lex::lex(alloc, lex::before_mark(text))?;
+    let unit = functions::unit(alloc, &lexemes)?;
+    Ok(Written { lexemes, unit })
+}

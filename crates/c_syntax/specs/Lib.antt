@@ -1,0 +1,11 @@
+pub mod C
+pub mod View
+pub mod Tokens
+pub mod Unit
+pub mod Spelling
+pub mod Grammar
+pub mod Text
+pub mod Kinds
+pub mod Programs
+pub mod Reading
+pub mod Canonical

@@ -1,0 +1,11 @@
+pub mod Steps
+pub mod Grown
+pub mod Sets
+pub mod Positions
+pub mod Numbers
+pub mod Fields
+pub mod Bodies
+pub mod Kinded
+pub mod Forms
+pub mod Spelled
+pub mod Sizes

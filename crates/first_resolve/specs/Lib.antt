@@ -1,0 +1,4 @@
+pub mod Files
+pub mod View
+pub mod Refusals
+pub mod Scopes

@@ -1,0 +1,5 @@
+use Rattle.vaultc_core.proofs.Single.{one_of_bytes}
+use Rattle.vaultc_core.proofs.a_command_has_one_reply.Goals as goal
+
+pub returns : goal.returns
+returns c = one_of_bytes

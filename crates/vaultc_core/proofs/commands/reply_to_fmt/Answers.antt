@@ -1,0 +1,11 @@
+use Rattle.vlt_syntax.specs.View.{tree_of}
+use Rattle.vaultc_core.specs.Commands.{fmt}
+use Rattle.vaultc_core.specs.Shown.{refusal_of}
+use Rattle.vaultc_core.proofs.Said.{refused_each, laid_said}
+use Rattle.vaultc_core.proofs.commands.reply_to_fmt.Goals as goal
+
+pub returns-in-Ok : goal.returns-in-Ok
+returns-in-Ok c = laid_said c.args.bytes.now (tree_of c.in-Ok.tree) c.laid_out.result c.in-Ok.ensures.ok c.laid_out.ensures
+
+pub returns-in-Err : goal.returns-in-Err
+returns-in-Err c = refused_each (λ file. fmt file) c.args.bytes.now (refusal_of c.in-Err.error) c.refusal.result c.in-Err.ensures.refused c.refusal.ensures

@@ -1,0 +1,24 @@
+use Rattle.std.proofs.Common.{ℕ, List, sym, subst}
+use Rattle.vaultc_core.specs.Commands.{check, fmt}
+use Rattle.vaultc_core.specs.Finishes.{Finishes}
+use Rattle.vaultc_core.specs.Replies.{IsReplyToText}
+use Rattle.vaultc_core.specs.Shown.{IsReplyOf}
+use Rattle.vaultc_core.specs.View.{seen_command}
+use Rattle.vaultc_core.proofs.Finished.{finishes_as, reply_is}
+use Rattle.vaultc_core.proofs.commands.reply_to_text.Goals as goal
+
+pub returns-in-Check : goal.returns-in-Check
+returns-in-Check g c =
+    let bytes = c.args.bytes.now in
+    let file = c.in-Check.field-0.now in
+    subst (λ k. Finishes g.K.Sink (IsReplyToText (seen_command k) bytes) c.args.out.now c.finish_reply.new.out c.finish_reply.result) (sym c.in-Check.is)
+    (finishes_as g.K.Sink (IsReplyOf c.reply_to_check.result) (IsReplyToText (check file) bytes) c.args.out.now c.finish_reply.new.out c.finish_reply.result
+    (λ r is. reply_is (λ q. (name : List ℕ) → IsReplyToText (check name) bytes q) c.reply_to_check.result r c.reply_to_check.ensures is file) c.finish_reply.ensures)
+
+pub returns-in-Fmt : goal.returns-in-Fmt
+returns-in-Fmt g c =
+    let bytes = c.args.bytes.now in
+    let file = c.in-Fmt.field-0.now in
+    subst (λ k. Finishes g.K.Sink (IsReplyToText (seen_command k) bytes) c.args.out.now c.finish_reply-in-Fmt.new.out c.finish_reply-in-Fmt.result) (sym c.in-Fmt.is)
+    (finishes_as g.K.Sink (IsReplyOf c.reply_to_fmt.result) (IsReplyToText (fmt file) bytes) c.args.out.now c.finish_reply-in-Fmt.new.out c.finish_reply-in-Fmt.result
+    (λ r is. reply_is (λ q. (name : List ℕ) → IsReplyToText (fmt name) bytes q) c.reply_to_fmt.result r c.reply_to_fmt.ensures is file) c.finish_reply-in-Fmt.ensures)

@@ -1,0 +1,27 @@
+-- How a command ends where these are its replies.
+use Rattle.std.specs.Prelude.{◌≡◌, ◌≢◌, ◌⊎◌, ℕ, List, []}
+use Rattle.vlt_io.specs.Outside.{Rose, Grew, GrewByPart}
+use Rattle.vlt_io.specs.declared.sink.Sink.{Ghosts}
+use Rattle.vaultc_core.specs.declared.status.TheConstants.{UNREAD, SINK_FAILED, NO_MEMORY}
+use Rattle.vaultc_core.specs.Lines.{Reply, reply}
+
+-- a reply of this status was written whole
+abbrev pub WroteReply : {K : Type 0} (g : Ghosts K) → (Reply → Type 0) → (old new : K) → (status : ℕ) → Type 0
+WroteReply g Replies old new status = (text : List ℕ) × Replies (reply status text) × Grew (g.written old) (g.written new) text
+
+-- a part of a reply's beginning was written, which may be none or all of it
+abbrev pub WrotePart : {K : Type 0} (g : Ghosts K) → (Reply → Type 0) → (old new : K) → Type 0
+WrotePart g Replies old new =
+    (status : ℕ) × (text : List ℕ) × Replies (reply status text) × GrewByPart (g.written old) (g.written new) text
+
+-- the replies but that a file wasn't read
+abbrev pub Inside : (Reply → Type 0) → Reply → Type 0
+Inside Replies r = Replies r × (r.status ≢ UNREAD)
+
+-- A status, with the sink before and behind: a reply of that status was written whole; or the sink failed, or memory was
+-- wanting, and no more than a part of a reply was.
+pub record Finishes {K : Type 0} (g : Ghosts K) (Replies : Reply → Type 0) (old new : K) (status : ℕ) : Type 0 where
+  pub whole : status ≢ SINK_FAILED → status ≢ NO_MEMORY → WroteReply g Replies old new status
+  pub failed : status ≡ SINK_FAILED → Rose (g.faults old) (g.faults new)
+  pub part : status ≡ SINK_FAILED → WrotePart g Replies old new
+  pub memory : status ≡ NO_MEMORY → Grew (g.written old) (g.written new) [] ⊎ WrotePart g (Inside Replies) old new

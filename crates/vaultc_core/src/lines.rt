@@ -1,0 +1,120 @@
+//! The lines: a reply for each refusal, each verdict and each layout.
+
+ghost use Rattle.std.specs.Prelude.{◌≡◌, ◌<◌, ◌≤◌, ◌^◌, ◌-◌, length, IfOk, IfSome, Some, option_map};
+ghost use Rattle.vlt_syntax.specs.View.{tree_of};
+ghost use Rattle.vlt_printer.specs.Layout.{layout};
+ghost use Rattle.vaultc_core.specs.Lines as l;
+ghost use Rattle.vaultc_core.specs.Lines.{unread_reply, over_reply, place_reply};
+ghost use Rattle.vaultc_core.specs.Texts.{AreRefused, IsTooLong, refusal_reply};
+ghost use Rattle.vaultc_core.specs.Verdicts as v;
+ghost use Rattle.vaultc_core.specs.Verdicts.{check_reply};
+ghost use Rattle.vaultc_core.specs.Shown.{Shows, refusal_of, shown_reply};
+
+use crate::reply::Reply;
+use crate::source::TextError;
+use crate::status::{DONE, NO_PROGRAM, NO_TEXT, NOT_ACCEPTED, OVER_LIMIT, UNREAD};
+use crate::verdict::Verdict;
+use std::alloc::{AllocError, Global};
+use vlt_base::{Memory, limit, place};
+use vlt_lexer::LexError;
+use vlt_parser::ParseError;
+use vlt_printer::print;
+use vlt_syntax::Tree;
+
+/// What is written where the words are no command.
+pub const USAGE: &str =
+    "usage: vaultc check F | explain F | fmt F | emit F | verify F | load N | run F OPTIONS | crun F OPTIONS\n";
+
+/// The file of this name wasn't read.
+pub fn unread(alloc: Global, name: &str) -> Result<Reply, AllocError>
+    ensures { IfOk result (λ r. shown_reply r ≡ unread_reply name.now) }
+{
+    Ok(Reply {
+        status: UNREAD,
+        text: format!(in alloc; "read {name}\n")?.into_bytes(),
+    })
+}
+
+/// There is more of something than the limit of this number allows.
+pub fn over_limit(alloc: Global, number: u8) -> Result<Reply, AllocError>
+    requires from { 1 ≤ number }
+    requires to { number ≤ 15 }
+    ensures { IfOk result (λ r. shown_reply r ≡ over_reply number) }
+{
+    let most = limit(number);
+    Ok(Reply {
+        status: OVER_LIMIT,
+        text: format!(in alloc; "limit {number} {most}\n")?.into_bytes(),
+    })
+}
+
+/// Something is wrong with a text at a byte.
+fn wrong_at(alloc: Global, what: &str, text: &[u8], at: u32) -> Result<Reply, AllocError>
+    requires size { length text.now < 2 ^ 32 - 1 }
+    requires within { at ≤ length text.now }
+    ensures { IfOk result (λ r. shown_reply r ≡ place_reply what.now text.now at) }
+{
+    let (line, column) = place(text, at);
+    Ok(Reply {
+        status: NO_TEXT,
+        text: format!(in alloc; "text {what} {line}:{column}\n")?.into_bytes(),
+    })
+}
+
+/// The bytes are no text, for this reason.
+pub fn refusal(alloc: Global, bytes: &[u8], error: TextError) -> Result<Reply, AllocError>
+    requires short { ¬ (IsTooLong bytes.now) }
+    requires refused { IfSome (refusal_of error) (AreRefused bytes.now) }
+    ensures { IfOk result (λ r.
+        option_map (refusal_reply bytes.now) (refusal_of error) ≡ Some (shown_reply r)) }
+{
+    match error {
+        TextError::Lex(LexError::NotUtf8(at)) => wrong_at(alloc, "utf8", bytes, at),
+        TextError::Lex(LexError::BadByte(at)) => wrong_at(alloc, "byte", bytes, at),
+        TextError::Lex(LexError::NumberTooLarge(at)) => wrong_at(alloc, "number", bytes, at),
+        TextError::Lex(LexError::OpenComment(at)) => wrong_at(alloc, "comment", bytes, at),
+        TextError::Lex(LexError::Limit(number)) => over_limit(alloc, number),
+        TextError::Parse(ParseError::Unexpected(at)) => wrong_at(alloc, "token", bytes, at),
+        TextError::Parse(ParseError::Limit(number)) => over_limit(alloc, number),
+        TextError::Parse(ParseError::EndOfText) => Ok(Reply {
+            status: NO_TEXT,
+            text: String::from_str(alloc, "text end\n")?.into_bytes(),
+        }),
+        TextError::Lex(LexError::Memory) | TextError::Parse(ParseError::Memory) => Err(AllocError),
+    }
+}
+
+/// What `check` says of a verdict.
+pub fn verdict(alloc: Global, verdict: &Verdict) -> Result<Reply, AllocError>
+    ensures { IfOk result (λ r.
+        (t : v.Verdict) → Shows verdict.now t → shown_reply r ≡ check_reply t) }
+{
+    let reply = match verdict {
+        Verdict::Unresolved => Reply {
+            status: NO_PROGRAM,
+            text: String::from_str(alloc, "kind\n")?.into_bytes(),
+        },
+        Verdict::Refused => Reply {
+            status: NOT_ACCEPTED,
+            text: String::from_str(alloc, "protocol\n")?.into_bytes(),
+        },
+        Verdict::Accepted(program) => {
+            let count = program.fns.len();
+            Reply {
+                status: DONE,
+                text: format!(in alloc; "accepted {count}\n")?.into_bytes(),
+            }
+        }
+    };
+    Ok(reply)
+}
+
+/// The layout of a tree.
+pub fn laid_out(alloc: Global, tree: &Tree) -> Result<Reply, AllocError>
+    ensures { IfOk result (λ r. shown_reply r ≡ l.reply DONE (layout (tree_of tree.now))) }
+{
+    match print(alloc, tree) {
+        Ok(text) => Ok(Reply { status: DONE, text }),
+        Err(Memory) => Err(AllocError),
+    }
+}

@@ -1,0 +1,19 @@
+//! Tests across the crates: texts and words go in, statuses and lines are compared; no code goes out.
+//! Read `src/outside.rt` first.
+//! Nothing rests on it: `vaultc_core::vaultc` has the clauses.
+#![tactic(auto)]
+
+#[cfg(test)]
+mod commands;
+#[cfg(test)]
+mod examples;
+#[cfg(test)]
+mod layouts;
+#[cfg(test)]
+mod limits;
+#[cfg(test)]
+mod outside;
+#[cfg(test)]
+mod refusals;
+#[cfg(test)]
+mod sizes;

@@ -1,0 +1,166 @@
+//! Each status with a text of more than 70,000 bytes, and with one of 60 blocks in each other. No command gives up on either.
+
+use crate::outside::{Outside, SOUND, reply};
+use std::alloc::{AllocError, Global};
+use std::test::Fail;
+
+/// A structure of 32 fields in its layout, with a number in its name.
+fn push_struct(alloc: Global, text: &mut Vec<u8>, number: usize) -> Result<(), AllocError> {
+    let opened = format!(in alloc; "struct s{number} {{\n")?;
+    text.extend_from_slice(opened.as_bytes())?;
+    for field in 0..32 {
+        let declared = format!(in alloc; "    int field_{field};\n")?;
+        text.extend_from_slice(declared.as_bytes())?;
+    }
+    text.extend_from_slice(b"}\n")?;
+    Ok(())
+}
+
+/// 130 structures of 34 lines, and then the text.
+fn large(alloc: Global, text: &str) -> Result<Vec<u8>, AllocError> {
+    let mut all = Vec::new(alloc);
+    for number in 0..130 {
+        push_struct(alloc, &mut all, number)?;
+    }
+    all.extend_from_slice(text.as_bytes())?;
+    Ok(all)
+}
+
+const COUNTS: &str = "struct a {\n    int x;\n}
+void main() {
+    tracked(K) a p = new a { x: 40 };
+    print(p.x);
+    tracked(L) a q = new a { x: p.x };
+    print(9223372036854775807 + q.x);
+    release p;
+    release q;
+}
+";
+
+const SOUND_MAIN: &str =
+    "struct a {\n    int x;\n}\nvoid main() {\n    tracked(K) a p = new a { x: 40 };\n    print(p.x);\n    release p;\n}\n";
+
+const KEPT_MAIN: &str =
+    "struct a {\n    int x;\n}\nvoid main() {\n    tracked(K) a p = new a { x: 40 };\n    print(p.x);\n}\n";
+
+const CHECK: &[&str] = &["check", "a.v"];
+
+const RUN: &[&str] = &["run", "a.v"];
+
+/// What follows 130 structures, with words, a status and what is written.
+const LARGE: [(&str, &[&str], u8, &str); 13] = [
+    (SOUND_MAIN, CHECK, 0, "accepted 1\n"),
+    (SOUND_MAIN, RUN, 0, "40\n"),
+    (SOUND_MAIN, &["check", "none.v"], 2, "read none.v\n"),
+    (SOUND_MAIN, &["check", "a.v", "b.v", "--heap"], 1, USAGE),
+    (
+        SOUND_MAIN,
+        &["run", "a.v", "--heap", "16777216"],
+        5,
+        "limit 13 16777216\n",
+    ),
+    ("}", CHECK, 6, "text token 4421:1\n"),
+    ("void", CHECK, 6, "text end\n"),
+    ("#", RUN, 6, "text byte 4421:1\n"),
+    ("struct s129 {} void main() {}", CHECK, 7, "kind\n"),
+    (KEPT_MAIN, CHECK, 8, "protocol\n"),
+    (KEPT_MAIN, RUN, 8, "protocol\n"),
+    (COUNTS, RUN, 9, "40\ntrap 1\n"),
+    (
+        COUNTS,
+        &["run", "a.v", "--heap", "1"],
+        10,
+        "40\nbudget heap\n",
+    ),
+];
+
+const USAGE: &str =
+    "usage: vaultc check F | explain F | fmt F | emit F | verify F | load N | run F OPTIONS | crun F OPTIONS\n";
+
+#[test]
+fn large_texts_have_every_status(rt: HostRuntime) -> Result<(), Fail> {
+    for (text, words, status, line) in LARGE {
+        let file = large(rt.alloc(), text)?;
+        assert!(rt; file.len() > 70_000);
+        let (found, written) = reply(rt.alloc(), SOUND, file.as_slice(), words)?;
+        assert_eq!(rt; found, status, "{text}");
+        assert_eq!(rt; written.as_slice(), line.as_bytes(), "{text}");
+    }
+    Ok(())
+}
+
+#[test]
+fn too_many_declarations_are_over_their_limit(rt: HostRuntime) -> Result<(), Fail> {
+    let mut file = Vec::new(rt.alloc());
+    push_times(&mut file, "stateset some_states { a }\n", 4097)?;
+    let (found, written) = reply(rt.alloc(), SOUND, file.as_slice(), CHECK)?;
+    assert_eq!(rt; found, 5);
+    assert_eq!(rt; written.as_slice(), b"limit 4 4096\n".as_slice());
+    Ok(())
+}
+
+/// What is written of a layout, or a front of it where the sink has too little room.
+#[test]
+fn large_layouts_are_written(rt: HostRuntime) -> Result<(), Fail> {
+    let file = large(rt.alloc(), COUNTS)?;
+    for (room, status) in [(100_000, 0), (70_001, 3)] {
+        let outside = Outside { room, ..SOUND };
+        let (found, written) = reply(rt.alloc(), outside, file.as_slice(), &["fmt", "a.v"])?;
+        assert_eq!(rt; found, status);
+        assert_eq!(rt; written.len(), file.len().min(room));
+        assert!(rt; written.as_slice() == &file[..file.len().min(room)]);
+    }
+    Ok(())
+}
+
+fn push_times(text: &mut Vec<u8>, piece: &str, count: usize) -> Result<(), AllocError> {
+    for _ in 0..count {
+        text.extend_from_slice(piece.as_bytes())?;
+    }
+    Ok(())
+}
+
+/// How many blocks are opened in each other, how many are closed, and words with a status and what is written.
+const DEEP: [(usize, usize, &[&str], u8, &str); 6] = [
+    (60, 60, CHECK, 7, "kind\n"),
+    (60, 60, RUN, 7, "kind\n"),
+    (60, 59, CHECK, 6, "text end\n"),
+    (60, 61, CHECK, 6, "text token 1:130\n"),
+    (65, 65, CHECK, 5, "limit 12 64\n"),
+    (65, 65, &["fmt", "a.v"], 5, "limit 12 64\n"),
+];
+
+#[test]
+fn deep_texts_have_their_status(rt: HostRuntime) -> Result<(), Fail> {
+    for (opened, closed, words, status, line) in DEEP {
+        let mut file = Vec::from_slice(rt.alloc(), b"void f() ")?;
+        push_times(&mut file, "{", opened)?;
+        push_times(&mut file, "}", closed)?;
+        let (found, written) = reply(rt.alloc(), SOUND, file.as_slice(), words)?;
+        assert_eq!(rt; found, status, "{opened}");
+        assert_eq!(rt; written.as_slice(), line.as_bytes(), "{opened}");
+    }
+    Ok(())
+}
+
+/// 60 blocks in each other are laid out, and laid out again just so; a sink that fails takes a front.
+#[test]
+fn deep_layouts_are_written(rt: HostRuntime) -> Result<(), Fail> {
+    let mut file = Vec::from_slice(rt.alloc(), b"void f() ")?;
+    push_times(&mut file, "{", 60)?;
+    push_times(&mut file, "}", 60)?;
+    let (status, once) = reply(rt.alloc(), SOUND, file.as_slice(), &["fmt", "a.v"])?;
+    assert_eq!(rt; status, 0);
+    assert!(rt; once.len() > 10_000);
+    let (status, twice) = reply(rt.alloc(), SOUND, once.as_slice(), &["fmt", "a.v"])?;
+    assert_eq!(rt; status, 0);
+    assert!(rt; once.as_slice() == twice.as_slice());
+    let outside = Outside {
+        failing_write: 1,
+        ..SOUND
+    };
+    let (status, none) = reply(rt.alloc(), outside, once.as_slice(), &["fmt", "a.v"])?;
+    assert_eq!(rt; status, 3);
+    assert_eq!(rt; none.len(), 0);
+    Ok(())
+}

@@ -1,0 +1,17 @@
+pub mod Unbroken
+pub mod Jumping
+pub mod Ids
+pub mod Binding
+pub mod Going
+pub mod Good
+pub mod Scoping
+pub mod Simple
+pub mod Calls
+pub mod Listed
+pub mod Ending
+pub mod Body
+pub mod Focus
+pub mod Arms
+pub mod Fitting
+pub mod Headed
+pub mod Starting

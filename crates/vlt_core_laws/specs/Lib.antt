@@ -1,0 +1,4 @@
+pub mod States
+pub mod Arms
+pub mod Heads
+pub mod Fit

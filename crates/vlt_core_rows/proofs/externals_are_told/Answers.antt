@@ -1,0 +1,15 @@
+use Rattle.std.proofs.Common.{refl}
+use Rattle.vlt_core_rows.specs.Told.{told_run}
+use Rattle.vlt_core_rows.proofs.externals_are_told.Goals as goal
+
+pub returns-clause-sockets : goal.returns-clause-sockets
+unfolding told_run
+returns-clause-sockets c = (refl, (refl, (refl, (refl, tt))))
+
+pub returns-clause-locks : goal.returns-clause-locks
+unfolding told_run
+returns-clause-locks c = (refl, tt)
+
+pub returns-clause-requests : goal.returns-clause-requests
+unfolding told_run
+returns-clause-requests c = (refl, (refl, (refl, tt)))

@@ -1,0 +1,11 @@
+pub mod Told
+pub mod Sockets
+pub mod Loops
+pub mod Adoption
+pub mod Lists
+pub mod Locks
+pub mod Requests
+pub mod Numbers
+pub mod Damaged
+pub mod Shown
+pub mod Rows

@@ -1,0 +1,6 @@
+pub mod Passing
+pub mod Joining
+pub mod Framing
+pub mod Parts
+pub mod Turning
+pub mod Starting

@@ -1,0 +1,7 @@
+use Rattle.vlt_core.specs.View.{program_of, func_of, entry_of}
+use Rattle.vlt_keyset.specs.Held.{map_of}
+use Rattle.vlt_flow.proofs.Starting.{StartingAt}
+use Rattle.vlt_flow.proofs.start.start_keys.Given as goal
+
+abbrev pub invariant-loop-e : goal.invariant-loop-e
+invariant-loop-e l = StartingAt entry_of (program_of l.p) (func_of l.f) l.f.clause l.e-index (map_of l.held)

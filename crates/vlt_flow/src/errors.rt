@@ -1,0 +1,64 @@
+//! Why a walk gives no maps.
+
+ghost use Rattle.std.specs.Prelude.{◌≡◌};
+ghost use Rattle.vlt_flow.specs.declared.errors.Stop.TheVariants.{Memory, Refused};
+
+use std::alloc::{AllocError, AllocFailed};
+use vlt_keyset::{JoinFault, TokenFault};
+use vlt_rows::RowError;
+
+/// Why a walk gives no maps.
+#[derive(Clone, Copy, Debug, PartialEq, Eq)]
+pub enum Stop {
+    /// A row or a join is refused.
+    Refused,
+    Memory,
+}
+
+impl From<AllocError> for Stop {
+    ghost from_gives = { λ _ e. e ≡ Memory };
+
+    fn from(_: AllocError) -> Stop {
+        Stop::Memory
+    }
+}
+
+impl<T: Drop> From<AllocFailed<T>> for Stop {
+    ghost from_gives = { λ _ e. e ≡ Memory };
+
+    fn from(_: AllocFailed<T>) -> Stop {
+        Stop::Memory
+    }
+}
+
+impl From<vlt_base::Memory> for Stop {
+    ghost from_gives = { λ _ e. e ≡ Memory };
+
+    fn from(_: vlt_base::Memory) -> Stop {
+        Stop::Memory
+    }
+}
+
+impl From<RowError> for Stop {
+    ghost from_gives = { λ _ e. e ≡ Memory };
+
+    fn from(_: RowError) -> Stop {
+        Stop::Memory
+    }
+}
+
+impl From<TokenFault> for Stop {
+    ghost from_gives = { λ _ e. e ≡ Refused };
+
+    fn from(_: TokenFault) -> Stop {
+        Stop::Refused
+    }
+}
+
+impl From<JoinFault> for Stop {
+    ghost from_gives = { λ _ e. e ≡ Refused };
+
+    fn from(_: JoinFault) -> Stop {
+        Stop::Refused
+    }
+}

@@ -1,0 +1,24 @@
+//! The walk over a function's body.
+
+ghost use Rattle.std.specs.Prelude.{IfOk};
+ghost use Rattle.vlt_core.specs.View.{program_of, func_of};
+ghost use Rattle.vlt_core.specs.Local.{Notes, IsLocalIn};
+ghost use Rattle.vlt_flow.specs.Walks.{OnRefused, IsLeastIn};
+
+use crate::errors::Stop;
+use crate::kept::Kept;
+use crate::least::least_maps;
+use crate::start::start_map_of;
+use std::alloc::Global;
+use vlt_core::{Func, Program};
+use vlt_rows::body_flow;
+
+/// The least maps of a function's body, by statement; `Refused` where no annotation holds in it.
+pub fn walk(alloc: Global, p: &Program, f: &Func) -> Result<Kept, Stop>
+    ensures ok { IfOk result (IsLeastIn (program_of p.now) (func_of f.now)) }
+    ensures refused { OnRefused result ((a : Notes) → IsLocalIn (program_of p.now) (func_of f.now) a → ⊥) }
+{
+    let flow = body_flow(alloc, p, f)?;
+    let start = start_map_of(alloc, p, f)?;
+    least_maps(alloc, start, &flow)
+}

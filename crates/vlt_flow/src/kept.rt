@@ -1,0 +1,130 @@
+//! The maps that a walk keeps for each loop and each choice.
+
+ghost use Rattle.std.specs.Prelude.{◌≡◌, ◌≢◌, ◌<◌, ◌↔◌, ℕ, length, IsTrue, IfOk, OnOk, Some, None};
+ghost use Rattle.vlt_core.specs.Maps.{HeldMap, IsBelow};
+ghost use Rattle.vlt_keyset.specs.Held.{map_of};
+ghost use Rattle.vlt_flow.specs.Walks.{OnRefused, slot, Above, IsInto, IsSameAt};
+
+use crate::errors::Stop;
+use std::alloc::{AllocError, Global};
+use std::marker::Model;
+use vlt_keyset::Held;
+
+/// The maps kept, by statement. They are only ever joined into.
+#[derive(Drop)]
+pub struct Kept {
+    around: Vec<Option<Held>>,
+    behind: Vec<Option<Held>>,
+}
+
+impl Model for Kept {
+    ghost use Rattle.vlt_flow.specs.Walks.{Marks};
+
+    ghost Value = { Marks };
+
+    ghost view = { λ k. record { around = k.around.items; behind = k.behind.items } };
+}
+
+/// Unites a map with what came before.
+fn join_into(slot: &mut Option<Held>, held: Held) -> Result<(), Stop>
+    ensures ok { OnOk result (IsInto slot.old held slot.new) }
+    ensures refused { OnRefused result ((m : HeldMap) → Above slot.old m → IsBelow (map_of held) m → ⊥) }
+{
+    match slot {
+        None => {
+            *slot = Some(held);
+            Ok(())
+        }
+        Some(old) => {
+            if !old.is_range_of(&held) {
+                return Err(Stop::Memory);
+            }
+            let _grew = old.join(&held)?;
+            Ok(())
+        }
+    }
+}
+
+fn copy_in(alloc: Global, slot: &Option<Held>) -> Result<Held, Stop>
+    ensures same { IfOk result (λ h. slot.now ≡ Some h) }
+    ensures never { OnRefused result ⊥ }
+{
+    match slot {
+        None => Err(Stop::Memory),
+        Some(held) => Ok(held.copy(alloc)?),
+    }
+}
+
+fn nothing(alloc: Global, count: usize) -> Result<Vec<Option<Held>>, AllocError>
+    ensures long { IfOk result (λ v. length v.items ≡ count) }
+    ensures none { IfOk result (λ v. (i : ℕ) → slot v.items i ≡ None) }
+{
+    let mut table = Vec::with_capacity(alloc, count)?;
+    for _i in 0..count {
+        table.push(None)?;
+    }
+    Ok(table)
+}
+
+impl Kept {
+    /// Nothing is kept yet.
+    pub fn open(alloc: Global, count: usize) -> Result<Kept, AllocError>
+        ensures around { IfOk result (λ k. length k.around ≡ count) }
+        ensures behind { IfOk result (λ k. length k.behind ≡ count) }
+        ensures none { IfOk result (λ k. (i : ℕ) → slot k.around i ≡ None) }
+        ensures none_behind { IfOk result (λ k. (i : ℕ) → slot k.behind i ≡ None) }
+    {
+        let around = nothing(alloc, count)?;
+        let behind = nothing(alloc, count)?;
+        Ok(Kept { around, behind })
+    }
+
+    pub fn join_around(&mut self, n: usize, held: Held) -> Result<(), Stop>
+        requires { n < length self.old.around }
+        ensures long { length self.new.around ≡ length self.old.around }
+        ensures into { OnOk result (IsInto (slot self.old.around n) held (slot self.new.around n)) }
+        ensures others { (i : ℕ) → i ≢ n → slot self.new.around i ≡ slot self.old.around i }
+        ensures behind { self.new.behind ≡ self.old.behind }
+        ensures refused { OnRefused result ((m : HeldMap) → Above (slot self.old.around n) m → IsBelow (map_of held) m → ⊥) }
+    {
+        join_into(&mut self.around[n], held)
+    }
+
+    pub fn join_behind(&mut self, n: usize, held: Held) -> Result<(), Stop>
+        requires { n < length self.old.behind }
+        ensures long { length self.new.behind ≡ length self.old.behind }
+        ensures into { OnOk result (IsInto (slot self.old.behind n) held (slot self.new.behind n)) }
+        ensures others { (i : ℕ) → i ≢ n → slot self.new.behind i ≡ slot self.old.behind i }
+        ensures around { self.new.around ≡ self.old.around }
+        ensures refused { OnRefused result ((m : HeldMap) → Above (slot self.old.behind n) m → IsBelow (map_of held) m → ⊥) }
+    {
+        join_into(&mut self.behind[n], held)
+    }
+
+    pub fn copy_around(&self, alloc: Global, n: usize) -> Result<Held, Stop>
+        requires { n < length self.now.around }
+        ensures same { IfOk result (λ h. slot self.now.around n ≡ Some h) }
+        ensures never { OnRefused result ⊥ }
+    {
+        copy_in(alloc, &self.around[n])
+    }
+
+    pub fn copy_behind(&self, alloc: Global, n: usize) -> Result<Held, Stop>
+        requires { n < length self.now.behind }
+        ensures same { IfOk result (λ h. slot self.now.behind n ≡ Some h) }
+        ensures never { OnRefused result ⊥ }
+    {
+        copy_in(alloc, &self.behind[n])
+    }
+
+    /// Whether the map at the head of the loop is this one.
+    pub fn is_around(&self, n: usize, held: &Held) -> bool
+        requires { n < length self.now.around }
+        ensures { IsTrue result ↔ (slot self.now.around n ≡ Some held.now) }
+    {
+        match &self.around[n] {
+            None => false,
+            Some(old) => old.is_same(held),
+        }
+    }
+}

@@ -1,0 +1,51 @@
+//! Rows, one after another.
+
+ghost use Rattle.std.specs.Prelude.{◌≡◌, ◌∷◌, [], map, OnOk, IfOk};
+ghost use Rattle.vlt_core.specs.View.{tok_of};
+ghost use Rattle.vlt_core.specs.HeldView.{row_of, toks_of};
+ghost use Rattle.vlt_rows.specs.FlowView.{rows_view};
+ghost use Rattle.vlt_core.specs.Maps.{CanPass, gone};
+ghost use Rattle.vlt_keyset.specs.Held.{map_of};
+ghost use Rattle.vlt_flow.specs.Walks.{OnRefused, Passes};
+
+use crate::errors::Stop;
+use vlt_core::{After, Row, Tok, Wanted};
+use vlt_keyset::Held;
+
+fn pass_row(held: &mut Held, row: Row) -> Result<(), Stop>
+    ensures ok { OnOk result (Passes (row_of row ∷ []) (map_of held.old) (map_of held.new)) }
+    ensures refused { OnRefused result (CanPass (row_of row ∷ []) (map_of held.old) → ⊥) }
+{
+    if !held.has(row.tok) {
+        return Err(Stop::Memory);
+    }
+    held.step(row)?;
+    Ok(())
+}
+
+pub fn pass_rows(held: &mut Held, rows: &[Row]) -> Result<(), Stop>
+    ensures ok { OnOk result (Passes (rows_view rows.now) (map_of held.old) (map_of held.new)) }
+    ensures refused { OnRefused result (CanPass (rows_view rows.now) (map_of held.old) → ⊥) }
+{
+    for row in rows {
+        pass_row(held, *row)?;
+    }
+    Ok(())
+}
+
+pub fn pass_gone(held: &mut Held, toks: &[Tok]) -> Result<(), Stop>
+    ensures ok { OnOk result (Passes (map gone (toks_of toks.now)) (map_of held.old) (map_of held.new)) }
+    ensures refused { OnRefused result (CanPass (map gone (toks_of toks.now)) (map_of held.old) → ⊥) }
+{
+    for tok in toks {
+        pass_row(
+            held,
+            Row {
+                tok: *tok,
+                wanted: Wanted::Absent,
+                after: After::Absent,
+            },
+        )?;
+    }
+    Ok(())
+}

@@ -1,0 +1,11 @@
+pub mod Changes
+pub mod Founds
+pub mod Annotating
+pub mod Deriving
+pub mod Smooth
+pub mod Sweeping
+pub mod Faultless
+pub mod Showing
+pub mod Spots
+pub mod Congruent
+pub mod Fitting

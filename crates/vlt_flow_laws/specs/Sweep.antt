@@ -1,0 +1,143 @@
+-- A sweep over a body for one token: what comes to each join is united with what is kept there.
+use Rattle.std.specs.Prelude.{◌≡◌, ◌↔◌, ℕ, ◌+◌, Bool, true, false, IsTrue, List, map, Option, Some, None, ◌⊎◌}
+use Rattle.vlt_core.specs.Core.{Tok}
+use Rattle.vlt_core.specs.Maps.{Row, gone}
+use Rattle.vlt_core.specs.Flow.{Flow, step, choose, loop, switch, scope, focus, return, jump, Block, block, Stmts, done, next, Arms, no_arms, arm, size, size_block}
+use Rattle.vlt_core.specs.Found.{One, Ones, images, out, to_next, head_of}
+
+-- a table of single statuses
+abbrev pub Many : Type 0
+Many = One → Bool
+
+abbrev pub In : Many → Ones
+In m o = IsTrue (m o)
+
+-- the tables kept: at the heads of loops, and behind loops and choices, by statement
+pub record Stock : Type 0 where
+  pub around : ℕ → Many
+  pub behind : ℕ → Many
+
+pub record IsMore (k k' : Stock) : Type 0 where
+  pub around : (i : ℕ) (o : One) → In (k.around i) o → In (k'.around i) o
+  pub behind : (i : ℕ) (o : One) → In (k.behind i) o → In (k'.behind i) o
+
+-- what the rows leave
+pub record IsImage (t : Tok) (rs : List Row) (m m' : Many) : Type 0 where
+  pub each : (o : One) → In m' o ↔ images t rs (In m) o
+
+pub record IsNothing (m : Many) : Type 0 where
+  pub none : (o : One) → In m o → ⊥
+
+-- united with the table at the head of loop n
+pub record IntoHead (n : ℕ) (m : Many) (k k' : Stock) : Type 0 where
+  pub more : IsMore k k'
+  pub has : (o : One) → In m o → In (k'.around n) o
+  pub comes : (i : ℕ) (o : One) → In (k'.around i) o → In (k.around i) o ⊎ ((i ≡ n) × In m o)
+  pub others : (i : ℕ) (o : One) → In (k'.behind i) o → In (k.behind i) o
+
+-- united with the table behind statement n
+pub record IntoExit (n : ℕ) (m : Many) (k k' : Stock) : Type 0 where
+  pub more : IsMore k k'
+  pub has : (o : One) → In m o → In (k'.behind n) o
+  pub comes : (i : ℕ) (o : One) → In (k'.behind i) o → In (k.behind i) o ⊎ ((i ≡ n) × In m o)
+  pub others : (i : ℕ) (o : One) → In (k'.around i) o → In (k.around i) o
+
+abbrev pub Lands : Option ℕ → Bool → Many → Stock → Stock → Type 0
+Lands None continues m k k' = k' ≡ k
+Lands (Some l) true m k k' = IntoHead l m k k'
+Lands (Some l) false m k k' = IntoExit l m k k'
+
+-- how a block is swept
+abbrev pub Sweep : Type 1
+Sweep = Stock → Many → Stock → Many → Type 0
+
+-- a way of choice c
+abbrev pub WayBy : Sweep → (c : ℕ) → Stock → Many → Stock → Type 0
+WayBy sweep c k m k' = (k1 : Stock) × (e : Many) × sweep k m k1 e × IntoExit c e k1 k'
+
+-- a turn of loop n from its head
+abbrev pub TurnBy : Sweep → Tok → List Row → ℕ → Stock → Stock → Type 0
+TurnBy sweep t rs n k k' =
+    (p : Many) × IsImage t rs (k.around n) p × (k1 : Stock) × IntoExit n p k k1 ×
+    (k2 : Stock) × (e : Many) × sweep k1 p k2 e × IntoHead n e k2 k'
+
+-- from m, with the tables k kept, a sweep keeps k' and comes out with r
+abbrev mutual
+  pub Swept : Tok → Flow → Option ℕ → ℕ → Stock → Many → Stock → Many → Type 0
+  Swept t (step rs) l n k m k' r = (k' ≡ k) × IsImage t rs m r
+  Swept t (choose rs a b) l n k m k' r =
+      (p : Many) × IsImage t rs m p × (k1 : Stock) × WayBy (SweptBlock t a l (n + 1)) n k p k1 × WayBy (SweptBlock t b l (n + 1 + size_block a)) n k1 p k' × (r ≡ k'.behind n)
+  Swept t (loop rs s) l n k m k' r = (k1 : Stock) × IntoHead n m k k1 × TurnBy (SweptBlock t s (Some n) (n + 1)) t rs n k1 k' × (r ≡ k'.behind n)
+  Swept t (switch rs arms end) l n k m k' r = (p : Many) × IsImage t rs m p × SweptArms t arms l n (n + 1) k p k' × (r ≡ k'.behind n)
+  Swept t (scope s) l n k m k' r = SweptBlock t s l (n + 1) k m k' r
+  Swept t (focus rs s es) l n k m k' r = (p : Many) × IsImage t rs m p × (e : Many) × SweptBlock t s l (n + 1) k p k' e × IsImage t es e r
+  Swept t (return rs) l n k m k' r = (k' ≡ k) × IsNothing r
+  Swept t (jump continues left) l n k m k' r = (p : Many) × IsImage t (map gone left) m p × Lands l continues p k k' × IsNothing r
+
+  pub SweptBlock : Tok → Block → Option ℕ → ℕ → Stock → Many → Stock → Many → Type 0
+  SweptBlock t (block ss bound end) l n k m k' r = (e : Many) × SweptStmts t ss l n k m k' e × IsImage t (map gone bound) e r
+
+  pub SweptStmts : Tok → Stmts → Option ℕ → ℕ → Stock → Many → Stock → Many → Type 0
+  SweptStmts t done l n k m k' r = (k' ≡ k) × (r ≡ m)
+  SweptStmts t (next at s rest) l n k m k' r = (k1 : Stock) × (e : Many) × Swept t s l n k m k1 e × SweptStmts t rest l (n + size s) k1 e k' r
+
+  pub SweptArms : Tok → Arms → Option ℕ → (c n : ℕ) → Stock → Many → Stock → Type 0
+  SweptArms t no_arms l c n k m k' = k' ≡ k
+  SweptArms t (arm rs s rest) l c n k m k' =
+      (p : Many) × IsImage t rs m p × (k1 : Stock) × WayBy (SweptBlock t s l n) c k p k1 × SweptArms t rest l c (n + size_block s) k1 m k'
+
+-- ---- what is found at the head of a loop and behind a loop or a choice, by statement
+
+abbrev mutual
+  pub found_head : Tok → Flow → ℕ → Ones → ℕ → Ones
+  found_head t (choose rs a b) n S i o =
+      found_head_block t a (n + 1) (images t rs S) i o ⊎ found_head_block t b (n + 1 + size_block a) (images t rs S) i o
+  found_head t (loop rs s) n S i o = ((i ≡ n) × head_of t rs s S o) ⊎ found_head_block t s (n + 1) (images t rs (head_of t rs s S)) i o
+  found_head t (switch rs arms end) n S i o = found_head_arms t arms (n + 1) (images t rs S) i o
+  found_head t (scope s) n S i o = found_head_block t s (n + 1) S i o
+  found_head t (focus rs s es) n S i o = found_head_block t s (n + 1) (images t rs S) i o
+  found_head t _ n S i o = ⊥
+
+  pub found_head_block : Tok → Block → ℕ → Ones → ℕ → Ones
+  found_head_block t (block ss bound end) n S i o = found_head_stmts t ss n S i o
+
+  pub found_head_stmts : Tok → Stmts → ℕ → Ones → ℕ → Ones
+  found_head_stmts t done n S i o = ⊥
+  found_head_stmts t (next at s rest) n S i o = found_head t s n S i o ⊎ found_head_stmts t rest (n + size s) (out t s S to_next) i o
+
+  pub found_head_arms : Tok → Arms → ℕ → Ones → ℕ → Ones
+  found_head_arms t no_arms n S i o = ⊥
+  found_head_arms t (arm rs s rest) n S i o = found_head_block t s n (images t rs S) i o ⊎ found_head_arms t rest (n + size_block s) S i o
+
+abbrev mutual
+  pub found_exit : Tok → Flow → ℕ → Ones → ℕ → Ones
+  found_exit t (choose rs a b) n S i o =
+      ((i ≡ n) × out t (choose rs a b) S to_next o) ⊎ (found_exit_block t a (n + 1) (images t rs S) i o ⊎ found_exit_block t b (n + 1 + size_block a) (images t rs S) i o)
+  found_exit t (loop rs s) n S i o =
+      ((i ≡ n) × out t (loop rs s) S to_next o) ⊎ found_exit_block t s (n + 1) (images t rs (head_of t rs s S)) i o
+  found_exit t (switch rs arms end) n S i o =
+      ((i ≡ n) × out t (switch rs arms end) S to_next o) ⊎ found_exit_arms t arms (n + 1) (images t rs S) i o
+  found_exit t (scope s) n S i o = found_exit_block t s (n + 1) S i o
+  found_exit t (focus rs s es) n S i o = found_exit_block t s (n + 1) (images t rs S) i o
+  found_exit t _ n S i o = ⊥
+
+  pub found_exit_block : Tok → Block → ℕ → Ones → ℕ → Ones
+  found_exit_block t (block ss bound end) n S i o = found_exit_stmts t ss n S i o
+
+  pub found_exit_stmts : Tok → Stmts → ℕ → Ones → ℕ → Ones
+  found_exit_stmts t done n S i o = ⊥
+  found_exit_stmts t (next at s rest) n S i o = found_exit t s n S i o ⊎ found_exit_stmts t rest (n + size s) (out t s S to_next) i o
+
+  pub found_exit_arms : Tok → Arms → ℕ → Ones → ℕ → Ones
+  found_exit_arms t no_arms n S i o = ⊥
+  found_exit_arms t (arm rs s rest) n S i o = found_exit_block t s n (images t rs S) i o ⊎ found_exit_arms t rest (n + size_block s) S i o
+
+-- each table holds just what is found there
+pub record IsFoundIn (t : Tok) (s : Block) (S : Ones) (k : Stock) : Type 0 where
+  pub around : (i : ℕ) (o : One) → In (k.around i) o ↔ found_head_block t s 0 S i o
+  pub behind : (i : ℕ) (o : One) → In (k.behind i) o ↔ found_exit_block t s 0 S i o
+
+-- no table holds more than what is found
+pub record IsReached (t : Tok) (s : Block) (S : Ones) (k : Stock) : Type 0 where
+  pub around : (i : ℕ) (o : One) → In (k.around i) o → found_head_block t s 0 S i o
+  pub behind : (i : ℕ) (o : One) → In (k.behind i) o → found_exit_block t s 0 S i o

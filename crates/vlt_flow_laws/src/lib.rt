@@ -1,0 +1,41 @@
+//! Laws of the check: nothing goes in and nothing comes out.
+//! Read `vlt_core/specs/Local.antt`, `Derives.antt` and `Faults.antt` first, then `specs/Scoped.antt`.
+//! `vlt_flow` and `vlt_check` rest on them: a body is derived just where some annotation holds in it, and where none
+//! does something is faulty.
+#![tactic(auto)]
+
+ghost use Rattle.std.specs.Prelude.{ℕ, Bool, None, false};
+ghost use Rattle.vlt_core.specs.Core.{Tok, Func, Program};
+ghost use Rattle.vlt_core.specs.Maps.{HeldMap};
+ghost use Rattle.vlt_core.specs.Flow.{Block};
+ghost use Rattle.vlt_core.specs.Derives.{IsDerived};
+ghost use Rattle.vlt_core.specs.Local.{Notes, IsLocalBlock, IsLocalIn};
+ghost use Rattle.vlt_core.specs.Found.{Has};
+ghost use Rattle.vlt_core.specs.Faults.{HasFault};
+ghost use Rattle.vlt_flow_laws.specs.Scoped.{IsScopedBlock, IsAbsentOut, IsJumpingBlock, SomeLocal};
+ghost use Rattle.vlt_flow_laws.specs.Faulted.{HasFaultBlock};
+ghost use Rattle.vlt_flow_laws.specs.Sweep.{Stock, IsFoundIn};
+ghost use Rattle.vlt_flow_laws.specs.Shown.{IsFit, IsStart, IsReadOf};
+
+/// A body in which some annotation holds is derived, where its rows name tokens in scope alone and the others are absent.
+pub fn local_is_derived()
+    ensures { (s : Block) (g : Tok → Bool) (h : HeldMap) →
+        IsScopedBlock g s → IsAbsentOut g h → SomeLocal s h → IsDerived s h }
+{}
+
+/// In a body that is derived, and whose jumps stand in loops, some annotation holds.
+pub fn derived_is_local()
+    ensures { (s : Block) (h : HeldMap) → IsJumpingBlock false s → IsDerived s h → SomeLocal s h }
+{}
+
+/// Where an annotation holds in a function's body, none of its rows and joins is faulty.
+pub fn local_has_no_fault()
+    ensures { (p : Program) (f : Func) (a : Notes) → IsLocalIn p f a → HasFault p f → ⊥ }
+{}
+
+/// Where no row and no join is faulty, an annotation that shows what paths find holds in the body.
+pub fn faultless_is_local()
+    ensures { (s : Block) (k : Tok → Stock) (a : Notes) (h : HeldMap) →
+        IsFit s → IsStart h → ((t : Tok) → IsFoundIn t s (Has (h t)) (k t)) → IsReadOf a k →
+        ((t : Tok) → HasFaultBlock t s (Has (h t)) → ⊥) → IsLocalBlock a None 0 h s }
+{}

@@ -1,0 +1,4 @@
+pub mod Bits
+pub mod Into
+pub mod Passing
+pub mod Sweeps

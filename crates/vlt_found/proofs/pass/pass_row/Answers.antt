@@ -1,0 +1,12 @@
+use Rattle.std.proofs.Common.{sym, ◌∙◌}
+use Rattle.vlt_core.specs.View.{tok_of}
+use Rattle.vlt_core.specs.HeldView.{row_of}
+use Rattle.vlt_found.specs.Ones.{many_of}
+use Rattle.vlt_found.proofs.Passing.{moved_own, moved_other}
+use Rattle.vlt_found.proofs.pass.pass_row.Goals as goal
+
+pub returns-then-is_same_tok : goal.returns-then-is_same_tok
+returns-then-is_same_tok c = moved_own (tok_of c.args.tok) (row_of c.args.row) (many_of c.args.m) (many_of c.moved.result) (sym c.is_same_tok.ensures ∙ c.if-is_same_tok.true) c.moved.ensures
+
+pub returns-else-is_same_tok : goal.returns-else-is_same_tok
+returns-else-is_same_tok c = moved_other (tok_of c.args.tok) (row_of c.args.row) (many_of c.args.m) (sym c.is_same_tok.ensures ∙ c.if-is_same_tok.false)

@@ -1,0 +1,3 @@
+pub mod Ones
+pub mod Marks
+pub mod Passes

@@ -1,0 +1,10 @@
+pub mod Tables
+pub mod Folds
+pub mod Known
+pub mod Places
+pub mod Core
+pub mod Clauses
+pub mod Entries
+pub mod Hosts
+pub mod Whole
+pub mod States

@@ -1,0 +1,13 @@
+mod Parts
+mod Firsts
+mod Founds
+mod Lists
+mod Points
+mod Turns
+mod Forms
+mod Sums
+mod Counts
+mod Renaming
+mod Clean
+mod Overs
+mod Whole

@@ -1,0 +1,19 @@
+use Rattle.std.proofs.Common.{◌<◌, length, arith}
+use Rattle.std.proofs.lemmas.List.{get_or_default}
+use Rattle.vlt_core.specs.Maps.{gone}
+use Rattle.vlt_core.specs.View.{tok_of}
+use Rattle.vlt_found.proofs.Passing.{map_twice}
+use Rattle.vlt_found.proofs.Sweeps.{split_at}
+use Rattle.vlt_judge.proofs.Sums.{counting_first, rows_more, rows_end}
+use Rattle.vlt_judge.proofs.extent.extent_of_toks.Goals as goal
+
+pub loop-tok-init : goal.loop-tok-init
+loop-tok-init c = counting_first _ _ _ _ c.only-sum.ensures
+
+pub loop-tok-preserved : goal.loop-tok-preserved
+loop-tok-preserved c =
+    let lt : c.loop-tok.tok-index < length c.args.toks.now = omega arith in
+    rows_more (λ t. gone (tok_of t)) _ _ _ _ _ _ (split_at _ _ _ lt (get_or_default _ _ _ _ lt)) c.loop-tok.invariant c.in_ok-own.ensures c.in_ok-sum.ensures
+
+pub returns : goal.returns
+returns c = rw (← map_twice gone tok_of c.args.toks.now) (rows_end (λ t. gone (tok_of t)) _ _ _ (omega (arith, c.loop-tok-test.false)) c.loop-tok.invariant)

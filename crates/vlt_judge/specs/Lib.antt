@@ -1,0 +1,5 @@
+pub mod Faulty
+pub mod Blames
+pub mod Judging
+pub mod Extents
+pub mod Overs

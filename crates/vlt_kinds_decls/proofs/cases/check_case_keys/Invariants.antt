@@ -1,0 +1,23 @@
+use Rattle.std.proofs.Common.{◌≡◌, ◌++◌, ◌<◌, ◌≤◌, ℕ, [], ◌∷◌, drop, take, map, option_map, length, All}
+use Rattle.std.specs.List.{position_from}
+use Rattle.std.specs.Str.{bytes_eq}
+use Rattle.vlt_syntax.specs.View as view
+use Rattle.vlt_syntax.specs.Lists.{Each}
+use Rattle.vlt_syntax.specs.Grammar.{IsDecl, language}
+use Rattle.vlt_core.specs.View as core_view
+use Rattle.vlt_kinds_names.specs.Refusals.{of_each, least_from, found_each}
+use Rattle.vlt_kinds_names.specs.Along.{found_along}
+use Rattle.vlt_kinds_names.specs.Globals.{names_seen}
+use Rattle.vlt_kinds_types.specs.Types as t
+use Rattle.vlt_kinds_types.specs.Seen.{file_seen, states_seen, use_seen}
+use Rattle.vlt_kinds_decls.specs.Decls as d
+use Rattle.vlt_kinds_decls.specs.Made as m
+use Rattle.vlt_kinds_decls.specs.declared.parts.Part.TheVariants as part
+use Rattle.vlt_kinds_decls.proofs.cases.check_case_keys.Given as goal
+
+abbrev pub invariant-loop-key : goal.invariant-loop-key
+invariant-loop-key l = record {
+  refused : found_along (d.with_key (map view.header_param_of l.params)) (d.next_key_refused (file_seen l.file) (map view.header_param_of l.params)) l.seen (map view.key_states_of (drop l.key-index l.keys)) l.found.least
+      ≡ found_along (d.with_key (map view.header_param_of l.params)) (d.next_key_refused (file_seen l.file) (map view.header_param_of l.params)) [] (map view.key_states_of l.keys) l.initial.found.least;
+  small : All (λ i. i < 32) l.seen;
+}

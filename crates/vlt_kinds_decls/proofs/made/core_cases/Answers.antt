@@ -1,0 +1,14 @@
+use Rattle.std.proofs.Common.{◌∙◌, map}
+use Rattle.vlt_syntax.specs.View as view
+use Rattle.vlt_core.specs.View as core_view
+use Rattle.vlt_kinds_names.proofs.Loops.{found_next, along_next, made_next}
+use Rattle.vlt_kinds_types.specs.Seen.{file_seen, states_seen}
+use Rattle.vlt_kinds_decls.specs.Decls as d
+use Rattle.vlt_kinds_decls.specs.Made as m
+use Rattle.vlt_kinds_decls.proofs.made.core_cases.Goals as goal
+
+pub loop-case-preserved : goal.loop-case-preserved
+loop-case-preserved c =
+    made_next core_view.case_of (m.core_case (file_seen c.args.file.now) (map view.header_param_of c.args.params.now)) view.case_of _ _ _ _ _ _
+    c.loop-case-test.true c.case-item.is c.in_ok-push.ensures.ok c.in_ok-core_case.ensures
+    ∙ c.loop-case.invariant

@@ -1,0 +1,3 @@
+pub mod Decls
+pub mod Made
+pub mod Known

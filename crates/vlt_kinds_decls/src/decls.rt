@@ -1,0 +1,83 @@
+//! The rules on declared types.
+
+ghost use Rattle.std.specs.Prelude.{◌≡◌, map, option_map, OnOk};
+ghost use Rattle.vlt_syntax.specs.View as view;
+ghost use Rattle.vlt_syntax.specs.Lists.{Each};
+ghost use Rattle.vlt_syntax.specs.Grammar.{IsDecl, language};
+ghost use Rattle.vlt_kinds_names.specs.Refusals.{least_from, found_each};
+ghost use Rattle.vlt_kinds_types.specs.Seen.{file_seen};
+ghost use Rattle.vlt_kinds_decls.specs.Decls as d;
+
+use crate::cases::check_variant;
+use crate::fields::check_struct;
+use std::alloc::{AllocError, Global as Heap};
+use vlt_kinds_names::Found;
+use vlt_kinds_types::File;
+use vlt_syntax::Decl;
+
+fn check_decl(
+    alloc: Heap,
+    file: &File<'_>,
+    decl: &Decl,
+    found: &mut Found,
+) -> Result<(), AllocError>
+    requires { IsDecl language (view.decl_of decl.now) }
+    ensures { OnOk result (found.new.least ≡ least_from found.old.least
+        (d.type_refused (file_seen file.now) (view.decl_of decl.now))) }
+{
+    match decl {
+        Decl::Struct {
+            name,
+            params,
+            fields,
+            release,
+            ..
+        } => {
+            check_struct(
+                alloc,
+                file,
+                name,
+                params.as_slice(),
+                fields.as_slice(),
+                release,
+                found,
+            )
+        }
+        Decl::Variant { params, cases, .. } => {
+            check_variant(alloc, file, params.as_slice(), cases.as_slice(), found)
+        }
+        _ => Ok(()),
+    }
+}
+
+fn check_decls(
+    alloc: Heap,
+    file: &File<'_>,
+    decls: &[Decl],
+    found: &mut Found,
+) -> Result<(), AllocError>
+    requires { Each (IsDecl language) (map view.decl_of decls.now) }
+    ensures { OnOk result (found.new.least ≡ found_each (d.type_refused (file_seen file.now))
+        (map view.decl_of decls.now) found.old.least) }
+{
+    for decl in decls {
+        check_decl(alloc, file, decl, found)?;
+    }
+    Ok(())
+}
+
+/// Refuses what is wrong in the declared types of a file.
+#[tactic(auto, using(vlt_kinds_names::proofs::Least::each_is), unfolding(crate::specs::Decls::types_refused))]
+pub fn check_types(
+    alloc: Heap,
+    file: &File<'_>,
+    decls: &[Decl],
+    found: &mut Found,
+) -> Result<(), AllocError>
+    requires { Each (IsDecl language) (map view.decl_of decls.now) }
+    ensures { OnOk result (found.new.least ≡ least_from found.old.least
+        (d.types_refused (file_seen file.now) (map view.decl_of decls.now))) }
+{
+    check_decls(alloc, file, decls, found)?;
+    Ok(())
+}

@@ -1,0 +1,15 @@
+//! Declared types: declarations in, the least refusal of the rules on them and their core declarations out.
+//! Read `specs/Decls.antt` first, then `Made`.
+//! The rules on bodies rest on it.
+#![tactic(auto)]
+
+mod cases;
+mod decls;
+mod fields;
+mod header;
+mod made;
+mod parts;
+
+pub use decls::check_types;
+pub use made::core_types;
+pub use parts::Part;

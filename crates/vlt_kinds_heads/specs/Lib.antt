@@ -1,0 +1,6 @@
+pub mod Places
+pub mod Keys
+pub mod Heads
+pub mod Externals
+pub mod Phase
+pub mod Seen

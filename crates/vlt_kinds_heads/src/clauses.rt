@@ -1,0 +1,169 @@
+//! The rules on clauses.
+
+ghost use Rattle.std.specs.Prelude.{◌≡◌, ◌&&◌, not, Some, map, option_map, codes, OnOk};
+ghost use Rattle.vlt_syntax.specs.View as view;
+ghost use Rattle.vlt_kinds_names.specs.Refusals.{least_from, found_each};
+ghost use Rattle.vlt_kinds_types.specs.Seen.{file_seen};
+ghost use Rattle.vlt_kinds_heads.specs.Places as p;
+ghost use Rattle.vlt_kinds_heads.specs.Heads as h;
+ghost use Rattle.vlt_kinds_heads.specs.Seen.{keys_seen};
+
+use crate::facts::Facts;
+use crate::keys::HeadKeys;
+use crate::places::{clause_in, entry_key, first_states, is_fresh, second_states};
+use std::alloc::{AllocError, Global as Heap};
+use vlt_core::rules;
+use vlt_kinds_names::Found;
+use vlt_kinds_types::File;
+use vlt_syntax::{Entry, Head, Name, Outcome, States, Ty};
+
+/// The name of the function that a program begins with.
+const MAIN: &[u8] = b"main";
+
+fn is_fresh_result(facts: &Facts) -> bool
+    ensures { result ≡ h.is_fresh_result facts.now }
+{
+    facts.is_result_key && !facts.in_result_again && !facts.in_parameters && !facts.in_clause_again
+}
+
+fn check_entry_key(facts: &Facts, is_fresh: bool, at: u32, found: &mut Found)
+    ensures { found.new.least ≡ least_from found.old.least (h.entry_key_refused facts.now is_fresh at) }
+{
+    if is_fresh {
+        found.add_if(!is_fresh_result(facts), rules::RESULT_KEY, at);
+    } else {
+        found.add_if(!facts.in_parameters, rules::CLAUSE_KEY_UNBOUND, at);
+    }
+}
+
+fn first_name(states: &States) -> u32
+    ensures { result ≡ h.first_name (view.states_of states.now) }
+{
+    match states {
+        States::One(name) => name.at.from,
+        States::Several(names, at) => match names.as_slice() {
+            [] => at.from,
+            [name, ..] => name.at.from,
+        },
+    }
+}
+
+fn check_key_states(
+    alloc: Heap,
+    file: &File<'_>,
+    facts: &Facts,
+    states: Option<&States>,
+    found: &mut Found,
+) -> Result<(), AllocError>
+    ensures { OnOk result (found.new.least ≡ least_from found.old.least (h.key_states_refused (file_seen file.now)
+        facts.now facts.now.typing (option_map (λ ss. view.states_of ss.now) states.entry))) }
+{
+    let Some(states) = states else {
+        return Ok(());
+    };
+    match facts.typing {
+        None => {
+            found.add_if(
+                !facts.is_left_open,
+                rules::STATES_UNTYPED,
+                first_name(states),
+            );
+            Ok(())
+        }
+        Some(had) => file.check_object_states(alloc, file.shape_at(had.type_id), states, found),
+    }
+}
+
+#[tactic(auto, using(vlt_kinds_names::proofs::Least::least_of_both), unfolding(crate::specs::Heads::entry_states_refused))]
+fn check_entry_states(
+    alloc: Heap,
+    file: &File<'_>,
+    facts: &Facts,
+    entry: &Entry,
+    found: &mut Found,
+) -> Result<(), AllocError>
+    ensures { OnOk result (found.new.least ≡ least_from found.old.least
+        (h.entry_states_refused (file_seen file.now) facts.now (view.entry_of entry.now))) }
+{
+    check_key_states(alloc, file, facts, first_states(entry), found)?;
+    check_key_states(alloc, file, facts, second_states(entry), found)?;
+    Ok(())
+}
+
+#[tactic(auto, using(vlt_kinds_names::proofs::Least::least_of_both), unfolding(crate::specs::Heads::entry_refused))]
+fn check_entry(
+    alloc: Heap,
+    file: &File<'_>,
+    keys: &HeadKeys<'_>,
+    entry: &Entry,
+    found: &mut Found,
+) -> Result<(), AllocError>
+    ensures { OnOk result (found.new.least ≡ least_from found.old.least
+        (h.entry_refused (file_seen file.now) (keys_seen keys.now) (view.entry_of entry.now))) }
+{
+    let key = entry_key(entry);
+    let facts = keys.facts_of(key.text.as_slice())?;
+    check_entry_key(&facts, is_fresh(entry), key.at.from, found);
+    check_entry_states(alloc, file, &facts, entry, found)?;
+    Ok(())
+}
+
+/// Refuses keys and states of a clause.
+pub fn check_entries(
+    alloc: Heap,
+    file: &File<'_>,
+    keys: &HeadKeys<'_>,
+    clause: &[Entry],
+    found: &mut Found,
+) -> Result<(), AllocError>
+    ensures { OnOk result (found.new.least ≡ found_each (h.entry_refused (file_seen file.now) (keys_seen keys.now))
+        (map view.entry_of clause.now) found.old.least) }
+{
+    for entry in clause {
+        check_entry(alloc, file, keys, entry, found)?;
+    }
+    Ok(())
+}
+
+// ---- main
+
+fn is_void(outcome: &Outcome) -> bool
+    ensures { result ≡ h.is_void (view.outcome_of outcome.now) }
+{
+    matches!(outcome, Outcome::Void(_))
+}
+
+fn is_tracked_result(outcome: &Outcome, key: &Name) -> bool
+    ensures { result ≡ h.is_tracked_result (view.outcome_of outcome.now) (view.name_of key.now) }
+{
+    match outcome {
+        Outcome::Value(Ty::Keyed { key: other, .. }) => key.text.as_slice()
+            == other.text.as_slice(),
+        _ => false,
+    }
+}
+
+fn is_main_clause(outcome: &Outcome, clause: &[Entry]) -> bool
+    ensures { result ≡ h.is_main_clause (view.outcome_of outcome.now) (map view.entry_of clause.now) }
+{
+    match clause {
+        [] => is_void(outcome),
+        [Entry::Fresh(states, _)] => is_tracked_result(outcome, &states.key),
+        _ => false,
+    }
+}
+
+/// Refuses a `main` that a program can't begin with.
+#[tactic(auto, unfolding(crate::specs::Heads::main_refused))]
+pub fn check_main(head: &Head, found: &mut Found)
+    ensures { found.new.least ≡ least_from found.old.least (h.main_refused (view.head_of head.now)) }
+{
+    let name = &head.name;
+    let fits = head.parameters.as_slice().is_empty()
+        && is_main_clause(&head.outcome, clause_in(&head.clause));
+    found.add_if(
+        name.text.as_slice() == MAIN && !fits,
+        rules::MAIN_HEAD,
+        name.at.from,
+    );
+}

@@ -1,0 +1,272 @@
+//! The rules on heads, and the heads of a file.
+
+ghost use Rattle.std.specs.Prelude.{◌≡◌, ◌++◌, map, IfOk, OnOk};
+ghost use Rattle.vlt_syntax.specs.View as view;
+ghost use Rattle.vlt_syntax.specs.Lists.{Each};
+ghost use Rattle.vlt_syntax.specs.Grammar.{IsDecl, IsHead, language};
+ghost use Rattle.vlt_core.specs.View as core_view;
+ghost use Rattle.vlt_kinds_names.specs.Refusals.{least_from, found_each};
+ghost use Rattle.vlt_kinds_types.specs.Seen.{file_seen, use_seen};
+ghost use Rattle.vlt_kinds_heads.specs.Places as p;
+ghost use Rattle.vlt_kinds_heads.specs.Keys as k;
+ghost use Rattle.vlt_kinds_heads.specs.Heads as h;
+ghost use Rattle.vlt_kinds_heads.specs.Phase as q;
+ghost use Rattle.vlt_kinds_heads.specs.Seen.{keys_seen};
+
+use crate::binding::check_names;
+use crate::clauses::{check_entries, check_main};
+use crate::externals::check_external;
+use crate::keys::HeadKeys;
+use crate::places::{clause_in, head_names, parameter_uses, result_uses};
+use indexmap::IndexMap;
+use std::alloc::{AllocError, Global as Heap};
+use vlt_base::Items;
+use vlt_core::{Func, TypeDecl};
+use vlt_kinds_names::Found;
+use vlt_kinds_types::{File, KeyUse};
+use vlt_syntax::{Decl, Entry, Head, Outcome, Parameter};
+
+fn check_outcome(
+    alloc: Heap,
+    file: &File<'_>,
+    outcome: &Outcome,
+    found: &mut Found,
+) -> Result<(), AllocError>
+    ensures { OnOk result (found.new.least ≡ least_from found.old.least
+        (h.outcome_refused (file_seen file.now) (view.outcome_of outcome.now))) }
+{
+    match outcome {
+        Outcome::Void(_) => Ok(()),
+        Outcome::Value(ty) => file.check_type(alloc, ty, found),
+    }
+}
+
+fn check_parameter_types(
+    alloc: Heap,
+    file: &File<'_>,
+    parameters: &[Parameter],
+    found: &mut Found,
+) -> Result<(), AllocError>
+    ensures { OnOk result (found.new.least ≡ found_each (h.parameter_refused (file_seen file.now))
+        (map view.parameter_of parameters.now) found.old.least) }
+{
+    for parameter in parameters {
+        file.check_type(alloc, &parameter.ty, found)?;
+    }
+    Ok(())
+}
+
+#[tactic(auto, using(vlt_kinds_names::proofs::Least::least_of_both, vlt_kinds_names::proofs::Least::each_is), unfolding(crate::specs::Heads::types_refused))]
+fn check_types(
+    alloc: Heap,
+    file: &File<'_>,
+    head: &Head,
+    found: &mut Found,
+) -> Result<(), AllocError>
+    ensures { OnOk result (found.new.least ≡ least_from found.old.least
+        (h.types_refused (file_seen file.now) (view.head_of head.now))) }
+{
+    check_outcome(alloc, file, &head.outcome, found)?;
+    check_parameter_types(alloc, file, head.parameters.as_slice(), found)?;
+    Ok(())
+}
+
+#[tactic(auto, using(vlt_kinds_names::proofs::Along::along_is))]
+fn check_head_names(
+    alloc: Heap,
+    file: &File<'_>,
+    head: &Head,
+    found: &mut Found,
+) -> Result<(), AllocError>
+    ensures { OnOk result (found.new.least ≡ least_from found.old.least
+        (h.names_refused (file_seen file.now).globals (p.head_names (file_seen file.now) (view.head_of head.now)))) }
+{
+    let names = head_names(alloc, file, head)?;
+    check_names(alloc, &file.globals, names.as_slice(), found)?;
+    Ok(())
+}
+
+/// Where the keys of a head stand. A key that its clause names another time is refused.
+#[tactic(auto, using(vlt_kinds_names::proofs::Along::along_is), unfolding(crate::specs::Heads::clause_again, crate::specs::Keys::places_behind))]
+fn note_places<'a>(
+    alloc: Heap,
+    results: &[KeyUse<'a>],
+    parameters: &[KeyUse<'a>],
+    clause: &'a [Entry],
+    found: &mut Found,
+) -> Result<HeadKeys<'a>, AllocError>
+    ensures keys { IfOk result (λ keys. keys_seen keys
+        ≡ k.places_behind (map use_seen results.now) (map use_seen parameters.now) (map view.entry_of clause.now)) }
+    ensures refused { OnOk result (found.new.least ≡ least_from found.old.least
+        (h.clause_again (map use_seen results.now) (map use_seen parameters.now) (map view.entry_of clause.now))) }
+{
+    let mut keys = HeadKeys {
+        table: IndexMap::new(alloc),
+    };
+    keys.note_results(results)?;
+    keys.note_parameters(parameters)?;
+    keys.check_clause_again(clause, found)?;
+    Ok(keys)
+}
+
+impl<'a> HeadKeys<'a> {
+    /// Notes the types of the keys. Another type for one of them in a parameter is refused.
+    #[tactic(auto, using(vlt_kinds_names::proofs::Along::along_is), unfolding(crate::specs::Heads::typings_refused, crate::specs::Keys::typed_keys))]
+    fn note_types(
+        &mut self,
+        results: &[KeyUse<'a>],
+        parameters: &[KeyUse<'a>],
+        found: &mut Found,
+    ) -> Result<(), AllocError>
+        ensures keys { OnOk result (keys_seen self.new
+            ≡ k.typed_keys (keys_seen self.old) (map use_seen results.now) (map use_seen parameters.now)) }
+        ensures refused { OnOk result (found.new.least ≡ least_from found.old.least
+            (h.typings_refused (keys_seen self.old) (map use_seen results.now) (map use_seen parameters.now))) }
+    {
+        self.note_fresh_types(results)?;
+        self.check_parameters(parameters, found)?;
+        Ok(())
+    }
+
+    #[tactic(auto, using(vlt_kinds_names::proofs::Least::least_of_both, vlt_kinds_names::proofs::Least::each_is), unfolding(crate::specs::Heads::result_refused))]
+    fn check_result(&self, results: &[KeyUse<'_>], found: &mut Found) -> Result<(), AllocError>
+        ensures { OnOk result (found.new.least ≡ least_from found.old.least
+            (h.result_refused (keys_seen self.now) (map use_seen results.now))) }
+    {
+        self.check_result_clashes(results, found)?;
+        self.check_result_keys(results, found)?;
+        Ok(())
+    }
+}
+
+/// The keys of a head. What is wrong in it is refused.
+#[tactic(auto, using(vlt_kinds_names::proofs::Least::least_of_both, vlt_kinds_names::proofs::Least::each_is), unfolding(crate::specs::Heads::head_refused_by, crate::specs::Keys::keys_behind))]
+fn check_head_by<'a>(
+    alloc: Heap,
+    file: &File<'_>,
+    head: &'a Head,
+    results: &[KeyUse<'a>],
+    parameters: &[KeyUse<'a>],
+    found: &mut Found,
+) -> Result<HeadKeys<'a>, AllocError>
+    ensures keys { IfOk result (λ keys. keys_seen keys ≡ k.keys_behind (map use_seen results.now)
+        (map use_seen parameters.now) (p.clause_in (view.head_of head.now).clause)) }
+    ensures refused { OnOk result (found.new.least ≡ least_from found.old.least (h.head_refused_by
+        (file_seen file.now) (view.head_of head.now) (map use_seen results.now) (map use_seen parameters.now))) }
+{
+    let clause = clause_in(&head.clause);
+    check_types(alloc, file, head, found)?;
+    check_head_names(alloc, file, head, found)?;
+    let mut keys = note_places(alloc, results, parameters, clause, found)?;
+    keys.note_types(results, parameters, found)?;
+    keys.check_result(results, found)?;
+    check_entries(alloc, file, &keys, clause, found)?;
+    check_main(head, found);
+    Ok(keys)
+}
+
+fn check_head<'a>(
+    alloc: Heap,
+    file: &File<'_>,
+    head: &'a Head,
+    found: &mut Found,
+) -> Result<HeadKeys<'a>, AllocError>
+    ensures keys { IfOk result (λ keys. keys_seen keys ≡ k.keys_of (file_seen file.now) (view.head_of head.now)) }
+    ensures refused { OnOk result (found.new.least ≡ least_from found.old.least
+        (h.head_refused (file_seen file.now) (view.head_of head.now))) }
+{
+    let results = result_uses(alloc, file, &head.outcome)?;
+    let parameters = parameter_uses(alloc, file, head.parameters.as_slice())?;
+    check_head_by(
+        alloc,
+        file,
+        head,
+        results.as_slice(),
+        parameters.as_slice(),
+        found,
+    )
+}
+
+#[tactic(auto, using(vlt_kinds_names::proofs::Least::least_of_both), unfolding(crate::specs::Phase::extern_refused))]
+fn check_extern<'a>(
+    alloc: Heap,
+    file: &File<'_>,
+    types: &[TypeDecl],
+    head: &'a Head,
+    found: &mut Found,
+) -> Result<HeadKeys<'a>, AllocError>
+    ensures keys { IfOk result (λ keys. keys_seen keys ≡ k.keys_of (file_seen file.now) (view.head_of head.now)) }
+    ensures refused { OnOk result (found.new.least ≡ least_from found.old.least
+        (q.extern_refused (file_seen file.now) (map core_view.type_of types.now) (view.head_of head.now))) }
+{
+    let keys = check_head(alloc, file, head, found)?;
+    check_external(file, types, head, &keys, found)?;
+    Ok(keys)
+}
+
+/// Adds the head that is declared here, if one is. What is wrong in it is refused.
+fn add_head(
+    alloc: Heap,
+    file: &File<'_>,
+    types: &[TypeDecl],
+    decl: &Decl,
+    heads: &mut Items<Func>,
+    found: &mut Found,
+) -> Result<(), AllocError>
+    requires { IsDecl language (view.decl_of decl.now) }
+    ensures heads { OnOk result (map core_view.func_of heads.new
+        ≡ map core_view.func_of heads.old ++ q.core_heads_in (file_seen file.now) (view.decl_of decl.now)) }
+    ensures refused { OnOk result (found.new.least ≡ least_from found.old.least
+        (q.heads_refused_in (file_seen file.now) (map core_view.type_of types.now) (view.decl_of decl.now))) }
+{
+    match decl {
+        Decl::Extern { head, .. } => {
+            let keys = check_extern(alloc, file, types, head, found)?;
+            heads.push(keys.core_head(alloc, file, true, head)?)
+        }
+        Decl::Function { head, .. } => {
+            let keys = check_head(alloc, file, head, found)?;
+            heads.push(keys.core_head(alloc, file, false, head)?)
+        }
+        _ => Ok(()),
+    }
+}
+
+fn add_heads(
+    alloc: Heap,
+    file: &File<'_>,
+    types: &[TypeDecl],
+    decls: &[Decl],
+    found: &mut Found,
+) -> Result<Items<Func>, AllocError>
+    requires { Each (IsDecl language) (map view.decl_of decls.now) }
+    ensures heads { IfOk result (λ heads. map core_view.func_of heads
+        ≡ q.core_heads (file_seen file.now) (map view.decl_of decls.now)) }
+    ensures refused { OnOk result (found.new.least ≡ found_each (q.heads_refused_in (file_seen file.now)
+        (map core_view.type_of types.now)) (map view.decl_of decls.now) found.old.least) }
+{
+    let mut heads = Items::new(alloc);
+    for decl in decls {
+        add_head(alloc, file, types, decl, &mut heads, found)?;
+    }
+    Ok(heads)
+}
+
+/// The heads of a file with these declared types. What is wrong in them is refused.
+#[tactic(auto, using(vlt_kinds_names::proofs::Least::each_is), unfolding(crate::specs::Phase::heads_refused))]
+pub fn check_heads(
+    alloc: Heap,
+    file: &File<'_>,
+    types: &[TypeDecl],
+    decls: &[Decl],
+    found: &mut Found,
+) -> Result<Items<Func>, AllocError>
+    requires { Each (IsDecl language) (map view.decl_of decls.now) }
+    ensures heads { IfOk result (λ heads. map core_view.func_of heads
+        ≡ q.core_heads (file_seen file.now) (map view.decl_of decls.now)) }
+    ensures refused { OnOk result (found.new.least ≡ least_from found.old.least (q.heads_refused
+        (file_seen file.now) (map core_view.type_of types.now) (map view.decl_of decls.now))) }
+{
+    let heads = add_heads(alloc, file, types, decls, found)?;
+    Ok(heads)
+}

@@ -1,0 +1,19 @@
+//! Heads: declarations and core types in, the least refusal of the rules on heads and the heads as core functions out.
+//! Read `specs/Places.antt` first, then `Keys`, `Heads`, `Externals` and `Phase`.
+//! The rules on bodies rest on it.
+#![tactic(auto)]
+
+mod binding;
+mod clauses;
+mod externals;
+mod facts;
+mod heads;
+mod keys;
+mod made;
+mod names;
+mod noted;
+mod places;
+mod types;
+
+pub use facts::{Facts, Typing};
+pub use heads::check_heads;

@@ -1,0 +1,14 @@
+pub mod Empty
+pub mod States
+pub mod Types
+pub mod Named
+pub mod Written
+pub mod Uses
+pub mod Parts
+pub mod Fields
+pub mod Cases
+pub mod Shaped
+pub mod Globals
+pub mod Rows
+pub mod Filled
+pub mod Headers

@@ -1,0 +1,4 @@
+pub mod Entries
+pub mod Least
+pub mod Along
+pub mod Loops

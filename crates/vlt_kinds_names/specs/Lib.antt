@@ -1,0 +1,4 @@
+pub mod Refusals
+pub mod Globals
+pub mod Names
+pub mod Along

@@ -1,0 +1,12 @@
+use Rattle.std.proofs.Common.{◌≡◌, ◌++◌, drop, take, map, length}
+use Rattle.std.specs.List.{list_any}
+use Rattle.vlt_syntax.specs.View as view
+use Rattle.vlt_kinds_names.specs.Refusals.{of_each}
+use Rattle.vlt_kinds_names.specs.Globals.{names_seen}
+use Rattle.vlt_kinds_types.specs.Files as f
+use Rattle.vlt_kinds_types.proofs.shapes.header_in.Given as goal
+
+abbrev pub invariant-loop-param : goal.invariant-loop-param
+invariant-loop-param l =
+    l.header ++ f.header_in (names_seen l.known) (map view.header_param_of (drop l.param-index l.params))
+    ≡ f.header_in (names_seen l.known) (map view.header_param_of l.params)

@@ -1,0 +1,12 @@
+use Rattle.std.proofs.Common.{◌≡◌, ◌++◌, drop, take, map, length}
+use Rattle.std.specs.List.{list_any}
+use Rattle.vlt_syntax.specs.View as view
+use Rattle.vlt_kinds_names.specs.Refusals.{of_each}
+use Rattle.vlt_kinds_names.specs.Globals.{names_seen}
+use Rattle.vlt_kinds_types.specs.Files as f
+use Rattle.vlt_kinds_types.proofs.shapes.is_owning.Given as goal
+
+abbrev pub invariant-loop-case : goal.invariant-loop-case
+invariant-loop-case l =
+    list_any (λ c. list_any (f.owns_payload (names_seen l.known)) c.payload) (map view.case_of l.cases)
+    ≡ list_any (λ c. list_any (f.owns_payload (names_seen l.known)) c.payload) (map view.case_of (drop l.case-index l.cases))

@@ -1,0 +1,4 @@
+pub mod Small
+pub mod Files
+pub mod Types
+pub mod Seen

@@ -1,0 +1,23 @@
+//! Types of a file: its names and declarations in, what type names stand for and the least refusal of the rules on types out.
+//! Read `specs/Files.antt` first, then `Types` and `Decls`.
+//! The rules on heads and bodies rest on it.
+#![tactic(auto)]
+
+mod file;
+mod keys;
+mod listed;
+mod made;
+mod shapes;
+mod states;
+mod tables;
+mod types;
+mod uses;
+
+pub use file::File;
+pub use listed::{add_listed, check_some_states, check_states, some_states_listed, states_listed};
+pub use made::KeyNumbers;
+pub use shapes::{Shape, Sort, Wanted, header_in, set_in, wanted_in};
+pub use states::StateNames;
+pub use tables::file_of;
+pub use types::{sort_in, ty_place};
+pub use uses::KeyUse;

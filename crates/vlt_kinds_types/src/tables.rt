@@ -1,0 +1,114 @@
+//! How the file's table is made, and what it knows.
+
+ghost use Rattle.std.specs.Prelude.{◌≡◌, ◌≤◌, ◌++◌, map, option_map, length, IfOk, OnOk};
+ghost use Rattle.vlt_syntax.specs.View as view;
+ghost use Rattle.vlt_syntax.specs.Lists.{Each};
+ghost use Rattle.vlt_syntax.specs.Grammar.{IsDecl, language};
+ghost use Rattle.vlt_core.specs.View as core_view;
+ghost use Rattle.vlt_kinds_names.specs.Globals.{names_seen, globals_of};
+ghost use Rattle.vlt_kinds_names.specs.Refusals.{of_each};
+ghost use Rattle.vlt_kinds_types.specs.Files as f;
+ghost use Rattle.vlt_kinds_types.specs.Seen.{file_seen};
+ghost use Rattle.vlt_kinds_types.specs.Small.{AreSmallSets, IsSmallSet};
+
+use crate::file::File;
+use crate::shapes::{self, Shape};
+use std::alloc::{AllocError, Global as Heap};
+use vlt_base::Items;
+use vlt_core::SetDecl;
+use vlt_kinds_names::Globals;
+use vlt_syntax::{Decl, Name};
+
+impl File<'_> {
+    /// The number of the type of this name.
+    pub fn type_named(&self, name: &Name) -> Option<u32>
+        ensures { result ≡ f.type_named (file_seen self.now) (view.name_of name.now) }
+    {
+        shapes::type_in(&self.globals, name)
+    }
+
+    /// The shape of the type of this number.
+    #[tactic(auto, unfolding(crate::specs::Files::shape_at))]
+    pub fn shape_at(&self, number: u32) -> Option<&Shape>
+        ensures { option_map (λ s. s.now) result ≡ f.shape_at (file_seen self.now) number }
+    {
+        self.shapes.get(number as usize)
+    }
+
+    /// The shape of the type of this name.
+    #[tactic(auto, unfolding(crate::specs::Files::shape_named))]
+    pub fn shape_named(&self, name: &Name) -> Option<&Shape>
+        ensures { option_map (λ s. s.now) result ≡ f.shape_named (file_seen self.now) (view.name_of name.now) }
+    {
+        let number = self.type_named(name)?;
+        self.shape_at(number)
+    }
+}
+
+fn texts(alloc: Heap, names: &[Name]) -> Result<Items<Items<u8>>, AllocError>
+    ensures texts { IfOk result (λ texts. map (λ n. n) texts ≡ f.texts (view.names_of names.now)) }
+    ensures len { IfOk result (λ texts. length texts ≡ length names.now) }
+{
+    let mut texts = Items::new(alloc);
+    for name in names {
+        texts.push(Items::from_slice(alloc, name.text.as_slice())?)?;
+    }
+    Ok(texts)
+}
+
+fn set_of(alloc: Heap, name: &Name, states: &[Name]) -> Result<SetDecl, AllocError>
+    requires some { 1 ≤ length states.now }
+    requires few { length states.now ≤ 32 }
+    ensures set { IfOk result (λ set. core_view.set_of set
+        ≡ record { name = (view.name_of name.now).text; states = f.texts (view.names_of states.now) }) }
+    ensures small { IfOk result IsSmallSet }
+{
+    let states = texts(alloc, states)?;
+    let name = Items::from_slice(alloc, name.text.as_slice())?;
+    Ok(SetDecl { name, states })
+}
+
+fn add_set(alloc: Heap, decl: &Decl, sets: &mut Items<SetDecl>) -> Result<(), AllocError>
+    requires right { IsDecl language (view.decl_of decl.now) }
+    requires small { AreSmallSets sets.old }
+    ensures sets { OnOk result
+        (map core_view.set_of sets.new ≡ map core_view.set_of sets.old ++ f.sets_in (view.decl_of decl.now)) }
+    ensures small { OnOk result (AreSmallSets sets.new) }
+{
+    if let Decl::StateSet { name, states, .. } = decl {
+        let set = set_of(alloc, name, states.as_slice())?;
+        sets.push(set)?;
+    }
+    Ok(())
+}
+
+fn sets_of(alloc: Heap, decls: &[Decl]) -> Result<Items<SetDecl>, AllocError>
+    requires { Each (IsDecl language) (map view.decl_of decls.now) }
+    ensures sets { IfOk result (λ sets. map core_view.set_of sets ≡ of_each f.sets_in (map view.decl_of decls.now)) }
+    ensures small { IfOk result AreSmallSets }
+{
+    let mut sets = Items::new(alloc);
+    for decl in decls {
+        add_set(alloc, decl, &mut sets)?;
+    }
+    Ok(sets)
+}
+
+/// What a file declares that has these names.
+pub fn file_of<'a>(
+    alloc: Heap,
+    globals: Globals<'a>,
+    decls: &[Decl],
+) -> Result<File<'a>, AllocError>
+    requires language { Each (IsDecl language) (map view.decl_of decls.now) }
+    requires names { names_seen globals ≡ globals_of (map view.decl_of decls.now) }
+    ensures { IfOk result (λ file. file_seen file ≡ f.file_of (map view.decl_of decls.now)) }
+{
+    let sets = sets_of(alloc, decls)?;
+    let shapes = shapes::shapes_of(alloc, &globals, decls)?;
+    Ok(File {
+        globals,
+        sets,
+        shapes,
+    })
+}

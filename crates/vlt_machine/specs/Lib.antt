@@ -1,0 +1,4 @@
+pub mod Got
+pub mod Machine
+pub mod Bounds
+pub mod Laws

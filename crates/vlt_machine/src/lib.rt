@@ -1,0 +1,16 @@
+//! A core program in; the run of a machine on plain data out.
+//! Read `specs/Machine.antt` (moved) first, then `specs/Laws.antt`: they serve `vlt_interp` alone.
+//! That a machine with a stack runs a program as the definition of runs says rests on it.
+#![tactic(auto)]
+
+ghost use Rattle.vlt_machine.specs.Laws.{MachineIsTheRun, StackSuffices};
+
+/// The moves of the machine lead to where a function's statements lead.
+pub fn machine_is_the_run()
+    ensures { MachineIsTheRun }
+{}
+
+/// A stack whose height the program and the depth give suffices.
+pub fn stack_suffices()
+    ensures { StackSuffices }
+{}

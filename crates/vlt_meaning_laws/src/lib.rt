@@ -1,0 +1,24 @@
+//! Laws of runs: nothing goes in and nothing comes out.
+//! Read `vlt_meaning/specs/Run.antt` and `Does.antt` first, then `specs/Laws.antt`.
+//! The layers above see runs by these equations alone, and nothing of the bound.
+#![tactic(auto)]
+
+ghost use Rattle.vlt_meaning_laws.specs.Laws.{IsBoundless, GoesOn, TurnsAgain, IsRun, OnlyAdds, EndsStop};
+
+/// The bound that a run's definition counts down doesn't matter.
+pub fn runs_need_no_bound()
+    ensures statements { IsBoundless }
+    ensures lists { GoesOn }
+    ensures loops { TurnsAgain }
+    ensures programs { IsRun }
+{}
+
+/// No fuel is won, events are only added, input and answers are only taken, and objects keep their numbers and types.
+pub fn runs_only_add()
+    ensures { OnlyAdds }
+{}
+
+/// Statements of which the last one ends never come to what is behind them.
+pub fn ends_stop()
+    ensures { EndsStop }
+{}

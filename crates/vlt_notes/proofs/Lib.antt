@@ -1,0 +1,4 @@
+mod Alike
+mod Reading
+mod Pushing
+mod Noting

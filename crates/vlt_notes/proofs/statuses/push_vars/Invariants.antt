@@ -1,0 +1,6 @@
+use Rattle.vlt_keyset.specs.Held.{map_of}
+use Rattle.vlt_notes.proofs.Pushing.{IsGrown, vars_below}
+use Rattle.vlt_notes.proofs.statuses.push_vars.Given as goal
+
+abbrev pub invariant-loop-var : goal.invariant-loop-var
+invariant-loop-var l = IsGrown l.fn.pairs l.pairs (vars_below (map_of l.held) l.var)

@@ -1,0 +1,171 @@
+//! The notes of each part, in order.
+
+ghost use Rattle.std.specs.Prelude.{◌≡◌, ◌+◌, ◌||◌, [], ◌∷◌, if◌then◌else◌, IfOk, OnOk};
+ghost use Rattle.vlt_core.specs.Flow.{size, size_block, size_stmts, size_arms};
+ghost use Rattle.vlt_core.specs.Least.{a_loop, a_join, noted, noted_block, noted_stmts, noted_arms};
+ghost use Rattle.vlt_rows.specs.FlowView.{flow_view, block_view, stmts_view, arms_view};
+ghost use Rattle.vlt_flow.specs.Walks.{slot};
+ghost use Rattle.vlt_notes.specs.Listed.{IsLong, IsHeld, IsNoted, map_in};
+
+use crate::passing::{passes_arms, passes_block};
+use crate::statuses::listed;
+use std::alloc::Global;
+use vlt_base::{Items, Memory, StmtId};
+use vlt_core::{Note, TokMap};
+use vlt_flow::Kept;
+use vlt_rows::{Flow, FlowArm, FlowBlock, FlowStmt};
+
+fn stmt_id(n: usize) -> Result<StmtId, Memory>
+    ensures { IfOk result (λ id. id.0 ≡ n) }
+{
+    match u32::try_from(n) {
+        Ok(n) => Ok(StmtId(n)),
+        Err(_) => Err(Memory),
+    }
+}
+
+fn around(alloc: Global, kept: &Kept, n: usize) -> Result<TokMap, Memory>
+    requires { IsLong kept.now (n + 1) }
+    ensures { IfOk result (λ m. IsHeld (slot kept.now.around n) (map_in m)) }
+{
+    match kept.copy_around(alloc, n) {
+        Ok(held) => listed(alloc, &held),
+        Err(_) => Err(Memory),
+    }
+}
+
+fn behind(alloc: Global, kept: &Kept, n: usize) -> Result<TokMap, Memory>
+    requires { IsLong kept.now (n + 1) }
+    ensures { IfOk result (λ m. IsHeld (slot kept.now.behind n) (map_in m)) }
+{
+    match kept.copy_behind(alloc, n) {
+        Ok(held) => listed(alloc, &held),
+        Err(_) => Err(Memory),
+    }
+}
+
+fn either(a: bool, b: bool) -> bool
+    ensures { result ≡ (a || b) }
+{
+    a || b
+}
+
+fn note_loop(alloc: Global, notes: &mut Items<Note>, kept: &Kept, n: usize) -> Result<(), Memory>
+    requires { IsLong kept.now (n + 1) }
+    ensures { OnOk result (IsNoted kept.now (a_loop n ∷ []) notes.old notes.new) }
+{
+    let stmt = stmt_id(n)?;
+    let around = around(alloc, kept, n)?;
+    let exit = behind(alloc, kept, n)?;
+    Ok(notes.push(Note::Loop { stmt, around, exit })?)
+}
+
+/// The note of a choice, if it can be passed.
+fn note_join(
+    alloc: Global,
+    notes: &mut Items<Note>,
+    kept: &Kept,
+    n: usize,
+    passes: bool,
+) -> Result<(), Memory>
+    requires { IsLong kept.now (n + 1) }
+    ensures { OnOk result (IsNoted kept.now (if passes then a_join n ∷ [] else []) notes.old notes.new) }
+{
+    if !passes {
+        return Ok(());
+    }
+    let stmt = stmt_id(n)?;
+    let map = behind(alloc, kept, n)?;
+    Ok(notes.push(Note::Join { stmt, map })?)
+}
+
+#[cycle(noting)]
+fn note_form(
+    alloc: Global,
+    notes: &mut Items<Note>,
+    kept: &Kept,
+    form: &Flow,
+    n: usize,
+) -> Result<usize, Memory>
+    requires room { IsLong kept.now (n + size (flow_view form.now)) }
+    ensures noted { OnOk result (IsNoted kept.now (noted n (flow_view form.now)) notes.old notes.new) }
+    ensures at { IfOk result (λ m. m ≡ n + size (flow_view form.now)) }
+{
+    match form {
+        Flow::If {
+            rows,
+            then_block,
+            else_block,
+        } => {
+            let first = passes_block(then_block);
+            let second = passes_block(else_block);
+            note_join(alloc, notes, kept, n, either(first, second))?;
+            let m = note_block(alloc, notes, kept, then_block, n + 1)?;
+            note_block(alloc, notes, kept, else_block, m)
+        }
+        Flow::While { rows, body } => {
+            note_loop(alloc, notes, kept, n)?;
+            note_block(alloc, notes, kept, body, n + 1)
+        }
+        Flow::Switch { rows, arms, end } => {
+            note_join(alloc, notes, kept, n, passes_arms(arms.as_slice()))?;
+            note_arms(alloc, notes, kept, arms.as_slice(), n + 1)
+        }
+        Flow::Scope { body } => note_block(alloc, notes, kept, body, n + 1),
+        Flow::Focus { rows, body, after } => note_block(alloc, notes, kept, body, n + 1),
+        _ => Ok(n + 1),
+    }
+}
+
+#[cycle(noting)]
+pub fn note_block(
+    alloc: Global,
+    notes: &mut Items<Note>,
+    kept: &Kept,
+    block: &FlowBlock,
+    n: usize,
+) -> Result<usize, Memory>
+    requires room { IsLong kept.now (n + size_block (block_view block.now)) }
+    ensures noted { OnOk result (IsNoted kept.now (noted_block n (block_view block.now)) notes.old notes.new) }
+    ensures at { IfOk result (λ m. m ≡ n + size_block (block_view block.now)) }
+{
+    note_list(alloc, notes, kept, block.stmts.as_slice(), n)
+}
+
+#[cycle(noting)]
+fn note_list(
+    alloc: Global,
+    notes: &mut Items<Note>,
+    kept: &Kept,
+    stmts: &[FlowStmt],
+    n: usize,
+) -> Result<usize, Memory>
+    requires room { IsLong kept.now (n + size_stmts (stmts_view stmts.now)) }
+    ensures noted { OnOk result (IsNoted kept.now (noted_stmts n (stmts_view stmts.now)) notes.old notes.new) }
+    ensures at { IfOk result (λ m. m ≡ n + size_stmts (stmts_view stmts.now)) }
+{
+    let mut at = n;
+    for s in stmts {
+        at = note_form(alloc, notes, kept, &s.flow, at)?;
+    }
+    Ok(at)
+}
+
+#[cycle(noting)]
+fn note_arms(
+    alloc: Global,
+    notes: &mut Items<Note>,
+    kept: &Kept,
+    arms: &[FlowArm],
+    n: usize,
+) -> Result<usize, Memory>
+    requires room { IsLong kept.now (n + size_arms (arms_view arms.now)) }
+    ensures noted { OnOk result (IsNoted kept.now (noted_arms n (arms_view arms.now)) notes.old notes.new) }
+    ensures at { IfOk result (λ m. m ≡ n + size_arms (arms_view arms.now)) }
+{
+    let mut at = n;
+    for arm in arms {
+        at = note_block(alloc, notes, kept, &arm.body, at)?;
+    }
+    Ok(at)
+}

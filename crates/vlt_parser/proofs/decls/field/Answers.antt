@@ -1,0 +1,17 @@
+use Rattle.std.proofs.Common.{◌≡◌, Err, ◌∷◌, ◌∙◌, rules, arith}
+use Rattle.std.proofs.lemmas.Grind.{common_steps}
+use Rattle.vlt_lexer.specs.declared.token.Mark.TheVariants as mark
+use Rattle.vlt_syntax.specs.Machine as m
+use Rattle.vlt_parser.proofs.decls.field.Goals as goal
+
+pub returns-in_err-states-clause-place : goal.returns-in_err-states-clause-place
+returns-in_err-states-clause-place c =
+    let is : c.from_residual-in_err-states.result ≡ Err c.in_err-states.field-0.0 = first_of (search rules, grind (arith, common_steps)) in
+    rw is (λ s f told. c.in_ok-ty.ensures.place (m.name ∷ m.at_states ∷ m.sign mark.Semicolon ∷ s) ∙ c.in_ok-name.ensures.place (m.at_states ∷ m.sign mark.Semicolon ∷ s)
+    ∙ c.in_err-states.ensures.place (m.sign mark.Semicolon ∷ s) f told)
+
+pub returns-in_err-name-clause-place : goal.returns-in_err-name-clause-place
+returns-in_err-name-clause-place c =
+    let is : c.from_residual-in_err-name.result ≡ Err c.in_err-name.field-0.0 = first_of (search rules, grind (arith, common_steps)) in
+    rw is (λ s f told. c.in_ok-ty.ensures.place (m.name ∷ m.at_states ∷ m.sign mark.Semicolon ∷ s)
+    ∙ c.in_err-name.ensures.place (m.at_states ∷ m.sign mark.Semicolon ∷ s) f told)

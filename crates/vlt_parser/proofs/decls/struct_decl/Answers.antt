@@ -1,0 +1,15 @@
+use Rattle.std.proofs.Common.{◌≡◌, Err, ◌∷◌, ◌∙◌, rules, arith}
+use Rattle.std.proofs.lemmas.Grind.{common_steps}
+use Rattle.vlt_syntax.specs.Machine as m
+use Rattle.vlt_parser.specs.Declarations.{fields_left}
+use Rattle.vlt_parser.proofs.decls.struct_decl.Goals as goal
+
+pub returns-in_err-fields-clause-place : goal.returns-in_err-fields-clause-place
+returns-in_err-fields-clause-place c =
+    let is : c.from_residual-in_err-fields.result ≡ Err c.in_err-fields.field-0.0 = first_of (search rules, grind (arith, common_steps)) in
+    rw is (λ s f told. c.in_ok-head.ensures.place (m.fields (fields_left 0) ∷ s) ∙ c.in_err-fields.ensures.place s f told)
+
+pub returns-in_err-release-clause-place : goal.returns-in_err-release-clause-place
+returns-in_err-release-clause-place c =
+    let is : c.from_residual-in_err-release.result ≡ Err c.in_err-release.field-0.0 = first_of (search rules, grind (arith, common_steps)) in
+    rw is (λ s f told. c.in_ok-head.ensures.place (m.fields (fields_left 0) ∷ s) ∙ c.in_ok-fields.ensures.place s ∙ c.in_err-release.ensures.place s f told)

@@ -1,0 +1,8 @@
+pub mod Spans
+pub mod Separated
+pub mod Placings
+pub mod Runs
+pub mod Expressions
+pub mod Sides
+pub mod Functions
+pub mod Variants

@@ -1,0 +1,72 @@
+use Rattle.std.proofs.Common.{◌≡◌, ◌≤◌, ◌+◌, suc, max, Err, [], ◌∷◌, ap, sym, subst, ◌∙◌, rules, arith}
+use Rattle.std.proofs.lemmas.Grind.{common_steps}
+use Rattle.vlt_lexer.specs.declared.token.TokenKind.TheVariants.{Name}
+use Rattle.vlt_syntax.specs.declared.tree.Expr.TheVariants.{Binary}
+use Rattle.vlt_syntax.specs.Tree as s
+use Rattle.vlt_syntax.specs.View.{expr_of}
+use Rattle.vlt_syntax.specs.Machine as m
+use Rattle.vlt_syntax.specs.Machine.{run}
+use Rattle.vlt_parser_exprs.specs.Ahead.{ahead, refusal, BeginsWith}
+use Rattle.vlt_parser_exprs.proofs.Expressions.{operator_goes_on, right_ended, group_opens, group_stays_open, operand_named}
+use Rattle.vlt_syntax.specs.Grammar.{level}
+use Rattle.vlt_syntax.proofs.Viewing.{unary_seen, binary_seen}
+use Rattle.vlt_parser_exprs.proofs.exprs.+expression.Goals as goal
+
+pub unary-returns-clause-binds : goal.unary-returns-clause-binds
+unary-returns-clause-binds t c = λ least most.
+    let tight : level c.in-Some.op ≤ 11 = omega (arith, c.in-Some.ensures.level) in
+    let within : least ≤ level c.in-Some.op = omega (arith, c.in-Some.ensures.level) in
+    rw c.in_ok-new.ensures (rw (unary_seen c.in-Some.op c.in_ok-operand.operand.expr c.span.result)
+    (c.in-Some.ensures.arity, within, c.in_ok-operand.ensures.binds (level c.in-Some.op) tight))
+
+pub expression-loop-op-preserved : goal.expression-loop-op-preserved
+expression-loop-op-preserved t c =
+    let tokens = c.args.tokens.now in
+    let op = c.in-Some.op in
+    let first = c.loop-op.first.depth in
+    let second = c.in_ok-second.second.depth in
+    let inside = c.in_ok-inside.inside in
+    let here = ahead tokens c.loop-op.here in
+    let right = ahead tokens (c.loop-op.here + 1) in
+    let behind = ahead tokens c.in_ok-second.behind in
+    let deeper : suc (max first second) ≡ c.max-depth.result + 1 = first_of (search rules, grind (arith, common_steps)) in
+    let seen : expr_of (Binary op c.in_ok-new.field-0 c.in_ok-new-2.field-0 c.span.result) ≡ s.binary op (expr_of c.loop-op.first.expr) (expr_of c.in_ok-second.second.expr) c.span.result =
+    rw (c.in_ok-new.ensures, c.in_ok-new-2.ensures) (binary_seen op c.loop-op.first.expr c.in_ok-second.second.expr c.span.result) in
+    record {
+      spelled = rw seen (first_of (search rules, grind (arith, common_steps)));
+      stands = rw seen (first_of (search rules, grind (arith, common_steps)));
+      binds = rw seen (first_of (search rules, grind (arith, common_steps)));
+      next = rw seen (first_of (search rules, grind (arith, common_steps)));
+      depth = rw seen (first_of (search rules, grind (arith, common_steps)));
+      some = first_of (search rules, grind (arith, common_steps));
+      fits = first_of (search rules, grind (arith, common_steps));
+      later = first_of (search rules, grind (arith, common_steps));
+      within = first_of (search rules, grind (arith, common_steps));
+      place = λ fs rest.
+          let outer = m.right_of c.args.least c.args.room first ∷ fs in
+          c.loop-op.invariant.place fs rest
+          ∙ operator_goes_on op first c.args.least c.args.room inside fs rest here right c.in-Some.ensures.level.0 c.in_ok-inside.ensures.room c.in_ok-inside.ensures.fits c.in-Some.ensures.begins
+          ∙ ap (λ l. run (m.operand inside (m.level_from (l + 1) inside ∷ outer) ∷ rest) right) (sym c.row.ensures.level)
+          ∙ c.in_ok-second.ensures.place outer rest
+          ∙ right_ended (c.row.result.level + 1) inside first second c.args.least c.args.room fs rest behind c.in_ok-second.ensures.stops
+          ∙ ap (λ d. run (m.operations d (m.level_from c.args.least c.args.room ∷ fs) ∷ rest) behind) deeper;
+    }
+
+pub group-returns-in_err-next-clause-place : goal.group-returns-in_err-next-clause-place
+group-returns-in_err-next-clause-place t c = λ fs.
+    let tokens = c.args.tokens.now in
+    let inside = c.in_ok-inside.inside in
+    let next = ahead tokens c.in_ok-inner.next in
+    let is : c.from_residual-in_err-next.result ≡ Err (refusal next) = first_of (search rules, grind (arith, common_steps)) in
+    rw is (λ s f told.
+    group_opens c.args.room inside fs s (ahead tokens c.args.from) (ahead tokens c.args.at) c.in_ok-inside.ensures.room c.in_ok-inside.ensures.fits c.requires.opens
+    ∙ c.in_ok-inner.ensures.place [] (m.close_group fs ∷ s)
+    ∙ group_stays_open c.in_ok-inner.inner.depth inside fs s next c.in_ok-inner.ensures.stops c.in_err-next.ensures.lacks.1 f told)
+
+pub primary-returns-in_err-expr-in-Some-Name-clause-place : goal.primary-returns-in_err-expr-in-Some-Name-clause-place
+primary-returns-in_err-expr-in-Some-Name-clause-place t c = λ fs.
+    let tokens = c.args.tokens.now in
+    let here = ahead tokens c.args.at in
+    let is : c.from_residual.result ≡ Err c.in_err-expr-in-Some-Name.field-0.0 = first_of (search rules, grind (arith, common_steps)) in
+    let named : BeginsWith Name here (ahead tokens (c.args.at + 1)) = subst (λ k. BeginsWith k here (ahead tokens (c.args.at + 1))) c.in-Some-Name.field-0-is c.in-Some-Name.ensures.ahead in
+    rw is (λ s f told. operand_named named.text c.args.room fs s here (ahead tokens (c.args.at + 1)) named.begins ∙ c.in_err-expr-in-Some-Name.ensures.place fs s f told)

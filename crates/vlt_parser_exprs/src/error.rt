@@ -1,0 +1,38 @@
+//! Why a list of tokens is no tree.
+
+use std::alloc::{AllocError, AllocFailed};
+
+/// Why tokens aren't read.
+#[derive(Clone, Copy, Debug, PartialEq, Eq)]
+pub enum ParseError {
+    /// No tree goes on with the token whose first byte this is.
+    Unexpected(u32),
+    /// Some tree goes on behind the last token.
+    EndOfText,
+    /// There is more of something than the limit of this number allows.
+    Limit(u8),
+    /// There was no memory for the tree.
+    Memory,
+}
+
+impl From<AllocError> for ParseError {
+    ghost use Rattle.std.specs.Prelude.{◌≡◌};
+    ghost use Rattle.vlt_parser_exprs.specs.declared.error.ParseError.TheVariants.{Memory};
+
+    ghost from_gives = { λ _ e. e ≡ Memory };
+
+    fn from(_: AllocError) -> ParseError {
+        ParseError::Memory
+    }
+}
+
+impl<T: Drop> From<AllocFailed<T>> for ParseError {
+    ghost use Rattle.std.specs.Prelude.{◌≡◌};
+    ghost use Rattle.vlt_parser_exprs.specs.declared.error.ParseError.TheVariants.{Memory};
+
+    ghost from_gives = { λ _ e. e ≡ Memory };
+
+    fn from(_: AllocFailed<T>) -> ParseError {
+        ParseError::Memory
+    }
+}

@@ -1,0 +1,158 @@
+//! Single tokens. Each part of the parser takes the position of a token, counted from 0, and answers what it
+//! read with the position behind it.
+
+ghost use Rattle.std.specs.Prelude.{◌≡◌, ◌∷◌, [], ◌+◌, ℕ, List, IfOk, IfErr, IfSome, IfNone};
+ghost use Rattle.vlt_syntax.specs.Tokens.{token_from, sign as a_sign, keyword as a_keyword};
+ghost use Rattle.vlt_syntax.specs.Spelling.{name_then, case_name_then};
+ghost use Rattle.vlt_syntax.specs.View.{name_of};
+ghost use Rattle.vlt_syntax.specs.Machine as machine;
+ghost use Rattle.vlt_syntax.specs.Places.{name_at};
+ghost use Rattle.vlt_parser_exprs.specs.Reading.{left, spans, Moves};
+ghost use Rattle.vlt_parser_exprs.specs.Ahead.{ahead, first_sign, LacksSign, LacksKeyword, refusal, Follows};
+ghost use Rattle.vlt_parser_exprs.specs.Promises.{Advances, Comes, KindComes, Lies, Spells, Takes};
+
+use crate::error::ParseError;
+use std::alloc::Global;
+use vlt_base::{Items, Span};
+use vlt_lexer::{Mark, Token, TokenKind, Word};
+use vlt_syntax::Name;
+
+/// Why nothing goes on with the token at a position.
+pub fn unexpected(tokens: &[Token<'_>], at: usize) -> ParseError
+    ensures { result ≡ refusal (ahead tokens.now at) }
+{
+    match tokens.get(at) {
+        Some(token) => ParseError::Unexpected(token.at.from),
+        None => ParseError::EndOfText,
+    }
+}
+
+/// What the token at a position is, where there is one.
+pub fn kind(tokens: &[Token<'_>], at: usize) -> Option<TokenKind>
+    ensures here { IfSome result (λ kind. (text : List ℕ) × (left tokens.now at ≡
+        token_from kind text ∷ left tokens.now (at + 1))) }
+    ensures within { IfSome result (λ kind. Moves tokens.now at (at + 1)) }
+    ensures ahead { IfSome result (λ kind. KindComes kind tokens.now at) }
+    ensures none { IfNone result (ahead tokens.now at ≡ []) }
+{
+    Some(tokens.get(at)?.kind)
+}
+
+/// The sign at a position, where there is one.
+pub fn next_sign(tokens: &[Token<'_>], at: usize) -> Option<Mark>
+    ensures which { result ≡ first_sign (ahead tokens.now at) }
+    ensures here { IfSome result (λ mark.
+        left tokens.now at ≡ a_sign mark ∷ left tokens.now (at + 1)) }
+    ensures within { IfSome result (λ mark. Moves tokens.now at (at + 1)) }
+    ensures ahead { IfSome result (λ mark. Comes (a_sign mark) tokens.now at (at + 1)) }
+{
+    match tokens.get(at) {
+        Some(
+            Token {
+                kind: TokenKind::Sign(mark),
+                ..
+            },
+        ) => Some(*mark),
+        _ => None,
+    }
+}
+
+/// The text from the token at one position up to the one before another.
+pub fn span(tokens: &[Token<'_>], from: usize, to: usize) -> Span
+    requires { Moves tokens.now from to }
+    ensures { result ≡ spans tokens.now from to }
+{
+    Span {
+        from: tokens[from].at.from,
+        to: tokens[to - 1].at.to,
+    }
+}
+
+/// The position behind a sign, if it comes next.
+pub fn behind_sign(tokens: &[Token<'_>], at: usize, mark: Mark) -> Option<usize>
+    ensures spelled { IfSome result (λ next.
+        left tokens.now at ≡ a_sign mark ∷ left tokens.now next) }
+    ensures one { IfSome result (λ next. next ≡ at + 1) }
+    ensures moves { IfSome result (λ next. Moves tokens.now at next) }
+    ensures ahead { IfSome result (λ next. Comes (a_sign mark) tokens.now at next) }
+    ensures lacks { IfNone result (LacksSign mark (ahead tokens.now at)) }
+{
+    match tokens.get(at)?.kind {
+        TokenKind::Sign(found) if found == mark => Some(at + 1),
+        _ => None,
+    }
+}
+
+/// The position behind a sign.
+pub fn sign(tokens: &[Token<'_>], at: usize, mark: Mark) -> Result<usize, ParseError>
+    ensures spelled { IfOk result (λ next.
+        left tokens.now at ≡ a_sign mark ∷ left tokens.now next) }
+    ensures one { IfOk result (λ next. next ≡ at + 1) }
+    ensures moves { IfOk result (λ next. Moves tokens.now at next) }
+    ensures place { Follows (machine.sign mark ∷ []) (λ next. next) tokens.now at result }
+    ensures takes { IfOk result (λ next. Comes (a_sign mark) tokens.now at next) }
+    ensures lacks { IfErr result (λ e.
+        (e ≡ refusal (ahead tokens.now at)) × LacksSign mark (ahead tokens.now at)) }
+{
+    match behind_sign(tokens, at, mark) {
+        Some(next) => Ok(next),
+        None => Err(unexpected(tokens, at)),
+    }
+}
+
+/// The position behind a keyword.
+pub fn keyword(tokens: &[Token<'_>], at: usize, word: Word) -> Result<usize, ParseError>
+    ensures spelled { IfOk result (λ next.
+        left tokens.now at ≡ a_keyword word ∷ left tokens.now next) }
+    ensures one { IfOk result (λ next. next ≡ at + 1) }
+    ensures moves { IfOk result (λ next. Moves tokens.now at next) }
+    ensures place { Follows (machine.keyword word ∷ []) (λ next. next) tokens.now at result }
+    ensures takes { IfOk result (λ next. Comes (a_keyword word) tokens.now at next) }
+    ensures lacks { IfErr result (λ e.
+        (e ≡ refusal (ahead tokens.now at)) × LacksKeyword word (ahead tokens.now at)) }
+{
+    match tokens.get(at) {
+        Some(
+            Token {
+                kind: TokenKind::Keyword(found),
+                ..
+            },
+        ) if *found == word => Ok(at + 1),
+        _ => Err(unexpected(tokens, at)),
+    }
+}
+
+pub fn name(alloc: Global, tokens: &[Token<'_>], at: usize) -> Result<(Name, usize), ParseError>
+    ensures spelled { Spells name_of name_then tokens.now at result }
+    ensures placed { Lies name_of name_at tokens.now at result }
+    ensures moves { Advances tokens.now at result }
+    ensures place { Takes (machine.name ∷ []) tokens.now at result }
+{
+    match tokens.get(at) {
+        Some(token) if matches!(token.kind, TokenKind::Name) => {
+            let text = Items::from_slice(alloc, token.text)?;
+            Ok((Name { text, at: token.at }, at + 1))
+        }
+        _ => Err(unexpected(tokens, at)),
+    }
+}
+
+/// The name of a case, with its `'`.
+pub fn case_name(
+    alloc: Global,
+    tokens: &[Token<'_>],
+    at: usize,
+) -> Result<(Name, usize), ParseError>
+    ensures spelled { Spells name_of case_name_then tokens.now at result }
+    ensures placed { Lies name_of name_at tokens.now at result }
+    ensures moves { Advances tokens.now at result }
+    ensures place { Takes (machine.tick ∷ []) tokens.now at result }
+{
+    match tokens.get(at) {
+        Some(token) if matches!(token.kind, TokenKind::Tick) => {
+            let text = Items::from_slice(alloc, token.text)?;
+            Ok((Name { text, at: token.at }, at + 1))
+        }
+        _ => Err(unexpected(tokens, at)),
+    }
+}

@@ -1,0 +1,14 @@
+pub mod Scalars
+pub mod Written
+pub mod Readable
+pub mod Following
+pub mod Longest
+pub mod Spelled
+pub mod Steps
+pub mod Sequences
+pub mod Types
+pub mod Expressions
+pub mod Statements
+pub mod Declarations
+pub mod LaidAgain
+pub mod ReadAgain

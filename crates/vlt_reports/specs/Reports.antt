@@ -1,0 +1,102 @@
+-- The lines that tell which rule a program breaks, where it breaks the rules on keys, and that it is accepted.
+use Rattle.std.specs.Prelude.{ℕ, ◌+◌, not, if◌then◌else◌, List, [], ◌∷◌, ◌++◌, length, filter, Option, Some, None, slice_get, codes}
+use Rattle.std.specs.List.{flat_map}
+use Rattle.std.specs.Fmt.{decimal}
+use Rattle.vlt_base.specs.Place.{line_of, column_of}
+use Rattle.vlt_core.specs.Core.{Name, States, Tok, a_key, a_var, SetDecl, KeyDecl, VarDecl, Func, Program}
+use Rattle.vlt_core.specs.Lookups.{set_in, key_type}
+use Rattle.vlt_core.specs.Maps.{Status, absent, held, lent, full, Wanted, wants_absent, wants_held, wants_in, wants_lent, wants_full}
+use Rattle.vlt_core.specs.Faults.{FaultKind, at_row, at_join}
+
+-- the line and the column of a byte, from 1
+abbrev pub place_text : (text : List ℕ) → (at : ℕ) → List ℕ
+place_text text at = decimal (line_of text at) ++ codes ":" ++ decimal (column_of text at)
+
+-- ---- rules on names and types
+
+-- a rule by its number, and the place where it is broken
+abbrev pub kind_line : (text : List ℕ) → (rule at : ℕ) → List ℕ
+kind_line text rule at = codes "kind " ++ decimal rule ++ codes " " ++ place_text text at ++ codes "\n"
+
+-- ---- names
+
+abbrev pub key_name : Option KeyDecl → Name
+key_name None = []
+key_name (Some d) = d.name
+
+abbrev pub var_name : Option VarDecl → Name
+var_name None = []
+var_name (Some d) = d.name
+
+-- a key or a variable, as the text names it; a hidden one has the empty name
+abbrev pub token_name : Func → Tok → Name
+token_name f (a_key k) = key_name (slice_get f.keys k)
+token_name f (a_var v) = var_name (slice_get f.vars v)
+
+abbrev pub names_in : Option SetDecl → Option (List Name)
+names_in None = None
+names_in (Some d) = Some d.states
+
+abbrev pub names_of_set : Program → Option ℕ → Option (List Name)
+names_of_set p None = None
+names_of_set p (Some i) = names_in (slice_get p.sets i)
+
+abbrev pub names_of_type : Program → Option ℕ → Option (List Name)
+names_of_type p None = None
+names_of_type p (Some t) = names_of_set p (set_in (slice_get p.types t))
+
+-- the names of the states that a token's object can have, where its type has a set of states
+abbrev pub state_names : Program → Func → Tok → Option (List Name)
+state_names p f (a_key k) = names_of_type p (key_type f k)
+state_names p f (a_var v) = None
+
+-- ---- statuses
+
+-- The names of those states that are in the set, by number. The first name is that of state n.
+abbrev pub named_in : States → (n : ℕ) → List Name → List Name
+named_in states n [] = []
+named_in states n (name ∷ names) =
+    if states n then name ∷ named_in states (n + 1) names else named_in states (n + 1) names
+
+-- one state by its name, more between braces
+abbrev pub states_text : List Name → List ℕ
+states_text [] = codes "@{}"
+states_text (name ∷ []) = codes "@" ++ name
+states_text (name ∷ names) = codes "@{" ++ name ++ flat_map (λ n. codes "," ++ n) names ++ codes "}"
+
+-- nothing for a type without a set of states
+abbrev pub in_states : Option (List Name) → States → List ℕ
+in_states None states = []
+in_states (Some names) states = states_text (named_in states 0 names)
+
+abbrev pub status_text : Option (List Name) → Status → List ℕ
+status_text names absent = codes "absent"
+status_text names (held states) = codes "held" ++ in_states names states
+status_text names (lent states) = codes "lent" ++ in_states names states
+status_text names full = codes "full"
+
+-- any state needs no name
+abbrev pub wanted_text : Option (List Name) → Wanted → List ℕ
+wanted_text names wants_absent = codes "absent"
+wanted_text names wants_held = codes "held"
+wanted_text names (wants_in states) = codes "held" ++ in_states names states
+wanted_text names wants_lent = codes "lent"
+wanted_text names wants_full = codes "full"
+
+-- ---- faults
+
+abbrev pub fault_text : Option (List Name) → FaultKind → List ℕ
+fault_text names (at_row found wanted) =
+    codes " found " ++ status_text names found ++ codes " wanted " ++ wanted_text names wanted
+fault_text names (at_join present) = codes " joins absent and " ++ status_text names present
+
+-- where a function breaks the rules on keys, by which token, and how
+abbrev pub fault_line : (text : List ℕ) → Program → Func → (at : ℕ) → Tok → FaultKind → List ℕ
+fault_line text p f at t kind =
+    codes "protocol " ++ place_text text at ++ codes " " ++ token_name f t ++ fault_text (state_names p f t) kind ++ codes "\n"
+
+-- ---- accepted
+
+-- how many functions with a body were accepted
+abbrev pub accepted_line : Program → List ℕ
+accepted_line p = codes "accepted " ++ decimal (length (filter (λ f. not f.external) p.fns)) ++ codes "\n"

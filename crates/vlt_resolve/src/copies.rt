@@ -1,0 +1,213 @@
+//! Copies of what a table of kinds declares.
+
+ghost use Rattle.std.specs.Prelude.{◌≡◌, [], IfOk};
+
+use std::alloc::{AllocError, Global as Heap};
+use vlt_base::{Items, TypeId};
+use vlt_core::{CaseDecl, FieldDecl, Func, KeyDecl, SetDecl, Ty, TypeDecl, VarDecl};
+use vlt_resolve_exprs::copy_ty;
+
+fn copy_bytes(alloc: Heap, bytes: &Items<u8>) -> Result<Items<u8>, AllocError>
+    ensures { IfOk result (λ b. b ≡ bytes.now) }
+{
+    Items::from_slice(alloc, bytes.as_slice())
+}
+
+fn copy_names(alloc: Heap, names: &[Items<u8>]) -> Result<Items<Items<u8>>, AllocError>
+    ensures { IfOk result (λ ns. ns ≡ names.now) }
+{
+    let mut made = Items::new(alloc);
+    for name in names {
+        made.push(copy_bytes(alloc, name)?)?;
+    }
+    Ok(made)
+}
+
+fn copy_set(alloc: Heap, set: &SetDecl) -> Result<SetDecl, AllocError>
+    ensures { IfOk result (λ s. s ≡ set.now) }
+{
+    Ok(SetDecl {
+        name: copy_bytes(alloc, &set.name)?,
+        states: copy_names(alloc, set.states.as_slice())?,
+    })
+}
+
+pub fn copy_sets(alloc: Heap, sets: &[SetDecl]) -> Result<Items<SetDecl>, AllocError>
+    ensures { IfOk result (λ ss. ss ≡ sets.now) }
+{
+    let mut made = Items::new(alloc);
+    for set in sets {
+        made.push(copy_set(alloc, set)?)?;
+    }
+    Ok(made)
+}
+
+fn copy_types_in(alloc: Heap, types: &[Ty]) -> Result<Items<Ty>, AllocError>
+    ensures { IfOk result (λ ts. ts ≡ types.now) }
+{
+    let mut made = Items::new(alloc);
+    for ty in types {
+        made.push(copy_ty(alloc, ty)?)?;
+    }
+    Ok(made)
+}
+
+fn copy_field(alloc: Heap, field: &FieldDecl) -> Result<FieldDecl, AllocError>
+    ensures { IfOk result (λ f. f ≡ field.now) }
+{
+    Ok(FieldDecl {
+        name: copy_bytes(alloc, &field.name)?,
+        ty: copy_ty(alloc, &field.ty)?,
+        states: field.states,
+    })
+}
+
+fn copy_fields(alloc: Heap, fields: &[FieldDecl]) -> Result<Items<FieldDecl>, AllocError>
+    ensures { IfOk result (λ fs. fs ≡ fields.now) }
+{
+    let mut made = Items::new(alloc);
+    for field in fields {
+        made.push(copy_field(alloc, field)?)?;
+    }
+    Ok(made)
+}
+
+fn copy_case(alloc: Heap, case: &CaseDecl) -> Result<CaseDecl, AllocError>
+    ensures { IfOk result (λ c. c ≡ case.now) }
+{
+    Ok(CaseDecl {
+        name: copy_bytes(alloc, &case.name)?,
+        payload: copy_types_in(alloc, case.payload.as_slice())?,
+        keys: Items::from_slice(alloc, case.keys.as_slice())?,
+    })
+}
+
+fn copy_cases(alloc: Heap, cases: &[CaseDecl]) -> Result<Items<CaseDecl>, AllocError>
+    ensures { IfOk result (λ cs. cs ≡ cases.now) }
+{
+    let mut made = Items::new(alloc);
+    for case in cases {
+        made.push(copy_case(alloc, case)?)?;
+    }
+    Ok(made)
+}
+
+fn copy_header(
+    alloc: Heap,
+    header: &Items<Option<TypeId>>,
+) -> Result<Items<Option<TypeId>>, AllocError>
+    ensures { IfOk result (λ h. h ≡ header.now) }
+{
+    Items::from_slice(alloc, header.as_slice())
+}
+
+fn copy_decl(alloc: Heap, decl: &TypeDecl) -> Result<TypeDecl, AllocError>
+    ensures { IfOk result (λ d. d ≡ decl.now) }
+{
+    Ok(match decl {
+        TypeDecl::Abstract { name, set } => TypeDecl::Abstract {
+            name: copy_bytes(alloc, name)?,
+            set: *set,
+        },
+        TypeDecl::Struct {
+            name,
+            header,
+            set,
+            release,
+            fields,
+        } => TypeDecl::Struct {
+            name: copy_bytes(alloc, name)?,
+            header: copy_header(alloc, header)?,
+            set: *set,
+            release: *release,
+            fields: copy_fields(alloc, fields.as_slice())?,
+        },
+        TypeDecl::Variant {
+            name,
+            header,
+            cases,
+        } => TypeDecl::Variant {
+            name: copy_bytes(alloc, name)?,
+            header: copy_header(alloc, header)?,
+            cases: copy_cases(alloc, cases.as_slice())?,
+        },
+    })
+}
+
+pub fn copy_decls(alloc: Heap, decls: &[TypeDecl]) -> Result<Items<TypeDecl>, AllocError>
+    ensures { IfOk result (λ ds. ds ≡ decls.now) }
+{
+    let mut made = Items::new(alloc);
+    for decl in decls {
+        made.push(copy_decl(alloc, decl)?)?;
+    }
+    Ok(made)
+}
+
+pub fn copy_keys(alloc: Heap, keys: &[KeyDecl]) -> Result<Items<KeyDecl>, AllocError>
+    ensures { IfOk result (λ ks. ks ≡ keys.now) }
+{
+    let mut made = Items::new(alloc);
+    for key in keys {
+        made.push(KeyDecl {
+            name: copy_bytes(alloc, &key.name)?,
+            key_type: key.key_type,
+        })?;
+    }
+    Ok(made)
+}
+
+pub fn copy_vars(alloc: Heap, vars: &[VarDecl]) -> Result<Items<VarDecl>, AllocError>
+    ensures { IfOk result (λ vs. vs ≡ vars.now) }
+{
+    let mut made = Items::new(alloc);
+    for var in vars {
+        made.push(VarDecl {
+            name: copy_bytes(alloc, &var.name)?,
+            ty: copy_ty(alloc, &var.ty)?,
+        })?;
+    }
+    Ok(made)
+}
+
+fn copy_gives(alloc: Heap, gives: &Option<Ty>) -> Result<Option<Ty>, AllocError>
+    ensures { IfOk result (λ t. t ≡ gives.now) }
+{
+    match gives {
+        None => Ok(None),
+        Some(ty) => Ok(Some(copy_ty(alloc, ty)?)),
+    }
+}
+
+/// A head with other keys and variables, and with this body.
+pub fn func_of_head(
+    alloc: Heap,
+    head: &Func,
+    keys: Items<KeyDecl>,
+    vars: Items<VarDecl>,
+    body: Items<vlt_core::Stmt>,
+    end: u32,
+) -> Result<Func, AllocError>
+    ensures { IfOk result (λ f. f ≡ record head.now { keys = keys; vars = vars; body = body; end = end }) }
+{
+    Ok(Func {
+        name: copy_bytes(alloc, &head.name)?,
+        external: head.external,
+        result: copy_gives(alloc, &head.result)?,
+        params: head.params,
+        clause: Items::from_slice(alloc, head.clause.as_slice())?,
+        keys,
+        vars,
+        body,
+        end,
+    })
+}
+
+/// A head without a body.
+pub fn copy_func(alloc: Heap, head: &Func) -> Result<Func, AllocError>
+    ensures { IfOk result (λ f. f ≡ record head.now { body = [] }) }
+{
+    let keys = copy_keys(alloc, head.keys.as_slice())?;
+    let vars = copy_vars(alloc, head.vars.as_slice())?;
+    func_of_head(alloc, head, keys, vars, Items::new(alloc), head.end)
+}

@@ -1,0 +1,5 @@
+pub mod Targets
+pub mod Builds
+pub mod Calls
+pub mod Seen
+pub mod Least

@@ -1,0 +1,109 @@
+//! The target of a right side, and an expression for it.
+
+ghost use Rattle.std.specs.Prelude.{◌≡◌, option_map, IfOk, OnOk};
+ghost use Rattle.vlt_syntax.specs.View as tree;
+ghost use Rattle.vlt_core.specs.Core as core;
+ghost use Rattle.vlt_core.specs.View.{ty_of, expr_of, form_of};
+ghost use Rattle.vlt_kinds_names.specs.Refusals.{least_from};
+ghost use Rattle.vlt_kinds.specs.Seen.{kinds_seen};
+ghost use Rattle.vlt_resolve_exprs.specs.Seen.{scope_seen};
+ghost use Rattle.vlt_resolve_calls.specs.Targets as t;
+ghost use Rattle.vlt_resolve_calls.specs.Seen.{target_seen};
+
+use std::alloc::{AllocError, Global as Heap};
+use vlt_base::VarId;
+use vlt_core::rules::WRONG_TYPE;
+use vlt_core::{self, Form, Ty};
+use vlt_kinds::Kinds;
+use vlt_kinds_names::Found;
+use vlt_resolve_exprs::{
+    Scope, check_any, core_expr, is_owning, operand_for, place, takes, type_of, unpacks,
+    variable_in,
+};
+use vlt_syntax::Expr;
+
+/// The type of a target, and whether its key is bound with it.
+#[derive(Drop)]
+pub struct Target {
+    pub ty: Ty,
+    pub binds: bool,
+}
+
+impl Target {
+    #[tactic(auto, unfolding(crate::specs::Targets::target_takes))]
+    fn takes(&self, got: &Ty) -> bool
+        ensures { result ≡ t.target_takes (target_seen self.now) (ty_of got.now) }
+    {
+        if self.binds {
+            unpacks(&self.ty, got)
+        } else {
+            takes(&self.ty, got)
+        }
+    }
+
+    #[tactic(auto, unfolding(crate::specs::Targets::value_misfit))]
+    fn check_given(&self, given: &Option<Ty>, at: u32, found: &mut Found)
+        ensures { found.new.least ≡ least_from found.old.least
+            (t.value_misfit (target_seen self.now) (option_map ty_of given.now) at) }
+    {
+        match given {
+            Some(ty) => found.add_if(!self.takes(ty), WRONG_TYPE, at),
+            None => {}
+        }
+    }
+
+    #[tactic(auto, using(vlt_kinds_names::proofs::Least::least_of_both), unfolding(crate::specs::Targets::value_refused))]
+    pub fn check_value(
+        &self,
+        alloc: Heap,
+        kinds: &Kinds<'_>,
+        scope: &Scope<'_>,
+        expr: &Expr,
+        found: &mut Found,
+    ) -> Result<(), AllocError>
+        ensures { OnOk result (found.new.least ≡ least_from found.old.least
+            (t.value_refused (kinds_seen kinds.now) (scope_seen scope.now) (target_seen self.now) (tree.expr_of expr.now))) }
+    {
+        check_any(alloc, kinds, scope, expr, found)?;
+        let given = type_of(alloc, kinds, scope, expr)?;
+        self.check_given(&given, place(expr), found);
+        Ok(())
+    }
+
+    #[tactic(auto, unfolding(crate::specs::Targets::value_form))]
+    fn value_form(&self, x: VarId, got: &Option<Ty>, value: vlt_core::Expr) -> Form
+        ensures { form_of result
+            ≡ core.simple (t.value_form (target_seen self.now) x.0 (option_map ty_of got.now) (expr_of value)) }
+    {
+        if self.binds {
+            Form::Unpack {
+                x,
+                v: variable_in(&value),
+            }
+        } else if is_owning(&self.ty) {
+            Form::Own {
+                v: x,
+                value: operand_for(&self.ty, got, value),
+            }
+        } else {
+            Form::Set { v: x, e: value }
+        }
+    }
+
+    #[tactic(auto, unfolding(crate::specs::Targets::core_value))]
+    pub fn core_value(
+        &self,
+        alloc: Heap,
+        kinds: &Kinds<'_>,
+        scope: &Scope<'_>,
+        x: VarId,
+        expr: &Expr,
+    ) -> Result<Form, AllocError>
+        ensures { IfOk result (λ f. form_of f ≡ t.core_value (kinds_seen kinds.now) (scope_seen scope.now)
+            (target_seen self.now) x.0 (tree.expr_of expr.now)) }
+    {
+        let got = type_of(alloc, kinds, scope, expr)?;
+        let value = core_expr(alloc, kinds, scope, expr)?;
+        Ok(self.value_form(x, &got, value))
+    }
+}

@@ -1,0 +1,27 @@
+//! Expressions: an expression of the tree and the names in scope in, its type, the least refusal and the core expression out.
+//! Read `specs/Scopes.antt` first, then `Exprs`, `Operands` and `Bindings`.
+//! The elaboration of right sides and statements rests on it.
+#![tactic(auto)]
+
+mod bindings;
+mod exprs;
+pub mod limits;
+mod operands;
+mod scope;
+mod types;
+
+pub use bindings::{
+    add_several, check_new_key, check_new_var, check_too_many_keys, check_too_many_vars,
+};
+pub use exprs::{
+    Object, check_any, check_field, check_known, check_wanted, core_expr, field_named,
+    field_number, field_ty, fields_of, object_in, place, type_of, var_number,
+};
+pub use operands::{
+    check_operand, check_operands, core_operand, core_operands, operand_for, variable_in,
+};
+pub use scope::{Outer, Scope};
+pub use types::{
+    copy_ty, is_owning, is_struct, is_variant, lies_within, same_keys, same_object, same_ty, takes,
+    ty_under, unpacks,
+};

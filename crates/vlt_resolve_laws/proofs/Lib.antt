@@ -1,0 +1,4 @@
+pub mod Exprs
+pub mod Operands
+pub mod Steps
+pub mod Listed

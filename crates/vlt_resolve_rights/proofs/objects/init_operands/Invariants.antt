@@ -1,0 +1,12 @@
+use Rattle.std.proofs.Common.{◌≡◌, ◌++◌, drop, map}
+use Rattle.vlt_syntax.specs.View.{init_of}
+use Rattle.vlt_core.specs.View.{ty_of, operand_of}
+use Rattle.vlt_kinds.specs.Seen.{kinds_seen}
+use Rattle.vlt_resolve_exprs.specs.Seen.{scope_seen}
+use Rattle.vlt_resolve_rights.specs.News as n
+use Rattle.vlt_resolve_rights.proofs.objects.init_operands.Given as goal
+
+abbrev pub invariant-loop-i : goal.invariant-loop-i
+invariant-loop-i l =
+    map operand_of l.made ++ n.init_operands (kinds_seen l.kinds) (scope_seen l.scope) (map init_of (drop l.i l.inits)) (map ty_of (drop l.i l.types))
+    ≡ n.init_operands (kinds_seen l.kinds) (scope_seen l.scope) (map init_of l.inits) (map ty_of l.types)

@@ -1,0 +1,5 @@
+pub mod Droppable
+pub mod News
+pub mod Adopts
+pub mod Rights
+pub mod Least

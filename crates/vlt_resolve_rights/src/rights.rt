@@ -1,0 +1,158 @@
+//! Right sides, for a target: what is refused in them, and what they become.
+
+ghost use Rattle.std.specs.Prelude.{◌≡◌, option_map, Some, map, IfOk, OnOk};
+ghost use Rattle.vlt_syntax.specs.View as tree;
+ghost use Rattle.vlt_core.specs.View.{ty_of, form_of};
+ghost use Rattle.vlt_kinds_names.specs.Refusals.{least_from};
+ghost use Rattle.vlt_kinds.specs.Seen.{kinds_seen};
+ghost use Rattle.vlt_resolve_exprs.specs.Seen.{scope_seen};
+ghost use Rattle.vlt_resolve_rights.specs.Rights as r;
+ghost use Rattle.vlt_resolve_calls.specs.Seen.{forms_of, target_seen};
+
+use crate::adopts::{check_adopt, core_adopt};
+use crate::news::{check_new, new_forms};
+use std::alloc::{AllocError, Global as Heap};
+use vlt_base::VarId;
+use vlt_core::rules::WRONG_TYPE;
+use vlt_core::{Form, Ty};
+use vlt_kinds::Kinds;
+use vlt_kinds_names::Found;
+use vlt_resolve_calls::{Forms, Target, Use, build, call};
+use vlt_resolve_exprs::{Scope, same_ty};
+use vlt_syntax::Right;
+
+#[tactic(auto, unfolding(crate::specs::Rights::input_refused))]
+fn check_input(wanted: &Ty, ty: &Ty, at: u32, found: &mut Found)
+    ensures { found.new.least ≡ least_from found.old.least (r.input_refused (ty_of wanted.now) (ty_of ty.now) at) }
+{
+    found.add_if(!same_ty(wanted, ty), WRONG_TYPE, at);
+}
+
+fn target_right(
+    alloc: Heap,
+    kinds: &Kinds<'_>,
+    scope: &Scope<'_>,
+    target: &Target,
+    x: VarId,
+    hidden: VarId,
+    right: &Right,
+    found: &mut Found,
+) -> Result<Forms, AllocError>
+    ensures refused { OnOk result (found.new.least ≡ least_from found.old.least (r.target_right_refused
+        (kinds_seen kinds.now) (scope_seen scope.now) (target_seen target.now) (tree.right_of right.now))) }
+    ensures forms { IfOk result (λ fs. forms_of fs ≡ r.target_right_forms (kinds_seen kinds.now) (scope_seen scope.now)
+        (target_seen target.now) x.0 hidden.0 (tree.right_of right.now)) }
+{
+    match right {
+        Right::Value(expr) => {
+            target.check_value(alloc, kinds, scope, expr, found)?;
+            let form = target.core_value(alloc, kinds, scope, x, expr)?;
+            Ok(Forms::One(form))
+        }
+        Right::Build(built) => {
+            let form = build(alloc, kinds, scope, &target.ty, x, built, found)?;
+            Ok(Forms::One(form))
+        }
+        Right::Call(called) => {
+            let form = call(
+                alloc,
+                kinds,
+                scope,
+                Use::Given(target),
+                Some(x),
+                called,
+                found,
+            )?;
+            Ok(Forms::One(form))
+        }
+        Right::Input(at) => {
+            check_input(&Ty::Int, &target.ty, at.from, found);
+            Ok(Forms::One(Form::Input { v: x, more: false }))
+        }
+        Right::More(at) => {
+            check_input(&Ty::Bool, &target.ty, at.from, found);
+            Ok(Forms::One(Form::Input { v: x, more: true }))
+        }
+        Right::New {
+            owner,
+            named,
+            fields,
+            at,
+        } => {
+            check_new(
+                alloc,
+                kinds,
+                scope,
+                target,
+                owner,
+                named,
+                fields.as_slice(),
+                at.from,
+                found,
+            )?;
+            new_forms(
+                alloc,
+                kinds,
+                scope,
+                target,
+                x,
+                hidden,
+                owner,
+                named,
+                fields.as_slice(),
+            )
+        }
+        Right::Adopt {
+            variable,
+            owner,
+            at,
+        } => {
+            check_adopt(kinds, scope, &target.ty, variable, owner, at.from, found);
+            Ok(Forms::One(core_adopt(scope, x, variable, owner)))
+        }
+    }
+}
+
+/// Tests a right side for the variable `x`, whose type is known.
+#[tactic(auto, unfolding(crate::specs::Rights::right_refused, crate::specs::Rights::right_forms))]
+pub fn right_for(
+    alloc: Heap,
+    kinds: &Kinds<'_>,
+    scope: &Scope<'_>,
+    target: &Target,
+    x: VarId,
+    hidden: VarId,
+    right: &Right,
+    found: &mut Found,
+) -> Result<Forms, AllocError>
+    ensures refused { OnOk result (found.new.least ≡ least_from found.old.least (r.right_refused
+        (kinds_seen kinds.now) (scope_seen scope.now) (Some (target_seen target.now)) (tree.right_of right.now))) }
+    ensures forms { IfOk result (λ fs. forms_of fs ≡ r.right_forms (kinds_seen kinds.now) (scope_seen scope.now)
+        (Some (target_seen target.now)) x.0 hidden.0 (tree.right_of right.now)) }
+{
+    target_right(alloc, kinds, scope, target, x, hidden, right, found)
+}
+
+/// Tests a right side for the variable `x` as its target, and gives what it becomes. That counts only where nothing is
+/// refused. An unknown target is refused elsewhere, before the right side.
+#[tactic(auto, unfolding(crate::specs::Rights::right_refused, crate::specs::Rights::right_forms))]
+pub fn right(
+    alloc: Heap,
+    kinds: &Kinds<'_>,
+    scope: &Scope<'_>,
+    target: &Option<Target>,
+    x: VarId,
+    hidden: VarId,
+    right: &Right,
+    found: &mut Found,
+) -> Result<Forms, AllocError>
+    ensures refused { OnOk result (found.new.least ≡ least_from found.old.least (r.right_refused
+        (kinds_seen kinds.now) (scope_seen scope.now) (option_map target_seen target.now) (tree.right_of right.now))) }
+    ensures forms { IfOk result (λ fs. forms_of fs ≡ r.right_forms (kinds_seen kinds.now) (scope_seen scope.now)
+        (option_map target_seen target.now) x.0 hidden.0 (tree.right_of right.now)) }
+{
+    match target {
+        None => Ok(Forms::Nothing),
+        Some(target) => target_right(alloc, kinds, scope, target, x, hidden, right, found),
+    }
+}

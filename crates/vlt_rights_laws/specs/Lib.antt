@@ -1,0 +1,4 @@
+pub mod Parts
+pub mod Rights
+pub mod Calls
+pub mod News

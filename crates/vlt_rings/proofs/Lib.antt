@@ -1,0 +1,10 @@
+pub mod Lists
+pub mod Counts
+pub mod Sorting
+pub mod Firsts
+pub mod Chains
+pub mod Holding
+pub mod Released
+pub mod Sounds
+pub mod Calls
+pub mod Fresh

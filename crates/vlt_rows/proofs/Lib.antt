@@ -1,0 +1,5 @@
+pub mod Taken
+pub mod Looping
+pub mod Collected
+pub mod Building
+pub mod Views

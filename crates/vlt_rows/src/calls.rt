@@ -1,0 +1,279 @@
+//! The rows of calls and returns.
+
+ghost use Rattle.std.specs.Prelude.{◌≡◌, ◌∷◌, [], Some, map, slice_get};
+ghost use Rattle.std.specs.Option.{option_map, option_copied};
+ghost use Rattle.vlt_core.specs.View.{program_of, func_of, operand_of, entry_of, keys_of, mode_of, states_of};
+ghost use Rattle.vlt_core.specs.HeldView.{wanted_of, after_of, toks_of};
+ghost use Rattle.vlt_core.specs.Core.{call, return};
+ghost use Rattle.vlt_core.specs.Lookups.{is_before, is_after, is_fresh};
+ghost use Rattle.vlt_core.specs.Rows.{rows_of, operand_rows, held_in, entry_wanted, entry_after, clause_rows, target_rows, new_rows, given_back_rows, return_rows, tokens_of, on_option};
+ghost use Rattle.vlt_rows.specs.Taking.{TookOrStopped};
+ghost use Rattle.vlt_rows.specs.Pieces.{IsAfter, entry_rows, callee_rows, value_rows, new_row, given_back_row};
+
+use crate::expr::{take_operand, take_operands};
+use crate::pieces::{take_fill, take_gone, take_key, take_row};
+use crate::sink::{RowError, RowSink};
+use vlt_base::{FnId, KeyId, StateSet, VarId};
+use vlt_core::{After, Entry, Expr, Func, Mode, Operand, Program, Row, Tok, Wanted};
+
+/// Whether the key is held before the call.
+fn is_before(mode: Mode) -> bool
+    ensures { result ≡ is_before (mode_of mode) }
+{
+    match mode {
+        Mode::Kept => true,
+        Mode::Taken => true,
+        _ => false,
+    }
+}
+
+/// Whether the key is held after the call.
+fn is_after(mode: Mode) -> bool
+    ensures { result ≡ is_after (mode_of mode) }
+{
+    match mode {
+        Mode::Taken => false,
+        _ => true,
+    }
+}
+
+fn is_new(mode: Mode) -> bool
+    ensures { result ≡ is_fresh (mode_of mode) }
+{
+    match mode {
+        Mode::New => true,
+        _ => false,
+    }
+}
+
+fn held_in(states: Option<StateSet>) -> Wanted
+    ensures { wanted_of result ≡ held_in (states_of states) }
+{
+    match states {
+        None => Wanted::Any,
+        Some(states) => Wanted::In(states),
+    }
+}
+
+fn wanted_at(e: Entry) -> Wanted
+    ensures { wanted_of result ≡ entry_wanted (entry_of e) }
+{
+    if is_before(e.mode) {
+        held_in(e.before)
+    } else {
+        Wanted::Absent
+    }
+}
+
+/// What an entry leaves of the caller's key; none where the key has no states.
+fn after_at(p: &Program, f: &Func, k: KeyId, e: Entry) -> Option<After>
+    ensures { IsAfter (entry_after (program_of p.now) (func_of f.now) k.0 (entry_of e)) result }
+{
+    if is_after(e.mode) {
+        match p.states_or_all(f, k, e.after) {
+            None => None,
+            Some(states) => Some(After::Set(states)),
+        }
+    } else {
+        Some(After::Absent)
+    }
+}
+
+/// The row of a clause's entry at a call.
+fn take_entry<S: RowSink>(
+    p: &Program,
+    f: &Func,
+    keys: &[KeyId],
+    e: Entry,
+    to: &mut S,
+) -> Result<(), RowError>
+    ensures { TookOrStopped S.takes S.stops
+        (entry_rows (program_of p.now) (func_of f.now) (keys_of keys.now) (entry_of e))
+        to.old to.new result }
+{
+    match keys.get(e.key.0 as usize) {
+        None => Ok(()),
+        Some(k) => match after_at(p, f, *k, e) {
+            None => Err(RowError::Unfit),
+            Some(after) => take_row(
+                to,
+                Row {
+                    tok: Tok::Key(*k),
+                    wanted: wanted_at(e),
+                    after,
+                },
+            ),
+        },
+    }
+}
+
+/// The rows of a callee's clause.
+fn take_clause<S: RowSink>(
+    p: &Program,
+    f: &Func,
+    keys: &[KeyId],
+    clause: &[Entry],
+    to: &mut S,
+) -> Result<(), RowError>
+    ensures { TookOrStopped S.takes S.stops
+        (clause_rows (program_of p.now) (func_of f.now) (keys_of keys.now) (map entry_of clause.now))
+        to.old to.new result }
+{
+    for e in clause {
+        take_entry(p, f, keys, *e, to)?;
+    }
+    Ok(())
+}
+
+fn take_callee<S: RowSink>(
+    p: &Program,
+    f: &Func,
+    g: FnId,
+    keys: &[KeyId],
+    to: &mut S,
+) -> Result<(), RowError>
+    ensures { TookOrStopped S.takes S.stops
+        (callee_rows (program_of p.now) (func_of f.now) g.0 (keys_of keys.now))
+        to.old to.new result }
+{
+    match p.fns.get(g.0 as usize) {
+        None => Ok(()),
+        Some(callee) => take_clause(p, f, keys, callee.clause.as_slice(), to),
+    }
+}
+
+fn take_target<S: RowSink>(f: &Func, target: Option<VarId>, to: &mut S) -> Result<(), RowError>
+    ensures { TookOrStopped S.takes S.stops
+        (target_rows (func_of f.now) (option_map (λ v. v.0) target)) to.old to.new result }
+{
+    match target {
+        None => Ok(()),
+        Some(v) => take_fill(f, v, to),
+    }
+}
+
+/// The rows of a call.
+pub fn take_call<S: RowSink>(
+    p: &Program,
+    f: &Func,
+    g: FnId,
+    target: Option<VarId>,
+    keys: &[KeyId],
+    args: &[Operand],
+    to: &mut S,
+) -> Result<(), RowError>
+    ensures { TookOrStopped S.takes S.stops
+        (rows_of (program_of p.now) (func_of f.now) []
+        (call g.0 (option_map (λ v. v.0) target) (keys_of keys.now) (map operand_of args.now)))
+        to.old to.new result }
+{
+    take_operands(p, f, args, to)?;
+    take_callee(p, f, g, keys, to)?;
+    take_target(f, target, to)
+}
+
+fn take_value<S: RowSink>(
+    p: &Program,
+    f: &Func,
+    value: &Option<Operand>,
+    to: &mut S,
+) -> Result<(), RowError>
+    ensures { TookOrStopped S.takes S.stops
+        (value_rows (program_of p.now) (func_of f.now) (option_map operand_of value.now))
+        to.old to.new result }
+{
+    match value {
+        None => Ok(()),
+        Some(operand) => take_operand(p, f, operand, to),
+    }
+}
+
+/// The row of an entry for a new object, which is the returned variable's.
+fn take_new<S: RowSink>(
+    p: &Program,
+    f: &Func,
+    value: &Option<Operand>,
+    e: Entry,
+    to: &mut S,
+) -> Result<(), RowError>
+    ensures { TookOrStopped S.takes S.stops
+        (new_row (program_of p.now) (func_of f.now) (option_map operand_of value.now) (entry_of e))
+        to.old to.new result }
+{
+    if !is_new(e.mode) {
+        return Ok(());
+    }
+    match value {
+        Some(Operand::Pure(Expr::Var(x))) => match p.states_or_all(f, e.key, e.after) {
+            None => Err(RowError::Unfit),
+            Some(states) => take_key(f, *x, Wanted::In(states), After::Absent, to),
+        },
+        _ => Ok(()),
+    }
+}
+
+fn take_news<S: RowSink>(
+    p: &Program,
+    f: &Func,
+    value: &Option<Operand>,
+    to: &mut S,
+) -> Result<(), RowError>
+    ensures { TookOrStopped S.takes S.stops
+        (new_rows (program_of p.now) (func_of f.now) (option_map operand_of value.now))
+        to.old to.new result }
+{
+    for e in f.clause.as_slice() {
+        take_new(p, f, value, *e, to)?;
+    }
+    Ok(())
+}
+
+/// The row of an entry whose key the caller has back.
+fn take_given_back<S: RowSink>(p: &Program, f: &Func, e: Entry, to: &mut S) -> Result<(), RowError>
+    ensures { TookOrStopped S.takes S.stops
+        (given_back_row (program_of p.now) (func_of f.now) (entry_of e)) to.old to.new result }
+{
+    if !is_after(e.mode) || is_new(e.mode) {
+        return Ok(());
+    }
+    match p.states_or_all(f, e.key, e.after) {
+        None => Err(RowError::Unfit),
+        Some(states) => take_row(
+            to,
+            Row {
+                tok: Tok::Key(e.key),
+                wanted: Wanted::In(states),
+                after: After::Absent,
+            },
+        ),
+    }
+}
+
+fn take_given_backs<S: RowSink>(p: &Program, f: &Func, to: &mut S) -> Result<(), RowError>
+    ensures { TookOrStopped S.takes S.stops (given_back_rows (program_of p.now) (func_of f.now))
+        to.old to.new result }
+{
+    for e in f.clause.as_slice() {
+        take_given_back(p, f, *e, to)?;
+    }
+    Ok(())
+}
+
+/// The rows of a return; `tokens` has the tokens of the function.
+pub fn take_return<S: RowSink>(
+    p: &Program,
+    f: &Func,
+    tokens: &[Tok],
+    value: &Option<Operand>,
+    to: &mut S,
+) -> Result<(), RowError>
+    requires { toks_of tokens.now ≡ tokens_of (func_of f.now) }
+    ensures { TookOrStopped S.takes S.stops
+        (return_rows (program_of p.now) (func_of f.now) (option_map operand_of value.now))
+        to.old to.new result }
+{
+    take_value(p, f, value, to)?;
+    take_news(p, f, value, to)?;
+    take_given_backs(p, f, to)?;
+    take_gone(tokens, to)
+}

@@ -1,0 +1,138 @@
+//! A list that takes rows, and the lists of each statement's rows.
+
+ghost use Rattle.std.specs.Prelude.{◌≡◌, [], map, IfOk};
+ghost use Rattle.std.specs.Option.{option_map};
+ghost use Rattle.vlt_core.specs.View.{program_of, func_of, form_of, expr_of, operand_of, vars_of};
+ghost use Rattle.vlt_core.specs.HeldView.{toks_of};
+ghost use Rattle.vlt_core.specs.Rows.{expr_rows, arm_rows, return_rows, focus_end_rows, tokens_of};
+ghost use Rattle.vlt_rows.specs.Pieces.{own_rows, switch_rows, focus_rows};
+ghost use Rattle.vlt_rows.specs.FlowView.{rows_view};
+
+use crate::calls::take_return;
+use crate::expr::take_expr;
+use crate::sink::{RowError, RowSink};
+use crate::statements::{take_arm, take_focus, take_focus_end, take_form, take_switch};
+use std::alloc::Global;
+use vlt_base::{Items, VarId};
+use vlt_core::{Expr, Form, Func, Operand, Program, Row, Tok};
+
+/// Keeps the rows that it takes.
+#[derive(Drop)]
+pub struct RowList {
+    rows: Items<Row>,
+}
+
+impl RowList {
+    pub fn new(alloc: Global) -> RowList
+        ensures { result.rows ≡ [] }
+    {
+        RowList {
+            rows: Items::new(alloc),
+        }
+    }
+}
+
+impl RowSink for RowList {
+    ghost use Rattle.std.specs.Prelude.{◌≡◌, ◌++◌, ◌∷◌, []};
+    ghost use Rattle.vlt_rows.specs.FlowView.{rows_view};
+    ghost use Rattle.vlt_rows.specs.declared.sink.RowError.TheVariants.{Memory};
+
+    ghost takes = { λ r v w. rows_view w.rows ≡ rows_view v.rows ++ r ∷ [] };
+
+    ghost stops = { λ r v e. e ≡ Memory };
+
+    fn take(&mut self, row: Row) -> Result<(), RowError> {
+        self.rows.push(row)?;
+        Ok(())
+    }
+}
+
+/// The rows of an expression.
+pub fn expr_list(alloc: Global, p: &Program, f: &Func, e: &Expr) -> Result<Items<Row>, RowError>
+    ensures { IfOk result (λ rs. rows_view rs ≡ expr_rows (program_of p.now) (func_of f.now) (expr_of e.now)) }
+{
+    let mut list = RowList::new(alloc);
+    take_expr(p, f, e, &mut list)?;
+    Ok(list.rows)
+}
+
+/// The rows of a statement without blocks that goes on to the next one.
+pub fn form_list(alloc: Global, p: &Program, f: &Func, form: &Form) -> Result<Items<Row>, RowError>
+    ensures { IfOk result (λ rs. rows_view rs ≡ own_rows (program_of p.now) (func_of f.now) (form_of form.now)) }
+{
+    let mut list = RowList::new(alloc);
+    take_form(p, f, form, &mut list)?;
+    Ok(list.rows)
+}
+
+pub fn switch_list(alloc: Global, f: &Func, v: VarId) -> Result<Items<Row>, RowError>
+    ensures { IfOk result (λ rs. rows_view rs ≡ switch_rows (func_of f.now) v.0) }
+{
+    let mut list = RowList::new(alloc);
+    take_switch(f, v, &mut list)?;
+    Ok(list.rows)
+}
+
+/// The rows of an arm, before its block.
+pub fn arm_list(
+    alloc: Global,
+    p: &Program,
+    f: &Func,
+    v: VarId,
+    case: u8,
+    vs: &[VarId],
+) -> Result<Items<Row>, RowError>
+    ensures { IfOk result (λ rs.
+        rows_view rs ≡ arm_rows (program_of p.now) (func_of f.now) v.0 case (vars_of vs.now)) }
+{
+    let mut list = RowList::new(alloc);
+    take_arm(p, f, v, case, vs, &mut list)?;
+    Ok(list.rows)
+}
+
+/// The rows of a focus, before its block.
+pub fn focus_list(
+    alloc: Global,
+    p: &Program,
+    f: &Func,
+    y: VarId,
+    z: VarId,
+) -> Result<Items<Row>, RowError>
+    ensures { IfOk result (λ rs. rows_view rs ≡ focus_rows (program_of p.now) (func_of f.now) y.0 z.0) }
+{
+    let mut list = RowList::new(alloc);
+    take_focus(p, f, y, z, &mut list)?;
+    Ok(list.rows)
+}
+
+/// The rows of a focus's end.
+pub fn focus_end_list(
+    alloc: Global,
+    p: &Program,
+    f: &Func,
+    y: VarId,
+    z: VarId,
+) -> Result<Items<Row>, RowError>
+    ensures { IfOk result (λ rs. rows_view rs ≡ focus_end_rows (program_of p.now) (func_of f.now) y.0 z.0) }
+{
+    let mut list = RowList::new(alloc);
+    take_focus_end(p, f, y, z, &mut list)?;
+    Ok(list.rows)
+}
+
+/// The rows of a return; `tokens` has the tokens of the function.
+pub fn return_list(
+    alloc: Global,
+    p: &Program,
+    f: &Func,
+    tokens: &[Tok],
+    value: &Option<Operand>,
+) -> Result<Items<Row>, RowError>
+    requires { toks_of tokens.now ≡ tokens_of (func_of f.now) }
+    ensures { IfOk result (λ rs.
+        rows_view rs ≡ return_rows (program_of p.now) (func_of f.now) (option_map operand_of value.now)) }
+{
+    let mut list = RowList::new(alloc);
+    take_return(p, f, tokens, value, &mut list)?;
+    Ok(list.rows)
+}

@@ -1,0 +1,65 @@
+-- By the bound of fuel, bodies are safe, and so is what comes after a unit of fuel was spent.
+use Rattle.std.proofs.Common.{◌≡◌, ℕ, zero, suc, false, Some, refl, slice_get}
+use Rattle.vlt_core.specs.Core.{Func, Program}
+use Rattle.vlt_core.specs.Derives.{IsAccepted}
+use Rattle.vlt_core.specs.Kinded.{IsKinded}
+use Rattle.vlt_meaning.specs.Run.{Setup, Meaning, less}
+use Rattle.vlt_sound_calls.specs.Returned.{CalleesAreSafe}
+use Rattle.vlt_sound_blocks.specs.Statements.{RestIsSafe}
+use Rattle.vlt_sound_bodies.specs.Meet.{HasFunctions}
+use Rattle.vlt_sound_bodies.proofs.Bodies.{calls_are_safe}
+use Rattle.vlt_sound_returns.proofs.Returns.{returns_are_safe}
+use Rattle.vlt_sound_typed.proofs.Facts.{has_cases, has_keys, body_kinded, end_kinded}
+use Rattle.vlt_sound_heads.proofs.Functions.{has_functions}
+use Rattle.vlt_sound_simple.proofs.Simple.{step_safe}
+use Rattle.vlt_sound_statements.specs.Parts.{HasSafeParts}
+use Rattle.vlt_sound_statements.proofs.Statements.{stmts_safe}
+use Rattle.vlt_sound_statements.proofs.Bodies.{body_safe}
+use Rattle.vlt_sound.specs.Whole.{IsProvided}
+
+module _ (p : Program) (heap depth : ℕ) (kinded : IsKinded p) (accepted : IsAccepted p) (given : IsProvided p) where
+  abbrev setup : Setup
+  setup = record { program = p; heap = heap; depth = depth }
+
+  pub record Level (m : Meaning) : Type 0 where
+    pub rests : (i : ℕ) (f : Func) → slice_get p.fns i ≡ Some f → f.external ≡ false → RestIsSafe setup m f
+    pub callees : CalleesAreSafe setup m
+
+  functions : HasFunctions p
+  functions = has_functions p kinded given.sizes
+
+  -- what a function's statements are made of is safe where callees are
+  parts : (m : Meaning) → CalleesAreSafe setup m → (i : ℕ) (f : Func) → slice_get p.fns i ≡ Some f → HasSafeParts setup m f
+  parts m callees i f at =
+      let typed = functions.typed i f at in
+      let keyed = has_keys p i f kinded at in
+      let cased = has_cases p i f kinded given.states at in
+      record {
+        typed = typed;
+        keyed = keyed;
+        headed = functions.heads i f at;
+        cased = cased;
+        steps = step_safe setup f typed keyed cased;
+        calls = calls_are_safe setup m functions (given.externals heap depth) callees;
+        returns = returns_are_safe setup m;
+      }
+
+  level_zero : Level (less setup zero)
+  level_zero = record {
+    rests = λ i f at body ss s h k ids ended frame w here kinded derives agrees. refl;
+    callees = record { each = λ i g c frame w at body entered scoped agrees. refl };
+  }
+
+  level_more : (n : ℕ) → Level (less setup n) → Level (less setup (suc n))
+  level_more n lower = record {
+    rests = λ i f at body ss. stmts_safe setup (less setup n) f (parts (less setup n) lower.callees i f at) (lower.rests i f at body) ss;
+    callees = record {
+      each = λ i g c frame w at body entered scoped agrees.
+          body_safe setup (less setup n) g (parts (less setup n) lower.callees i g at) (lower.rests i g at body) c body (accepted i g at body)
+          (body_kinded p i g kinded at) (end_kinded p i g kinded at) entered scoped frame w agrees;
+    };
+  }
+
+  pub level : (n : ℕ) → Level (less setup n)
+  level zero = level_zero
+  level (suc n) = level_more n (level n)

@@ -1,0 +1,4 @@
+pub mod Unbroken
+pub mod Tokens
+pub mod Control
+pub mod Branches

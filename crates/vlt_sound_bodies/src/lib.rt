@@ -1,0 +1,16 @@
+//! Laws on calls: nothing goes in and nothing comes out.
+//! Read `vlt_sound_calls/specs/Calls.antt` first, then `specs/Meet.antt` and `specs/Externals.antt`.
+//! `vlt_sound` rests on them: no call of an accepted program ends in a fault.
+#![tactic(auto)]
+
+ghost use Rattle.vlt_meaning.specs.Run.{Setup, Meaning};
+ghost use Rattle.vlt_sound_calls.specs.Returned.{CalleesAreSafe};
+ghost use Rattle.vlt_sound_calls.specs.Calls.{CallsAreSafe};
+ghost use Rattle.vlt_sound_bodies.specs.Meet.{HasFunctions};
+ghost use Rattle.vlt_sound_bodies.specs.Externals.{ExternalsAreSafe};
+
+/// Calls are safe where the bodies of callees are, and calls of externals are.
+pub fn calls_are_safe()
+    ensures { (r : Setup) (rest_of : Meaning) → HasFunctions r.program → ExternalsAreSafe r →
+        CalleesAreSafe r rest_of → CallsAreSafe r rest_of }
+{}

@@ -1,0 +1,4 @@
+pub mod Moved
+pub mod Chains
+pub mod Places
+pub mod Changing

@@ -1,0 +1,5 @@
+pub mod Below
+pub mod Parts
+pub mod Ending
+pub mod Releasing
+pub mod Dropping

@@ -1,0 +1,2 @@
+pub mod Callee
+pub mod Ready

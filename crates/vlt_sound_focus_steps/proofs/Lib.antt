@@ -1,0 +1,5 @@
+pub mod Lending
+pub mod Opening
+pub mod Taking
+pub mod Facts
+pub mod Focuses

@@ -1,0 +1,10 @@
+pub mod Empty
+pub mod Rows
+pub mod Touch
+pub mod Expressions
+pub mod Plain
+pub mod Safe
+pub mod Kept
+pub mod Changes
+pub mod Owners
+pub mod Leaving

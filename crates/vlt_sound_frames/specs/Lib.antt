@@ -1,0 +1,5 @@
+pub mod Limited
+pub mod Agrees
+pub mod Typed
+pub mod Fine
+pub mod Safe

@@ -1,0 +1,2 @@
+pub mod TakenKeys
+pub mod Hosts

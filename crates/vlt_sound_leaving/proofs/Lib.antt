@@ -1,0 +1,5 @@
+pub mod Pairs
+pub mod Places
+pub mod Back
+pub mod Results
+pub mod Delivering

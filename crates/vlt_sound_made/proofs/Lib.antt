@@ -1,0 +1,10 @@
+pub mod Shuffled
+pub mod Swapping
+pub mod Swaps
+pub mod Slots
+pub mod Speaking
+pub mod Making
+pub mod Makes
+pub mod Packing
+pub mod Boxing
+pub mod Builds

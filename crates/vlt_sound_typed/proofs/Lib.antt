@@ -1,0 +1,5 @@
+pub mod Rows
+pub mod Types
+pub mod Decls
+pub mod Vars
+pub mod Facts

@@ -1,0 +1,22 @@
+//! Laws of the grammar: a text has just one tree, or is refused in just one way; and the automaton decides which.
+//! Read `vlt_syntax/specs/Refusals.antt` and `specs/Laws.antt` first.
+//! The clauses of `vlt_parser::parse` rest on these laws.
+#![tactic(auto)]
+
+ghost use Rattle.std.specs.Prelude.{List};
+ghost use Rattle.vlt_lexer.specs.Reading.{Lexeme};
+ghost use Rattle.vlt_syntax_laws.specs.Laws.{HasOneTree, HasOneRefusal, HasTreeOrRefusal, IsNeverBoth, IsAccepting, IsRefusing};
+
+/// The grammar alone: one tree with its places, or one refusal, and never both.
+pub fn tokens_are_read_in_one_way()
+    ensures tree { (ls : List Lexeme) → HasOneTree ls }
+    ensures refusal { (ls : List Lexeme) → HasOneRefusal ls }
+    ensures either { (ls : List Lexeme) → HasTreeOrRefusal ls }
+    ensures never_both { (ls : List Lexeme) → IsNeverBoth ls }
+{}
+
+/// The automaton that reads token by token accepts each tree's tokens, and refuses others as the grammar does.
+pub fn automaton_decides()
+    ensures accepts { (ls : List Lexeme) → IsAccepting ls }
+    ensures refuses { (ls : List Lexeme) → IsRefusing ls }
+{}
