@@ -21,7 +21,7 @@ use Rattle.vlt_sound_typed.proofs.Types.{TyKinded}
 use Rattle.vlt_sound_typed.proofs.Decls.{PartKinded, part_keys, payload_kinded}
 use Rattle.vlt_sound_typed.proofs.Vars.{HeadKinded, head_kinded, result_kinded, key_within, own_type, Gives, listed_agrees, only_given, new_in, listed_row, key_typed, guard_off}
 use Rattle.vlt_sound_results.specs.Heads.{IsHostType, IsHostPayload, IsHostKey, IsHostCase, HasHostHead, HasHosts}
-use Rattle.vlt_sound_externs.specs.Narrow.{HasNarrowSets}
+use Rattle.vlt_sound_externs.specs.Narrow.{IsNarrowHead, HasNarrowHeads}
 use Rattle.vlt_sound_externs.proofs.Declared.{bare, abstract_bare, states_within, host_type, listed_key, argument_there}
 
 -- ---- lists
@@ -82,7 +82,7 @@ entry_types p e (t ∷ ts) =
     then when_some (decl_of p t) (λ d. when_some e.before (states_broken p t) ++ when_some e.after (states_broken p t))
     else []
 
-module _ (p : Program) (n : ℕ) (f : Func) (kinded : IsKinded p) (narrow : HasNarrowSets p) (at : slice_get p.fns n ≡ Some f)
+module _ (p : Program) (n : ℕ) (f : Func) (kinded : IsKinded p) (narrow : IsNarrowHead p f) (at : slice_get p.fns n ≡ Some f)
     (external : f.external ≡ true) where
   head : HeadKinded p f
   head = head_kinded p n f kinded at
@@ -190,7 +190,7 @@ module _ (p : Program) (n : ℕ) (f : Func) (kinded : IsKinded p) (narrow : HasN
       by None q is = subst (λ o. IsTrue (states_of_type p o s)) type is
       by (Some states) q is =
           let x = among_at f.clause e i in
-          states_within p kinded t states (narrow.after n f x.0 e states at x.1 q) (entry_states x.0 e t states x.1 type q) s is
+          states_within p kinded t states (narrow.after x.0 e states x.1 q) (entry_states x.0 e t states x.1 type q) s is
 
   fresh : (e : Entry) (t : ℕ) (args : List ℕ) → Among e f.clause → is_new e ≡ true → f.result ≡ Some (tracked e.key t args) →
       key_type f e.key ≡ Some t
@@ -226,15 +226,16 @@ module _ (p : Program) (n : ℕ) (f : Func) (kinded : IsKinded p) (narrow : HasN
   owned states t args is =
       let none =
       abstract_bare (decl_of p t) (unless_so (is_abstract (decl_of p t)) rule.EXTERN_HEAD (result_row (owning states t args) t is refl)) in
-      host_type p kinded t states args (narrow.owned n f states t args at is) none.0 none.1
+      host_type p kinded t states args (narrow.owned states t args is) none.0 none.1
       ((result_kinded p f head (owning states t args) is).shape t refl)
 
   -- ---- cases
 
-  host_case : (ty : Ty) (t : ℕ) (args : List ℕ) → f.result ≡ Some ty → type_in ty ≡ Some t → args_of ty ≡ args →
+  host_case : (ty : Ty) (t : ℕ) (args : List ℕ) → f.result ≡ Some ty →
+      variant_in f.result ≡ Some (record { type = t; args = args }) → type_in ty ≡ Some t → args_of ty ≡ args →
       flat_map (external_case_broken p f args) (cases_of p t) ≡ [] → (c : ℕ) (d : CaseDecl) → case_at p t c ≡ Some d →
       IsHostCase p f t args d
-  host_case ty t args is of same e c d declared = record { payload = payload; keys = keys }
+  host_case ty t args is variant_is of same e c d declared = record { payload = payload; keys = keys }
     where
       both : (flat_map (λ ty. unless (is_external_payload p ty) rule.EXTERN_HEAD) d.payload ≡ []) ×
           (flat_map (λ q. when_some (slice_get args q.position) (λ k. unless (has (tracked_keys f) k) rule.EXTERN_HEAD)) d.keys ≡ [])
@@ -261,7 +262,7 @@ module _ (p : Program) (n : ℕ) (f : Func) (kinded : IsKinded p) (narrow : HasN
           by bool there k ext = tt
           by (owning states u others) there k ext =
               let none = neither (is_struct (decl_of p u)) (is_variant (decl_of p u)) ext in
-              host_type p kinded u states others (narrow.payloads t c i d states u others declared there) none.0 none.1 (k.shape u refl)
+              host_type p kinded u states others (narrow.payloads t c i args d states u others variant_is declared there) none.0 none.1 (k.shape u refl)
           by (tracked j u others) there k ext = cc
           by (guarded j u others) there k ext = cc
           by (variant u others) there k ext = cc
@@ -283,7 +284,7 @@ module _ (p : Program) (n : ℕ) (f : Func) (kinded : IsKinded p) (narrow : HasN
             of = l.of;
             header = l.header;
             typed = arg_typed a.0 k.position l.of (key_number a.0 ref) a.1 l.header;
-            states = states_within p kinded l.of k.states (narrow.listed t c i d k declared there) l.states;
+            states = states_within p kinded l.of k.states (narrow.listed t c i args d k variant_is declared there) l.states;
           }
         where
           arg_typed : (k i u : ℕ) → nat_lt k (length f.keys) ≡ true → slice_get args i ≡ Some k → header_type p t i ≡ Some u →
@@ -305,7 +306,7 @@ module _ (p : Program) (n : ℕ) (f : Func) (kinded : IsKinded p) (narrow : HasN
   cases t c args d of declared = by f.result refl of
     where
       go : Of (record { type = t; args = args }) → IsHostCase p f t args d
-      go q = host_case q.0 t args q.1 q.2 q.3 q.4 c d declared
+      go q = host_case q.0 t args q.1 of q.2 q.3 q.4 c d declared
 
       by : (o : Option Ty) → f.result ≡ o → variant_in o ≡ Some (record { type = t; args = args }) → IsHostCase p f t args d
       by None is e = absurd (none-some (record { type = t; args = args }) e)
@@ -333,5 +334,7 @@ module _ (p : Program) (n : ℕ) (f : Func) (kinded : IsKinded p) (narrow : HasN
     cases = cases;
   }
 
-pub has_hosts : (p : Program) → IsKinded p → HasNarrowSets p → HasHosts p
-has_hosts p kinded narrow = record { heads = λ i g at external. host_head p i g kinded narrow at external }
+pub has_hosts : (p : Program) → IsKinded p → HasNarrowHeads p → HasHosts p
+has_hosts p kinded narrow = record {
+  heads = λ i g at external. host_head p i g kinded (narrow.heads i g at external) at external;
+}
