@@ -1,10 +1,10 @@
 -- What is known of an answer that fits.
-use Rattle.std.proofs.Common.{◌≡◌, ℕ, ℤ, List, Option, Some, None, Ok, Err, refl, sym, ap, subst}
+use Rattle.std.proofs.Common.{◌≡◌, ℕ, ℤ, List, Option, Some, None, Ok, ap, subst}
 use Rattle.vlt_core.specs.Core.{Func, Program}
 use Rattle.vlt_meaning.specs.World.{is_out, loose, Object, Frame, Reason, missing}
-use Rattle.vlt_meaning.specs.Found.{Found, ◌>>=◌, or_fault}
+use Rattle.vlt_meaning.specs.Found.{or_fault}
 use Rattle.vlt_meaning.specs.Objects.{moved}
-use Rattle.vlt_meaning.specs.Answers.{Answer, answer_of}
+use Rattle.vlt_meaning.specs.Answers.{answer_of}
 use Rattle.vlt_meaning.specs.Externals.{come_back, case_objects, Fitting, fitting}
 use Rattle.vlt_sound_given.proofs.Given.{found_then}
 use Rattle.vlt_sound_results.proofs.TakenOver.{same_ok}

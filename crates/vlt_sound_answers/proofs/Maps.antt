@@ -1,11 +1,10 @@
 -- What the held map says of each key once an answer's keys have come back and have their states.
-use Rattle.std.proofs.Common.{◌≡◌, ◌⊎◌, inl, inr, ⊎_elim, ℕ, Bool, true, false, ◌&&◌, not, if◌then◌else◌, IsTrue, List, [], ◌∷◌, filter, Option, Some, None, refl, sym, ap, ◌∙◌, subst, slice_get}
-use Rattle.std.proofs.lemmas.Bool.{cases_Bool}
+use Rattle.std.proofs.Common.{◌≡◌, inl, inr, ⊎_elim, ℕ, Bool, true, false, ◌&&◌, not, if◌then◌else◌, List, [], ◌∷◌, filter, Option, Some, None, refl, sym, ap, ◌∙◌, subst}
 use Rattle.vlt_core.specs.Core.{States, Tok, a_key, a_var, Mode, kept, taken, given, fresh, Entry, Func, Program}
 use Rattle.vlt_core.specs.Lookups.{is_before, is_after, is_fresh, is_held_before, is_held_after, is_new, states_or_all}
 use Rattle.vlt_core.specs.Maps as maps
 use Rattle.vlt_core.specs.Maps.{Status, absent, held, kind_of, is_absent, states_of, HeldMap, IsWanted, wants_absent, After, becomes_absent, becomes_held, changed, row_passed, CanPass, passed}
-use Rattle.vlt_core.specs.Rows.{row, entry_wanted, entry_after, held_in, clause_rows}
+use Rattle.vlt_core.specs.Rows.{entry_wanted, entry_after, held_in, clause_rows}
 use Rattle.vlt_meaning.specs.Calls.{entries_after}
 use Rattle.vlt_meaning.specs.Externals.{is_taken, is_given}
 use Rattle.vlt_sound_frames.proofs.Rows.{row_here, row_other}
@@ -13,10 +12,10 @@ use Rattle.vlt_sound_frames.proofs.Touch.{held_is}
 use Rattle.vlt_sound_frames.proofs.Owners.{ChangesTok}
 use Rattle.vlt_sound_frames.proofs.Leaving.{key_same, var_is_no_key}
 use Rattle.vlt_sound_entering.specs.Callee.{Among, AreApartBy, caller_key}
-use Rattle.vlt_sound_entering.proofs.Entries.{same_entry, Sought, sought}
+use Rattle.vlt_sound_entering.proofs.Entries.{same_entry, sought}
 use Rattle.vlt_sound_entering.proofs.ClauseRows.{AreThere, clause_wanted, clause_here, clause_other}
 use Rattle.vlt_sound_leaving.proofs.Pairs.{among_filtered, filtered_among, filtered_apart}
-use Rattle.vlt_sound_returns.proofs.Taking.{take_rows, take_other}
+use Rattle.vlt_sound_returns.proofs.Taking.{take_other}
 use Rattle.vlt_sound_given.specs.Given.{whatever, back_row, came}
 use Rattle.vlt_sound_told.specs.Told.{told_row, told, IsHeldAt}
 use Rattle.vlt_sound_hosts.specs.Answers.{sent}

@@ -1,17 +1,16 @@
 -- The `new` key of a clause, and the state that an answer gives its object.
-use Rattle.std.proofs.Common.{◌≡◌, ◌⊎◌, inl, inr, ⊎_elim, ℕ, suc, Bool, true, false, if◌then◌else◌, IsTrue, List, [], ◌∷◌, ◌++◌, map, Option, Some, None, refl, sym, ap, ◌∙◌, subst, slice_get}
+use Rattle.std.proofs.Common.{◌≡◌, ◌⊎◌, inl, inr, ⊎_elim, ℕ, suc, Bool, true, false, if◌then◌else◌, List, [], ◌∷◌, map, Option, Some, None, refl, sym, ap, ◌∙◌, slice_get}
 use Rattle.std.proofs.lemmas.Bool.{cases_Bool}
-use Rattle.std.proofs.lemmas.Option.{same_Some}
 use Rattle.std.specs.List.{flat_map}
 use Rattle.std.specs.Option.{option_map}
 use Rattle.vlt_core.specs.Core.{Ty, int, bool, tracked, owning, guarded, variant, owning_variant, Entry, Func, Program}
 use Rattle.vlt_core.specs.Lookups.{is_new}
 use Rattle.vlt_core.specs.Types.{keys_of_ty}
 use Rattle.vlt_core.specs.KindedHeads.{has, own_typings}
-use Rattle.vlt_meaning.specs.Calls.{Binding, binding}
+use Rattle.vlt_meaning.specs.Calls.{binding}
 use Rattle.vlt_meaning.specs.Externals.{new_key}
 use Rattle.vlt_sound_owners.specs.Members.{In}
-use Rattle.vlt_sound_owners.proofs.Members.{in_left, in_right}
+use Rattle.vlt_sound_owners.proofs.Members.{in_right}
 use Rattle.vlt_sound_scopes.proofs.Binding.{first_or_other}
 use Rattle.vlt_sound_entering.specs.Callee.{Among, caller_key}
 use Rattle.vlt_sound_entering.proofs.ClauseRows.{AreThere}

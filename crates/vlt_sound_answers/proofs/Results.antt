@@ -1,60 +1,56 @@
 -- What is done with an answer ends in no fault.
-use Rattle.std.proofs.Common.{◌≡◌, ◌⊎◌, inl, inr, ⊎_elim, ℕ, ℤ, ◌<◌, nat_lt, Bool, true, false, ◌&&◌, ◌||◌, not, IsTrue, List, [], ◌∷◌, ◌++◌, map, filter, length, Option, Some, None, Ok, Err, refl, sym, ap, ◌∙◌, subst, slice_get}
+use Rattle.std.proofs.Common.{◌≡◌, ◌⊎◌, inl, inr, ⊎_elim, ℕ, ℤ, nat_lt, true, false, ◌&&◌, ◌||◌, not, IsTrue, List, [], length, Option, Some, None, Ok, Err, refl, sym, ap, ◌∙◌, subst}
 use Rattle.std.proofs.lemmas.Bool.{cases_Bool}
 use Rattle.std.proofs.lemmas.Option.{none-some}
 use Rattle.std.specs.List.{zip}
-use Rattle.vlt_core.specs.Core.{States, Ty, int, bool, tracked, owning, guarded, variant, owning_variant, a_key, Mode, kept, taken, given, fresh, Entry, CaseDecl, Func, Program}
-use Rattle.vlt_core.specs.Lookups.{VariantOf, all_states, key_type, variant_in, is_before, is_after, is_fresh, is_held_after, is_new, states_of_type, states_or_all, after_set, case_at}
-use Rattle.vlt_core.specs.Types.{with_keys, stands_for, keys_of_ty}
-use Rattle.vlt_core.specs.Maps.{absent, held, HeldMap, CanPass, passed}
+use Rattle.vlt_core.specs.Core.{States, Ty, int, bool, tracked, owning, guarded, variant, owning_variant, Mode, kept, taken, given, fresh, Entry, Func, Program}
+use Rattle.vlt_core.specs.Lookups.{VariantOf, key_type, variant_in, is_before, is_after, is_fresh, is_held_after, is_new, states_of_type, states_or_all}
+use Rattle.vlt_core.specs.Types.{stands_for}
+use Rattle.vlt_core.specs.Maps.{HeldMap, CanPass, passed}
 use Rattle.vlt_core.specs.Rows.{clause_rows, target_rows}
-use Rattle.vlt_core.specs.KindedHeads.{has, parameters_of, keys_of_parameters, new_keys, keys_of_result, tracked_keys}
+use Rattle.vlt_core.specs.KindedHeads.{has, parameters_of, keys_of_parameters, tracked_keys}
 use Rattle.vlt_core.specs.KindedScopes.{Ids}
 use Rattle.vlt_core.specs.KindedCalls.{call_target_broken, with_call_target}
-use Rattle.vlt_meaning.specs.World as world
-use Rattle.vlt_meaning.specs.World.{Value, Object, World, Frame, bad_answer, is_out, loose}
+use Rattle.vlt_meaning.specs.World.{Value, Object, World, Frame, is_out, loose}
 use Rattle.vlt_meaning.specs.Found.{Found}
 use Rattle.vlt_meaning.specs.Objects.{moved}
-use Rattle.vlt_meaning.specs.Step.{Step, with_found, with_objects, deliver}
-use Rattle.vlt_meaning.specs.Calls.{entries_after, binding}
-use Rattle.vlt_meaning.specs.Answers.{Piece, plain, new_in, Result, nothing, piece, case_with, Answer}
+use Rattle.vlt_meaning.specs.Step.{with_found, with_objects, deliver}
+use Rattle.vlt_meaning.specs.Calls.{entries_after}
+use Rattle.vlt_meaning.specs.Answers.{Piece, plain, new_in, Result, nothing, piece, case_with}
 use Rattle.vlt_meaning.specs.Externals.{is_given, case_objects, keys_of_case, objects_of_keys, case_states, entry_states, with_states, with_answered, Fitting, fitting, or_bad, type_in, new_key, with_fresh, with_result}
 use Rattle.vlt_meaning.specs.Run.{Setup}
-use Rattle.vlt_sound_worlds.specs.Look.{look}
 use Rattle.vlt_sound_owners.specs.Members.{In}
 use Rattle.vlt_sound_frames.specs.Agrees.{Context, scene, Agrees}
 use Rattle.vlt_sound_frames.specs.Typed.{IsTyped}
 use Rattle.vlt_sound_frames.specs.Safe.{Goal, Safe, goes_to}
 use Rattle.vlt_sound_frames.proofs.Changes.{agrees_map}
-use Rattle.vlt_sound_steps.specs.Scopes.{IsFresh}
 use Rattle.vlt_sound_scopes.specs.Scoped.{IsKeyInScope, IsScoped}
 use Rattle.vlt_sound_scopes.proofs.Starting as starting
 use Rattle.vlt_sound_calls.specs.Returned.{IsEntered}
 use Rattle.vlt_sound_calls.specs.Heads.{HasHead}
-use Rattle.vlt_sound_entering.specs.Callee.{Among, AreApartBy, caller_key, IsParamKey, IsCall}
+use Rattle.vlt_sound_entering.specs.Callee.{Among, caller_key, IsParamKey, IsCall}
 use Rattle.vlt_sound_entering.proofs.Entries.{same_entry}
-use Rattle.vlt_sound_entering.proofs.ClauseRows.{AreThere}
 use Rattle.vlt_sound_entering.proofs.Typing.{keys_typed}
 use Rattle.vlt_sound_leaving.specs.Fresh.{IsFreshCall}
 use Rattle.vlt_sound_leaving.proofs.Pairs.{among_filtered, filtered_among, filtered_apart}
 use Rattle.vlt_sound_leaving.proofs.Results.{new_is_after, NewEntry, new_entry}
-use Rattle.vlt_sound_readings.specs.Said.{GoTogether, IsAfter, IsPieceOf, IsResultOf, IsCaseOf, IsAnswerOf}
+use Rattle.vlt_sound_readings.specs.Said.{IsResultOf, IsCaseOf, IsAnswerOf}
 use Rattle.vlt_sound_readings.proofs.Reading.{answer_said}
 use Rattle.vlt_sound_given.specs.Given.{AreGivable}
 use Rattle.vlt_sound_given.proofs.Given.{agrees_came}
-use Rattle.vlt_sound_told.specs.Told.{IsTellable, AreTellable}
+use Rattle.vlt_sound_told.specs.Told.{AreTellable}
 use Rattle.vlt_sound_told.proofs.Telling.{agrees_told}
 use Rattle.vlt_sound_delivered.specs.Given.{IsGiven}
 use Rattle.vlt_sound_delivered.proofs.Delivered.{delivered}
 use Rattle.vlt_sound_pieces.proofs.Pieces.{number_safe, new_safe}
-use Rattle.vlt_sound_results.specs.Heads.{IsHostType, HasHostHead, HasHosts}
+use Rattle.vlt_sound_results.specs.Heads.{HasHostHead, HasHosts}
 use Rattle.vlt_sound_results.specs.TakenOver as over
 use Rattle.vlt_sound_results.specs.TakenOver.{AreTakenOver, NamesObject}
 use Rattle.vlt_sound_results.proofs.TakenOver.{same_ok, taken_over, over_all}
 use Rattle.vlt_sound_results.proofs.Cases.{case_safe}
 use Rattle.vlt_sound_results.proofs.References.{reference_safe}
 use Rattle.vlt_sound_hosts.specs.Answers.{sent, answered, AreNamed, AnswersAreSafe}
-use Rattle.vlt_sound_answers.proofs.Maps.{behind, back, now, given_away, told_at, same_map, new_absent, new_held}
+use Rattle.vlt_sound_answers.proofs.Maps.{back, now, given_away, told_at, same_map, new_absent, new_held}
 use Rattle.vlt_sound_answers.proofs.Fitting.{IsFitted, fitted}
 use Rattle.vlt_sound_answers.proofs.News.{in_has, among_at, own_in, same_key, same_args, none_new, IsNew, one_new}
 

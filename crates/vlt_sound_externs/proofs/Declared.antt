@@ -1,18 +1,16 @@
 -- What is known of declared types that an external's result is of.
-use Rattle.std.proofs.Common.{◌≡◌, inl, inr, ⊎_elim, ℕ, ◌<◌, ◌≤◌, Bool, true, false, ◌||◌, not, if◌then◌else◌, IsTrue, List, [], ◌∷◌, ◌++◌, map, length, Option, Some, None, refl, sym, ap, ◌∙◌, subst, slice_get}
-use Rattle.std.proofs.lemmas.Bool.{cases_Bool}
+use Rattle.std.proofs.Common.{◌≡◌, ⊎_elim, ℕ, ◌≤◌, true, false, not, if◌then◌else◌, IsTrue, List, [], ◌∷◌, ◌++◌, map, length, Option, Some, None, refl, sym, ap, ◌∙◌, subst, slice_get}
 use Rattle.std.proofs.lemmas.Option.{none-some, slice_get_cases, slice_get_past}
 use Rattle.std.specs.List.{flat_map}
-use Rattle.vlt_core.specs.Core.{States, Ty, int, bool, tracked, owning, guarded, variant, owning_variant, CaseKey, CaseDecl, TypeDecl, an_abstract, a_struct, a_variant, Header, Func, Program}
-use Rattle.vlt_core.specs.Lookups.{all_states, fields_in, fields_of, cases_in, cases_of, case_at}
+use Rattle.vlt_core.specs.Core.{States, owning, CaseKey, CaseDecl, TypeDecl, an_abstract, a_struct, a_variant, Header, Program}
+use Rattle.vlt_core.specs.Lookups.{all_states, fields_in, fields_of, cases_in, case_at}
 use Rattle.vlt_core.specs.Types.{decl_of, lies_within, is_struct, is_abstract, is_variant, header_in, header_of}
-use Rattle.vlt_core.specs.KindedHeads.{Rules, unless, when_some, has_set, are_apart, states_broken, part_broken, header_broken, is_payload_type, case_key_broken, case_broken, shape_broken}
+use Rattle.vlt_core.specs.KindedHeads.{Rules, unless, when_some, are_apart, states_broken, part_broken, header_broken, is_payload_type, case_key_broken, shape_broken}
 use Rattle.vlt_core.specs.declared.rules.TheConstants as rule
 use Rattle.vlt_core.specs.Kinded.{IsKinded}
 use Rattle.vlt_sound_focus.specs.Fits.{joined, header_type}
 use Rattle.vlt_sound_frames.specs.Limited.{IsNarrow}
 use Rattle.vlt_sound_frames.proofs.Empty.{both_empty, unless_so, within_is}
-use Rattle.vlt_sound_blocks.specs.Kinded.{BreakNone}
 use Rattle.vlt_sound_typed.proofs.Rows.{flat_at, type_kinded}
 use Rattle.vlt_sound_typed.proofs.Decls.{key_at, has_sets, case_row}
 use Rattle.vlt_sound_results.specs.Heads.{IsHostType}

@@ -1,23 +1,20 @@
 -- What the head of an external says that breaks no rule.
-use Rattle.std.proofs.Common.{◌≡◌, ◌⊎◌, inl, inr, ⊎_elim, ℕ, zero, suc, ◌<◌, ◌==◌, nat_lt, Bool, true, false, ◌&&◌, ◌||◌, not, if◌then◌else◌, IsTrue, List, [], ◌∷◌, ◌++◌, map, filter, take, length, Option, Some, None, refl, sym, ap, ◌∙◌, subst, slice_get}
+use Rattle.std.proofs.Common.{◌≡◌, inl, inr, ⊎_elim, ℕ, zero, suc, ◌<◌, ◌==◌, nat_lt, Bool, true, false, ◌&&◌, ◌||◌, not, if◌then◌else◌, IsTrue, List, [], ◌∷◌, ◌++◌, map, take, length, Option, Some, None, refl, sym, ap, ◌∙◌, subst, slice_get}
 use Rattle.std.proofs.lemmas.Bool.{cases_Bool, eqb-true, eq-eqb}
-use Rattle.std.proofs.lemmas.Option.{none-some, same_Some, slice_get_cases}
+use Rattle.std.proofs.lemmas.Option.{none-some, same_Some}
 use Rattle.std.specs.List.{flat_map}
 use Rattle.std.specs.Option.{option_map}
 use Rattle.vlt_core.specs.Core.{States, Ty, int, bool, tracked, owning, guarded, variant, owning_variant, CaseKey, CaseDecl, TypeDecl, KeyDecl, VarDecl, Entry, Func, Program}
 use Rattle.vlt_core.specs.Lookups.{VariantOf, variant_in, var_type, key_type, key_type_in, all_states, fields_of, cases_of, case_at, is_new, states_of_type, states_or_all, after_set}
 use Rattle.vlt_core.specs.Types.{decl_of, is_struct, is_abstract, is_variant, header_of, args_of, keys_of_ty, type_in}
-use Rattle.vlt_core.specs.KindedHeads.{Rules, unless, when_some, has, parameters_of, new_keys, own_typings, types_at, given_types, are_all, is_only_type, argument_broken, states_broken, shape_broken, entry_broken, names_states, tracked_keys, is_external_payload, is_external_parameter, external_case_broken, external_result_broken, is_declared_result, external_broken, key_broken}
+use Rattle.vlt_core.specs.KindedHeads.{Rules, unless, when_some, has, parameters_of, new_keys, own_typings, given_types, are_all, is_only_type, states_broken, entry_broken, names_states, tracked_keys, is_external_payload, is_external_parameter, external_case_broken, external_result_broken, is_declared_result, external_broken, key_broken}
 use Rattle.vlt_core.specs.declared.rules.TheConstants as rule
 use Rattle.vlt_core.specs.Kinded.{IsKinded}
 use Rattle.vlt_sound_owners.specs.Members.{In}
 use Rattle.vlt_sound_focus.specs.Fits.{header_type}
-use Rattle.vlt_sound_frames.specs.Limited.{IsNarrow}
-use Rattle.vlt_sound_frames.specs.Typed.{IsDeclared}
 use Rattle.vlt_sound_frames.proofs.Empty.{both_empty, both_so, unless_so}
 use Rattle.vlt_sound_entering.specs.Callee.{Among}
 use Rattle.vlt_sound_typed.proofs.Rows.{flat_at, zero_plus, has_in, in_has}
-use Rattle.vlt_sound_typed.proofs.Types.{TyKinded}
 use Rattle.vlt_sound_typed.proofs.Decls.{PartKinded, part_keys, payload_kinded}
 use Rattle.vlt_sound_typed.proofs.Vars.{HeadKinded, head_kinded, result_kinded, key_within, own_type, Gives, listed_agrees, only_given, new_in, listed_row, key_typed, guard_off}
 use Rattle.vlt_sound_results.specs.Heads.{IsHostType, IsHostPayload, IsHostKey, IsHostCase, HasHostHead, HasHosts}

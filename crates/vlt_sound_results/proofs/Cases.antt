@@ -1,28 +1,26 @@
 -- A result that is a case takes its keys' objects over, with numbers and new objects.
-use Rattle.std.proofs.Common.{◌≡◌, inl, inr, ⊎_elim, ℕ, suc, ◌<◌, IsTrue, List, [], ◌∷◌, ◌++◌, map, length, Option, Some, None, refl, sym, ap, ◌∙◌, subst, slice_get}
+use Rattle.std.proofs.Common.{◌≡◌, inl, inr, ℕ, suc, ◌<◌, List, [], ◌∷◌, ◌++◌, map, Option, Some, refl, sym, ap, ◌∙◌, subst, slice_get}
 use Rattle.std.proofs.lemmas.List.{length-map}
 use Rattle.std.proofs.lemmas.Option.{none-some, same_Some, slice_get-map}
-use Rattle.std.specs.List.{flat_map, filter_map, cons_option, zip}
+use Rattle.std.specs.List.{filter_map, cons_option, zip}
 use Rattle.std.specs.Option.{option_map, option_to_list, option_and_then}
 use Rattle.vlt_core.specs.Core.{Ty, int, bool, tracked, owning, guarded, variant, owning_variant, CaseKey, CaseDecl, Func, Program}
-use Rattle.vlt_core.specs.Lookups.{VariantOf, variant_in, KeyIn, keys_in, case_at, key_type}
+use Rattle.vlt_core.specs.Lookups.{VariantOf, variant_in, KeyIn, keys_in, case_at}
 use Rattle.vlt_core.specs.Types.{with_keys, stands_for}
 use Rattle.vlt_core.specs.Maps.{HeldMap}
 use Rattle.vlt_core.specs.KindedScopes.{Ids}
-use Rattle.vlt_meaning.specs.World.{Part, Value, one, of_case, objects_in, objects_in_part, Object, World, Frame, missing}
+use Rattle.vlt_meaning.specs.World.{Part, Value, one, of_case, Object, World, Frame, missing}
 use Rattle.vlt_meaning.specs.Found.{or_fault}
 use Rattle.vlt_meaning.specs.Step.{Step}
 use Rattle.vlt_meaning.specs.Answers.{Piece, case_with}
 use Rattle.vlt_meaning.specs.Externals.{objects_of_keys, keys_of_case, case_objects, with_states, payload_in, with_pieces, with_result}
 use Rattle.vlt_sound_worlds.specs.Look.{look}
-use Rattle.vlt_sound_worlds.proofs.Look.{live_within}
 use Rattle.vlt_sound_owners.specs.Members.{In}
 use Rattle.vlt_sound_focus.specs.Scene.{Scene}
-use Rattle.vlt_sound_focus.specs.Fits.{Names, names_of, joined, header_type, FitKeys, IsCase, Fits}
-use Rattle.vlt_sound_frames.specs.Agrees.{Handed, values_of, Context, scene, Agrees}
+use Rattle.vlt_sound_focus.specs.Fits.{Names, names_of, joined, FitKeys, IsCase, Fits}
+use Rattle.vlt_sound_frames.specs.Agrees.{Context, scene, Agrees}
 use Rattle.vlt_sound_frames.specs.Safe.{Goal, Safe}
 use Rattle.vlt_sound_frames.proofs.Safe.{found_safe}
-use Rattle.vlt_sound_operands.specs.Handed.{handed}
 use Rattle.vlt_sound_entering.proofs.Parameters.{handed_objects}
 use Rattle.vlt_sound_readings.specs.Said.{GoTogether, IsKeyState, IsPieceOf}
 use Rattle.vlt_sound_delivered.specs.Given.{IsGiven}

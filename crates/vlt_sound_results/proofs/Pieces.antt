@@ -1,9 +1,8 @@
 -- Payloads of a case: numbers, and new objects that the host made.
-use Rattle.std.proofs.Common.{◌≡◌, inl, inr, ⊎_elim, ℕ, suc, ℤ, ◌<◌, ◌≤◌, ◌+◌, Bool, true, false, if◌then◌else◌, IsTrue, List, [], ◌∷◌, ◌++◌, map, length, Option, Some, None, refl, sym, ap, ◌∙◌, subst, arith, slice_get}
+use Rattle.std.proofs.Common.{◌≡◌, ℕ, suc, ◌<◌, Bool, true, false, if◌then◌else◌, IsTrue, List, [], ◌∷◌, ◌++◌, map, length, Option, Some, None, refl, sym, ap, ◌∙◌, subst, arith, slice_get}
 use Rattle.std.proofs.lemmas.List.{length-append, append-nil, append_assoc}
 use Rattle.std.specs.List.{flat_map}
 use Rattle.vlt_core.specs.Core.{States, Ty, int, bool, tracked, owning, guarded, variant, owning_variant, Func, Program}
-use Rattle.vlt_core.specs.Lookups.{fields_of, all_states}
 use Rattle.vlt_core.specs.Types.{with_keys, stands_for, keys_of_ty}
 use Rattle.vlt_core.specs.Maps.{HeldMap}
 use Rattle.vlt_core.specs.KindedScopes.{Ids}
@@ -17,9 +16,9 @@ use Rattle.vlt_sound_worlds.specs.Look.{look}
 use Rattle.vlt_sound_worlds.proofs.Look.{makes_one}
 use Rattle.vlt_sound_owners.specs.Members.{In}
 use Rattle.vlt_sound_focus.specs.Scene.{Scene}
-use Rattle.vlt_sound_focus.specs.Fits.{Names, names_of, FitsPart, FitParts, IsOne, Fits}
+use Rattle.vlt_sound_focus.specs.Fits.{Names, names_of, FitsPart, FitParts, Fits}
 use Rattle.vlt_sound_focus.proofs.Fits.{fits_named, fits_behind}
-use Rattle.vlt_sound_frames.specs.Agrees.{Handed, values_of, FitHanded, Context, scene, Agrees}
+use Rattle.vlt_sound_frames.specs.Agrees.{Handed, FitHanded, Context, scene, Agrees}
 use Rattle.vlt_sound_frames.specs.Safe.{Goal, Safe}
 use Rattle.vlt_sound_frames.proofs.Expressions.{names_at}
 use Rattle.vlt_sound_operands.specs.Handed.{handed}

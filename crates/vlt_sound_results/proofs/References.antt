@@ -1,7 +1,6 @@
 -- A result that is a reference to a new object.
-use Rattle.std.proofs.Common.{◌≡◌, inl, inr, ⊎_elim, ℕ, suc, ◌<◌, Bool, true, false, if◌then◌else◌, IsTrue, List, [], ◌∷◌, ◌++◌, map, length, Option, Some, refl, sym, ap, ◌∙◌, subst}
-use Rattle.std.proofs.lemmas.Option.{same_Some}
-use Rattle.vlt_core.specs.Core.{States, Ty, tracked, owning, a_key, Func, Program}
+use Rattle.std.proofs.Common.{◌≡◌, inl, inr, ℕ, ◌<◌, Bool, true, false, if◌then◌else◌, IsTrue, List, [], ◌∷◌, ◌++◌, map, length, Option, Some, refl, sym, ap, ◌∙◌, subst}
+use Rattle.vlt_core.specs.Core.{States, tracked, owning, a_key, Func, Program}
 use Rattle.vlt_core.specs.Lookups.{fields_of, all_states, key_type}
 use Rattle.vlt_core.specs.Types.{with_keys, stands_for}
 use Rattle.vlt_core.specs.Maps.{absent, held, HeldMap}
@@ -10,16 +9,16 @@ use Rattle.vlt_meaning.specs.World as world
 use Rattle.vlt_meaning.specs.World.{Part, Value, one, reference, owned, loose, Object, World, Frame, heap_end, is_full}
 use Rattle.vlt_meaning.specs.Objects.{with_owner, changed}
 use Rattle.vlt_meaning.specs.Step.{Step, ends, with_made, with_objects, with_key}
-use Rattle.vlt_meaning.specs.Calls.{Binding, binding}
+use Rattle.vlt_meaning.specs.Calls.{binding}
 use Rattle.vlt_meaning.specs.Externals.{from_host, with_fresh}
 use Rattle.vlt_sound_worlds.specs.Look.{look}
 use Rattle.vlt_sound_worlds.proofs.Look.{makes_one, changes_one}
 use Rattle.vlt_sound_owners.specs.Members.{In}
 use Rattle.vlt_sound_keys.specs.Keys.{IsOfType}
-use Rattle.vlt_sound_focus.specs.Scene.{Scene, IsOf}
+use Rattle.vlt_sound_focus.specs.Scene.{IsOf}
 use Rattle.vlt_sound_focus.specs.Fits.{IsOne, Fits}
 use Rattle.vlt_sound_focus.proofs.Fits.{fits_named}
-use Rattle.vlt_sound_frames.specs.Agrees.{Handed, Context, scene, Agrees}
+use Rattle.vlt_sound_frames.specs.Agrees.{Context, scene, Agrees}
 use Rattle.vlt_sound_frames.specs.Safe.{Goal, Safe}
 use Rattle.vlt_sound_frames.proofs.Changes.{set_here, set_other}
 use Rattle.vlt_sound_frames.proofs.Owners.{ChangesTok}
@@ -28,7 +27,6 @@ use Rattle.vlt_sound_steps.specs.Scopes.{IsFresh}
 use Rattle.vlt_sound_steps.proofs.Coming.{agrees_bound, bound_heads}
 use Rattle.vlt_sound_operands.proofs.Hand.{given, agrees_given}
 use Rattle.vlt_sound_delivered.specs.Given.{IsGiven}
-use Rattle.vlt_sound_results.specs.Heads.{IsHostType}
 use Rattle.vlt_sound_results.proofs.Pieces.{changed_last, agrees_new}
 
 same_object : {n m : ℕ} → owned n ≡ owned m → n ≡ m

@@ -1,17 +1,16 @@
 -- Objects that come from the host and that values have, as the objects around them change.
-use Rattle.std.proofs.Common.{◌≡◌, inl, inr, ⊎_elim, ℕ, suc, ◌+◌, ◌<◌, ◌≤◌, Bool, true, false, List, [], ◌∷◌, ◌++◌, length, Option, Some, None, Ok, Err, refl, sym, ap, ◌∙◌, subst, arith, slice_get}
+use Rattle.std.proofs.Common.{◌≡◌, inl, inr, ⊎_elim, ℕ, ◌+◌, ◌<◌, ◌≤◌, Bool, true, false, List, [], ◌∷◌, ◌++◌, length, Option, Some, None, Ok, refl, sym, ap, ◌∙◌, subst, arith, slice_get}
 use Rattle.std.proofs.lemmas.Bool.{cases_eq}
 use Rattle.std.proofs.lemmas.List.{length-append}
 use Rattle.std.proofs.lemmas.Option.{slice_get_within, slice_get_cases, slice_get_past}
 use Rattle.vlt_meaning.specs.World.{Owner, loose, out, gone, is_out, Object, Reason, not_owned}
 use Rattle.vlt_meaning.specs.World as world
-use Rattle.vlt_meaning.specs.Found.{Found, ◌>>=◌, Named, if_so}
+use Rattle.vlt_meaning.specs.Found.{Found, Named, if_so}
 use Rattle.vlt_meaning.specs.Objects.{named_in, object_at, owned_at, with_owner, with_state, changed, changed_in, moved}
 use Rattle.vlt_meaning.specs.Externals.{with_states}
 use Rattle.vlt_sound_worlds.specs.Look.{look, ChangesOne}
-use Rattle.vlt_sound_worlds.proofs.Look.{look_is, look_past, changes_one, makes_one, live_within}
-use Rattle.vlt_sound_owners.specs.Members.{In, IsOnce}
-use Rattle.vlt_sound_owners.proofs.Members.{in_or_not}
+use Rattle.vlt_sound_worlds.proofs.Look.{look_is, changes_one, makes_one, live_within}
+use Rattle.vlt_sound_owners.specs.Members.{In}
 use Rattle.vlt_sound_frames.proofs.Leaving.{length_changed}
 use Rattle.vlt_sound_given.proofs.Given.{found_then}
 use Rattle.vlt_sound_results.specs.TakenOver.{AreTakenOver}

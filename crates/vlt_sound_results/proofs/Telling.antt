@@ -1,5 +1,5 @@
 -- The host gives the objects of a case's keys the states that the answer says.
-use Rattle.std.proofs.Common.{◌≡◌, inl, inr, ⊎_elim, ℕ, ◌<◌, IsTrue, List, [], ◌∷◌, length, Option, refl, sym, ap, ◌∙◌, subst}
+use Rattle.std.proofs.Common.{◌≡◌, inl, inr, ℕ, ◌<◌, IsTrue, List, [], ◌∷◌, length, Option, refl, sym, ap, ◌∙◌, subst}
 use Rattle.std.specs.List.{zip}
 use Rattle.vlt_core.specs.Core.{CaseKey, Func, Program}
 use Rattle.vlt_core.specs.Lookups.{all_states}
@@ -12,7 +12,7 @@ use Rattle.vlt_sound_worlds.specs.Look.{look, ChangesOne}
 use Rattle.vlt_sound_worlds.proofs.Look.{changes_one, live_within}
 use Rattle.vlt_sound_owners.specs.Members.{In, IsOnce}
 use Rattle.vlt_sound_keys.specs.Keys.{IsOfType}
-use Rattle.vlt_sound_focus.specs.Fits.{Names, header_type, FitKeys}
+use Rattle.vlt_sound_focus.specs.Fits.{Names, FitKeys}
 use Rattle.vlt_sound_frames.specs.Agrees.{Handed, Context, scene, Agrees}
 use Rattle.vlt_sound_readings.specs.Said.{GoTogether, IsKeyState}
 use Rattle.vlt_sound_outside.proofs.Telling.{agrees_told}
