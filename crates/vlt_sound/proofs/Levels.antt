@@ -4,20 +4,27 @@ use Rattle.vlt_core.specs.Core.{Func, Program}
 use Rattle.vlt_core.specs.Derives.{IsAccepted}
 use Rattle.vlt_core.specs.Kinded.{IsKinded}
 use Rattle.vlt_meaning.specs.Run.{Setup, Meaning, less}
+use Rattle.vlt_core_laws.specs.States.{HasStates}
 use Rattle.vlt_sound_calls.specs.Returned.{CalleesAreSafe}
 use Rattle.vlt_sound_blocks.specs.Statements.{RestIsSafe}
 use Rattle.vlt_sound_bodies.specs.Meet.{HasFunctions}
+use Rattle.vlt_sound_bodies.specs.Externals.{ExternalsAreSafe}
 use Rattle.vlt_sound_bodies.proofs.Bodies.{calls_are_safe}
 use Rattle.vlt_sound_returns.proofs.Returns.{returns_are_safe}
+use Rattle.vlt_sound_typed.specs.Sizes.{HasSizes}
 use Rattle.vlt_sound_typed.proofs.Facts.{has_cases, has_keys, body_kinded, end_kinded}
 use Rattle.vlt_sound_heads.proofs.Functions.{has_functions}
 use Rattle.vlt_sound_simple.proofs.Simple.{step_safe}
 use Rattle.vlt_sound_statements.specs.Parts.{HasSafeParts}
 use Rattle.vlt_sound_statements.proofs.Statements.{stmts_safe}
 use Rattle.vlt_sound_statements.proofs.Bodies.{body_safe}
-use Rattle.vlt_sound.specs.Whole.{IsProvided}
+use Rattle.vlt_sound_externs.specs.Narrow.{HasNarrowHeads}
+use Rattle.vlt_sound_externs.proofs.Heads.{has_hosts}
+use Rattle.vlt_sound_hosts.proofs.Hosts.{externals_are_safe}
+use Rattle.vlt_sound_answers.proofs.Results.{answers_safe}
 
-module _ (p : Program) (heap depth : ℕ) (kinded : IsKinded p) (accepted : IsAccepted p) (given : IsProvided p) where
+module _ (p : Program) (heap depth : ℕ) (kinded : IsKinded p) (accepted : IsAccepted p)
+    (sizes : HasSizes p) (filled : HasStates p) (narrow : HasNarrowHeads p) where
   abbrev setup : Setup
   setup = record { program = p; heap = heap; depth = depth }
 
@@ -26,21 +33,24 @@ module _ (p : Program) (heap depth : ℕ) (kinded : IsKinded p) (accepted : IsAc
     pub callees : CalleesAreSafe setup m
 
   functions : HasFunctions p
-  functions = has_functions p kinded given.sizes
+  functions = has_functions p kinded sizes
+
+  externals : ExternalsAreSafe setup
+  externals = externals_are_safe setup (answers_safe setup (has_hosts p kinded narrow))
 
   -- what a function's statements are made of is safe where callees are
   parts : (m : Meaning) → CalleesAreSafe setup m → (i : ℕ) (f : Func) → slice_get p.fns i ≡ Some f → HasSafeParts setup m f
   parts m callees i f at =
       let typed = functions.typed i f at in
       let keyed = has_keys p i f kinded at in
-      let cased = has_cases p i f kinded given.states at in
+      let cased = has_cases p i f kinded filled at in
       record {
         typed = typed;
         keyed = keyed;
         headed = functions.heads i f at;
         cased = cased;
         steps = step_safe setup f typed keyed cased;
-        calls = calls_are_safe setup m functions (given.externals heap depth) callees;
+        calls = calls_are_safe setup m functions externals callees;
         returns = returns_are_safe setup m;
       }
 

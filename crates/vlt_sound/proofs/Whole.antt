@@ -22,9 +22,9 @@ use Rattle.vlt_sound_frames.specs.Safe.{Safe}
 use Rattle.vlt_sound_calls.specs.Returned.{returns_to}
 use Rattle.vlt_sound_typed.specs.Sizes.{HasSizes}
 use Rattle.vlt_sound_entering.specs.Callee.{Among}
+use Rattle.vlt_sound_externs.specs.Narrow.{HasNarrowHeads}
 use Rattle.vlt_sound.specs.Promise.{NeverGoesWrong, LeavesOnlyItsClause}
 use Rattle.vlt_sound.specs.Main.{IsMain}
-use Rattle.vlt_sound.specs.Whole.{IsProvided, HasNoExternal}
 use Rattle.vlt_sound.proofs.Start.{main_context, main_agrees, main_entered, main_scoped}
 use Rattle.vlt_sound.proofs.Clean.{clean}
 use Rattle.vlt_sound.proofs.Levels.{level}
@@ -133,7 +133,8 @@ module _ (p : Program) (kinded : IsKinded p) where
 
 -- ---- runs
 
-module _ (p : Program) (kinded : IsKinded p) (accepted : IsAccepted p) (given : IsProvided p) (heap depth fuel : ℕ) (w : World)
+module _ (p : Program) (kinded : IsKinded p) (accepted : IsAccepted p) (sizes : HasSizes p) (filled : HasStates p)
+    (narrow : HasNarrowHeads p) (heap depth fuel : ℕ) (w : World)
     (empty : w.objects ≡ []) where
   abbrev setup : Setup
   setup = record { program = p; heap = heap; depth = depth }
@@ -142,7 +143,7 @@ module _ (p : Program) (kinded : IsKinded p) (accepted : IsAccepted p) (given : 
       Safe (returns_to p f (main_context f)) (main_run setup fuel (Some f) w)
   main_safe f at =
       let m = is_main p kinded f at in
-      (level p heap depth kinded accepted given (suc fuel)).callees.each p.main f (main_context f) (first_frame 1) w at m.body
+      (level p heap depth kinded accepted sizes filled narrow (suc fuel)).callees.each p.main f (main_context f) (first_frame 1) w at m.body
       (main_entered p f m) (main_scoped p f m)
       (subst (λ os. Agrees p f (main_context f) (start_map p f) (first_ids p f) [] (first_frame 1) os) (sym empty) (main_agrees p f m))
 
@@ -178,21 +179,11 @@ module _ (p : Program) (kinded : IsKinded p) (accepted : IsAccepted p) (given : 
       by (Some f) at e =
           clean (is_main p kinded f at) (subst (Safe (returns_to p f (main_context f))) e (main_safe f at))
 
-pub promises : (p : Program) → IsKinded p → IsAccepted p → IsProvided p → NeverGoesWrong p × LeavesOnlyItsClause p
-promises p kinded accepted provided = (
-  λ fuel heap depth zs answers. never p kinded accepted provided heap depth fuel (start fuel zs answers) refl,
-  λ fuel heap depth zs answers a ns w e. leaves_clean p kinded accepted provided heap depth fuel (start fuel zs answers) refl a ns w e,
+pub promises : (p : Program) → IsKinded p → IsAccepted p → HasSizes p → HasStates p → HasNarrowHeads p →
+    NeverGoesWrong p × LeavesOnlyItsClause p
+promises p kinded accepted sizes filled narrow = (
+  λ fuel heap depth zs answers.
+      never p kinded accepted sizes filled narrow heap depth fuel (start fuel zs answers) refl,
+  λ fuel heap depth zs answers a ns w e.
+      leaves_clean p kinded accepted sizes filled narrow heap depth fuel (start fuel zs answers) refl a ns w e,
 )
-
--- where no function is the host's, none is called
-pub without_hosts : (p : Program) → HasSizes p → HasStates p → HasNoExternal p → IsProvided p
-without_hosts p sizes states none = record {
-  sizes = sizes;
-  states = states;
-  externals = λ heap depth. record {
-    each = λ f c h ids frame w i g keys values target known external. absurd (clash (sym (none i g known) ∙ external));
-  };
-}
-  where
-    clash : false ≡ true → ⊥
-    clash e = cc

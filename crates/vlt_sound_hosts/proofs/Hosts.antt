@@ -1,11 +1,11 @@
 -- Calls of externals are safe where answers are.
-use Rattle.std.proofs.Common.{◌≡◌, ⊎_elim, inl, inr, ℕ, ◌+◌, ◌<◌, ℤ, true, List, [], ◌∷◌, ◌++◌, length, map, filter, Option, Some, refl, sym, ap, ◌∙◌, subst, slice_get}
+use Rattle.std.proofs.Common.{◌≡◌, ⊎_elim, inl, inr, ℕ, ◌+◌, ◌<◌, ℤ, true, List, [], ◌∷◌, ◌++◌, length, map, filter, Option, Some, refl, sym, ap, ◌∙◌, subst, arith, slice_get}
 use Rattle.std.specs.List.{flat_map}
-use Rattle.vlt_core.specs.Core.{Ty, a_key, a_var, Entry, Func, Program}
-use Rattle.vlt_core.specs.Types.{with_keys}
+use Rattle.vlt_core.specs.Core.{Ty, int, bool, tracked, owning, guarded, variant, owning_variant, a_key, a_var, Entry, Func, Program}
+use Rattle.vlt_core.specs.Types.{stands_for, with_keys}
 use Rattle.vlt_core.specs.Maps.{absent, HeldMap, wants_absent, CanPass, passed}
 use Rattle.vlt_core.specs.Rows.{clause_rows, target_rows}
-use Rattle.vlt_core.specs.KindedHeads.{parameters_of}
+use Rattle.vlt_core.specs.KindedHeads.{has, parameters_of, own_typings, tracked_keys}
 use Rattle.vlt_core.specs.KindedScopes.{Ids}
 use Rattle.vlt_core.specs.KindedCalls.{call_target_broken, with_call_target}
 use Rattle.vlt_meaning.specs.World as world
@@ -20,12 +20,15 @@ use Rattle.vlt_sound_worlds.proofs.Look.{live_within}
 use Rattle.vlt_sound_owners.specs.Members.{In}
 use Rattle.vlt_sound_owners.specs.Roots.{in_hand}
 use Rattle.vlt_sound_owners.proofs.Members.{in_either, in_left, in_right}
-use Rattle.vlt_sound_frames.specs.Agrees.{Handed, values_of, Context, Agrees}
+use Rattle.vlt_sound_focus.specs.Scene.{Scene}
+use Rattle.vlt_sound_focus.specs.Fits.{Names}
+use Rattle.vlt_sound_frames.specs.Agrees.{Handed, values_of, FitHanded, Context, scene, Agrees}
 use Rattle.vlt_sound_frames.specs.Typed.{IsTyped}
 use Rattle.vlt_sound_frames.specs.Safe.{Goal, Safe, goes_to}
 use Rattle.vlt_sound_frames.proofs.Safe.{found_safe}
 use Rattle.vlt_sound_frames.proofs.Leaving.{key_same, var_is_no_key}
 use Rattle.vlt_sound_scopes.specs.Scoped.{IsScoped}
+use Rattle.vlt_sound_scopes.proofs.Binding.{first_or_other}
 use Rattle.vlt_sound_operands.specs.Handed.{handed}
 use Rattle.vlt_sound_changes.specs.Moved.{ArePassing, IsMoved}
 use Rattle.vlt_sound_changes.proofs.Moved.{moved_all, moved_safe}
@@ -41,7 +44,7 @@ use Rattle.vlt_sound_bodies.specs.Externals.{ExternalsAreSafe}
 use Rattle.vlt_sound_returns.proofs.Taking.{take_other}
 use Rattle.vlt_sound_outside.specs.Sent.{AreSent}
 use Rattle.vlt_sound_outside.proofs.Sending.{agrees_sent}
-use Rattle.vlt_sound_hosts.specs.Answers.{answered, sent, AnswersAreSafe}
+use Rattle.vlt_sound_hosts.specs.Answers.{answered, sent, AreNamed, AnswersAreSafe}
 use Rattle.vlt_sound_hosts.proofs.TakenKeys.{take_here, taken_before, entry_taken, taken_once, entry_at, key_at, held_by, taken_passes}
 
 -- an answer is taken, if there is one
@@ -53,6 +56,33 @@ answer_safe G w go safe = by w.answers
     by : (all : List (List ℤ)) → Safe G (first_answer all w go)
     by [] = refl
     by (a ∷ rest) = safe a (record w { answers = rest; taken = w.taken + 1 }) refl
+
+in_has : (n : ℕ) (xs : List ℕ) → has xs n ≡ true → In n xs
+in_has n [] e = cc
+in_has n (x ∷ xs) e = ⊎_elim inl (λ rest. inr (in_has n xs rest)) (first_or_other n x xs e)
+
+-- a reference that is handed over says what its key names
+named_handed : (p : Program) (s : Scene) (names : Names) (keys : List ℕ) (tys : List Ty) (values : List Value) →
+    length values ≡ length (map (with_keys keys) tys) → FitHanded p s names (handed (map (with_keys keys) tys) values) → (k : ℕ) →
+    In k (map (λ x. x.key) (flat_map own_typings tys)) → (n : ℕ) × (names (stands_for keys k) ≡ Some n)
+named_handed p s names keys [] values long fits k i = absurd i
+named_handed p s names keys (ty ∷ tys) [] long fits k i = cc
+named_handed p s names keys (tracked j t args ∷ tys) (a ∷ values) long fits k i = ⊎_elim
+    (λ same. (fits.0.fits.object, ap (λ k. names (stands_for keys k)) same ∙ fits.0.fits.named))
+    (λ rest. named_handed p s names keys tys values (omega arith) fits.1 k rest)
+    i
+named_handed p s names keys (int ∷ tys) (a ∷ values) long fits k i =
+    named_handed p s names keys tys values (omega arith) fits.1 k i
+named_handed p s names keys (bool ∷ tys) (a ∷ values) long fits k i =
+    named_handed p s names keys tys values (omega arith) fits.1 k i
+named_handed p s names keys (owning S t args ∷ tys) (a ∷ values) long fits k i =
+    named_handed p s names keys tys values (omega arith) fits.1 k i
+named_handed p s names keys (guarded j t args ∷ tys) (a ∷ values) long fits k i =
+    named_handed p s names keys tys values (omega arith) fits.1 k i
+named_handed p s names keys (variant t args ∷ tys) (a ∷ values) long fits k i =
+    named_handed p s names keys tys values (omega arith) fits.1 k i
+named_handed p s names keys (owning_variant t args ∷ tys) (a ∷ values) long fits k i =
+    named_handed p s names keys tys values (omega arith) fits.1 k i
 
 -- both together go to the host
 module _ {p : Program} {f : Func} {c : Context} {h : HeldMap} {ids : Ids} {hand : List Handed} {frame : Frame} {os : List Object}
@@ -154,6 +184,13 @@ module _ (r : Setup) (answers : AnswersAreSafe r) (f : Func) (c : Context) (h : 
   abbrev types : List Ty
   types = map (with_keys keys) (parameters_of g)
 
+  -- the arguments say what the keys of references name
+  params_named : {os : List Object} → Agrees r.program f c h ids (handed (map (with_keys keys) (parameters_of g)) values) frame os →
+      AreNamed g keys frame
+  params_named {os} now k is =
+      named_handed r.program (scene c os now.heads) frame.keys keys (parameters_of g) values long now.handed k
+      (in_has k (tracked_keys g) is)
+
   -- what the host takes goes out
   behind : (numbers : List ℤ) (w2 : World) → w2.objects ≡ w.objects →
       Safe goal (with_moved (is_at frame.depth) out (taken_objects keys frame g.clause) w2 (λ w.
@@ -174,7 +211,7 @@ module _ (r : Setup) (answers : AnswersAreSafe r) (f : Func) (c : Context) (h : 
       these
       (moved_safe goal is_loose out (values_of (handed types values)) (with_objects w2 first.objects) _ moved2
       (answers.each f c h ids frame (with_objects (with_objects w2 first.objects) moved2.objects) i g keys numbers target known external typed
-      typed_callee head entered scoped fits new broken (agrees_out now keys g fits.callers all first moved2) pass rows)))
+      typed_callee head entered scoped fits new broken (agrees_out now keys g fits.callers all first moved2) (params_named now) pass rows)))
 
   external_safe : Safe goal (call_external r.heap r.program f target keys g values frame w)
   unfolding call_external

@@ -28,7 +28,7 @@ fits_header t (Some u) = t == u
 abbrev part_arg : Header → (key type : ℕ) → Rules
 part_arg header k t = when_some (slice_get header k) (λ h. unless (fits_header t h) rule.KEY_ARGUMENT)
 
-abbrev key_at : Program → CaseKey → Option (Option ℕ) → Rules
+abbrev pub key_at : Program → CaseKey → Option (Option ℕ) → Rules
 key_at p k (Some (Some t)) = when_some (decl_of p t) (λ d. states_broken p t k.states)
 key_at p k _ = rule.CASE_KEY ∷ []
 
@@ -109,7 +109,7 @@ module _ (p : Program) (kinded : IsKinded p) where
 
   -- ---- cases
 
-  case_row : (t c : ℕ) (d : CaseDecl) → case_at p t c ≡ Some d → case_broken p (header_of p t) d ≡ []
+  pub case_row : (t c : ℕ) (d : CaseDecl) → case_at p t c ≡ Some d → case_broken p (header_of p t) d ≡ []
   case_row t c d at = by (decl_of p t) refl at
     where
       by : (o : Option TypeDecl) → decl_of p t ≡ o → slice_get (cases_in o) c ≡ Some d →

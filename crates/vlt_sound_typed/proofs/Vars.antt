@@ -29,6 +29,7 @@ pub record HeadKinded (p : Program) (f : Func) : Type 0 where
   pub apart : unless (are_apart (map (λ e. e.key) f.clause)) rule.CLAUSE_KEY_AGAIN ≡ []
   pub entries : flat_map (entry_broken p f) f.clause ≡ []
   pub result : result_broken f ≡ []
+  pub external : (if f.external then external_broken p f else []) ≡ []
 
 pub head_kinded : (p : Program) (g : ℕ) (f : Func) → IsKinded p → slice_get p.fns g ≡ Some f → HeadKinded p f
 head_kinded p g f kinded at =
@@ -59,6 +60,7 @@ head_kinded p g f kinded at =
       apart = e4.1;
       entries = e5.1;
       result = e6.1;
+      external = e7.1;
     }
 
 -- ---- copies of what rules say inside, by their clauses
@@ -71,11 +73,11 @@ abbrev result_keys : Option Ty → List ℕ
 result_keys None = []
 result_keys (Some ty) = keys_of_ty ty
 
-abbrev is_listed : Option ℕ → ℕ → Rules
+abbrev pub is_listed : Option ℕ → ℕ → Rules
 is_listed None u = rule.WRONG_TYPE ∷ []
 is_listed (Some t) u = unless (t == u) rule.WRONG_TYPE
 
-abbrev listed_agrees : Option ℕ → List ℕ → Rules
+abbrev pub listed_agrees : Option ℕ → List ℕ → Rules
 listed_agrees None [] = []
 listed_agrees (Some t) [] = rule.WRONG_TYPE ∷ []
 listed_agrees listed (u ∷ us) = if are_all u us then is_listed listed u else rule.TWO_KEY_TYPES ∷ []
@@ -102,7 +104,7 @@ entry_of [] k i = absurd i
 entry_of (e ∷ es) k (inl same) = (0, e, refl, sym same)
 entry_of (e ∷ es) k (inr i) = let r = entry_of es k i in (suc r.0, r.1, r.2, r.3)
 
-new_in : (es : List Entry) (i : ℕ) (e : Entry) → slice_get es i ≡ Some e → is_new e ≡ true →
+pub new_in : (es : List Entry) (i : ℕ) (e : Entry) → slice_get es i ≡ Some e → is_new e ≡ true →
     In e.key (map (λ e. e.key) (filter is_new es))
 new_in [] i e at new = absurd (none-some e at)
 new_in (x ∷ es) zero e at new =
@@ -134,7 +136,7 @@ new_of (x ∷ es) k i = by (λ j. let r = new_of es k j in (suc r.0, r.1, r.2, r
     by later false old j = later j
 
 -- a key of the parameters stands in a variable's type
-in_params : (n : ℕ) (vars : List VarDecl) (k : ℕ) → In k (flat_map keys_of_ty (map (λ d. d.ty) (take n vars))) →
+pub in_params : (n : ℕ) (vars : List VarDecl) (k : ℕ) → In k (flat_map keys_of_ty (map (λ d. d.ty) (take n vars))) →
     (v : ℕ) × (d : VarDecl) × (slice_get vars v ≡ Some d) × In k (keys_of_ty d.ty)
 in_params zero vars k i = absurd i
 in_params (suc n) [] k i = absurd i
@@ -189,7 +191,7 @@ reference_given t [] e = cc
 reference_given t (u ∷ us) e =
     eqb-true u t (both_so (u == t) (are_all t us) (unless_so (are_all t (u ∷ us)) rule.TWO_KEY_TYPES e)).0
 
-only_given : (t : ℕ) (us : List ℕ) → is_only_type t us ≡ true → Gives us t
+pub only_given : (t : ℕ) (us : List ℕ) → is_only_type t us ≡ true → Gives us t
 only_given t [] e = cc
 only_given t (u ∷ us) e = eqb-true u t (both_so (u == t) (are_all t us) e).0
 
@@ -311,7 +313,7 @@ module _ (p : Program) (f : Func) (head : HeadKinded p f) where
 
   -- ---- types of keys
 
-  listed_row : (n : ℕ) (ds : List KeyDecl) (i : ℕ) (d : KeyDecl) → listed_broken p f n ds ≡ [] →
+  pub listed_row : (n : ℕ) (ds : List KeyDecl) (i : ℕ) (d : KeyDecl) → listed_broken p f n ds ≡ [] →
       slice_get ds i ≡ Some d → key_broken p f (n + i) d ≡ []
   listed_row n [] i d e at = absurd (none-some d at)
   listed_row n (x ∷ ds) zero d e at =
@@ -328,20 +330,20 @@ module _ (p : Program) (f : Func) (head : HeadKinded p f) where
       plus_one n i = omega arith
 
   -- what the list of keys says of a key
-  key_listed : (k : ℕ) (d : KeyDecl) → slice_get f.keys k ≡ Some d →
+  pub key_listed : (k : ℕ) (d : KeyDecl) → slice_get f.keys k ≡ Some d →
       listed_agrees d.key_type (given_types p f k) ≡ []
   key_listed k d at =
       let row : key_broken p f k d ≡ [] =
       subst (λ k. key_broken p f k d ≡ []) (zero_plus k) (listed_row 0 f.keys k d head.listed at) in
       (both_empty _ (listed_agrees d.key_type (given_types p f k)) row).1
 
-  key_typed : (k t : ℕ) → nat_lt k (length f.keys) ≡ true → Gives (given_types p f k) t → key_type f k ≡ Some t
+  pub key_typed : (k t : ℕ) → nat_lt k (length f.keys) ≡ true → Gives (given_types p f k) t → key_type f k ≡ Some t
   key_typed k t lt gives = ⊎_elim
       (λ at. ap key_type_in at.2 ∙ listed_is at.0.key_type (given_types p f k) t gives (key_listed k at.0 at.2))
       (λ past. let le = past.0 in let l = ltb-true k (length f.keys) lt in absurd (omega arith))
       (slice_get_cases f.keys k).1
 
-  guard_off : (k : ℕ) → nat_lt k (length f.keys) ≡ true → (is_left_out f k || not (nat_lt k (length f.keys))) ≡ false
+  pub guard_off : (k : ℕ) → nat_lt k (length f.keys) ≡ true → (is_left_out f k || not (nat_lt k (length f.keys))) ≡ false
   guard_off k lt = ap (λ b. b || not (nat_lt k (length f.keys))) (out k) ∙ ap not lt
 
   -- a reference's own key has the type of its object

@@ -1,0 +1,4 @@
+pub mod Maps
+pub mod Fitting
+pub mod News
+pub mod Results

@@ -1,0 +1,13 @@
+//! A law on answers of externals: nothing goes in and nothing comes out.
+//! Read `vlt_sound_hosts/specs/Answers.antt` and `vlt_sound_results/specs/Heads.antt` first.
+//! `vlt_sound` rests on it: calls of externals in accepted programs end in no fault.
+#![tactic(auto)]
+
+ghost use Rattle.vlt_meaning.specs.Run.{Setup};
+ghost use Rattle.vlt_sound_results.specs.Heads.{HasHosts};
+ghost use Rattle.vlt_sound_hosts.specs.Answers.{AnswersAreSafe};
+
+/// Where heads of externals are as the rules want them, what is done with an answer ends in no fault, whatever its numbers.
+pub fn answers_are_safe()
+    ensures { (r : Setup) → HasHosts r.program → AnswersAreSafe r }
+{}

@@ -1,0 +1,16 @@
+//! A law on the externals that a text declares: nothing goes in and nothing comes out.
+//! Read `vlt_sound_externs/specs/Narrow.antt` first, then `specs/Externals.antt`.
+//! `vlt_sound` rests on its premise, which programs of the language keep.
+#![tactic(auto)]
+
+ghost use Rattle.std.specs.Prelude.{List};
+ghost use Rattle.vlt_syntax.specs.Tree.{Decl};
+ghost use Rattle.vlt_core.specs.Core.{Program};
+ghost use Rattle.vlt_kinds_laws.specs.Declared.{HasDeclared, IsPassed};
+ghost use Rattle.vlt_sound_externs.specs.Narrow.{HasNarrowHeads};
+ghost use Rattle.vlt_sound_narrow.specs.Externals.{HasExternals};
+
+/// Where types and externals are those of declarations of the language, answers give states with numbers below 32 alone.
+pub fn declared_externals_are_narrow()
+    ensures { (ds : List Decl) (p : Program) → IsPassed ds → HasDeclared ds p → HasExternals ds p → HasNarrowHeads p }
+{}
