@@ -1,6 +1,6 @@
-//! The interpreter: runs accepted programs, as the definition of a run says.
-//!
-//! A machine tests nothing of keys: an accepted program never goes wrong, so each object that a step names is there.
+//! The machine of the first part: an accepted program and budgets in, lines and a stop out.
+//! Read `first_meaning/specs/Run.antt` first, then `specs/Machine.antt` and `specs/Start.antt`.
+//! It rests on `first_sound::accepted_never_goes_wrong`, so it tests nothing of keys: each object that a step names is there.
 #![tactic(auto)]
 
 mod line;

@@ -1,4 +1,6 @@
-//! The core program of a tree.
+//! Elaboration of the first part: a tree in, its core program or that it has none out.
+//! Read `first_core/specs/Elaboration.antt` first, then `specs/Files.antt` (resolved).
+//! Rests on it: the check and the machine of the first part, which take the program that comes out.
 #![tactic(auto)]
 
 ghost use Rattle.std.specs.Prelude.{◌≡◌, ◌<◌, ◌^◌, length, Err, Some, None, IfOk};

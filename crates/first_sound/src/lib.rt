@@ -1,4 +1,6 @@
-//! The law of the rules: what they accept never goes wrong.
+//! The law of the first part: nothing goes in and nothing comes out.
+//! Read `specs/Promise.antt` (IsSound) first.
+//! Rests on it: `promised` of `vaultc_core::vaultc`, and `first_interp`, whose machine tests no key.
 #![tactic(auto)]
 
 ghost use Rattle.first_sound.specs.Promise.{IsSound};

@@ -1,4 +1,6 @@
-//! The layout of a tree as text.
+//! Layouts: a tree in, its one layout as text out.
+//! Read `specs/Lists.antt` first, then `specs/Layout.antt` (layout).
+//! Rests on it: `vlt_printer_laws::layouts_are_read_again`, and what `fmt` writes.
 #![tactic(auto)]
 
 ghost use Rattle.std.specs.Prelude.{◌≡◌, IfOk};
