@@ -11,11 +11,11 @@ ghost use Rattle.vlt_sound_typed.specs.Sizes.{HasSizes};
 ghost use Rattle.vlt_sound.specs.Promise.{NeverGoesWrong, LeavesOnlyItsClause};
 ghost use Rattle.vlt_sound_externs.specs.Narrow.{HasNarrowHeads};
 
-/// No run of an accepted program ends in a fault, and one that comes to main's end leaves only what its clause or the host
-/// has: whatever the bounds, the input and the answers.
+/// No run of an accepted program ends in a fault, and one that comes to main's end leaves only what
+/// its clause or the host has: whatever the bounds, the input and the answers.
 pub fn accepted_programs_go_right()
-    ensures never { (p : Program) → IsKinded p → IsAccepted p → HasSizes p → HasStates p → HasNarrowHeads p →
-        NeverGoesWrong p }
-    ensures leaves { (p : Program) → IsKinded p → IsAccepted p → HasSizes p → HasStates p → HasNarrowHeads p →
-        LeavesOnlyItsClause p }
+    ensures never { (p : Program) → IsKinded p → IsAccepted p → HasSizes p → HasStates p →
+        HasNarrowHeads p → NeverGoesWrong p }
+    ensures leaves { (p : Program) → IsKinded p → IsAccepted p → HasSizes p → HasStates p →
+        HasNarrowHeads p → LeavesOnlyItsClause p }
 {}

@@ -70,7 +70,8 @@ module _ (p : Program) (heap : ℕ) (f : Func) (c : Context) (h : HeldMap) (ids 
     (typed : IsTyped p f) (head : HasHead p g) (entered : IsEntered p f c) (scoped : IsScoped f c ids)
     (call : IsCall p f g ids keys) (new : IsFreshCall f c g ids keys) (broken : call_target_broken f ids g keys target ≡ [])
     (agrees : Agrees p f c (sent g keys h) ids [] frame w.objects) (named : AreNamed g keys frame)
-    (pass : CanPass (clause_rows p f keys g.clause) h) (rows : CanPass (target_rows f target) (passed (clause_rows p f keys g.clause) h)) where
+    (pass : CanPass (clause_rows p f keys g.clause) h)
+    (rows : CanPass (target_rows f target) (passed (clause_rows p f keys g.clause) h)) where
   abbrev after_call : HeldMap
   after_call = passed (clause_rows p f keys g.clause) h
 
@@ -177,7 +178,8 @@ module _ (p : Program) (heap : ℕ) (f : Func) (c : Context) (h : HeldMap) (ids 
     objects_same : (r : Result) → q.answer.result ≡ r → keys_of_case p (variant_in g.result) r ≡ [] → w2.objects ≡ os1
     objects_same r is none =
         ap (λ ns. with_states (zip ns (case_states q.answer.result)) (with_states es_states q.objects)) empty ∙
-        ap (with_states es_states) (sym (same_ok fit.back q.objects (subst (λ ns. moved is_out loose ns fit.back ≡ Ok q.objects) empty fit.moves)))
+        ap (with_states es_states)
+        (sym (same_ok fit.back q.objects (subst (λ ns. moved is_out loose ns fit.back ≡ Ok q.objects) empty fit.moves)))
       where
         empty : case_objects p g keys frame q.answer.result ≡ []
         empty = ap (case_objects p g keys frame) is ∙ ap (objects_of_keys keys frame) none
@@ -196,7 +198,8 @@ module _ (p : Program) (heap : ℕ) (f : Func) (c : Context) (h : HeldMap) (ids 
           number = name.0;
           named = name.1;
           typed =
-              keys_typed typed entered scoped frame agrees_now.rest.named (scene c os1 agrees_now.heads) agrees_now.rest.waits agrees_now.fit
+              keys_typed typed entered scoped frame agrees_now.rest.named (scene c os1 agrees_now.heads) agrees_now.rest.waits
+              agrees_now.fit
               (stands_for keys k) t name.0 (call.scoped k param) (call.typed k t param type) name.1;
         }
 
@@ -231,10 +234,14 @@ module _ (p : Program) (heap : ℕ) (f : Func) (c : Context) (h : HeldMap) (ids 
     reference_given : (k t : ℕ) (args : List ℕ) → g.result ≡ Some (tracked k t args) → q.answer.result ≡ nothing → IsSafe nothing
     unfolding with_result
     reference_given k t args is r =
-        subst (λ o. Safe goal (with_fresh heap (type_in o) (new_key keys (entries_after g) q.answer.states) frame w2 (deliver f target))) (sym is)
+        subst (λ o. Safe goal (with_fresh heap (type_in o) (new_key keys (entries_after g) q.answer.states) frame w2 (deliver f target)))
+        (sym is)
         (subst (λ b. Safe goal (with_fresh heap t b frame w2 (deliver f target))) (sym n.is)
-        (reference_safe w2 (subst (Agrees p f c (now p f g keys call.entries call.callers h pass) ids [] frame) (sym (objects_same nothing r (no_keys p (variant_in g.result)))) agrees_now)
-        keys t n.entry.key args n.state (states_or_all p f (caller_key keys n.entry) n.entry.after) after_call (host.references k t args is).1
+        (reference_safe w2
+        (subst (Agrees p f c (now p f g keys call.entries call.callers h pass) ids [] frame)
+        (sym (objects_same nothing r (no_keys p (variant_in g.result)))) agrees_now)
+        keys t n.entry.key args n.state (states_or_all p f (caller_key keys n.entry) n.entry.after) after_call
+        (host.references k t args is).1
         (host.after n.entry t n.state among key_is n.after)
         (allowed n.entry.key (caller_key keys n.entry) n.entry.after t n.state key_is (new.typed n.entry t args among n.new result) n.after)
         (new.fresh n.entry among n.new) others_apart (new.typed n.entry t args among n.new result)
@@ -284,7 +291,8 @@ module _ (p : Program) (heap : ℕ) (f : Func) (c : Context) (h : HeldMap) (ids 
     number_given : (ty : Ty) (z : ℤ) → g.result ≡ Some ty → (ty ≡ int) ⊎ (ty ≡ bool) → q.answer.result ≡ piece (plain z) →
         IsSafe (piece (plain z))
     number_given ty z is basic r =
-        number_safe w2 (agrees_same (no_new (Some ty) is (none ty basic)) (piece (plain z)) r (no_piece_keys p (variant_in g.result) (plain z)))
+        number_safe w2
+        (agrees_same (no_new (Some ty) is (none ty basic)) (piece (plain z)) r (no_piece_keys p (variant_in g.result) (plain z)))
         g keys q.answer.states heap goal (deliver f target) ty z basic (gives ty is frame)
       where
         none : (ty : Ty) → (ty ≡ int) ⊎ (ty ≡ bool) → (k t : ℕ) (args : List ℕ) → Some ty ≡ Some (tracked k t args) → ⊥
@@ -301,7 +309,9 @@ module _ (p : Program) (heap : ℕ) (f : Func) (c : Context) (h : HeldMap) (ids 
         q.answer.result ≡ piece (new_in s) → IsSafe (piece (new_in s))
     new_given S t args s is allowed r =
         let type = host.owned S t args is in
-        new_safe w2 (agrees_same (no_new (Some (owning S t args)) is (λ k u others e. cc)) (piece (new_in s)) r (no_piece_keys p (variant_in g.result) (new_in s)))
+        new_safe w2
+        (agrees_same (no_new (Some (owning S t args)) is (λ k u others e. cc)) (piece (new_in s)) r
+        (no_piece_keys p (variant_in g.result) (new_in s)))
         g keys q.answer.states heap goal (deliver f target) S t args s is allowed (type.states s allowed) type.bare
         (gives (owning S t args) is frame)
 
@@ -365,7 +375,9 @@ module _ (p : Program) (heap : ℕ) (f : Func) (c : Context) (h : HeldMap) (ids 
 
 pub answers_safe : (r : Setup) → HasHosts r.program → AnswersAreSafe r
 answers_safe r hosts = record {
-  each = λ f c h ids frame w i g keys numbers target known external typed typed_callee head entered scoped call new broken agrees named pass rows.
-      answer_safe r.program r.heap f c h ids frame w g keys numbers target (hosts.heads i g known external) typed head entered scoped call new
+  each = λ f c h ids frame w i g keys numbers target known external typed typed_callee head entered scoped call new broken agrees
+      named pass rows.
+      answer_safe r.program r.heap f c h ids frame w g keys numbers target (hosts.heads i g known external) typed head entered scoped
+      call new
       broken agrees named pass rows;
 }

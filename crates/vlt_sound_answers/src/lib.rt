@@ -7,7 +7,8 @@ ghost use Rattle.vlt_meaning.specs.Run.{Setup};
 ghost use Rattle.vlt_sound_results.specs.Heads.{HasHosts};
 ghost use Rattle.vlt_sound_hosts.specs.Answers.{AnswersAreSafe};
 
-/// Where heads of externals are as the rules want them, what is done with an answer ends in no fault, whatever its numbers.
+/// Where heads of externals are as the rules want them, what is done with an answer ends in no
+/// fault, whatever its numbers.
 pub fn answers_are_safe()
     ensures { (r : Setup) → HasHosts r.program → AnswersAreSafe r }
 {}

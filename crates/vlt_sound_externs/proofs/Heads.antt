@@ -104,7 +104,8 @@ module _ (p : Program) (n : ℕ) (f : Func) (kinded : IsKinded p) (narrow : IsNa
       let q = among_at f.clause e i in
       or_so (is_new e) (has (tracked_keys f) e.key)
       (unless_so (is_new e || has (tracked_keys f) e.key) rule.EXTERN_HEAD
-      (flat_at (λ e. unless (is_new e || has (tracked_keys f) e.key) rule.EXTERN_HEAD) f.clause q.0 e (both_empty param_rows entry_rows two.0).1 q.1))
+      (flat_at (λ e. unless (is_new e || has (tracked_keys f) e.key) rule.EXTERN_HEAD) f.clause q.0 e
+      (both_empty param_rows entry_rows two.0).1 q.1))
       old
 
   known_var : (k : ℕ) → has (tracked_keys f) k ≡ true →
@@ -154,7 +155,8 @@ module _ (p : Program) (n : ℕ) (f : Func) (kinded : IsKinded p) (narrow : IsNa
   entry_states i e t states is type after =
       let q = listed_type e.key t type in
       by (given_types p f e.key)
-      (subst (λ o. listed_agrees o (given_types p f e.key) ≡ []) q.1 (both_empty _ (listed_agrees q.0.key_type (given_types p f e.key)) q.2).1)
+      (subst (λ o. listed_agrees o (given_types p f e.key) ≡ []) q.1
+      (both_empty _ (listed_agrees q.0.key_type (given_types p f e.key)) q.2).1)
       (entry_known i e is).1
     where
       there : (d : TypeDecl) × (decl_of p t ≡ Some d)
@@ -163,7 +165,8 @@ module _ (p : Program) (n : ℕ) (f : Func) (kinded : IsKinded p) (narrow : IsNa
       of_type : when_some (decl_of p t) (λ d. when_some e.before (states_broken p t) ++ when_some e.after (states_broken p t)) ≡ [] →
           states_broken p t states ≡ []
       of_type e' =
-          let r = subst (λ o. when_some o (λ d. when_some e.before (states_broken p t) ++ when_some e.after (states_broken p t)) ≡ []) there.1 e' in
+          let r = subst (λ o. when_some o (λ d. when_some e.before (states_broken p t) ++ when_some e.after (states_broken p t)) ≡ [])
+          there.1 e' in
           subst (λ o. when_some o (states_broken p t) ≡ []) after
           (both_empty (when_some e.before (states_broken p t)) (when_some e.after (states_broken p t)) r).1
 
@@ -172,11 +175,14 @@ module _ (p : Program) (n : ℕ) (f : Func) (kinded : IsKinded p) (narrow : IsNa
       by (u ∷ us) l r = case (are_all u us) l r
         where
           case : (b : Bool) → (if b then unless (t == u) rule.WRONG_TYPE else rule.TWO_KEY_TYPES ∷ []) ≡ [] →
-              (if b then when_some (decl_of p u) (λ d. when_some e.before (states_broken p u) ++ when_some e.after (states_broken p u)) else []) ≡ [] →
+              (if b then when_some (decl_of p u) (λ d. when_some e.before (states_broken p u) ++ when_some e.after (states_broken p u))
+              else []) ≡ [] →
               states_broken p t states ≡ []
           case true l r =
               let same : t ≡ u = eqb-true t u (unless_so (t == u) rule.WRONG_TYPE l) in
-              of_type (subst (λ u. when_some (decl_of p u) (λ d. when_some e.before (states_broken p u) ++ when_some e.after (states_broken p u)) ≡ []) (sym same) r)
+              of_type
+              (subst (λ u. when_some (decl_of p u) (λ d. when_some e.before (states_broken p u) ++ when_some e.after (states_broken p u)) ≡ [])
+              (sym same) r)
           case false l r = absurd (none_broken _ _ l)
 
   after : (e : Entry) (t s : ℕ) → Among e f.clause → key_type f e.key ≡ Some t → IsTrue (after_set p f e s) →
@@ -259,7 +265,8 @@ module _ (p : Program) (n : ℕ) (f : Func) (kinded : IsKinded p) (narrow : IsNa
           by bool there k ext = tt
           by (owning states u others) there k ext =
               let none = neither (is_struct (decl_of p u)) (is_variant (decl_of p u)) ext in
-              host_type p kinded u states others (narrow.payloads t c i args d states u others variant_is declared there) none.0 none.1 (k.shape u refl)
+              host_type p kinded u states others (narrow.payloads t c i args d states u others variant_is declared there) none.0
+              none.1 (k.shape u refl)
           by (tracked j u others) there k ext = cc
           by (guarded j u others) there k ext = cc
           by (variant u others) there k ext = cc
@@ -270,7 +277,8 @@ module _ (p : Program) (n : ℕ) (f : Func) (kinded : IsKinded p) (narrow : IsNa
           let l = listed_key p kinded t c i d k declared there in
           let a = argument_there p t args k.position l.of count l.header in
           let row =
-          flat_at (λ q. when_some (slice_get args q.position) (λ k. unless (has (tracked_keys f) k) rule.EXTERN_HEAD)) d.keys i k both.1 there in
+          flat_at (λ q. when_some (slice_get args q.position) (λ k. unless (has (tracked_keys f) k) rule.EXTERN_HEAD)) d.keys i k
+          both.1 there in
           let ref : has (tracked_keys f) a.0 ≡ true =
           unless_so (has (tracked_keys f) a.0) rule.EXTERN_HEAD
           (subst (λ o. when_some o (λ k. unless (has (tracked_keys f) k) rule.EXTERN_HEAD) ≡ []) a.1 row) in
@@ -291,7 +299,8 @@ module _ (p : Program) (n : ℕ) (f : Func) (kinded : IsKinded p) (narrow : IsNa
               (result_kinded p f head ty is).args t i k u of (subst (λ xs. slice_get xs i ≡ Some k) (sym same) there) header in
               key_typed p f head k u lt (only_given u (given_types p f k)
               (unless_so (is_only_type u (given_types p f k)) rule.KEY_ARGUMENT
-              (subst (λ b. (if b then [] else unless (is_only_type u (given_types p f k)) rule.KEY_ARGUMENT) ≡ []) (guard_off p f head k lt) here)))
+              (subst (λ b. (if b then [] else unless (is_only_type u (given_types p f k)) rule.KEY_ARGUMENT) ≡ [])
+              (guard_off p f head k lt) here)))
 
   -- the result is of the variant
   abbrev Of : VariantOf → Type 0

@@ -1,6 +1,6 @@
-//! Laws on the heads of externals in programs that break no rule: nothing goes in and nothing comes out.
+//! A law on heads of externals: nothing goes in and nothing comes out.
 //! Read `vlt_sound_results/specs/Heads.antt` first, then `specs/Narrow.antt`.
-//! `vlt_sound` rests on them: what calls of externals want to know of a program without a run follows.
+//! `vlt_sound` rests on it: what answers want to know of a program without a run follows.
 #![tactic(auto)]
 
 ghost use Rattle.vlt_core.specs.Core.{Program};

@@ -106,7 +106,8 @@ module _ (ds : List Decl) (p : Program) (passed : IsPassed ds) (has : HasDeclare
     where
       by : (b : Bool) →
           owning_states_in (Some (if b then core.owning_variant (type_number file n.name) (key_numbers number n.keys)
-          else core.owning (states_listed (state_names file (shape_named file n.name)) ss) (type_number file n.name) (key_numbers number n.keys))) ≡ Some states →
+          else core.owning (states_listed (state_names file (shape_named file n.name)) ss) (type_number file n.name)
+          (key_numbers number n.keys))) ≡ Some states →
           IsNarrow states
       by true e = absurd (none-some states e)
       by false e =

@@ -10,7 +10,9 @@ ghost use Rattle.vlt_kinds_laws.specs.Declared.{HasDeclared, IsPassed};
 ghost use Rattle.vlt_sound_externs.specs.Narrow.{HasNarrowHeads};
 ghost use Rattle.vlt_sound_narrow.specs.Externals.{HasExternals};
 
-/// Where types and externals are those of declarations of the language, answers give states with numbers below 32 alone.
+/// Where types and externals are those of declarations of the language, answers give states below
+/// 32 alone.
 pub fn declared_externals_are_narrow()
-    ensures { (ds : List Decl) (p : Program) → IsPassed ds → HasDeclared ds p → HasExternals ds p → HasNarrowHeads p }
+    ensures { (ds : List Decl) (p : Program) → IsPassed ds → HasDeclared ds p → HasExternals ds p →
+        HasNarrowHeads p }
 {}

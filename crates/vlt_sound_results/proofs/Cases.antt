@@ -151,7 +151,9 @@ module _ {p : Program} {f : Func} {c : Context} {h : HeldMap} {ids : Ids} {frame
       now = with_states (zip ns ss) os
 
       told : Told p f c h ids [] frame (case_names p g keys frame os named t args) t os now d.keys ns
-      told = all_told p f c h ids [] frame (case_names p g keys frame os named t args) t d.keys ns ss os agrees over.was over.once keyed states_said
+      told =
+          all_told p f c h ids [] frame (case_names p g keys frame os named t args) t d.keys ns ss os agrees over.was
+          over.once keyed states_said
 
       over_now : AreTakenOver ns now (with_states (zip ns ss) real)
       over_now = over_all ns (zip ns ss) os real over
@@ -174,6 +176,7 @@ module _ {p : Program} {f : Func} {c : Context} {h : HeldMap} {ids : Ids} {frame
             is = refl;
             declared = declared;
             fit = parts_fit p (scene c b.objects b.agrees.heads) frame.keys inner d.payload parts payloads b.long b.agrees.handed;
-            held = fit_stays p (scene c now told.agrees.heads) (scene c b.objects b.agrees.heads) (case_names p g keys frame os named t args) t d.keys ns
+            held = fit_stays p (scene c now told.agrees.heads) (scene c b.objects b.agrees.heads)
+                (case_names p g keys frame os named t args) t d.keys ns
                 (λ m i. b.same m (over_within over_now m i)) (told.fit told.agrees.heads);
           }))

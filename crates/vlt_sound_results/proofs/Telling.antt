@@ -26,7 +26,8 @@ abbrev AreForKeys : Program → Names → (type : ℕ) → List Object → List 
 AreForKeys p names t os ks ns = GoTogether (IsForKey p names os t) ks ns
 
 -- what is known of other objects stays
-for_keys_stay : (p : Program) (names : Names) (t : ℕ) (os now : List Object) (ks : List CaseKey) (ns : List ℕ) → ((m : ℕ) → In m ns → look now m ≡ look os m) →
+for_keys_stay : (p : Program) (names : Names) (t : ℕ) (os now : List Object) (ks : List CaseKey) (ns : List ℕ) →
+    ((m : ℕ) → In m ns → look now m ≡ look os m) →
     AreForKeys p names t os ks ns → AreForKeys p names t now ks ns
 for_keys_stay p names t os now [] [] same all = tt
 for_keys_stay p names t os now [] (n ∷ ns) same all = absurd all
