@@ -67,10 +67,10 @@ known_numbers : (scope : Scope) (ks : List Name) (args : List ℕ) → known_key
 known_numbers scope [] args e = same_Some [] args e
 known_numbers scope (k ∷ ks) args e = by (key_named scope k.text) (known_keys scope ks) (known_numbers scope ks) e
   where
-    by : (o : Option ℕ) (q : Option (List ℕ)) → ((as : List ℕ) → q ≡ Some as → key_numbers (key_number scope) ks ≡ as) → with_known o q ≡ Some args → number_of o ∷ key_numbers (key_number scope) ks ≡ args
+    by : (o : Option ℕ) (q : Option (List ℕ)) → ((js : List ℕ) → q ≡ Some js → key_numbers (key_number scope) ks ≡ js) → with_known o q ≡ Some args → number_of o ∷ key_numbers (key_number scope) ks ≡ args
     by None q go e = absurd (none-some args e)
     by (Some j) None go e = absurd (none-some args e)
-    by (Some j) (Some as) go e = ap (λ rest. j ∷ rest) (go as refl) ∙ same_Some (j ∷ as) args e
+    by (Some j) (Some js) go e = ap (λ rest. j ∷ rest) (go js refl) ∙ same_Some (j ∷ js) args e
 
 args_are : (kinds : Kinds) (scope : Scope) (x : Named) (args : List ℕ) → known_args kinds scope x ≡ Some args → key_numbers (key_number scope) x.keys ≡ args
 unfolding known_args

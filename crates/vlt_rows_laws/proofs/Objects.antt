@@ -14,7 +14,7 @@ use Rattle.vlt_core.specs.Types.{decl_of, is_struct, is_variant, lies_within, sa
 use Rattle.vlt_core.specs.KindedHeads.{unless, when_some, has, states_broken}
 use Rattle.vlt_core.specs.KindedScopes.{Ids, Around, with_target, tracked_key, own_key, use_broken, target_broken}
 use Rattle.vlt_core.specs.KindedOperands.{pack_broken, operand_broken}
-use Rattle.vlt_core.specs.KindedStatements.{wanted_of}
+use Rattle.vlt_core.specs.KindedStatements.{wanted_of, simple_broken}
 use Rattle.vlt_core.specs.declared.rules.TheConstants as rule
 use Rattle.vlt_kinds_names.specs.declared.found.Refusal.{Refusal}
 use Rattle.vlt_kinds_names.specs.Refusals.{refusal, refuse_if}
@@ -176,13 +176,17 @@ module _ (kinds : Kinds) (p : Program) (f : Func) (scope : Scope) (ids : Ids) (s
           let guarded : guards (Some nr.decl.ty) (core.guarded l u b) ≡ true =
           not-false _ (not_broken _ rule.WRONG_TYPE at (sym (ap (λ o. recipient_unfit o (core.guarded l u b) at) nr.typed) ∙ fits)) in
           record {
-            row = rw (ap number_of nr.named)
+            row = subst (λ i. simple_broken p f object_ids (core.adopt v h i) ≡ []) (sym (ap number_of nr.named))
                 (adopted kinds p f later object_ids object_in_step.agrees fields described.sets around rn rn v object_type nr.decl.ty (core.guarded l u b) typed free h nr.number hidden_typed nr.type hidden_used nr.used
                 (and_from _ _ guarded same) drops);
             rows = refl;
             behind = refl;
             ends = refl;
           }
+
+    -- names and numbers are in step behind the first form
+    pub object_step : (t : Target) (r : Option Name) (at : ℕ) → new_refused kinds later t r n inits at ≡ [] → InStep kinds p f later object_ids
+    object_step t r at none = object_in_step t r (object_of t r at none)
 
     -- two forms, that break nothing
     pub record TwoRows (v : ℕ) (forms : List Form) : Type 0 where
@@ -191,7 +195,7 @@ module _ (kinds : Kinds) (p : Program) (f : Func) (scope : Scope) (ids : Ids) (s
       pub same : forms ≡ first ∷ second ∷ []
       pub one : IsRow p f around ids first object_ids false
       pub two : IsRow p f around object_ids second (with_target f v object_ids) false
-      pub step : InStep kinds p f later object_ids
+      pub onward : InStep kinds p f later object_ids
 
     pub object_rows : (r : Option Name) (ty : Ty) (binds : Bool) (v : ℕ) (at : Span) → hides (s.make r n inits at) (Some ty) ≡ true → IsWell p ty → var_type f v ≡ Some ty → target_broken f object_ids v ≡ []
         → new_refused kinds later (record { ty = ty; binds = binds }) r n inits at.from ≡ [] → TwoRows v (new_forms kinds later (record { ty = ty; binds = binds }) v h r n inits)
@@ -211,7 +215,7 @@ module _ (kinds : Kinds) (p : Program) (f : Func) (scope : Scope) (ids : Ids) (s
           same = refl;
           one = made_row t None x;
           two = owned_row t None x st u b v well typed free x.fit.fits;
-          step = object_in_step t None x;
+          onward = object_in_step t None x;
         }
     object_rows (Some r) (core.guarded l u b) binds v at hidden well typed free none =
         let t : Target = record { ty = core.guarded l u b; binds = binds } in
@@ -225,7 +229,7 @@ module _ (kinds : Kinds) (p : Program) (f : Func) (scope : Scope) (ids : Ids) (s
           two = adopted_row t (Some r) x l u b v r at.from typed free x.fit.fits
               (not-false _ (not_broken _ rule.WRONG_RELEASE n.name.at.from (no_left (refuse_if (not (may_drop_struct kinds x.fit.type)) rule.WRONG_RELEASE n.name.at.from) _ x.start)))
               (no_left (unknown_name (var_named later r.text) r) _ told) (no_right (unknown_name (var_named later r.text) r) _ told);
-          step = object_in_step t (Some r) x;
+          onward = object_in_step t (Some r) x;
         }
     object_rows (Some r) core.int binds v at hidden well typed free none = absurd (true≢false (sym (object_of (record { ty = core.int; binds = binds }) (Some r) at.from none).fit.fits))
     object_rows (Some r) core.bool binds v at hidden well typed free none = absurd (true≢false (sym (object_of (record { ty = core.bool; binds = binds }) (Some r) at.from none).fit.fits))

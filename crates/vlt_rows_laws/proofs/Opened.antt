@@ -32,14 +32,13 @@ use Rattle.vlt_resolve_laws.proofs.Steps.{var_law}
 use Rattle.vlt_rights_laws.specs.Parts.{FitsPart, HasParts}
 use Rattle.vlt_rights_laws.proofs.Shapes.{keys_self, states_same}
 use Rattle.vlt_rights_laws.proofs.Typed.{FitArgs, typed_under, fit_object, typed_name_right}
-use Rattle.vlt_rights_laws.proofs.Callees.{reads_now}
 use Rattle.vlt_rows_laws.specs.Rows.{IsRow}
 use Rattle.vlt_rows_laws.proofs.Growing.{vars_grow, at_part}
-use Rattle.vlt_rows_laws.proofs.Places.{bound_var, var_right, no_var_ever}
+use Rattle.vlt_rows_laws.proofs.Places.{bound_var, var_right, no_var_ever, reads_of}
 
 -- ---- a type is the same as itself
 
-object_itself : (t : ℕ) (a : List ℕ) → same_object t a t a ≡ true
+pub object_itself : (t : ℕ) (a : List ℕ) → same_object t a t a ≡ true
 object_itself t a = and_from _ _ (eq-eqb t t refl) (keys_self a)
 
 pub type_itself : (w : Ty) → same_ty w w ≡ true
@@ -124,7 +123,7 @@ module _ (kinds : Kinds) (p : Program) (f : Func) (scope : Scope) (ids : Ids) (s
     pub after : Ids
     pub same : y.0 ≡ form ∷ []
     pub right : IsRow p f around ids form after false
-    pub step : InStep kinds p f y.1 after
+    pub onward : InStep kinds p f y.1 after
 
   opened : (x : Name) (vs : List Name) (k t : ℕ) (args : List ℕ) → var_ty scope x.text ≡ Some (core.tracked k t args) → is_struct (slice_get kinds.types t) ≡ true
       → length (owning_types args (ex.fields_of kinds t)) ≡ length vs → new_vars_refused kinds scope vs (owning_types args (ex.fields_of kinds t)) ≡ []
@@ -138,7 +137,7 @@ module _ (kinds : Kinds) (p : Program) (f : Func) (scope : Scope) (ids : Ids) (s
       let held : var_type f m.number ≡ Some (core.tracked k t args) = m.type ∙ ap Some same in
       let object : Object = record { guarded = false; type = t; args = args } in
       let fit = fit_object p scope.keys (has ids.keys) (core.tracked k t args) object refl
-      (subst (IsTyped p scope.keys (has ids.keys)) same (typed_name_right kinds p f scope ids (reads_now kinds p f scope ids step) fields parts x.text m)) in
+      (subst (IsTyped p scope.keys (has ids.keys)) same (typed_name_right kinds p f scope ids (reads_of kinds p f scope ids step) fields parts x.text m)) in
       let same_fields : fields_of p t ≡ ex.fields_of kinds t = ap (λ ts. fields_in (slice_get ts t)) step.agrees.types in
       let typed : Each (IsTyped p scope.keys (has ids.keys)) ws =
       fields_typed t args fit (ex.fields_of kinds t) (subst (Each (λ d. FitsPart p (header_of p t) d.ty)) same_fields (each_from _ (fields_of p t) (λ i d at. parts.fields t i d at))) in
@@ -159,7 +158,7 @@ module _ (kinds : Kinds) (p : Program) (f : Func) (scope : Scope) (ids : Ids) (s
           behind = refl;
           ends = refl;
         };
-        step = each.1;
+        onward = each.1;
       })
     where
       of_type : List ℕ → ℕ × List ℕ → Rules

@@ -15,13 +15,14 @@ use Rattle.vlt_kinds.specs.Kinds.{Kinds}
 use Rattle.vlt_kinds_laws.proofs.Empty.{none_of_both, holds}
 use Rattle.vlt_resolve_exprs.specs.Scopes.{Scope}
 use Rattle.vlt_resolve_laws.specs.Steps.{is_old, InStep, ids_with_key, tok_if, ids_with_var}
+use Rattle.vlt_rights_laws.specs.Calls.{Reads}
 use Rattle.vlt_rights_laws.proofs.Callees.{reads_now}
 
 never : (ns : List ℕ) (n : ℕ) → (has ns n ≡ true → ⊥) → has ns n ≡ false
-never ns n no = by (has ns n) refl
+never ns n out = by (has ns n) refl
   where
     by : (b : Bool) → has ns n ≡ b → b ≡ false
-    by true is = absurd (no is)
+    by true is = absurd (out is)
     by false is = refl
 
 module _ (f : Func) (ids : Ids) (v : ℕ) (ty : Ty) (typed : var_type f v ≡ Some ty) where
@@ -115,6 +116,10 @@ module _ (kinds : Kinds) (p : Program) (f : Func) (scope : Scope) (ids : Ids) (s
 
   pub not_new : has (new_keys f) (length scope.keys) ≡ false
   not_new = never (new_keys f) (length scope.keys) (λ e. omega (arith, step.new_below (length scope.keys) e))
+
+  -- what right sides read here
+  abbrev pub reads_of : Reads kinds p f scope ids
+  reads_of = record { agrees = step.agrees; typed = step.typed; below = (reads_now kinds p f scope ids step).below }
 
   pub key_below : (k : ℕ) → has ids.keys k ≡ true → nat_lt k (length f.keys) ≡ true
   key_below = (reads_now kinds p f scope ids step).below

@@ -121,7 +121,7 @@ module _ (kinds : Kinds) (p : Program) (f : Func) (scope : Scope) (ids : Ids) (s
     pub form : Form
     pub same : y.0 ≡ form ∷ []
     pub right : IsRow p f a ids form ids true
-    pub step : InStep kinds p f y.1 ids
+    pub onward : InStep kinds p f y.1 ids
 
   -- a hidden variable, and then one that ends
   pub record EndRows (y : Became) : Type 0 where
@@ -131,7 +131,7 @@ module _ (kinds : Kinds) (p : Program) (f : Func) (scope : Scope) (ids : Ids) (s
     pub same : y.0 ≡ first ∷ second ∷ []
     pub one : IsRow p f a ids first after false
     pub two : IsRow p f a after second after true
-    pub step : InStep kinds p f y.1 after
+    pub onward : InStep kinds p f y.1 after
 
   abbrev pub Returns : Became → Type 0
   Returns y = EndRow y ⊎ EndRows y
@@ -200,12 +200,12 @@ module _ (kinds : Kinds) (p : Program) (f : Func) (scope : Scope) (ids : Ids) (s
   unfolding fresh_refused fresh_misfit core_operand
   fresh_value bounds w e at right is fresh none =
       let x = kinded kinds p f scope ids step.agrees fields 0 e right.0 (no_left _ _ none) in
-      let fits = picked (same_but_key w x.type) (sym (ap (λ t. fresh_misfit around.clause w t (expr_place e) at) x.known) ∙ no_right (expr_refused kinds scope e) _ none) in
+      let fits = picked (refusal rule.WRONG_TYPE (expr_place e)) (refuse_if (gives_back x.type around.clause) rule.RETURNED_KEY at) (same_but_key w x.type) (sym (ap (λ t. fresh_misfit around.clause w t (expr_place e) at) x.known) ∙ no_right (expr_refused kinds scope e) _ none) in
       rw x.known (fresh_typed w x.type e x refl is fresh fits.0 (not_broken _ rule.RETURNED_KEY at fits.1))
     where
-      picked : {r : Refusal} {rest : List Refusal} → (b : Bool) → (if b then rest else r ∷ []) ≡ [] → (b ≡ true) × (rest ≡ [])
-      picked true e = (refl, e)
-      picked {r = r} false e = absurd (cons_not_nil r [] e)
+      picked : (r : Refusal) (rest : List Refusal) (b : Bool) → (if b then rest else r ∷ []) ≡ [] → (b ≡ true) × (rest ≡ [])
+      picked r rest true e = (refl, e)
+      picked r rest false e = absurd (cons_not_nil r [] e)
 
   value_right : (bounds : Bounds) (w : Ty) (e : s.Expr) (at : ℕ) → IsExpr bounds e → around.result ≡ Some w → value_refused kinds scope around.clause w e at ≡ [] → returned_broken p f ids w (core_operand kinds scope w e) ≡ []
   unfolding value_refused
@@ -268,7 +268,7 @@ module _ (kinds : Kinds) (p : Program) (f : Func) (scope : Scope) (ids : Ids) (s
         one = subst (λ x. IsRow p f a ids (core_build kinds later w h b) x false) (bound_target f ids h w held (no_var kinds p f scope ids step))
             (build_is_row kinds p f later ids a w h b (build_kinded kinds p f later ids agrees fields parts a bounds b right w h held free none));
         two = value_row after w (hidden_operand w h) is out (plain_returned p f after w (hidden_operand w h) bare (hidden_right after w h held used));
-        step = next;
+        onward = next;
       }
     where
       untracked : (x : Bool) → is_tracked_type w ≡ x → build_refused kinds (more_var scope [] w) w b ≡ [] → x ≡ false
@@ -290,7 +290,7 @@ module _ (kinds : Kinds) (p : Program) (f : Func) (scope : Scope) (ids : Ids) (s
         form = core.return None;
         same = refl;
         right = return_row ids None (not_broken around.in_focus rule.WRONG_JUMP at (no_left _ _ none)) (nothing_right f.result (ap is_some (sym results) ∙ not_broken _ rule.WRONG_RETURN at (no_left _ _ rest)));
-        step = step;
+        onward = step;
       })
   return_rows bounds (s.value e) at right none more part =
       let rest = no_right (refuse_if around.in_focus rule.WRONG_JUMP at) _ none in
@@ -302,7 +302,7 @@ module _ (kinds : Kinds) (p : Program) (f : Func) (scope : Scope) (ids : Ids) (s
         form = core.return (Some (core_operand kinds scope w e));
         same = refl;
         right = value_row ids w (core_operand kinds scope w e) is (not_broken around.in_focus rule.WRONG_JUMP at (no_left _ _ none)) (value_right bounds w e at right is inner);
-        step = step;
+        onward = step;
       })
   return_rows bounds (s.build b) at right none more part =
       let rest = no_right (refuse_if around.in_focus rule.WRONG_JUMP at) _ none in

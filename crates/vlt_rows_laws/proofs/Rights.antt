@@ -127,6 +127,15 @@ reference n inits at type args binds (core.guarded k u b) shown fits = absurd (t
 reference n inits at type args binds (core.variant u b) shown fits = absurd (true≢false (sym fits))
 reference n inits at type args binds (core.owning_variant u b) shown fits = absurd (true≢false (sym fits))
 
+-- an object that is adopted at once is for no reference
+pub no_adopted : (kinds : Kinds) (scope : Scope) (k u : ℕ) (b : List ℕ) (binds : Bool) (r : Name) (n : Named) (inits : List Init) (at : ℕ)
+    → new_refused kinds scope (record { ty = core.tracked k u b; binds = binds }) (Some r) n inits at ≡ [] → ⊥
+unfolding new_refused target_fits
+no_adopted kinds scope k u b binds r n inits at none =
+    let t : Target = record { ty = core.tracked k u b; binds = binds } in
+    let behind = no_right (adopter_refused scope t (Some r) at) _ none in
+    true≢false (sym (new_fits kinds scope true t n at (no_left _ _ behind) (no_left _ _ (no_right (target_refused true t (type_named kinds.file n.name) (known_args kinds scope n) at) _ behind))).fits)
+
 module _ (kinds : Kinds) (p : Program) (f : Func) (scope : Scope) (ids : Ids) (reads : Reads kinds p f scope ids) (fields : HasFields p) (parts : HasParts p) (callees : HasCallees kinds p)
     (sets : p.sets ≡ kinds.file.sets) (around : Around) (t : Target) (v : ℕ) (place : IsPlace p f ids t v) where
   -- one form that breaks nothing
