@@ -35,7 +35,7 @@ use Rattle.vlt_rights_laws.specs.Calls.{Reads, HasCallees}
 use Rattle.vlt_rights_laws.proofs.Rights.{build_kinded, input_kinded, adopt_kinded}
 use Rattle.vlt_rights_laws.proofs.Called.{call_kinded, call_behind, call_plain}
 use Rattle.vlt_rights_laws.proofs.News.{args_known, new_kinded}
-use Rattle.vlt_rows_laws.specs.Rows.{IsRow, IsPlace, behind_target}
+use Rattle.vlt_rows_laws.specs.Rows.{IsRow, OneRow, IsPlace, behind_target}
 
 -- ---- targets that are bound with their keys are references
 
@@ -139,10 +139,8 @@ no_adopted kinds scope k u b binds r n inits at none =
 module _ (kinds : Kinds) (p : Program) (f : Func) (scope : Scope) (ids : Ids) (reads : Reads kinds p f scope ids) (fields : HasFields p) (parts : HasParts p) (callees : HasCallees kinds p)
     (sets : p.sets ≡ kinds.file.sets) (around : Around) (t : Target) (v : ℕ) (place : IsPlace p f ids t v) where
   -- one form that breaks nothing
-  pub record OneRow (forms : List Form) : Type 0 where
-    pub form : Form
-    pub same : forms ≡ form ∷ []
-    pub right : IsRow p f around ids form (behind_target f t.binds v ids) false
+  abbrev pub Row : List Form → Type 0
+  Row forms = OneRow p f around ids (behind_target f t.binds v ids) forms
 
   bare_free : t.binds ≡ false → binds_right f ids false v
   bare_free e = subst (λ b. binds_right f ids b v) e place.target.free
@@ -156,7 +154,7 @@ module _ (kinds : Kinds) (p : Program) (f : Func) (scope : Scope) (ids : Ids) (r
       by false true = refl
       by false false = refl
 
-  value_row : (bounds : Bounds) (e : s.Expr) → IsExpr bounds e → value_refused kinds scope t e ≡ [] → OneRow (core_value kinds scope t v e ∷ [])
+  value_row : (bounds : Bounds) (e : s.Expr) → IsExpr bounds e → value_refused kinds scope t e ≡ [] → Row (core_value kinds scope t v e ∷ [])
   unfolding core_value
   value_row bounds e right none = record {
     form = core_value kinds scope t v e;
@@ -170,7 +168,7 @@ module _ (kinds : Kinds) (p : Program) (f : Func) (scope : Scope) (ids : Ids) (r
   }
 
   -- a form for a target that has its key already
-  plain_row : (form : Form) → t.binds ≡ false → IsRow p f around ids form (behind_target f false v ids) false → OneRow (form ∷ [])
+  plain_row : (form : Form) → t.binds ≡ false → IsRow p f around ids form (behind_target f false v ids) false → Row (form ∷ [])
   plain_row form bare h = record {
     form = form;
     same = refl;
@@ -185,12 +183,12 @@ module _ (kinds : Kinds) (p : Program) (f : Func) (scope : Scope) (ids : Ids) (r
       by true is = bound (place.tracked is)
       by false is = plain is
 
-  build_row : (bounds : Bounds) (b : Build) → Each (IsExpr bounds) b.payload → build_refused kinds scope t.ty b ≡ [] → OneRow (core_build kinds scope t.ty v b ∷ [])
+  build_row : (bounds : Bounds) (b : Build) → Each (IsExpr bounds) b.payload → build_refused kinds scope t.ty b ≡ [] → Row (core_build kinds scope t.ty v b ∷ [])
   build_row bounds b right none = by_binds _
       (λ bare. plain_row (core_build kinds scope t.ty v b) bare (build_is_row kinds p f scope ids around t.ty v b (build_kinded kinds p f scope ids reads.agrees fields parts around bounds b right t.ty v place.target.typed (bare_free bare) none)))
       (λ is. absurd (no_build kinds scope t.ty b is none))
 
-  call_row : (bounds : Bounds) (c : s.Call) → Each (IsExpr bounds) c.arguments → call_refused kinds scope (given t) c ≡ [] → OneRow (core_call kinds scope (given t) (Some v) c ∷ [])
+  call_row : (bounds : Bounds) (c : s.Call) → Each (IsExpr bounds) c.arguments → call_refused kinds scope (given t) c ≡ [] → Row (core_call kinds scope (given t) (Some v) c ∷ [])
   call_row bounds c right none = record {
     form = core_call kinds scope (given t) (Some v) c;
     same = refl;
@@ -206,24 +204,24 @@ module _ (kinds : Kinds) (p : Program) (f : Func) (scope : Scope) (ids : Ids) (r
       by true = refl
       by false = refl
 
-  input_row : (at : ℕ) → input_refused core.int t.ty at ≡ [] → OneRow (core.simple (core.input v false) ∷ [])
+  input_row : (at : ℕ) → input_refused core.int t.ty at ≡ [] → Row (core.simple (core.input v false) ∷ [])
   input_row at none = by_binds _
       (λ bare. plain_row (core.simple (core.input v false)) bare (record { row = (input_kinded p f ids around t.ty v at place.target.typed (bare_free bare)).0 none; rows = refl; behind = refl; ends = refl }))
       (λ is. absurd (no_input core.int t.ty at refl is none))
 
-  more_row : (at : ℕ) → input_refused core.bool t.ty at ≡ [] → OneRow (core.simple (core.input v true) ∷ [])
+  more_row : (at : ℕ) → input_refused core.bool t.ty at ≡ [] → Row (core.simple (core.input v true) ∷ [])
   more_row at none = by_binds _
       (λ bare. plain_row (core.simple (core.input v true)) bare (record { row = (input_kinded p f ids around t.ty v at place.target.typed (bare_free bare)).1 none; rows = refl; behind = refl; ends = refl }))
       (λ is. absurd (no_input core.bool t.ty at refl is none))
 
-  adopt_row : (x r : Name) (at : ℕ) → adopt_refused kinds scope t.ty x r at ≡ [] → OneRow (core_adopt scope v x r ∷ [])
+  adopt_row : (x r : Name) (at : ℕ) → adopt_refused kinds scope t.ty x r at ≡ [] → Row (core_adopt scope v x r ∷ [])
   unfolding core_adopt
   adopt_row x r at none = by_binds _
       (λ bare. plain_row (core_adopt scope v x r) bare (record { row = adopt_kinded kinds p f scope ids reads.agrees fields sets around x r t.ty v at place.target.typed (bare_free bare) none; rows = refl; behind = refl; ends = refl }))
       (λ is. absurd (no_adopt kinds scope t.ty x r at is none))
 
   new_row : (bounds : Bounds) (hidden : ℕ) (n : Named) (inits : List Init) (at : Span) → Each (IsInit bounds) inits → hides (s.make None n inits at) (Some t.ty) ≡ false
-      → new_refused kinds scope t None n inits at.from ≡ [] → OneRow (new_forms kinds scope t v hidden None n inits)
+      → new_refused kinds scope t None n inits at.from ≡ [] → Row (new_forms kinds scope t v hidden None n inits)
   unfolding new_refused adopter_refused
   new_row bounds hidden n inits at right shown none =
       let fit = new_fits kinds scope false t n at.from (no_left _ _ none) (no_left _ _ (no_right (target_refused false t (type_named kinds.file n.name) (known_args kinds scope n) at.from) _ none)) in
@@ -238,7 +236,7 @@ module _ (kinds : Kinds) (p : Program) (f : Func) (scope : Scope) (ids : Ids) (r
 
   -- any right side without a hidden variable
   pub right_row : (bounds : Bounds) (hidden : ℕ) (right : Right) → IsRight bounds right → hides right (Some t.ty) ≡ false → right_refused kinds scope (Some t) right ≡ []
-      → OneRow (right_forms kinds scope (Some t) v hidden right)
+      → Row (right_forms kinds scope (Some t) v hidden right)
   unfolding right_refused right_forms
   right_row bounds hidden (s.value e) right shown none = value_row bounds e right none
   right_row bounds hidden (s.build b) right shown none = build_row bounds b right none

@@ -1,5 +1,5 @@
 -- Forms without blocks that break nothing, and what is in scope behind them.
-use Rattle.std.specs.Prelude.{◌≡◌, ℕ, Bool, true, false, List, [], ◌++◌, Some}
+use Rattle.std.specs.Prelude.{◌≡◌, ℕ, Bool, true, false, List, [], ◌∷◌, ◌++◌, Some}
 use Rattle.vlt_core.specs.Core.{Ty, tracked, Form, Func, Program}
 use Rattle.vlt_core.specs.KindedHeads.{has, keys_of_parameters, new_keys}
 use Rattle.vlt_core.specs.KindedScopes.{Ids, Around, with_binding, with_target, own_key}
@@ -16,6 +16,12 @@ pub record IsRow (p : Program) (f : Func) (around : Around) (ids : Ids) (form : 
   pub rows : form_rows p f around ids form ≡ []
   pub behind : ids_behind p f form ids ≡ after
   pub ends : ends form ≡ ended
+
+-- forms that are one such form, which goes on
+pub record OneRow (p : Program) (f : Func) (around : Around) (ids : Ids) (after : Ids) (forms : List Form) : Type 0 where
+  pub form : Form
+  pub same : forms ≡ form ∷ []
+  pub right : IsRow p f around ids form after false
 
 -- The target's variable may be bound or get a value here. Only a reference is bound together with its key.
 pub record IsPlace (p : Program) (f : Func) (ids : Ids) (t : Target) (v : ℕ) : Type 0 where
