@@ -294,7 +294,7 @@ module _ (kinds : Kinds) (p : Program) (f : Func) (described : Describes kinds.f
         let still : has now.vars v ≡ true = or_right _ _ known in
         let rows = object_rows kinds p f scope ids step fields parts described (core_around around) bounds n inits is key_there var_there r w false v z hidden typed.well held (in_scope now still) none in
         two_forms kinds p f around at ids now now _ rows.first rows.second later false rows.same rows.one
-        (subst (λ q. IsRow p f (core_around around) now rows.second q false) (stays_in now still) rows.two) rows.onward
+        (subst (λ q. IsRow p f (core_around around) now rows.second q false) (stays_in now still) rows.two) (object_step kinds p f scope ids step fields parts described (core_around around) bounds n inits is key_there var_there (plain w) r z.from none)
 
     assigned : (right : Right) → IsRight bounds right → right_refused kinds (with_hidden kinds scope right (Some w)) (Some (plain w)) right ≡ [] → IsPartOf (with_hidden kinds scope right (Some w)) f
         → Kept (assigned_in (with_hidden kinds scope right (Some w)) w v right)

@@ -140,8 +140,8 @@ module _ (kinds : Kinds) (p : Program) (f : Func) (described : Describes kinds.f
   plain_kept b room (s.continue z) g plain none part = bare_form (core.jump true) true (jump_row true z.from none)
   plain_kept b room (s.return r z) g plain none part =
       let y = return_became kinds around scope r in
-      ⊎_elim (λ x. one_form kinds p f around at ids ids y.0 x.form y.1 true x.same x.right x.onward)
-      (λ x. two_forms kinds p f around at ids x.after x.after y.0 x.first x.second y.1 true x.same x.one x.two x.onward)
+      ⊎_elim (λ x. one_form kinds p f around at ids x.after y.0 x.form y.1 true x.same x.right x.step)
+      (λ x. two_forms kinds p f around at ids x.mid x.after y.0 x.rows.first x.rows.second y.1 true x.rows.same x.rows.one x.rows.two x.step)
       (return_rows kinds p f scope ids step fields parts result around is.result is.clause (core_around around) refl b r z.from g none part.more_vars part.vars)
   plain_kept b room (s.release x z) g plain none part =
       bare_form (release_form (var_ty scope x.text) (var_number scope x)) false
@@ -153,7 +153,7 @@ module _ (kinds : Kinds) (p : Program) (f : Func) (described : Describes kinds.f
   plain_kept b room (s.unpack x vs z) g plain none part =
       let y = open_became kinds scope x vs in
       let o = open_row kinds p f scope ids step fields parts (core_around around) x vs z.from none part.more_vars part.vars in
-      one_form kinds p f around at ids o.after y.0 o.form y.1 false o.same o.right o.onward
+      one_form kinds p f around at ids o.after y.0 o.form y.1 false o.same o.right o.step
   plain_kept b room (s.block body) g plain none part = absurd (true≢false (sym plain))
   plain_kept b room (s.choose i) g plain none part = absurd (true≢false (sym plain))
   plain_kept b room (s.loop e body z) g plain none part = absurd (true≢false (sym plain))

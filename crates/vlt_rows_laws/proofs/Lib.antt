@@ -5,3 +5,4 @@ pub mod Rights
 pub mod Objects
 pub mod Opened
 pub mod Returned
+pub mod Heads

@@ -38,7 +38,7 @@ use Rattle.vlt_resolve_laws.proofs.Steps.{at_end, key_law, var_law}
 use Rattle.vlt_rights_laws.specs.Parts.{HasParts}
 use Rattle.vlt_rights_laws.proofs.Rights.{adopted}
 use Rattle.vlt_rights_laws.proofs.News.{make_kinded}
-use Rattle.vlt_rows_laws.specs.Rows.{IsRow}
+use Rattle.vlt_rows_laws.specs.Rows.{IsRow, TwoRows}
 use Rattle.vlt_rows_laws.proofs.Places.{var_within, bound_both, both_right, no_var_ever, no_key_ever, not_new}
 use Rattle.vlt_rows_laws.proofs.Known.{same_key, same_args, ObjectArgs, object_args}
 use Rattle.vlt_rows_laws.proofs.Rights.{NewFits, new_fits}
@@ -189,16 +189,8 @@ module _ (kinds : Kinds) (p : Program) (f : Func) (scope : Scope) (ids : Ids) (s
     object_step t r at none = object_in_step t r (object_of t r at none)
 
     -- two forms, that break nothing
-    pub record TwoRows (v : ℕ) (forms : List Form) : Type 0 where
-      pub first : Form
-      pub second : Form
-      pub same : forms ≡ first ∷ second ∷ []
-      pub one : IsRow p f around ids first object_ids false
-      pub two : IsRow p f around object_ids second (with_target f v object_ids) false
-      pub onward : InStep kinds p f later object_ids
-
     pub object_rows : (r : Option Name) (ty : Ty) (binds : Bool) (v : ℕ) (at : Span) → hides (s.make r n inits at) (Some ty) ≡ true → IsWell p ty → var_type f v ≡ Some ty → target_broken f object_ids v ≡ []
-        → new_refused kinds later (record { ty = ty; binds = binds }) r n inits at.from ≡ [] → TwoRows v (new_forms kinds later (record { ty = ty; binds = binds }) v h r n inits)
+        → new_refused kinds later (record { ty = ty; binds = binds }) r n inits at.from ≡ [] → TwoRows p f around ids object_ids (with_target f v object_ids) false (new_forms kinds later (record { ty = ty; binds = binds }) v h r n inits)
     unfolding new_refused target_fits adopter_refused recipient_refused start_refused adopted_refused new_forms
     object_rows None core.int binds v at hidden well typed free none = absurd (true≢false (sym hidden))
     object_rows None core.bool binds v at hidden well typed free none = absurd (true≢false (sym hidden))
@@ -215,7 +207,6 @@ module _ (kinds : Kinds) (p : Program) (f : Func) (scope : Scope) (ids : Ids) (s
           same = refl;
           one = made_row t None x;
           two = owned_row t None x st u b v well typed free x.fit.fits;
-          onward = object_in_step t None x;
         }
     object_rows (Some r) (core.guarded l u b) binds v at hidden well typed free none =
         let t : Target = record { ty = core.guarded l u b; binds = binds } in
@@ -229,7 +220,6 @@ module _ (kinds : Kinds) (p : Program) (f : Func) (scope : Scope) (ids : Ids) (s
           two = adopted_row t (Some r) x l u b v r at.from typed free x.fit.fits
               (not-false _ (not_broken _ rule.WRONG_RELEASE n.name.at.from (no_left (refuse_if (not (may_drop_struct kinds x.fit.type)) rule.WRONG_RELEASE n.name.at.from) _ x.start)))
               (no_left (unknown_name (var_named later r.text) r) _ told) (no_right (unknown_name (var_named later r.text) r) _ told);
-          onward = object_in_step t (Some r) x;
         }
     object_rows (Some r) core.int binds v at hidden well typed free none = absurd (true≢false (sym (object_of (record { ty = core.int; binds = binds }) (Some r) at.from none).fit.fits))
     object_rows (Some r) core.bool binds v at hidden well typed free none = absurd (true≢false (sym (object_of (record { ty = core.bool; binds = binds }) (Some r) at.from none).fit.fits))

@@ -32,7 +32,7 @@ use Rattle.vlt_resolve_laws.proofs.Steps.{var_law}
 use Rattle.vlt_rights_laws.specs.Parts.{FitsPart, HasParts}
 use Rattle.vlt_rights_laws.proofs.Shapes.{keys_self, states_same}
 use Rattle.vlt_rights_laws.proofs.Typed.{FitArgs, typed_under, fit_object, typed_name_right}
-use Rattle.vlt_rows_laws.specs.Rows.{IsRow}
+use Rattle.vlt_rows_laws.specs.Rows.{RowInStep}
 use Rattle.vlt_rows_laws.proofs.Growing.{vars_grow, at_part}
 use Rattle.vlt_rows_laws.proofs.Places.{bound_var, var_right, no_var_ever, reads_of}
 
@@ -118,12 +118,8 @@ module _ (kinds : Kinds) (p : Program) (f : Func) (scope : Scope) (ids : Ids) (s
   opens ty = rule.WRONG_RELEASE ∷ []
 
   -- one form that breaks nothing and leads to the scope behind it
-  pub record OpenRow (y : Became) : Type 0 where
-    pub form : Form
-    pub after : Ids
-    pub same : y.0 ≡ form ∷ []
-    pub right : IsRow p f around ids form after false
-    pub onward : InStep kinds p f y.1 after
+  abbrev OpenRow : Became → Type 0
+  OpenRow y = RowInStep kinds p f around ids false y
 
   opened : (x : Name) (vs : List Name) (k t : ℕ) (args : List ℕ) → var_ty scope x.text ≡ Some (core.tracked k t args) → is_struct (slice_get kinds.types t) ≡ true
       → length (owning_types args (ex.fields_of kinds t)) ≡ length vs → new_vars_refused kinds scope vs (owning_types args (ex.fields_of kinds t)) ≡ []
@@ -158,7 +154,7 @@ module _ (kinds : Kinds) (p : Program) (f : Func) (scope : Scope) (ids : Ids) (s
           behind = refl;
           ends = refl;
         };
-        onward = each.1;
+        step = each.1;
       })
     where
       of_type : List ℕ → ℕ × List ℕ → Rules

@@ -43,7 +43,7 @@ use Rattle.vlt_rights_laws.specs.Parts.{HasParts}
 use Rattle.vlt_rights_laws.proofs.Rights.{build_kinded}
 use Rattle.vlt_rights_laws.proofs.Shapes.{each_of}
 use Rattle.vlt_rights_laws.proofs.Calls.{has_split, some_new, none_of_new}
-use Rattle.vlt_rows_laws.specs.Rows.{IsRow, HasResult}
+use Rattle.vlt_rows_laws.specs.Rows.{IsRow, RowInStep, RowsInStep, HasResult}
 use Rattle.vlt_rows_laws.proofs.Growing.{at_part}
 use Rattle.vlt_rows_laws.proofs.Places.{var_within, bound_target, var_right, target_right, no_var, no_var_ever}
 use Rattle.vlt_rows_laws.proofs.Rights.{no_build, build_is_row}
@@ -116,25 +116,9 @@ plain_returned p f ids (core.owning_variant t a) o bare e = e
 
 module _ (kinds : Kinds) (p : Program) (f : Func) (scope : Scope) (ids : Ids) (step : InStep kinds p f scope ids) (fields : HasFields p) (parts : HasParts p) (result : HasResult p f)
     (around : st.Around) (results : around.result ≡ f.result) (clauses : around.clause ≡ f.clause) (a : Around) (returns : a.returns ≡ not around.in_focus) where
-  -- one form that ends
-  pub record EndRow (y : Became) : Type 0 where
-    pub form : Form
-    pub same : y.0 ≡ form ∷ []
-    pub right : IsRow p f a ids form ids true
-    pub onward : InStep kinds p f y.1 ids
-
-  -- a hidden variable, and then one that ends
-  pub record EndRows (y : Became) : Type 0 where
-    pub first : Form
-    pub second : Form
-    pub after : Ids
-    pub same : y.0 ≡ first ∷ second ∷ []
-    pub one : IsRow p f a ids first after false
-    pub two : IsRow p f a after second after true
-    pub onward : InStep kinds p f y.1 after
-
+  -- one form that ends, or a hidden variable before it
   abbrev pub Returns : Became → Type 0
-  Returns y = EndRow y ⊎ EndRows y
+  Returns y = RowInStep kinds p f a ids true y ⊎ RowsInStep kinds p f a ids true y
 
   return_row : (now : Ids) (o : Option Operand) → around.in_focus ≡ false → return_broken p f now f.result o ≡ [] → IsRow p f a now (core.return o) now true
   return_row now o free e = record { row = none_of_both _ _ (holds _ rule.WRONG_JUMP (returns ∙ ap not free)) e; rows = refl; behind = refl; ends = refl }
@@ -246,7 +230,7 @@ module _ (kinds : Kinds) (p : Program) (f : Func) (scope : Scope) (ids : Ids) (s
           ∙ (ap (λ o. misfit (Some w) (unless_owning o)) held ∙ (ap (misfit (Some w)) (plain_type w own) ∙ holds _ rule.WRONG_TYPE (type_itself w))))
 
   build_rows : (bounds : Bounds) (w : Ty) (b : s.Build) → Each (IsExpr bounds) b.payload → around.result ≡ Some w → around.in_focus ≡ false → build_refused kinds (more_var scope [] w) w b ≡ []
-      → (more : List VarDecl) → f.vars ≡ (more_var scope [] w).vars ++ more → EndRows (returned_build kinds scope (Some w) b)
+      → (more : List VarDecl) → f.vars ≡ (more_var scope [] w).vars ++ more → RowsInStep kinds p f a ids true (returned_build kinds scope (Some w) b)
   unfolding var_named
   build_rows bounds w b right is out none more part =
       let later = more_var scope [] w in
@@ -261,14 +245,17 @@ module _ (kinds : Kinds) (p : Program) (f : Func) (scope : Scope) (ids : Ids) (s
       let free = target_right f ids h (var_right f ids h w held (no_var_ever kinds p f scope ids step) typed.known) in
       let used : use_broken f after h ≡ [] = ap (λ b. if b then unless (has after.vars h) rule.NAME_TAKEN else rule.UNKNOWN_NAME ∷ []) (var_within f ids h w held) ∙ holds _ rule.NAME_TAKEN (or_left _ _ (eq-eqb h h refl)) in
       record {
-        first = core_build kinds later w h b;
-        second = core.return (Some (hidden_operand w h));
+        mid = after;
         after = after;
-        same = refl;
-        one = subst (λ x. IsRow p f a ids (core_build kinds later w h b) x false) (bound_target f ids h w held (no_var kinds p f scope ids step))
-            (build_is_row kinds p f later ids a w h b (build_kinded kinds p f later ids agrees fields parts a bounds b right w h held free none));
-        two = value_row after w (hidden_operand w h) is out (plain_returned p f after w (hidden_operand w h) bare (hidden_right after w h held used));
-        onward = next;
+        rows = record {
+          first = core_build kinds later w h b;
+          second = core.return (Some (hidden_operand w h));
+          same = refl;
+          one = subst (λ x. IsRow p f a ids (core_build kinds later w h b) x false) (bound_target f ids h w held (no_var kinds p f scope ids step))
+              (build_is_row kinds p f later ids a w h b (build_kinded kinds p f later ids agrees fields parts a bounds b right w h held free none));
+          two = value_row after w (hidden_operand w h) is out (plain_returned p f after w (hidden_operand w h) bare (hidden_right after w h held used));
+        };
+        step = next;
       }
     where
       untracked : (x : Bool) → is_tracked_type w ≡ x → build_refused kinds (more_var scope [] w) w b ≡ [] → x ≡ false
@@ -288,9 +275,10 @@ module _ (kinds : Kinds) (p : Program) (f : Func) (scope : Scope) (ids : Ids) (s
       let rest = no_right (refuse_if around.in_focus rule.WRONG_JUMP at) _ none in
       inl (record {
         form = core.return None;
+        after = ids;
         same = refl;
         right = return_row ids None (not_broken around.in_focus rule.WRONG_JUMP at (no_left _ _ none)) (nothing_right f.result (ap is_some (sym results) ∙ not_broken _ rule.WRONG_RETURN at (no_left _ _ rest)));
-        onward = step;
+        step = step;
       })
   return_rows bounds (s.value e) at right none more part =
       let rest = no_right (refuse_if around.in_focus rule.WRONG_JUMP at) _ none in
@@ -300,9 +288,10 @@ module _ (kinds : Kinds) (p : Program) (f : Func) (scope : Scope) (ids : Ids) (s
       by None is wrong e = absurd (cons_not_nil (refusal rule.WRONG_RETURN at) [] wrong)
       by (Some w) is wrong inner = inl (record {
         form = core.return (Some (core_operand kinds scope w e));
+        after = ids;
         same = refl;
         right = value_row ids w (core_operand kinds scope w e) is (not_broken around.in_focus rule.WRONG_JUMP at (no_left _ _ none)) (value_right bounds w e at right is inner);
-        onward = step;
+        step = step;
       })
   return_rows bounds (s.build b) at right none more part =
       let rest = no_right (refuse_if around.in_focus rule.WRONG_JUMP at) _ none in

@@ -5,9 +5,11 @@ use Rattle.vlt_core.specs.KindedHeads.{has, keys_of_parameters, new_keys}
 use Rattle.vlt_core.specs.KindedScopes.{Ids, Around, with_binding, with_target, own_key}
 use Rattle.vlt_core.specs.KindedBodies.{ends, ids_behind, row_broken, form_rows}
 use Rattle.vlt_core.specs.KindedStatements.{is_tracked_type}
+use Rattle.vlt_kinds.specs.Kinds.{Kinds}
 use Rattle.vlt_kinds_laws.specs.Shapes.{IsWell}
 use Rattle.vlt_resolve_calls.specs.Targets.{Target}
-use Rattle.vlt_resolve_laws.specs.Steps.{IsTyped}
+use Rattle.vlt_resolve_stmts.specs.Declarations.{Became}
+use Rattle.vlt_resolve_laws.specs.Steps.{IsTyped, InStep}
 use Rattle.vlt_rights_laws.specs.Calls.{IsTarget}
 
 -- the form has no blocks, breaks nothing, and leads to these ids
@@ -22,6 +24,29 @@ pub record OneRow (p : Program) (f : Func) (around : Around) (ids : Ids) (after 
   pub form : Form
   pub same : forms ≡ form ∷ []
   pub right : IsRow p f around ids form after false
+
+-- forms that are two, the second of which begins where the first leads to
+pub record TwoRows (p : Program) (f : Func) (around : Around) (ids mid after : Ids) (ended : Bool) (forms : List Form) : Type 0 where
+  pub first : Form
+  pub second : Form
+  pub same : forms ≡ first ∷ second ∷ []
+  pub one : IsRow p f around ids first mid false
+  pub two : IsRow p f around mid second after ended
+
+-- what a statement becomes is one form, and names and numbers are in step behind it
+pub record RowInStep (kinds : Kinds) (p : Program) (f : Func) (around : Around) (ids : Ids) (ended : Bool) (y : Became) : Type 0 where
+  pub form : Form
+  pub after : Ids
+  pub same : y.0 ≡ form ∷ []
+  pub right : IsRow p f around ids form after ended
+  pub step : InStep kinds p f y.1 after
+
+-- or two
+pub record RowsInStep (kinds : Kinds) (p : Program) (f : Func) (around : Around) (ids : Ids) (ended : Bool) (y : Became) : Type 0 where
+  pub mid : Ids
+  pub after : Ids
+  pub rows : TwoRows p f around ids mid after ended y.0
+  pub step : InStep kinds p f y.1 after
 
 -- The target's variable may be bound or get a value here. Only a reference is bound together with its key.
 pub record IsPlace (p : Program) (f : Func) (ids : Ids) (t : Target) (v : ℕ) : Type 0 where
