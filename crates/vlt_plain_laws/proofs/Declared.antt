@@ -38,11 +38,11 @@ use Rattle.vlt_rights_laws.specs.Calls.{HasCallees}
 use Rattle.vlt_rights_laws.proofs.Callees.{reads_keyed}
 use Rattle.vlt_rights_laws.proofs.Typed.{typed_name_right}
 use Rattle.vlt_simple_laws.specs.Steps.{IsPartOf, core_around, AreInStep}
-use Rattle.vlt_rows_laws.specs.Rows.{IsRow, IsPlace, behind_target}
+use Rattle.vlt_rows_laws.specs.Rows.{IsRow, OneRow, IsPlace}
 use Rattle.vlt_rows_laws.proofs.Growing.{var_is_free, key_is_free, hidden_grows, at_part}
 use Rattle.vlt_rows_laws.proofs.Places.{var_within, bound_target, bound_both, var_right, both_right, target_right, no_var, no_var_ever, no_key, no_key_ever, not_new, key_below, reads_of}
 use Rattle.vlt_rows_laws.proofs.Known.{key_itself, declared_typed}
-use Rattle.vlt_rows_laws.proofs.Rights.{OneRow, right_row, no_adopted}
+use Rattle.vlt_rows_laws.proofs.Rights.{right_row, no_adopted}
 use Rattle.vlt_rows_laws.proofs.Objects.{object_ids, object_step, object_rows}
 use Rattle.vlt_plain_laws.proofs.Forms.{part_before, one_form, two_forms}
 
@@ -71,8 +71,8 @@ only_new G ty go (s.adopt x r at) hidden = absurd (true≢false (sym hidden))
 only_new G ty go (s.make r n inits at) hidden = go r n inits at hidden
 
 by_bool : (G : Type 0) (b : Bool) → (b ≡ true → G) → (b ≡ false → G) → G
-by_bool G true yes other = yes refl
-by_bool G false yes other = other refl
+by_bool G true when_true when_false = when_true refl
+by_bool G false when_true when_false = when_false refl
 
 abbrev plain : Ty → Target
 plain w = record { ty = w; binds = false }
