@@ -193,6 +193,8 @@ module _ (kinds : Kinds) (p : Program) (f : Func) (scope : Scope) (ids : Ids) (s
       rising_keys = subst (IsRising 0 (scope.block_keys ++ k ∷ [])) (sym (length_push scope.keys _)) (rising_end 0 scope.block_keys k step.rising_keys);
       rising_vars = step.rising_vars;
       owners = step.owners;
+      parameters = λ j e. or_right (k == j) _ (step.parameters j e);
+      new_below = λ j e. below_end scope.keys _ j (step.new_below j e);
     }
 
     -- and its name
@@ -222,6 +224,8 @@ module _ (kinds : Kinds) (p : Program) (f : Func) (scope : Scope) (ids : Ids) (s
           rising_keys = hidden.rising_keys;
           rising_vars = hidden.rising_vars;
           owners = hidden.owners;
+          parameters = hidden.parameters;
+          new_below = hidden.new_below;
         }
 
   -- ---- a variable more
@@ -291,6 +295,8 @@ module _ (kinds : Kinds) (p : Program) (f : Func) (scope : Scope) (ids : Ids) (s
       rising_keys = step.rising_keys;
       rising_vars = block_rising (is_owning ty);
       owners = block_owners (is_owning ty) refl;
+      parameters = step.parameters;
+      new_below = step.new_below;
     }
 
     pub var_in_step : InStep kinds p f (with_var scope n ty) (ids_with_var (is_owning ty) v ids)
@@ -319,6 +325,8 @@ module _ (kinds : Kinds) (p : Program) (f : Func) (scope : Scope) (ids : Ids) (s
           rising_keys = hidden.rising_keys;
           rising_vars = hidden.rising_vars;
           owners = hidden.owners;
+          parameters = hidden.parameters;
+          new_below = hidden.new_below;
         }
 
   -- ---- blocks
@@ -341,6 +349,8 @@ module _ (kinds : Kinds) (p : Program) (f : Func) (scope : Scope) (ids : Ids) (s
     rising_keys = omega arith;
     rising_vars = omega arith;
     owners = λ v e. absurd (true≢false (sym e));
+    parameters = step.parameters;
+    new_below = step.new_below;
   }
 
   module _ (last : Scope) (inner : Ids) (grows : Grows (scope_inside scope) last) (end : InStep kinds p f last inner) where
@@ -396,6 +406,8 @@ module _ (kinds : Kinds) (p : Program) (f : Func) (scope : Scope) (ids : Ids) (s
       rising_keys = rising_more 0 scope.block_keys (length scope.keys) (length last.keys) more_keys step.rising_keys;
       rising_vars = rising_more 0 scope.block_vars (length scope.vars) (length last.vars) more_vars step.rising_vars;
       owners = step.owners;
+      parameters = step.parameters;
+      new_below = λ k e. omega (arith, more_keys, step.new_below k e);
     }
 
 -- ---- scopes grow

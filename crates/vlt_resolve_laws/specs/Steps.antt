@@ -6,7 +6,7 @@ use Rattle.vlt_core.specs.Core.{Ty, Tok, a_key, a_var, KeyDecl, VarDecl, Func, P
 use Rattle.vlt_core.specs.Lookups.{key_type_in, is_owning, is_owning_var}
 use Rattle.vlt_core.specs.Maps.{is_tok}
 use Rattle.vlt_core.specs.Types.{keys_of_ty}
-use Rattle.vlt_core.specs.KindedHeads.{has, new_keys, typings}
+use Rattle.vlt_core.specs.KindedHeads.{has, keys_of_parameters, new_keys, typings}
 use Rattle.vlt_core.specs.KindedBodies.{tokens_broken}
 use Rattle.vlt_core.specs.KindedScopes.{Ids, entered, left_behind}
 use Rattle.vlt_kinds.specs.Kinds.{Kinds}
@@ -56,6 +56,9 @@ pub record InStep (kinds : Kinds) (p : Program) (f : Func) (scope : Scope) (ids 
   pub rising_keys : IsRising 0 scope.block_keys (length scope.keys)
   pub rising_vars : IsRising 0 scope.block_vars (length scope.vars)
   pub owners : (v : ℕ) → among scope.block_vars v ≡ true → is_owning_var f v ≡ true
+  -- the head's keys: those of the parameters are in scope, and the `new` ones have numbers
+  pub parameters : (k : ℕ) → has (keys_of_parameters f) k ≡ true → has ids.keys k ≡ true
+  pub new_below : (k : ℕ) → has (new_keys f) k ≡ true → k < length scope.keys
 
 -- From a scope to a later one names, keys and variables are only added.
 pub record Grows (before after : Scope) : Type 0 where

@@ -4,21 +4,22 @@ use Rattle.std.proofs.lemmas.Bool.{eqb-true, or_parts, and_parts, and_from, not-
 use Rattle.std.proofs.lemmas.Option.{same_Some}
 use Rattle.vlt_syntax.specs.Tree as s
 use Rattle.vlt_syntax.specs.Lists.{Each}
-use Rattle.vlt_syntax.specs.Grammar.{IsCall, language}
+use Rattle.vlt_syntax.specs.Grammar.{Bounds, IsCall}
 use Rattle.vlt_core.specs.Core.{Ty, Entry, Func, Program}
 use Rattle.vlt_core.specs.Lookups.{owns, is_new}
 use Rattle.vlt_core.specs.KindedHeads.{has, new_keys}
 use Rattle.vlt_core.specs.declared.rules.TheConstants as rule
 use Rattle.vlt_core.specs.KindedScopes as scopes
-use Rattle.vlt_core.specs.KindedScopes.{Ids, Around, use_broken, binding_broken, target_broken}
+use Rattle.vlt_core.specs.KindedScopes.{Ids, Around, with_binding, with_target, use_broken, binding_broken, target_broken}
 use Rattle.vlt_core.specs.KindedOperands.{is_owning_some}
-use Rattle.vlt_core.specs.KindedCalls.{is_fresh_call, result_broken_by, call_target_broken, call_broken}
-use Rattle.vlt_core.specs.KindedBodies.{row_broken}
+use Rattle.vlt_core.specs.KindedCalls.{is_fresh_call, with_call_target, result_broken_by, call_target_broken, call_broken}
+use Rattle.vlt_core.specs.KindedBodies.{ends, ids_behind, row_broken, form_rows}
 use Rattle.vlt_kinds_names.specs.Refusals.{refusal, refuse_if}
 use Rattle.vlt_kinds.specs.Kinds.{Kinds, function_named, head_named}
 use Rattle.vlt_kinds_types.specs.Files as files
 use Rattle.vlt_kinds_laws.proofs.Empty.{cons_not_nil, no_left, no_right, none_of_both, not_broken, holds}
 use Rattle.vlt_resolve_exprs.specs.Scopes.{Scope}
+use Rattle.vlt_resolve_exprs.specs.Exprs.{number_of}
 use Rattle.vlt_resolve_exprs.specs.Operands.{core_operands}
 use Rattle.vlt_resolve_calls.specs.Targets.{Target}
 use Rattle.vlt_resolve_calls.specs.Calls as calls
@@ -37,7 +38,7 @@ owns_same None = refl
 owns_same (Some ty) = refl
 
 module _ (kinds : Kinds) (p : Program) (f : Func) (scope : Scope) (ids : Ids) (reads : Reads kinds p f scope ids) (fields : HasFields p) (parts : HasParts p) (callees : HasCallees kinds p)
-    (around : Around) (c : s.Call) (right : IsCall language c) where
+    (around : Around) (c : s.Call) (bounds : Bounds) (right : IsCall bounds c) where
   -- the function that is called
   record Callee (used : Use) : Type 0 where
     pub number : ℕ
@@ -111,7 +112,7 @@ module _ (kinds : Kinds) (p : Program) (f : Func) (scope : Scope) (ids : Ids) (r
     given_keys = keys_given ps (fresh_key used) 0 x.head.keys
 
     fit_now : all_fit kinds p f scope ids reads fields parts given_keys (param_types x.head) c.arguments
-    fit_now = fit_all kinds p f scope ids reads fields parts given_keys (param_types x.head) c.arguments right pass.arguments
+    fit_now = fit_all kinds p f scope ids reads fields parts given_keys bounds (param_types x.head) c.arguments right pass.arguments
 
     call_right : ((k : ℕ) → has (new_keys x.callee.func) k ≡ true → (nat_lt (fresh_key used) (length f.keys) ≡ true) × (has ids.keys (fresh_key used) ≡ false))
         → call_target_broken f ids x.callee.func given_keys target ≡ [] → row_broken p f around ids (core_call kinds scope used target c) ≡ []
@@ -119,7 +120,7 @@ module _ (kinds : Kinds) (p : Program) (f : Func) (scope : Scope) (ids : Ids) (r
         whole used target x
         (ap (λ o. call_broken p f ids o target given_keys (core_operands kinds scope c.arguments (param_types x.head))) x.callee.there
         ∙ none_of_both _ _
-        (upto_target kinds p f scope ids reads fields parts x.number x.head x.callee c right (fresh_key used) fit_now pass.long (clear_each ps pass.clear) fresh_right pass.apart)
+        (upto_target kinds p f scope ids reads fields parts x.number x.head x.callee c bounds right (fresh_key used) fit_now pass.long (clear_each ps pass.clear) fresh_right pass.apart)
         target_right)
 
   no_new_in : (k : ℕ) (es : List Entry) → Each (λ x. is_new x ≡ false) es → has (map (λ e. e.key) (filter is_new es)) k ≡ true → ⊥
@@ -139,6 +140,42 @@ module _ (kinds : Kinds) (p : Program) (f : Func) (scope : Scope) (ids : Ids) (r
       (holds _ rule.DROPPED_RESULT (and_from _ _
       (ap not (ap is_owning_some x.callee.result ∙ (sym (owns_same x.head.result) ∙ both.0)))
       (ap not (ap has_fresh x.callee.clause ∙ both.1))))
+
+  -- what is in scope behind it
+  pub call_behind : (t : Target) (v : ℕ) → call_refused kinds scope (given t) c ≡ []
+      → ids_behind p f (core_call kinds scope (given t) (Some v) c) ids ≡ (if t.binds then with_binding f (scopes.own_key f v) v ids else with_target f v ids)
+  unfolding calls.use_refused target_fits core_call head_form
+  call_behind t v none =
+      let x = callee_of (given t) none in
+      let pass = passes (given t) x.head x.none in
+      let both = and_parts (is_same (has_fresh x.head.clause) t.binds) _ (not-false _ (not_broken _ rule.WRONG_TYPE c.function.at.from pass.used_right)) in
+      rw (x.heads_named, x.named)
+      (ap (λ o. with_call_target f o (Some v) ids) x.callee.there
+      ∙ ap (λ b. if b then with_binding f (scopes.own_key f v) v ids else with_target f v ids) (ap has_fresh x.callee.clause ∙ agree (has_fresh x.head.clause) t.binds both.0))
+    where
+      agree : (a b : Bool) → is_same a b ≡ true → a ≡ b
+      agree true true e = refl
+      agree false false e = refl
+      agree true false e = absurd (true≢false (sym e))
+      agree false true e = absurd (true≢false (sym e))
+
+  -- it has no blocks, and doesn't end
+  pub call_plain : (used : Use) (target : Option ℕ) → (form_rows p f around ids (core_call kinds scope used target c) ≡ []) × (ends (core_call kinds scope used target c) ≡ false)
+  unfolding core_call head_form
+  call_plain used target = by (head_named kinds c.function)
+    where
+      by : (o : Option Func) → (form_rows p f around ids (callee_form kinds scope o (number_of (function_named kinds c.function)) used target c) ≡ []) × (ends (callee_form kinds scope o (number_of (function_named kinds c.function)) used target c) ≡ false)
+      by None = (refl, refl)
+      by (Some g) = (refl, refl)
+
+  -- nothing comes in scope where the result is dropped
+  pub dropped_behind : (at : ℕ) → ids_behind p f (core_call kinds scope (dropped at) None c) ids ≡ ids
+  unfolding core_call head_form
+  dropped_behind at = by (head_named kinds c.function)
+    where
+      by : (o : Option Func) → ids_behind p f (callee_form kinds scope o (number_of (function_named kinds c.function)) (dropped at) None c) ids ≡ ids
+      by None = refl
+      by (Some g) = refl
 
   pub call_kinded : (t : Target) (v : ℕ) → IsTarget f ids t v → call_refused kinds scope (given t) c ≡ [] → row_broken p f around ids (core_call kinds scope (given t) (Some v) c) ≡ []
   unfolding calls.use_refused target_fits
@@ -169,7 +206,7 @@ module _ (kinds : Kinds) (p : Program) (f : Func) (scope : Scope) (ids : Ids) (r
               call_right (given t) (Some v) x pass (λ k new. fresh_right x pass binds r is two.0 k new)
               (none_of_both _ _
               (ap (result_broken_by x.callee.func _ x.callee.func.result) target.typed
-              ∙ result_right kinds p f scope ids reads fields parts x.number x.head x.callee c right (own_key t.ty) (fit_now (given t) (Some v) x pass) pass.long (clear_each _ pass.clear) r t.ty is two.0 refl pass.clear two.1)
+              ∙ result_right kinds p f scope ids reads fields parts x.number x.head x.callee c bounds right (own_key t.ty) (fit_now (given t) (Some v) x pass) pass.long (clear_each _ pass.clear) r t.ty is two.0 refl pass.clear two.1)
               (free_by (is_fresh_call x.callee.func) (ap has_fresh x.callee.clause ∙ binds)))
             where
               fresh_right : (x : Callee (given t)) → Passes (given t) x.head → has_fresh x.head.clause ≡ t.binds → (r : Ty) → x.head.result ≡ Some r → same_shape r t.ty ≡ true

@@ -91,7 +91,7 @@ module _ (file : File) (p : Program) (described : Describes file p) (headers : H
   well_all [] none = tt
   well_all (q ∷ qs) none = (ty_well file p described q.ty number (no_left _ _ none), well_all qs (no_right (parameter_refused file q) _ none))
 
-  new_own : (k : ℕ) → has (new_keys f) k ≡ true → (t : ℕ) × (args : List ℕ) × (core_result file keys h.outcome ≡ Some (core.tracked k t args)) × (has args k ≡ false)
+  pub new_own : (k : ℕ) → has (new_keys f) k ≡ true → (t : ℕ) × (args : List ℕ) × (core_result file keys h.outcome ≡ Some (core.tracked k t args)) × (has args k ≡ false)
   new_own k new =
       let x = is_new_key file p described headers h pass external f func k new in
       let r = result_key file p described headers h pass external f func x.key x.fresh in (
@@ -113,7 +113,7 @@ module _ (file : File) (p : Program) (described : Describes file p) (headers : H
       by false is old none =
           ap (has (keys_of_parameters f)) (entry_number file keys e) ∙ in_parameters_has file p described headers h pass external f func (key_of e) (not-false _ (not_broken _ rule.CLAUSE_KEY_UNBOUND (entry_key e).at.from none))
 
-  result_known : (out : Outcome) → h.outcome ≡ out → (ty : Ty) → core_result file keys out ≡ Some ty → Each (λ k. has (keys_of_parameters f ++ new_keys f) k ≡ true) (keys_of_ty ty)
+  pub result_known : (out : Outcome) → h.outcome ≡ out → (ty : Ty) → core_result file keys out ≡ Some ty → Each (λ k. has (keys_of_parameters f ++ new_keys f) k ≡ true) (keys_of_ty ty)
   result_known (s.void at) is ty e = absurd (none-some ty e)
   result_known (s.value t) is ty e =
       subst (λ ty. Each (λ k. has (keys_of_parameters f ++ new_keys f) k ≡ true) (keys_of_ty ty)) (same_Some (core_ty file number t) ty e)

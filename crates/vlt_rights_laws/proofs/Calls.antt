@@ -7,7 +7,7 @@ use Rattle.std.proofs.lemmas.List.Folds.{list_any-append}
 use Rattle.std.proofs.lemmas.Option.{none-some, same_Some}
 use Rattle.vlt_syntax.specs.Tree as s
 use Rattle.vlt_syntax.specs.Lists.{Each}
-use Rattle.vlt_syntax.specs.Grammar.{IsExpr, IsCall, language}
+use Rattle.vlt_syntax.specs.Grammar.{Bounds, IsExpr, IsCall}
 use Rattle.vlt_core.specs.Core as core
 use Rattle.vlt_core.specs.Core.{States, Ty, int, bool, Entry, KeyDecl, Operand, Func, Program}
 use Rattle.vlt_core.specs.Lookups.{var_type, is_owning, is_new}
@@ -250,9 +250,9 @@ module _ (kinds : Kinds) (p : Program) (f : Func) (scope : Scope) (ids : Ids) (r
     pub pairs : argument_pairs w (type_of kinds scope e) ≡ paired_each (keys_of_ty w) (keys_handed w kind.type)
     pub known : Each (λ k. has ids.keys k ≡ true) (keys_handed w kind.type)
 
-  pub fits_of : (w : Ty) (e : s.Expr) → IsExpr language e → argument_refused kinds scope w e ≡ [] → Fits w e
+  pub fits_of : (bounds : Bounds) (w : Ty) (e : s.Expr) → IsExpr bounds e → argument_refused kinds scope w e ≡ [] → Fits w e
   unfolding argument_refused argument_misfit
-  fits_of w e right none =
+  fits_of bounds w e right none =
       let x = kinded kinds p f scope ids reads.agrees fields 0 e right.0 (no_left _ _ none) in
       let fits = not-false _ (not_broken _ rule.WRONG_TYPE (expr_place e) (sym (ap (λ t. argument_misfit w t (expr_place e)) x.known) ∙ no_right (expr_refused kinds scope e) _ none)) in
       let typed = typed_expr kinds p f scope ids reads fields parts e x.type (no_left _ _ none) x.known in
@@ -268,10 +268,10 @@ module _ (kinds : Kinds) (p : Program) (f : Func) (scope : Scope) (ids : Ids) (r
   all_fit (w ∷ ws) [] = Unit {0}
   all_fit (w ∷ ws) (e ∷ es) = Fits w e × all_fit ws es
 
-  pub fit_all : (ws : List Ty) (es : List s.Expr) → Each (IsExpr language) es → arguments_refused kinds scope ws es ≡ [] → all_fit ws es
-  fit_all [] es right none = tt
-  fit_all (w ∷ ws) [] right none = tt
-  fit_all (w ∷ ws) (e ∷ es) right none = (fits_of w e right.0 (no_left _ _ none), fit_all ws es right.1 (no_right (argument_refused kinds scope w e) _ none))
+  pub fit_all : (bounds : Bounds) (ws : List Ty) (es : List s.Expr) → Each (IsExpr bounds) es → arguments_refused kinds scope ws es ≡ [] → all_fit ws es
+  fit_all bounds [] es right none = tt
+  fit_all bounds (w ∷ ws) [] right none = tt
+  fit_all bounds (w ∷ ws) (e ∷ es) right none = (fits_of bounds w e right.0 (no_left _ _ none), fit_all bounds ws es right.1 (no_right (argument_refused kinds scope w e) _ none))
 
   arguments_right : (ws : List Ty) (es : List s.Expr) → all_fit ws es → Each (IsWell p) ws → Each (λ w. Each (λ k. nat_lt k (length keys) ≡ true) (keys_of_ty w)) ws
       → Each (λ q. stands_for keys q.0 ≡ q.1) (call_pairs kinds scope es ws) → arguments_broken p f ids (map (caller_type keys) ws) (core_operands kinds scope es ws) ≡ []
@@ -458,7 +458,7 @@ none_of_new (x ∷ es) e = let both = or_parts (is_new x) (has_fresh es) e in (b
 -- ---- a call
 
 module _ (kinds : Kinds) (p : Program) (f : Func) (scope : Scope) (ids : Ids) (reads : Reads kinds p f scope ids) (fields : HasFields p) (parts : HasParts p)
-    (number : ℕ) (head : Func) (callee : IsCallee p number head) (c : s.Call) (right : IsCall language c) (fresh : ℕ) where
+    (number : ℕ) (head : Func) (callee : IsCallee p number head) (c : s.Call) (bounds : Bounds) (right : IsCall bounds c) (fresh : ℕ) where
   abbrev g : Func
   g = callee.func
 

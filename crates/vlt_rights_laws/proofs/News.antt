@@ -4,7 +4,7 @@ use Rattle.std.proofs.lemmas.Bool.{eqb-true, eq-eqb, and_parts, not-false}
 use Rattle.std.proofs.lemmas.List.{length-map}
 use Rattle.vlt_syntax.specs.Tree.{Name, Named, Init}
 use Rattle.vlt_syntax.specs.Lists.{Each}
-use Rattle.vlt_syntax.specs.Grammar.{IsInit, language}
+use Rattle.vlt_syntax.specs.Grammar.{Bounds, IsInit}
 use Rattle.vlt_core.specs.Core as core
 use Rattle.vlt_core.specs.Core.{Ty, FieldDecl, TypeDecl, Operand, Func, Program}
 use Rattle.vlt_core.specs.Lookups.{var_type, fields_in, fields_of}
@@ -84,7 +84,7 @@ module _ (scope : Scope) where
 
 module _ (kinds : Kinds) (scope : Scope) (nm : Named) where
   -- a name that isn't refused has known keys
-  args_known : named_refused kinds scope nm ≡ [] → (args : List ℕ) × (known_args kinds scope nm ≡ Some args) × ((t : ℕ) × (type_named kinds.file nm.name ≡ Some t))
+  pub args_known : named_refused kinds scope nm ≡ [] → (args : List ℕ) × (known_args kinds scope nm ≡ Some args) × ((t : ℕ) × (type_named kinds.file nm.name ≡ Some t))
   unfolding named_refused uses_refused known_args named_uses name_refused shape_named
   args_known none = typed (type_named kinds.file nm.name) refl
     where
@@ -102,11 +102,11 @@ module _ (kinds : Kinds) (scope : Scope) (nm : Named) where
           (x.0, x.1, (t, is))
 
 module _ (kinds : Kinds) (p : Program) (f : Func) (scope : Scope) (ids : Ids) (agrees : Agrees kinds p f scope ids) (fields : HasFields p) (parts : HasParts p) where
-  inits_right : (is : List Init) (ws : List Ty) → Each (IsInit language) is → Each (IsWell p) ws → inits_refused kinds scope is ws ≡ [] → operands_broken p f ids ws (init_operands kinds scope is ws) ≡ []
-  inits_right [] ws right well none = refl
-  inits_right (i ∷ is) [] right well none = refl
-  inits_right (i ∷ is) (w ∷ ws) right well none =
-      none_of_both _ _ (operand_kinded kinds p f scope ids agrees fields 0 i.value right.0.0 w well.0 (no_left _ _ none)) (inits_right is ws right.1 well.1 (no_right (operand_refused kinds scope w i.value) _ none))
+  inits_right : (bounds : Bounds) (is : List Init) (ws : List Ty) → Each (IsInit bounds) is → Each (IsWell p) ws → inits_refused kinds scope is ws ≡ [] → operands_broken p f ids ws (init_operands kinds scope is ws) ≡ []
+  inits_right bounds [] ws right well none = refl
+  inits_right bounds (i ∷ is) [] right well none = refl
+  inits_right bounds (i ∷ is) (w ∷ ws) right well none =
+      none_of_both _ _ (operand_kinded kinds p f scope ids agrees fields 0 i.value right.0.0 w well.0 (no_left _ _ none)) (inits_right bounds is ws right.1 well.1 (no_right (operand_refused kinds scope w i.value) _ none))
 
   inits_long : (is : List Init) (ws : List Ty) → length ws ≡ length is → length (init_operands kinds scope is ws) ≡ length ws
   inits_long [] [] e = refl
@@ -144,10 +144,10 @@ module _ (kinds : Kinds) (p : Program) (f : Func) (scope : Scope) (ids : Ids) (a
   chosen true r at rest e = (refl, e)
   chosen false r at rest e = absurd (cons_not_nil (refusal r at) [] e)
 
-  pub make_kinded : (nm : Named) (is : List Init) → Each (IsInit language) is → (key t : ℕ) (args : List ℕ) (v at : ℕ) → type_named kinds.file nm.name ≡ Some t → known_args kinds scope nm ≡ Some args
+  pub make_kinded : (bounds : Bounds) (nm : Named) (is : List Init) → Each (IsInit bounds) is → (key t : ℕ) (args : List ℕ) (v at : ℕ) → type_named kinds.file nm.name ≡ Some t → known_args kinds scope nm ≡ Some args
       → object_refused kinds scope t (Some args) is at ≡ [] → var_type f v ≡ Some (core.tracked key t args) → binding_broken f ids (own_key f v) v ≡ [] → simple_broken p f ids (core.make v (made_operands kinds scope nm is)) ≡ []
   unfolding object_refused struct_refused made_operands
-  make_kinded nm is right key t args v at named known none typed free =
+  make_kinded bounds nm is right key t args v at named known none typed free =
       let struct = chosen (is_struct (slice_get kinds.types t)) rule.WRONG_NEW at _ none in
       let values = chosen (fields_agree (x.fields_of kinds t) is) rule.WRONG_COUNT at _ struct.1 in
       let ops : made_operands kinds scope nm is ≡ init_operands kinds scope is (k.field_types p t args) =
@@ -159,14 +159,14 @@ module _ (kinds : Kinds) (p : Program) (f : Func) (scope : Scope) (ids : Ids) (a
       (none_of_both _ _
       (ap (made_broken p (length (init_operands kinds scope is (k.field_types p t args)))) typed
       ∙ struct_there t (ap (λ ts. is_struct (slice_get ts t)) agrees.types ∙ struct.0) (length (init_operands kinds scope is (k.field_types p t args))) (inits_long is (k.field_types p t args) long ∙ length-map (fields_of p t) (λ d. with_keys args d.ty)))
-      (ap (λ o. operands_broken p f ids (made_types p o) (init_operands kinds scope is (k.field_types p t args))) typed ∙ inits_right is (k.field_types p t args) right (well_fields t args) refused))
+      (ap (λ o. operands_broken p f ids (made_types p o) (init_operands kinds scope is (k.field_types p t args))) typed ∙ inits_right bounds is (k.field_types p t args) right (well_fields t args) refused))
       free)
 
-  pub new_kinded : (nm : Named) (is : List Init) → Each (IsInit language) is → (t : Target) (key u : ℕ) (b : List ℕ) → t.ty ≡ core.tracked key u b → (v hidden at : ℕ) → var_type f v ≡ Some t.ty
+  pub new_kinded : (bounds : Bounds) (nm : Named) (is : List Init) → Each (IsInit bounds) is → (t : Target) (key u : ℕ) (b : List ℕ) → t.ty ≡ core.tracked key u b → (v hidden at : ℕ) → var_type f v ≡ Some t.ty
       → binding_broken f ids (own_key f v) v ≡ [] → new_refused kinds scope t None nm is at ≡ []
       → (ops : List Operand) × (new_forms kinds scope t v hidden None nm is ≡ core.simple (core.make v ops) ∷ []) × (simple_broken p f ids (core.make v ops) ≡ [])
   unfolding new_refused target_refused target_fits made_refused known_made_refused new_forms adopter_refused
-  new_kinded nm is right t key u b form v hidden at typed free none =
+  new_kinded bounds nm is right t key u b form v hidden at typed free none =
       let behind_target = no_right (target_refused false t (type_named kinds.file nm.name) (known_args kinds scope nm) at) _ none in
       let known = args_known kinds scope nm (no_left _ _ behind_target) in
       let fits : target_fits false t known.2.0 (Some known.0) ≡ true =
@@ -179,6 +179,6 @@ module _ (kinds : Kinds) (p : Program) (f : Func) (scope : Scope) (ids : Ids) (a
       no_right (start_refused kinds false t.ty known.2.0 nm.name.at.from) _ (sym (ap₂ (λ o a. made_refused kinds scope false t o a is nm.name.at.from) known.2.1 known.1) ∙ made) in (
         made_operands kinds scope nm is,
         ap (λ ty. made_forms scope ty v hidden None (made_operands kinds scope nm is)) form,
-        make_kinded nm is right key known.2.0 known.0 v nm.name.at.from known.2.1 known.1 objects
+        make_kinded bounds nm is right key known.2.0 known.0 v nm.name.at.from known.2.1 known.1 objects
             (typed ∙ ap Some (form ∙ ap₂ (λ w a. core.tracked key w a) (sym is_u) (sym (same_list known.0 b object.1)))) free,
       )

@@ -7,7 +7,7 @@ use Rattle.std.proofs.lemmas.Option.{none-some, same_Some, cond_some}
 use Rattle.vlt_syntax.specs.Tree as s
 use Rattle.vlt_syntax.specs.Tree.{Name, Build}
 use Rattle.vlt_syntax.specs.Lists.{Each}
-use Rattle.vlt_syntax.specs.Grammar.{IsExpr, IsBuild, language}
+use Rattle.vlt_syntax.specs.Grammar.{Bounds, IsExpr, IsBuild}
 use Rattle.vlt_core.specs.Core as core
 use Rattle.vlt_core.specs.Core.{Ty, int, bool, CaseDecl, TypeDecl, an_abstract, a_struct, a_variant, Operand, Func, Program}
 use Rattle.vlt_core.specs.Lookups.{var_type, cases_in, cases_of}
@@ -56,12 +56,12 @@ operands_long kinds scope (x ∷ es) (w ∷ ws) e = ap suc (operands_long kinds 
 
 module _ (kinds : Kinds) (p : Program) (f : Func) (scope : Scope) (ids : Ids) (agrees : Agrees kinds p f scope ids) (fields : HasFields p) where
   -- several operands, each for its place
-  pub operands_right : (es : List s.Expr) (ws : List Ty) → Each (IsExpr language) es → Each (IsWell p) ws → operands_refused kinds scope ws es ≡ []
+  pub operands_right : (bounds : Bounds) (es : List s.Expr) (ws : List Ty) → Each (IsExpr bounds) es → Each (IsWell p) ws → operands_refused kinds scope ws es ≡ []
       → operands_broken p f ids ws (core_operands kinds scope es ws) ≡ []
-  operands_right [] ws right well none = refl
-  operands_right (e ∷ es) [] right well none = refl
-  operands_right (e ∷ es) (w ∷ ws) right well none =
-      none_of_both _ _ (operand_kinded kinds p f scope ids agrees fields 0 e right.0.0 w well.0 (no_left _ _ none)) (operands_right es ws right.1 well.1 (no_right (operand_refused kinds scope w e) _ none))
+  operands_right bounds [] ws right well none = refl
+  operands_right bounds (e ∷ es) [] right well none = refl
+  operands_right bounds (e ∷ es) (w ∷ ws) right well none =
+      none_of_both _ _ (operand_kinded kinds p f scope ids agrees fields 0 e right.0.0 w well.0 (no_left _ _ none)) (operands_right bounds es ws right.1 well.1 (no_right (operand_refused kinds scope w e) _ none))
 
   -- ---- cases
 
@@ -116,11 +116,11 @@ module _ (kinds : Kinds) (p : Program) (f : Func) (scope : Scope) (ids : Ids) (a
   case_count n None = rule.UNKNOWN_NAME ∷ []
   case_count n (Some d) = unless (n == length d.payload) rule.WRONG_COUNT
 
-  built : (parts : HasParts p) (around : Around) (bd : Build) → IsBuild language bd → (w : Ty) (v : ℕ) → var_type f v ≡ Some w → target_broken f ids v ≡ [] → (o : Option Case) → case_of_tick kinds w bd.case ≡ o
+  built : (parts : HasParts p) (around : Around) (bounds : Bounds) (bd : Build) → IsBuild bounds bd → (w : Ty) (v : ℕ) → var_type f v ≡ Some w → target_broken f ids v ≡ [] → (o : Option Case) → case_of_tick kinds w bd.case ≡ o
       → case_refused kinds scope o bd ≡ [] → row_broken p f around ids (case_form kinds scope v o bd) ≡ []
   unfolding payload_refused
-  built parts around bd right w v typed free None is none = absurd (cons_not_nil (refusal rule.WRONG_TYPE bd.case.at.from) [] none)
-  built parts around bd right w v typed free (Some c) is none =
+  built parts around bounds bd right w v typed free None is none = absurd (cons_not_nil (refusal rule.WRONG_TYPE bd.case.at.from) [] none)
+  built parts around bounds bd right w v typed free (Some c) is none =
       let x = variant_known w bd.case c is in
       let c2 = case_known x.0 x.1 bd.case c x.4 in
       let args : variant_args (var_type f v) ≡ Some (x.0, x.1) = ap variant_args typed ∙ x.2 in
@@ -135,17 +135,17 @@ module _ (kinds : Kinds) (p : Program) (f : Func) (scope : Scope) (ids : Ids) (a
       ∙ (ap (λ b. if b then case_count (length (core_operands kinds scope bd.payload c.payload)) (slice_get (cases_of p x.0) c.number) else []) (variant_there x.0 c.number c2.decl c2.there)
       ∙ (ap (case_count (length (core_operands kinds scope bd.payload c.payload))) c2.there ∙ holds _ rule.WRONG_COUNT (eq-eqb _ _ long)))))
       (ap (λ ws. operands_broken p f ids ws (core_operands kinds scope bd.payload c.payload)) (ap (λ o. payload_types p o c.number) args ∙ (ap (payload_types_in x.1) c2.there ∙ sym c2.payload))
-      ∙ operands_right bd.payload c.payload right well counted.1))
+      ∙ operands_right bounds bd.payload c.payload right well counted.1))
       free
     where
       chosen : (t : Bool) → (if t then operands_refused kinds scope c.payload bd.payload else refusal rule.WRONG_COUNT bd.case.at.from ∷ []) ≡ [] → (t ≡ true) × (operands_refused kinds scope c.payload bd.payload ≡ [])
       chosen true e = (refl, e)
       chosen false e = absurd (cons_not_nil _ _ e)
 
-  pub build_kinded : (parts : HasParts p) (around : Around) (bd : Build) → IsBuild language bd → (w : Ty) (v : ℕ) → var_type f v ≡ Some w → target_broken f ids v ≡ [] → build_refused kinds scope w bd ≡ []
+  pub build_kinded : (parts : HasParts p) (around : Around) (bounds : Bounds) (bd : Build) → IsBuild bounds bd → (w : Ty) (v : ℕ) → var_type f v ≡ Some w → target_broken f ids v ≡ [] → build_refused kinds scope w bd ≡ []
       → row_broken p f around ids (core_build kinds scope w v bd) ≡ []
   unfolding build_refused core_build
-  build_kinded parts around bd right w v typed free none = built parts around bd right w v typed free (case_of_tick kinds w bd.case) refl none
+  build_kinded parts around bounds bd right w v typed free none = built parts around bounds bd right w v typed free (case_of_tick kinds w bd.case) refl none
 
 pub input_kinded : (p : Program) (f : Func) (ids : Ids) (around : Around) (w : Ty) (v at : ℕ) → var_type f v ≡ Some w → target_broken f ids v ≡ []
     → (input_refused int w at ≡ [] → row_broken p f around ids (core.simple (core.input v false)) ≡ []) × (input_refused bool w at ≡ [] → row_broken p f around ids (core.simple (core.input v true)) ≡ [])
@@ -162,7 +162,7 @@ unfolding may_drop_struct
 droppable_same kinds p t types sets = ap₂ (λ ss ts. is_droppable_struct (record { sets = ss; types = ts; fns = []; main = 0 }) t) sets types
 
 module _ (kinds : Kinds) (p : Program) (f : Func) (scope : Scope) (ids : Ids) (agrees : Agrees kinds p f scope ids) (fields : HasFields p) (sets : p.sets ≡ kinds.file.sets) where
-  adopted : (around : Around) (x r : Name) (v : ℕ) (tx tr w : Ty) → var_type f v ≡ Some w → target_broken f ids v ≡ [] → (nx nr : ℕ) → var_type f nx ≡ Some tx → var_type f nr ≡ Some tr → use_broken f ids nx ≡ [] → use_broken f ids nr ≡ []
+  pub adopted : (around : Around) (x r : Name) (v : ℕ) (tx tr w : Ty) → var_type f v ≡ Some w → target_broken f ids v ≡ [] → (nx nr : ℕ) → var_type f nx ≡ Some tx → var_type f nr ≡ Some tr → use_broken f ids nx ≡ [] → use_broken f ids nr ≡ []
       → (is_guarded w && (recipient_fits (Some tr) w && object_fits (Some tx) w)) ≡ true → is_adoptable kinds tx ≡ true → simple_broken p f ids (core.adopt v nx nr) ≡ []
   unfolding is_same_object
   adopted around x r v (core.tracked k t a) (core.tracked j u c) (core.guarded l w b) typed free nx nr is_x is_r used_x used_r fits adopts =

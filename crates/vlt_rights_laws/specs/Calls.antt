@@ -2,7 +2,7 @@
 use Rattle.std.specs.Prelude.{◌≡◌, ℕ, ◌<◌, ◌≤◌, nat_lt, true, false, List, [], ◌++◌, length, Option, None, Some, slice_get, Bool}
 use Rattle.vlt_syntax.specs.Tree.{Head, Call}
 use Rattle.vlt_syntax.specs.Lists.{Each}
-use Rattle.vlt_syntax.specs.Grammar.{IsCall, language}
+use Rattle.vlt_syntax.specs.Grammar.{Bounds, IsCall}
 use Rattle.vlt_core.specs.Core.{Ty, tracked, VarDecl, Func, Program}
 use Rattle.vlt_core.specs.Lookups.{var_type, is_new}
 use Rattle.vlt_core.specs.Types.{keys_of_ty}
@@ -61,13 +61,13 @@ HasCallees kinds p = (number : ℕ) (head : Func) → slice_get kinds.heads numb
 -- a call whose result is dropped
 abbrev pub DroppedCallsAreKinded : Type 0
 DroppedCallsAreKinded = (kinds : Kinds) (p : Program) (f : Func) (scope : Scope) (ids : Ids) → Reads kinds p f scope ids → HasFields p → HasParts p → HasCallees kinds p →
-    (around : Around) (c : Call) → IsCall language c → (at : ℕ) → call_refused kinds scope (dropped at) c ≡ [] →
+    (around : Around) (c : Call) (bounds : Bounds) → IsCall bounds c → (at : ℕ) → call_refused kinds scope (dropped at) c ≡ [] →
     row_broken p f around ids (core_call kinds scope (dropped at) None c) ≡ []
 
 -- a call for a target, whose key is bound with it or not
 abbrev pub CallsAreKinded : Type 0
 CallsAreKinded = (kinds : Kinds) (p : Program) (f : Func) (scope : Scope) (ids : Ids) → Reads kinds p f scope ids → HasFields p → HasParts p → HasCallees kinds p →
-    (around : Around) (c : Call) → IsCall language c → (t : Target) (v : ℕ) → IsTarget f ids t v →
+    (around : Around) (c : Call) (bounds : Bounds) → IsCall bounds c → (t : Target) (v : ℕ) → IsTarget f ids t v →
     call_refused kinds scope (given t) c ≡ [] → row_broken p f around ids (core_call kinds scope (given t) (Some v) c) ≡ []
 
 -- a head that is refused nothing is that of a function that may be called

@@ -1,7 +1,7 @@
 -- Right sides that aren't refused break no rule on numbers.
 use Rattle.std.specs.Prelude.{◌≡◌, ℕ, true, false, [], Some}
 use Rattle.vlt_syntax.specs.Tree.{Name, Build}
-use Rattle.vlt_syntax.specs.Grammar.{IsBuild, language}
+use Rattle.vlt_syntax.specs.Grammar.{Bounds, IsBuild}
 use Rattle.vlt_core.specs.Core as core
 use Rattle.vlt_core.specs.Core.{Ty, Func, Program}
 use Rattle.vlt_core.specs.Lookups.{var_type}
@@ -18,7 +18,7 @@ use Rattle.vlt_rights_laws.specs.Parts.{HasParts}
 -- a case with its payloads, for a variable that may get a value here
 abbrev pub BuildsAreKinded : Type 0
 BuildsAreKinded = (kinds : Kinds) (p : Program) (f : Func) (scope : Scope) (ids : Ids) → Agrees kinds p f scope ids → HasFields p → HasParts p → (around : Around) →
-    (b : Build) → IsBuild language b → (w : Ty) (v : ℕ) → var_type f v ≡ Some w → target_broken f ids v ≡ [] → build_refused kinds scope w b ≡ [] →
+    (bounds : Bounds) (b : Build) → IsBuild bounds b → (w : Ty) (v : ℕ) → var_type f v ≡ Some w → target_broken f ids v ≡ [] → build_refused kinds scope w b ≡ [] →
     row_broken p f around ids (core_build kinds scope w v b) ≡ []
 
 -- `input()` for an int, and `more()` for a bool

@@ -1,0 +1,9 @@
+pub mod Heads
+pub mod Starting
+pub mod Given
+pub mod Bodies
+pub mod Made
+pub mod Ticks
+pub mod Whole
+pub mod Filled
+pub mod Arms

@@ -1,0 +1,10 @@
+pub mod Lists
+pub mod Results
+pub mod Cases
+pub mod Walking
+pub mod Binding
+pub mod Growing
+pub mod Bound
+pub mod Payloads
+pub mod Switching
+pub mod Keeping
