@@ -1,5 +1,5 @@
 -- Declarations and assignments.
-use Rattle.std.proofs.Common.{◌≡◌, ℕ, ◌&&◌, nat_lt, Bool, true, false, true≢false, not, if◌then◌else◌, List, [], ◌∷◌, ◌++◌, length, Option, Some, None, is_some, slice_get, option_map, refl, sym, ap, ap₂, ◌∙◌, subst}
+use Rattle.std.proofs.Common.{◌≡◌, ℕ, ◌&&◌, nat_lt, Bool, true, false, true≢false, not, if◌then◌else◌, List, [], ◌∷◌, ◌++◌, length, Option, Some, None, option_map, refl, sym, ap, ap₂, ◌∙◌, subst}
 use Rattle.std.proofs.lemmas.Bool.{lt-ltb, or_right}
 use Rattle.std.proofs.lemmas.Option.{slice_get_within}
 use Rattle.vlt_base.specs.declared.places.Span.{Span}
@@ -7,7 +7,6 @@ use Rattle.vlt_syntax.specs.Tree as s
 use Rattle.vlt_syntax.specs.Tree.{Name, Named, Init, Right}
 use Rattle.vlt_syntax.specs.Lists.{Each}
 use Rattle.vlt_syntax.specs.Grammar.{Bounds, IsInit, IsRight}
-use Rattle.vlt_core.specs.Core as core
 use Rattle.vlt_core.specs.Core.{Ty, Func, Program}
 use Rattle.vlt_core.specs.View.{stmts_made}
 use Rattle.vlt_core.specs.Lookups.{var_type, is_owning}
@@ -20,11 +19,11 @@ use Rattle.vlt_kinds_laws.specs.Shapes.{Describes}
 use Rattle.vlt_kinds_laws.proofs.Empty.{no_left, no_right}
 use Rattle.vlt_kinds_laws.proofs.Parts.{each_other}
 use Rattle.vlt_resolve_exprs.specs.Refused.{unknown_name}
-use Rattle.vlt_resolve_exprs.specs.Scopes.{Scope, var_named, var_ty, more_key, with_key, with_var}
+use Rattle.vlt_resolve_exprs.specs.Scopes.{Scope, var_named, var_ty, with_key, with_var}
 use Rattle.vlt_resolve_exprs.specs.Exprs.{number_of, var_number}
 use Rattle.vlt_resolve_exprs.specs.Bindings.{new_key_refused, new_var_refused}
 use Rattle.vlt_resolve_calls.specs.Targets.{Target}
-use Rattle.vlt_resolve_rights.specs.News.{hides, hidden_refused, with_object, with_hidden, new_refused}
+use Rattle.vlt_resolve_rights.specs.News.{hides, hidden_refused, with_object, with_hidden}
 use Rattle.vlt_resolve_rights.specs.Rights.{right_refused, right_forms}
 use Rattle.vlt_resolve_stmts.specs.Around.{Around}
 use Rattle.vlt_resolve_stmts.specs.Declarations.{Became, is_known_key, binds_key, bound_key_refused, with_bound_key, type_refused, key_number, declared_ty, declared_target, hidden_right_refused, declared_refused, declared_became, hidden_became, keyed_refused, keyed_became, declare_refused, declare_became, assigned_target, assign_refused, assign_became}

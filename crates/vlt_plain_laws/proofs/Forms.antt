@@ -1,5 +1,5 @@
 -- One form or two, as a list of statements.
-use Rattle.std.proofs.Common.{◌≡◌, ℕ, Bool, false, List, [], ◌∷◌, ◌++◌, refl, sym, ap, ◌∙◌, subst, append_assoc}
+use Rattle.std.proofs.Common.{◌≡◌, ℕ, Bool, false, List, [], ◌∷◌, ◌++◌, sym, ap, ◌∙◌, subst, append_assoc}
 use Rattle.vlt_core.specs.Core as core
 use Rattle.vlt_core.specs.Core.{Form, Func, Program}
 use Rattle.vlt_core.specs.View.{stmts_made}
@@ -41,9 +41,12 @@ module _ (kinds : Kinds) (p : Program) (f : Func) (around : Around) (at : ℕ) w
   two_in_step : (ids mid after : Ids) (first second : Form) (last : Scope) (ended : Bool) → IsRow p f (core_around around) ids first mid false → IsRow p f (core_around around) mid second after ended
       → InStep kinds p f last after → AreInStep kinds p f around ids false (core.next at first (core.next at second core.done)) last ended
   two_in_step ids mid after first second last ended one two step = record {
-    rows = (one.row, subst (λ rs. BreakNothing (rs ++ rows_from (ids_behind p f first ids) (ends first) second)) (sym one.rows)
-        (subst (λ b. BreakNothing (rows_from (ids_behind p f first ids) b second)) (sym one.ends)
-        (subst (λ x. BreakNothing (rows_from x false second)) (sym one.behind) (row_alone mid after second ended two))));
+    rows = (
+      one.row,
+      subst (λ rs. BreakNothing (rs ++ rows_from (ids_behind p f first ids) (ends first) second)) (sym one.rows)
+          (subst (λ b. BreakNothing (rows_from (ids_behind p f first ids) b second)) (sym one.ends)
+          (subst (λ x. BreakNothing (rows_from x false second)) (sym one.behind) (row_alone mid after second ended two))),
+    );
     step = subst (λ x. InStep kinds p f last (ids_behind p f second x)) (sym one.behind) (subst (InStep kinds p f last) (sym two.behind) step);
     ends = two.ends;
   }

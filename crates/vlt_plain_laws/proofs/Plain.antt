@@ -1,5 +1,5 @@
 -- All statements without blocks.
-use Rattle.std.proofs.Common.{◌≡◌, ℕ, Bool, true, false, true≢false, not, List, [], ◌∷◌, Option, Some, None, is_some, ⊎_elim, refl, sym, ap, ◌∙◌, subst}
+use Rattle.std.proofs.Common.{◌≡◌, ℕ, Bool, true, false, true≢false, List, [], ◌∷◌, Option, Some, None, ⊎_elim, refl, sym}
 use Rattle.std.proofs.lemmas.Bool.{not-false}
 use Rattle.vlt_syntax.specs.Tree as s
 use Rattle.vlt_syntax.specs.Tree.{Name, Stmt, Returned}
@@ -7,14 +7,13 @@ use Rattle.vlt_syntax.specs.Grammar.{Bounds, IsCall, IsStmt}
 use Rattle.vlt_core.specs.Core as core
 use Rattle.vlt_core.specs.Core.{Ty, Simple, Form, Func, Program}
 use Rattle.vlt_core.specs.View.{stmts_made}
-use Rattle.vlt_core.specs.KindedHeads.{unless}
 use Rattle.vlt_core.specs.KindedScopes.{Ids}
 use Rattle.vlt_core.specs.KindedStatements.{ids_after}
 use Rattle.vlt_core.specs.KindedBodies.{row_broken}
 use Rattle.vlt_core.specs.declared.rules.TheConstants as rule
 use Rattle.vlt_kinds.specs.Kinds.{Kinds}
 use Rattle.vlt_kinds_laws.specs.Shapes.{Describes}
-use Rattle.vlt_kinds_laws.proofs.Empty.{no_left, no_right, not_broken, holds}
+use Rattle.vlt_kinds_laws.proofs.Empty.{not_broken, holds}
 use Rattle.vlt_resolve_exprs.specs.Scopes.{Scope, var_ty}
 use Rattle.vlt_resolve_exprs.specs.Exprs.{core_expr, var_number}
 use Rattle.vlt_resolve_calls.specs.Calls.{dropped, call_refused, core_call}

@@ -1,5 +1,5 @@
 -- The result of a function, where nothing is refused in its head.
-use Rattle.std.proofs.Common.{◌≡◌, ℕ, Bool, true, List, [], ◌++◌, Option, Some, None, option_map, refl, sym, ap, ◌∙◌, subst}
+use Rattle.std.proofs.Common.{◌≡◌, ℕ, Bool, true, List, [], ◌++◌, Some, option_map, refl, sym, ap, ◌∙◌, subst}
 use Rattle.std.proofs.lemmas.Option.{none-some, same_Some}
 use Rattle.vlt_syntax.specs.Tree as s
 use Rattle.vlt_syntax.specs.Tree.{Head, Outcome}

@@ -1,5 +1,5 @@
 -- Keys in types that aren't refused are in scope, and their objects are of the types that are wanted there.
-use Rattle.std.proofs.Common.{◌≡◌, ℕ, Bool, true, false, true≢false, not, ◌==◌, if◌then◌else◌, List, [], ◌∷◌, ◌++◌, map, length, Option, Some, None, slice_get, option_map, unwrap_or, refl, sym, ap, ap₂, ◌∙◌, subst}
+use Rattle.std.proofs.Common.{◌≡◌, ℕ, Bool, true, false, true≢false, ◌==◌, if◌then◌else◌, List, [], ◌∷◌, length, Option, Some, None, slice_get, option_map, unwrap_or, refl, sym, ap, ap₂, ◌∙◌, subst}
 use Rattle.std.proofs.lemmas.Bool.{eqb-true, not-false}
 use Rattle.std.proofs.lemmas.Option.{none-some, same_Some}
 use Rattle.std.specs.Map.{lookup}
@@ -26,13 +26,13 @@ use Rattle.vlt_kinds_types.specs.Types as t
 use Rattle.vlt_kinds_types.specs.Types.{KeyUse, ty_refused, ty_uses, named_uses, form_refused, sort_in, ty_place, key_numbers, type_number}
 use Rattle.vlt_kinds.specs.Kinds.{Kinds}
 use Rattle.vlt_kinds_laws.specs.Shapes.{core_shape, Describes, IsDeclaredOf}
-use Rattle.vlt_kinds_laws.proofs.Empty.{cons_not_nil, no_left, no_right, none_of_both, not_broken, holds, none_in_each}
+use Rattle.vlt_kinds_laws.proofs.Empty.{cons_not_nil, no_left, no_right, none_of_both, not_broken, none_in_each}
 use Rattle.vlt_kinds_laws.proofs.Named.{shape_is}
 use Rattle.vlt_kinds_laws.proofs.Written.{ty_well, written}
 use Rattle.vlt_kinds_laws.proofs.Uses.{keys_are_uses, ty_typings, named_numbers, named_typings}
 use Rattle.vlt_kinds_laws.proofs.Parts.{WhereTyped, each_number, each_typing, each_other}
 use Rattle.vlt_heads_laws.proofs.Tables.{name_itself, found_behind}
-use Rattle.vlt_resolve_exprs.specs.Scopes.{Scope, as_key, key_named, key_type, object_type_in, more_key, with_key}
+use Rattle.vlt_resolve_exprs.specs.Scopes.{Scope, as_key, key_named, key_type, object_type_in, with_key}
 use Rattle.vlt_resolve_exprs.specs.Exprs.{number_of}
 use Rattle.vlt_resolve_rights.specs.News as n
 use Rattle.vlt_resolve_rights.specs.News.{typed_refused, known_refused, use_refused, uses_refused, named_refused, with_known, known_keys, keys_of_shape, known_args}

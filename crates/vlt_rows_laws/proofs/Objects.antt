@@ -1,5 +1,5 @@
 -- Right sides with a hidden variable: a new object for an owner, and one that is adopted at once.
-use Rattle.std.proofs.Common.{◌≡◌, ℕ, Bool, true, false, true≢false, not, ◌&&◌, ◌==◌, nat_lt, if◌then◌else◌, List, [], ◌∷◌, ◌++◌, length, Option, Some, None, slice_get, option_map, refl, sym, ap, ap₂, ◌∙◌, subst}
+use Rattle.std.proofs.Common.{◌≡◌, ℕ, Bool, true, false, true≢false, not, ◌==◌, nat_lt, if◌then◌else◌, List, [], ◌∷◌, length, Option, Some, None, slice_get, option_map, refl, sym, ap, ap₂, ◌∙◌, subst}
 use Rattle.std.proofs.lemmas.Bool.{eqb-true, eq-eqb, lt-ltb, or_left, or_right, not-false, and_parts, and_from}
 use Rattle.std.proofs.lemmas.Option.{slice_get_within}
 use Rattle.vlt_base.specs.declared.places.Span.{Span}
@@ -10,7 +10,7 @@ use Rattle.vlt_syntax.specs.Grammar.{Bounds, IsInit}
 use Rattle.vlt_core.specs.Core as core
 use Rattle.vlt_core.specs.Core.{States, Ty, TypeDecl, Form, Func, Program}
 use Rattle.vlt_core.specs.Lookups.{var_type, is_owning, owns, key_type_in}
-use Rattle.vlt_core.specs.Types.{decl_of, is_struct, is_variant, lies_within, same_object}
+use Rattle.vlt_core.specs.Types.{decl_of, is_struct, is_variant, same_object}
 use Rattle.vlt_core.specs.KindedHeads.{unless, when_some, has, states_broken}
 use Rattle.vlt_core.specs.KindedScopes.{Ids, Around, with_target, tracked_key, own_key, use_broken, target_broken}
 use Rattle.vlt_core.specs.KindedOperands.{pack_broken, operand_broken}
@@ -25,11 +25,11 @@ use Rattle.vlt_kinds_laws.proofs.Empty.{cons_not_nil, no_left, no_right, none_of
 use Rattle.vlt_kinds_laws.proofs.States.{lies_within_by}
 use Rattle.vlt_resolve_exprs.specs.Refused.{unknown_name}
 use Rattle.vlt_resolve_exprs.specs.Types.{is_same_object}
-use Rattle.vlt_resolve_exprs.specs.Scopes.{Scope, var_named, var_ty, more_key, more_var}
+use Rattle.vlt_resolve_exprs.specs.Scopes.{Scope, var_named, var_ty, more_key}
 use Rattle.vlt_resolve_exprs.specs.Exprs.{number_of, var_number}
 use Rattle.vlt_resolve_calls.specs.Targets.{Target}
 use Rattle.vlt_resolve_rights.specs.Droppable.{may_drop_struct}
-use Rattle.vlt_resolve_rights.specs.News.{known_args, target_fits, target_refused, guards, recipient_unfit, recipient_refused, adopter_refused, releases_first, adopted_refused, start_refused, named_refused, object_refused, known_made_refused, made_refused, is_some_name, hides, new_refused, args_or_none, with_object, made_operands, new_forms}
+use Rattle.vlt_resolve_rights.specs.News.{known_args, target_fits, target_refused, guards, recipient_unfit, recipient_refused, adopter_refused, adopted_refused, start_refused, named_refused, object_refused, known_made_refused, made_refused, is_some_name, hides, new_refused, args_or_none, with_object, made_operands, new_forms}
 use Rattle.vlt_resolve_laws.specs.Agrees.{Agrees, HasFields}
 use Rattle.vlt_resolve_laws.specs.Steps.{IsTyped, InStep, ids_with_key, ids_with_var}
 use Rattle.vlt_resolve_laws.proofs.Exprs.{known_name}

@@ -1,5 +1,5 @@
 -- Objects that are opened into variables.
-use Rattle.std.proofs.Common.{◌≡◌, ℕ, suc, ◌+◌, Bool, true, false, true≢false, ◌==◌, cond, if◌then◌else◌, List, [], ◌∷◌, ◌++◌, map, filter, length, Option, Some, None, slice_get, option_map, refl, sym, ap, ◌∙◌, subst, arith, append_assoc}
+use Rattle.std.proofs.Common.{◌≡◌, ℕ, suc, ◌+◌, Bool, true, false, ◌==◌, cond, if◌then◌else◌, List, [], ◌∷◌, ◌++◌, map, filter, length, Option, Some, None, slice_get, option_map, refl, sym, ap, ◌∙◌, subst, arith, append_assoc}
 use Rattle.std.proofs.lemmas.Bool.{eqb-true, eq-eqb, and_from}
 use Rattle.std.proofs.lemmas.List.{length_push}
 use Rattle.std.proofs.lemmas.Option.{same_Some}
@@ -16,10 +16,10 @@ use Rattle.vlt_core.specs.KindedStatements.{tracked_type, owning_field_types, op
 use Rattle.vlt_core.specs.declared.rules.TheConstants as rule
 use Rattle.vlt_kinds_names.specs.Refusals.{refusal}
 use Rattle.vlt_kinds.specs.Kinds.{Kinds}
-use Rattle.vlt_kinds_laws.proofs.Empty.{cons_not_nil, no_left, no_right, none_of_both, holds}
+use Rattle.vlt_kinds_laws.proofs.Empty.{cons_not_nil, no_right, none_of_both, holds}
 use Rattle.vlt_kinds_laws.proofs.States.{lies_within_by}
 use Rattle.vlt_resolve_exprs.specs.Types.{ty_under}
-use Rattle.vlt_resolve_exprs.specs.Scopes.{Scope, var_named, var_ty, with_var}
+use Rattle.vlt_resolve_exprs.specs.Scopes.{Scope, var_ty, with_var}
 use Rattle.vlt_resolve_exprs.specs.Exprs as ex
 use Rattle.vlt_resolve_exprs.specs.Exprs.{number_of, var_number, Object}
 use Rattle.vlt_resolve_exprs.specs.Bindings.{new_var_refused, new_vars_refused, with_vars, numbers_from, several_refused, with_several, several_numbers}
@@ -27,7 +27,7 @@ use Rattle.vlt_resolve_stmts.specs.Declarations.{Became}
 use Rattle.vlt_resolve_stmts.specs.Statements.{owning_types, opened_parts, unopened_refused, opened_refused, open_refused, opened_became, open_became}
 use Rattle.vlt_resolve_laws.specs.Agrees.{HasFields}
 use Rattle.vlt_resolve_laws.specs.Steps.{IsTyped, InStep, ids_with_var}
-use Rattle.vlt_resolve_laws.proofs.Exprs.{under_owning, Named, typed_name}
+use Rattle.vlt_resolve_laws.proofs.Exprs.{under_owning, typed_name}
 use Rattle.vlt_resolve_laws.proofs.Steps.{var_law}
 use Rattle.vlt_rights_laws.specs.Parts.{FitsPart, HasParts}
 use Rattle.vlt_rights_laws.proofs.Shapes.{keys_self, states_same}

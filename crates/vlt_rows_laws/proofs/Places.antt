@@ -1,20 +1,19 @@
 -- Variables and keys that are bound, by number.
-use Rattle.std.proofs.Common.{◌≡◌, ℕ, ◌<◌, nat_lt, Bool, true, false, true≢false, not, ◌&&◌, ◌==◌, if◌then◌else◌, List, [], ◌∷◌, ◌++◌, length, Option, Some, None, slice_get, option_map, refl, sym, ap, ap₂, ◌∙◌, subst, arith, append-nil}
+use Rattle.std.proofs.Common.{◌≡◌, ℕ, nat_lt, Bool, true, false, not, ◌&&◌, if◌then◌else◌, List, [], ◌∷◌, ◌++◌, length, Option, Some, None, slice_get, option_map, refl, ap, ap₂, ◌∙◌, arith, append-nil}
 use Rattle.std.specs.List.{flat_map}
 use Rattle.std.proofs.lemmas.Bool.{lt-ltb, ltb-true, and_parts}
 use Rattle.std.proofs.lemmas.Option.{none-some, slice_get_within}
 use Rattle.vlt_syntax.specs.Lists.{Each}
-use Rattle.vlt_core.specs.Core as core
 use Rattle.vlt_core.specs.Core.{Ty, Tok, a_key, a_var, VarDecl, Func, Program}
-use Rattle.vlt_core.specs.Lookups.{var_type, is_owning, owns, is_owning_var}
+use Rattle.vlt_core.specs.Lookups.{var_type, is_owning, owns}
 use Rattle.vlt_core.specs.Types.{keys_of_ty}
-use Rattle.vlt_core.specs.KindedHeads.{Rules, unless, has, new_keys}
+use Rattle.vlt_core.specs.KindedHeads.{unless, has, new_keys}
 use Rattle.vlt_core.specs.declared.rules.TheConstants as rule
-use Rattle.vlt_core.specs.KindedScopes.{Ids, with_key, with_var, with_tokens, with_binding, with_target, tracked_key, own_key, fresh_broken, keys_broken, binding_broken, target_broken}
+use Rattle.vlt_core.specs.KindedScopes.{Ids, with_key, with_var, with_tokens, with_binding, with_target, own_key, fresh_broken, keys_broken, binding_broken, target_broken}
 use Rattle.vlt_kinds.specs.Kinds.{Kinds}
 use Rattle.vlt_kinds_laws.proofs.Empty.{none_of_both, holds}
 use Rattle.vlt_resolve_exprs.specs.Scopes.{Scope}
-use Rattle.vlt_resolve_laws.specs.Steps.{is_old, InStep, ids_with_key, tok_if, ids_with_var}
+use Rattle.vlt_resolve_laws.specs.Steps.{InStep, ids_with_key, tok_if, ids_with_var}
 use Rattle.vlt_rights_laws.specs.Calls.{Reads}
 use Rattle.vlt_rights_laws.proofs.Callees.{reads_now}
 

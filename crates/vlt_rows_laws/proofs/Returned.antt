@@ -1,8 +1,8 @@
 -- What is returned: a value, an object for a `new` key, or a case by way of a hidden variable.
-use Rattle.std.proofs.Common.{◌≡◌, ℕ, ◌<◌, nat_lt, Bool, true, false, true≢false, not, ◌&&◌, ◌||◌, ◌==◌, cond, if◌then◌else◌, List, [], ◌∷◌, ◌++◌, map, filter, length, Option, Some, None, is_some, slice_get, option_map, ◌⊎◌, inl, inr, ⊎_elim, refl, sym, ap, ◌∙◌, subst}
+use Rattle.std.proofs.Common.{◌≡◌, ℕ, nat_lt, Bool, true, false, true≢false, not, ◌&&◌, ◌==◌, cond, if◌then◌else◌, List, [], ◌∷◌, ◌++◌, map, filter, length, Option, Some, None, is_some, option_map, ◌⊎◌, inl, inr, ⊎_elim, refl, sym, ap, ◌∙◌, subst}
 use Rattle.std.specs.List.{list_any}
-use Rattle.std.proofs.lemmas.Bool.{eq-eqb, ltb-true, or_left, or_right, or_parts, or_from, not-false, and_parts, and_from}
-use Rattle.std.proofs.lemmas.Option.{none-some, same_Some}
+use Rattle.std.proofs.lemmas.Bool.{eq-eqb, ltb-true, or_left, or_right, or_parts, or_from, and_parts, and_from}
+use Rattle.std.proofs.lemmas.Option.{same_Some}
 use Rattle.vlt_syntax.specs.Tree as s
 use Rattle.vlt_syntax.specs.Lists.{Each}
 use Rattle.vlt_syntax.specs.Grammar.{Bounds, IsExpr, IsReturned}
@@ -11,11 +11,10 @@ use Rattle.vlt_core.specs.Core.{Ty, Entry, KeyDecl, VarDecl, Header, Form, Opera
 use Rattle.vlt_core.specs.Lookups.{var_type, is_owning, key_type_in, is_new, is_given_back}
 use Rattle.vlt_core.specs.Types.{header_of, same_object, keys_of_ty}
 use Rattle.vlt_core.specs.KindedHeads.{Rules, unless, when_some, has, keys_of_parameters, new_keys, Typing, arg_typings, typings}
-use Rattle.vlt_core.specs.KindedScopes.{Ids, Around, with_target, use_broken}
+use Rattle.vlt_core.specs.KindedScopes.{Ids, Around, use_broken}
 use Rattle.vlt_core.specs.KindedOperands.{misfit, unless_owning, type_of_expr, fits_owning, move_broken, operand_broken, not_owning_broken}
 use Rattle.vlt_core.specs.KindedStatements.{is_tracked_type}
 use Rattle.vlt_core.specs.KindedCalls.{kept_keys, new_result_broken, returned_broken, return_broken}
-use Rattle.vlt_core.specs.KindedBodies.{row_broken}
 use Rattle.vlt_core.specs.declared.rules.TheConstants as rule
 use Rattle.vlt_kinds_names.specs.declared.found.Refusal.{Refusal}
 use Rattle.vlt_kinds_names.specs.Refusals.{refusal, refuse_if}
@@ -24,24 +23,23 @@ use Rattle.vlt_kinds_laws.proofs.Empty.{cons_not_nil, no_left, no_right, none_of
 use Rattle.vlt_kinds_laws.proofs.Parts.{each_other}
 use Rattle.vlt_kinds_laws.proofs.States.{lies_within_by}
 use Rattle.vlt_resolve_exprs.specs.Scopes.{Scope, var_named, more_var}
-use Rattle.vlt_resolve_exprs.specs.Exprs.{expr_place, expr_refused, type_of, core_expr}
+use Rattle.vlt_resolve_exprs.specs.Exprs.{expr_place, expr_refused, core_expr}
 use Rattle.vlt_resolve_exprs.specs.Types.{is_same_object}
 use Rattle.vlt_resolve_exprs.specs.Operands.{operand_refused, operand_for, core_operand}
 use Rattle.vlt_resolve_exprs.specs.Bindings.{too_many_vars}
-use Rattle.vlt_resolve_calls.specs.Builds.{Case, case_of_tick, build_refused, case_form, core_build}
+use Rattle.vlt_resolve_calls.specs.Builds.{build_refused, core_build}
 use Rattle.vlt_resolve_calls.specs.Calls.{has_fresh}
 use Rattle.vlt_resolve_stmts.specs.Declarations.{Became}
 use Rattle.vlt_resolve_stmts.specs.Around as st
-use Rattle.vlt_resolve_stmts.specs.Statements.{same_but_key, gives_back, fresh_misfit, fresh_refused, value_refused, value_refused_for, build_refused_for, built_refused, returned_refused, gives_value, differ, return_refused, hidden_operand, returned_value, returned_build, return_became}
+use Rattle.vlt_resolve_stmts.specs.Statements.{same_but_key, gives_back, fresh_misfit, fresh_refused, value_refused, value_refused_for, build_refused_for, built_refused, returned_refused, differ, return_refused, hidden_operand, returned_value, returned_build, return_became}
 use Rattle.vlt_resolve_laws.specs.Agrees.{Agrees, HasFields}
 use Rattle.vlt_resolve_laws.specs.Exprs.{IsKindedExpr}
-use Rattle.vlt_resolve_laws.specs.Steps.{type_among, IsTyped, is_old, InStep, ids_with_var}
+use Rattle.vlt_resolve_laws.specs.Steps.{type_among, IsTyped, InStep, ids_with_var}
 use Rattle.vlt_resolve_laws.proofs.Exprs.{plain_type, kinded}
 use Rattle.vlt_resolve_laws.proofs.Operands.{operand_kinded}
 use Rattle.vlt_resolve_laws.proofs.Steps.{there_below, var_law}
 use Rattle.vlt_rights_laws.specs.Parts.{HasParts}
 use Rattle.vlt_rights_laws.proofs.Rights.{build_kinded}
-use Rattle.vlt_rights_laws.proofs.Shapes.{each_of}
 use Rattle.vlt_rights_laws.proofs.Calls.{has_split, some_new, none_of_new}
 use Rattle.vlt_rows_laws.specs.Rows.{IsRow, RowInStep, RowsInStep, HasResult}
 use Rattle.vlt_rows_laws.proofs.Growing.{at_part}

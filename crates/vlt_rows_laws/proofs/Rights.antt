@@ -1,5 +1,5 @@
 -- Right sides that become one row.
-use Rattle.std.proofs.Common.{◌≡◌, ℕ, Bool, true, false, true≢false, not, ◌&&◌, if◌then◌else◌, List, [], ◌∷◌, Option, Some, None, refl, sym, ap, ◌∙◌, subst}
+use Rattle.std.proofs.Common.{◌≡◌, ℕ, Bool, true, false, true≢false, if◌then◌else◌, List, [], ◌∷◌, Option, Some, None, refl, sym, ap, ◌∙◌, subst}
 use Rattle.std.proofs.lemmas.Bool.{not-false, and_parts}
 use Rattle.vlt_base.specs.declared.places.Span.{Span}
 use Rattle.vlt_syntax.specs.Tree as s
@@ -17,7 +17,7 @@ use Rattle.vlt_kinds_names.specs.Refusals.{refusal}
 use Rattle.vlt_kinds_types.specs.Files.{type_named}
 use Rattle.vlt_kinds.specs.Kinds.{Kinds}
 use Rattle.vlt_kinds_laws.proofs.Empty.{cons_not_nil, no_left, no_right, not_broken}
-use Rattle.vlt_resolve_exprs.specs.Scopes.{Scope, var_ty}
+use Rattle.vlt_resolve_exprs.specs.Scopes.{Scope}
 use Rattle.vlt_resolve_exprs.specs.Exprs.{type_of, core_expr}
 use Rattle.vlt_resolve_exprs.specs.Operands.{variable_in, operand_for}
 use Rattle.vlt_resolve_exprs.specs.Types.{is_same_ty}
@@ -26,7 +26,7 @@ use Rattle.vlt_resolve_calls.specs.Builds.{Case, case_of_tick, build_refused, ca
 use Rattle.vlt_resolve_calls.specs.Calls.{given, call_refused, core_call}
 use Rattle.vlt_resolve_rights.specs.News.{known_args, target_fits, target_refused, adopter_refused, named_refused, hides, new_refused, new_forms}
 use Rattle.vlt_resolve_rights.specs.Adopts.{adopt_fits, adopt_refused, core_adopt}
-use Rattle.vlt_resolve_rights.specs.Rights.{input_refused, target_right_refused, right_refused, target_right_forms, right_forms}
+use Rattle.vlt_resolve_rights.specs.Rights.{input_refused, right_refused, right_forms}
 use Rattle.vlt_resolve_laws.specs.Agrees.{HasFields}
 use Rattle.vlt_resolve_laws.specs.Exprs.{binds_right}
 use Rattle.vlt_resolve_laws.proofs.Operands.{target_kinded}
@@ -227,7 +227,7 @@ module _ (kinds : Kinds) (p : Program) (f : Func) (scope : Scope) (ids : Ids) (r
       let fit = new_fits kinds scope false t n at.from (no_left _ _ none) (no_left _ _ (no_right (target_refused false t (type_named kinds.file n.name) (known_args kinds scope n) at.from) _ none)) in
       let is = reference n inits at fit.type fit.args t.binds t.ty shown fit.fits in
       let made = new_kinded kinds p f scope ids reads.agrees fields parts bounds n inits right t is.key is.type is.args is.form v hidden at.from place.target.typed
-          (subst (λ b. binds_right f ids b v) is.bound place.target.free) none in
+      (subst (λ b. binds_right f ids b v) is.bound place.target.free) none in
       record {
         form = core.simple (core.make v made.0);
         same = made.1;

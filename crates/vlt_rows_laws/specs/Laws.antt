@@ -49,7 +49,7 @@ ObjectsAreRows = (kinds : Kinds) (p : Program) (f : Func) (scope : Scope) (ids :
     ((r : Option Name) (ty : Ty) (binds : Bool) (v : ℕ) (at : Span) → hides (s.make r n inits at) (Some ty) ≡ true → IsWell p ty → var_type f v ≡ Some ty → target_broken f (with_hidden_ids scope ids) v ≡ [] →
     new_refused kinds (with_object kinds scope n) (record { ty = ty; binds = binds }) r n inits at.from ≡ [] →
     TwoRows p f around ids (with_hidden_ids scope ids) (with_target f v (with_hidden_ids scope ids)) false
-        (new_forms kinds (with_object kinds scope n) (record { ty = ty; binds = binds }) v (length scope.vars) r n inits))
+    (new_forms kinds (with_object kinds scope n) (record { ty = ty; binds = binds }) v (length scope.vars) r n inits))
 
 -- `open x into (v, w)`, whose variables are the function's next ones
 abbrev pub OpensAreRows : Type 0

@@ -1,5 +1,5 @@
 -- Statements that bind nothing and call nothing.
-use Rattle.std.proofs.Common.{◌≡◌, ℕ, Bool, true, false, true≢false, not, ◌&&◌, ◌||◌, ◌==◌, nat_lt, if◌then◌else◌, List, [], ◌∷◌, ◌++◌, Option, Some, None, slice_get, option_map, is_some, refl, sym, ap, ap₂, ◌∙◌}
+use Rattle.std.proofs.Common.{◌≡◌, ℕ, Bool, true, false, true≢false, not, ◌&&◌, ◌==◌, nat_lt, if◌then◌else◌, List, [], ◌∷◌, Option, Some, None, slice_get, option_map, is_some, refl, sym, ap, ap₂, ◌∙◌}
 use Rattle.std.specs.List.{list_all}
 use Rattle.std.proofs.lemmas.Bool.{eq-eqb, or_left, not-false, and_parts, and_from}
 use Rattle.std.proofs.lemmas.Option.{none-some, same_Some}
@@ -8,12 +8,12 @@ use Rattle.vlt_syntax.specs.Tree.{Name}
 use Rattle.vlt_syntax.specs.Grammar.{BindsFrom}
 use Rattle.vlt_core.specs.Core as core
 use Rattle.vlt_core.specs.Core.{States, Ty, int, bool, FieldDecl, TypeDecl, Func, Program}
-use Rattle.vlt_core.specs.Lookups.{var_type, is_owning, fields_in, fields_of, state_count, all_states}
+use Rattle.vlt_core.specs.Lookups.{var_type, is_owning, fields_in, fields_of, all_states}
 use Rattle.vlt_core.specs.Types.{decl_of, is_struct, is_same_bool, state_numbers, same_states, same_ty, with_keys, is_droppable_struct, is_droppable}
 use Rattle.vlt_core.specs.KindedHeads.{Rules, unless, when_some, has_set, state_broken}
 use Rattle.vlt_core.specs.declared.rules.TheConstants as rule
 use Rattle.vlt_core.specs.KindedScopes.{Ids, Around, use_broken}
-use Rattle.vlt_core.specs.KindedOperands.{misfit, unless_owning, type_of_expr, expr_broken, value_broken}
+use Rattle.vlt_core.specs.KindedOperands.{misfit, unless_owning, type_of_expr, expr_broken}
 use Rattle.vlt_core.specs.KindedStatements.{tracked_type, simple_broken}
 use Rattle.vlt_core.specs.KindedBodies.{row_broken}
 use Rattle.vlt_kinds_names.specs.Refusals.{refusal, refuse_if}
@@ -24,12 +24,11 @@ use Rattle.vlt_kinds_laws.specs.Shapes.{core_shape, Describes}
 use Rattle.vlt_kinds_laws.proofs.Empty.{cons_not_nil, no_left, no_right, none_of_both, not_broken, holds}
 use Rattle.vlt_kinds_laws.proofs.Named.{shape_is}
 use Rattle.vlt_kinds_laws.proofs.States.{has_state, count_is, states_fit}
-use Rattle.vlt_resolve_exprs.specs.Refused.{unknown_name}
 use Rattle.vlt_resolve_exprs.specs.Types.{then_with, is_same_ty, ty_under}
 use Rattle.vlt_resolve_exprs.specs.Scopes.{Scope, var_named, var_ty}
 use Rattle.vlt_resolve_exprs.specs.Exprs as ex
 use Rattle.vlt_resolve_exprs.specs.Exprs.{field_position, field_named, object_in, value_ty, object_field_ty, field_ty, field_refused, wanted_refused, number_of, field_number, var_number, core_expr}
-use Rattle.vlt_resolve_rights.specs.Droppable.{may_drop_struct, may_drop}
+use Rattle.vlt_resolve_rights.specs.Droppable.{may_drop}
 use Rattle.vlt_resolve_stmts.specs.Statements as st
 use Rattle.vlt_resolve_stmts.specs.Statements.{state_of, state_refused, become_refused, core_become, swapped_misfit, owner_refused, swapped_field_refused, swap_refused, core_swap, put_refused, core_put, is_releasable, release_refused, release_form}
 use Rattle.vlt_resolve_laws.specs.Agrees.{Agrees, HasFields}

@@ -1,12 +1,10 @@
 -- What statements by name and what they become keep: the rows break nothing, and names and numbers stay in step.
-use Rattle.std.specs.Prelude.{◌≡◌, ℕ, Bool, true, false, not, List, [], ◌∷◌, ◌++◌}
+use Rattle.std.specs.Prelude.{◌≡◌, ℕ, Bool, true, false, not, List, [], ◌++◌}
 use Rattle.vlt_syntax.specs.Tree as s
 use Rattle.vlt_syntax.specs.Tree.{Stmt}
-use Rattle.vlt_syntax.specs.Lists.{Each}
 use Rattle.vlt_syntax.specs.Grammar.{IsStmt, Bounds}
-use Rattle.vlt_core.specs.Core.{KeyDecl, VarDecl, Tok, Form, Block, Stmts, Arms, Func, Program}
+use Rattle.vlt_core.specs.Core.{KeyDecl, VarDecl, Form, Block, Stmts, Func, Program}
 use Rattle.vlt_core.specs.View.{stmts_made}
-use Rattle.vlt_core.specs.KindedHeads.{Rules}
 use Rattle.vlt_core.specs.KindedScopes as core
 use Rattle.vlt_core.specs.KindedScopes.{Ids}
 use Rattle.vlt_core.specs.KindedBodies.{row_broken, form_rows, block_rows, stmts_rows, list_broken, ids_behind, ids_behind_block, ids_behind_stmts}
@@ -18,7 +16,6 @@ use Rattle.vlt_resolve_stmts.specs.Statements.{simple_refused, simple_became}
 use Rattle.vlt_resolve.specs.Blocks.{ends}
 use Rattle.vlt_resolve.specs.Walk.{placed_at}
 use Rattle.vlt_kinds_laws.specs.Declared.{BreakNothing}
-use Rattle.vlt_resolve_laws.specs.Agrees.{HasFields}
 use Rattle.vlt_resolve_laws.specs.Steps.{InStep, Grows}
 
 -- the keys and variables of the scope are the function's first ones
