@@ -22,7 +22,7 @@ use Rattle.vlt_kinds_laws.proofs.Rows.{each_at, each_in}
 use Rattle.vlt_heads_laws.proofs.Tables.{same_name, name_itself}
 use Rattle.vlt_resolve_stmts.specs.Switches.{is_among, are_distinct, case_names}
 use Rattle.vlt_walk_laws.specs.Steps.{HasCases}
-use Rattle.vlt_elaborated_laws.specs.Elaborated.{IsTick, HasTicks}
+use Rattle.vlt_ticks_laws.specs.Ticks.{IsTick, HasTicks}
 
 -- ---- names
 

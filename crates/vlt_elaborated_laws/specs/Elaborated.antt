@@ -1,9 +1,9 @@
 -- The core program that elaboration gives of a tree of the language breaks none of the core's rules.
-use Rattle.std.specs.Prelude.{◌≡◌, ℕ, List, ◌∷◌, Some, slice_get, Ok}
-use Rattle.vlt_syntax.specs.Tree as s
-use Rattle.vlt_syntax.specs.Tree.{Name, Decl, Tree}
+use Rattle.std.specs.Prelude.{◌≡◌, ℕ, Some, slice_get, Ok}
+use Rattle.vlt_syntax.specs.Tree.{Tree}
 use Rattle.vlt_syntax.specs.Lists.{Each}
 use Rattle.vlt_syntax.specs.Grammar.{IsTree, language}
+use Rattle.vlt_ticks_laws.specs.Ticks.{HasTicks}
 use Rattle.vlt_core.specs.Core.{Func, Program}
 use Rattle.vlt_core.specs.Kinded.{IsKinded}
 use Rattle.vlt_core_laws.specs.States.{HasStates}
@@ -12,14 +12,6 @@ use Rattle.vlt_kinds_types.specs.Files.{file_of}
 use Rattle.vlt_kinds.specs.Kinds.{Kinds}
 use Rattle.vlt_kinds.specs.Tables.{kinds_told}
 use Rattle.vlt_resolve.specs.Elaboration.{elaborated}
-
--- the name of a case as it is written, with its `'`
-abbrev pub IsTick : Name → Type 0
-IsTick n = (name : List ℕ) × (n.text ≡ 39 ∷ name)
-
-abbrev pub HasTicks : Decl → Type 0
-HasTicks (s.variant n ps cs at) = Each (λ c. IsTick c.name) cs
-HasTicks d = Unit {0}
 
 -- The program that elaboration gives of a tree of the language, whose declarations are of these kinds. The names of cases are
 -- ticks, as in each text.

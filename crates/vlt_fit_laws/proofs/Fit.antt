@@ -1,0 +1,35 @@
+-- The core program of a text's tree, put together from the laws on each of its parts.
+use Rattle.std.proofs.Common.{◌≡◌, List, Ok}
+use Rattle.vlt_syntax.specs.Tree.{Decl, Tree}
+use Rattle.vlt_syntax.specs.Lists.{Each}
+use Rattle.vlt_syntax.specs.Grammar.{IsDecl, language}
+use Rattle.vlt_core.specs.Core.{Program}
+use Rattle.vlt_kinds_types.specs.Files.{file_of}
+use Rattle.vlt_kinds.specs.Kinds.{Kinds}
+use Rattle.vlt_kinds.specs.Tables.{kinds_told}
+use Rattle.vlt_kinds_laws.specs.Declared.{HasDeclared, IsPassed}
+use Rattle.vlt_resolve.specs.Elaboration.{elaborated}
+use Rattle.vlt_sound_typed.specs.Sizes.{HasSizes}
+use Rattle.vlt_sound_externs.specs.Narrow.{HasNarrowHeads}
+use Rattle.vlt_sound_narrow.specs.Externals.{HasExternals}
+use Rattle.vlt_elaborated_laws.specs.Elaborated.{IsElaborated, ElaboratedProgramsAreKinded, ElaboratedProgramsHaveStates, ElaboratedProgramsHaveArms, ElaboratedProgramsHaveSets}
+use Rattle.vlt_elaborated_laws.proofs.Whole.{passed_of}
+use Rattle.vlt_fit_laws.specs.Fit.{IsFitProgram, IsTextTree, ProgramsAreFit}
+use Rattle.vlt_fit_laws.proofs.Externals.{externals_of, declared_of}
+
+pub record Laws : Type 0 where
+  pub kinded : ElaboratedProgramsAreKinded
+  pub states : ElaboratedProgramsHaveStates
+  pub arms : ElaboratedProgramsHaveArms
+  pub sets : ElaboratedProgramsHaveSets
+  pub small : (ds : List Decl) (p : Program) → Each (IsDecl language) ds → p.sets ≡ (file_of ds).sets → HasSizes p
+  pub narrow : (ds : List Decl) (p : Program) → IsPassed ds → HasDeclared ds p → HasExternals ds p → HasNarrowHeads p
+
+pub fit : Laws → ProgramsAreFit
+fit laws t kinds p x told gives =
+    let e : IsElaborated t kinds p = record { tree = x.tree; ticks = x.ticks; told = told; gives = gives } in
+    record {
+      well_formed = record { kinded = laws.kinded t kinds p e; states = laws.states t kinds p e; arms = laws.arms t kinds p e };
+      sizes = laws.small t.decls p x.tree.0 (laws.sets t kinds p e);
+      narrow = laws.narrow t.decls p (passed_of t kinds p e) (declared_of t kinds p e) (externals_of t kinds p e);
+    }

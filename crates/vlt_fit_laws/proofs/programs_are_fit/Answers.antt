@@ -1,0 +1,12 @@
+use Rattle.vlt_fit_laws.proofs.Fit.{fit}
+use Rattle.vlt_fit_laws.proofs.programs_are_fit.Goals as goal
+
+pub returns : goal.returns
+returns c = fit (record {
+  kinded = c.elaborated_programs_are_kinded.ensures;
+  states = c.elaborated_programs_have_states.ensures;
+  arms = c.elaborated_programs_have_arms.ensures;
+  sets = c.elaborated_programs_have_sets.ensures;
+  small = c.declared_sets_are_small.ensures;
+  narrow = c.declared_externals_are_narrow.ensures;
+})

@@ -1,0 +1,29 @@
+-- What is known of the core programs of texts.
+use Rattle.std.specs.Prelude.{◌≡◌, Ok}
+use Rattle.vlt_syntax.specs.Tree.{Tree}
+use Rattle.vlt_syntax.specs.Lists.{Each}
+use Rattle.vlt_syntax.specs.Grammar.{IsTree, language}
+use Rattle.vlt_core.specs.Core.{Program}
+use Rattle.vlt_kinds.specs.Kinds.{Kinds}
+use Rattle.vlt_kinds.specs.Tables.{kinds_told}
+use Rattle.vlt_resolve.specs.Elaboration.{elaborated}
+use Rattle.vlt_check.specs.Checks.{IsWellFormed}
+use Rattle.vlt_sound_typed.specs.Sizes.{HasSizes}
+use Rattle.vlt_sound_externs.specs.Narrow.{HasNarrowHeads}
+use Rattle.vlt_ticks_laws.specs.Ticks.{HasTicks}
+
+-- All that the laws on checks and runs want to know of a program: it breaks no rule on names and types, each of its sets has a
+-- state and at most 32, all below 32 where a host gives one, and each of its switches has an arm.
+pub record IsFitProgram (p : Program) : Type 0 where
+  pub well_formed : IsWellFormed p
+  pub sizes : HasSizes p
+  pub narrow : HasNarrowHeads p
+
+-- a tree of the language, in which the names of cases are ticks, as in each text
+pub record IsTextTree (t : Tree) : Type 0 where
+  pub tree : IsTree language t
+  pub ticks : Each HasTicks t.decls
+
+abbrev pub ProgramsAreFit : Type 0
+ProgramsAreFit = (t : Tree) (kinds : Kinds) (p : Program) → IsTextTree t → kinds_told t ≡ Ok kinds →
+    elaborated t kinds ≡ Ok p → IsFitProgram p

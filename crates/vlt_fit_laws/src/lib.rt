@@ -1,0 +1,27 @@
+//! A law on the core programs of texts: nothing goes in and nothing comes out.
+//! Read `specs/Fit.antt` first.
+//! Verdicts rest on it, and through them the promise of `check`.
+#![tactic(auto)]
+
+ghost use Rattle.vlt_fit_laws.specs.Fit.{ProgramsAreFit};
+
+use vlt_elaborated_laws::{
+    elaborated_programs_are_kinded,
+    elaborated_programs_have_arms,
+    elaborated_programs_have_sets,
+    elaborated_programs_have_states,
+};
+use vlt_sound_narrow::declared_externals_are_narrow;
+use vlt_sound_sizes::declared_sets_are_small;
+
+/// The core program of a tree that a text has is all that the check and the law on runs ask for.
+pub fn programs_are_fit()
+    ensures { ProgramsAreFit }
+{
+    elaborated_programs_are_kinded();
+    elaborated_programs_have_states();
+    elaborated_programs_have_arms();
+    elaborated_programs_have_sets();
+    declared_sets_are_small();
+    declared_externals_are_narrow();
+}

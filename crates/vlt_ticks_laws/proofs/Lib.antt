@@ -1,0 +1,5 @@
+pub mod Read
+pub mod Lists
+pub mod Exprs
+pub mod Stmts
+pub mod Decls

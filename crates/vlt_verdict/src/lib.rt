@@ -1,0 +1,22 @@
+//! Verdicts: a tree goes in, what it is as a program comes out.
+//! Read `specs/Verdicts.antt` first.
+//! The replies of `check` rest on it, and that a text has one reply on `a_tree_has_one_verdict`.
+#![tactic(auto)]
+
+ghost use Rattle.vlt_verdict.specs.Verdicts.{HasOneVerdict};
+
+mod verdict;
+
+pub use verdict::{Verdict, judge};
+use vlt_check::accepted_has_no_fault;
+use vlt_fit_laws::programs_are_fit;
+use vlt_fault_laws::there_is_one_first_fault;
+
+/// A tree that a text has is of one verdict.
+pub fn a_tree_has_one_verdict()
+    ensures { HasOneVerdict }
+{
+    accepted_has_no_fault();
+    there_is_one_first_fault();
+    programs_are_fit();
+}
