@@ -1,2 +1,5 @@
 pub mod Halting
+pub mod Finding
 pub mod Shown
+pub mod Calling
+pub mod Running

@@ -1,32 +1,32 @@
 -- What the fields of the code stand for, and what its functions come to.
-use Rattle.std.specs.Prelude.{◌≡◌, ◌<◌, ◌≤◌, ℕ, ◌+◌, ◌*◌, List, [], ◌∷◌, ◌++◌, length, Option, Some, None, Result, Ok, Err, vec_capacity, slice_get}
+use Rattle.std.specs.Prelude.{◌≡◌, ◌⊎◌, ◌<◌, ◌≤◌, ℕ, ◌+◌, ◌*◌, List, [], ◌∷◌, ◌++◌, length, Option, Some, None, Result, Ok, Err, vec_capacity, slice_get}
 use Rattle.std.specs.Option.{option_map}
 use Rattle.vlt_io.specs.Outside.{Rose, GrewByPart}
 use Rattle.vlt_rings.specs.Things.{Things}
 use Rattle.c_syntax.specs.declared.program.CFunc.{CFunc}
 use Rattle.c_syntax.specs.View.{stmts_of, func_of, program_of}
-use Rattle.c_syntax.specs.C.{Func}
+use Rattle.c_syntax.specs.C.{Stmt}
 use Rattle.c_meaning.specs.World as model
 use Rattle.c_meaning.specs.World.{Event, event_text, Outcome}
-use Rattle.c_meaning.specs.Run.{Setup, Numbered, count_in, count_in_all, count_of}
+use Rattle.c_meaning.specs.Run.{Setup, count_in_stmt}
 use Rattle.c_machine.specs.Machine as m
 use Rattle.c_machine.specs.Machine.{State, Conf, Next, names_of}
-use Rattle.c_machine.specs.Bounds.{sizes_of, Fits, tall_of, value_slots, block_cells}
-use Rattle.c_machine.specs.Within.{AreWithin, longest_name}
+use Rattle.c_machine.specs.Bounds.{sizes_of, Fits, cells_in_stmt, tall_of, value_slots, block_cells}
+use Rattle.c_machine.specs.Within.{name_in_stmt, AreWithin, longest_name}
 use Rattle.c_memory.specs.Shown.{cells_of}
 use Rattle.c_values.specs.declared.value.Value.{Value}
 use Rattle.c_values.specs.Shown.{value_view, shown_slots, AreMadeSlots, IsMadeSlot, IsMadeValue}
 use Rattle.c_primitives.specs.declared.world.World.{World}
-use Rattle.c_primitives.specs.Shown.{Shows, IsReady, Outside, Wrote}
+use Rattle.c_primitives.specs.Shown.{Shows, IsReady, KeepsRoom, Outside, Wrote}
 use Rattle.c_interp.specs.declared.stop.CStop.{CStop}
 use Rattle.c_interp.specs.declared.stop.CStop.TheVariants.{SinkFault}
 use Rattle.c_interp.specs.declared.frames.Frames.{Frames}
-use Rattle.c_interp.specs.declared.stack.Caller.{Caller}
-use Rattle.c_interp.specs.declared.stack.Task.{Task}
-use Rattle.c_interp.specs.declared.stack.Task.TheVariants.{List as Listed, Again, Back, Bottom}
-use Rattle.c_interp.specs.declared.rules.Found.{Found}
+use Rattle.c_interp.specs.declared.task.Caller.{Caller}
+use Rattle.c_interp.specs.declared.task.Task.{Task}
+use Rattle.c_interp.specs.declared.task.Task.TheVariants.{List as Listed, Again, Back, Bottom}
 use Rattle.c_interp.specs.declared.rules.Rules.{Rules}
 use Rattle.c_interp.specs.Halting.{outcome_of}
+use Rattle.c_interp.specs.Finding.{AreRules}
 
 -- ---- tasks and frames
 
@@ -72,22 +72,6 @@ given_view = option_map value_view
 abbrev pub setup_of : Rules → Setup
 setup_of r = record { program = program_of r.program.now; heap = r.heap; depth = r.depth }
 
--- the numbers of the first statements of functions, the first of which has this one
-abbrev pub firsts_from : ℕ → List Func → List ℕ
-firsts_from n [] = []
-firsts_from n (f ∷ fs) = n ∷ firsts_from (n + count_in f.body) fs
-
-pub record AreRules (r : Rules) : Type 0 where
-  pub glue : r.glue.items ≡ firsts_from 0 (program_of r.program.now).glue
-  pub fns : r.fns.items ≡ firsts_from (count_in_all (program_of r.program.now).glue) (program_of r.program.now).fns
-  pub count : r.count ≡ count_of (program_of r.program.now)
-  pub few : count_of (program_of r.program.now) < 4294967295
-
-abbrev pub IsFoundAs : Option Found → Option Numbered → Type 0
-IsFoundAs (Some f) (Some g) = (func_of f.func.now ≡ g.func) × (f.first ≡ g.first)
-IsFoundAs None None = Unit {0}
-IsFoundAs _ _ = ⊥
-
 -- ---- functions that change tasks and frames alone
 
 -- where the machine goes on, or how it stops; the world is as it was
@@ -113,10 +97,11 @@ pub record Goes (w : model.World) (before after : Outside) (ts : List Task) (f :
   pub made : AreMadeSlots things f.values.items
   pub wrote : Wrote w world before after
 
-pub record IsCut (w : model.World) (before after : Outside) (stop : CStop) (c : Conf) : Type 0 where
+-- the sink took a part of what is written up to the world v
+pub record IsCut (w : model.World) (before after : Outside) (stop : CStop) (v : model.World) : Type 0 where
   pub fault : stop ≡ SinkFault
   pub events : List Event
-  pub added : c.state.world.events ≡ w.events ++ events
+  pub added : v.events ≡ w.events ++ events
   pub grew : GrewByPart before.written after.written (event_text events)
   pub rose : Rose before.faults after.faults
   pub counted : before.faults ≤ after.faults
@@ -130,11 +115,34 @@ pub record HasStopped (w : model.World) (before after : Outside) (s : World) (st
 abbrev pub CameTo : model.World → (before after : Outside) → Option CStop → List Task → Frames → World → Next → Type 0
 CameTo w before after None ts f s (m.goes c) = Goes w before after ts f s c
 CameTo w before after None ts f s (m.stops o v) = ⊥
-CameTo w before after (Some stop) ts f s (m.goes c) = IsCut w before after stop c
-CameTo w before after (Some stop) ts f s (m.stops o v) = HasStopped w before after s stop o v
+CameTo w before after (Some stop) ts f s (m.goes c) = IsCut w before after stop c.state.world
+CameTo w before after (Some stop) ts f s (m.stops o v) = HasStopped w before after s stop o v ⊎ IsCut w before after stop v
+
+-- the table of tasks had the one room, and has the other
+pub record Came (room room' : ℕ) (old new : Frames) (s s' : World) (before after : Outside) (result : Option CStop) (ts : List Task) (next : model.World → Next) : Type 0 where
+  pub ready : IsReady s'
+  pub world : KeepsRoom s s'
+  pub tasks : room ≤ room'
+  pub slots : vec_capacity old.values ≤ vec_capacity new.values
+  pub comes : (things : Things) (w : model.World) → Shows s things w → AreMadeSlots things old.values.items → CameTo w before after result ts new s' (next w)
+
+-- ---- rooms
+
+-- what the statement x of the number n needs
+pub record HasRoomToDo (r : Rules) (n : ℕ) (x : Stmt) (long room : ℕ) (f : Frames) (s : World) : Type 0 where
+  pub rules : AreRules r
+  pub number : n + count_in_stmt x ≤ r.count
+  pub tasks : long + 2 ≤ room
+  pub top : f.base ≤ length f.values.items
+  pub slots : length f.values.items + value_slots (program_of r.program.now) ≤ vec_capacity f.values
+  pub cells : 1 ≤ s.heap → cells_in_stmt x ≤ cells_of s.blocks
+  pub name : name_in_stmt x + 674 ≤ vec_capacity s.line
+  pub heap : s.heap ≡ r.heap
+  pub ready : IsReady s
 
 -- the tables, of which that of tasks has room for so many, have room for the whole run
 pub record HasRoom (r : Rules) (ts : List Task) (room : ℕ) (f : Frames) (s : World) : Type 0 where
+  pub rules : AreRules r
   pub fits : (w : model.World) → Fits (sizes_of (program_of r.program.now)) r.depth (tasks_of ts) (state_of f w)
   pub within : AreWithin r.count (longest_name (program_of r.program.now)) (tasks_of ts)
   pub tasks : 2 * r.depth * (tall_of (program_of r.program.now) + 1) + 2 ≤ room

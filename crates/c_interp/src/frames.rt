@@ -1,6 +1,6 @@
 //! The values of all frames.
 
-ghost use Rattle.std.specs.Prelude.{◌≡◌, ◌<◌, ◌≤◌, ◌+◌, ◌++◌, ◌∷◌, [], ℕ, None, drop, take, length, replicate, vec_capacity};
+ghost use Rattle.std.specs.Prelude.{◌≡◌, ◌<◌, ◌≤◌, ◌+◌, ◌++◌, ◌∷◌, [], ◌^◌, ℕ, None, Some, IfSome, drop, slice_set, take, length, replicate, vec_capacity};
 ghost use Rattle.c_syntax.specs.View.{func_of};
 ghost use Rattle.c_values.specs.Shown.{value_view, names_in};
 ghost use Rattle.c_values.specs.Places.{place_in};
@@ -46,20 +46,31 @@ pub fn fill(values: &mut Vec<Option<Value>>, count: usize)
 }
 
 /// The position of a name of a function.
-fn place(func: &CFunc, v: CVar) -> Option<usize>
-    ensures { result ≡ place_in (names_of (func_of func.now)) v }
+fn place(func: &CFunc, v: CVar) -> Option<u128>
+    ensures is { result ≡ place_in (names_of (func_of func.now)) v }
+    ensures few { IfSome result (λ i. i < 2 ^ 66) }
 {
     match find(func.params.as_slice(), v) {
-        Some(i) => Some(i),
+        Some(i) => Some(i as u128),
         None => match find(func.vars.as_slice(), v) {
-            Some(j) => func.params.len().checked_add(j),
+            Some(j) => Some(func.params.len() as u128 + j as u128),
             None => None,
         },
     }
 }
 
+/// Sets the value at a position, if there is one.
+fn put_at(values: &mut Vec<Option<Value>>, at: u128, a: Value)
+    ensures items { values.new.items ≡ slice_set values.old.items at (Some a) }
+    ensures room { vec_capacity values.old ≤ vec_capacity values.new }
+{
+    if at < values.len() as u128 {
+        values[at as usize] = Some(a);
+    }
+}
+
 impl<'a> Frames<'a> {
-    ghost use Rattle.c_interp.specs.Shown.{state_of, AreSet};
+    ghost use Rattle.c_interp.specs.Shown.{state_of, KeepsFrames};
 
     /// The variables of the running frame, the values of which end there.
     pub fn vars_to(&self, end: usize) -> Vars<'_>
@@ -90,15 +101,11 @@ impl<'a> Frames<'a> {
 
     /// Sets a variable of the running frame.
     pub fn set(&mut self, v: CVar, a: Value)
-        requires { self.old.base ≤ length self.old.values.items }
         ensures state { (w : model.World) → state_of self.new w ≡ with_slot v (value_view a) (state_of self.old w) }
-        ensures values { AreSet a self.old.values.items self.new.values.items }
-        ensures room { vec_capacity self.old.values ≤ vec_capacity self.new.values }
+        ensures kept { KeepsFrames (Some a) self.old self.new }
     {
         if let Some(i) = place(self.func, v) {
-            if i < self.values.len() - self.base {
-                self.values[self.base + i] = Some(a);
-            }
+            put_at(&mut self.values, self.base as u128 + i, a);
         }
     }
 }

@@ -1,44 +1,29 @@
 //! The stack of tasks.
 
-ghost use Rattle.std.specs.Prelude.{◌≡◌, ◌≤◌, ◌+◌, length, vec_capacity};
+ghost use Rattle.std.specs.Prelude.{◌≡◌, ◌≤◌, ℕ, List, Some, None, vec_capacity};
+ghost use Rattle.vlt_rings.specs.Things.{Things};
 ghost use Rattle.c_meaning.specs.World as model;
+ghost use Rattle.c_meaning.specs.Primitives.{Effect};
 ghost use Rattle.c_machine.specs.Machine as m;
-ghost use Rattle.c_interp.specs.Shown.{state_of, tasks_of, slot_of, came_to, HasCallers, KeepMade, Keeps};
+ghost use Rattle.c_values.specs.Shown.{AreMadeSlots};
+ghost use Rattle.c_primitives.specs.declared.world.World.{World as Shown};
+ghost use Rattle.c_primitives.specs.Shown.{Outside, Comes};
+ghost use Rattle.c_interp.specs.declared.task.Task.{Task};
+ghost use Rattle.c_interp.specs.declared.frames.Frames.{Frames as Values};
+ghost use Rattle.c_interp.specs.Shown.{state_of, caller_of, tasks_of, given_view, IsPlain, KeepsFrames, CameTo};
 
 use crate::frames::{Frames, put};
-use crate::stop::CStop;
-use c_syntax::{CFunc, CResult, CStmt, CVar};
+use crate::stop::{CStop, stop_at};
+use crate::task::{Caller, Task};
+use c_primitives::Halt;
+use c_syntax::{CResult, CVar};
 use c_values::Value;
 
 /// The rule for a value that isn't given, and for the end of a function that is to give one.
-pub const NO_VALUE: u8 = 6;
-
-/// A caller: where its values begin, its function, whether this is glue, the number of the call, its target, and what the
-/// callee gives.
-#[derive(Clone, Copy)]
-pub struct Caller<'a> {
-    pub base: usize,
-    pub func: &'a CFunc,
-    pub is_glue: bool,
-    pub n: u32,
-    pub target: Option<CVar>,
-    pub given: CResult,
-}
-
-/// What is left to do.
-#[derive(Clone, Copy)]
-pub enum Task<'a> {
-    /// Statements, of which the first has that number.
-    List(u32, &'a [CStmt]),
-    /// A loop, of which a turn comes next.
-    Again(u32, &'a [CStmt]),
-    Back(Caller<'a>),
-    /// The function that the run began with.
-    Bottom(CResult),
-}
+const NO_VALUE: u8 = 6;
 
 /// A stop by rule 6.
-fn no_value(n: u32) -> Option<CStop>
+pub fn no_value(n: u32) -> Option<CStop>
     ensures { result ≡ Some (CStop.Undefined 6 n) }
 {
     Some(CStop::Undefined {
@@ -48,9 +33,9 @@ fn no_value(n: u32) -> Option<CStop>
 }
 
 /// A value comes to the target of the statement of a number.
-pub fn receive(n: u32, target: Option<CVar>, value: Option<Value>, frames: &mut Frames) -> Option<CStop>
-    requires { frames.old.base ≤ length frames.old.values.items }
-    ensures comes { Received n target value frames.old frames.new result }
+fn receive(n: u32, target: Option<CVar>, value: Option<Value>, frames: &mut Frames) -> Option<CStop>
+    ensures comes { (ts : List Task) (w : model.World) → IsPlain result ts frames.new w (m.received n target (given_view value) (tasks_of ts) (state_of frames.old w)) }
+    ensures kept { KeepsFrames value frames.old frames.new }
 {
     let Some(v) = target else {
         return None;
@@ -64,22 +49,47 @@ pub fn receive(n: u32, target: Option<CVar>, value: Option<Value>, frames: &mut 
     }
 }
 
+/// What a statement of a number gives comes to its target, or the run ends.
+pub fn after(n: u32, target: Option<CVar>, r: Result<Option<Value>, Halt>, frames: &mut Frames) -> Option<CStop>
+    ensures comes { (ts : List Task) (things : Things) (w : model.World) (s : Shown) (before after : Outside) (e : Effect)
+        → AreMadeSlots things frames.old.values.items → Comes things s w before after r e
+        → CameTo w before after result ts frames.new s (m.after n target e (tasks_of ts) (state_of frames.old w)) }
+    ensures room { vec_capacity frames.old.values ≤ vec_capacity frames.new.values }
+{
+    match r {
+        Ok(value) => receive(n, target, value, frames),
+        Err(halt) => Some(stop_at(halt, n)),
+    }
+}
+
+/// How many functions run that aren't glue, once one returns.
+fn depth_out(is_glue: bool, depth: u32) -> u32
+    ensures { result ≡ m.depth_out is_glue depth }
+{
+    if is_glue {
+        depth
+    } else {
+        depth.saturating_sub(1)
+    }
+}
+
 /// Back to the caller.
-fn go_back(caller: Caller, frames: &mut Frames)
-    requires { IsCallerOf caller frames.old }
-    ensures { IsBack caller frames.old frames.new }
+fn go_back<'a>(caller: Caller<'a>, frames: &mut Frames<'a>)
+    ensures state { (w : model.World) → state_of frames.new w ≡ m.caller_state (caller_of caller.entry) (state_of frames.old w) }
+    ensures kept { KeepsFrames None frames.old frames.new }
 {
     frames.values.truncate(frames.base);
-    if !frames.is_glue {
-        frames.depth -= 1;
-    }
+    frames.depth = depth_out(frames.is_glue, frames.depth);
     frames.base = caller.base;
     frames.func = caller.func;
     frames.is_glue = caller.is_glue;
 }
 
 /// The function returns, with a value or without one.
-pub fn leave(value: Option<Value>, tasks: &mut Vec<Task>, frames: &mut Frames) -> Option<CStop>
+pub fn leave<'a>(value: Option<Value>, tasks: &mut Vec<Task<'a>>, frames: &mut Frames<'a>) -> Option<CStop>
+    ensures comes { (w : model.World) → IsPlain result tasks.new.items frames.new w (m.leave (given_view value) (tasks_of tasks.old.items) (state_of frames.old w)) }
+    ensures kept { KeepsFrames value frames.old frames.new }
+    ensures room { vec_capacity tasks.old ≤ vec_capacity tasks.new }
 {
     while let Some(task) = tasks.pop() {
         match task {
@@ -97,6 +107,8 @@ pub fn leave(value: Option<Value>, tasks: &mut Vec<Task>, frames: &mut Frames) -
 
 /// Behind the loop that is under way. `count` is how many statements there are.
 pub fn break_to(count: u32, tasks: &mut Vec<Task>) -> Option<CStop>
+    ensures comes { (f : Values) (w : model.World) → IsPlain result tasks.new.items f w (m.break_to count (tasks_of tasks.old.items) (state_of f w)) }
+    ensures room { vec_capacity tasks.old ≤ vec_capacity tasks.new }
 {
     while let Some(task) = tasks.pop() {
         match task {
@@ -111,6 +123,8 @@ pub fn break_to(count: u32, tasks: &mut Vec<Task>) -> Option<CStop>
 
 /// To the next turn of the loop that is under way. `count` is how many statements there are.
 pub fn continue_to(count: u32, tasks: &mut Vec<Task>) -> Option<CStop>
+    ensures comes { (f : Values) (w : model.World) → IsPlain result tasks.new.items f w (m.continue_to count (tasks_of tasks.old.items) (state_of f w)) }
+    ensures room { vec_capacity tasks.old ≤ vec_capacity tasks.new }
 {
     while let Some(task) = tasks.pop() {
         match task {
@@ -127,10 +141,14 @@ pub fn continue_to(count: u32, tasks: &mut Vec<Task>) -> Option<CStop>
 }
 
 /// The end of the body of a function that gives this, its own task being the last.
-pub fn end_body(count: u32, given: CResult, tasks: &mut Vec<Task>, frames: &mut Frames) -> Option<CStop>
+pub fn end_body<'a>(count: u32, given: CResult, tasks: &mut Vec<Task<'a>>, frames: &mut Frames<'a>) -> Option<CStop>
+    ensures comes { (w : model.World) → IsPlain result tasks.new.items frames.new w (m.body_end count given None (tasks_of tasks.old.items) (state_of frames.old w)) }
+    ensures kept { KeepsFrames None frames.old frames.new }
+    ensures room { vec_capacity tasks.old ≤ vec_capacity tasks.new }
 {
     match given {
         CResult::Nothing => leave(None, tasks, frames),
-        _ => no_value(count),
+        CResult::Number => no_value(count),
+        CResult::Reference => no_value(count),
     }
 }

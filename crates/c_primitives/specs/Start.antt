@@ -30,3 +30,6 @@ pub record IsFirst (t : Tables) (fuel : ℕ) (input : List ℤ) (answers : Answe
   pub blocks : s.blocks ≡ t.blocks
   pub heap : s.heap ≡ t.heap
   pub line : s.line ≡ t.line
+  pub has_fuel : s.fuel ≡ fuel
+  pub has_input : s.input.now ≡ input
+  pub has_answers : s.answers.now ≡ answers

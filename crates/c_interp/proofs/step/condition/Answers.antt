@@ -1,0 +1,31 @@
+use Rattle.std.proofs.Common.{rules, ◌≡◌, suc, ◌+◌, ◌≤◌, min, true, false, Ok, Err, Some, None, refl, ap, subst, sym, ◌∙◌, arith, SFits, w64, if◌then◌else◌, ◌∷◌}
+use Rattle.std.proofs.lemmas.Int.{to_z-of_z}
+use Rattle.vlt_ops.specs.Operator as operator
+use Rattle.c_syntax.specs.View.{expr_of, stmts_of}
+use Rattle.c_meaning.specs.Values.{value_of}
+use Rattle.c_meaning.specs.Run as run
+use Rattle.c_machine.specs.Machine as m
+use Rattle.c_memory.specs.Shown.{blocks_of}
+use Rattle.c_values.specs.Shown.{IsValue, value_view}
+use Rattle.c_interp.specs.Shown.{state_of, tasks_of, CameTo}
+use Rattle.c_interp.proofs.Setting.{vars_are, made_drop}
+use Rattle.c_interp.proofs.Plain.{plain_came}
+use Rattle.c_primitives.proofs.Coming.{silent}
+use Rattle.c_interp.proofs.Entering.{ready_fuel, room_fuel, keeps_room, spends_none, turned}
+use Rattle.c_interp.proofs.CallLaws.{stops_here}
+use Rattle.c_interp.proofs.StepLaws.{as_number, condition_is, found_ok, found_err, chosen, goes_here, list_pushed, value_ok, value_err}
+use Rattle.c_interp.proofs.Tasks.{pushed_two}
+use Rattle.c_interp.proofs.step.condition.Goals as goal
+
+pub returns-in-Ok-Number : goal.returns-in-Ok-Number
+returns-in-Ok-Number c = λ things w h made.
+    let fits : SFits w64 c.in-Ok-Number.z = search rules in
+    rw (to_z-of_z w64 c.in-Ok-Number.z fits) (condition_is things c.args.world.now w c.args.frames.now (expr_of c.args.e.now) c.eval.result (Ok c.in-Ok-Number.z) h (sym (ap as_number (c.in-Ok-Number.is ∙ ap (λ x. Ok x) c.in-Ok-Number.field-0-is))) (subst (λ v. IsValue things c.eval.result (value_of (expr_of c.args.e.now) v (blocks_of c.args.world.now.blocks things))) (vars_are c.args.frames.now c.vars.result w c.vars.ensures.names c.vars.ensures.values) (c.eval.ensures things h.holds (made_drop things c.args.frames.now.values.items c.vars.result.values.now c.args.frames.now.base c.vars.ensures.values made))))
+
+pub returns-in-Ok-Reference : goal.returns-in-Ok-Reference
+returns-in-Ok-Reference c = λ things w h made.
+    condition_is things c.args.world.now w c.args.frames.now (expr_of c.args.e.now) c.eval.result (Err 5) h (sym (ap as_number (c.in-Ok-Reference.is ∙ ap (λ x. Ok x) c.in-Ok-Reference.field-0-is))) (subst (λ v. IsValue things c.eval.result (value_of (expr_of c.args.e.now) v (blocks_of c.args.world.now.blocks things))) (vars_are c.args.frames.now c.vars.result w c.vars.ensures.names c.vars.ensures.values) (c.eval.ensures things h.holds (made_drop things c.args.frames.now.values.items c.vars.result.values.now c.args.frames.now.base c.vars.ensures.values made)))
+
+pub returns-in-Err : goal.returns-in-Err
+returns-in-Err c = λ things w h made.
+    condition_is things c.args.world.now w c.args.frames.now (expr_of c.args.e.now) c.eval.result (Err c.in-Err.rule) h (sym (ap as_number c.in-Err.is)) (subst (λ v. IsValue things c.eval.result (value_of (expr_of c.args.e.now) v (blocks_of c.args.world.now.blocks things))) (vars_are c.args.frames.now c.vars.result w c.vars.ensures.names c.vars.ensures.values) (c.eval.ensures things h.holds (made_drop things c.args.frames.now.values.items c.vars.result.values.now c.args.frames.now.base c.vars.ensures.values made)))
