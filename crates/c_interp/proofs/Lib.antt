@@ -11,3 +11,5 @@ pub mod Running
 pub mod CallLaws
 pub mod StepLaws
 pub mod Moves
+pub mod Beginning
+pub mod Ending

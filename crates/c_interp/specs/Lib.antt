@@ -3,3 +3,5 @@ pub mod Finding
 pub mod Shown
 pub mod Calling
 pub mod Running
+pub mod Start
+pub mod Machine

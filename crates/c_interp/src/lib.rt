@@ -5,11 +5,14 @@
 
 mod calls;
 mod frames;
+mod machine;
 mod rules;
 mod run;
 mod stack;
+mod start;
 mod step;
 mod stop;
 mod task;
 
+pub use machine::CMachine;
 pub use stop::{CStop, OpenError};
