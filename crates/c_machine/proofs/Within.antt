@@ -9,12 +9,12 @@ use Rattle.c_syntax.specs.declared.program.CVar.{CVar}
 use Rattle.c_syntax.specs.declared.program.CName.{CName}
 use Rattle.c_syntax.specs.C as c
 use Rattle.c_syntax.specs.C.{Arg, Call, Stmt, Stmts, Func, Program}
-use Rattle.c_meaning.specs.World.{Value, World}
+use Rattle.c_meaning.specs.World.{Value}
 use Rattle.c_meaning.specs.Primitives.{Effect, gives, breaks_rule, ends}
 use Rattle.c_meaning.specs.Run.{Setup, Numbered, count_in_stmt, count_in, count_in_all, count_of, find_in, function_of, main_of, number_at, has_room, can_call}
 use Rattle.c_machine.specs.Machine.{Task, list, again, back, bottom, State, Next, goes, stops, vars_in, frame_in, with_world, received, after, with_found, caller_state, leave, break_to, continue_to, body_end, spend, enter, call_found, does_call, act, moved}
 use Rattle.c_machine.specs.Bounds.{most}
-use Rattle.c_machine.specs.Within.{name_in_stmt, name_in, name_of, longest_name, AreWithin, weight, measure, FallsTo}
+use Rattle.c_machine.specs.Within.{name_in_stmt, name_of, longest_name, AreWithin, weight, measure, FallsTo}
 use Rattle.c_machine.proofs.Keeping.{KeepsEffect, primitive_keeps, set_keeps, put_keeps}
 
 -- ---- functions are within
@@ -121,8 +121,8 @@ module _ (count name : ℕ) where
     enter_falls n target f g values ts s above some is h l =
         let fits = small f g is in
         falls_where above (s.world.fuel == 0) _ _ (λ e. tt) (λ e. falls_if above (has_room r f.glue s.depth) _ _
-          ((fits.numbers, fits.names, (some, h)), (let k = fuel_falls s.world.fuel (2 * count_in g.func.body + 2) (weight ts) above e (omega (arith, fits.numbers)) l in omega (arith, k)))
-          tt)
+        ((fits.numbers, fits.names, (some, h)), (let k = fuel_falls s.world.fuel (2 * count_in g.func.body + 2) (weight ts) above e (omega (arith, fits.numbers)) l in omega (arith, k)))
+        tt)
 
     call_falls : (n : ℕ) (target : Option CVar) (f : CName) (xs : List Arg) (found : Option Numbered) (ts : List Task) (s : State) (above : ℕ) → n ≤ count → function_of r.program f ≡ found → AreWithin count name ts → measure count s.world.fuel ts ≤ above
         → FallsTo count name above (call_found r n target f.glue xs found ts s)

@@ -1,13 +1,12 @@
 -- What input and answers give.
-use Rattle.std.proofs.Common.{◌≡◌, inl, inr, ℕ, ◌+◌, ℤ, pos, Bool, true, false, if◌then◌else◌, List, [], ◌∷◌, Option, Some, None, Result, Ok, Err, refl, sym, ap, ◌∙◌, subst, arith}
+use Rattle.std.proofs.Common.{◌≡◌, inl, ℕ, ℤ, Bool, true, false, List, [], ◌∷◌, Option, Some, None, Ok, Err, refl, sym, ap, ◌∙◌, subst, arith}
 use Rattle.std.proofs.lemmas.Bool.{false≢true}
 use Rattle.vlt_ops.specs.Operator.{bool_number}
 use Rattle.vlt_rings.specs.Things.{Things}
 use Rattle.c_meaning.specs.World as model
-use Rattle.c_meaning.specs.Primitives.{Effect, gives, breaks_rule, reads_input, has_more, reads_answer, ends_answer}
+use Rattle.c_meaning.specs.Primitives.{Effect, gives, reads_input, has_more, reads_answer, ends_answer}
 use Rattle.c_values.specs.declared.value.Value.{Value}
 use Rattle.c_values.specs.declared.value.Value.TheVariants.{Number}
-use Rattle.c_primitives.specs.declared.halt.Halt.{Halt}
 use Rattle.c_primitives.specs.declared.halt.Halt.TheVariants.{Broken, InputEnd, BadAnswer}
 use Rattle.c_primitives.specs.declared.world.Talk.{Talk}
 use Rattle.c_primitives.specs.declared.world.Talk.TheVariants.{Idle, Calling, Reading}

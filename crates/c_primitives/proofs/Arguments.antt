@@ -1,9 +1,9 @@
 -- What arguments give.
-use Rattle.std.proofs.Common.{◌≡◌, ℕ, ℤ, List, [], ◌∷◌, Option, Some, None, Result, Ok, Err, refl, sym, ap, ◌∙◌}
+use Rattle.std.proofs.Common.{◌≡◌, ℕ, ℤ, List, [], ◌∷◌, Option, Result, Ok, Err, refl}
 use Rattle.c_syntax.specs.C.{Arg}
-use Rattle.c_meaning.specs.World.{World, Vars}
+use Rattle.c_meaning.specs.World.{Vars}
 use Rattle.c_meaning.specs.Values.{◌>>=◌}
-use Rattle.c_meaning.specs.Primitives.{Effect, breaks_rule, or_broken, no_args, on_number, on_reference, on_numbers, on_number_and_reference, on_references, number_of, reference_of}
+use Rattle.c_meaning.specs.Primitives.{Effect, or_broken, on_number, on_reference, on_numbers, on_number_and_reference, on_references, number_of, reference_of}
 use Rattle.c_primitives.specs.Args.{one_number, one_reference, number_pair, two_numbers, number_and_reference, two_references}
 
 pub pair_is : (x y : Arg) (vars : Vars) (a b : ℤ) → Ok a ≡ number_of x vars → Ok b ≡ number_of y vars → Ok (a, b) ≡ number_pair x y vars

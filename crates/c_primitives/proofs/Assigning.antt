@@ -1,12 +1,12 @@
 -- What assignments come to.
-use Rattle.std.proofs.Common.{◌≡◌, ℕ, ℤ, Option, Some, None, Result, Ok, Err, refl, sym, ap, ◌∙◌, subst}
+use Rattle.std.proofs.Common.{◌≡◌, ℕ, Option, Some, Result, Ok, Err, refl, sym, subst}
 use Rattle.vlt_rings.specs.Things.{Things}
 use Rattle.c_syntax.specs.declared.program.CCell.{CCell}
 use Rattle.c_syntax.specs.C.{Expr}
 use Rattle.c_meaning.specs.World as model
 use Rattle.c_meaning.specs.World.{Vars}
 use Rattle.c_meaning.specs.Values.{value_of, base_in}
-use Rattle.c_meaning.specs.Primitives.{Effect, gives, breaks_rule, or_broken, set_does, put_does, base_of, written}
+use Rattle.c_meaning.specs.Primitives.{Effect, breaks_rule, or_broken, set_does, put_does, base_of, written}
 use Rattle.c_memory.specs.declared.cells.Ref.{Ref}
 use Rattle.c_memory.specs.Shown.{number_of, IsMade, blocks_of}
 use Rattle.c_values.specs.declared.value.Value.{Value}

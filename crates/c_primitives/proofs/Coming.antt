@@ -1,5 +1,5 @@
 -- What a primitive comes to.
-use Rattle.std.proofs.Common.{◌≡◌, inl, inr, ℕ, ◌+◌, ◌<◌, ◌≤◌, ◌^◌, ℤ, pos, Bool, true, false, if◌then◌else◌, List, [], ◌∷◌, ◌++◌, length, Option, Some, None, Result, Ok, Err, refl, sym, ap, ◌∙◌, subst, append-nil, arith, slice_get}
+use Rattle.std.proofs.Common.{◌≡◌, inl, ℕ, ℤ, pos, Bool, true, false, if◌then◌else◌, List, [], ◌∷◌, ◌++◌, length, Option, Some, None, Result, Ok, Err, refl, sym, ap, ◌∙◌, subst, append-nil, arith}
 use Rattle.std.specs.Option.{option_map}
 use Rattle.std.proofs.lemmas.Bool.{false≢true}
 use Rattle.std.proofs.lemmas.List.{length-map}
@@ -20,14 +20,14 @@ use Rattle.c_values.specs.declared.value.Value.{Value}
 use Rattle.c_values.specs.declared.value.Value.TheVariants.{Reference}
 use Rattle.c_values.specs.Shown.{IsReference, IsMadeSlot, value_view}
 use Rattle.c_primitives.specs.declared.halt.Halt.{Halt}
-use Rattle.c_primitives.specs.declared.halt.Halt.TheVariants.{Broken, Trapped, BadAnswer}
+use Rattle.c_primitives.specs.declared.halt.Halt.TheVariants.{Broken, Trapped}
 use Rattle.c_primitives.specs.declared.world.World.{World}
 use Rattle.c_primitives.specs.Args.{is_none, one_number, one_reference, two_numbers, number_and_reference, two_references, AreReferences, AreNumberAndReference}
 use Rattle.c_primitives.specs.declared.world.Talk.{Talk}
 use Rattle.c_primitives.specs.declared.world.Talk.TheVariants.{Idle, Calling, Reading}
 use Rattle.c_primitives.specs.Taking.{IsReading}
 use Rattle.c_primitives.specs.Done.{done_as, parent_as, back_as, trapped, is_reading}
-use Rattle.c_primitives.specs.Shown.{Shows, TalkShows, AreMadeRegisters, IsReady, KeepsRoom, Outside, Wrote, Gave, Broke, Comes}
+use Rattle.c_primitives.specs.Shown.{Shows, TalkShows, IsReady, KeepsRoom, Outside, Wrote, Comes}
 use Rattle.c_primitives.proofs.Arguments.{on_number_is, on_reference_is, on_numbers_is, on_number_and_reference_is, on_references_is}
 
 -- ---- nothing is written

@@ -1,12 +1,11 @@
 -- What registers give and take.
-use Rattle.std.proofs.Common.{◌≡◌, ℕ, zero, suc, ◌<◌, ℤ, Bool, true, false, List, [], ◌∷◌, map, length, Option, Some, None, Result, Ok, Err, refl, sym, ap, ◌∙◌, subst, arith, slice_get, slice_set}
+use Rattle.std.proofs.Common.{◌≡◌, ℕ, zero, suc, ℤ, List, [], ◌∷◌, length, Option, Some, None, Result, Ok, Err, refl, sym, ap, ◌∙◌, subst, arith, slice_get, slice_set}
 use Rattle.std.specs.Option.{option_map}
 use Rattle.std.proofs.lemmas.List.{length-map, map-set}
-use Rattle.std.proofs.lemmas.Option.{none-some, same_Some, slice_get-map, slice_get_within}
-use Rattle.std.proofs.lemmas.Bool.{cases_eq}
+use Rattle.std.proofs.lemmas.Option.{same_Some, slice_get-map}
 use Rattle.vlt_rings.specs.Things.{Things}
 use Rattle.c_meaning.specs.World as model
-use Rattle.c_meaning.specs.Primitives.{Effect, gives, breaks_rule, at_index, index_below, from_register, puts_number, puts_reference, gets_number, gets_reference}
+use Rattle.c_meaning.specs.Primitives.{gives, at_index, index_below, from_register, puts_number, puts_reference, gets_number, gets_reference}
 use Rattle.c_memory.specs.declared.cells.Ref.{Ref}
 use Rattle.c_memory.specs.Shown.{number_of, IsMade}
 use Rattle.c_values.specs.declared.value.Value.{Value}

@@ -1,7 +1,7 @@
 -- What is written: printed numbers, and calls.
-use Rattle.std.proofs.Common.{◌≡◌, inl, inr, ℕ, zero, suc, ◌+◌, ◌-◌, ◌*◌, ◌<◌, ◌≤◌, ◌^◌, nat_lt, ℤ, Bool, true, false, if◌then◌else◌, List, [], ◌∷◌, ◌++◌, length, drop, Option, Some, None, Result, Ok, Err, refl, sym, ap, ◌∙◌, subst, append-nil, append_assoc, arith, codes, slice_get, vec_capacity}
+use Rattle.std.proofs.Common.{◌≡◌, inl, inr, ℕ, zero, suc, ◌+◌, ◌-◌, ◌*◌, ◌<◌, ◌≤◌, nat_lt, ℤ, true, false, if◌then◌else◌, List, [], ◌∷◌, ◌++◌, length, drop, Option, Some, None, Result, Ok, Err, refl, sym, ap, ◌∙◌, subst, append-nil, append_assoc, arith, codes, slice_get, vec_capacity}
 use Rattle.std.specs.List.{flat_map}
-use Rattle.std.proofs.lemmas.Bool.{false≢true, lt-ltb}
+use Rattle.std.proofs.lemmas.Bool.{lt-ltb}
 use Rattle.std.proofs.lemmas.Bool.Decides.{nat_tests}
 use Rattle.std.proofs.lemmas.Grind.{flat_map-append}
 use Rattle.std.proofs.lemmas.List.{length-append}
@@ -16,13 +16,13 @@ use Rattle.c_meaning.specs.World.{Told, told_text, told_number, told_block, Even
 use Rattle.c_meaning.specs.Primitives.{Effect, breaks_rule, nothing, with_event, tells_number, tells_block, takes_answer, asks}
 use Rattle.c_values.specs.declared.value.Value.{Value}
 use Rattle.c_primitives.specs.declared.halt.Halt.{Halt}
-use Rattle.c_primitives.specs.declared.halt.Halt.TheVariants.{Broken, AnswersEnd, SinkFault}
+use Rattle.c_primitives.specs.declared.halt.Halt.TheVariants.{Broken, SinkFault}
 use Rattle.c_primitives.specs.declared.world.Talk.{Talk}
 use Rattle.c_primitives.specs.declared.world.Talk.TheVariants.{Idle, Calling, Reading}
 use Rattle.c_primitives.specs.declared.world.World.{World}
-use Rattle.c_primitives.specs.Taking.{IsReading, IsRead, IsTaken}
+use Rattle.c_primitives.specs.Taking.{IsTaken}
 use Rattle.c_primitives.specs.Done.{told_of}
-use Rattle.c_primitives.specs.Shown.{Shows, call_text, IsCall, TalkShows, HasLine, max_told, max_text, IsReady, KeepsRoom, Outside, Wrote, Comes}
+use Rattle.c_primitives.specs.Shown.{Shows, call_text, IsCall, TalkShows, HasLine, IsReady, KeepsRoom, Outside, Wrote, Comes}
 use Rattle.c_primitives.proofs.Coming.{silent, keep_same, breaks}
 use Rattle.c_primitives.proofs.Answering.{talk_reads, line_reads}
 
@@ -104,11 +104,21 @@ module _ (ts : Things) (s : World) (w : model.World) (b : Outside) (h : Shows s 
         rw room (record {
           things = ts;
           kept = keep_same ts;
-          shown = record { holds = h.holds; blocks = h.blocks; numbers = h.numbers; references = h.references; made = h.made; fuel = h.fuel; input = h.input; answers = h.answers; taken = h.taken;
+          shown = record {
+            holds = h.holds;
+            blocks = h.blocks;
+            numbers = h.numbers;
+            references = h.references;
+            made = h.made;
+            fuel = h.fuel;
+            input = h.input;
+            answers = h.answers;
+            taken = h.taken;
             talk = subst (λ t. TalkShows t q.line.items (model.calling name (args ++ x ∷ []))) (sym so) (record {
               count = length-append args (x ∷ []) ∙ ap (λ n. n + 1) k.count;
               text = line ∙ ap (λ l. l ++ told_text x) k.text ∙ longer name args x;
-            }) };
+            });
+          };
           value = refl;
           made = tt;
           wrote = silent w _ b refl;
@@ -216,10 +226,18 @@ module _ (ts : Things) (s : World) (w : model.World) (before after : Outside) (h
             (rw (is, t.0, same) (record {
               things = ts;
               kept = keep_same ts;
-              shown = record { holds = h.holds; blocks = h.blocks; numbers = h.numbers; references = h.references; made = h.made; fuel = h.fuel; input = h.input;
+              shown = record {
+                holds = h.holds;
+                blocks = h.blocks;
+                numbers = h.numbers;
+                references = h.references;
+                made = h.made;
+                fuel = h.fuel;
+                input = h.input;
                 answers = ap (λ m. drop (m.taken + 1) (lists_of m.answers.now)) was;
                 taken = ap (λ n. n + 1) h.taken;
-                talk = talk_reads r.talk mid.line.items r.answer r.reads };
+                talk = talk_reads r.talk mid.line.items r.answer r.reads;
+              };
               value = refl;
               made = tt;
               wrote = told_event _ refl grew counted;

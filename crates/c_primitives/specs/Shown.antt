@@ -1,5 +1,5 @@
 -- The world that the code's world shows, and what a statement comes to.
-use Rattle.std.specs.Prelude.{◌≡◌, ◌⊎◌, ◌<◌, ◌≤◌, ℕ, ◌+◌, ◌*◌, ◌-◌, ◌^◌, ℤ, List, [], ◌∷◌, ◌++◌, map, length, drop, Option, Some, None, Result, Ok, Err, option_map, slice_get, vec_capacity, codes}
+use Rattle.std.specs.Prelude.{◌≡◌, ◌⊎◌, ◌<◌, ◌≤◌, ℕ, ◌+◌, ◌*◌, ◌-◌, ◌^◌, List, ◌++◌, map, length, drop, Option, Some, None, Result, Ok, Err, option_map, slice_get, vec_capacity, codes}
 use Rattle.std.specs.List.{flat_map}
 use Rattle.vlt_io.specs.Outside.{Rose, Grew, GrewByPart}
 use Rattle.vlt_rings.specs.Things.{Things, KeepMade}
@@ -14,7 +14,6 @@ use Rattle.c_meaning.specs.Primitives.{Effect, gives, breaks_rule, ends, written
 use Rattle.c_machine.specs.Bounds.{cells_in_call}
 use Rattle.c_machine.specs.Within.{name_in_call}
 use Rattle.c_memory.specs.declared.cells.Ref.{Ref}
-use Rattle.c_memory.specs.declared.blocks.Blocks.{Blocks}
 use Rattle.c_memory.specs.Shown.{number_of, heap_of, cells_of, IsSound, IsMade, Holds, blocks_of}
 use Rattle.c_values.specs.declared.value.Value.{Value}
 use Rattle.c_values.specs.declared.vars.Vars.{Vars as Frame}

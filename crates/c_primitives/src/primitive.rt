@@ -14,7 +14,13 @@ impl World<'_> {
     ghost use Rattle.c_primitives.specs.Shown.{IsReady, HasRoomFor, Does};
 
     /// What a primitive does.
-    pub fn primitive<K: Sink>(&mut self, p: CPrim, args: &[CArg], vars: Vars, sink: &mut K) -> Result<Option<Value>, Halt>
+    pub fn primitive<K: Sink>(
+        &mut self,
+        p: CPrim,
+        args: &[CArg],
+        vars: Vars,
+        sink: &mut K,
+    ) -> Result<Option<Value>, Halt>
         requires ready { IsReady self.old }
         requires room { HasRoomFor self.old p (map arg_of args.now) }
         ensures { Does self.old self.new vars.entry (record { written = K.written sink.old; faults = K.faults sink.old })

@@ -32,7 +32,12 @@ impl World<'_> {
     ghost use Rattle.c_primitives.specs.Taking.{IsTaken};
 
     /// Prints a number.
-    pub fn print<K: Sink>(&mut self, args: &[CArg], vars: Vars, sink: &mut K) -> Result<Option<Value>, Halt>
+    pub fn print<K: Sink>(
+        &mut self,
+        args: &[CArg],
+        vars: Vars,
+        sink: &mut K,
+    ) -> Result<Option<Value>, Halt>
         requires ready { IsReady self.old }
         ensures { Does self.old self.new vars.entry (record { written = K.written sink.old; faults = K.faults sink.old })
             (record { written = K.written sink.new; faults = K.faults sink.new }) result
@@ -108,7 +113,12 @@ impl World<'_> {
     }
 
     /// Writes the call, and takes the answer.
-    pub fn ask<K: Sink>(&mut self, args: &[CArg], vars: Vars, sink: &mut K) -> Result<Option<Value>, Halt>
+    pub fn ask<K: Sink>(
+        &mut self,
+        args: &[CArg],
+        vars: Vars,
+        sink: &mut K,
+    ) -> Result<Option<Value>, Halt>
         requires ready { IsReady self.old }
         ensures { Does self.old self.new vars.entry (record { written = K.written sink.old; faults = K.faults sink.old })
             (record { written = K.written sink.new; faults = K.faults sink.new }) result

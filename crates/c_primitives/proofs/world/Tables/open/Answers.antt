@@ -1,5 +1,4 @@
-use Rattle.std.proofs.Common.{rules, ◌≡◌, ◌+◌, ◌≤◌, ◌<◌, ◌^◌, sym, ◌∙◌, refl, arith}
-use Rattle.c_memory.specs.Shown.{cells_of}
+use Rattle.std.proofs.Common.{refl, arith}
 use Rattle.c_primitives.proofs.world.Tables.open.Goals as goal
 
 pub returns : goal.returns

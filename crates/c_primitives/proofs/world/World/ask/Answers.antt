@@ -1,9 +1,6 @@
-use Rattle.std.proofs.Common.{rules, ◌+◌, Ok, Err, None, length, SFits, w64, map, subst, ap, sym, ◌∙◌, refl, arith}
-use Rattle.std.proofs.lemmas.Int.{to_z-of_z}
+use Rattle.std.proofs.Common.{Err, map, subst, sym, ◌∙◌, refl, arith}
 use Rattle.vlt_io.specs.Outside.{Grew, GrewByPart}
 use Rattle.c_syntax.specs.View.{arg_of}
-use Rattle.c_meaning.specs.World.{printed, line_of}
-use Rattle.c_values.specs.Shown.{shown_vars}
 use Rattle.c_primitives.specs.declared.halt.Halt.TheVariants.{Broken, SinkFault}
 use Rattle.c_primitives.specs.declared.world.Talk.TheVariants.{Idle}
 use Rattle.c_primitives.proofs.Coming.{same_room, none_come, none_breaks}
@@ -32,7 +29,7 @@ returns-in-Ok g c = record {
   ready = ready_asked_at c.args.self.now (record c.args.self.now { talk = Idle; line = c.end.new.line }) c.take_answer.new.self c.take_answer.result refl c.requires.ready refl c.take_answer.ensures;
   room = room_asked_at c.args.self.now (record c.args.self.now { talk = Idle; line = c.end.new.line }) c.take_answer.new.self c.take_answer.result refl c.end.ensures.room c.take_answer.ensures;
   comes = λ ts w h made. none_come ts c.take_answer.new.self w (record { written = g.K.Sink.written c.args.sink.now; faults = g.K.Sink.faults c.args.sink.now }) (record { written = g.K.Sink.written c.write.new.self; faults = g.K.Sink.faults c.write.new.self }) (map arg_of c.args.args.now) c.take_answer.result _ (sym c.is_none.ensures ∙ c.if-not-is_none.false)
-    (ask_come ts c.args.self.now w (record { written = g.K.Sink.written c.args.sink.now; faults = g.K.Sink.faults c.args.sink.now }) (record { written = g.K.Sink.written c.write.new.self; faults = g.K.Sink.faults c.write.new.self }) h c.in-Some.field-0 (sym c.told_so_far.ensures ∙ c.in-Some.is) (record c.args.self.now { talk = Idle; line = c.end.new.line }) c.take_answer.new.self c.take_answer.result refl (subst (Grew (g.K.Sink.written c.args.sink.now) (g.K.Sink.written c.write.new.self)) (c.as_slice.ensures.value ∙ c.end.ensures.items) c.in-Ok.ensures.ok) c.in-Ok.ensures.counted c.take_answer.ensures);
+      (ask_come ts c.args.self.now w (record { written = g.K.Sink.written c.args.sink.now; faults = g.K.Sink.faults c.args.sink.now }) (record { written = g.K.Sink.written c.write.new.self; faults = g.K.Sink.faults c.write.new.self }) h c.in-Some.field-0 (sym c.told_so_far.ensures ∙ c.in-Some.is) (record c.args.self.now { talk = Idle; line = c.end.new.line }) c.take_answer.new.self c.take_answer.result refl (subst (Grew (g.K.Sink.written c.args.sink.now) (g.K.Sink.written c.write.new.self)) (c.as_slice.ensures.value ∙ c.end.ensures.items) c.in-Ok.ensures.ok) c.in-Ok.ensures.counted c.take_answer.ensures);
 }
 
 pub returns-in-Err : goal.returns-in-Err

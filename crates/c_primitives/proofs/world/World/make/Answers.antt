@@ -1,12 +1,9 @@
-use Rattle.std.proofs.Common.{◌≡◌, Some, Ok, subst, map, sym, ◌∙◌, refl, arith}
+use Rattle.std.proofs.Common.{◌≡◌, Some, Ok, subst, map, sym, ◌∙◌}
 use Rattle.c_syntax.specs.View.{arg_of}
-use Rattle.c_values.specs.Shown.{shown_vars}
-use Rattle.c_memory.specs.Shown.{number_of}
-use Rattle.c_meaning.specs.Blocks.{owned, disowned, parent_of, released, gone_out, come_back}
 use Rattle.c_meaning.specs.Primitives.{asked_cells, makes_asked}
 use Rattle.c_values.specs.declared.value.Value.TheVariants.{Reference}
 use Rattle.c_primitives.specs.Shown.{Comes}
-use Rattle.c_primitives.proofs.Coming.{ready_blocks, room_blocks, same_room, new_come}
+use Rattle.c_primitives.proofs.Coming.{ready_blocks, room_blocks, new_come}
 use Rattle.c_primitives.proofs.world.World.make.Goals as goal
 
 pub returns-in-Ok : goal.returns-in-Ok

@@ -1,4 +1,4 @@
-use Rattle.std.proofs.Common.{rules, subst, Ok, Err, SFits, w64, map, ap, sym, ◌∙◌, refl, arith}
+use Rattle.std.proofs.Common.{rules, subst, SFits, w64, map}
 use Rattle.std.proofs.lemmas.Int.{to_z-of_z}
 use Rattle.c_syntax.specs.View.{arg_of}
 use Rattle.c_values.specs.Shown.{shown_vars}
@@ -12,7 +12,7 @@ returns-in-Ok c = let fits : SFits w64 c.in-Ok.mask = search rules in λ b. reco
   ready = (c.pick_one.ensures b).ready;
   room = (c.pick_one.ensures b).room;
   comes = λ ts w h made. number_come ts c.pick_one.new.self w b b (map arg_of c.args.args.now) (shown_vars c.args.vars) c.pick_one.result c.one_number.result c.in-Ok.mask _ c.in-Ok.is (c.one_number.ensures ts made)
-    (subst (λ m. Comes ts c.pick_one.new.self w b b c.pick_one.result (reads_answer (is_bit_of m) w.talk w)) (to_z-of_z w64 c.in-Ok.mask fits) ((c.pick_one.ensures b).comes ts w h made));
+      (subst (λ m. Comes ts c.pick_one.new.self w b b c.pick_one.result (reads_answer (is_bit_of m) w.talk w)) (to_z-of_z w64 c.in-Ok.mask fits) ((c.pick_one.ensures b).comes ts w h made));
 }
 
 pub returns-in-Err : goal.returns-in-Err

@@ -1,4 +1,4 @@
-use Rattle.std.proofs.Common.{◌≡◌, map, subst, sym}
+use Rattle.std.proofs.Common.{map, subst, sym}
 use Rattle.c_syntax.specs.View.{arg_of}
 use Rattle.c_meaning.specs.Primitives.{primitive_does}
 use Rattle.c_primitives.specs.Shown.{Does, HasRoomFor}

@@ -1,11 +1,10 @@
-use Rattle.std.proofs.Common.{rules, Ok, Err, None, SFits, w64, map, subst, ap, sym, ◌∙◌, refl}
+use Rattle.std.proofs.Common.{rules, Ok, Err, None, SFits, w64, map, subst}
 use Rattle.std.proofs.lemmas.Int.{to_z-of_z}
 use Rattle.vlt_io.specs.Outside.{Grew, GrewByPart}
 use Rattle.c_syntax.specs.View.{arg_of}
 use Rattle.c_meaning.specs.World.{printed, line_of}
 use Rattle.c_values.specs.Shown.{shown_vars}
-use Rattle.c_primitives.specs.declared.halt.Halt.TheVariants.{Broken, SinkFault}
-use Rattle.c_primitives.specs.declared.world.Talk.TheVariants.{Idle}
+use Rattle.c_primitives.specs.declared.halt.Halt.TheVariants.{SinkFault}
 use Rattle.c_primitives.proofs.Coming.{same_room, number_come, number_breaks}
 use Rattle.c_primitives.proofs.Telling.{print_come, print_cut}
 use Rattle.c_primitives.proofs.world.World.print.Goals as goal

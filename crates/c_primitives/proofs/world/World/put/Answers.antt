@@ -1,4 +1,4 @@
-use Rattle.std.proofs.Common.{Ok, Err, ap, subst, sym, ◌∙◌, refl, ◌≡◌}
+use Rattle.std.proofs.Common.{subst}
 use Rattle.c_syntax.specs.View.{expr_of}
 use Rattle.c_values.specs.Shown.{shown_vars, IsReference}
 use Rattle.c_meaning.specs.Values.{base_in}
@@ -11,8 +11,8 @@ returns-in-Ok-eval c = λ b. record {
   ready = c.write.ensures.ready;
   room = c.write.ensures.room;
   comes = λ ts w h made. put_come ts c.args.self.now w b (expr_of c.args.e.now) (shown_vars c.args.vars) c.eval.result c.write.new.self c.write.result c.args.x c.base.result c.in-Ok.b c.in-Ok-eval.a h c.in-Ok.is
-    (subst (λ n. IsReference ts c.base.result (base_in n (shown_vars c.args.vars))) c.base_number.ensures (c.base.ensures ts made)) c.in-Ok-eval.is (c.eval.ensures ts h.holds made)
-    (λ m n. c.write.ensures.comes b ts w h m n);
+      (subst (λ n. IsReference ts c.base.result (base_in n (shown_vars c.args.vars))) c.base_number.ensures (c.base.ensures ts made)) c.in-Ok-eval.is (c.eval.ensures ts h.holds made)
+      (λ m n. c.write.ensures.comes b ts w h m n);
 }
 
 pub returns-in-Err-eval : goal.returns-in-Err-eval
@@ -20,7 +20,7 @@ returns-in-Err-eval c = λ b. record {
   ready = c.requires.ready;
   room = same_room c.args.self.now;
   comes = λ ts w h made. put_value_breaks ts c.args.self.now w b (expr_of c.args.e.now) (shown_vars c.args.vars) c.eval.result c.args.x c.base.result c.in-Ok.b c.in-Err-eval.rule h c.in-Ok.is
-    (subst (λ n. IsReference ts c.base.result (base_in n (shown_vars c.args.vars))) c.base_number.ensures (c.base.ensures ts made)) c.in-Err-eval.is (c.eval.ensures ts h.holds made);
+      (subst (λ n. IsReference ts c.base.result (base_in n (shown_vars c.args.vars))) c.base_number.ensures (c.base.ensures ts made)) c.in-Err-eval.is (c.eval.ensures ts h.holds made);
 }
 
 pub returns-in-Err : goal.returns-in-Err
@@ -28,5 +28,5 @@ returns-in-Err c = λ b. record {
   ready = c.requires.ready;
   room = same_room c.args.self.now;
   comes = λ ts w h made. put_base_breaks ts c.args.self.now w b (expr_of c.args.e.now) (shown_vars c.args.vars) c.args.x c.base.result c.in-Err.rule h c.in-Err.is
-    (subst (λ n. IsReference ts c.base.result (base_in n (shown_vars c.args.vars))) c.base_number.ensures (c.base.ensures ts made));
+      (subst (λ n. IsReference ts c.base.result (base_in n (shown_vars c.args.vars))) c.base_number.ensures (c.base.ensures ts made));
 }

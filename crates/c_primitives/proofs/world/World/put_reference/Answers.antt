@@ -1,4 +1,4 @@
-use Rattle.std.proofs.Common.{rules, ap, SFits, w64, Ok, Err, None, map, sym, ◌∙◌, refl, arith}
+use Rattle.std.proofs.Common.{rules, ap, SFits, w64, Ok, Err, None, map, sym, ◌∙◌}
 use Rattle.std.proofs.lemmas.Int.{to_z-of_z}
 use Rattle.c_meaning.specs.Primitives.{index_below}
 use Rattle.c_syntax.specs.View.{arg_of}

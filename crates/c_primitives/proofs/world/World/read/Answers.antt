@@ -1,12 +1,9 @@
-use Rattle.std.proofs.Common.{rules, Ok, Err, Some, None, true, false, SFits, w64, map, ap, sym, ◌∙◌, refl, arith}
+use Rattle.std.proofs.Common.{rules, Ok, Err, Some, SFits, w64, map, ap, sym, ◌∙◌, refl}
 use Rattle.std.proofs.lemmas.Int.{to_z-of_z}
 use Rattle.c_syntax.specs.View.{arg_of}
-use Rattle.c_values.specs.Shown.{shown_vars}
-use Rattle.c_primitives.specs.declared.halt.Halt.TheVariants.{Broken, InputEnd, BadAnswer}
-use Rattle.c_primitives.specs.declared.world.Talk.TheVariants.{Idle, Reading}
-use Rattle.c_primitives.specs.declared.world.World.{World}
-use Rattle.c_primitives.proofs.Coming.{same_room, none_come, none_breaks, number_come, number_breaks}
-use Rattle.c_primitives.proofs.Answering.{ready_reads, ready_idle, ready_input, room_talk, room_input, read_come, no_input, more_come, answer_come, no_answer, other_answer, answer_breaks, end_come, end_bad, end_breaks}
+use Rattle.c_primitives.specs.declared.halt.Halt.TheVariants.{InputEnd}
+use Rattle.c_primitives.proofs.Coming.{same_room, none_come, none_breaks}
+use Rattle.c_primitives.proofs.Answering.{ready_input, room_input, read_come, no_input}
 use Rattle.c_values.specs.declared.value.Value.TheVariants.{Number}
 use Rattle.c_primitives.proofs.world.World.read.Goals as goal
 

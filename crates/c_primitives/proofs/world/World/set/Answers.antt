@@ -1,4 +1,3 @@
-use Rattle.std.proofs.Common.{◌≡◌, Ok, Err, sym, ◌∙◌, refl}
 use Rattle.c_syntax.specs.View.{expr_of}
 use Rattle.c_values.specs.Shown.{shown_vars}
 use Rattle.c_primitives.proofs.Coming.{same_room}

@@ -1,13 +1,10 @@
-use Rattle.std.proofs.Common.{rules, ◌+◌, ◌++◌, Ok, Err, Some, None, true, false, SFits, w64, map, ap, sym, subst, ◌∙◌, refl, arith}
-use Rattle.std.proofs.lemmas.Int.{to_z-of_z}
+use Rattle.std.proofs.Common.{◌+◌, Ok, Err, Some, None, map, ap, sym, ◌∙◌, refl, arith}
 use Rattle.c_syntax.specs.View.{arg_of}
 use Rattle.c_values.specs.Shown.{shown_vars}
-use Rattle.c_primitives.specs.declared.halt.Halt.TheVariants.{Broken, SinkFault}
-use Rattle.c_primitives.specs.declared.world.Talk.TheVariants.{Idle, Calling}
-use Rattle.c_primitives.specs.declared.world.World.{World}
-use Rattle.c_primitives.proofs.Coming.{same_room, number_come, number_breaks, reference_come, reference_breaks, none_come, none_breaks}
-use Rattle.c_primitives.proofs.Telling.{tell_number_come, tell_number_full, tell_number_breaks, tell_block_come, tell_block_full, tell_block_breaks, tell_null_breaks, line_room, ready_told, room_told}
-use Rattle.c_meaning.specs.World.{told_text, told_number}
+use Rattle.c_primitives.specs.declared.halt.Halt.TheVariants.{Broken}
+use Rattle.c_primitives.specs.declared.world.Talk.TheVariants.{Calling}
+use Rattle.c_primitives.proofs.Coming.{same_room, reference_come, reference_breaks}
+use Rattle.c_primitives.proofs.Telling.{tell_block_come, tell_block_full, tell_block_breaks, tell_null_breaks, line_room, ready_told, room_told}
 use Rattle.c_primitives.proofs.world.World.tell_reference.Goals as goal
 
 pub tell_block-requires : goal.tell_block-requires

@@ -1,4 +1,4 @@
-use Rattle.std.proofs.Common.{rules, ap, SFits, w64, Err, map, sym, ◌∙◌, refl, arith}
+use Rattle.std.proofs.Common.{rules, ap, SFits, w64, Err, map, ◌∙◌}
 use Rattle.c_syntax.specs.View.{arg_of}
 use Rattle.c_values.specs.Shown.{shown_vars}
 use Rattle.std.proofs.lemmas.Int.{to_z-of_z}
