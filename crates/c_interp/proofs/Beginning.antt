@@ -1,30 +1,25 @@
 -- The start of a run.
-use Rattle.std.proofs.Common.{◌≡◌, inl, inr, ⊎_elim, ℕ, zero, suc, ◌+◌, ◌*◌, ◌≤◌, ◌<◌, max, false, List, [], ◌∷◌, ◌++◌, map, length, drop, replicate, Option, Some, None, refl, sym, ap, ◌∙◌, subst, arith, vec_capacity, slice_get}
-use Rattle.std.specs.Option.{option_map}
+use Rattle.std.proofs.Common.{◌≡◌, ℕ, zero, suc, ◌+◌, ◌*◌, ◌≤◌, max, false, List, [], ◌∷◌, ◌++◌, length, replicate, Option, Some, None, refl, sym, ap, ◌∙◌, subst, arith, vec_capacity, slice_get}
 use Rattle.std.proofs.lemmas.Option.{none-some, same_Some}
 use Rattle.std.proofs.lemmas.List.{length-append, nil_from_length}
-use Rattle.vlt_io.specs.Outside.{Grew, GrewByPart}
-use Rattle.vlt_rings.specs.Things.{Things}
-use Rattle.vlt_numbers.specs.declared.answers.Answers.{Answers}
 use Rattle.vlt_numbers.specs.Answers.{lists_of}
 use Rattle.c_syntax.specs.declared.program.CStmt.{CStmt}
 use Rattle.c_syntax.specs.View.{func_of, stmts_of, program_of}
 use Rattle.c_syntax.specs.C.{Func, Program}
 use Rattle.c_meaning.specs.World as model
 use Rattle.c_meaning.specs.World.{first_world, event_text, Ran}
-use Rattle.c_meaning.specs.Run.{Numbered, main_of, number_at, count_in, count_in_all, c_run}
+use Rattle.c_meaning.specs.Run.{Numbered, main_of, number_at, count_in, count_in_all}
 use Rattle.c_machine.specs.Machine as m
 use Rattle.c_machine.specs.Machine.{State, names_of, first_conf, IsDeclared}
-use Rattle.c_machine.specs.Bounds.{sizes_of, most, width_of, value_slots, tall_of, block_cells, Fits}
+use Rattle.c_machine.specs.Bounds.{sizes_of, most, width_of, value_slots, Fits}
 use Rattle.c_machine.specs.Within.{longest_name, AreWithin}
 use Rattle.c_machine.proofs.Starting.{first_fits}
 use Rattle.c_machine.proofs.Theorems.{machine_is_right}
 use Rattle.c_machine.proofs.Within.{main_within}
-use Rattle.c_memory.specs.Shown.{cells_of}
 use Rattle.c_values.specs.declared.value.Value.{Value}
-use Rattle.c_values.specs.Shown.{value_view, shown_slots, AreMadeSlots}
+use Rattle.c_values.specs.Shown.{shown_slots, AreMadeSlots}
 use Rattle.c_primitives.specs.declared.world.World.{World}
-use Rattle.c_primitives.specs.Shown.{Shows, Outside}
+use Rattle.c_primitives.specs.Shown.{Outside}
 use Rattle.c_primitives.proofs.Coming.{silent}
 use Rattle.c_interp.specs.declared.rules.Found.{Found}
 use Rattle.c_interp.specs.declared.rules.Rules.{Rules}
@@ -32,7 +27,6 @@ use Rattle.c_interp.specs.declared.frames.Frames.{Frames}
 use Rattle.c_interp.specs.declared.task.Task.{Task}
 use Rattle.c_interp.specs.declared.task.Task.TheVariants.{List as Listed, Bottom}
 use Rattle.std.specs.Borrow.{Bor}
-use Rattle.c_interp.specs.Finding.{IsFoundAs}
 use Rattle.c_interp.specs.Calling.{numbered_of}
 use Rattle.c_interp.specs.Shown.{tasks_of, state_of, setup_of, HasRoom}
 use Rattle.c_interp.specs.Running.{start_of, run_of, IsRunning, CanRun}

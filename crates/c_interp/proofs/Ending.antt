@@ -1,5 +1,5 @@
 -- How a run ends.
-use Rattle.std.proofs.Common.{◌≡◌, inl, inr, ⊎_elim, ℕ, ◌≤◌, ◌==◌, true, false, ℤ, List, [], ◌++◌, Option, Some, None, refl, sym, ap, ◌∙◌, subst, arith}
+use Rattle.std.proofs.Common.{◌≡◌, inl, inr, ⊎_elim, ℕ, ◌==◌, true, ℤ, List, [], ◌++◌, Option, Some, None, refl, sym, ap, ◌∙◌, subst, arith}
 use Rattle.std.proofs.lemmas.Bool.Decides.{nat_tests}
 use Rattle.vlt_io.specs.Outside.{Grew, GrewByPart}
 use Rattle.vlt_numbers.specs.declared.answers.Answers.{Answers}
@@ -9,18 +9,16 @@ use Rattle.c_meaning.specs.World as model
 use Rattle.c_meaning.specs.World.{Event, event_text, first_world, Ran}
 use Rattle.c_meaning.specs.Run.{Numbered, main_of, count_of, c_run}
 use Rattle.c_primitives.specs.declared.world.World.{World}
-use Rattle.c_primitives.specs.Shown.{Shows, Outside}
+use Rattle.c_primitives.specs.Shown.{Outside}
 use Rattle.c_primitives.proofs.Coming.{grew_nothing}
 use Rattle.c_interp.specs.declared.stop.CStop.{CStop}
 use Rattle.c_interp.specs.declared.stop.CStop.TheVariants.{Undefined, DepthEnd}
 use Rattle.c_interp.specs.declared.rules.Found.{Found}
-use Rattle.c_interp.specs.declared.start.Ended.{Ended}
 use Rattle.c_interp.specs.Halting.{outcome_of}
 use Rattle.c_interp.specs.Finding.{IsFoundAs}
 use Rattle.c_interp.specs.Calling.{numbered_of}
-use Rattle.c_interp.specs.Shown.{HasStopped, IsCut}
 use Rattle.c_interp.specs.Running.{start_of, IsFinished}
-use Rattle.c_interp.specs.Start.{HasEnded, IsEnded}
+use Rattle.c_interp.specs.Start.{IsEnded}
 
 pub main_none : (found : Option Numbered) → IsFoundAs None found → found ≡ None
 main_none None e = refl

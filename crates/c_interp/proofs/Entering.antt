@@ -1,5 +1,5 @@
 -- A unit of fuel is spent, and a function is entered.
-use Rattle.std.proofs.Common.{◌≡◌, inl, inr, ℕ, zero, suc, ◌+◌, ◌-◌, ◌<◌, ◌≤◌, ◌==◌, ◌^◌, Bool, true, false, if◌then◌else◌, List, [], ◌∷◌, ◌++◌, map, length, replicate, Option, Some, None, refl, sym, ap, ◌∙◌, subst, append_assoc, arith}
+use Rattle.std.proofs.Common.{◌≡◌, inl, ℕ, zero, suc, ◌-◌, ◌≤◌, ◌==◌, Bool, true, false, List, [], ◌∷◌, ◌++◌, map, length, replicate, Option, Some, None, refl, sym, ap, ◌∙◌, append_assoc, arith}
 use Rattle.std.specs.Option.{option_map}
 use Rattle.std.proofs.lemmas.Bool.Decides.{nat_tests}
 use Rattle.std.proofs.lemmas.List.{map-append, length-map}
@@ -23,13 +23,11 @@ use Rattle.c_interp.specs.declared.frames.Frames.{Frames}
 use Rattle.c_interp.specs.declared.task.Task.{Task}
 use Rattle.c_interp.specs.declared.rules.Found.{Found}
 use Rattle.c_interp.specs.Calling.{numbered_of, AreSame, HasPushed}
-use Rattle.c_interp.specs.Shown.{caller_of, task_of, tasks_of, state_of, CameTo}
-use Rattle.c_interp.specs.declared.task.Caller.{Caller}
+use Rattle.c_interp.specs.Shown.{caller_of, tasks_of, state_of, CameTo}
 use Rattle.c_interp.specs.declared.task.Task.TheVariants.{List as Listed, Back}
 use Rattle.c_syntax.specs.declared.program.CStmt.{CStmt}
 use Rattle.std.specs.Borrow.{Bor}
 use Rattle.c_interp.proofs.Tasks.{pushed_two}
-use Rattle.c_interp.proofs.Setting.{made_none}
 
 pub ready_fuel : (s q : World) → IsReady s → IsReady (record s { fuel = q.fuel })
 ready_fuel s q r = record { sound = r.sound; heap = r.heap; cells = r.cells; line = r.line }
@@ -97,12 +95,12 @@ pub callee_is : (before new : Frames) (now : Frames) (found : Found) (values : L
     → state_of new w ≡ m.callee_state glue (func_of found.func.now) (map value_view values) (state_of before w)
 callee_is before new now found values glue w d end p long items base func is_glue depth deep =
     let slots : shown_slots new.values.items ≡ shown_slots before.values.items ++ first_values (func_of found.func.now) (map value_view values) =
-        ap shown_slots items ∙ map-append (option_map value_view) now.values.items (replicate (length (func_of found.func.now).vars) None)
-        ∙ ap (λ l. shown_slots l ++ shown_slots (replicate (length (func_of found.func.now).vars) None)) p.items
-        ∙ ap (λ l. l ++ shown_slots (replicate (length (func_of found.func.now).vars) None)) (map-append (option_map value_view) before.values.items (map Some values))
-        ∙ append_assoc (shown_slots before.values.items) (shown_slots (map Some values)) (shown_slots (replicate (length (func_of found.func.now).vars) None))
-        ∙ ap (λ l. shown_slots before.values.items ++ (l ++ shown_slots (replicate (length (func_of found.func.now).vars) None))) (somes values)
-        ∙ ap (λ l. shown_slots before.values.items ++ (map Some (map value_view values) ++ l)) (nones (length (func_of found.func.now).vars)) in
+    ap shown_slots items ∙ map-append (option_map value_view) now.values.items (replicate (length (func_of found.func.now).vars) None)
+    ∙ ap (λ l. shown_slots l ++ shown_slots (replicate (length (func_of found.func.now).vars) None)) p.items
+    ∙ ap (λ l. l ++ shown_slots (replicate (length (func_of found.func.now).vars) None)) (map-append (option_map value_view) before.values.items (map Some values))
+    ∙ append_assoc (shown_slots before.values.items) (shown_slots (map Some values)) (shown_slots (replicate (length (func_of found.func.now).vars) None))
+    ∙ ap (λ l. shown_slots before.values.items ++ (l ++ shown_slots (replicate (length (func_of found.func.now).vars) None))) (somes values)
+    ∙ ap (λ l. shown_slots before.values.items ++ (map Some (map value_view values) ++ l)) (nones (length (func_of found.func.now).vars)) in
     let at : new.base ≡ length (shown_slots before.values.items) = base ∙ long ∙ sym (length-map before.values.items (option_map value_view)) in
     ap {B = State} (λ l. record { slots = l; base = new.base; names = names_of (func_of new.func.now); is_glue = new.is_glue; depth = new.depth; world = w }) slots
     ∙ ap {B = State} (λ x. record { slots = shown_slots before.values.items ++ first_values (func_of found.func.now) (map value_view values); base = x; names = names_of (func_of new.func.now); is_glue = new.is_glue; depth = new.depth; world = w }) at

@@ -1,10 +1,9 @@
 -- The next task.
-use Rattle.std.proofs.Common.{◌≡◌, ℕ, ◌+◌, ◌<◌, ◌≤◌, min, List, [], ◌∷◌, ◌++◌, length, refl, sym, ap, ◌∙◌, subst, arith}
+use Rattle.std.proofs.Common.{◌≡◌, ℕ, ◌+◌, ◌<◌, ◌≤◌, min, List, [], ◌∷◌, ◌++◌, length, ap, ◌∙◌, subst, arith}
 use Rattle.std.proofs.lemmas.List.{length-append}
 use Rattle.c_syntax.specs.declared.program.CStmt.{CStmt}
 use Rattle.c_syntax.specs.View.{stmt_of, stmts_of, program_of}
-use Rattle.c_syntax.specs.C as c
-use Rattle.c_syntax.specs.C.{Stmt, Stmts}
+use Rattle.c_syntax.specs.C.{Stmts}
 use Rattle.c_meaning.specs.Run.{count_in_stmt, count_in}
 use Rattle.c_machine.specs.Machine as m
 use Rattle.c_machine.specs.Within.{longest_name, AreWithin}

@@ -1,5 +1,5 @@
 -- What functions come to that change tasks and frames alone.
-use Rattle.std.proofs.Common.{◌≡◌, inl, inr, ⊎_elim, ℕ, List, [], ◌∷◌, Option, Some, None, Result, Ok, Err, refl, sym, ap, ◌∙◌, subst}
+use Rattle.std.proofs.Common.{◌≡◌, inl, inr, ⊎_elim, ℕ, List, Option, Some, None, Ok, Err, refl, sym, ap, ◌∙◌, subst}
 use Rattle.std.proofs.lemmas.Option.{none-some}
 use Rattle.vlt_rings.specs.Things.{Things}
 use Rattle.c_syntax.specs.declared.program.CVar.{CVar}
@@ -15,8 +15,6 @@ use Rattle.c_primitives.specs.Shown as primitives
 use Rattle.c_primitives.proofs.Coming.{silent}
 use Rattle.c_interp.specs.Halting.{outcome_of, stop_for}
 use Rattle.c_interp.proofs.Setting.{slots_kept}
-use Rattle.c_syntax.specs.declared.program.CResult.{CResult}
-use Rattle.c_syntax.specs.declared.program.CResult.TheVariants as result
 use Rattle.c_meaning.specs.World as model
 use Rattle.c_meaning.specs.World.{undefined}
 use Rattle.c_machine.specs.Machine as m
@@ -82,4 +80,3 @@ module _ (n : ℕ) (target : Option CVar) (things : Things) (s : World) (w : mod
   -- or it ends the run
   pub after_halt : (h : Halt) (stop : CStop) (e : Effect) → stop ≡ stop_for n h → Comes things s w before after (Err h) e → CameTo w before after (Some stop) ts f s (m.after n target e (tasks_of ts) (state_of f w))
   after_halt h stop e is c = rw is (after_stop h e c)
-

@@ -1,12 +1,12 @@
 -- The positions of functions.
-use Rattle.std.proofs.Common.{◌≡◌, ℕ, zero, suc, ◌+◌, ◌<◌, ◌≤◌, ◌==◌, Bool, true, false, if◌then◌else◌, List, [], ◌∷◌, map, length, drop, drop-cons, get_or, Option, Some, None, refl, sym, ap, ◌∙◌, subst, arith, slice_get}
+use Rattle.std.proofs.Common.{◌≡◌, ℕ, zero, suc, ◌+◌, ◌≤◌, ◌==◌, Bool, true, false, if◌then◌else◌, List, [], ◌∷◌, map, length, Option, Some, None, refl, sym, ap, ◌∙◌, subst, arith, slice_get}
 use Rattle.std.specs.Option.{option_map}
 use Rattle.std.proofs.lemmas.Option.{none-some, same_Some}
 use Rattle.std.proofs.lemmas.List.{length-map}
 use Rattle.c_syntax.specs.declared.program.CFunc.{CFunc}
 use Rattle.c_syntax.specs.View.{func_of}
 use Rattle.c_syntax.specs.C.{Func}
-use Rattle.c_meaning.specs.Run.{Numbered, count_in, find_in, number_at}
+use Rattle.c_meaning.specs.Run.{count_in, find_in, number_at}
 use Rattle.c_interp.specs.declared.rules.Found.{Found}
 use Rattle.c_interp.specs.Finding.{position_of, firsts_from, IsFoundAs}
 

@@ -1,6 +1,6 @@
 -- The values of arguments, one after another.
-use Rattle.std.proofs.Common.{◌≡◌, ℕ, zero, suc, ◌+◌, ◌<◌, List, [], ◌∷◌, ◌++◌, map, length, take, drop, drop-cons, get_or, Option, Some, None, Result, Ok, Err, refl, sym, ap, ◌∙◌, subst, append-nil, append_assoc, arith, ◌≤◌, vec_capacity}
-use Rattle.std.proofs.lemmas.List.{length-append, length-map, map-append}
+use Rattle.std.proofs.Common.{◌≡◌, ℕ, zero, suc, ◌+◌, ◌<◌, List, [], ◌∷◌, ◌++◌, map, length, take, drop, drop-cons, get_or, Some, Result, Ok, Err, refl, sym, ap, ◌∙◌, subst, append-nil, append_assoc, arith, ◌≤◌, vec_capacity}
+use Rattle.std.proofs.lemmas.List.{length-append, map-append}
 use Rattle.vlt_rings.specs.Things.{Things}
 use Rattle.c_syntax.specs.declared.program.CArg.{CArg}
 use Rattle.c_syntax.specs.View.{arg_of, func_of}
@@ -8,13 +8,13 @@ use Rattle.c_syntax.specs.C.{Arg}
 use Rattle.c_meaning.specs.World as model
 use Rattle.c_meaning.specs.World.{Vars}
 use Rattle.c_meaning.specs.Values.{◌>>=◌, arg_value, arg_values}
-use Rattle.c_machine.specs.Machine.{looked, names_of}
+use Rattle.c_machine.specs.Machine.{names_of}
 use Rattle.c_values.specs.declared.value.Value.{Value}
 use Rattle.c_values.specs.declared.vars.Vars.{Vars as Frame}
-use Rattle.c_values.specs.Shown.{value_view, shown_slots, names_in, shown_vars, AreMadeSlots, IsValue, IsMadeValue}
+use Rattle.c_values.specs.Shown.{value_view, names_in, shown_vars, AreMadeSlots, IsValue, IsMadeValue}
 use Rattle.c_interp.specs.declared.frames.Frames.{Frames}
 use Rattle.c_interp.specs.Calling.{vars_of, AreSame, HasPushed, AreGiven}
-use Rattle.c_interp.proofs.Setting.{vars_are, made_drop, made_one, made_take}
+use Rattle.c_interp.proofs.Setting.{vars_are, made_drop, made_one}
 
 abbrev pub behind : List model.Value → Result (List model.Value) ℕ → Result (List model.Value) ℕ
 behind zs (Err r) = Err r
@@ -91,11 +91,11 @@ module _ (all : List Arg) (args : List CArg) (i : ℕ) (item : CArg) (old now : 
       };
       many = length-append h.values (a ∷ []) ∙ ap (λ k. k + 1) h.many;
       are = λ ts m.
-        let shown : arg_value (arg_of item) (vars_of old) ≡ Ok (value_view a) = (ok_value ts a _ (subst (λ x. IsValue ts x (arg_value (arg_of item) (vars_of old))) ok (value_is ts m))).0 in
-        h.are ts m ∙ ap (λ xs. behind (map value_view h.values) (arg_values xs (vars_of old))) cut
-        ∙ ap (λ x. behind (map value_view h.values) (x >>= (λ b. arg_values (map arg_of (drop (i + 1) args)) (vars_of old) >>= (λ rest. Ok (b ∷ rest))))) shown
-        ∙ behind_one (map value_view h.values) (value_view a) (arg_values (map arg_of (drop (i + 1) args)) (vars_of old))
-        ∙ ap (λ zs. behind zs (arg_values (map arg_of (drop (i + 1) args)) (vars_of old))) (sym (map-append value_view h.values (a ∷ [])));
+          let shown : arg_value (arg_of item) (vars_of old) ≡ Ok (value_view a) = (ok_value ts a _ (subst (λ x. IsValue ts x (arg_value (arg_of item) (vars_of old))) ok (value_is ts m))).0 in
+          h.are ts m ∙ ap (λ xs. behind (map value_view h.values) (arg_values xs (vars_of old))) cut
+          ∙ ap (λ x. behind (map value_view h.values) (x >>= (λ b. arg_values (map arg_of (drop (i + 1) args)) (vars_of old) >>= (λ rest. Ok (b ∷ rest))))) shown
+          ∙ behind_one (map value_view h.values) (value_view a) (arg_values (map arg_of (drop (i + 1) args)) (vars_of old))
+          ∙ ap (λ zs. behind zs (arg_values (map arg_of (drop (i + 1) args)) (vars_of old))) (sym (map-append value_view h.values (a ∷ [])));
     }
 
     pub no_more : (q : ℕ) → r ≡ Err q → (ts : Things) → AreMadeSlots ts old.values.items → arg_values all (vars_of old) ≡ Err q

@@ -1,5 +1,5 @@
 -- Back to a caller.
-use Rattle.std.proofs.Common.{◌≡◌, ℕ, ◌-◌, List, ◌∷◌, map, take, Option, Some, None, refl, sym, ap, ◌∙◌, subst}
+use Rattle.std.proofs.Common.{◌≡◌, List, ◌∷◌, take, Option, Some, refl, sym, ap, ◌∙◌, subst}
 use Rattle.std.specs.Option.{option_map}
 use Rattle.c_syntax.specs.declared.program.CResult.{CResult}
 use Rattle.c_syntax.specs.View.{func_of}

@@ -1,5 +1,5 @@
 -- The rooms of a run.
-use Rattle.std.proofs.Common.{◌≡◌, ℕ, suc, ◌+◌, ◌*◌, ◌<◌, ◌≤◌, Bool, true, false, List, [], ◌∷◌, map, length, Some, refl, sym, ap, ◌∙◌, subst, arith, vec_capacity}
+use Rattle.std.proofs.Common.{◌≡◌, ℕ, ◌+◌, ◌*◌, ◌<◌, ◌≤◌, Bool, true, false, List, ◌∷◌, length, Some, sym, ◌∙◌, subst, arith, vec_capacity}
 use Rattle.std.specs.Option.{option_map}
 use Rattle.std.proofs.lemmas.List.{length-map}
 use Rattle.c_syntax.specs.declared.program.CName.{CName}
@@ -7,17 +7,16 @@ use Rattle.c_syntax.specs.View.{program_of}
 use Rattle.c_syntax.specs.C as c
 use Rattle.c_syntax.specs.C.{Stmt, Stmts, Program}
 use Rattle.c_meaning.specs.World as model
-use Rattle.c_meaning.specs.Run.{Numbered, count_in_stmt, function_of}
+use Rattle.c_meaning.specs.Run.{Numbered, function_of}
 use Rattle.c_machine.specs.Machine as m
 use Rattle.c_machine.specs.Machine.{State, Conf}
-use Rattle.c_machine.specs.Bounds.{sizes_of, Fits, FitsNext, width_of, width_in, value_slots, tall_of, block_cells}
+use Rattle.c_machine.specs.Bounds.{sizes_of, Fits, FitsNext, width_of, width_in, value_slots}
 use Rattle.c_machine.specs.Within.{longest_name, measure, AreWithin, FallsTo}
 use Rattle.c_machine.proofs.Fitting.{tasks_within, slots_within}
 use Rattle.c_machine.proofs.Starting.{functions_small}
 use Rattle.c_machine.proofs.Theorems.{they_suffice}
 use Rattle.c_machine.proofs.Within.{IsWithin, function_within, moved_falls}
-use Rattle.c_memory.specs.Shown.{cells_of}
-use Rattle.c_values.specs.Shown.{value_view, shown_slots}
+use Rattle.c_values.specs.Shown.{value_view}
 use Rattle.c_primitives.specs.declared.world.World.{World}
 use Rattle.c_primitives.specs.Shown.{IsReady, KeepsRoom}
 use Rattle.c_interp.specs.declared.rules.Rules.{Rules}
@@ -98,7 +97,7 @@ module _ (r : Rules) (items : List Task) (size : ℕ) (f : Frames) (s : World) (
   measure_falls w v new g fuel fuel' conf is tasks state e e' =
       let fall = subst (FallsTo r.count (longest_name (program_of r.program.now)) _) is (falls w) in
       let less : measure r.count v.fuel (tasks_of new) < measure r.count w.fuel (tasks_of items) =
-        subst (λ l. measure r.count v.fuel l < measure r.count w.fuel (tasks_of items)) tasks (subst (λ x. measure r.count x.world.fuel conf.tasks < measure r.count w.fuel (tasks_of items)) state fall.1) in
+      subst (λ l. measure r.count v.fuel l < measure r.count w.fuel (tasks_of items)) tasks (subst (λ x. measure r.count x.world.fuel conf.tasks < measure r.count w.fuel (tasks_of items)) state fall.1) in
       subst (λ n. measure r.count n (tasks_of new) < measure r.count fuel (tasks_of items)) e' (subst (λ n. measure r.count v.fuel (tasks_of new) < measure r.count n (tasks_of items)) e less)
 
 -- a function that is called is no wider than the table allows

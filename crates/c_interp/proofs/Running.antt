@@ -1,15 +1,11 @@
 -- The run goes on, and comes to its end.
-use Rattle.std.proofs.Common.{◌≡◌, inl, inr, ⊎_elim, ℕ, ◌+◌, ◌<◌, ◌≤◌, Bool, true, false, List, [], ◌∷◌, ◌++◌, Option, Some, None, refl, sym, ap, ◌∙◌, subst, append_assoc, append-nil, arith}
-use Rattle.std.proofs.lemmas.Bool.{false≢true}
+use Rattle.std.proofs.Common.{◌≡◌, inl, inr, ⊎_elim, ℕ, ◌<◌, ◌≤◌, List, [], ◌++◌, Option, Some, None, refl, sym, ap, ◌∙◌, subst, append_assoc, append-nil, arith}
 use Rattle.std.proofs.lemmas.Grind.{flat_map-append}
-use Rattle.vlt_io.specs.Outside.{Rose, Grew, GrewByPart}
-use Rattle.vlt_rings.specs.Things.{Things}
+use Rattle.vlt_io.specs.Outside.{Rose, Grew}
 use Rattle.c_meaning.specs.World as model
 use Rattle.c_meaning.specs.World.{Event, line_of, event_text, Outcome, Ran}
-use Rattle.c_meaning.specs.Run.{Setup}
 use Rattle.c_machine.specs.Machine as m
 use Rattle.c_machine.specs.Machine.{Conf, Next, moves}
-use Rattle.c_machine.specs.Laws.{LeadsTo}
 use Rattle.c_machine.specs.Within.{measure}
 use Rattle.c_machine.proofs.Growing.{Adds, end_adds_to}
 use Rattle.c_machine.proofs.Measure.{stopped_stays, still_stops}
@@ -19,7 +15,7 @@ use Rattle.c_interp.specs.declared.rules.Rules.{Rules}
 use Rattle.c_interp.specs.declared.stop.CStop.{CStop}
 use Rattle.c_interp.specs.declared.frames.Frames.{Frames}
 use Rattle.c_interp.specs.declared.task.Task.{Task}
-use Rattle.c_interp.specs.Shown.{tasks_of, state_of, setup_of, Goes, IsCut, HasStopped, CameTo, Came, HasRoom}
+use Rattle.c_interp.specs.Shown.{tasks_of, state_of, setup_of, IsCut, CameTo, Came, HasRoom}
 use Rattle.c_interp.specs.Running.{IsRunning, IsFinished}
 use Rattle.c_interp.proofs.Rooms.{room_next, measure_falls}
 
@@ -50,9 +46,12 @@ cut_both u v w z a b c stop x y more rose =
       fault = y.fault;
       events = x.events ++ (y.events ++ more.events);
       added = more.are ∙ ap (λ l. l ++ more.events) (y.added ∙ ap (λ l. l ++ y.events) x.added) ∙ simp append_assoc;
-      grew = (event_text x.events ++ part.0, part.1 ++ event_text more.events,
+      grew = (
+        event_text x.events ++ part.0,
+        part.1 ++ event_text more.events,
         text_both x.events (y.events ++ more.events) ∙ ap (λ l. event_text x.events ++ l) (text_both y.events more.events ∙ ap (λ l. l ++ event_text more.events) part.2) ∙ simp append_assoc,
-        grew_both a.written b.written c.written (event_text x.events) part.0 x.grew part.3);
+        grew_both a.written b.written c.written (event_text x.events) part.0 x.grew part.3,
+      );
       rose = rose;
       counted = omega (arith, x.counted, y.counted);
     }

@@ -1,7 +1,7 @@
 -- The values of a frame, and what setting one does.
-use Rattle.std.proofs.Common.{◌≡◌, ℕ, zero, suc, ◌+◌, ◌-◌, ◌≤◌, Bool, true, false, if◌then◌else◌, List, [], ◌∷◌, ◌++◌, map, length, take, drop, replicate, Option, Some, None, refl, sym, ap, ◌∙◌, subst, arith, slice_get, slice_set}
+use Rattle.std.proofs.Common.{◌≡◌, ℕ, zero, suc, ◌+◌, ◌-◌, Bool, true, false, if◌then◌else◌, List, [], ◌∷◌, ◌++◌, map, take, drop, replicate, Option, Some, None, refl, sym, ap, ◌∙◌, subst, arith, slice_get, slice_set}
 use Rattle.std.specs.Option.{option_map}
-use Rattle.std.proofs.lemmas.List.{drop-map, map-set, map-append, length-map}
+use Rattle.std.proofs.lemmas.List.{drop-map, map-set}
 use Rattle.std.proofs.lemmas.Option.{none-some, same_Some}
 use Rattle.vlt_rings.specs.Things.{Things, KeepMade}
 use Rattle.c_syntax.specs.declared.program.CVar.{CVar}
@@ -14,7 +14,7 @@ use Rattle.c_values.specs.declared.value.Value.{Value}
 use Rattle.c_values.specs.declared.value.Value.TheVariants.{Number, Reference}
 use Rattle.c_values.specs.declared.vars.Vars.{Vars as Frame}
 use Rattle.c_values.specs.Places.{place_in}
-use Rattle.c_values.specs.Shown.{value_view, shown_slots, names_in, shown_vars, AreMadeSlots, IsMadeSlot, IsMadeValue}
+use Rattle.c_values.specs.Shown.{value_view, shown_slots, names_in, shown_vars, AreMadeSlots, IsMadeValue}
 use Rattle.c_primitives.proofs.Coming.{made_kept}
 use Rattle.c_interp.specs.declared.frames.Frames.{Frames}
 use Rattle.c_interp.specs.Shown.{state_of}
@@ -107,7 +107,7 @@ module _ (f g : Frames) (v : CVar) (a : Value) (w : model.World) where
   pub set_here : (i : ℕ) (items : List (Option Value)) → place_in (names_of (func_of f.func.now)) v ≡ Some i → items ≡ slice_set f.values.items (f.base + i) (Some a) → record (state_of f w) { slots = shown_slots items } ≡ with_slot v (value_view a) (state_of f w)
   set_here i items at is = same_slots (shown_slots items)
       (ap shown_slots is ∙ map-set (option_map value_view) f.values.items (f.base + i) (Some a) ∙ sym (set_above slots f.base i (Some (value_view a)))
-       ∙ sym (ap (λ l. take f.base slots ++ l) (filed_is (names_of (func_of f.func.now)) (drop f.base slots) v (value_view a) ∙ ap (λ p. filed_at p (drop f.base slots) (value_view a)) at)))
+      ∙ sym (ap (λ l. take f.base slots ++ l) (filed_is (names_of (func_of f.func.now)) (drop f.base slots) v (value_view a) ∙ ap (λ p. filed_at p (drop f.base slots) (value_view a)) at)))
 
   pub set_nowhere : place_in (names_of (func_of f.func.now)) v ≡ None → state_of f w ≡ with_slot v (value_view a) (state_of f w)
   set_nowhere at = same_slots slots

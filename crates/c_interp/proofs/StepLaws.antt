@@ -1,15 +1,12 @@
 -- What statements come to.
-use Rattle.std.proofs.Common.{◌≡◌, inl, ℕ, suc, ◌+◌, ◌≤◌, ◌<◌, min, ℤ, Bool, true, false, if◌then◌else◌, List, [], ◌∷◌, ◌++◌, Option, Some, None, Result, Ok, Err, refl, sym, ap, ◌∙◌, subst, arith}
-use Rattle.vlt_ops.specs.Operator.{is_true}
+use Rattle.std.proofs.Common.{◌≡◌, ℕ, ℤ, Bool, if◌then◌else◌, List, [], ◌∷◌, ◌++◌, None, Result, Ok, Err, refl, sym, ap, ◌∙◌, subst}
 use Rattle.vlt_rings.specs.Things.{Things}
 use Rattle.c_syntax.specs.declared.program.CStmt.{CStmt}
 use Rattle.c_syntax.specs.View.{stmts_of}
-use Rattle.c_syntax.specs.C as c
-use Rattle.c_syntax.specs.C.{Expr, Stmts}
+use Rattle.c_syntax.specs.C.{Expr}
 use Rattle.c_meaning.specs.World as model
 use Rattle.c_meaning.specs.World.{undefined}
 use Rattle.c_meaning.specs.Values.{◌>>=◌, a_number, value_of}
-use Rattle.c_meaning.specs.Run.{Setup, count_in}
 use Rattle.c_machine.specs.Machine as m
 use Rattle.c_machine.specs.Machine.{Next, State, vars_in, frame_in}
 use Rattle.c_memory.specs.Shown.{blocks_of}
@@ -19,12 +16,11 @@ use Rattle.c_values.specs.Shown.{value_view, IsValue, AreMadeSlots, IsMadeValue}
 use Rattle.c_primitives.specs.declared.world.World.{World}
 use Rattle.c_primitives.specs.Shown.{Shows, Outside}
 use Rattle.c_primitives.proofs.Coming.{silent}
-use Rattle.c_interp.specs.declared.stop.CStop.{CStop}
 use Rattle.c_interp.specs.declared.frames.Frames.{Frames}
 use Rattle.c_interp.specs.declared.task.Task.{Task}
 use Rattle.c_interp.specs.declared.task.Task.TheVariants.{List as Listed}
 use Rattle.std.specs.Borrow.{Bor}
-use Rattle.c_interp.specs.Shown.{task_of, tasks_of, state_of, CameTo}
+use Rattle.c_interp.specs.Shown.{tasks_of, state_of, CameTo}
 use Rattle.c_interp.proofs.Tasks.{pushed_one}
 
 abbrev pub as_number : Result Value ℕ → Result ℤ ℕ

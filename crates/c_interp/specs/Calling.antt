@@ -1,5 +1,5 @@
 -- How a function is entered.
-use Rattle.std.specs.Prelude.{◌≡◌, ◌≤◌, ℕ, ◌+◌, Bool, true, false, List, ◌++◌, map, length, drop, Option, Some, None, Result, Ok, Err, vec_capacity}
+use Rattle.std.specs.Prelude.{◌≡◌, ◌≤◌, ℕ, Bool, true, false, List, ◌++◌, map, length, drop, Option, Some, None, Result, Ok, Err, vec_capacity}
 use Rattle.vlt_rings.specs.Things.{Things}
 use Rattle.c_syntax.specs.View.{func_of}
 use Rattle.c_syntax.specs.C.{Arg}

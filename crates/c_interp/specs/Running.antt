@@ -1,5 +1,5 @@
 -- What a run of the machine comes to.
-use Rattle.std.specs.Prelude.{◌≡◌, ◌⊎◌, ◌≤◌, ℕ, ◌+◌, ◌*◌, List, [], length, Option, Some, None, vec_capacity}
+use Rattle.std.specs.Prelude.{◌≡◌, ◌⊎◌, ◌≤◌, ℕ, ◌+◌, ◌*◌, List, [], length, Option, Some, vec_capacity}
 use Rattle.vlt_rings.specs.Things.{Things}
 use Rattle.vlt_numbers.specs.Answers.{lists_of}
 use Rattle.c_syntax.specs.View.{func_of, program_of}

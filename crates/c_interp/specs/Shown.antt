@@ -1,9 +1,8 @@
 -- What the fields of the code stand for, and what its functions come to.
-use Rattle.std.specs.Prelude.{◌≡◌, ◌⊎◌, ◌<◌, ◌≤◌, ℕ, ◌+◌, ◌*◌, List, [], ◌∷◌, ◌++◌, length, Option, Some, None, Result, Ok, Err, vec_capacity, slice_get}
+use Rattle.std.specs.Prelude.{◌≡◌, ◌⊎◌, ◌≤◌, ℕ, ◌+◌, ◌*◌, List, [], ◌∷◌, ◌++◌, length, Option, Some, None, vec_capacity}
 use Rattle.std.specs.Option.{option_map}
 use Rattle.vlt_io.specs.Outside.{Rose, GrewByPart}
 use Rattle.vlt_rings.specs.Things.{Things}
-use Rattle.c_syntax.specs.declared.program.CFunc.{CFunc}
 use Rattle.c_syntax.specs.View.{stmts_of, func_of, program_of}
 use Rattle.c_syntax.specs.C.{Stmt}
 use Rattle.c_meaning.specs.World as model
@@ -15,7 +14,7 @@ use Rattle.c_machine.specs.Bounds.{sizes_of, Fits, cells_in_stmt, tall_of, value
 use Rattle.c_machine.specs.Within.{name_in_stmt, AreWithin, longest_name}
 use Rattle.c_memory.specs.Shown.{cells_of}
 use Rattle.c_values.specs.declared.value.Value.{Value}
-use Rattle.c_values.specs.Shown.{value_view, shown_slots, AreMadeSlots, IsMadeSlot, IsMadeValue}
+use Rattle.c_values.specs.Shown.{value_view, shown_slots, AreMadeSlots, IsMadeSlot}
 use Rattle.c_primitives.specs.declared.world.World.{World}
 use Rattle.c_primitives.specs.Shown.{Shows, IsReady, KeepsRoom, Outside, Wrote}
 use Rattle.c_interp.specs.declared.stop.CStop.{CStop}

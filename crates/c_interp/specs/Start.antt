@@ -1,5 +1,5 @@
 -- What a run begins with, and how it ends.
-use Rattle.std.specs.Prelude.{◌≡◌, ◌⊎◌, ◌≤◌, ℕ, ◌+◌, ◌*◌, ℤ, List, length, Some, vec_capacity}
+use Rattle.std.specs.Prelude.{◌≡◌, ◌⊎◌, ◌≤◌, ◌+◌, ◌*◌, ℤ, List, length, Some, vec_capacity}
 use Rattle.vlt_base.specs.declared.Budgets.{Budgets}
 use Rattle.vlt_io.specs.Outside.{Rose, Grew, GrewByPart}
 use Rattle.c_syntax.specs.declared.program.CProgram.{CProgram}

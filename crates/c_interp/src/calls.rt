@@ -60,7 +60,17 @@ fn depth_in(glue: bool, depth: u32, most: u32) -> Option<u32>
 }
 
 /// Enters a function, the values of whose arguments stand behind those of the running frame, which end there.
-fn enter<'a>(rules: &Rules<'a>, n: u32, target: Option<CVar>, glue: bool, found: Found<'a>, end: usize, tasks: &mut Vec<Task<'a>>, frames: &mut Frames<'a>, world: &mut World) -> Option<CStop>
+fn enter<'a>(
+    rules: &Rules<'a>,
+    n: u32,
+    target: Option<CVar>,
+    glue: bool,
+    found: Found<'a>,
+    end: usize,
+    tasks: &mut Vec<Task<'a>>,
+    frames: &mut Frames<'a>,
+    world: &mut World,
+) -> Option<CStop>
     requires ready { IsReady world.old }
     requires within { end ≤ length frames.old.values.items }
     requires room { length frames.old.values.items + length (func_of found.func.now).vars ≤ vec_capacity frames.old.values }
@@ -95,7 +105,16 @@ fn enter<'a>(rules: &Rules<'a>, n: u32, target: Option<CVar>, glue: bool, found:
 }
 
 /// Calls the function of a name.
-fn call<'a>(rules: &Rules<'a>, n: u32, target: Option<CVar>, name: CName, args: &[CArg], tasks: &mut Vec<Task<'a>>, frames: &mut Frames<'a>, world: &mut World) -> Option<CStop>
+fn call<'a>(
+    rules: &Rules<'a>,
+    n: u32,
+    target: Option<CVar>,
+    name: CName,
+    args: &[CArg],
+    tasks: &mut Vec<Task<'a>>,
+    frames: &mut Frames<'a>,
+    world: &mut World,
+) -> Option<CStop>
     requires room { HasRoomToDo rules.now n (c.call (c.function name (map arg_of args.now))) (length tasks.old.items) (vec_capacity tasks.old) frames.old world.old }
     ensures { (b : Outside) → Came (vec_capacity tasks.old) (vec_capacity tasks.new) frames.old frames.new world.old world.new b b result tasks.new.items
         (λ w. m.does_call (setup_of rules.now) n target (c.function name (map arg_of args.now)) (tasks_of tasks.old.items) (state_of frames.old w)) }
@@ -108,13 +127,24 @@ fn call<'a>(rules: &Rules<'a>, n: u32, target: Option<CVar>, name: CName, args: 
     }
     let end = frames.values.len();
     match push_args(args, frames) {
-        Ok(()) => enter(rules, n, target, name.glue, found, end, tasks, frames, world),
+        Ok(()) => enter(
+            rules, n, target, name.glue, found, end, tasks, frames, world,
+        ),
         Err(rule) => Some(CStop::Undefined { rule, statement: n }),
     }
 }
 
 /// A call, whose value comes to the target of the statement of a number.
-pub fn do_call<'a, K: Sink>(rules: &Rules<'a>, n: u32, target: Option<CVar>, x: &CCall, tasks: &mut Vec<Task<'a>>, frames: &mut Frames<'a>, world: &mut World, sink: &mut K) -> Option<CStop>
+pub fn do_call<'a, K: Sink>(
+    rules: &Rules<'a>,
+    n: u32,
+    target: Option<CVar>,
+    x: &CCall,
+    tasks: &mut Vec<Task<'a>>,
+    frames: &mut Frames<'a>,
+    world: &mut World,
+    sink: &mut K,
+) -> Option<CStop>
     requires room { HasRoomToDo rules.now n (c.call (call_of x.now)) (length tasks.old.items) (vec_capacity tasks.old) frames.old world.old }
     ensures { Came (vec_capacity tasks.old) (vec_capacity tasks.new) frames.old frames.new world.old world.new
         (record { written = K.written sink.old; faults = K.faults sink.old }) (record { written = K.written sink.new; faults = K.faults sink.new }) result tasks.new.items
@@ -125,6 +155,15 @@ pub fn do_call<'a, K: Sink>(rules: &Rules<'a>, n: u32, target: Option<CVar>, x: 
             let value = world.primitive(*p, args.as_slice(), frames.vars(), sink);
             after(n, target, value, frames)
         }
-        CCall::Function(name, args) => call(rules, n, target, *name, args.as_slice(), tasks, frames, world),
+        CCall::Function(name, args) => call(
+            rules,
+            n,
+            target,
+            *name,
+            args.as_slice(),
+            tasks,
+            frames,
+            world,
+        ),
     }
 }

@@ -80,7 +80,13 @@ impl<'a> CMachine<'a> {
     {
         match self.start.take() {
             Some(start) => {
-                let Ended { stop, fuel } = run_program(start, self.budgets.fuel, input, answers, sink);
+                let Ended { stop, fuel } = run_program(
+                    start,
+                    self.budgets.fuel,
+                    input,
+                    answers,
+                    sink,
+                );
                 self.stop = stop;
                 self.fuel = fuel;
                 stop

@@ -95,11 +95,19 @@ fn among<'a>(fns: &'a [CFunc], firsts: &[u32], number: u64) -> Option<Found<'a>>
 }
 
 /// What a run of the program keeps as it is.
-pub fn rules_of<'a>(alloc: Global, c: &'a CProgram, depth: u32, heap: u32) -> Result<Rules<'a>, Memory>
+pub fn rules_of<'a>(
+    alloc: Global,
+    c: &'a CProgram,
+    depth: u32,
+    heap: u32,
+) -> Result<Rules<'a>, Memory>
     ensures { IfOk result (λ r. AreRulesOf c.now depth heap r) }
 {
     let Numbers { firsts: glue, end } = number_all(alloc, 0, c.glue.as_slice())?;
-    let Numbers { firsts: fns, end: count } = number_all(alloc, end, c.fns.as_slice())?;
+    let Numbers {
+        firsts: fns,
+        end: count,
+    } = number_all(alloc, end, c.fns.as_slice())?;
     if count == u32::MAX {
         return Err(Memory);
     }
@@ -137,9 +145,17 @@ impl<'a> Rules<'a> {
         ensures { IsFoundAs result (function_of (program_of self.now.program.now) name) }
     {
         if name.glue {
-            among(self.program.glue.as_slice(), self.glue.as_slice(), name.number)
+            among(
+                self.program.glue.as_slice(),
+                self.glue.as_slice(),
+                name.number,
+            )
         } else {
-            among(self.program.fns.as_slice(), self.fns.as_slice(), name.number)
+            among(
+                self.program.fns.as_slice(),
+                self.fns.as_slice(),
+                name.number,
+            )
         }
     }
 
@@ -148,6 +164,10 @@ impl<'a> Rules<'a> {
         requires { AreRules self.now }
         ensures { IsFoundAs result (main_of (program_of self.now.program.now)) }
     {
-        nth(self.program.fns.as_slice(), self.fns.as_slice(), self.program.main as usize)
+        nth(
+            self.program.fns.as_slice(),
+            self.fns.as_slice(),
+            self.program.main as usize,
+        )
     }
 }

@@ -16,7 +16,13 @@ use c_values::Value;
 use vlt_io::Sink;
 
 /// Goes on to the end of the run.
-pub fn finish<'a, K: Sink>(rules: &Rules<'a>, tasks: &mut Vec<Task<'a>>, frames: &mut Frames<'a>, world: &mut World, sink: &mut K) -> CStop
+pub fn finish<'a, K: Sink>(
+    rules: &Rules<'a>,
+    tasks: &mut Vec<Task<'a>>,
+    frames: &mut Frames<'a>,
+    world: &mut World,
+    sink: &mut K,
+) -> CStop
     requires room { HasRoom rules.now tasks.old.items (vec_capacity tasks.old) frames.old world.old }
     requires start { (b : Outside) → IsRunning rules.now (run_of rules.now world.old) (start_of world.old) b b tasks.old.items frames.old world.old }
     ensures { IsFinished (run_of rules.now world.old) (start_of world.old) (record { written = K.written sink.old; faults = K.faults sink.old })
@@ -52,7 +58,14 @@ fn first_frame<'a>(main: Found<'a>, values: Vec<Option<Value>>) -> Frames<'a>
 }
 
 /// Runs the function that a run begins with, over empty tables.
-pub fn run<'a, K: Sink>(rules: &Rules<'a>, main: Found<'a>, tasks: &mut Vec<Task<'a>>, values: Vec<Option<Value>>, world: &mut World, sink: &mut K) -> CStop
+pub fn run<'a, K: Sink>(
+    rules: &Rules<'a>,
+    main: Found<'a>,
+    tasks: &mut Vec<Task<'a>>,
+    values: Vec<Option<Value>>,
+    world: &mut World,
+    sink: &mut K,
+) -> CStop
     requires start { CanRun rules.now main tasks.old.items (vec_capacity tasks.old) values.items (vec_capacity values) world.old }
     ensures { IsFinished (run_of rules.now world.old) (start_of world.old) (record { written = K.written sink.old; faults = K.faults sink.old })
         (record { written = K.written sink.new; faults = K.faults sink.new }) result world.new }

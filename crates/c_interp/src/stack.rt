@@ -50,7 +50,12 @@ fn receive(n: u32, target: Option<CVar>, value: Option<Value>, frames: &mut Fram
 }
 
 /// What a statement of a number gives comes to its target, or the run ends.
-pub fn after(n: u32, target: Option<CVar>, r: Result<Option<Value>, Halt>, frames: &mut Frames) -> Option<CStop>
+pub fn after(
+    n: u32,
+    target: Option<CVar>,
+    r: Result<Option<Value>, Halt>,
+    frames: &mut Frames,
+) -> Option<CStop>
     ensures comes { (ts : List Task) (things : Things) (w : model.World) (s : Shown) (before after : Outside) (e : Effect)
         → AreMadeSlots things frames.old.values.items → Comes things s w before after r e
         → CameTo w before after result ts frames.new s (m.after n target e (tasks_of ts) (state_of frames.old w)) }
@@ -86,7 +91,11 @@ fn go_back<'a>(caller: Caller<'a>, frames: &mut Frames<'a>)
 }
 
 /// The function returns, with a value or without one.
-pub fn leave<'a>(value: Option<Value>, tasks: &mut Vec<Task<'a>>, frames: &mut Frames<'a>) -> Option<CStop>
+pub fn leave<'a>(
+    value: Option<Value>,
+    tasks: &mut Vec<Task<'a>>,
+    frames: &mut Frames<'a>,
+) -> Option<CStop>
     ensures comes { (w : model.World) → IsPlain result tasks.new.items frames.new w (m.leave (given_view value) (tasks_of tasks.old.items) (state_of frames.old w)) }
     ensures kept { KeepsFrames value frames.old frames.new }
     ensures room { vec_capacity tasks.old ≤ vec_capacity tasks.new }
@@ -141,7 +150,12 @@ pub fn continue_to(count: u32, tasks: &mut Vec<Task>) -> Option<CStop>
 }
 
 /// The end of the body of a function that gives this, its own task being the last.
-pub fn end_body<'a>(count: u32, given: CResult, tasks: &mut Vec<Task<'a>>, frames: &mut Frames<'a>) -> Option<CStop>
+pub fn end_body<'a>(
+    count: u32,
+    given: CResult,
+    tasks: &mut Vec<Task<'a>>,
+    frames: &mut Frames<'a>,
+) -> Option<CStop>
     ensures comes { (w : model.World) → IsPlain result tasks.new.items frames.new w (m.body_end count given None (tasks_of tasks.old.items) (state_of frames.old w)) }
     ensures kept { KeepsFrames None frames.old frames.new }
     ensures room { vec_capacity tasks.old ≤ vec_capacity tasks.new }

@@ -87,7 +87,13 @@ pub fn prepare<'a>(alloc: Global, c: &'a CProgram, b: Budgets) -> Result<Start<'
 }
 
 /// Runs a program from its start.
-pub fn run_program<K: Sink>(s: Start, fuel: u64, input: &[i64], answers: &Answers, sink: &mut K) -> Ended
+pub fn run_program<K: Sink>(
+    s: Start,
+    fuel: u64,
+    input: &[i64],
+    answers: &Answers,
+    sink: &mut K,
+) -> Ended
     requires set { IsSet s }
     requires runnable { IsRunnable (program_of s.rules.program.now) }
     ensures { IsEnded (c_run (program_of s.entry.rules.program.now) fuel s.entry.rules.heap s.entry.rules.depth input.now (lists_of answers.now))

@@ -57,7 +57,14 @@ fn broken(rule: u8, n: u32) -> Option<CStop>
 }
 
 /// A statement that does others or none.
-fn when<'a>(n: u32, e: &CExpr, xs: &'a [CStmt], tasks: &mut Vec<Task<'a>>, frames: &Frames, world: &World) -> Option<CStop>
+fn when<'a>(
+    n: u32,
+    e: &CExpr,
+    xs: &'a [CStmt],
+    tasks: &mut Vec<Task<'a>>,
+    frames: &Frames,
+    world: &World,
+) -> Option<CStop>
     requires ready { IsReady world.now }
     requires top { frames.now.base ≤ length frames.now.values.items }
     requires few { n < 4294967295 }
@@ -79,7 +86,15 @@ fn when<'a>(n: u32, e: &CExpr, xs: &'a [CStmt], tasks: &mut Vec<Task<'a>>, frame
 }
 
 /// A statement that does one list or another.
-fn choose<'a>(n: u32, e: &CExpr, xs: &'a [CStmt], ys: &'a [CStmt], tasks: &mut Vec<Task<'a>>, frames: &Frames, world: &World) -> Option<CStop>
+fn choose<'a>(
+    n: u32,
+    e: &CExpr,
+    xs: &'a [CStmt],
+    ys: &'a [CStmt],
+    tasks: &mut Vec<Task<'a>>,
+    frames: &Frames,
+    world: &World,
+) -> Option<CStop>
     requires ready { IsReady world.now }
     requires top { frames.now.base ≤ length frames.now.values.items }
     requires few { n + 1 + count_in (stmts_of xs.now) < 4294967295 }
@@ -102,7 +117,13 @@ fn choose<'a>(n: u32, e: &CExpr, xs: &'a [CStmt], ys: &'a [CStmt], tasks: &mut V
 }
 
 /// A return of a value.
-fn give_back<'a>(n: u32, e: &CExpr, tasks: &mut Vec<Task<'a>>, frames: &mut Frames<'a>, world: &World) -> Option<CStop>
+fn give_back<'a>(
+    n: u32,
+    e: &CExpr,
+    tasks: &mut Vec<Task<'a>>,
+    frames: &mut Frames<'a>,
+    world: &World,
+) -> Option<CStop>
     requires ready { IsReady world.now }
     requires top { frames.old.base ≤ length frames.old.values.items }
     ensures { (b : Outside) → Came (vec_capacity tasks.old) (vec_capacity tasks.new) frames.old frames.new world.now world.now b b result tasks.new.items
@@ -115,7 +136,13 @@ fn give_back<'a>(n: u32, e: &CExpr, tasks: &mut Vec<Task<'a>>, frames: &mut Fram
 }
 
 /// A return.
-fn returns<'a>(n: u32, value: &Option<CExpr>, tasks: &mut Vec<Task<'a>>, frames: &mut Frames<'a>, world: &World) -> Option<CStop>
+fn returns<'a>(
+    n: u32,
+    value: &Option<CExpr>,
+    tasks: &mut Vec<Task<'a>>,
+    frames: &mut Frames<'a>,
+    world: &World,
+) -> Option<CStop>
     requires ready { IsReady world.now }
     requires top { frames.old.base ≤ length frames.old.values.items }
     ensures { (b : Outside) → Came (vec_capacity tasks.old) (vec_capacity tasks.new) frames.old frames.new world.now world.now b b result tasks.new.items
@@ -128,7 +155,13 @@ fn returns<'a>(n: u32, value: &Option<CExpr>, tasks: &mut Vec<Task<'a>>, frames:
 }
 
 /// A turn of a loop.
-fn turn<'a>(n: u32, body: &'a [CStmt], tasks: &mut Vec<Task<'a>>, frames: &Frames, world: &mut World) -> Option<CStop>
+fn turn<'a>(
+    n: u32,
+    body: &'a [CStmt],
+    tasks: &mut Vec<Task<'a>>,
+    frames: &Frames,
+    world: &mut World,
+) -> Option<CStop>
     requires ready { IsReady world.old }
     requires few { n < 4294967295 }
     requires room { length tasks.old.items + 2 ≤ vec_capacity tasks.old }
@@ -145,7 +178,15 @@ fn turn<'a>(n: u32, body: &'a [CStmt], tasks: &mut Vec<Task<'a>>, frames: &Frame
 }
 
 /// The statement of a number.
-fn act<'a, K: Sink>(rules: &Rules<'a>, n: u32, x: &'a CStmt, tasks: &mut Vec<Task<'a>>, frames: &mut Frames<'a>, world: &mut World, sink: &mut K) -> Option<CStop>
+fn act<'a, K: Sink>(
+    rules: &Rules<'a>,
+    n: u32,
+    x: &'a CStmt,
+    tasks: &mut Vec<Task<'a>>,
+    frames: &mut Frames<'a>,
+    world: &mut World,
+    sink: &mut K,
+) -> Option<CStop>
     requires room { HasRoomToDo rules.now n (stmt_of x.now) (length tasks.old.items) (vec_capacity tasks.old) frames.old world.old }
     ensures { Came (vec_capacity tasks.old) (vec_capacity tasks.new) frames.old frames.new world.old world.new
         (record { written = K.written sink.old; faults = K.faults sink.old }) (record { written = K.written sink.new; faults = K.faults sink.new }) result tasks.new.items
@@ -163,7 +204,15 @@ fn act<'a, K: Sink>(rules: &Rules<'a>, n: u32, x: &'a CStmt, tasks: &mut Vec<Tas
             after(n, None, value, frames)
         }
         CStmt::If(e, xs) => when(n, e, xs.as_slice(), tasks, frames, world),
-        CStmt::IfElse(e, xs, ys) => choose(n, e, xs.as_slice(), ys.as_slice(), tasks, frames, world),
+        CStmt::IfElse(e, xs, ys) => choose(
+            n,
+            e,
+            xs.as_slice(),
+            ys.as_slice(),
+            tasks,
+            frames,
+            world,
+        ),
         CStmt::While(body) => {
             put(tasks, Task::Again(n, body.as_slice()));
             None
@@ -175,7 +224,13 @@ fn act<'a, K: Sink>(rules: &Rules<'a>, n: u32, x: &'a CStmt, tasks: &mut Vec<Tas
 }
 
 /// One move.
-pub fn step<'a, K: Sink>(rules: &Rules<'a>, tasks: &mut Vec<Task<'a>>, frames: &mut Frames<'a>, world: &mut World, sink: &mut K) -> Option<CStop>
+pub fn step<'a, K: Sink>(
+    rules: &Rules<'a>,
+    tasks: &mut Vec<Task<'a>>,
+    frames: &mut Frames<'a>,
+    world: &mut World,
+    sink: &mut K,
+) -> Option<CStop>
     requires room { HasRoom rules.now tasks.old.items (vec_capacity tasks.old) frames.old world.old }
     ensures { Came (vec_capacity tasks.old) (vec_capacity tasks.new) frames.old frames.new world.old world.new
         (record { written = K.written sink.old; faults = K.faults sink.old }) (record { written = K.written sink.new; faults = K.faults sink.new }) result tasks.new.items

@@ -1,4 +1,4 @@
-use Rattle.std.proofs.Common.{rules, ◌≡◌, ◌+◌, ◌≤◌, map, length, true, false, Some, None, refl, ap, subst, sym, ◌∙◌, arith}
+use Rattle.std.proofs.Common.{rules, map, length, Some, refl, ap, sym, ◌∙◌, arith}
 use Rattle.std.proofs.lemmas.List.{length-append, length-map}
 use Rattle.c_syntax.specs.View.{arg_of, program_of}
 use Rattle.c_meaning.specs.Run.{function_of}
@@ -18,8 +18,8 @@ returns-in_default c = λ b. record {
   tasks = omega arith;
   slots = omega arith;
   comes = λ things w h made. call_none (setup_of c.args.rules.now) c.args.n c.args.target c.args.name.glue (map arg_of c.args.args.now) (tasks_of c.args.tasks.now.items) (state_of c.args.frames.now w)
-    (λ x. CameTo w b b c.no_value.result c.args.tasks.now.items c.args.frames.now c.args.world.now x) (function_of (program_of c.args.rules.now.program.now) c.args.name) c.in_default.ensures
-    (stops_here things c.args.world.now w b c.no_value.result c.args.tasks.now.items c.args.frames.now 6 c.args.n h c.no_value.ensures);
+      (λ x. CameTo w b b c.no_value.result c.args.tasks.now.items c.args.frames.now c.args.world.now x) (function_of (program_of c.args.rules.now.program.now) c.args.name) c.in_default.ensures
+      (stops_here things c.args.world.now w b c.no_value.result c.args.tasks.now.items c.args.frames.now 6 c.args.n h c.no_value.ensures);
 }
 
 pub returns-then-not-can_call : goal.returns-then-not-can_call
@@ -29,9 +29,9 @@ returns-then-not-can_call c = λ b. record {
   tasks = omega arith;
   slots = omega arith;
   comes = λ things w h made. call_bad (setup_of c.args.rules.now) c.args.n c.args.target c.args.name.glue (map arg_of c.args.args.now) (tasks_of c.args.tasks.now.items) (state_of c.args.frames.now w)
-    (λ x. CameTo w b b c.no_value-then-not-can_call.result c.args.tasks.now.items c.args.frames.now c.args.world.now x) c.in-Some.found (function_of (program_of c.args.rules.now.program.now) c.args.name) c.in-Some.ensures
-    (sym (c.can_call.ensures (frame_in (state_of c.args.frames.now w)) refl) ∙ c.if-not-can_call.true)
-    (stops_here things c.args.world.now w b c.no_value-then-not-can_call.result c.args.tasks.now.items c.args.frames.now 6 c.args.n h c.no_value-then-not-can_call.ensures);
+      (λ x. CameTo w b b c.no_value-then-not-can_call.result c.args.tasks.now.items c.args.frames.now c.args.world.now x) c.in-Some.found (function_of (program_of c.args.rules.now.program.now) c.args.name) c.in-Some.ensures
+      (sym (c.can_call.ensures (frame_in (state_of c.args.frames.now w)) refl) ∙ c.if-not-can_call.true)
+      (stops_here things c.args.world.now w b c.no_value-then-not-can_call.result c.args.tasks.now.items c.args.frames.now 6 c.args.n h c.no_value-then-not-can_call.ensures);
 }
 
 pub push_args-requires-clause-room : goal.push_args-requires-clause-room
@@ -60,8 +60,8 @@ returns-in-Ok c = λ b.
       tasks = came.tasks;
       slots = came.slots;
       comes = λ things w h made. call_ok (setup_of c.args.rules.now) c.args.n c.args.target c.args.name.glue (map arg_of c.args.args.now) (tasks_of c.args.tasks.now.items) (state_of c.args.frames.now w)
-        (λ x. CameTo w b b c.enter.result c.enter.new.tasks.items c.enter.new.frames c.enter.new.world x) c.in-Some.found (function_of (program_of c.args.rules.now.program.now) c.args.name) (map value_view given.values) c.in-Some.ensures
-        (sym (c.can_call.ensures (frame_in (state_of c.args.frames.now w)) refl) ∙ c.if-not-can_call.false) (given.are things made) (came.comes things w h made);
+          (λ x. CameTo w b b c.enter.result c.enter.new.tasks.items c.enter.new.frames c.enter.new.world x) c.in-Some.found (function_of (program_of c.args.rules.now.program.now) c.args.name) (map value_view given.values) c.in-Some.ensures
+          (sym (c.can_call.ensures (frame_in (state_of c.args.frames.now w)) refl) ∙ c.if-not-can_call.false) (given.are things made) (came.comes things w h made);
     }
 
 pub returns-in-Err : goal.returns-in-Err
@@ -71,7 +71,7 @@ returns-in-Err c = λ b. record {
   tasks = omega arith;
   slots = c.push_args.ensures.room;
   comes = λ things w h made. call_err (setup_of c.args.rules.now) c.args.n c.args.target c.args.name.glue (map arg_of c.args.args.now) (tasks_of c.args.tasks.now.items) (state_of c.args.frames.now w)
-    (λ x. CameTo w b b (Some (Undefined c.in-Err.rule c.args.n)) c.args.tasks.now.items c.push_args.new.frames c.args.world.now x) c.in-Some.found (function_of (program_of c.args.rules.now.program.now) c.args.name) c.in-Err.rule c.in-Some.ensures
-    (sym (c.can_call.ensures (frame_in (state_of c.args.frames.now w)) refl) ∙ c.if-not-can_call.false) (c.in-Err.ensures.pushed things made)
-    (stops_here things c.args.world.now w b (Some (Undefined c.in-Err.rule c.args.n)) c.args.tasks.now.items c.push_args.new.frames c.in-Err.rule c.args.n h refl);
+      (λ x. CameTo w b b (Some (Undefined c.in-Err.rule c.args.n)) c.args.tasks.now.items c.push_args.new.frames c.args.world.now x) c.in-Some.found (function_of (program_of c.args.rules.now.program.now) c.args.name) c.in-Err.rule c.in-Some.ensures
+      (sym (c.can_call.ensures (frame_in (state_of c.args.frames.now w)) refl) ∙ c.if-not-can_call.false) (c.in-Err.ensures.pushed things made)
+      (stops_here things c.args.world.now w b (Some (Undefined c.in-Err.rule c.args.n)) c.args.tasks.now.items c.push_args.new.frames c.in-Err.rule c.args.n h refl);
 }

@@ -1,4 +1,4 @@
-use Rattle.std.proofs.Common.{◌≡◌, ◌≤◌, drop, map, length}
+use Rattle.std.proofs.Common.{◌≤◌, drop, map}
 use Rattle.std.specs.Vec.{vec_capacity}
 use Rattle.c_syntax.specs.View.{arg_of}
 use Rattle.c_interp.proofs.Pushing.{Pushing}

@@ -1,4 +1,4 @@
-use Rattle.std.proofs.Common.{◌≡◌, ◌+◌, length, Some, None, ap, sym, ◌∙◌}
+use Rattle.std.proofs.Common.{◌+◌, length, Some, ap, sym, ◌∙◌}
 use Rattle.std.specs.Option.{option_map}
 use Rattle.c_syntax.specs.View.{func_of}
 use Rattle.c_values.specs.Places.{place_in}

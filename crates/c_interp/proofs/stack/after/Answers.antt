@@ -1,4 +1,4 @@
-use Rattle.std.proofs.Common.{◌≡◌, Ok, Err, subst}
+use Rattle.std.proofs.Common.{subst}
 use Rattle.c_primitives.specs.Shown.{Comes}
 use Rattle.c_interp.proofs.Plain.{after_given, after_halt}
 use Rattle.c_interp.proofs.stack.after.Goals as goal

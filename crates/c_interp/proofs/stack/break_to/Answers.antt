@@ -1,7 +1,7 @@
-use Rattle.std.proofs.Common.{◌≡◌, ◌≤◌, Some, None, refl, ap, subst, sym, ◌∙◌, arith}
+use Rattle.std.proofs.Common.{None, refl, ap, sym, ◌∙◌, arith}
 use Rattle.c_machine.specs.Machine as m
-use Rattle.c_interp.specs.Shown.{tasks_of, state_of}
-use Rattle.c_interp.proofs.Tasks.{popped, pushed_one}
+use Rattle.c_interp.specs.Shown.{state_of}
+use Rattle.c_interp.proofs.Tasks.{popped}
 use Rattle.c_interp.proofs.Plain.{plain_at, plain_on, plain_stop}
 use Rattle.c_interp.proofs.stack.break_to.Goals as goal
 

@@ -1,9 +1,9 @@
-use Rattle.std.proofs.Common.{◌≡◌, ◌≤◌, ℕ, ◌+◌, ◌<◌, ◌++◌, min, length}
+use Rattle.std.proofs.Common.{◌≡◌, ◌≤◌, length}
 use Rattle.std.specs.Vec.{vec_capacity}
 use Rattle.c_meaning.specs.World as model
 use Rattle.c_machine.specs.Machine as m
 use Rattle.c_interp.specs.declared.frames.Frames.{Frames}
-use Rattle.c_interp.specs.Shown.{state_of, tasks_of, given_view}
+use Rattle.c_interp.specs.Shown.{state_of, tasks_of}
 use Rattle.c_interp.proofs.stack.continue_to.Given as goal
 
 abbrev pub invariant-loop-task : goal.invariant-loop-task

@@ -1,4 +1,4 @@
-use Rattle.std.proofs.Common.{◌≡◌, refl, subst, sym, arith}
+use Rattle.std.proofs.Common.{refl, subst, sym, arith}
 use Rattle.c_values.specs.Shown.{AreMadeSlots}
 use Rattle.c_interp.proofs.Returning.{back_is}
 use Rattle.c_interp.proofs.Setting.{made_take}

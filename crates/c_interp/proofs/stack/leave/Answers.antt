@@ -1,8 +1,7 @@
-use Rattle.std.proofs.Common.{◌≡◌, ◌≤◌, Some, None, refl, ap, subst, sym, ◌∙◌, arith}
+use Rattle.std.proofs.Common.{ap, sym, ◌∙◌, arith}
 use Rattle.c_machine.specs.Machine as m
-use Rattle.c_interp.specs.Shown.{tasks_of, state_of, given_view, IsPlain}
+use Rattle.c_interp.specs.Shown.{state_of, given_view}
 use Rattle.c_interp.proofs.Tasks.{popped}
-use Rattle.c_interp.proofs.Plain.{plain_at}
 use Rattle.c_interp.proofs.Returning.{leave_back, leave_bottom}
 use Rattle.c_interp.proofs.stack.leave.Goals as goal
 

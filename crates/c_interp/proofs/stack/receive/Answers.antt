@@ -1,4 +1,4 @@
-use Rattle.std.proofs.Common.{◌≡◌, None, Some, refl, subst, sym}
+use Rattle.std.proofs.Common.{None, Some, refl, subst, sym}
 use Rattle.c_machine.specs.Machine as m
 use Rattle.c_interp.specs.Shown.{tasks_of, state_of, given_view, IsPlain}
 use Rattle.c_interp.proofs.stack.receive.Goals as goal

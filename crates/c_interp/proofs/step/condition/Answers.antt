@@ -1,20 +1,11 @@
-use Rattle.std.proofs.Common.{rules, ◌≡◌, suc, ◌+◌, ◌≤◌, min, true, false, Ok, Err, Some, None, refl, ap, subst, sym, ◌∙◌, arith, SFits, w64, if◌then◌else◌, ◌∷◌}
+use Rattle.std.proofs.Common.{rules, Ok, Err, ap, subst, sym, ◌∙◌, SFits, w64}
 use Rattle.std.proofs.lemmas.Int.{to_z-of_z}
-use Rattle.vlt_ops.specs.Operator as operator
-use Rattle.c_syntax.specs.View.{expr_of, stmts_of}
+use Rattle.c_syntax.specs.View.{expr_of}
 use Rattle.c_meaning.specs.Values.{value_of}
-use Rattle.c_meaning.specs.Run as run
-use Rattle.c_machine.specs.Machine as m
 use Rattle.c_memory.specs.Shown.{blocks_of}
-use Rattle.c_values.specs.Shown.{IsValue, value_view}
-use Rattle.c_interp.specs.Shown.{state_of, tasks_of, CameTo}
+use Rattle.c_values.specs.Shown.{IsValue}
 use Rattle.c_interp.proofs.Setting.{vars_are, made_drop}
-use Rattle.c_interp.proofs.Plain.{plain_came}
-use Rattle.c_primitives.proofs.Coming.{silent}
-use Rattle.c_interp.proofs.Entering.{ready_fuel, room_fuel, keeps_room, spends_none, turned}
-use Rattle.c_interp.proofs.CallLaws.{stops_here}
-use Rattle.c_interp.proofs.StepLaws.{as_number, condition_is, found_ok, found_err, chosen, goes_here, list_pushed, value_ok, value_err}
-use Rattle.c_interp.proofs.Tasks.{pushed_two}
+use Rattle.c_interp.proofs.StepLaws.{as_number, condition_is}
 use Rattle.c_interp.proofs.step.condition.Goals as goal
 
 pub returns-in-Ok-Number : goal.returns-in-Ok-Number

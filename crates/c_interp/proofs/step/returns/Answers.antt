@@ -1,4 +1,4 @@
-use Rattle.std.proofs.Common.{◌≡◌, Some, None, refl, ap, subst, sym, ◌∙◌, arith}
+use Rattle.std.proofs.Common.{refl, subst, sym}
 use Rattle.std.specs.Option.{option_map}
 use Rattle.c_syntax.specs.View.{expr_of}
 use Rattle.c_machine.specs.Machine as m
@@ -15,8 +15,8 @@ returns-in-None c = λ b. record {
   tasks = c.leave.ensures.room;
   slots = c.leave.ensures.kept.room;
   comes = λ things w h made.
-    subst (λ o. CameTo w b b c.leave.result c.leave.new.tasks.items c.leave.new.frames c.args.world.now (m.returns c.args.n (option_map expr_of o) (tasks_of c.args.tasks.now.items) (state_of c.args.frames.now w))) (sym c.in-None.is)
-    (plain_came w w b b c.leave.new.tasks.items c.leave.new.frames c.args.world.now things c.leave.result _ h (c.leave.ensures.kept.made things tt made) (silent w w b refl) (c.leave.ensures.comes w));
+      subst (λ o. CameTo w b b c.leave.result c.leave.new.tasks.items c.leave.new.frames c.args.world.now (m.returns c.args.n (option_map expr_of o) (tasks_of c.args.tasks.now.items) (state_of c.args.frames.now w))) (sym c.in-None.is)
+      (plain_came w w b b c.leave.new.tasks.items c.leave.new.frames c.args.world.now things c.leave.result _ h (c.leave.ensures.kept.made things tt made) (silent w w b refl) (c.leave.ensures.comes w));
 }
 
 pub returns-in-Some : goal.returns-in-Some
@@ -28,5 +28,5 @@ returns-in-Some c = λ b.
       tasks = came.tasks;
       slots = came.slots;
       comes = λ things w h made.
-        subst (λ o. CameTo w b b c.give_back.result c.give_back.new.tasks.items c.give_back.new.frames c.args.world.now (m.returns c.args.n (option_map expr_of o) (tasks_of c.args.tasks.now.items) (state_of c.args.frames.now w))) (sym c.in-Some.is) (came.comes things w h made);
+          subst (λ o. CameTo w b b c.give_back.result c.give_back.new.tasks.items c.give_back.new.frames c.args.world.now (m.returns c.args.n (option_map expr_of o) (tasks_of c.args.tasks.now.items) (state_of c.args.frames.now w))) (sym c.in-Some.is) (came.comes things w h made);
     }

@@ -1,19 +1,8 @@
-use Rattle.std.proofs.Common.{rules, ◌≡◌, suc, ◌+◌, ◌-◌, ◌≤◌, min, true, false, Ok, Err, Some, None, refl, ap, subst, sym, ◌∙◌, arith, SFits, w64, if◌then◌else◌, ◌∷◌}
-use Rattle.std.proofs.lemmas.Int.{to_z-of_z}
-use Rattle.vlt_ops.specs.Operator as operator
-use Rattle.c_syntax.specs.View.{expr_of, stmts_of}
-use Rattle.c_meaning.specs.Values.{value_of}
-use Rattle.c_meaning.specs.Run as run
+use Rattle.std.proofs.Common.{◌≡◌, suc, ◌+◌, ◌-◌, refl, ap, ◌∙◌, arith, ◌∷◌}
+use Rattle.c_syntax.specs.View.{stmts_of}
 use Rattle.c_machine.specs.Machine as m
-use Rattle.c_memory.specs.Shown.{blocks_of}
-use Rattle.c_values.specs.Shown.{IsValue, value_view}
-use Rattle.c_interp.specs.Shown.{state_of, tasks_of, CameTo}
-use Rattle.c_interp.proofs.Setting.{vars_are, made_drop}
-use Rattle.c_interp.proofs.Plain.{plain_came}
-use Rattle.c_primitives.proofs.Coming.{silent}
+use Rattle.c_interp.specs.Shown.{tasks_of}
 use Rattle.c_interp.proofs.Entering.{ready_fuel, room_fuel, keeps_room, spends_none, turned}
-use Rattle.c_interp.proofs.CallLaws.{stops_here}
-use Rattle.c_interp.proofs.StepLaws.{as_number, condition_is, found_ok, found_err, chosen, goes_here, list_pushed, value_ok, value_err}
 use Rattle.c_interp.proofs.Tasks.{pushed_two}
 use Rattle.c_interp.proofs.step.turn.Goals as goal
 
@@ -33,6 +22,6 @@ returns c = λ r b. record {
   tasks = omega (arith, c.put.ensures.room, c.put-2.ensures.room);
   slots = omega arith;
   comes = λ things w h made. turned things c.args.world.now w b h r c.args.n (stmts_of c.args.body.now) c.args.tasks.now.items c.put-2.new.items.items c.args.frames.now (record c.args.world.now { fuel = c.args.world.now.fuel - 1 })
-    (omega (arith, c.if-world-eq0.false)) refl made
-    (pushed_two c.args.tasks.now.items c.put.new.items.items c.put-2.new.items.items _ _ c.put.ensures.items c.put-2.ensures.items ∙ (let e : c.args.n + 1 ≡ suc c.args.n = omega arith in ap (λ k. m.list k (stmts_of c.args.body.now) ∷ m.again c.args.n (stmts_of c.args.body.now) ∷ tasks_of c.args.tasks.now.items) e));
+      (omega (arith, c.if-world-eq0.false)) refl made
+      (pushed_two c.args.tasks.now.items c.put.new.items.items c.put-2.new.items.items _ _ c.put.ensures.items c.put-2.ensures.items ∙ (let e : c.args.n + 1 ≡ suc c.args.n = omega arith in ap (λ k. m.list k (stmts_of c.args.body.now) ∷ m.again c.args.n (stmts_of c.args.body.now) ∷ tasks_of c.args.tasks.now.items) e));
 }

@@ -1,4 +1,4 @@
-use Rattle.std.proofs.Common.{◌≡◌, ◌-◌, take, drop, ap, ◌∙◌}
+use Rattle.std.proofs.Common.{◌-◌, take, drop, ap, ◌∙◌}
 use Rattle.c_interp.proofs.Setting.{cut_same}
 use Rattle.c_interp.proofs.frames.Frames.vars_to.Goals as goal
 
