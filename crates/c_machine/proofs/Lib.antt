@@ -7,3 +7,4 @@ pub mod Fitting
 pub mod Growing
 pub mod Starting
 pub mod Theorems
+pub mod Within

@@ -1,3 +1,4 @@
 pub mod Machine
 pub mod Bounds
+pub mod Within
 pub mod Laws

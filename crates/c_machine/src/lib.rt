@@ -3,8 +3,10 @@
 //! Rests on it: `c_interp::CMachine::go`.
 #![tactic(auto)]
 
+mod counts;
 mod laws;
 mod sizes;
 
+pub use counts::{list_count, longest_name, stmt_count};
 pub use laws::{machine_is_the_run, tables_suffice};
 pub use sizes::{block_cells, is_too_wide, tall, value_slots};

@@ -9,4 +9,4 @@ mod vars;
 
 pub use exprs::{arg, base, eval};
 pub use value::Value;
-pub use vars::Vars;
+pub use vars::{Vars, find};

@@ -26,7 +26,7 @@ fn is_same(u: CVar, v: CVar) -> bool
 }
 
 /// The position of a name.
-fn find(names: &[CVar], v: CVar) -> Option<usize>
+pub fn find(names: &[CVar], v: CVar) -> Option<usize>
     ensures { result ≡ place_in names.now v }
 {
     for i in 0..names.len() {

@@ -1,0 +1,15 @@
+pub mod Tasks
+pub mod Setting
+pub mod Positions
+pub mod Plain
+pub mod Returning
+pub mod Pushing
+pub mod Forms
+pub mod Entering
+pub mod Rooms
+pub mod Running
+pub mod CallLaws
+pub mod StepLaws
+pub mod Moves
+pub mod Beginning
+pub mod Ending

@@ -1,0 +1,64 @@
+-- What a run begins with, and how it ends.
+use Rattle.std.specs.Prelude.{◌≡◌, ◌⊎◌, ◌≤◌, ◌+◌, ◌*◌, ℤ, List, length, Some, vec_capacity}
+use Rattle.vlt_base.specs.declared.Budgets.{Budgets}
+use Rattle.vlt_io.specs.Outside.{Rose, Grew, GrewByPart}
+use Rattle.c_syntax.specs.declared.program.CProgram.{CProgram}
+use Rattle.c_syntax.specs.View.{program_of}
+use Rattle.c_syntax.specs.C.{Program}
+use Rattle.c_meaning.specs.World.{Ran, event_text}
+use Rattle.c_meaning.specs.Run.{Numbered, main_of, c_run}
+use Rattle.c_machine.specs.Machine.{IsDeclared}
+use Rattle.c_machine.specs.Bounds.{tall_of, value_slots, block_cells}
+use Rattle.c_machine.specs.Within.{longest_name}
+use Rattle.c_memory.specs.Shown.{cells_of}
+use Rattle.c_primitives.specs.Start.{AreNew}
+use Rattle.c_primitives.specs.Shown.{Outside}
+use Rattle.c_interp.specs.declared.stop.CStop.TheVariants.{SinkFault}
+use Rattle.c_interp.specs.declared.start.Start.{Start}
+use Rattle.c_interp.specs.declared.start.Ended.{Ended}
+use Rattle.c_interp.specs.Halting.{outcome_of}
+use Rattle.c_interp.specs.Finding.{AreRules}
+
+-- a program as the kinds accept it: it assigns variables that are declared, and begins with a function without parameters
+pub record IsRunnable (p : Program) : Type 0 where
+  pub declared : IsDeclared p
+  pub no_params : (g : Numbered) → main_of p ≡ Some g → length g.func.params ≡ 0
+
+-- the run of a program within budgets
+abbrev pub run_within : CProgram → Budgets → (input : List ℤ) → (answers : List (List ℤ)) → Ran
+run_within p b input answers = c_run (program_of p) b.fuel b.heap b.depth input answers
+
+-- nothing was put into the tables, and there is room for all
+pub record IsSet (s : Start) : Type 0 where
+  pub rules : AreRules s.rules
+  pub tables : AreNew s.tables
+  pub heap : s.tables.heap ≡ s.rules.heap
+  pub cells : 1 ≤ s.rules.heap → block_cells (program_of s.rules.program.now) ≤ cells_of s.tables.blocks
+  pub name : longest_name (program_of s.rules.program.now) + 674 ≤ vec_capacity s.tables.line
+  pub no_tasks : length s.tasks.items ≡ 0
+  pub tasks : 2 * s.rules.depth * (tall_of (program_of s.rules.program.now) + 1) + 2 ≤ vec_capacity s.tasks
+  pub no_values : length s.values.items ≡ 0
+  pub values : (s.rules.depth + 1) * value_slots (program_of s.rules.program.now) ≤ vec_capacity s.values
+
+pub record IsStart (p : CProgram) (b : Budgets) (s : Start) : Type 0 where
+  pub program : s.rules.program.now ≡ p
+  pub depth : s.rules.depth ≡ b.depth
+  pub heap : s.rules.heap ≡ b.heap
+  pub set : IsSet s
+
+-- ---- how it ends
+
+pub record HasEnded (ran : Ran) (before after : Outside) (e : Ended) : Type 0 where
+  pub outcome : outcome_of e.stop ≡ Some ran.outcome
+  pub fuel : ran.world.fuel ≡ e.fuel
+  pub grew : Grew before.written after.written (event_text ran.world.events)
+  pub counted : before.faults ≤ after.faults
+
+pub record WasCut (ran : Ran) (before after : Outside) (e : Ended) : Type 0 where
+  pub fault : e.stop ≡ SinkFault
+  pub grew : GrewByPart before.written after.written (event_text ran.world.events)
+  pub rose : Rose before.faults after.faults
+  pub counted : before.faults ≤ after.faults
+
+abbrev pub IsEnded : Ran → (before after : Outside) → Ended → Type 0
+IsEnded ran before after e = HasEnded ran before after e ⊎ WasCut ran before after e

@@ -1,0 +1,18 @@
+//! A C program and budgets in; a machine, which runs it once over input and answers and writes its events, out.
+//! Read `c_meaning/specs/Run.antt` first, then `specs/Machine.antt` and `specs/Halting.antt`.
+//! Rests on it: `vaultc_core`.
+#![tactic(auto)]
+
+mod calls;
+mod frames;
+mod machine;
+mod rules;
+mod run;
+mod stack;
+mod start;
+mod step;
+mod stop;
+mod task;
+
+pub use machine::CMachine;
+pub use stop::{CStop, OpenError};

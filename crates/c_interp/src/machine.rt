@@ -1,0 +1,97 @@
+//! The machine, which runs one program once.
+
+ghost use Rattle.std.specs.Prelude.{◌≡◌, ◌<◌, ◌≤◌, ◌↔◌, None, Some, IfOk, IfNone, IfSome};
+ghost use Rattle.vlt_base.specs.Limits.{limit_of};
+ghost use Rattle.vlt_io.specs.Outside.{Rose};
+ghost use Rattle.vlt_numbers.specs.Answers.{lists_of};
+ghost use Rattle.c_syntax.specs.View.{program_of};
+ghost use Rattle.c_meaning.specs.World.{event_text};
+ghost use Rattle.c_machine.specs.Bounds.{slots_needed};
+ghost use Rattle.c_interp.specs.Halting.{outcome_of, IsTold};
+ghost use Rattle.c_interp.specs.Start.{IsRunnable};
+
+use crate::start::{Ended, Start, prepare, run_program};
+use crate::stop::{CStop, OpenError};
+use c_machine::is_too_wide;
+use c_syntax::CProgram;
+use std::alloc::Global;
+use vlt_base::Budgets;
+use vlt_io::Sink;
+use vlt_numbers::Answers;
+
+/// A machine for one run of a C program.
+#[derive(Drop)]
+pub struct CMachine<'a> {
+    program: &'a CProgram,
+    budgets: Budgets,
+    /// What the run begins with, until it has begun.
+    start: Option<Start<'a>>,
+    /// How the run ended.
+    stop: CStop,
+    /// The fuel that is left.
+    fuel: u64,
+}
+
+impl<'a> CMachine<'a> {
+    ghost use Rattle.c_interp.specs.Machine.{program_in, budgets_of, run_on, stop_of, fuel_left, IsSound};
+
+    /// A machine that hasn't started to run the program.
+    pub fn open(alloc: Global, c: &'a CProgram, b: Budgets) -> Result<CMachine<'a>, OpenError>
+        requires { IsRunnable (program_of c.now) }
+        ensures sound { IfOk result IsSound }
+        ensures program { IfOk result (λ m. program_in m ≡ program_of c.now) }
+        ensures budgets { IfOk result (λ m. budgets_of m ≡ b) }
+        ensures started { IfOk result (λ m. stop_of m ≡ None) }
+        ensures too_wide { (result ≡ Err OpenError.TooWide) ↔ (limit_of 13 < slots_needed (program_of c.now) b.depth b.heap) }
+    {
+        if is_too_wide(c, b.depth, b.heap) {
+            return Err(OpenError::TooWide);
+        }
+        Ok(CMachine {
+            program: c,
+            budgets: b,
+            start: Some(prepare(alloc, c, b)?),
+            stop: CStop::Done,
+            fuel: b.fuel,
+        })
+    }
+
+    /// Runs the program to its end, with one `write` of the sink for each event. A machine that has stopped answers the same
+    /// again, and writes nothing.
+    pub fn go<K: Sink>(&mut self, input: &[i64], answers: &Answers, sink: &mut K) -> CStop
+        requires sound { IsSound self.old }
+        ensures sound { IsSound self.new }
+        ensures program { program_in self.new ≡ program_in self.old }
+        ensures budgets { budgets_of self.new ≡ budgets_of self.old }
+        ensures stopped { stop_of self.new ≡ Some result }
+        ensures again { IfSome (stop_of self.old) (λ stop. (result ≡ stop) × (sink.new ≡ sink.old)) }
+        ensures counted { K.faults sink.old ≤ K.faults sink.new }
+
+        // Of a machine that hadn't stopped before:
+        ensures outcome { IfNone (stop_of self.old)
+            (IfSome (outcome_of result) (λ o. o ≡ (run_on self.old input.now (lists_of answers.now)).outcome)) }
+        ensures text { IfNone (stop_of self.old)
+            (IsTold (outcome_of result) (event_text (run_on self.old input.now (lists_of answers.now)).world.events)
+            (K.written sink.old) (K.written sink.new)) }
+        ensures fuel { IfNone (stop_of self.old)
+            (IfSome (outcome_of result) (λ o. fuel_left self.new ≡ (run_on self.old input.now (lists_of answers.now)).world.fuel)) }
+        ensures cause { IfNone (stop_of self.old)
+            (result ≡ CStop.SinkFault → Rose (K.faults sink.old) (K.faults sink.new)) }
+    {
+        match self.start.take() {
+            Some(start) => {
+                let Ended { stop, fuel } = run_program(
+                    start,
+                    self.budgets.fuel,
+                    input,
+                    answers,
+                    sink,
+                );
+                self.stop = stop;
+                self.fuel = fuel;
+                stop
+            }
+            None => self.stop,
+        }
+    }
+}

@@ -1,0 +1,8 @@
+use Rattle.std.proofs.Common.{◌≡◌, max, drop, map}
+use Rattle.c_syntax.specs.View.{func_of}
+use Rattle.c_machine.specs.Bounds.{most}
+use Rattle.c_machine.specs.Within.{name_of}
+use Rattle.c_machine.proofs.counts.most_name.Given as goal
+
+abbrev pub invariant-loop-f : goal.invariant-loop-f
+invariant-loop-f l = max l.most (most name_of (map func_of (drop l.f-index l.fns))) ≡ most name_of (map func_of l.fns)

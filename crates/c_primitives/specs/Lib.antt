@@ -1,0 +1,5 @@
+pub mod Args
+pub mod Done
+pub mod Shown
+pub mod Start
+pub mod Taking

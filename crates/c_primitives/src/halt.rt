@@ -1,0 +1,41 @@
+//! How a statement ends a run.
+
+ghost use Rattle.std.specs.Prelude.{◌≡◌};
+ghost use Rattle.c_primitives.specs.Done.{done_as};
+
+use c_values::Value;
+use vlt_ops::TrapKind;
+
+/// The rule for a value of the other type.
+pub const OTHER_TYPE: u8 = 5;
+
+/// The rule for a register.
+pub const NO_REGISTER: u8 = 7;
+
+/// The rule for what a primitive can't be called with, and for a call out of order.
+pub const MISUSED: u8 = 8;
+
+/// How a statement ends a run.
+#[derive(Clone, Copy, Debug, PartialEq, Eq)]
+pub enum Halt {
+    /// The text has no meaning: a rule is broken.
+    Broken(u8),
+    Trapped(TrapKind),
+    HeapEnd,
+    InputEnd,
+    AnswersEnd,
+    /// The answer at this position, from 1, isn't what was to be read.
+    BadAnswer(u32),
+    /// The sink did not take what was written.
+    SinkFault,
+}
+
+/// Nothing is given, or a rule is broken.
+pub fn done(r: Result<(), u8>) -> Result<Option<Value>, Halt>
+    ensures { result ≡ done_as r }
+{
+    match r {
+        Ok(()) => Ok(None),
+        Err(rule) => Err(Halt::Broken(rule)),
+    }
+}

@@ -1,0 +1,18 @@
+//! A primitive or an assignment of a C program, the variables of a frame and a run's world in; the world after it, out.
+//! Read `c_meaning/specs/Primitives.antt` first, then `specs/Shown.antt`.
+//! Rests on it: `c_interp::CMachine::go`.
+#![tactic(auto)]
+
+mod args;
+mod blocks;
+mod cells;
+mod halt;
+mod host;
+mod line;
+mod primitive;
+mod registers;
+mod tell;
+mod world;
+
+pub use halt::Halt;
+pub use world::{Tables, World};
