@@ -1,5 +1,5 @@
 -- The objects that a heap shows.
-use Rattle.std.specs.Prelude.{◌≡◌, ◌≤◌, ◌<◌, ℕ, ◌+◌, ◌*◌, Bool, true, false, List, [], ◌∷◌, ◌++◌, map, length, Some, None, Result, Ok, Err, option_map, slice_get, slice_set, vec_capacity}
+use Rattle.std.specs.Prelude.{◌≡◌, ◌≤◌, ◌<◌, ℕ, ◌+◌, ◌*◌, Bool, true, false, List, [], ◌∷◌, ◌++◌, map, length, Option, Some, None, Result, Ok, Err, option_map, slice_get, slice_set, vec_capacity}
 use Rattle.vlt_base.specs.declared.HeapEnd.{HeapEnd}
 use Rattle.vlt_rings.specs.Things as rings
 use Rattle.vlt_rings.specs.Things.{Thing, Things, IsLiveAt, IsLoneAt, IsHungAt, budget_of, places_in}
@@ -132,6 +132,20 @@ Makes result t old new = (items : Items) → Holds old items → IsNewOrFull ite
 -- an object that was made at the place is there or gone
 abbrev pub Tells : Bool → Obj → (number : ℕ) → Heap → Type 0
 Tells b o n h = (items : Items) → Holds h items → IsMadeAt items o.0 n → IsThereOrGone b items n o.0
+
+-- a slot of the object of a number that was made at the place
+pub record IsSlotOf (items : Items) (n i : ℕ) (a : Slot) : Type 0 where
+  pub item : Item
+  pub at : IsAt items n item
+  pub slot : slice_get item.slots i ≡ Some a
+  pub made : IsMade items a
+
+abbrev pub IsSlotOrNone : Option Slot → Items → (n i : ℕ) → Type 0
+IsSlotOrNone (Some a) items n i = IsSlotOf items n i a
+IsSlotOrNone None items n i = (o : Item) → IsAt items n o → slice_get o.slots i ≡ None
+
+abbrev pub Finds : Option Slot → Obj → (number i : ℕ) → Heap → Type 0
+Finds r o n i h = (items : Items) → Holds h items → IsMadeAt items o.0 n → IsSlotOrNone r items n i
 
 -- the parent, which is live, is at the place
 pub record IsParentAt (items : Items) (o : Item) (c : ℕ) : Type 0 where

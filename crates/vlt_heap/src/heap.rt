@@ -22,7 +22,7 @@ pub struct Heap {
 const MAX_MADE: u64 = 9_223_372_036_854_775_807;
 
 impl Heap {
-    ghost use Rattle.vlt_heap.specs.Shown.{IsSound, IsFresh, heap_of, slots_of, Holds, IsKind, IsSetKind, IsLive, IsChild, IsRoot, IsHere, IsSameSize, ForObject, Makes, Changes, Writes, Hangs, Releases, Tells, IsParentAt, TakesBack};
+    ghost use Rattle.vlt_heap.specs.Shown.{IsSound, IsFresh, heap_of, slots_of, Holds, IsKind, IsSetKind, IsLive, IsChild, IsRoot, IsHere, IsSameSize, ForObject, Makes, Changes, Writes, Hangs, Releases, Tells, Finds, IsParentAt, TakesBack};
 
     /// No objects, and room for `budget` live ones of `cells` slots each.
     pub fn open(alloc: Global, budget: u32, cells: u32) -> Result<Heap, Memory>
@@ -140,6 +140,20 @@ impl Heap {
         ensures made { ForObject self.now o (λ items n x. IsMade items result) }
     {
         at(&self.cells, self.position(o, i))
+    }
+
+    /// A slot of the object of this number, where it is live at the place and has so many.
+    pub fn find(&self, o: Obj, number: u64, i: u64) -> Option<Slot>
+        requires sound { IsSound self.now }
+        ensures { Finds result o number i self.now }
+    {
+        if !self.is_held(o, number) {
+            return None;
+        }
+        if i >= u64::from(self.width) {
+            return None;
+        }
+        Some(self.read(o, i as u32))
     }
 
     /// Sets a slot of an object.
