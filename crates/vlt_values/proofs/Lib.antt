@@ -1,0 +1,4 @@
+pub mod Forms
+pub mod Touching
+pub mod Fronts
+pub mod Numbers

@@ -1,0 +1,78 @@
+-- The frame and the objects that the tables show.
+use Rattle.std.specs.Prelude.{◌≡◌, ◌≤◌, ◌<◌, ◌+◌, ◌*◌, ℕ, ℤ, Bool, true, false, List, [], ◌∷◌, length, Option, None, Some, Result, Ok, Err, slice_get}
+use Rattle.vlt_ops.specs.declared.TrapKind.{TrapKind}
+use Rattle.vlt_core.specs.Core.{Func, Program}
+use Rattle.vlt_heap.specs.declared.slots.Slot.{Slot}
+use Rattle.vlt_heap.specs.declared.heap.Heap.{Heap}
+use Rattle.vlt_heap.specs.Items.{Item, Items}
+use Rattle.vlt_heap.specs.Shown.{Holds}
+use Rattle.vlt_meaning.specs.World.{Value, reference, Object, is_gone, is_out, above, Frame, Outcome, trap, is_fault}
+use Rattle.vlt_meaning.specs.Found.{Found}
+use Rattle.vlt_values.specs.declared.values.Values.{Values}
+use Rattle.vlt_values.specs.Parts.{head_of, HasPart, HasPartAt, HaveValue}
+
+-- ---- objects
+
+-- what the heap has of an object that isn't gone; each cell takes so many slots
+pub record ShowsObject (items : Items) (width : ℕ) (x : Item) (o : Object) : Type 0 where
+  pub live : is_gone o.owner ≡ false
+  pub type : x.type ≡ o.type
+  pub state : x.state ≡ o.state
+  pub parent : x.parent ≡ above o.owner
+  pub is_out : x.is_out ≡ is_out o.owner
+  pub cells : (i : ℕ) (a : Value) → slice_get o.cells i ≡ Some a → HaveValue items x.slots (i * width) width a
+
+abbrev pub ShowsIt : Items → (width : ℕ) → Option Item → Object → Type 0
+ShowsIt items width None o = is_gone o.owner ≡ true
+ShowsIt items width (Some x) o = ShowsObject items width x o
+
+pub record ShowObjects (items : Items) (width : ℕ) (objects : List Object) : Type 0 where
+  pub long : length items ≡ length objects
+  pub each : (n : ℕ) (x : Option Item) (o : Object) → slice_get items n ≡ Some x → slice_get objects n ≡ Some o →
+      ShowsIt items width x o
+
+-- ---- the running frame
+
+-- the running frame stands in the table
+abbrev pub IsTable : Values → Type 0
+IsTable values = values.base ≤ length values.slots.items
+
+-- the position of a variable's first slot, and of a key's
+abbrev pub var_at : Values → (v : ℕ) → ℕ
+var_at values v = values.base + v * values.width
+
+abbrev pub key_at : Values → (k : ℕ) → ℕ
+key_at values k = values.base + values.vars * values.width + k
+
+pub record HasVar (items : Items) (values : Values) (v : ℕ) (a : Value) : Type 0 where
+  pub within : v < values.vars
+  pub value : HaveValue items values.slots.items (var_at values v) values.width a
+
+-- a variable without a value may have any slots, and so may a key that names nothing
+pub record ShowsFrame (items : Items) (values : Values) (frame : Frame) : Type 0 where
+  pub vars : (v : ℕ) (a : Value) → frame.vars v ≡ Some a → HasVar items values v a
+  pub keys : (k n : ℕ) → frame.keys k ≡ Some n → HasPartAt items values.slots.items (key_at values k) (reference n)
+
+-- a frame and objects that are shown, whatever the function
+pub record Seen (heap : Heap) (values : Values) : Type 0 where
+  pub program : Program
+  pub func : Func
+  pub frame : Frame
+  pub objects : List Object
+  pub items : Items
+  pub holds : Holds heap items
+  pub shown : ShowObjects items values.width objects
+  pub fits : ShowsFrame items values frame
+
+-- ---- what comes of expressions
+
+-- the number, or the trap; where the run goes wrong, any answer will do
+abbrev pub IsNumber : Result ℤ TrapKind → Found ℤ → Type 0
+IsNumber r (Ok z) = r ≡ Ok z
+IsNumber r (Err (trap t)) = r ≡ Err t
+IsNumber r (Err o) = is_fault o ≡ true
+
+-- the slot has the front of the value, or the run goes wrong
+abbrev pub IsFront : Items → Slot → Found Value → Type 0
+IsFront items a (Ok v) = HasPart items (head_of v) a
+IsFront items a (Err o) = is_fault o ≡ true
