@@ -58,10 +58,10 @@ abbrev object_in : Slot → Option (Obj × ℕ)
 object_in (Number z) = None
 object_in (Object o n) = Some (o, n)
 
-same_object : {o q : Obj} {n m : ℕ} → Object o n ≡ Object q m → (o ≡ q) × (n ≡ m)
+pub same_object : {o q : Obj} {n m : ℕ} → Object o n ≡ Object q m → (o ≡ q) × (n ≡ m)
 same_object e = let s = same_Some _ _ (ap object_in e) in (ap (λ x. x.0) s, ap (λ x. x.1) s)
 
-no_object : {q : Obj} {m : ℕ} {z : ℤ} → Number z ≡ Object q m → ⊥
+pub no_object : {q : Obj} {m : ℕ} {z : ℤ} → Number z ≡ Object q m → ⊥
 no_object e = none-some _ (ap object_in e)
 
 -- where the field is there, the slot has to have its front
@@ -79,7 +79,7 @@ field_front h v c x i r is = by (touchable c.program c.func x i c.frame c.object
 
 module _ (h : Heap) (v : Values) (c : Seen h v) (x : ℕ) (a : Slot) (is : IsSlotAt v.slots.items (var_at v x) a) where
   -- what the variable's slot has
-  referred : (m : Named) → Touched x c.frame c.objects m → IsObject c.items m.number a
+  pub referred : (m : Named) → Touched x c.frame c.objects m → IsObject c.items m.number a
   referred m t = has_part c.items v.slots.items (var_at v x) (reference m.number) a is (c.fits.vars x (one (reference m.number)) t.var).value.parts.0
 
   pub field_found : (i : ℕ) (o : Obj) (n : ℕ) (r : Slot) → a ≡ Object o n → Finds (Some r) o n (i * v.width) h → IsFront c.items r (value_of c.program c.func (field x i) c.frame c.objects)

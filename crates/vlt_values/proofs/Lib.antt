@@ -2,3 +2,5 @@ pub mod Forms
 pub mod Touching
 pub mod Fronts
 pub mod Numbers
+pub mod Copies
+pub mod Writing

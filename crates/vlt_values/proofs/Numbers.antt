@@ -46,7 +46,7 @@ abbrev ok_of : Result ℤ TrapKind → Type 0
 ok_of (Ok z) = Unit {0}
 ok_of (Err t) = ⊥
 
-ok-err : {z : ℤ} {t : TrapKind} → ◌≡◌ {A = Result ℤ TrapKind} (Ok z) (Err t) → ⊥
+pub ok-err : {z : ℤ} {t : TrapKind} → ◌≡◌ {A = Result ℤ TrapKind} (Ok z) (Err t) → ⊥
 ok-err e = subst ok_of e tt
 
 pub number_is : (r : Result ℤ TrapKind) (x : Found ℤ) (z : ℤ) → IsNumber r x → r ≡ Ok z → (x ≡ Ok z) ⊎ Faulty x

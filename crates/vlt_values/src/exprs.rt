@@ -42,7 +42,7 @@ pub fn front_of_field(x: VarId, i: u32, values: &Values, heap: &Heap) -> Slot
 }
 
 /// The number of a bool.
-fn truth(b: bool) -> i64
+pub fn truth(b: bool) -> i64
     ensures { result ≡ bool_number b }
 {
     i64::from(b)
@@ -50,14 +50,14 @@ fn truth(b: bool) -> i64
 
 /// Which sides of an operator say what it gives.
 #[derive(Clone, Copy)]
-enum Sides {
+pub enum Sides {
     Left,
     Right,
     Both,
 }
 
 /// `&&` gives its left side where that is 0, else its right one; `||` gives the left one where it isn't 0.
-fn asked(op: Op, left: i64) -> Sides
+pub fn asked(op: Op, left: i64) -> Sides
     ensures { IsAsked op left result }
 {
     match op {

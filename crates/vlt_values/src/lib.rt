@@ -5,6 +5,8 @@
 
 mod exprs;
 mod values;
+mod writes;
 
 pub use exprs::number;
 pub use values::Values;
+pub use writes::write;

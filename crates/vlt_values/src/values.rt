@@ -1,9 +1,11 @@
 //! The values of all frames in one table.
 
-ghost use Rattle.std.specs.Prelude.{◌≡◌, ◌≤◌, ◌+◌, ◌*◌, drop, length, Some, slice_get};
+ghost use Rattle.std.specs.Prelude.{◌≡◌, ◌≤◌, ◌<◌, ◌+◌, ◌*◌, drop, length, Some, slice_get, slice_set, vec_capacity};
+ghost use Rattle.vlt_heap.specs.Shown.{IsSound};
+ghost use Rattle.vlt_values.specs.Filled.{IsFilled, IsCellSlot};
 
 use vlt_base::VarId;
-use vlt_heap::Slot;
+use vlt_heap::{Heap, Obj, Slot};
 
 /// The slots of all frames, of which the running one is the last: as many for each variable as the widest value takes, then one
 /// for each key.
@@ -36,15 +38,44 @@ fn at(slots: &[Slot], k: u64) -> Slot
     }
 }
 
+/// Sets a slot.
+fn put(slots: &mut Vec<Slot>, k: usize, a: Slot)
+    requires { k < length slots.old.items }
+    ensures items { slots.new.items ≡ slice_set slots.old.items k a }
+    ensures room { vec_capacity slots.new ≡ vec_capacity slots.old }
+{
+    slots[k] = a;
+}
+
+/// A slot of the object of this number, or 0 where there is none.
+fn find(heap: &Heap, object: Obj, number: u64, k: u64) -> Slot
+    requires sound { IsSound heap.now }
+    ensures { (a : Slot) → IsCellSlot heap.now object number k a → result ≡ a }
+{
+    match heap.find(object, number, k) {
+        Some(a) => a,
+        None => Slot::Number(0),
+    }
+}
+
 impl Values {
-    ghost use Rattle.vlt_values.specs.Shown.{IsTable, var_at};
+    ghost use Rattle.vlt_values.specs.Shown.{IsTable, var_at, AreApart, IsKept, IsVarSlot};
+
+    /// A slot of a variable.
+    fn slot(&self, v: VarId, j: u32) -> Slot
+        requires { IsTable self.now }
+        ensures { (a : Slot) → slice_get self.now.slots.items (var_at self.now v.0 + j) ≡ Some a → result ≡ a }
+    {
+        let k = u64::from(v.0) * u64::from(self.width) + u64::from(j);
+        at(behind(&self.slots, self.base), k)
+    }
 
     /// The first slot of a variable.
     pub fn front(&self, v: VarId) -> Slot
         requires { IsTable self.now }
         ensures { (a : Slot) → slice_get self.now.slots.items (var_at self.now v.0) ≡ Some a → result ≡ a }
     {
-        at(behind(&self.slots, self.base), u64::from(v.0) * u64::from(self.width))
+        self.slot(v, 0)
     }
 
     /// Where the slots of an object's cell begin.
@@ -52,5 +83,43 @@ impl Values {
         ensures { result ≡ i * self.now.width }
     {
         u64::from(i) * u64::from(self.width)
+    }
+
+    /// Sets the first slot from a position on.
+    pub fn put_front(&mut self, to: usize, a: Slot)
+        requires within { to + self.old.width ≤ length self.old.slots.items }
+        requires wide { 1 ≤ self.old.width }
+        ensures kept { IsKept to self.old self.new }
+        ensures front { slice_get self.new.slots.items to ≡ Some a }
+    {
+        put(&mut self.slots, to, a);
+    }
+
+    /// Copies the slots of a variable.
+    pub fn copy_var(&mut self, v: VarId, to: usize)
+        requires table { IsTable self.old }
+        requires within { to + self.old.width ≤ length self.old.slots.items }
+        ensures kept { IsKept to self.old self.new }
+        ensures filled { AreApart (var_at self.old v.0) to self.old.width →
+            IsFilled (IsVarSlot self.old v.0) self.new.slots.items to self.old.width }
+    {
+        for j in 0..self.width {
+            let a = self.slot(v, j);
+            put(&mut self.slots, to + j as usize, a);
+        }
+    }
+
+    /// Copies the slots of a cell of an object.
+    pub fn copy_cell(&mut self, object: Obj, number: u64, i: u32, to: usize, heap: &Heap)
+        requires sound { IsSound heap.now }
+        requires within { to + self.old.width ≤ length self.old.slots.items }
+        ensures kept { IsKept to self.old self.new }
+        ensures filled { IsFilled (λ j. IsCellSlot heap.now object number (i * self.old.width + j)) self.new.slots.items to self.old.width }
+    {
+        let from = self.cell(i);
+        for j in 0..self.width {
+            let a = find(heap, object, number, from + u64::from(j));
+            put(&mut self.slots, to + j as usize, a);
+        }
     }
 }
