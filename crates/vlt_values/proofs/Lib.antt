@@ -4,3 +4,4 @@ pub mod Fronts
 pub mod Numbers
 pub mod Copies
 pub mod Writing
+pub mod Pushing

@@ -4,10 +4,10 @@ use Rattle.std.proofs.lemmas.Bool.{false≢true}
 use Rattle.std.proofs.lemmas.Bool.Decides.{nat_tests}
 use Rattle.vlt_core.specs.Core.{States, Func, Program}
 use Rattle.vlt_core.specs.Lookups.{Reference, reference_of, guarded_of, permitted_in}
-use Rattle.vlt_meaning.specs.World.{Value, one, number, reference, owned, of_case, Owner, held, lent, loose, inside, adopted_by, out, gone, Object, is_gone, is_held_under, is_adopted_by, Frame, Reason, Outcome, fault, is_fault, missing, no_value, not_held, other_object, not_guarded, wrong_state}
+use Rattle.vlt_meaning.specs.World.{Value, one, number, reference, owned, of_case, Owner, held, lent, loose, inside, adopted_by, out, gone, Object, is_gone, is_out, above, is_held_under, is_adopted_by, Frame, Reason, Outcome, fault, is_fault, missing, no_value, not_held, other_object, not_guarded, wrong_state}
 use Rattle.vlt_meaning.specs.Found.{Found, ◌>>=◌, or_fault, Named, if_so}
 use Rattle.vlt_meaning.specs.Objects.{named_in, object_at, in_states}
-use Rattle.vlt_meaning.specs.Values.{held_object, reference_in, tracked_object, guarded_object, object_behind, touchable}
+use Rattle.vlt_meaning.specs.Values.{held_object, reference_in, tracked_object, guarded_object, object_behind, touchable, object_of}
 use Rattle.vlt_meaning_laws.proofs.Keeping.{bound, err-ok}
 
 -- ---- what is found, or a fault
@@ -70,6 +70,12 @@ touch_fault p f x i frame objects = behind_fault (reference_of f x) (guarded_of 
 
 -- ---- the object
 
+-- it isn't gone, it isn't below another one, and it isn't out
+pub record IsRoot (o : Owner) : Type 0 where
+  pub live : is_gone o ≡ false
+  pub above : above o ≡ None
+  pub here : is_out o ≡ false
+
 -- it is the one that the variable refers to, and it isn't gone
 pub record Touched (x : ℕ) (frame : Frame) (objects : List Object) (m : Named) : Type 0 where
   pub var : frame.vars x ≡ Some (one (reference m.number))
@@ -101,7 +107,7 @@ object_is objects n m e = by (slice_get objects n) e
 pub record IsHeld (k : ℕ) (frame : Frame) (objects : List Object) (m : Named) : Type 0 where
   pub key : frame.keys k ≡ Some m.number
   pub at : slice_get objects m.number ≡ Some m.object
-  pub live : is_gone m.object.owner ≡ false
+  pub root : IsRoot m.object.owner
 
 abbrev found_or : {A : Type 0} → A → Found A → A
 found_or b (Ok c) = c
@@ -111,14 +117,14 @@ some_is : {A : Type 0} (r : Reason) (x : Option A) (a : A) → or_fault r x ≡ 
 some_is r (Some b) a e = ap (λ z. Some z) (ap (found_or b) e)
 some_is r None a e = absurd (err-ok e)
 
-held_live : (d k : ℕ) (o : Owner) → is_held_under d k o ≡ true → is_gone o ≡ false
-held_live d k (held e j) h = refl
-held_live d k (lent e j) h = refl
-held_live d k loose h = refl
-held_live d k (inside n) h = refl
-held_live d k (adopted_by n) h = refl
-held_live d k out h = refl
-held_live d k gone h = absurd (false≢true h)
+held_root : (d k : ℕ) (o : Owner) → is_held_under d k o ≡ true → IsRoot o
+held_root d k (held e j) h = record { live = refl; above = refl; here = refl }
+held_root d k (lent e j) h = record { live = refl; above = refl; here = refl }
+held_root d k loose h = record { live = refl; above = refl; here = refl }
+held_root d k (inside n) h = absurd (false≢true h)
+held_root d k (adopted_by n) h = absurd (false≢true h)
+held_root d k out h = absurd (false≢true h)
+held_root d k gone h = absurd (false≢true h)
 
 adopted_live : (n : ℕ) (o : Owner) → is_adopted_by n o ≡ true → is_gone o ≡ false
 adopted_live n (held e j) h = refl
@@ -138,7 +144,7 @@ held_is k frame objects m e =
     subst (IsHeld k frame objects) s.1 (record {
       key = some_is no_value (frame.keys k) a.0 a.1 ∙ ap (λ z. Some z) (sym o.0);
       at = ap (slice_get objects) o.0 ∙ o.1;
-      live = held_live frame.depth k b.0.object.owner s.0;
+      root = held_root frame.depth k b.0.object.owner s.0;
     })
 
 reference_is : (x : Option Value) (n : ℕ) → reference_in x ≡ Ok n → x ≡ Some (one (reference n))
@@ -164,8 +170,16 @@ tracked_is r x frame objects m e =
     subst (Touched x frame objects) s.1 (record {
       var = reference_is (frame.vars x) b.0 b.1 ∙ ap (λ z. Some (one (reference z))) (equal_is b.0 a.0.number s.0);
       at = h.at;
-      live = h.live;
+      live = h.root.live;
     })
+
+-- it is held under the variable's key
+pub tracked_held : (r : Reference) (x : ℕ) (frame : Frame) (objects : List Object) (m : Named) → tracked_object r x frame objects ≡ Ok m → IsHeld r.key frame objects m
+tracked_held r x frame objects m e =
+    let a = bound (held_object r.key frame objects) _ m e in
+    let b = bound (reference_in (frame.vars x)) _ m a.2 in
+    let s = so_is (b.0 == a.0.number) other_object a.0 m b.2 in
+    subst (IsHeld r.key frame objects) s.1 (held_is r.key frame objects a.0 a.1)
 
 pub guarded_is : (r : Reference) (x : ℕ) (frame : Frame) (objects : List Object) (m : Named) → guarded_object r x frame objects ≡ Ok m → Touched x frame objects m
 guarded_is r x frame objects m e =
@@ -193,3 +207,21 @@ behind_is None None x states frame objects m e = absurd (err-ok e)
 
 pub touched : (p : Program) (f : Func) (x i : ℕ) (frame : Frame) (objects : List Object) (m : Named) → touchable p f x i frame objects ≡ Ok m → Touched x frame objects m
 touched p f x i frame objects m e = behind_is (reference_of f x) (guarded_of f x) x (λ r. permitted_in p r.type i) frame objects m e
+
+-- ---- the object of a tracked variable, in states that are wanted
+
+pub object_of_fault : (f : Func) (states : Reference → States) (x : ℕ) (frame : Frame) (objects : List Object) → OrFault (object_of f states x frame objects)
+object_of_fault f states x frame objects =
+    then_fault (or_fault missing (reference_of f x)) _ (some_fault missing (reference_of f x)) (λ r.
+    then_fault (tracked_object r x frame objects) _ (tracked_fault r x frame objects) (λ m. so_fault (states r m.object.state) wrong_state m))
+
+pub record Packed (x : ℕ) (frame : Frame) (objects : List Object) (m : Named) : Type 0 where
+  pub touched : Touched x frame objects m
+  pub root : IsRoot m.object.owner
+
+pub object_of_is : (f : Func) (states : Reference → States) (x : ℕ) (frame : Frame) (objects : List Object) (m : Named) → object_of f states x frame objects ≡ Ok m → Packed x frame objects m
+object_of_is f states x frame objects m e =
+    let r = bound (or_fault missing (reference_of f x)) _ m e in
+    let a = bound (tracked_object r.0 x frame objects) _ m r.2 in
+    let s = so_is (states r.0 a.0.object.state) wrong_state a.0 m a.2 in
+    subst (Packed x frame objects) s.1 (record { touched = tracked_is r.0 x frame objects a.0 a.1; root = (tracked_held r.0 x frame objects a.0 a.1).root })

@@ -34,9 +34,9 @@ pub record ShowObjects (items : Items) (width : ℕ) (objects : List Object) : T
 
 -- ---- the running frame
 
--- the running frame stands in the table
+-- the variables of the running frame stand in the table
 abbrev pub IsTable : Values → Type 0
-IsTable values = values.base ≤ length values.slots.items
+IsTable values = values.base + values.vars * values.width ≤ length values.slots.items
 
 -- the position of a variable's first slot, and of a key's
 abbrev pub var_at : Values → (v : ℕ) → ℕ
@@ -80,6 +80,13 @@ pub record IsKept (to : ℕ) (old new : Values) : Type 0 where
   pub outside : (k : ℕ) → (k < to) ⊎ (to + old.width ≤ k) → slice_get new.slots.items k ≡ slice_get old.slots.items k
   pub long : length new.slots.items ≡ length old.slots.items
   pub room : vec_capacity new.slots ≡ vec_capacity old.slots
+  pub base : new.base ≡ old.base
+  pub vars : new.vars ≡ old.vars
+  pub width : new.width ≡ old.width
+
+-- there is more at the end
+pub record IsGrown (old new : Values) : Type 0 where
+  pub same : (k : ℕ) → k < length old.slots.items → slice_get new.slots.items k ≡ slice_get old.slots.items k
   pub base : new.base ≡ old.base
   pub vars : new.vars ≡ old.vars
   pub width : new.width ≡ old.width

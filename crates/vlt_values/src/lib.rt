@@ -4,9 +4,11 @@
 #![tactic(auto)]
 
 mod exprs;
+mod operands;
 mod values;
 mod writes;
 
 pub use exprs::number;
+pub use operands::{push_operand, push_operands};
 pub use values::Values;
 pub use writes::write;

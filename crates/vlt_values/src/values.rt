@@ -1,6 +1,6 @@
 //! The values of all frames in one table.
 
-ghost use Rattle.std.specs.Prelude.{◌≡◌, ◌≤◌, ◌<◌, ◌+◌, ◌*◌, drop, length, Some, slice_get, slice_set, vec_capacity};
+ghost use Rattle.std.specs.Prelude.{◌≡◌, ◌≤◌, ◌<◌, ◌+◌, ◌*◌, ◌++◌, ◌∷◌, [], pos, drop, length, Some, slice_get, slice_set, vec_capacity};
 ghost use Rattle.vlt_heap.specs.Shown.{IsSound};
 ghost use Rattle.vlt_values.specs.Filled.{IsFilled, IsCellSlot};
 
@@ -47,6 +47,18 @@ fn put(slots: &mut Vec<Slot>, k: usize, a: Slot)
     slots[k] = a;
 }
 
+/// One slot more, with 0, for which there is room.
+fn push(slots: &mut Vec<Slot>)
+    requires { length slots.old.items < vec_capacity slots.old }
+    ensures items { slots.new.items ≡ slots.old.items ++ Slot.Number (pos 0) ∷ [] }
+    ensures room { vec_capacity slots.old ≤ vec_capacity slots.new }
+{
+    match slots.push(Slot::Number(0)) {
+        Ok(()) => {}
+        Err(_) => unreachable!(),
+    }
+}
+
 /// A slot of the object of this number, or 0 where there is none.
 fn find(heap: &Heap, object: Obj, number: u64, k: u64) -> Slot
     requires sound { IsSound heap.now }
@@ -59,7 +71,7 @@ fn find(heap: &Heap, object: Obj, number: u64, k: u64) -> Slot
 }
 
 impl Values {
-    ghost use Rattle.vlt_values.specs.Shown.{IsTable, var_at, AreApart, IsKept, IsVarSlot};
+    ghost use Rattle.vlt_values.specs.Shown.{IsTable, var_at, AreApart, IsKept, IsGrown, IsVarSlot};
 
     /// A slot of a variable.
     fn slot(&self, v: VarId, j: u32) -> Slot
@@ -83,6 +95,26 @@ impl Values {
         ensures { result ≡ i * self.now.width }
     {
         u64::from(i) * u64::from(self.width)
+    }
+
+    /// How many slots there are.
+    pub fn len(&self) -> usize
+        ensures { result ≡ length self.now.slots.items }
+    {
+        self.slots.len()
+    }
+
+    /// Slots for one value more, at the end, where there is room for them.
+    pub fn grow(&mut self)
+        requires { length self.old.slots.items + self.old.width ≤ vec_capacity self.old.slots }
+        ensures grown { IsGrown self.old self.new }
+        ensures long { length self.new.slots.items ≡ length self.old.slots.items + self.old.width }
+        ensures room { vec_capacity self.old.slots ≤ vec_capacity self.new.slots }
+    {
+        for done in 0..self.width {
+            let _ = done;
+            push(&mut self.slots);
+        }
     }
 
     /// Sets the first slot from a position on.
