@@ -1,5 +1,5 @@
 -- The first slots of variables and of fields.
-use Rattle.std.proofs.Common.{◌≡◌, ◌≢◌, ◌<◌, ℕ, ℤ, ◌+◌, ◌*◌, Bool, true, false, List, [], ◌∷◌, length, Option, Some, None, Ok, Err, refl, sym, ap, ◌∙◌, subst, arith, slice_get}
+use Rattle.std.proofs.Common.{◌≡◌, ℕ, ℤ, ◌*◌, false, List, Option, Some, None, Ok, Err, refl, sym, ap, ◌∙◌, subst, arith, slice_get}
 use Rattle.std.proofs.lemmas.Bool.{false≢true}
 use Rattle.std.proofs.lemmas.Option.{none-some, same_Some, slice_get_within}
 use Rattle.vlt_core.specs.Core.{field}
@@ -8,13 +8,13 @@ use Rattle.vlt_heap.specs.declared.slots.Slot.{Slot}
 use Rattle.vlt_heap.specs.declared.slots.Slot.TheVariants.{Number, Object}
 use Rattle.vlt_heap.specs.declared.heap.Heap.{Heap}
 use Rattle.vlt_heap.specs.Items.{Item, Items, IsAt, IsMadeAt}
-use Rattle.vlt_heap.specs.Shown.{Finds, IsSlotOrNone}
+use Rattle.vlt_heap.specs.Shown.{Finds}
 use Rattle.vlt_rings.proofs.Calls.{item_at}
 use Rattle.vlt_meaning.specs.World.{Part, reference, Value, one, of_case, Object as Thing, is_gone, missing, no_value}
 use Rattle.vlt_meaning.specs.Found.{Found, ◌>>=◌, or_fault, Named}
 use Rattle.vlt_meaning.specs.Values.{touchable, value_of}
 use Rattle.vlt_values.specs.declared.values.Values.{Values}
-use Rattle.vlt_values.specs.Parts.{flat, head_of, IsObject, HasPart, HasPartAt, HaveParts, HaveValue}
+use Rattle.vlt_values.specs.Parts.{flat, head_of, IsObject, HasPart, HasPartAt, HaveParts}
 use Rattle.vlt_values.specs.Shown.{ShowsObject, ShowsIt, ShowObjects, var_at, Seen, IsFront}
 use Rattle.vlt_values.proofs.Touching.{OrFault, Touched, touched, touch_fault}
 

@@ -1,5 +1,5 @@
 -- The numbers of expressions, from those of their parts.
-use Rattle.std.proofs.Common.{◌≡◌, ◌⊎◌, inl, inr, ℕ, ℤ, pos, Bool, true, false, List, Option, Some, None, Result, Ok, Err, refl, sym, ap, ◌∙◌, subst}
+use Rattle.std.proofs.Common.{◌≡◌, ◌⊎◌, inl, inr, ℤ, pos, Bool, true, List, Result, Ok, Err, refl, sym, ap, ◌∙◌, subst}
 use Rattle.vlt_ops.specs.declared.Op.{Op}
 use Rattle.vlt_ops.specs.declared.TrapKind.{TrapKind}
 use Rattle.vlt_ops.specs.Operator.{applied}
@@ -9,10 +9,9 @@ use Rattle.vlt_heap.specs.declared.slots.Slot.TheVariants.{Number}
 use Rattle.vlt_heap.specs.Items.{Items}
 use Rattle.vlt_meaning.specs.World.{Value, one, number, reference, owned, of_case, Object, Frame, Outcome, trap, fault, done, fuel_end, heap_end, depth_end, input_end, answers_end, bad_answer, is_fault}
 use Rattle.vlt_meaning.specs.Found.{Found, ◌>>=◌}
-use Rattle.vlt_meaning.specs.Values.{number_in, is_number, or_trap, joined, value_of, number_of}
+use Rattle.vlt_meaning.specs.Values.{number_in, or_trap, joined, value_of, number_of}
 use Rattle.vlt_meaning_laws.proofs.Keeping.{err-ok}
 use Rattle.vlt_values.specs.declared.exprs.Sides.{Sides}
-use Rattle.vlt_values.specs.declared.exprs.Sides.TheVariants.{Left, Right, Both}
 use Rattle.vlt_values.specs.Shown.{IsNumber, IsFront}
 use Rattle.vlt_values.specs.Asked.{of_both, given_by, IsAsked}
 

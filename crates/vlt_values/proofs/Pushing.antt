@@ -1,28 +1,26 @@
 -- Values that are put at the end of the table.
-use Rattle.std.proofs.Common.{◌≡◌, ◌≢◌, ◌⊎◌, inl, inr, ⊎_elim, ℕ, suc, ◌+◌, ◌*◌, ◌<◌, ◌≤◌, ◌==◌, Bool, true, false, if◌then◌else◌, List, [], ◌∷◌, map, length, Option, Some, None, Result, Ok, Err, refl, sym, ap, ◌∙◌, subst, arith, slice_get}
+use Rattle.std.proofs.Common.{◌≡◌, ◌≢◌, ◌⊎◌, inl, inr, ℕ, suc, ◌+◌, ◌*◌, ◌<◌, ◌≤◌, ◌==◌, Bool, true, false, if◌then◌else◌, List, [], ◌∷◌, length, Option, Some, None, Result, Ok, Err, refl, sym, ap, ◌∙◌, subst, arith, slice_get}
 use Rattle.std.proofs.lemmas.Bool.{false≢true}
 use Rattle.std.proofs.lemmas.Option.{none-some, same_Some, slice_get_within}
 use Rattle.std.proofs.lemmas.List.{length-set}
 use Rattle.vlt_ops.specs.declared.TrapKind.{TrapKind}
 use Rattle.vlt_core.specs.Core.{States, Expr, Operand, pure, move, pack, Func, Program}
-use Rattle.vlt_core.specs.Lookups.{Reference}
 use Rattle.vlt_rings.proofs.Lists.{equal_or_not}
 use Rattle.vlt_heap.specs.declared.slots.Slot.{Slot}
 use Rattle.vlt_heap.specs.declared.heap.Heap.{Heap}
 use Rattle.vlt_heap.specs.Items.{Item, Items}
-use Rattle.vlt_meaning.specs.World.{Part, Value, one, owned, reference, Owner, loose, Object, is_gone, is_out, above, World, Frame, Outcome, trap, fault, done, fuel_end, heap_end, depth_end, input_end, answers_end, bad_answer, is_fault, no_value, missing}
+use Rattle.vlt_meaning.specs.World.{Part, Value, one, owned, reference, Owner, loose, Object, is_gone, is_out, above, World, Frame, trap, fault, done, fuel_end, heap_end, depth_end, input_end, answers_end, bad_answer, no_value}
 use Rattle.vlt_meaning.specs.Found.{Found, or_fault, Named}
 use Rattle.vlt_meaning.specs.Objects.{with_owner, changed, changed_in}
 use Rattle.vlt_meaning.specs.Values.{value_of, object_of}
-use Rattle.vlt_meaning.specs.Step.{with_var, set_at, with_changed}
+use Rattle.vlt_meaning.specs.Step.{with_var, with_changed}
 use Rattle.vlt_meaning_laws.proofs.Keeping.{change_here, change_elsewhere}
 use Rattle.vlt_machine.specs.Got.{Got, got, stopped, then_got, found_in, operand_got, operands_got}
 use Rattle.vlt_values.specs.declared.values.Values.{Values}
 use Rattle.vlt_values.specs.Parts.{flat, IsObject, HasPartAt, HaveParts, HaveValue}
-use Rattle.vlt_values.specs.Filled.{IsFilled}
-use Rattle.vlt_values.specs.Shown.{ShowsObject, ShowsIt, ShowObjects, var_at, key_at, HasVar, ShowsFrame, Seen, IsKept, IsGrown, IsCopied, IsWritten}
-use Rattle.vlt_values.specs.Pushed.{HaveValues, Shows, HasPushed, IsPushed, HavePushed, ArePushed}
-use Rattle.vlt_values.proofs.Touching.{OrFault, IsRoot, Packed, object_of_fault, object_of_is}
+use Rattle.vlt_values.specs.Shown.{ShowsIt, ShowObjects, var_at, key_at, ShowsFrame, Seen, IsKept, IsGrown, IsCopied, IsWritten}
+use Rattle.vlt_values.specs.Pushed.{HaveValues, Shows, HasPushed, IsPushed, ArePushed}
+use Rattle.vlt_values.proofs.Touching.{OrFault, Packed, object_of_fault, object_of_is}
 
 -- ---- more at the end
 
@@ -201,8 +199,10 @@ all_pushed h old mid new c w o os q r g k long first is second = by (operand_got
     rest a f v head (got xs f2 v2) all = record {
       is = all.is;
       long = let m = all.long in let n : length mid.slots.items + length xs * mid.width ≡ length mid.slots.items + length xs * old.width = ap (λ z. length mid.slots.items + length xs * z) g.width in omega (arith, m, n, long);
-      values_at = (value_grown c.items mid new (length old.slots.items) old.width a k head.value,
-          subst (λ z. HaveValues c.items new.slots.items z old.width xs) long (subst (λ z. HaveValues c.items new.slots.items (length mid.slots.items) z xs) g.width all.values_at));
+      values_at = (
+        value_grown c.items mid new (length old.slots.items) old.width a k head.value,
+        subst (λ z. HaveValues c.items new.slots.items z old.width xs) long (subst (λ z. HaveValues c.items new.slots.items (length mid.slots.items) z xs) g.width all.values_at),
+      );
       shows = record { objects_shown = all.shows.objects_shown; frame_shown = all.shows.frame_shown };
     }
     rest a f v head (stopped done v2) all = all

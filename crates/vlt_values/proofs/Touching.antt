@@ -1,12 +1,12 @@
 -- The object that a touch goes to.
-use Rattle.std.proofs.Common.{◌≡◌, ℕ, ◌==◌, Bool, true, false, if◌then◌else◌, List, Option, Some, None, Ok, Err, refl, sym, ap, ◌∙◌, subst, arith, slice_get}
+use Rattle.std.proofs.Common.{◌≡◌, ℕ, ◌==◌, Bool, true, false, List, Option, Some, None, Ok, Err, refl, sym, ap, ◌∙◌, subst, arith, slice_get}
 use Rattle.std.proofs.lemmas.Bool.{false≢true}
 use Rattle.std.proofs.lemmas.Bool.Decides.{nat_tests}
 use Rattle.vlt_core.specs.Core.{States, Func, Program}
 use Rattle.vlt_core.specs.Lookups.{Reference, reference_of, guarded_of, permitted_in}
-use Rattle.vlt_meaning.specs.World.{Value, one, number, reference, owned, of_case, Owner, held, lent, loose, inside, adopted_by, out, gone, Object, is_gone, is_out, above, is_held_under, is_adopted_by, Frame, Reason, Outcome, fault, is_fault, missing, no_value, not_held, other_object, not_guarded, wrong_state}
+use Rattle.vlt_meaning.specs.World.{Value, one, number, reference, owned, of_case, Owner, held, lent, loose, inside, adopted_by, out, gone, Object, is_gone, is_out, above, is_held_under, is_adopted_by, Frame, Reason, is_fault, missing, no_value, not_held, other_object, not_guarded, wrong_state}
 use Rattle.vlt_meaning.specs.Found.{Found, ◌>>=◌, or_fault, Named, if_so}
-use Rattle.vlt_meaning.specs.Objects.{named_in, object_at, in_states}
+use Rattle.vlt_meaning.specs.Objects.{named_in, object_at}
 use Rattle.vlt_meaning.specs.Values.{held_object, reference_in, tracked_object, guarded_object, object_behind, touchable, object_of}
 use Rattle.vlt_meaning_laws.proofs.Keeping.{bound, err-ok}
 

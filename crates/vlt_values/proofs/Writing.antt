@@ -1,5 +1,5 @@
 -- Values that are written.
-use Rattle.std.proofs.Common.{◌≡◌, ◌≢◌, ◌⊎◌, inl, inr, ℕ, ℤ, suc, ◌+◌, ◌*◌, ◌<◌, ◌≤◌, pos, Bool, true, false, List, [], ◌∷◌, length, Option, Some, None, Result, Ok, Err, refl, sym, ap, ◌∙◌, subst, arith, slice_get}
+use Rattle.std.proofs.Common.{◌≡◌, ◌≢◌, ◌⊎◌, inl, inr, ℕ, ℤ, ◌+◌, ◌*◌, ◌<◌, ◌≤◌, pos, true, List, [], ◌∷◌, length, Option, Some, None, Result, Ok, Err, refl, sym, ap, ◌∙◌, subst, arith, slice_get}
 use Rattle.vlt_ops.specs.declared.Op.{Op}
 use Rattle.vlt_ops.specs.declared.TrapKind.{TrapKind}
 use Rattle.vlt_ops.specs.Operator.{applied}
@@ -14,17 +14,17 @@ use Rattle.vlt_heap.specs.declared.heap.Heap.{Heap}
 use Rattle.vlt_heap.specs.Items.{Items, IsMadeAt}
 use Rattle.vlt_meaning.specs.World.{Part, Value, one, number, reference, owned, of_case, Object as Thing, Frame, Outcome, trap, fault, done, fuel_end, heap_end, depth_end, input_end, answers_end, bad_answer, is_fault, missing, no_value}
 use Rattle.vlt_meaning.specs.Found.{Found, ◌>>=◌, or_fault, Named}
-use Rattle.vlt_meaning.specs.Values.{number_in, is_number, or_trap, value_of, number_of, touchable, joined}
+use Rattle.vlt_meaning.specs.Values.{number_in, or_trap, value_of, number_of, touchable, joined}
 use Rattle.vlt_meaning_laws.proofs.Keeping.{err-ok}
 use Rattle.vlt_values.specs.declared.exprs.Sides.{Sides}
 use Rattle.vlt_values.specs.declared.values.Values.{Values}
-use Rattle.vlt_values.specs.Parts.{flat, HasPartAt, HaveParts, HaveValue}
+use Rattle.vlt_values.specs.Parts.{flat, HaveParts, HaveValue}
 use Rattle.vlt_values.specs.Filled.{IsFilled, IsCellSlot}
 use Rattle.vlt_values.specs.Asked.{of_both, given_by, IsAsked}
-use Rattle.vlt_values.specs.Shown.{var_at, AreApart, IsPlace, IsVarSlot, IsKept, Seen, IsNumber, IsNumeric, IsCopied, HasWritten, IsWritten}
+use Rattle.vlt_values.specs.Shown.{var_at, AreApart, IsPlace, IsVarSlot, Seen, IsNumber, IsNumeric, IsCopied, IsWritten}
 use Rattle.vlt_values.proofs.Touching.{OrFault, Touched, touched, touch_fault}
 use Rattle.vlt_values.proofs.Fronts.{IsSlotAt, behind, same_object, no_object, referred}
-use Rattle.vlt_values.proofs.Numbers.{Faulty, any_number, number_is, trap_is, ok-err}
+use Rattle.vlt_values.proofs.Numbers.{Faulty, number_is, trap_is, ok-err}
 
 -- ---- values that are copied
 
@@ -32,10 +32,11 @@ have_moved : (items : Items) (slots news : List Slot) (from to w d : ℕ) (ps : 
     → HaveParts items slots (from + d) ps → HaveParts items news (to + d) ps
 have_moved items slots news from to w d [] l same parts = tt
 have_moved items slots news from to w d (p ∷ ps) l same parts =
-    let h = parts.0 in
-    (record { slot = h.slot; at = same d h.slot (omega (arith, l)) h.at; part = h.part },
-    subst (λ k. HaveParts items news k ps) (omega arith)
-    (have_moved items slots news from to w (d + 1) ps (omega (arith, l)) same (subst (λ k. HaveParts items slots k ps) (omega arith) parts.1)))
+    let h = parts.0 in (
+      record { slot = h.slot; at = same d h.slot (omega (arith, l)) h.at; part = h.part },
+      subst (λ k. HaveParts items news k ps) (omega arith)
+          (have_moved items slots news from to w (d + 1) ps (omega (arith, l)) same (subst (λ k. HaveParts items slots k ps) (omega arith) parts.1)),
+    )
 
 pub value_moved : (items : Items) (slots news : List Slot) (from to w : ℕ) (a : Value) → ((j : ℕ) (b : Slot) → j < w → slice_get slots (from + j) ≡ Some b → slice_get news (to + j) ≡ Some b) → HaveValue items slots from w a → HaveValue items news to w a
 value_moved items slots news from to w a same has = record {

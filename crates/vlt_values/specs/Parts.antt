@@ -1,5 +1,5 @@
 -- The slots that a value takes.
-use Rattle.std.specs.Prelude.{◌≡◌, ◌≤◌, ◌+◌, ◌*◌, ℕ, suc, pos, Bool, List, [], ◌∷◌, ◌++◌, map, length, Option, None, Some, slice_get}
+use Rattle.std.specs.Prelude.{◌≡◌, ◌≤◌, ℕ, suc, pos, List, [], ◌∷◌, ◌++◌, map, length, Some, slice_get}
 use Rattle.vlt_heap.specs.declared.slots.Obj.{Obj}
 use Rattle.vlt_heap.specs.declared.slots.Slot.{Slot}
 use Rattle.vlt_heap.specs.declared.slots.Slot.TheVariants.{Number, Object}

@@ -1,12 +1,12 @@
 -- The frame and the objects that the tables show.
-use Rattle.std.specs.Prelude.{◌≡◌, ◌⊎◌, ◌≤◌, ◌<◌, ◌+◌, ◌*◌, ℕ, ℤ, Bool, true, false, List, [], ◌∷◌, length, Option, None, Some, Result, Ok, Err, slice_get, vec_capacity}
+use Rattle.std.specs.Prelude.{◌≡◌, ◌⊎◌, ◌≤◌, ◌<◌, ◌+◌, ◌*◌, ℕ, ℤ, true, false, List, length, Option, None, Some, Result, Ok, Err, slice_get, vec_capacity}
 use Rattle.vlt_ops.specs.declared.TrapKind.{TrapKind}
 use Rattle.vlt_core.specs.Core.{Func, Program}
 use Rattle.vlt_heap.specs.declared.slots.Slot.{Slot}
 use Rattle.vlt_heap.specs.declared.heap.Heap.{Heap}
 use Rattle.vlt_heap.specs.Items.{Item, Items}
 use Rattle.vlt_heap.specs.Shown.{Holds}
-use Rattle.vlt_meaning.specs.World.{Value, one, number, reference, Object, is_gone, is_out, above, Frame, Outcome, trap, is_fault}
+use Rattle.vlt_meaning.specs.World.{Value, one, number, reference, Object, is_gone, is_out, above, Frame, trap, is_fault}
 use Rattle.vlt_meaning.specs.Found.{Found, ◌>>=◌}
 use Rattle.vlt_meaning.specs.Values.{number_in}
 use Rattle.vlt_values.specs.declared.values.Values.{Values}

@@ -61,20 +61,8 @@ pub fn asked(op: Op, left: i64) -> Sides
     ensures { IsAsked op left result }
 {
     match op {
-        Op::And => {
-            if left == 0 {
-                Sides::Left
-            } else {
-                Sides::Right
-            }
-        }
-        Op::Or => {
-            if left == 0 {
-                Sides::Right
-            } else {
-                Sides::Left
-            }
-        }
+        Op::And => { if left == 0 { Sides::Left } else { Sides::Right } }
+        Op::Or => { if left == 0 { Sides::Right } else { Sides::Left } }
         _ => Sides::Both,
     }
 }

@@ -5,9 +5,9 @@ use Rattle.vlt_core.specs.Core as s
 use Rattle.vlt_core.specs.View.{expr_of}
 use Rattle.vlt_meaning.specs.World.{no_value}
 use Rattle.vlt_meaning.specs.Found.{or_fault}
-use Rattle.vlt_meaning.specs.Values.{number_of, value_of}
+use Rattle.vlt_meaning.specs.Values.{number_of}
 use Rattle.vlt_values.specs.declared.exprs.Sides.TheVariants.{Left, Right, Both}
-use Rattle.vlt_values.specs.Shown.{Seen, IsNumber}
+use Rattle.vlt_values.specs.Shown.{IsNumber}
 use Rattle.vlt_values.specs.Asked.{IsAsked}
 use Rattle.vlt_values.proofs.Forms.{var_at, unary_at, binary_at}
 use Rattle.vlt_values.proofs.Fronts.{var_front}
@@ -33,10 +33,10 @@ returns-in-Ok n k = λ q.
 pub returns-in-Left : goal.returns-in-Left
 returns-in-Left n k = λ q.
     let e : expr_of k.args.e.now ≡ s.binary k.in-Bin.op (expr_of k.get-in-Bin.result.now) (expr_of k.in-Bin.b) =
-        binary_at _ k.in-Bin.op k.in-Bin.a k.in-Bin.b _ _ k.in-Bin.is k.get-in-Bin.ensures refl in
+    binary_at _ k.in-Bin.op k.in-Bin.a k.in-Bin.b _ _ k.in-Bin.is k.get-in-Bin.ensures refl in
     let f : SFits w64 k.in-Ok-number.z = search rules in
     let asked : IsAsked k.in-Bin.op k.in-Ok-number.z Left =
-        subst (λ z. IsAsked k.in-Bin.op z Left) (to_z-of_z w64 k.in-Ok-number.z f) (subst (IsAsked k.in-Bin.op _) k.in-Left.is k.asked.ensures) in
+    subst (λ z. IsAsked k.in-Bin.op z Left) (to_z-of_z w64 k.in-Ok-number.z f) (subst (IsAsked k.in-Bin.op _) k.in-Left.is k.asked.ensures) in
     subst (λ z. IsNumber (Ok z) (number_of q.program q.func (expr_of k.args.e.now) q.frame q.objects)) (sym (to_z-of_z w64 k.in-Ok-number.z f))
     (at_expr q.program q.func q.frame q.objects (Ok k.in-Ok-number.z) (expr_of k.args.e.now) _ e
     (binary_number q.program q.func q.frame q.objects k.in-Bin.op (expr_of k.get-in-Bin.result.now) k.number-in-Bin.result (k.number-in-Bin.ensures q) (expr_of k.in-Bin.b) k.in-Ok-number.z (Ok k.in-Ok-number.z) Left k.in-Ok-number.is asked refl))
@@ -44,23 +44,23 @@ returns-in-Left n k = λ q.
 pub returns-in-Right : goal.returns-in-Right
 returns-in-Right n k = λ q.
     let e : expr_of k.args.e.now ≡ s.binary k.in-Bin.op (expr_of k.get-in-Bin.result.now) (expr_of k.get-in-Right.result.now) =
-        binary_at _ k.in-Bin.op k.in-Bin.a k.in-Bin.b _ _ k.in-Bin.is k.get-in-Bin.ensures k.get-in-Right.ensures in
+    binary_at _ k.in-Bin.op k.in-Bin.a k.in-Bin.b _ _ k.in-Bin.is k.get-in-Bin.ensures k.get-in-Right.ensures in
     let f : SFits w64 k.in-Ok-number.z = search rules in
     let asked : IsAsked k.in-Bin.op k.in-Ok-number.z Right =
-        subst (λ z. IsAsked k.in-Bin.op z Right) (to_z-of_z w64 k.in-Ok-number.z f) (subst (IsAsked k.in-Bin.op _) k.in-Right.is k.asked.ensures) in
+    subst (λ z. IsAsked k.in-Bin.op z Right) (to_z-of_z w64 k.in-Ok-number.z f) (subst (IsAsked k.in-Bin.op _) k.in-Right.is k.asked.ensures) in
     at_expr q.program q.func q.frame q.objects k.number-in-Right.result (expr_of k.args.e.now) _ e
     (binary_number q.program q.func q.frame q.objects k.in-Bin.op (expr_of k.get-in-Bin.result.now) k.number-in-Bin.result (k.number-in-Bin.ensures q) (expr_of k.get-in-Right.result.now) k.in-Ok-number.z k.number-in-Right.result Right k.in-Ok-number.is asked (k.number-in-Right.ensures q))
 
 pub returns-in-Ok-number-2 : goal.returns-in-Ok-number-2
 returns-in-Ok-number-2 n k = λ q.
     let e : expr_of k.args.e.now ≡ s.binary k.in-Bin.op (expr_of k.get-in-Bin.result.now) (expr_of k.get-in-Both.result.now) =
-        binary_at _ k.in-Bin.op k.in-Bin.a k.in-Bin.b _ _ k.in-Bin.is k.get-in-Bin.ensures k.get-in-Both.ensures in
+    binary_at _ k.in-Bin.op k.in-Bin.a k.in-Bin.b _ _ k.in-Bin.is k.get-in-Bin.ensures k.get-in-Both.ensures in
     let f : SFits w64 k.in-Ok-number.z = search rules in
     let g : SFits w64 k.in-Ok-number-2.y = search rules in
     let asked : IsAsked k.in-Bin.op k.in-Ok-number.z Both =
-        subst (λ z. IsAsked k.in-Bin.op z Both) (to_z-of_z w64 k.in-Ok-number.z f) (subst (IsAsked k.in-Bin.op _) k.in-Both.is k.asked.ensures) in
+    subst (λ z. IsAsked k.in-Bin.op z Both) (to_z-of_z w64 k.in-Ok-number.z f) (subst (IsAsked k.in-Bin.op _) k.in-Both.is k.asked.ensures) in
     let is : k.apply-in-Ok-number-2.result ≡ applied k.in-Bin.op k.in-Ok-number.z k.in-Ok-number-2.y =
-        k.apply-in-Ok-number-2.ensures ∙ ap (λ z. applied k.in-Bin.op z (to_z w64 (of_z w64 k.in-Ok-number-2.y))) (to_z-of_z w64 k.in-Ok-number.z f) ∙ ap (λ z. applied k.in-Bin.op k.in-Ok-number.z z) (to_z-of_z w64 k.in-Ok-number-2.y g) in
+    k.apply-in-Ok-number-2.ensures ∙ ap (λ z. applied k.in-Bin.op z (to_z w64 (of_z w64 k.in-Ok-number-2.y))) (to_z-of_z w64 k.in-Ok-number.z f) ∙ ap (λ z. applied k.in-Bin.op k.in-Ok-number.z z) (to_z-of_z w64 k.in-Ok-number-2.y g) in
     at_expr q.program q.func q.frame q.objects k.apply-in-Ok-number-2.result (expr_of k.args.e.now) _ e
     (binary_number q.program q.func q.frame q.objects k.in-Bin.op (expr_of k.get-in-Bin.result.now) k.number-in-Bin.result (k.number-in-Bin.ensures q) (expr_of k.get-in-Both.result.now) k.in-Ok-number.z k.apply-in-Ok-number-2.result Both k.in-Ok-number.is asked
     (both_number q.program q.func q.frame q.objects k.in-Bin.op (expr_of k.get-in-Bin.result.now) k.number-in-Bin.result (k.number-in-Bin.ensures q) (expr_of k.get-in-Both.result.now) k.in-Ok-number.z k.in-Ok-number-2.y k.number-in-Both.result k.apply-in-Ok-number-2.result (k.number-in-Both.ensures q) k.in-Ok-number-2.is is))
@@ -68,10 +68,10 @@ returns-in-Ok-number-2 n k = λ q.
 pub returns-in-Err-number-2 : goal.returns-in-Err-number-2
 returns-in-Err-number-2 n k = λ q.
     let e : expr_of k.args.e.now ≡ s.binary k.in-Bin.op (expr_of k.get-in-Bin.result.now) (expr_of k.get-in-Both.result.now) =
-        binary_at _ k.in-Bin.op k.in-Bin.a k.in-Bin.b _ _ k.in-Bin.is k.get-in-Bin.ensures k.get-in-Both.ensures in
+    binary_at _ k.in-Bin.op k.in-Bin.a k.in-Bin.b _ _ k.in-Bin.is k.get-in-Bin.ensures k.get-in-Both.ensures in
     let f : SFits w64 k.in-Ok-number.z = search rules in
     let asked : IsAsked k.in-Bin.op k.in-Ok-number.z Both =
-        subst (λ z. IsAsked k.in-Bin.op z Both) (to_z-of_z w64 k.in-Ok-number.z f) (subst (IsAsked k.in-Bin.op _) k.in-Both.is k.asked.ensures) in
+    subst (λ z. IsAsked k.in-Bin.op z Both) (to_z-of_z w64 k.in-Ok-number.z f) (subst (IsAsked k.in-Bin.op _) k.in-Both.is k.asked.ensures) in
     at_expr q.program q.func q.frame q.objects (Err k.in-Err-number-2.t) (expr_of k.args.e.now) _ e
     (binary_number q.program q.func q.frame q.objects k.in-Bin.op (expr_of k.get-in-Bin.result.now) k.number-in-Bin.result (k.number-in-Bin.ensures q) (expr_of k.get-in-Both.result.now) k.in-Ok-number.z (Err k.in-Err-number-2.t) Both k.in-Ok-number.is asked
     (both_trap q.program q.func q.frame q.objects k.in-Bin.op (expr_of k.get-in-Bin.result.now) k.number-in-Bin.result (k.number-in-Bin.ensures q) (expr_of k.get-in-Both.result.now) k.in-Ok-number.z k.in-Err-number-2.t k.number-in-Both.result (k.number-in-Both.ensures q) k.in-Err-number-2.is))

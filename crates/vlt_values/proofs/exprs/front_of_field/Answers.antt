@@ -1,5 +1,4 @@
-use Rattle.std.proofs.Common.{sym, ap, subst, ◌∙◌, Some, None, ◌*◌}
-use Rattle.vlt_heap.specs.declared.slots.Slot.TheVariants.{Number}
+use Rattle.std.proofs.Common.{subst, Some, None}
 use Rattle.vlt_heap.specs.Shown.{Finds}
 use Rattle.vlt_values.proofs.Fronts.{field_found, field_none, field_number}
 use Rattle.vlt_values.proofs.exprs.front_of_field.Goals as goal

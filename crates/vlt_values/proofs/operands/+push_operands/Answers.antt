@@ -1,4 +1,4 @@
-use Rattle.std.proofs.Common.{sym, ap, subst, ◌∙◌, ◌≡◌, ◌∷◌, map, Err, Ok}
+use Rattle.std.proofs.Common.{sym, ap, subst, ◌≡◌, ◌∷◌, map, Err}
 use Rattle.vlt_core.specs.View.{operand_of}
 use Rattle.vlt_machine.specs.Got.{operands_got}
 use Rattle.vlt_values.specs.Pushed.{ArePushed}

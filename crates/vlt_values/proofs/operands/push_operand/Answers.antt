@@ -1,9 +1,8 @@
-use Rattle.std.proofs.Common.{sym, ap, subst, ◌∙◌, ◌≡◌, ◌+◌, ◌*◌, ◌≤◌, inr, refl, Ok, arith}
+use Rattle.std.proofs.Common.{sym, ap, subst, inr, Ok}
 use Rattle.vlt_base.specs.States.{has_state}
-use Rattle.vlt_core.specs.Core as s
 use Rattle.vlt_core.specs.View.{expr_of, operand_of}
 use Rattle.vlt_machine.specs.Got.{operand_got}
-use Rattle.vlt_values.specs.Shown.{IsPlace, IsGrown}
+use Rattle.vlt_values.specs.Shown.{IsPlace}
 use Rattle.vlt_values.specs.Pushed.{IsPushed}
 use Rattle.vlt_values.proofs.Fronts.{referred}
 use Rattle.vlt_values.proofs.Writing.{var_copied}

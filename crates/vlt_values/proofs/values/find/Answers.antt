@@ -1,4 +1,4 @@
-use Rattle.std.proofs.Common.{subst, None, Some}
+use Rattle.std.proofs.Common.{subst}
 use Rattle.vlt_heap.specs.Shown.{Finds}
 use Rattle.vlt_values.proofs.Copies.{found_slot, none_found}
 use Rattle.vlt_values.proofs.values.find.Goals as goal

@@ -1,4 +1,4 @@
-use Rattle.std.proofs.Common.{rules, refl, sym, ap, subst, ◌∙◌, ◌≡◌, Ok, Err, pos, SFits, w64, to_z, of_z}
+use Rattle.std.proofs.Common.{rules, refl, ap, subst, ◌∙◌, ◌≡◌, Ok, Err, pos, SFits, w64, to_z, of_z}
 use Rattle.std.proofs.lemmas.Int.{to_z-of_z}
 use Rattle.vlt_ops.specs.Operator.{applied}
 use Rattle.vlt_core.specs.Core as s
@@ -7,11 +7,10 @@ use Rattle.vlt_meaning.specs.World.{no_value}
 use Rattle.vlt_meaning.specs.Found.{or_fault}
 use Rattle.vlt_meaning.specs.Values.{is_number, value_of}
 use Rattle.vlt_values.specs.declared.exprs.Sides.TheVariants.{Left, Right, Both}
-use Rattle.vlt_values.specs.Shown.{Seen, IsWritten, IsNumberOf}
 use Rattle.vlt_values.specs.Asked.{IsAsked, of_both}
-use Rattle.vlt_values.proofs.Forms.{var_at, field_at, unary_at, binary_at}
+use Rattle.vlt_values.proofs.Forms.{var_at, unary_at, binary_at}
 use Rattle.vlt_values.proofs.Numbers.{unary_number, both_number}
-use Rattle.vlt_values.proofs.Writing.{at_form, var_copied, copied_written, numeric_unary, numeric_both, trapped_unary, trapped_both, trapped_binary, written_binary}
+use Rattle.vlt_values.proofs.Writing.{at_form, var_copied, copied_written, numeric_unary, numeric_both, trapped_both, written_binary}
 use Rattle.vlt_values.proofs.writes.+write.Goals as goal
 
 pub returns-in-Var-clause-value : goal.returns-in-Var-clause-value
@@ -45,7 +44,7 @@ returns-in-Ok-number-clause-value n k = λ q place.
     let g : SFits w64 k.in-Ok-number.y = search rules in
     let asked : IsAsked k.in-Bin.op k.in-Ok.z Both = subst (λ z. IsAsked k.in-Bin.op z Both) (to_z-of_z w64 k.in-Ok.z f) (subst (IsAsked k.in-Bin.op _) k.in-Both.is k.asked.ensures) in
     let is : k.apply.result ≡ applied k.in-Bin.op k.in-Ok.z k.in-Ok-number.y =
-        k.apply.ensures ∙ ap (λ z. applied k.in-Bin.op z (to_z w64 (of_z w64 k.in-Ok-number.y))) (to_z-of_z w64 k.in-Ok.z f) ∙ ap (λ z. applied k.in-Bin.op k.in-Ok.z z) (to_z-of_z w64 k.in-Ok-number.y g) in
+    k.apply.ensures ∙ ap (λ z. applied k.in-Bin.op z (to_z w64 (of_z w64 k.in-Ok-number.y))) (to_z-of_z w64 k.in-Ok.z f) ∙ ap (λ z. applied k.in-Bin.op k.in-Ok.z z) (to_z-of_z w64 k.in-Ok-number.y g) in
     at_form q.program q.func q.frame q.objects q.items k.write_number-in-Ok-number.new.values k.args.to k.write_number-in-Ok-number.result (expr_of k.args.e.now) _ e
     (written_binary q.program q.func q.frame q.objects k.in-Bin.op (expr_of k.get.result.now) (expr_of k.get-in-Both.result.now) k.number.result (k.number.ensures q) q.items k.write_number-in-Ok-number.new.values k.args.to k.in-Ok.z k.write_number-in-Ok-number.result Both k.in-Ok.is asked
     (k.write_number-in-Ok-number.ensures.value q.items (of_both k.in-Bin.op k.in-Ok.z (value_of q.program q.func (expr_of k.get-in-Both.result.now) q.frame q.objects)) (numeric_both k.in-Bin.op k.in-Ok.z (value_of q.program q.func (expr_of k.get-in-Both.result.now) q.frame q.objects))
