@@ -18,7 +18,7 @@ use Rattle.vlt_heap.specs.declared.slots.Slot.TheVariants.{Number}
 use Rattle.vlt_heap.specs.declared.slots.Kind.{Kind}
 use Rattle.vlt_heap.specs.declared.heap.Heap.{Heap}
 use Rattle.vlt_heap.specs.Items.{Item, Items, IsAt, live_count, is_full, new_item, with_item, with_slot, with_parent, parents_of, without, IsMadeAt, IsMade}
-use Rattle.vlt_heap.specs.Shown.{thing_of, things_of, IsKind, IsRow, IsShown, Holds, IsSound, IsSetKind, IsNew, IsThereOrGone, IsParentAt}
+use Rattle.vlt_heap.specs.Shown.{thing_of, things_of, IsKind, IsRow, IsShown, Holds, IsSound, IsSetKind, IsNew, IsThereOrGone, IsParentAt, IsRoot, IsHere, IsChild}
 use Rattle.vlt_heap.proofs.Listed.{thing_at, of_thing, gone_at, length_things, things_with, same_things, things_new, count_items, parents_same, with_cases, kept_new, keep_slot, made_with, left_at, made_without, things_without}
 
 -- ---- places
@@ -409,3 +409,33 @@ full_of_made h items holds full =
     or_true : (x : Bool) → (x || true) ≡ true
     or_true true = refl
     or_true false = refl
+
+-- ---- what a caller knows of an object that the heap shows
+
+-- an object without a parent is a root in its place
+pub root_at : (h : Heap) (items : Items) → Holds h items → (n : ℕ) (x : Item) (o : Obj) → IsAt items n x → x.place ≡ o.0 → x.parent ≡ None → IsRoot h o
+root_at h items holds n x o at place lone p at_p =
+    let s = holds.things.hold.shown n (thing_of x) (thing_at items n (Some x) at) in
+    let same : s.what ≡ p = same_Some s.what p (sym s.at ∙ ap (slice_get h.places.places.items) place ∙ at_p) in
+    by p.parent (subst (λ q. ParentIs h.places.places.items q.parent x.parent) same s.parent) x.parent refl lone
+  where
+    by : (a : Option ℕ) → ParentIs h.places.places.items a x.parent → (b : Option ℕ) → x.parent ≡ b → b ≡ None → a ≡ None
+    by None parent b is none = refl
+    by (Some q) parent b is none = absurd (subst (ParentIs h.places.places.items (Some q)) (is ∙ none) parent)
+
+-- an object that isn't out is here in its place
+pub here_at : (h : Heap) (items : Items) → Holds h items → (n : ℕ) (x : Item) (o : Obj) → IsAt items n x → x.place ≡ o.0 → x.is_out ≡ false → IsHere h o
+here_at h items holds n x o at place here k at_k =
+    let s = holds.shown n x at in
+    ap (λ q. q.is_out) (same_Some k s.what (sym at_k ∙ ap (slice_get h.kinds.items) (sym place) ∙ s.at)) ∙ s.kind.is_out ∙ here
+
+-- an object with a parent is a child in its place
+pub child_at : (h : Heap) (items : Items) → Holds h items → (n m : ℕ) (x : Item) (o : Obj) → IsAt items n x → x.place ≡ o.0 → x.parent ≡ Some m → IsChild h o
+child_at h items holds n m x o at place hung p at_p none =
+    let s = holds.things.hold.shown n (thing_of x) (thing_at items n (Some x) at) in
+    let same : s.what ≡ p = same_Some s.what p (sym s.at ∙ ap (slice_get h.places.places.items) place ∙ at_p) in
+    by x.parent (subst (λ a. ParentIs h.places.places.items a x.parent) (ap (λ q. q.parent) same ∙ none) s.parent) hung
+  where
+    by : (b : Option ℕ) → ParentIs h.places.places.items None b → b ≡ Some m → ⊥
+    by None parent is = none-some m is
+    by (Some q) parent is = parent

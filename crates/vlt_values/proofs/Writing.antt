@@ -263,3 +263,8 @@ trapped_unary p f frame objects op e q t items values to second is = by (trap_is
 pub at_form : (p : Program) (f : Func) (frame : Frame) (objects : List Thing) (items : Items) (values : Values) (to : ℕ) (r : Result (Unit {0}) TrapKind) (x y : Expr) → x ≡ y → IsWritten items values to r (value_of p f y frame objects)
     → IsWritten items values to r (value_of p f x frame objects)
 at_form p f frame objects items values to r x y e h = subst (λ z. IsWritten items values to r (value_of p f z frame objects)) (sym e) h
+
+-- ---- a variable that gets a value
+
+pub var_fits : (values : Values) (v : ℕ) → v < values.vars → values.base + values.vars * values.width ≤ length values.slots.items → var_at values v + values.width ≤ length values.slots.items
+var_fits values v l table = let k = row_fits v values.vars values.width values.width l (omega arith) in omega (arith, k, table)

@@ -1,10 +1,11 @@
 //! The values of all frames in one table.
 
-ghost use Rattle.std.specs.Prelude.{◌≡◌, ◌≤◌, ◌<◌, ◌+◌, ◌*◌, ◌++◌, ◌∷◌, [], pos, drop, length, Some, slice_get, slice_set, vec_capacity};
+ghost use Rattle.std.specs.Prelude.{◌≡◌, ◌≤◌, ◌<◌, ◌+◌, ◌*◌, ◌++◌, ◌∷◌, [], pos, drop, length, Some, IfOk, slice_get, slice_set, vec_capacity};
 ghost use Rattle.vlt_heap.specs.Shown.{IsSound};
 ghost use Rattle.vlt_values.specs.Filled.{IsFilled, IsCellSlot};
 
-use vlt_base::VarId;
+use std::alloc::Global;
+use vlt_base::{Memory, VarId};
 use vlt_heap::{Heap, Obj, Slot};
 
 /// The slots of all frames, of which the running one is the last: as many for each variable as the widest value takes, then one
@@ -72,6 +73,31 @@ fn find(heap: &Heap, object: Obj, number: u64, k: u64) -> Slot
 
 impl Values {
     ghost use Rattle.vlt_values.specs.Shown.{IsTable, var_at, AreApart, IsKept, IsGrown, IsVarSlot};
+
+    /// No frame, and room for so many slots, where each value takes `width`.
+    pub fn open(alloc: Global, room: usize, width: u32) -> Result<Values, Memory>
+        ensures empty { IfOk result (λ v. length v.slots.items ≡ 0) }
+        ensures room { IfOk result (λ v. vec_capacity v.slots ≡ room) }
+        ensures width { IfOk result (λ v. v.width ≡ width) }
+        ensures table { IfOk result IsTable }
+    {
+        Ok(Values {
+            slots: Vec::with_capacity(alloc, room)?,
+            base: 0,
+            vars: 0,
+            width,
+        })
+    }
+
+    /// Where the slots of a variable begin.
+    pub fn place(&self, v: VarId) -> usize
+        requires table { IsTable self.now }
+        requires within { v.0 < self.now.vars }
+        ensures is { result ≡ var_at self.now v.0 }
+        ensures within { result + self.now.width ≤ length self.now.slots.items }
+    {
+        self.base + v.0 as usize * self.width as usize
+    }
 
     /// A slot of a variable.
     fn slot(&self, v: VarId, j: u32) -> Slot
