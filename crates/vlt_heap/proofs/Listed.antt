@@ -139,7 +139,7 @@ made_with items n x y at same ok made k i v a at_k at_i = keep_slot items (with_
 
 -- ---- a release
 
-length_without : (gone : ℕ → Bool) (m : ℕ) (items : Items) → length (without_from gone m items) ≡ length items
+pub length_without : (gone : ℕ → Bool) (m : ℕ) (items : Items) → length (without_from gone m items) ≡ length items
 length_without gone m [] = refl
 length_without gone m (x ∷ items) = ap suc (length_without gone (suc m) items)
 

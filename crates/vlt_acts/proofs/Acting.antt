@@ -1,0 +1,175 @@
+-- What the statements come to.
+use Rattle.std.proofs.Common.{◌≡◌, ◌≢◌, ◌⊎◌, inl, inr, ℕ, ℤ, ◌+◌, ◌*◌, ◌<◌, ◌≤◌, Bool, true, false, List, length, Option, Some, None, Result, Ok, Err, refl, sym, ap, ◌∙◌, subst, arith, slice_get}
+use Rattle.std.proofs.lemmas.Bool.{false≢true}
+use Rattle.vlt_ops.specs.declared.TrapKind.{TrapKind}
+use Rattle.vlt_core.specs.Core.{States, Expr, Func, Program, set, become, release}
+use Rattle.vlt_core.specs.Lookups.{Reference}
+use Rattle.vlt_rings.specs.Things.{IsLiveAt}
+use Rattle.vlt_heap.specs.declared.slots.Obj.{Obj}
+use Rattle.vlt_heap.specs.declared.slots.Slot.{Slot}
+use Rattle.vlt_heap.specs.declared.slots.Slot.TheVariants.{Number, Object}
+use Rattle.vlt_heap.specs.declared.heap.Heap.{Heap}
+use Rattle.vlt_heap.specs.Items.{Item, Items, IsAt, with_item, with_state, without}
+use Rattle.vlt_heap.specs.Shown.{Holds, IsLive, IsRoot as IsLone, IsHere, Changes, Releases}
+use Rattle.vlt_heap.proofs.Listed.{kept_with, kept_without}
+use Rattle.vlt_heap.proofs.Calls.{live_at, root_at, here_at}
+use Rattle.vlt_meaning.specs.World.{Value, Object as Thing, World, Frame, Outcome, Reason, trap, fault, done, fuel_end, heap_end, depth_end, input_end, answers_end, bad_answer, is_fault, wrong_state}
+use Rattle.vlt_meaning.specs.Found as sd
+use Rattle.vlt_meaning.specs.Found.{Named}
+use Rattle.vlt_meaning.specs.Objects.{is_releasable, released}
+use Rattle.vlt_meaning.specs.Objects as model
+use Rattle.vlt_meaning.specs.Values.{value_of, object_of}
+use Rattle.vlt_meaning.specs.Step.{Step, goes, jumps, leaves, ends, with_found, where_so, with_objects, with_changed, with_released, with_var}
+use Rattle.vlt_meaning.specs.Run.{does_simple, any_state}
+use Rattle.vlt_values.specs.declared.values.Values.{Values}
+use Rattle.vlt_values.specs.Parts.{HaveValue, IsObject}
+use Rattle.vlt_values.specs.Shown.{ShowsObject, ShowObjects, var_at, Seen, IsKept, IsWritten}
+use Rattle.vlt_values.proofs.Touching.{OrFault, Packed, object_of_fault, object_of_is}
+use Rattle.vlt_values.proofs.Fronts.{IsSlotAt, behind, same_object, no_object, referred}
+use Rattle.vlt_acts.specs.Acts.{setup, Shows, HasDone, Does, IsRight}
+use Rattle.vlt_acts.proofs.Keeping.{frame_kept, assigned}
+use Rattle.vlt_acts.proofs.Showing.{one_shown, release_shown}
+
+-- ---- the object of a tracked variable
+
+-- the object that a variable's slot goes to, as the heap has it
+pub record Met (h : Heap) (v : Values) (c : Seen h v) (m : Named) (o : Obj) : Type 0 where
+  pub item : Item
+  pub at : IsAt c.items m.number item
+  pub place : item.place ≡ o.0
+  pub shown : ShowsObject c.items v.width item m.object
+  pub object : slice_get c.objects m.number ≡ Some m.object
+
+pub met : (h : Heap) (v : Values) (c : Seen h v) (x : ℕ) (a : Slot) → IsSlotAt v.slots.items (var_at v x) a → (m : Named) → Packed x c.frame c.objects m → (o : Obj) (n : ℕ) → a ≡ Object o n → Met h v c m o
+met h v c x a is m p o n e =
+    let ref = referred h v c x a is m p.touched in
+    let s = same_object (sym e ∙ ref.is) in
+    let b = behind c.items v.width m.number c.objects m.object c.shown p.touched.at p.touched.live in
+    record { item = b.item; at = b.at; place = ref.made.place b.item b.at ∙ ap (λ q. q.0) (sym s.0); shown = b.shown; object = p.touched.at }
+
+-- it is live, it has no parent, and it isn't out
+pub met_live : (h : Heap) (v : Values) (c : Seen h v) (m : Named) (o : Obj) → Met h v c m o → IsLive h o
+met_live h v c m o k = subst (IsLiveAt h.places) k.place (live_at h c.items c.holds m.number k.item k.at)
+
+pub met_root : (h : Heap) (v : Values) (c : Seen h v) (x : ℕ) (m : Named) (o : Obj) → Packed x c.frame c.objects m → Met h v c m o → IsLone h o
+met_root h v c x m o p k = root_at h c.items c.holds m.number k.item o k.at k.place (k.shown.parent ∙ p.root.above)
+
+pub met_here : (h : Heap) (v : Values) (c : Seen h v) (x : ℕ) (m : Named) (o : Obj) → Packed x c.frame c.objects m → Met h v c m o → IsHere h o
+met_here h v c x m o p k = here_at h c.items c.holds m.number k.item o k.at k.place (k.shown.is_out ∙ p.root.here)
+
+-- ---- a statement that doesn't go wrong finds it
+
+pub record Found (x : ℕ) (frame : Frame) (objects : List Thing) : Type 0 where
+  pub named : Named
+  pub packed : Packed x frame objects named
+
+pub right_found : (f : Func) (states : Reference → States) (x : ℕ) (frame : Frame) (objects : List Thing) (w : World) (go : Named → Step) → w.objects ≡ objects
+    → ((o : Outcome) (u : World) → with_found (object_of f states x frame w.objects) w go ≡ ends o u → is_fault o ≡ false) → Found x frame objects
+unfolding with_found
+right_found f states x frame objects w go same right = by (object_of f states x frame w.objects) refl (object_of_fault f states x frame w.objects) right
+  where
+    by : (q : sd.Found Named) → object_of f states x frame w.objects ≡ q → OrFault q → ((o : Outcome) (u : World) → with_found q w go ≡ ends o u → is_fault o ≡ false) → Found x frame objects
+    by (Ok m) e bad r = record { named = m; packed = subst (λ os. Packed x frame os m) same (object_of_is f states x frame w.objects m e) }
+    by (Err o) e bad r = absurd (false≢true (sym (r o w refl) ∙ bad))
+
+-- what follows from what is found, or it is a fault
+pub found_does : (f : Func) (states : Reference → States) (x : ℕ) (frame : Frame) (w : World) (go : Named → Step) (items : Items) (h : Heap) (v : Values) (r : Result (Unit {0}) TrapKind)
+    → ((m : Named) → Packed x frame w.objects m → Does items h v r (go m)) → Does items h v r (with_found (object_of f states x frame w.objects) w go)
+unfolding with_found
+found_does f states x frame w go items h v r is = by (object_of f states x frame w.objects) refl (object_of_fault f states x frame w.objects)
+  where
+    by : (q : sd.Found Named) → object_of f states x frame w.objects ≡ q → OrFault q → Does items h v r (with_found q w go)
+    by (Ok m) e bad = is m (object_of_is f states x frame w.objects m e)
+    by (Err done) e bad = bad
+    by (Err (trap t)) e bad = absurd (false≢true bad)
+    by (Err fuel_end) e bad = bad
+    by (Err heap_end) e bad = bad
+    by (Err depth_end) e bad = bad
+    by (Err input_end) e bad = bad
+    by (Err answers_end) e bad = bad
+    by (Err (bad_answer n)) e bad = bad
+    by (Err (fault s n)) e bad = bad
+
+-- no object is there where the slot has a number
+pub no_number : (h : Heap) (v : Values) (c : Seen h v) (x : ℕ) (a : Slot) → IsSlotAt v.slots.items (var_at v x) a → (m : Named) → Packed x c.frame c.objects m → (z : ℤ) → a ≡ Number z → ⊥
+no_number h v c x a is m p z e = no_object (sym e ∙ (referred h v c x a is m p.touched).is)
+
+-- ---- the statements
+
+pub become_does : (old new : Heap) (v : Values) (c : Seen old v) (w : World) (n d x s : ℕ) (a : Slot) (o : Obj) (k : ℕ) → w.objects ≡ c.objects → IsSlotAt v.slots.items (var_at v x) a → a ≡ Object o k → Changes o (with_state s) old new
+    → Does c.items new v (Ok tt) (does_simple (setup c.program n d) c.func (become x s) c.frame w)
+become_does old new v c w n d x s a o k same is e changes =
+    found_does c.func any_state x c.frame w (λ m. goes c.frame (with_changed w m.number (model.with_state s))) c.items new v (Ok tt) (λ m p.
+    let q = met old v c x a is m (subst (λ os. Packed x c.frame os m) same p) o k e in
+    let kept = kept_with c.items m.number q.item (with_state s q.item) q.at refl in
+    record {
+      is = refl;
+      shows = record {
+        items = with_item m.number (with_state s q.item) c.items;
+        holds = changes c.items m.number q.item c.holds q.at q.place;
+        objects_shown = one_shown c.items v.width m.number w.objects q.item (with_state s q.item) m.object (model.with_state s) kept (subst (ShowObjects c.items v.width) (sym same) c.shown) q.at p.touched.at
+            (record { live = q.shown.live; type = q.shown.type; state = refl; parent = q.shown.parent; is_out = q.shown.is_out; cells = q.shown.cells });
+        frame_shown = frame_kept c.items _ v c.frame kept c.fits;
+        kept = kept;
+      };
+    })
+
+pub number_becomes : (h : Heap) (v : Values) (c : Seen h v) (w : World) (n d x s : ℕ) (a : Slot) (z : ℤ) → w.objects ≡ c.objects → IsSlotAt v.slots.items (var_at v x) a → a ≡ Number z
+    → Does c.items h v (Ok tt) (does_simple (setup c.program n d) c.func (become x s) c.frame w)
+number_becomes h v c w n d x s a z same is e =
+    found_does c.func any_state x c.frame w (λ m. goes c.frame (with_changed w m.number (model.with_state s))) c.items h v (Ok tt) (λ m p. absurd (no_number h v c x a is m (subst (λ os. Packed x c.frame os m) same p) z e))
+
+pub release_does : (old new : Heap) (v : Values) (c : Seen old v) (w : World) (n d x : ℕ) (a : Slot) (o : Obj) (k : ℕ) → w.objects ≡ c.objects → IsSlotAt v.slots.items (var_at v x) a → a ≡ Object o k → Releases o old new
+    → Does c.items new v (Ok tt) (does_simple (setup c.program n d) c.func (release x) c.frame w)
+unfolding with_released where_so
+release_does old new v c w n d x a o k same is e releases =
+    found_does c.func any_state x c.frame w (λ m. with_released c.program m.number w (goes c.frame)) c.items new v (Ok tt) (λ m p.
+    let q = met old v c x a is m (subst (λ os. Packed x c.frame os m) same p) o k e in
+    let kept = kept_without c.items m.number in
+    by m (is_releasable c.program w.objects m.number) (record {
+      is = refl;
+      shows = record {
+        items = without m.number c.items;
+        holds = releases c.items m.number q.item c.holds q.at q.place;
+        objects_shown = release_shown c.items v.width m.number w.objects (subst (ShowObjects c.items v.width) (sym same) c.shown);
+        frame_shown = frame_kept c.items _ v c.frame kept c.fits;
+        kept = kept;
+      };
+    }))
+  where
+    by : (m : Named) (t : Bool) → HasDone c.items new v (Ok tt) c.frame (with_objects w (released m.number w.objects))
+        → Does c.items new v (Ok tt) (where_so t wrong_state (Some m.number) w (λ w. goes c.frame (with_objects w (released m.number w.objects))))
+    by m true has = has
+    by m false has = refl
+
+pub number_releases : (h : Heap) (v : Values) (c : Seen h v) (w : World) (n d x : ℕ) (a : Slot) (z : ℤ) → w.objects ≡ c.objects → IsSlotAt v.slots.items (var_at v x) a → a ≡ Number z
+    → Does c.items h v (Ok tt) (does_simple (setup c.program n d) c.func (release x) c.frame w)
+number_releases h v c w n d x a z same is e =
+    found_does c.func any_state x c.frame w (λ m. with_released c.program m.number w (goes c.frame)) c.items h v (Ok tt) (λ m p. absurd (no_number h v c x a is m (subst (λ os. Packed x c.frame os m) same p) z e))
+
+pub set_does : (h : Heap) (old new : Values) (c : Seen h old) (w : World) (n d x to : ℕ) (e : Expr) (r : Result (Unit {0}) TrapKind) → w.objects ≡ c.objects → x < old.vars → to ≡ var_at old x → IsKept to old new
+    → IsWritten c.items new to r (value_of c.program c.func e c.frame c.objects) → Does c.items h new r (does_simple (setup c.program n d) c.func (set x e) c.frame w)
+unfolding with_found
+set_does h old new c w n d x to e r same within is kept written =
+    by (value_of c.program c.func e c.frame w.objects) (subst (λ os. IsWritten c.items new to r (value_of c.program c.func e c.frame os)) (sym same) written)
+  where
+    by : (q : sd.Found Value) → IsWritten c.items new to r q → Does c.items h new r (with_found q w (λ a. goes (with_var x (Some a) c.frame) w))
+    by (Ok a) k = record {
+      is = k.is;
+      shows = record {
+        items = c.items;
+        holds = c.holds;
+        objects_shown = subst (ShowObjects c.items new.width) (sym same) (subst (λ z. ShowObjects c.items z c.objects) (sym kept.width) c.shown);
+        frame_shown = assigned c.items old new c.frame x a within (subst (λ z. IsKept z old new) is kept) (subst (λ z. HaveValue c.items new.slots.items z new.width a) is k.value) c.fits;
+        kept = λ b m made. made;
+      };
+    }
+    by (Err done) k = k
+    by (Err (trap t)) k = k
+    by (Err fuel_end) k = k
+    by (Err heap_end) k = k
+    by (Err depth_end) k = k
+    by (Err input_end) k = k
+    by (Err answers_end) k = k
+    by (Err (bad_answer m)) k = k
+    by (Err (fault s m)) k = k

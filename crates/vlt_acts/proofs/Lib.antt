@@ -1,0 +1,3 @@
+pub mod Keeping
+pub mod Showing
+pub mod Acting

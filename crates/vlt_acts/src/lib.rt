@@ -1,0 +1,10 @@
+//! Statements without blocks, over the slots of the running frame and the heap; the tables behind them, or a trap, out.
+//! Read `vlt_meaning/specs/Run.antt` (does_simple) first, then `specs/Acts.antt`: what a statement comes to in the tables.
+//! Rests on it: `vlt_interp::Machine::go`.
+#![tactic(auto)]
+
+mod objects;
+mod vars;
+
+pub use objects::{become_state, release};
+pub use vars::set;

@@ -1,0 +1,45 @@
+//! Objects that change their state, end, or are adopted.
+
+ghost use Rattle.std.specs.Prelude.{◌≡◌, ◌≤◌, ◌<◌, ℕ, Ok};
+ghost use Rattle.vlt_core.specs.Core.{become as a_become, release as a_release, adopt as an_adopt};
+ghost use Rattle.vlt_heap.specs.Shown.{IsSound, IsSameSize};
+ghost use Rattle.vlt_meaning.specs.World.{World};
+ghost use Rattle.vlt_meaning.specs.Run.{does_simple};
+ghost use Rattle.vlt_values.specs.Shown.{Seen, IsTable};
+ghost use Rattle.vlt_acts.specs.Acts.{setup, Does, IsRight, IsSameFrame};
+
+use vlt_base::VarId;
+use vlt_heap::{Heap, Slot};
+use vlt_values::Values;
+
+/// `become x@s;`
+pub fn become_state(values: &Values, heap: &mut Heap, x: VarId, state: u8)
+    requires sound { IsSound heap.old }
+    requires table { IsTable values.now }
+    requires right { IsRight heap.old values.now (a_become x.0 state) }
+    ensures sound { IsSound heap.new }
+    ensures size { IsSameSize heap.old heap.new }
+    ensures does { (c : Seen heap.old values.now) (w : World) (h d : ℕ) → w.objects ≡ c.objects →
+        Does c.items heap.new values.now (Ok tt) (does_simple (setup c.program h d) c.func (a_become x.0 state) c.frame w) }
+{
+    match values.front(x) {
+        Slot::Object(o, _) => heap.become_state(o, state),
+        Slot::Number(_) => {}
+    }
+}
+
+/// `release x;` of a tracked variable
+pub fn release(values: &Values, heap: &mut Heap, x: VarId)
+    requires sound { IsSound heap.old }
+    requires table { IsTable values.now }
+    requires right { IsRight heap.old values.now (a_release x.0) }
+    ensures sound { IsSound heap.new }
+    ensures size { IsSameSize heap.old heap.new }
+    ensures does { (c : Seen heap.old values.now) (w : World) (h d : ℕ) → w.objects ≡ c.objects →
+        Does c.items heap.new values.now (Ok tt) (does_simple (setup c.program h d) c.func (a_release x.0) c.frame w) }
+{
+    match values.front(x) {
+        Slot::Object(o, _) => heap.release(o),
+        Slot::Number(_) => {}
+    }
+}

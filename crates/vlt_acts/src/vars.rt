@@ -1,0 +1,30 @@
+//! Variables that get values.
+
+ghost use Rattle.std.specs.Prelude.{◌≡◌, ◌≤◌, ◌<◌, ℕ};
+ghost use Rattle.vlt_core.specs.View.{expr_of};
+ghost use Rattle.vlt_core.specs.Core.{set as a_set};
+ghost use Rattle.vlt_heap.specs.Shown.{IsSound};
+ghost use Rattle.vlt_meaning.specs.World.{World};
+ghost use Rattle.vlt_meaning.specs.Run.{does_simple};
+ghost use Rattle.vlt_values.specs.Shown.{Seen, IsTable};
+ghost use Rattle.vlt_acts.specs.Acts.{setup, Does, IsSameFrame};
+
+use vlt_base::VarId;
+use vlt_core::Expr;
+use vlt_heap::Heap;
+use vlt_ops::TrapKind;
+use vlt_values::{Values, write};
+
+/// `v = e;`
+pub fn set(values: &mut Values, heap: &Heap, v: VarId, e: &Expr) -> Result<(), TrapKind>
+    requires sound { IsSound heap.now }
+    requires table { IsTable values.old }
+    requires wide { 1 ≤ values.old.width }
+    requires within { v.0 < values.old.vars }
+    ensures same { IsSameFrame values.old values.new }
+    ensures does { (c : Seen heap.now values.old) (w : World) (h d : ℕ) → w.objects ≡ c.objects →
+        Does c.items heap.now values.new result (does_simple (setup c.program h d) c.func (a_set v.0 (expr_of e.now)) c.frame w) }
+{
+    let to = values.place(v);
+    write(values, to, e, heap)
+}
