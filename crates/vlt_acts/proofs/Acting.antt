@@ -1,22 +1,23 @@
 -- What the statements come to.
-use Rattle.std.proofs.Common.{◌≡◌, ◌≢◌, ◌⊎◌, inl, inr, ℕ, ℤ, ◌+◌, ◌*◌, ◌<◌, ◌≤◌, Bool, true, false, List, length, Option, Some, None, Result, Ok, Err, refl, sym, ap, ◌∙◌, subst, arith, slice_get}
+use Rattle.std.proofs.Common.{◌≡◌, ◌≢◌, ◌⊎◌, inl, inr, ℕ, ℤ, ◌+◌, ◌*◌, ◌<◌, ◌≤◌, ◌==◌, not, Bool, true, false, List, length, Option, Some, None, Result, Ok, Err, refl, sym, ap, ◌∙◌, subst, arith, slice_get}
 use Rattle.std.proofs.lemmas.Bool.{false≢true}
+use Rattle.std.proofs.lemmas.Bool.Decides.{nat_tests}
 use Rattle.vlt_ops.specs.declared.TrapKind.{TrapKind}
-use Rattle.vlt_core.specs.Core.{States, Expr, Func, Program, set, become, release}
-use Rattle.vlt_core.specs.Lookups.{Reference}
+use Rattle.vlt_core.specs.Core.{States, Expr, Func, Program, set, become, release, adopt}
+use Rattle.vlt_core.specs.Lookups.{Reference, release_set}
 use Rattle.vlt_rings.specs.Things.{IsLiveAt}
 use Rattle.vlt_heap.specs.declared.slots.Obj.{Obj}
 use Rattle.vlt_heap.specs.declared.slots.Slot.{Slot}
 use Rattle.vlt_heap.specs.declared.slots.Slot.TheVariants.{Number, Object}
 use Rattle.vlt_heap.specs.declared.heap.Heap.{Heap}
-use Rattle.vlt_heap.specs.Items.{Item, Items, IsAt, with_item, with_state, without}
-use Rattle.vlt_heap.specs.Shown.{Holds, IsLive, IsRoot as IsLone, IsHere, Changes, Releases}
+use Rattle.vlt_heap.specs.Items.{Item, Items, IsAt, with_item, with_state, with_parent, without}
+use Rattle.vlt_heap.specs.Shown.{Holds, IsLive, IsRoot as IsLone, IsHere, Changes, Releases, Hangs}
 use Rattle.vlt_heap.proofs.Listed.{kept_with, kept_without}
-use Rattle.vlt_heap.proofs.Calls.{live_at, root_at, here_at}
-use Rattle.vlt_meaning.specs.World.{Value, Object as Thing, World, Frame, Outcome, Reason, trap, fault, done, fuel_end, heap_end, depth_end, input_end, answers_end, bad_answer, is_fault, wrong_state}
+use Rattle.vlt_heap.proofs.Calls.{live_at, root_at, here_at, places_apart}
+use Rattle.vlt_meaning.specs.World.{Value, one, reference, adopted_by, same_object, Object as Thing, World, Frame, Outcome, Reason, trap, fault, done, fuel_end, heap_end, depth_end, input_end, answers_end, bad_answer, is_fault, wrong_state}
 use Rattle.vlt_meaning.specs.Found as sd
 use Rattle.vlt_meaning.specs.Found.{Named}
-use Rattle.vlt_meaning.specs.Objects.{is_releasable, released}
+use Rattle.vlt_meaning.specs.Objects.{is_releasable, released, changed, with_owner}
 use Rattle.vlt_meaning.specs.Objects as model
 use Rattle.vlt_meaning.specs.Values.{value_of, object_of}
 use Rattle.vlt_meaning.specs.Step.{Step, goes, jumps, leaves, ends, with_found, where_so, with_objects, with_changed, with_released, with_var}
@@ -25,7 +26,8 @@ use Rattle.vlt_values.specs.declared.values.Values.{Values}
 use Rattle.vlt_values.specs.Parts.{HaveValue, IsObject}
 use Rattle.vlt_values.specs.Shown.{ShowsObject, ShowObjects, var_at, Seen, IsKept, IsWritten}
 use Rattle.vlt_values.proofs.Touching.{OrFault, Packed, object_of_fault, object_of_is}
-use Rattle.vlt_values.proofs.Fronts.{IsSlotAt, behind, same_object, no_object, referred}
+use Rattle.vlt_values.proofs.Fronts.{IsSlotAt, behind, no_object, referred}
+use Rattle.vlt_values.proofs.Fronts as fronts
 use Rattle.vlt_acts.specs.Acts.{setup, Shows, HasDone, Does, IsRight}
 use Rattle.vlt_acts.proofs.Keeping.{frame_kept, assigned}
 use Rattle.vlt_acts.proofs.Showing.{one_shown, release_shown}
@@ -43,7 +45,7 @@ pub record Met (h : Heap) (v : Values) (c : Seen h v) (m : Named) (o : Obj) : Ty
 pub met : (h : Heap) (v : Values) (c : Seen h v) (x : ℕ) (a : Slot) → IsSlotAt v.slots.items (var_at v x) a → (m : Named) → Packed x c.frame c.objects m → (o : Obj) (n : ℕ) → a ≡ Object o n → Met h v c m o
 met h v c x a is m p o n e =
     let ref = referred h v c x a is m p.touched in
-    let s = same_object (sym e ∙ ref.is) in
+    let s = fronts.same_object (sym e ∙ ref.is) in
     let b = behind c.items v.width m.number c.objects m.object c.shown p.touched.at p.touched.live in
     record { item = b.item; at = b.at; place = ref.made.place b.item b.at ∙ ap (λ q. q.0) (sym s.0); shown = b.shown; object = p.touched.at }
 
@@ -173,3 +175,131 @@ set_does h old new c w n d x to e r same within is kept written =
     by (Err answers_end) k = k
     by (Err (bad_answer m)) k = k
     by (Err (fault s m)) k = k
+
+-- ---- adoption
+
+pub record FoundTwo (x r : ℕ) (frame : Frame) (objects : List Thing) : Type 0 where
+  pub child : Named
+  pub parent : Named
+  pub child_packed : Packed x frame objects child
+  pub parent_packed : Packed r frame objects parent
+  pub other : child.number ≢ parent.number
+
+not_same : (n m : ℕ) → not (n == m) ≡ true → n ≢ m
+not_same n m e same = by same e
+  where
+    by : n ≡ m → not (n == m) ≡ true → ⊥
+    by same e = absurd (grind (arith, nat_tests))
+
+pub right_adopt : (h : Heap) (v : Values) (y x r : ℕ) (q : IsRight h v (adopt y x r)) → FoundTwo x r q.seen.frame q.seen.objects
+unfolding with_found where_so
+right_adopt h v y x r q =
+    first (object_of q.seen.func release_states x q.seen.frame q.world.objects) refl (object_of_fault q.seen.func release_states x q.seen.frame q.world.objects) q.right
+  where
+    release_states : Reference → States
+    release_states t = release_set q.seen.program t.type
+
+    done_with : Named → Named → World → Step
+    done_with n a w = goes (with_var y (Some (one (reference n.number))) q.seen.frame) (with_changed w n.number (with_owner (adopted_by a.number)))
+
+    third : (n a : Named) → Packed x q.seen.frame q.world.objects n → Packed r q.seen.frame q.world.objects a → (t : Bool) → not (n.number == a.number) ≡ t
+        → ((o : Outcome) (u : World) → where_so t same_object (Some n.number) q.world (done_with n a) ≡ ends o u → is_fault o ≡ false) → FoundTwo x r q.seen.frame q.seen.objects
+    third n a pn pa true e right = record {
+      child = n;
+      parent = a;
+      child_packed = subst (λ os. Packed x q.seen.frame os n) q.objects pn;
+      parent_packed = subst (λ os. Packed r q.seen.frame os a) q.objects pa;
+      other = not_same n.number a.number e;
+    }
+    third n a pn pa false e right = absurd (false≢true (sym (right (fault same_object (Some n.number)) q.world refl)))
+
+    second : (n : Named) → Packed x q.seen.frame q.world.objects n → (z : sd.Found Named) → object_of q.seen.func any_state r q.seen.frame q.world.objects ≡ z → OrFault z
+        → ((o : Outcome) (u : World) → with_found z q.world (λ a. where_so (not (n.number == a.number)) same_object (Some n.number) q.world (done_with n a)) ≡ ends o u → is_fault o ≡ false) → FoundTwo x r q.seen.frame q.seen.objects
+    second n pn (Ok a) e bad right = third n a pn (object_of_is q.seen.func any_state r q.seen.frame q.world.objects a e) (not (n.number == a.number)) refl right
+    second n pn (Err o) e bad right = absurd (false≢true (sym (right o q.world refl) ∙ bad))
+
+    first : (z : sd.Found Named) → object_of q.seen.func release_states x q.seen.frame q.world.objects ≡ z → OrFault z
+        → ((o : Outcome) (u : World) → with_found z q.world (λ n. with_found (object_of q.seen.func any_state r q.seen.frame q.world.objects) q.world (λ a. where_so (not (n.number == a.number)) same_object (Some n.number) q.world (done_with n a))) ≡ ends o u
+        → is_fault o ≡ false) → FoundTwo x r q.seen.frame q.seen.objects
+    first (Ok n) e bad right = second n (object_of_is q.seen.func release_states x q.seen.frame q.world.objects n e) (object_of q.seen.func any_state r q.seen.frame q.world.objects) refl (object_of_fault q.seen.func any_state r q.seen.frame q.world.objects) right
+    first (Err o) e bad right = absurd (false≢true (sym (right o q.world refl) ∙ bad))
+
+-- different objects are in different places
+pub met_apart : (h : Heap) (v : Values) (c : Seen h v) (m k : Named) (o q : Obj) → Met h v c m o → Met h v c k q → m.number ≢ k.number → o.0 ≢ q.0
+met_apart h v c m k o q a b other same = places_apart h c.items c.holds k.number m.number b.item a.item b.at a.at other (a.place ∙ same ∙ sym b.place)
+
+pub adopt_does : (old new : Heap) (v u : Values) (c : Seen old v) (w : World) (n d y x r to : ℕ) (a b : Slot) (o q : Obj) (k l : ℕ) → w.objects ≡ c.objects → IsSlotAt v.slots.items (var_at v x) a → a ≡ Object o k → IsSlotAt v.slots.items (var_at v r) b → b ≡ Object q l
+    → y < v.vars → 1 ≤ v.width → to ≡ var_at v y → IsKept to v u → slice_get u.slots.items to ≡ Some (Object o k) → Hangs o q old new → Does c.items new u (Ok tt) (does_simple (setup c.program n d) c.func (adopt y x r) c.frame w)
+unfolding where_so
+adopt_does old new v u c w n d y x r to a b o q k l same is e is_b e_b within wide is_to kept at hangs =
+    found_does c.func release_states x c.frame w (λ m. with_found (object_of c.func any_state r c.frame w.objects) w (λ p. where_so (not (m.number == p.number)) same_object (Some m.number) w (done_with m p))) c.items new u (Ok tt) (λ m pm.
+    found_does c.func any_state r c.frame w (λ p. where_so (not (m.number == p.number)) same_object (Some m.number) w (done_with m p)) c.items new u (Ok tt) (λ p pp.
+    by m p (not (m.number == p.number)) (adopted m p pm pp)))
+  where
+    release_states : Reference → States
+    release_states t = release_set c.program t.type
+
+    done_with : Named → Named → World → Step
+    done_with m p w = goes (with_var y (Some (one (reference m.number))) c.frame) (with_changed w m.number (with_owner (adopted_by p.number)))
+
+    by : (m p : Named) (t : Bool) → HasDone c.items new u (Ok tt) (with_var y (Some (one (reference m.number))) c.frame) (with_changed w m.number (with_owner (adopted_by p.number)))
+        → Does c.items new u (Ok tt) (where_so t same_object (Some m.number) w (done_with m p))
+    by m p true has = has
+    by m p false has = refl
+
+    adopted : (m p : Named) → Packed x c.frame w.objects m → Packed r c.frame w.objects p
+        → HasDone c.items new u (Ok tt) (with_var y (Some (one (reference m.number))) c.frame) (with_changed w m.number (with_owner (adopted_by p.number)))
+    adopted m p pm pp =
+        let pm2 = subst (λ os. Packed x c.frame os m) same pm in
+        let s = met old v c x a is m pm2 o k e in
+        let t = met old v c r b is_b p (subst (λ os. Packed r c.frame os p) same pp) q l e_b in
+        let ref = referred old v c x a is m pm2.touched in
+        let number : Object o k ≡ Object ref.object m.number = sym e ∙ ref.is in
+        let items : Items = with_item m.number (with_parent (Some p.number) s.item) c.items in
+        let keep = kept_with c.items m.number s.item (with_parent (Some p.number) s.item) s.at refl in
+        record {
+          is = refl;
+          shows = record {
+            items = items;
+            holds = hangs c.items m.number s.item c.holds s.at s.place p.number t.item t.at t.place;
+            objects_shown = subst (λ z. ShowObjects items z (changed m.number (with_owner (adopted_by p.number)) w.objects)) (sym kept.width)
+                (one_shown c.items v.width m.number w.objects s.item (with_parent (Some p.number) s.item) m.object (with_owner (adopted_by p.number)) keep (subst (ShowObjects c.items v.width) (sym same) c.shown) s.at pm.touched.at
+                (record { live = refl; type = s.shown.type; state = s.shown.state; parent = refl; is_out = s.shown.is_out ∙ pm.root.here; cells = s.shown.cells }));
+            frame_shown = assigned items v u c.frame y (one (reference m.number)) within (subst (λ z. IsKept z v u) is_to kept)
+                (record { narrow = subst (λ z. 1 ≤ z) (sym kept.width) wide; parts = (record { slot = Object o k; at = ap (slice_get u.slots.items) (sym is_to) ∙ at; part = record { object = ref.object; is = number; made = keep ref.object.0 m.number ref.made } }, tt) })
+                (frame_kept c.items items v c.frame keep c.fits);
+            kept = keep;
+          };
+        }
+
+pub no_child : (h : Heap) (v : Values) (c : Seen h v) (w : World) (n d y x r : ℕ) (a : Slot) (z : ℤ) → w.objects ≡ c.objects → IsSlotAt v.slots.items (var_at v x) a → a ≡ Number z → Does c.items h v (Ok tt) (does_simple (setup c.program n d) c.func (adopt y x r) c.frame w)
+no_child h v c w n d y x r a z same is e =
+    found_does c.func (λ t. release_set c.program t.type) x c.frame w _ c.items h v (Ok tt) (λ m p. absurd (no_number h v c x a is m (subst (λ os. Packed x c.frame os m) same p) z e))
+
+pub no_parent : (h : Heap) (v : Values) (c : Seen h v) (w : World) (n d y x r : ℕ) (a : Slot) (z : ℤ) → w.objects ≡ c.objects → IsSlotAt v.slots.items (var_at v r) a → a ≡ Number z → Does c.items h v (Ok tt) (does_simple (setup c.program n d) c.func (adopt y x r) c.frame w)
+no_parent h v c w n d y x r a z same is e =
+    found_does c.func (λ t. release_set c.program t.type) x c.frame w _ c.items h v (Ok tt) (λ m p.
+    found_does c.func any_state r c.frame w _ c.items h v (Ok tt) (λ k pk. absurd (no_number h v c r a is k (subst (λ os. Packed r c.frame os k) same pk) z e)))
+
+-- what `own` asks of the child and of the parent
+pub record Needs (h : Heap) (o q : Obj) : Type 0 where
+  pub live : IsLive h o
+  pub root : IsLone h o
+  pub here : IsHere h o
+  pub parent_live : IsLive h q
+  pub parent_root : IsLone h q
+  pub other : o.0 ≢ q.0
+
+pub adopt_needs : (h : Heap) (v : Values) (y x r : ℕ) (a b : Slot) (o p : Obj) (k l : ℕ) → IsRight h v (adopt y x r) → IsSlotAt v.slots.items (var_at v x) a → a ≡ Object o k → IsSlotAt v.slots.items (var_at v r) b → b ≡ Object p l → Needs h o p
+adopt_needs h v y x r a b o p k l q is e is_b e_b =
+    let f = right_adopt h v y x r q in
+    let m = met h v q.seen x a is f.child f.child_packed o k e in
+    let n = met h v q.seen r b is_b f.parent f.parent_packed p l e_b in
+    record {
+      live = met_live h v q.seen f.child o m;
+      root = met_root h v q.seen x f.child o f.child_packed m;
+      here = met_here h v q.seen x f.child o f.child_packed m;
+      parent_live = met_live h v q.seen f.parent p n;
+      parent_root = met_root h v q.seen r f.parent p f.parent_packed n;
+      other = met_apart h v q.seen f.child f.parent o p m n f.other;
+    }

@@ -6,5 +6,5 @@
 mod objects;
 mod vars;
 
-pub use objects::{become_state, release};
+pub use objects::{adopt, become_state, release};
 pub use vars::set;

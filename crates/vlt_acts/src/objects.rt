@@ -43,3 +43,29 @@ pub fn release(values: &Values, heap: &mut Heap, x: VarId)
         Slot::Number(_) => {}
     }
 }
+
+/// `G:T y = adopt x into r;`
+pub fn adopt(values: &mut Values, heap: &mut Heap, y: VarId, x: VarId, r: VarId)
+    requires sound { IsSound heap.old }
+    requires table { IsTable values.old }
+    requires wide { 1 ≤ values.old.width }
+    requires within { y.0 < values.old.vars }
+    requires right { IsRight heap.old values.old (an_adopt y.0 x.0 r.0) }
+    ensures sound { IsSound heap.new }
+    ensures size { IsSameSize heap.old heap.new }
+    ensures same { IsSameFrame values.old values.new }
+    ensures does { (c : Seen heap.old values.old) (w : World) (h d : ℕ) → w.objects ≡ c.objects →
+        Does c.items heap.new values.new (Ok tt) (does_simple (setup c.program h d) c.func (an_adopt y.0 x.0 r.0) c.frame w) }
+{
+    match values.front(x) {
+        Slot::Object(child, number) => match values.front(r) {
+            Slot::Object(parent, _) => {
+                heap.own(child, parent);
+                let to = values.place(y);
+                values.put_front(to, Slot::Object(child, number));
+            }
+            Slot::Number(_) => {}
+        },
+        Slot::Number(_) => {}
+    }
+}
