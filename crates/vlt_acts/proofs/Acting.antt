@@ -3,7 +3,7 @@ use Rattle.std.proofs.Common.{◌≡◌, ◌≢◌, ◌⊎◌, inl, inr, ℕ, �
 use Rattle.std.proofs.lemmas.Bool.{false≢true}
 use Rattle.std.proofs.lemmas.Bool.Decides.{nat_tests}
 use Rattle.vlt_ops.specs.declared.TrapKind.{TrapKind}
-use Rattle.vlt_core.specs.Core.{States, Expr, Func, Program, set, become, release, adopt}
+use Rattle.vlt_core.specs.Core.{States, Expr, Func, Program, pure, move, pack, set, become, release, adopt, own}
 use Rattle.vlt_core.specs.Lookups.{Reference, release_set}
 use Rattle.vlt_rings.specs.Things.{IsLiveAt}
 use Rattle.vlt_heap.specs.declared.slots.Obj.{Obj}
@@ -14,20 +14,22 @@ use Rattle.vlt_heap.specs.Items.{Item, Items, IsAt, with_item, with_state, with_
 use Rattle.vlt_heap.specs.Shown.{Holds, IsLive, IsRoot as IsLone, IsHere, Changes, Releases, Hangs}
 use Rattle.vlt_heap.proofs.Listed.{kept_with, kept_without}
 use Rattle.vlt_heap.proofs.Calls.{live_at, root_at, here_at, places_apart}
-use Rattle.vlt_meaning.specs.World.{Value, one, reference, adopted_by, same_object, Object as Thing, World, Frame, Outcome, Reason, trap, fault, done, fuel_end, heap_end, depth_end, input_end, answers_end, bad_answer, is_fault, wrong_state}
+use Rattle.vlt_meaning.specs.World.{Value, one, reference, owned, loose, adopted_by, not_empty, no_value, same_object, Object as Thing, World, Frame, Outcome, Reason, trap, fault, done, fuel_end, heap_end, depth_end, input_end, answers_end, bad_answer, is_fault, wrong_state}
 use Rattle.vlt_meaning.specs.Found as sd
-use Rattle.vlt_meaning.specs.Found.{Named}
+use Rattle.vlt_meaning.specs.Found.{Named, or_fault}
 use Rattle.vlt_meaning.specs.Objects.{is_releasable, released, changed, with_owner}
 use Rattle.vlt_meaning.specs.Objects as model
 use Rattle.vlt_meaning.specs.Values.{value_of, object_of}
-use Rattle.vlt_meaning.specs.Step.{Step, goes, jumps, leaves, ends, with_found, where_so, with_objects, with_changed, with_released, with_var}
+use Rattle.vlt_meaning.specs.Step.{Step, goes, jumps, leaves, ends, with_found, where_so, with_objects, with_changed, with_released, with_var, fill, is_fillable}
+use Rattle.vlt_meaning.specs.Operands.{with_operand}
 use Rattle.vlt_meaning.specs.Run.{does_simple, any_state}
 use Rattle.vlt_values.specs.declared.values.Values.{Values}
 use Rattle.vlt_values.specs.Parts.{HaveValue, IsObject}
-use Rattle.vlt_values.specs.Shown.{ShowsObject, ShowObjects, var_at, Seen, IsKept, IsWritten}
+use Rattle.vlt_values.specs.Shown.{ShowsObject, ShowObjects, ShowsFrame, var_at, Seen, IsKept, IsCopied, IsWritten}
 use Rattle.vlt_values.proofs.Touching.{OrFault, Packed, object_of_fault, object_of_is}
 use Rattle.vlt_values.proofs.Fronts.{IsSlotAt, behind, no_object, referred}
 use Rattle.vlt_values.proofs.Fronts as fronts
+use Rattle.vlt_values.proofs.Pushing.{emptied_shown, owner_shown}
 use Rattle.vlt_acts.specs.Acts.{setup, Shows, HasDone, Does, IsRight}
 use Rattle.vlt_acts.proofs.Keeping.{frame_kept, assigned}
 use Rattle.vlt_acts.proofs.Showing.{one_shown, release_shown}
@@ -303,3 +305,61 @@ adopt_needs h v y x r a b o p k l q is e is_b e_b =
       parent_root = met_root h v q.seen r f.parent p f.parent_packed n;
       other = met_apart h v q.seen f.child f.parent o p m n f.other;
     }
+
+-- ---- a variable is filled
+
+-- the value is there, or the variable wasn't empty
+pub fill_does : (items : Items) (h : Heap) (old new : Values) (frame : Frame) (w : World) (f : Func) (x to : ℕ) (a : Value) → Holds h items → x < old.vars → to ≡ var_at old x → IsKept to old new → ShowObjects items old.width w.objects → ShowsFrame items old frame
+    → HaveValue items new.slots.items to new.width a → Does items h new (Ok tt) (fill f x a frame w)
+unfolding fill where_so
+fill_does items h old new frame w f x to a holds within is kept objects shown has = by (is_fillable f x frame) (record {
+    is = refl;
+    shows = record {
+      items = items;
+      holds = holds;
+      objects_shown = subst (λ z. ShowObjects items z w.objects) (sym kept.width) objects;
+      frame_shown = assigned items old new frame x a within (subst (λ z. IsKept z old new) is kept) (subst (λ z. HaveValue items new.slots.items z new.width a) is has) shown;
+      kept = λ b m made. made;
+    };
+  })
+  where
+    by : (t : Bool) → HasDone items h new (Ok tt) (with_var x (Some a) frame) w → Does items h new (Ok tt) (where_so t not_empty None w (λ w. goes (with_var x (Some a) frame) w))
+    by true d = d
+    by false d = refl
+
+pub fill_pure : (h : Heap) (old new : Values) (c : Seen h old) (w : World) (n d x to : ℕ) (e : Expr) (r : Result (Unit {0}) TrapKind) → w.objects ≡ c.objects → x < old.vars → to ≡ var_at old x → IsKept to old new
+    → IsWritten c.items new to r (value_of c.program c.func e c.frame c.objects) → Does c.items h new r (does_simple (setup c.program n d) c.func (own x (pure e)) c.frame w)
+unfolding with_found with_operand
+fill_pure h old new c w n d x to e r same within is kept written =
+    by (value_of c.program c.func e c.frame w.objects) (subst (λ os. IsWritten c.items new to r (value_of c.program c.func e c.frame os)) (sym same) written)
+  where
+    by : (q : sd.Found Value) → IsWritten c.items new to r q → Does c.items h new r (with_found q w (λ a. fill c.func x a c.frame w))
+    by (Ok a) k = subst (λ z. Does c.items h new z (fill c.func x a c.frame w)) (sym k.is) (fill_does c.items h old new c.frame w c.func x to a c.holds within is kept (subst (ShowObjects c.items old.width) (sym same) c.shown) c.fits k.value)
+    by (Err done) k = k
+    by (Err (trap t)) k = k
+    by (Err fuel_end) k = k
+    by (Err heap_end) k = k
+    by (Err depth_end) k = k
+    by (Err input_end) k = k
+    by (Err answers_end) k = k
+    by (Err (bad_answer m)) k = k
+    by (Err (fault s m)) k = k
+
+pub fill_move : (h : Heap) (old new : Values) (c : Seen h old) (w : World) (n d x u to : ℕ) → w.objects ≡ c.objects → x < old.vars → to ≡ var_at old x → IsKept to old new → IsCopied c.items new to (or_fault no_value (c.frame.vars u))
+    → Does c.items h new (Ok tt) (does_simple (setup c.program n d) c.func (own x (move u)) c.frame w)
+unfolding with_found with_operand
+fill_move h old new c w n d x u to same within is kept copied = by (c.frame.vars u) copied
+  where
+    by : (q : Option Value) → IsCopied c.items new to (or_fault no_value q) → Does c.items h new (Ok tt) (with_found (or_fault no_value q) w (λ a. fill c.func x a (with_var u None c.frame) w))
+    by None k = refl
+    by (Some a) k = fill_does c.items h old new (with_var u None c.frame) w c.func x to a c.holds within is kept (subst (ShowObjects c.items old.width) (sym same) c.shown) (emptied_shown c.items old c.frame u c.fits) k
+
+pub fill_pack : (h : Heap) (old new : Values) (c : Seen h old) (w : World) (n d x y to : ℕ) (states : States) (a : Slot) → w.objects ≡ c.objects → x < old.vars → 1 ≤ old.width → to ≡ var_at old x → IsKept to old new → IsSlotAt old.slots.items (var_at old y) a → slice_get new.slots.items to ≡ Some a
+    → Does c.items h new (Ok tt) (does_simple (setup c.program n d) c.func (own x (pack y states)) c.frame w)
+unfolding with_operand
+fill_pack h old new c w n d x y to states a same within wide is kept front at =
+    found_does c.func (λ r. states) y c.frame w (λ m. fill c.func x (one (owned m.number)) c.frame (with_changed w m.number (with_owner loose))) c.items h new (Ok tt) (λ m p.
+    let ref = referred h old c y a front m (subst (λ os. Packed y c.frame os m) same p).touched in
+    fill_does c.items h old new c.frame (with_changed w m.number (with_owner loose)) c.func x to (one (owned m.number)) c.holds within is kept
+    (owner_shown c.items old.width m.number w.objects m.object loose (subst (ShowObjects c.items old.width) (sym same) c.shown) p.touched.at (sym p.root.live) (sym p.root.above) (sym p.root.here)) c.fits
+    (record { narrow = subst (λ z. 1 ≤ z) (sym kept.width) wide; parts = (record { slot = a; at = at; part = ref }, tt) }))

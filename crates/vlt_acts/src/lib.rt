@@ -7,4 +7,4 @@ mod objects;
 mod vars;
 
 pub use objects::{adopt, become_state, release};
-pub use vars::set;
+pub use vars::{fill, set};
