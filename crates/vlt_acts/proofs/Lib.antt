@@ -1,3 +1,4 @@
 pub mod Keeping
 pub mod Showing
 pub mod Acting
+pub mod Naming

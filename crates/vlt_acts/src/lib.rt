@@ -3,8 +3,10 @@
 //! Rests on it: `vlt_interp::Machine::go`.
 #![tactic(auto)]
 
+mod keys;
 mod objects;
 mod vars;
 
+pub use keys::unpack;
 pub use objects::{adopt, become_state, release};
 pub use vars::{fill, set};

@@ -27,7 +27,7 @@ front_part items slots k (of_case c ps keys) parts = parts.0
 abbrev pub IsSlotAt : List Slot → ℕ → Slot → Type 0
 IsSlotAt slots k a = (b : Slot) → slice_get slots k ≡ Some b → a ≡ b
 
-has_part : (items : Items) (slots : List Slot) (k : ℕ) (p : Part) (a : Slot) → IsSlotAt slots k a → HasPartAt items slots k p → HasPart items p a
+pub has_part : (items : Items) (slots : List Slot) (k : ℕ) (p : Part) (a : Slot) → IsSlotAt slots k a → HasPartAt items slots k p → HasPart items p a
 has_part items slots k p a is part = subst (HasPart items p) (sym (is part.slot part.at)) part.part
 
 pub var_front : (h : Heap) (v : Values) (c : Seen h v) (x : ℕ) (a : Slot) → IsSlotAt v.slots.items (var_at v x) a → IsFront c.items a (or_fault no_value (c.frame.vars x))

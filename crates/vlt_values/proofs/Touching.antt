@@ -16,7 +16,7 @@ abbrev pub OrFault : {A : Type 0} → Found A → Type 0
 OrFault (Ok a) = Unit {0}
 OrFault (Err o) = is_fault o ≡ true
 
-then_fault : {A B : Type 0} (x : Found A) (go : A → Found B) → OrFault x → ((a : A) → OrFault (go a)) → OrFault (x >>= go)
+pub then_fault : {A B : Type 0} (x : Found A) (go : A → Found B) → OrFault x → ((a : A) → OrFault (go a)) → OrFault (x >>= go)
 then_fault (Ok a) go first rest = rest a
 then_fault (Err o) go first rest = first
 
@@ -24,11 +24,11 @@ pub some_fault : {A : Type 0} (r : Reason) (x : Option A) → OrFault (or_fault 
 some_fault r (Some a) = tt
 some_fault r None = refl
 
-so_fault : (test : Bool) (r : Reason) (n : Named) → OrFault (if_so test r n)
+pub so_fault : (test : Bool) (r : Reason) (n : Named) → OrFault (if_so test r n)
 so_fault true r n = tt
 so_fault false r n = refl
 
-object_fault : (objects : List Object) (n : ℕ) → OrFault (object_at objects n)
+pub object_fault : (objects : List Object) (n : ℕ) → OrFault (object_at objects n)
 object_fault objects n = by (slice_get objects n)
   where
     by : (x : Option Object) → OrFault (named_in n x)
@@ -82,7 +82,7 @@ pub record Touched (x : ℕ) (frame : Frame) (objects : List Object) (m : Named)
   pub at : slice_get objects m.number ≡ Some m.object
   pub live : is_gone m.object.owner ≡ false
 
-so_is : (test : Bool) (r : Reason) (n m : Named) → if_so test r n ≡ Ok m → (test ≡ true) × (n ≡ m)
+pub so_is : (test : Bool) (r : Reason) (n m : Named) → if_so test r n ≡ Ok m → (test ≡ true) × (n ≡ m)
 so_is true r n m e = (refl, same e)
   where
     named : Found Named → Named
@@ -93,7 +93,7 @@ so_is true r n m e = (refl, same e)
     same e = ap named e
 so_is false r n m e = absurd (err-ok e)
 
-object_is : (objects : List Object) (n : ℕ) (m : Named) → object_at objects n ≡ Ok m → (m.number ≡ n) × (slice_get objects n ≡ Some m.object)
+pub object_is : (objects : List Object) (n : ℕ) (m : Named) → object_at objects n ≡ Ok m → (m.number ≡ n) × (slice_get objects n ≡ Some m.object)
 object_is objects n m e = by (slice_get objects n) e
   where
     named : Found Named → Named

@@ -1,5 +1,5 @@
 -- The frame and the objects that the tables show.
-use Rattle.std.specs.Prelude.{◌≡◌, ◌⊎◌, ◌≤◌, ◌<◌, ◌+◌, ◌*◌, ℕ, ℤ, true, false, List, length, Option, None, Some, Result, Ok, Err, slice_get, vec_capacity}
+use Rattle.std.specs.Prelude.{◌≡◌, ◌≢◌, ◌⊎◌, ◌≤◌, ◌<◌, ◌+◌, ◌*◌, ℕ, ℤ, true, false, List, length, Option, None, Some, Result, Ok, Err, slice_get, vec_capacity}
 use Rattle.vlt_ops.specs.declared.TrapKind.{TrapKind}
 use Rattle.vlt_core.specs.Core.{Func, Program}
 use Rattle.vlt_heap.specs.declared.slots.Slot.{Slot}
@@ -78,6 +78,16 @@ AreApart a b w = (a ≡ b) ⊎ ((a + w ≤ b) ⊎ (b + w ≤ a))
 -- all but the slots of one value are as they were
 pub record IsKept (to : ℕ) (old new : Values) : Type 0 where
   pub outside : (k : ℕ) → (k < to) ⊎ (to + old.width ≤ k) → slice_get new.slots.items k ≡ slice_get old.slots.items k
+  pub long : length new.slots.items ≡ length old.slots.items
+  pub room : vec_capacity new.slots ≡ vec_capacity old.slots
+  pub base : new.base ≡ old.base
+  pub vars : new.vars ≡ old.vars
+  pub width : new.width ≡ old.width
+
+-- the slot of a key is set, and nothing else
+pub record IsKeySet (k : ℕ) (a : Slot) (old new : Values) : Type 0 where
+  pub here : slice_get new.slots.items (key_at old k) ≡ Some a
+  pub others : (j : ℕ) → j ≢ key_at old k → slice_get new.slots.items j ≡ slice_get old.slots.items j
   pub long : length new.slots.items ≡ length old.slots.items
   pub room : vec_capacity new.slots ≡ vec_capacity old.slots
   pub base : new.base ≡ old.base

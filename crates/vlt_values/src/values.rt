@@ -5,7 +5,7 @@ ghost use Rattle.vlt_heap.specs.Shown.{IsSound};
 ghost use Rattle.vlt_values.specs.Filled.{IsFilled, IsCellSlot};
 
 use std::alloc::Global;
-use vlt_base::{Memory, VarId};
+use vlt_base::{KeyId, Memory, VarId};
 use vlt_heap::{Heap, Obj, Slot};
 
 /// The slots of all frames, of which the running one is the last: as many for each variable as the widest value takes, then one
@@ -72,7 +72,7 @@ fn find(heap: &Heap, object: Obj, number: u64, k: u64) -> Slot
 }
 
 impl Values {
-    ghost use Rattle.vlt_values.specs.Shown.{IsTable, var_at, AreApart, IsKept, IsGrown, IsVarSlot};
+    ghost use Rattle.vlt_values.specs.Shown.{IsTable, var_at, key_at, AreApart, IsKept, IsKeySet, IsGrown, IsVarSlot};
 
     /// No frame, and room for so many slots, where each value takes `width`.
     pub fn open(alloc: Global, room: usize, width: u32) -> Result<Values, Memory>
@@ -141,6 +141,15 @@ impl Values {
             let _ = done;
             push(&mut self.slots);
         }
+    }
+
+    /// Sets the slot of a key.
+    pub fn put_key(&mut self, k: KeyId, a: Slot)
+        requires { key_at self.old k.0 < length self.old.slots.items }
+        ensures { IsKeySet k.0 a self.old self.new }
+    {
+        let at = self.base + self.vars as usize * self.width as usize + k.0 as usize;
+        put(&mut self.slots, at, a);
     }
 
     /// Sets the first slot from a position on.
