@@ -3,10 +3,12 @@
 //! Rests on it: `vlt_interp::Machine::go`.
 #![tactic(auto)]
 
+mod focus;
 mod keys;
 mod objects;
 mod vars;
 
+pub use focus::{Focus, begin_focus};
 pub use keys::unpack;
 pub use objects::{adopt, become_state, release};
 pub use vars::{fill, set};

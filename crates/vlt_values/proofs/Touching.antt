@@ -147,7 +147,7 @@ held_is k frame objects m e =
       root = held_root frame.depth k b.0.object.owner s.0;
     })
 
-reference_is : (x : Option Value) (n : ℕ) → reference_in x ≡ Ok n → x ≡ Some (one (reference n))
+pub reference_is : (x : Option Value) (n : ℕ) → reference_in x ≡ Ok n → x ≡ Some (one (reference n))
 reference_is (Some (one (reference m))) n e = ap (λ z. Some (one (reference z))) (ap found e)
   where
     found : Found ℕ → ℕ

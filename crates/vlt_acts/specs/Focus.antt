@@ -1,0 +1,51 @@
+-- What a focus comes to in the tables.
+use Rattle.std.specs.Prelude.{◌≡◌, ℕ, Option, Some, None, Ok, Err, true, false}
+use Rattle.vlt_core.specs.Lookups.{Reference, reference_of, guarded_of}
+use Rattle.vlt_meaning.specs.World.{reference, one, held, lent, World, Frame}
+use Rattle.vlt_meaning.specs.Found.{Named}
+use Rattle.vlt_meaning.specs.Objects.{with_owner}
+use Rattle.vlt_meaning.specs.Values.{held_object, guarded_object}
+use Rattle.vlt_meaning.specs.Step.{with_changed, with_var, with_key}
+use Rattle.vlt_heap.specs.declared.slots.Obj.{Obj}
+use Rattle.vlt_heap.specs.declared.heap.Heap.{Heap}
+use Rattle.vlt_heap.specs.Items.{Items, IsMadeAt}
+use Rattle.vlt_values.specs.declared.values.Values.{Values}
+use Rattle.vlt_values.specs.Shown.{Seen}
+use Rattle.vlt_acts.specs.declared.focus.Focus.{Focus}
+use Rattle.vlt_acts.specs.Acts.{Shows}
+
+-- what a focus on y as z finds
+pub record FindsFocus (h : Heap) (v : Values) (c : Seen h v) (w : World) (y z : ℕ) : Type 0 where
+  pub guard : Reference
+  pub is_guard : guarded_of c.func y ≡ Some guard
+  pub key : Reference
+  pub is_key : reference_of c.func z ≡ Some key
+  pub adopter : Named
+  pub is_adopter : held_object guard.key c.frame w.objects ≡ Ok adopter
+  pub object : Named
+  pub is_object : guarded_object guard y c.frame w.objects ≡ Ok object
+
+-- it finds all, for some frame and objects that the tables show
+pub record CanFocus (h : Heap) (v : Values) (y z : ℕ) : Type 0 where
+  pub seen : Seen h v
+  pub world : World
+  pub objects : world.objects ≡ seen.objects
+  pub finds : FindsFocus h v seen world y z
+
+abbrev pub focused_frame : (key number z : ℕ) → Frame → Frame
+focused_frame k n z frame = with_var z (Some (one (reference n))) (with_key k n frame)
+
+-- the guard's object is lent, and the other one is held
+abbrev pub focused_world : (depth guard key : ℕ) → (adopter number : ℕ) → World → World
+focused_world d g k a n w = with_changed (with_changed w a (with_owner (lent d g))) n (with_owner (held d k))
+
+-- what is shown then; both objects are known by their places
+pub record HasFocused (before : Items) (heap : Heap) (values : Values) (frame : Frame) (w : World) (object adopter : Obj) (n a : ℕ) : Type 0 where
+  pub shows : Shows before heap values frame w.objects
+  pub object_made : IsMadeAt shows.items object.0 n
+  pub adopter_made : IsMadeAt shows.items adopter.0 a
+
+abbrev pub IsFocus : (h : Heap) (v : Values) (c : Seen h v) (w : World) (y z : ℕ) → FindsFocus h v c w y z → (new : Heap) → (values : Values) → Focus → Type 0
+IsFocus h v c w y z f new values r =
+    HasFocused c.items new values (focused_frame f.key.key f.object.number z c.frame)
+    (focused_world c.frame.depth f.guard.key f.key.key f.adopter.number f.object.number w) r.object r.adopter f.object.number f.adopter.number

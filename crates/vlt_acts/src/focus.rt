@@ -1,0 +1,51 @@
+//! Foci.
+
+ghost use Rattle.std.specs.Prelude.{◌≡◌, ◌≤◌, ◌<◌, length, IfSome};
+ghost use Rattle.vlt_core.specs.View.{func_of};
+ghost use Rattle.vlt_core.specs.Lookups.{reference_of};
+ghost use Rattle.vlt_heap.specs.Shown.{IsSound, IsSameSize};
+ghost use Rattle.vlt_meaning.specs.World.{World};
+ghost use Rattle.vlt_values.specs.Shown.{Seen, IsTable, key_at};
+ghost use Rattle.vlt_acts.specs.Acts.{IsSameFrame};
+ghost use Rattle.vlt_acts.specs.Focus.{CanFocus, FindsFocus, HasFocused, IsFocus, focused_frame, focused_world};
+
+use vlt_base::VarId;
+use vlt_core::Func;
+use vlt_heap::{Heap, Obj, Slot};
+use vlt_values::Values;
+
+/// An object in focus, and the one that adopted it.
+#[derive(Clone, Copy)]
+pub struct Focus {
+    pub object: Obj,
+    pub adopter: Obj,
+}
+
+/// `focus y as tracked(K) z`, where its block begins
+pub fn begin_focus(values: &mut Values, heap: &mut Heap, func: &Func, y: VarId, z: VarId) -> Focus
+    requires sound { IsSound heap.old }
+    requires table { IsTable values.old }
+    requires wide { 1 ≤ values.old.width }
+    requires within { z.0 < values.old.vars }
+    requires key { IfSome (reference_of (func_of func.now) z.0) (λ r. key_at values.old r.key < length values.old.slots.items) }
+    requires can { CanFocus heap.old values.old y.0 z.0 }
+    ensures sound { IsSound heap.new }
+    ensures size { IsSameSize heap.old heap.new }
+    ensures same { IsSameFrame values.old values.new }
+    ensures does { (c : Seen heap.old values.old) (w : World) → c.func ≡ func_of func.now → w.objects ≡ c.objects →
+        (f : FindsFocus heap.old values.old c w y.0 z.0) → IsFocus heap.old values.old c w y.0 z.0 f heap.new values.new result }
+{
+    match values.front(y) {
+        Slot::Object(object, number) => {
+            let adopter = heap.focus(object);
+            if let Some(r) = func.reference(z) {
+                let a = Slot::Object(object, number);
+                values.put_key(r.key, a);
+                let to = values.place(z);
+                values.put_front(to, a);
+            }
+            Focus { object, adopter }
+        }
+        Slot::Number(_) => unreachable!(),
+    }
+}
