@@ -1,9 +1,9 @@
 -- What the statements come to.
-use Rattle.std.proofs.Common.{◌≡◌, ◌≢◌, ◌⊎◌, inl, inr, ℕ, ℤ, ◌+◌, ◌*◌, ◌<◌, ◌≤◌, ◌==◌, not, Bool, true, false, List, length, Option, Some, None, Result, Ok, Err, refl, sym, ap, ◌∙◌, subst, arith, slice_get}
+use Rattle.std.proofs.Common.{◌≡◌, ◌≢◌, ℕ, ℤ, ◌<◌, ◌≤◌, ◌==◌, not, Bool, true, false, List, Option, Some, None, Result, Ok, Err, refl, sym, ap, ◌∙◌, subst, arith, slice_get}
 use Rattle.std.proofs.lemmas.Bool.{false≢true}
 use Rattle.std.proofs.lemmas.Bool.Decides.{nat_tests}
 use Rattle.vlt_ops.specs.declared.TrapKind.{TrapKind}
-use Rattle.vlt_core.specs.Core.{States, Expr, Func, Program, pure, move, pack, set, become, release, adopt, own}
+use Rattle.vlt_core.specs.Core.{States, Expr, Func, pure, move, pack, set, become, release, adopt, own}
 use Rattle.vlt_core.specs.Lookups.{Reference, release_set}
 use Rattle.vlt_rings.specs.Things.{IsLiveAt}
 use Rattle.vlt_heap.specs.declared.slots.Obj.{Obj}
@@ -14,23 +14,23 @@ use Rattle.vlt_heap.specs.Items.{Item, Items, IsAt, with_item, with_state, with_
 use Rattle.vlt_heap.specs.Shown.{Holds, IsLive, IsRoot as IsLone, IsHere, Changes, Releases, Hangs}
 use Rattle.vlt_heap.proofs.Listed.{kept_with, kept_without}
 use Rattle.vlt_heap.proofs.Calls.{live_at, root_at, here_at, places_apart}
-use Rattle.vlt_meaning.specs.World.{Value, one, reference, owned, loose, adopted_by, not_empty, no_value, same_object, Object as Thing, World, Frame, Outcome, Reason, trap, fault, done, fuel_end, heap_end, depth_end, input_end, answers_end, bad_answer, is_fault, wrong_state}
+use Rattle.vlt_meaning.specs.World.{Value, one, reference, owned, loose, adopted_by, not_empty, no_value, same_object, Object as Thing, World, Frame, Outcome, trap, fault, done, fuel_end, heap_end, depth_end, input_end, answers_end, bad_answer, is_fault, wrong_state}
 use Rattle.vlt_meaning.specs.Found as sd
 use Rattle.vlt_meaning.specs.Found.{Named, or_fault}
 use Rattle.vlt_meaning.specs.Objects.{is_releasable, released, changed, with_owner}
 use Rattle.vlt_meaning.specs.Objects as model
 use Rattle.vlt_meaning.specs.Values.{value_of, object_of}
-use Rattle.vlt_meaning.specs.Step.{Step, goes, jumps, leaves, ends, with_found, where_so, with_objects, with_changed, with_released, with_var, fill, is_fillable}
+use Rattle.vlt_meaning.specs.Step.{Step, goes, ends, with_found, where_so, with_objects, with_changed, with_released, with_var, fill, is_fillable}
 use Rattle.vlt_meaning.specs.Operands.{with_operand}
 use Rattle.vlt_meaning.specs.Run.{does_simple, any_state}
 use Rattle.vlt_values.specs.declared.values.Values.{Values}
-use Rattle.vlt_values.specs.Parts.{HaveValue, IsObject}
+use Rattle.vlt_values.specs.Parts.{HaveValue}
 use Rattle.vlt_values.specs.Shown.{ShowsObject, ShowObjects, ShowsFrame, var_at, Seen, IsKept, IsCopied, IsWritten}
 use Rattle.vlt_values.proofs.Touching.{OrFault, Packed, object_of_fault, object_of_is}
 use Rattle.vlt_values.proofs.Fronts.{IsSlotAt, behind, no_object, referred}
 use Rattle.vlt_values.proofs.Fronts as fronts
 use Rattle.vlt_values.proofs.Pushing.{emptied_shown, owner_shown}
-use Rattle.vlt_acts.specs.Acts.{setup, Shows, HasDone, Does, IsRight}
+use Rattle.vlt_acts.specs.Acts.{setup, HasDone, Does, IsRight}
 use Rattle.vlt_acts.proofs.Keeping.{frame_kept, assigned}
 use Rattle.vlt_acts.proofs.Showing.{one_shown, release_shown}
 
@@ -313,15 +313,15 @@ pub fill_does : (items : Items) (h : Heap) (old new : Values) (frame : Frame) (w
     → HaveValue items new.slots.items to new.width a → Does items h new (Ok tt) (fill f x a frame w)
 unfolding fill where_so
 fill_does items h old new frame w f x to a holds within is kept objects shown has = by (is_fillable f x frame) (record {
-    is = refl;
-    shows = record {
-      items = items;
-      holds = holds;
-      objects_shown = subst (λ z. ShowObjects items z w.objects) (sym kept.width) objects;
-      frame_shown = assigned items old new frame x a within (subst (λ z. IsKept z old new) is kept) (subst (λ z. HaveValue items new.slots.items z new.width a) is has) shown;
-      kept = λ b m made. made;
-    };
-  })
+  is = refl;
+  shows = record {
+    items = items;
+    holds = holds;
+    objects_shown = subst (λ z. ShowObjects items z w.objects) (sym kept.width) objects;
+    frame_shown = assigned items old new frame x a within (subst (λ z. IsKept z old new) is kept) (subst (λ z. HaveValue items new.slots.items z new.width a) is has) shown;
+    kept = λ b m made. made;
+  };
+})
   where
     by : (t : Bool) → HasDone items h new (Ok tt) (with_var x (Some a) frame) w → Does items h new (Ok tt) (where_so t not_empty None w (λ w. goes (with_var x (Some a) frame) w))
     by true d = d

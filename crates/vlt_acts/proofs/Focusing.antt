@@ -1,22 +1,21 @@
 -- What a focus comes to.
-use Rattle.std.proofs.Common.{◌≡◌, ◌≢◌, ◌⊎◌, inl, inr, ℕ, ℤ, ◌+◌, ◌*◌, ◌<◌, ◌≤◌, ◌==◌, Bool, true, false, List, length, Option, Some, None, Ok, Err, refl, sym, ap, ◌∙◌, subst, arith, slice_get}
+use Rattle.std.proofs.Common.{◌≡◌, ◌≢◌, ℕ, ℤ, ◌<◌, ◌≤◌, ◌==◌, true, List, Some, None, Ok, Err, refl, sym, ap, ◌∙◌, subst, arith, slice_get}
 use Rattle.std.proofs.lemmas.Bool.{false≢true}
 use Rattle.std.proofs.lemmas.Bool.Decides.{nat_tests}
 use Rattle.std.proofs.lemmas.Option.{none-some, same_Some}
-use Rattle.vlt_core.specs.Lookups.{Reference, reference_of}
+use Rattle.vlt_core.specs.Lookups.{Reference}
 use Rattle.vlt_rings.specs.Things.{IsLiveAt}
-use Rattle.vlt_rings.proofs.Lists.{equal_or_not}
 use Rattle.vlt_heap.specs.declared.slots.Obj.{Obj}
 use Rattle.vlt_heap.specs.declared.slots.Slot.{Slot}
 use Rattle.vlt_heap.specs.declared.slots.Slot.TheVariants.{Number, Object}
 use Rattle.vlt_heap.specs.declared.heap.Heap.{Heap}
 use Rattle.vlt_heap.specs.Items.{Item, Items, IsAt, IsMadeAt, with_item, with_parent}
-use Rattle.vlt_heap.specs.Shown.{Holds, IsLive, IsChild, IsParentAt, ForObject, Changes}
+use Rattle.vlt_heap.specs.Shown.{IsLive, IsChild, IsRoot as IsLone, IsHere, IsParentAt, ForObject, Changes, Hangs}
 use Rattle.vlt_heap.proofs.Listed.{kept_with, made_at}
-use Rattle.vlt_heap.proofs.Calls.{live_at, child_at}
-use Rattle.vlt_meaning.specs.World.{one, reference, Owner, held, lent, loose, inside, adopted_by, out, gone, is_adopted_by, above, is_gone, is_out, Object as Thing, World, Frame, fault, not_guarded}
+use Rattle.vlt_heap.proofs.Calls.{live_at, root_at, here_at, child_at, places_apart}
+use Rattle.vlt_meaning.specs.World.{one, reference, Owner, held, lent, loose, inside, adopted_by, out, gone, is_adopted_by, is_held_under, is_lent_under, above, is_out, Object as Thing, World, Frame, not_guarded, not_held, no_value}
 use Rattle.vlt_meaning.specs.Found as sd
-use Rattle.vlt_meaning.specs.Found.{◌>>=◌, Named}
+use Rattle.vlt_meaning.specs.Found.{◌>>=◌, Named, or_fault}
 use Rattle.vlt_meaning.specs.Objects.{object_at, with_owner, changed}
 use Rattle.vlt_meaning.specs.Values.{held_object, guarded_object, reference_in}
 use Rattle.vlt_meaning.specs.Step.{with_key}
@@ -24,12 +23,11 @@ use Rattle.vlt_meaning_laws.proofs.Keeping.{bound, change_elsewhere}
 use Rattle.vlt_values.specs.declared.values.Values.{Values}
 use Rattle.vlt_values.specs.Parts.{IsObject}
 use Rattle.vlt_values.specs.Shown.{ShowsObject, ShowObjects, ShowsFrame, var_at, Seen, IsKept, IsKeySet}
-use Rattle.vlt_values.proofs.Touching.{Touched, IsHeld, guarded_is, held_is, so_is, object_is}
+use Rattle.vlt_values.proofs.Touching.{Touched, IsHeld, IsRoot, guarded_is, held_is, so_is, object_is}
 use Rattle.vlt_values.proofs.Fronts.{IsSlotAt, behind, no_object, referred}
 use Rattle.vlt_values.proofs.Fronts as fronts
 use Rattle.vlt_values.proofs.Pushing.{owner_shown}
-use Rattle.vlt_acts.specs.Acts.{Shows}
-use Rattle.vlt_acts.specs.Focus.{FindsFocus, CanFocus, HasFocused, focused_frame, focused_world}
+use Rattle.vlt_acts.specs.Focus.{FindsFocus, CanFocus, HasFocused, focused_frame, focused_world, FindsEnd, CanEnd, HasEnded}
 use Rattle.vlt_acts.proofs.Keeping.{frame_kept, assigned}
 use Rattle.vlt_acts.proofs.Showing.{one_shown}
 use Rattle.vlt_acts.proofs.Naming.{named_shown}
@@ -74,7 +72,6 @@ pub record Met (h : Heap) (v : Values) (c : Seen h v) (w : World) (a n : Named) 
   pub parent : item.parent ≡ Some a.number
   pub made : IsMadeAt c.items o.0 n.number
   pub adopter : slice_get w.objects a.number ≡ Some a.object
-  pub same : n.number ≡ n.number
 
 pub record At (number : ℕ) (h : Heap) (v : Values) (c : Seen h v) (w : World) (a n : Named) (o : Obj) : Type 0 where
   pub met : Met h v c w a n o
@@ -100,7 +97,6 @@ met_focus h v c w y z same f s is o k e =
         parent = b.shown.parent ∙ ap above owner;
         made = made;
         adopter = a.at;
-        same = refl;
       };
       is = q.1;
     }
@@ -178,3 +174,117 @@ focus_does old new v mid u c w y z to same f s o p k is e within wide key is_key
 
     named_frame : ℕ → Type 0
     named_frame j = ShowsFrame items mid (with_key j f.object.number c.frame)
+
+-- ---- where the block ends
+
+lent_root : (d k : ℕ) (o : Owner) → is_lent_under d k o ≡ true → IsRoot o
+lent_root d k (lent e j) h = record { live = refl; above = refl; here = refl }
+lent_root d k (held e j) h = absurd (false≢true h)
+lent_root d k loose h = absurd (false≢true h)
+lent_root d k (inside n) h = absurd (false≢true h)
+lent_root d k (adopted_by n) h = absurd (false≢true h)
+lent_root d k out h = absurd (false≢true h)
+lent_root d k gone h = absurd (false≢true h)
+
+held_not_lent : (d k e j : ℕ) (o : Owner) → is_held_under d k o ≡ true → is_lent_under e j o ≡ true → ⊥
+held_not_lent d k e j (held a b) h l = false≢true l
+held_not_lent d k e j (lent a b) h l = false≢true h
+held_not_lent d k e j loose h l = false≢true h
+held_not_lent d k e j (inside n) h l = false≢true h
+held_not_lent d k e j (adopted_by n) h l = false≢true h
+held_not_lent d k e j out h l = false≢true h
+held_not_lent d k e j gone h l = false≢true h
+
+held_owner : (k : ℕ) (frame : Frame) (objects : List Thing) (m : Named) → held_object k frame objects ≡ Ok m → is_held_under frame.depth k m.object.owner ≡ true
+held_owner k frame objects m e =
+    let a = bound (or_fault no_value (frame.keys k)) _ m e in
+    let b = bound (object_at objects a.0) _ m a.2 in
+    let s = so_is (is_held_under frame.depth k b.0.object.owner) not_held b.0 m b.2 in
+    subst (λ q. is_held_under frame.depth k q.object.owner ≡ true) s.1 s.0
+
+-- both objects as the heap has them
+pub record Ends (h : Heap) (v : Values) (c : Seen h v) (w : World) (object adopter : Obj) (n a : ℕ) : Type 0 where
+  pub item : Item
+  pub thing : Thing
+  pub at : IsAt c.items n item
+  pub place : item.place ≡ object.0
+  pub shown : ShowsObject c.items v.width item thing
+  pub object_at : slice_get w.objects n ≡ Some thing
+  pub root : IsRoot thing.owner
+  pub parent : Item
+  pub parent_thing : Thing
+  pub parent_at : IsAt c.items a parent
+  pub parent_place : parent.place ≡ adopter.0
+  pub parent_shown : ShowsObject c.items v.width parent parent_thing
+  pub parent_object_at : slice_get w.objects a ≡ Some parent_thing
+  pub parent_root : IsRoot parent_thing.owner
+  pub other : n ≢ a
+
+pub ends_met : (h : Heap) (v : Values) (c : Seen h v) (w : World) (o p : Obj) → w.objects ≡ c.objects → (f : FindsEnd h v c w o p) → Ends h v c w o p f.number f.adopter_number
+ends_met h v c w o p same f =
+    let held = held_is f.key c.frame w.objects f.object_named f.is_object in
+    let at_n : slice_get w.objects f.number ≡ Some f.object_named.object = ap (slice_get w.objects) (sym f.is_number) ∙ held.at in
+    let b = bound (object_at w.objects f.adopter_number) _ f.adopter_named f.is_adopter in
+    let s = so_is (is_lent_under c.frame.depth f.guard b.0.object.owner) not_held b.0 f.adopter_named b.2 in
+    let at_a = (object_is w.objects f.adopter_number b.0 b.1).1 in
+    let root = lent_root c.frame.depth f.guard b.0.object.owner s.0 in
+    let x = behind c.items v.width f.number c.objects f.object_named.object c.shown (ap (λ os. slice_get os f.number) (sym same) ∙ at_n) held.root.live in
+    let y = behind c.items v.width f.adopter_number c.objects b.0.object c.shown (ap (λ os. slice_get os f.adopter_number) (sym same) ∙ at_a) root.live in
+    record {
+      item = x.item;
+      thing = f.object_named.object;
+      at = x.at;
+      place = f.object_made.place x.item x.at;
+      shown = x.shown;
+      object_at = at_n;
+      root = held.root;
+      parent = y.item;
+      parent_thing = b.0.object;
+      parent_at = y.at;
+      parent_place = f.adopter_made.place y.item y.at;
+      parent_shown = y.shown;
+      parent_object_at = at_a;
+      parent_root = root;
+      other = λ e.
+          let q : f.object_named.object ≡ b.0.object = same_Some _ _ (sym at_n ∙ ap (slice_get w.objects) e ∙ at_a) in
+          held_not_lent c.frame.depth f.key c.frame.depth f.guard b.0.object.owner (subst (λ u. is_held_under c.frame.depth f.key u.owner ≡ true) q (held_owner f.key c.frame w.objects f.object_named f.is_object)) s.0;
+    }
+
+-- what `unfocus` asks of the object and of its adopter
+pub record Needs (h : Heap) (o q : Obj) : Type 0 where
+  pub live : IsLive h o
+  pub root : IsLone h o
+  pub here : IsHere h o
+  pub parent_live : IsLive h q
+  pub parent_root : IsLone h q
+  pub other : o.0 ≢ q.0
+
+pub end_needs : (h : Heap) (v : Values) (o p : Obj) → CanEnd h v o p → Needs h o p
+end_needs h v o p q =
+    let c = q.seen in
+    let m = ends_met h v c q.world o p q.objects q.finds in
+    record {
+      live = subst (IsLiveAt h.places) m.place (live_at h c.items c.holds q.finds.number m.item m.at);
+      root = root_at h c.items c.holds q.finds.number m.item o m.at m.place (m.shown.parent ∙ m.root.above);
+      here = here_at h c.items c.holds q.finds.number m.item o m.at m.place (m.shown.is_out ∙ m.root.here);
+      parent_live = subst (IsLiveAt h.places) m.parent_place (live_at h c.items c.holds q.finds.adopter_number m.parent m.parent_at);
+      parent_root = root_at h c.items c.holds q.finds.adopter_number m.parent p m.parent_at m.parent_place (m.parent_shown.parent ∙ m.parent_root.above);
+      other = λ e. places_apart h c.items c.holds q.finds.adopter_number q.finds.number m.parent m.item m.parent_at m.at m.other (m.place ∙ e ∙ sym m.parent_place);
+    }
+
+pub end_does : (old new : Heap) (v : Values) (c : Seen old v) (w : World) (o p : Obj) → w.objects ≡ c.objects → (f : FindsEnd old v c w o p) → Hangs o p old new → HasEnded old v c w o p f new
+end_does old new v c w o p same f hangs =
+    let m = ends_met old v c w o p same f in
+    let items : Items = with_item f.number (with_parent (Some f.adopter_number) m.item) c.items in
+    let keep = kept_with c.items f.number m.item (with_parent (Some f.adopter_number) m.item) m.at refl in
+    record {
+      items = items;
+      holds = hangs c.items f.number m.item c.holds m.at m.place f.adopter_number m.parent m.parent_at m.parent_place;
+      objects_shown = owner_shown items v.width f.adopter_number (changed f.number (with_owner (adopted_by f.adopter_number)) w.objects) m.parent_thing (held c.frame.depth f.guard)
+          (one_shown c.items v.width f.number w.objects m.item (with_parent (Some f.adopter_number) m.item) m.thing (with_owner (adopted_by f.adopter_number)) keep (subst (ShowObjects c.items v.width) (sym same) c.shown) m.at m.object_at
+          (record { live = refl; type = m.shown.type; state = m.shown.state; parent = refl; is_out = m.shown.is_out ∙ m.root.here; cells = m.shown.cells }))
+          (change_elsewhere w.objects f.number (with_owner (adopted_by f.adopter_number)) f.adopter_number (λ e. m.other (sym e)) ∙ m.parent_object_at)
+          (sym m.parent_root.live) (sym m.parent_root.above) (sym m.parent_root.here);
+      frame_shown = frame_kept c.items items v c.frame keep c.fits;
+      kept = keep;
+    }

@@ -1,16 +1,13 @@
 -- What is shown stays shown where objects are known still, and where slots are as they were.
-use Rattle.std.proofs.Common.{◌≡◌, ◌≢◌, ◌⊎◌, inl, inr, ℕ, suc, ◌+◌, ◌*◌, ◌<◌, ◌≤◌, ◌==◌, Bool, true, false, if◌then◌else◌, List, [], ◌∷◌, length, Option, Some, None, refl, sym, ap, ◌∙◌, subst, arith, slice_get}
+use Rattle.std.proofs.Common.{◌≡◌, ◌≢◌, ◌⊎◌, inl, inr, ℕ, suc, ◌+◌, ◌<◌, ◌≤◌, ◌==◌, Bool, true, false, if◌then◌else◌, List, [], ◌∷◌, length, Some, refl, sym, ◌∙◌, subst, arith, slice_get}
 use Rattle.std.proofs.lemmas.Bool.Decides.{nat_tests}
-use Rattle.std.proofs.lemmas.Option.{none-some, same_Some}
-use Rattle.vlt_rings.proofs.Lists.{equal_or_not}
+use Rattle.std.proofs.lemmas.Option.{same_Some}
 use Rattle.vlt_rings.proofs.Rows.{below_or_above, row_fits}
 use Rattle.vlt_heap.specs.declared.slots.Slot.{Slot}
-use Rattle.vlt_heap.specs.declared.slots.Slot.TheVariants.{Number, Object}
-use Rattle.vlt_heap.specs.declared.heap.Heap.{Heap}
 use Rattle.vlt_heap.specs.Items.{Items}
 use Rattle.vlt_heap.proofs.Listed.{KeepMade}
 use Rattle.vlt_meaning.specs.World.{Part, number, reference, owned, Value, Frame}
-use Rattle.vlt_meaning.specs.Step.{with_var, set_at}
+use Rattle.vlt_meaning.specs.Step.{with_var}
 use Rattle.vlt_values.specs.declared.values.Values.{Values}
 use Rattle.vlt_values.specs.Parts.{flat, IsObject, HasPart, HasPartAt, HaveParts, HaveValue}
 use Rattle.vlt_values.specs.Shown.{var_at, key_at, HasVar, ShowsFrame, IsKept}
@@ -46,9 +43,10 @@ frame_kept old new values frame keep h = record {
 parts_same : (items : Items) (slots news : List Slot) (from k : ℕ) (w : ℕ) (ps : List Part) → from ≤ k → k + length ps ≤ from + w → ((j : ℕ) → from ≤ j → j < from + w → slice_get news j ≡ slice_get slots j) → HaveParts items slots k ps → HaveParts items news k ps
 parts_same items slots news from k w [] low high same h = tt
 parts_same items slots news from k w (p ∷ ps) low high same h =
-    let q = h.0 in
-    (record { slot = q.slot; at = same k low (omega (arith, high)) ∙ q.at; part = q.part },
-    parts_same items slots news from (suc k) w ps (omega (arith, low)) (omega (arith, high)) same h.1)
+    let q = h.0 in (
+      record { slot = q.slot; at = same k low (omega (arith, high)) ∙ q.at; part = q.part },
+      parts_same items slots news from (suc k) w ps (omega (arith, low)) (omega (arith, high)) same h.1,
+    )
 
 pub value_same : (items : Items) (slots news : List Slot) (from w : ℕ) (a : Value) → ((j : ℕ) → from ≤ j → j < from + w → slice_get news j ≡ slice_get slots j) → HaveValue items slots from w a → HaveValue items news from w a
 value_same items slots news from w a same h = record {

@@ -1,29 +1,29 @@
 -- Keys that name objects.
-use Rattle.std.proofs.Common.{◌≡◌, ◌≢◌, ◌⊎◌, inl, inr, ℕ, ℤ, ◌+◌, ◌*◌, ◌<◌, ◌≤◌, ◌==◌, Bool, true, false, if◌then◌else◌, List, [], length, Option, Some, None, Ok, Err, refl, sym, ap, ◌∙◌, subst, arith, slice_get}
+use Rattle.std.proofs.Common.{◌≡◌, ◌≢◌, ℕ, ◌<◌, ◌≤◌, ◌==◌, Bool, true, false, if◌then◌else◌, List, Option, Some, None, Ok, Err, refl, sym, ap, ◌∙◌, subst, arith, slice_get}
 use Rattle.std.proofs.lemmas.Bool.{false≢true}
 use Rattle.std.proofs.lemmas.Bool.Decides.{nat_tests}
-use Rattle.std.proofs.lemmas.Option.{none-some, same_Some}
+use Rattle.std.proofs.lemmas.Option.{same_Some}
 use Rattle.vlt_core.specs.Core.{States, unpack}
 use Rattle.vlt_core.specs.Lookups.{Reference, reference_of, owning_states}
 use Rattle.vlt_rings.proofs.Rows.{row_fits}
 use Rattle.vlt_heap.specs.declared.slots.Slot.{Slot}
 use Rattle.vlt_heap.specs.declared.heap.Heap.{Heap}
 use Rattle.vlt_heap.specs.Items.{Items}
-use Rattle.vlt_meaning.specs.World.{Part, Value, one, of_case, number, reference, owned, Owner, held, lent, loose, inside, adopted_by, out, gone, is_loose, is_gone, is_out, above, Object, World, Frame, Outcome, trap, fault, done, fuel_end, heap_end, depth_end, input_end, answers_end, bad_answer, is_fault, missing}
+use Rattle.vlt_meaning.specs.World.{Value, one, of_case, number, reference, owned, Owner, held, lent, loose, inside, adopted_by, out, gone, is_loose, is_gone, is_out, above, Object, World, Frame, trap, fault, done, fuel_end, heap_end, depth_end, input_end, answers_end, bad_answer, missing}
 use Rattle.vlt_meaning.specs.Found as sd
 use Rattle.vlt_meaning.specs.Found.{◌>>=◌, or_fault, Named}
 use Rattle.vlt_meaning.specs.Objects.{owned_at, in_states, with_owner, changed}
 use Rattle.vlt_meaning.specs.Operands.{owned_in}
-use Rattle.vlt_meaning.specs.Step.{Step, goes, with_found, with_changed, with_var, with_key, set_at}
+use Rattle.vlt_meaning.specs.Step.{Step, goes, with_found, with_changed, with_var, with_key}
 use Rattle.vlt_meaning.specs.Run.{does_simple}
 use Rattle.vlt_meaning_laws.proofs.Keeping.{bound}
 use Rattle.vlt_values.specs.declared.values.Values.{Values}
-use Rattle.vlt_values.specs.Parts.{flat, IsObject, HasPartAt, HaveValue}
-use Rattle.vlt_values.specs.Shown.{ShowObjects, var_at, key_at, HasVar, ShowsFrame, Seen, IsKept, IsKeySet}
+use Rattle.vlt_values.specs.Parts.{IsObject, HasPartAt}
+use Rattle.vlt_values.specs.Shown.{ShowObjects, var_at, key_at, ShowsFrame, Seen, IsKept, IsKeySet}
 use Rattle.vlt_values.proofs.Touching.{OrFault, then_fault, object_fault, so_fault, so_is, object_is}
 use Rattle.vlt_values.proofs.Fronts.{IsSlotAt, has_part}
 use Rattle.vlt_values.proofs.Pushing.{emptied_shown, owner_shown}
-use Rattle.vlt_acts.specs.Acts.{setup, Shows, HasDone, Does}
+use Rattle.vlt_acts.specs.Acts.{setup, Does}
 use Rattle.vlt_acts.proofs.Keeping.{value_same, assigned}
 
 -- ---- a key names an object
@@ -136,4 +136,4 @@ pub unpack_none : (h : Heap) (values : Values) (c : Seen h values) (w : World) (
 unfolding with_found
 unpack_none h values c w n d x v is =
     subst (λ z. Does c.items h values (Ok tt) (with_found (or_fault missing z) w (λ q. with_found (or_fault missing (owning_states c.func v)) w (λ states. with_found (owned_in (c.frame.vars v)) w (λ m. with_found (owned_at is_loose w.objects m >>= in_states states) w (λ o.
-        goes (with_var x (Some (one (reference m))) (with_key q.key m (with_var v None c.frame))) (with_changed w m (with_owner (held c.frame.depth q.key))))))))) (sym is) refl
+    goes (with_var x (Some (one (reference m))) (with_key q.key m (with_var v None c.frame))) (with_changed w m (with_owner (held c.frame.depth q.key))))))))) (sym is) refl

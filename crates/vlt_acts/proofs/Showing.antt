@@ -1,18 +1,17 @@
 -- The objects that are shown after a change.
-use Rattle.std.proofs.Common.{◌≡◌, ◌≢◌, ◌⊎◌, inl, inr, ℕ, zero, suc, ◌+◌, ◌*◌, ◌<◌, Bool, true, false, if◌then◌else◌, List, [], ◌∷◌, map, length, Option, Some, None, refl, sym, ap, ◌∙◌, subst, arith, slice_get}
+use Rattle.std.proofs.Common.{◌≡◌, ◌≢◌, ◌⊎◌, inl, inr, ℕ, zero, suc, ◌+◌, ◌*◌, Bool, true, false, if◌then◌else◌, List, [], ◌∷◌, map, length, Option, Some, None, refl, sym, ap, ◌∙◌, subst, arith, slice_get}
 use Rattle.std.specs.Option.{option_map}
 use Rattle.std.specs.List.{enumerate_from}
 use Rattle.std.proofs.lemmas.Bool.{false≢true}
-use Rattle.std.proofs.lemmas.Option.{none-some, same_Some, slice_get_within}
-use Rattle.std.proofs.lemmas.List.{length-set, length-map}
-use Rattle.vlt_base.specs.Parents.{Parents, is_at_or_below}
+use Rattle.std.proofs.lemmas.Option.{none-some, same_Some}
+use Rattle.std.proofs.lemmas.List.{length-set}
+use Rattle.vlt_base.specs.Parents.{is_at_or_below}
 use Rattle.vlt_rings.proofs.Lists.{equal_or_not, get_other}
-use Rattle.vlt_rings.proofs.Calls.{item_at}
 use Rattle.vlt_heap.specs.Items.{Item, Items, IsAt, with_item, without, without_from, parent_of}
 use Rattle.vlt_heap.specs.Items as held
 use Rattle.vlt_heap.proofs.Listed.{KeepMade, with_here, kept_without, length_without}
-use Rattle.vlt_meaning.specs.World.{Value, Owner, gone, Object, is_gone, is_out, above}
-use Rattle.vlt_meaning.specs.Objects.{changed, changed_in, with_owner, parents_of, is_under, released, numbered}
+use Rattle.vlt_meaning.specs.World.{Owner, gone, Object, is_gone, above}
+use Rattle.vlt_meaning.specs.Objects.{changed, changed_in, with_owner, parents_of, is_under, released}
 use Rattle.vlt_meaning_laws.proofs.Lists.{get_numbered}
 use Rattle.vlt_meaning_laws.proofs.Keeping.{change_here, change_elsewhere}
 use Rattle.vlt_values.specs.Shown.{ShowsObject, ShowsIt, ShowObjects}
@@ -116,7 +115,7 @@ release_shown items w n objects h = record {
         let a = get_without (is_at_or_below (held.parents_of items) (n ∷ [])) 0 items k z at_z in
         let b = get_released n objects k q at_q in
         let out : is_at_or_below (held.parents_of items) (n ∷ []) (0 + k) ≡ is_under objects (n ∷ []) k =
-            ap (λ ps. is_at_or_below ps (n ∷ []) (0 + k)) (parents_shown items w objects h) ∙ ap (is_at_or_below (parents_of objects) (n ∷ [])) (omega arith) in
+        ap (λ ps. is_at_or_below ps (n ∷ []) (0 + k)) (parents_shown items w objects h) ∙ ap (is_at_or_below (parents_of objects) (n ∷ [])) (omega arith) in
         subst (λ u. ShowsIt items w u q) (ap (λ t. if t then None else a.0) (sym out) ∙ a.2) (subst (ShowsIt items w (if is_under objects (n ∷ []) k then None else a.0)) b.2 (by (is_under objects (n ∷ []) k) a.0 b.0 (h.each k a.0 b.0 a.1 b.1)))
       where
         by : (t : Bool) (x : Option Item) (o : Object) → ShowsIt items w x o → ShowsIt items w (if t then None else x) (if t then with_owner gone o else o)

@@ -1,7 +1,7 @@
 -- What a statement without blocks comes to in the tables.
-use Rattle.std.specs.Prelude.{◌≡◌, ◌<◌, ℕ, true, false, List, length, Some, Result, Ok, Err, slice_get, vec_capacity}
+use Rattle.std.specs.Prelude.{◌≡◌, ◌<◌, ℕ, true, false, List, length, Result, Ok, Err, slice_get}
 use Rattle.vlt_ops.specs.declared.TrapKind.{TrapKind}
-use Rattle.vlt_core.specs.Core.{Simple, Func, Program}
+use Rattle.vlt_core.specs.Core.{Simple, Program}
 use Rattle.vlt_meaning.specs.World.{Object, World, Frame, Outcome, trap, is_fault}
 use Rattle.vlt_meaning.specs.Step.{Step, goes, jumps, leaves, ends}
 use Rattle.vlt_meaning.specs.Run.{Setup, does_simple}

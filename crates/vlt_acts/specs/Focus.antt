@@ -1,10 +1,11 @@
 -- What a focus comes to in the tables.
-use Rattle.std.specs.Prelude.{◌≡◌, ℕ, Option, Some, None, Ok, Err, true, false}
+use Rattle.std.specs.Prelude.{◌≡◌, ℕ, Some, Ok}
 use Rattle.vlt_core.specs.Lookups.{Reference, reference_of, guarded_of}
-use Rattle.vlt_meaning.specs.World.{reference, one, held, lent, World, Frame}
+use Rattle.vlt_meaning.specs.World.{reference, one, held, lent, adopted_by, World, Frame}
 use Rattle.vlt_meaning.specs.Found.{Named}
 use Rattle.vlt_meaning.specs.Objects.{with_owner}
 use Rattle.vlt_meaning.specs.Values.{held_object, guarded_object}
+use Rattle.vlt_meaning.specs.Run.{lent_object}
 use Rattle.vlt_meaning.specs.Step.{with_changed, with_var, with_key}
 use Rattle.vlt_heap.specs.declared.slots.Obj.{Obj}
 use Rattle.vlt_heap.specs.declared.heap.Heap.{Heap}
@@ -49,3 +50,31 @@ abbrev pub IsFocus : (h : Heap) (v : Values) (c : Seen h v) (w : World) (y z : �
 IsFocus h v c w y z f new values r =
     HasFocused c.items new values (focused_frame f.key.key f.object.number z c.frame)
     (focused_world c.frame.depth f.guard.key f.key.key f.adopter.number f.object.number w) r.object r.adopter f.object.number f.adopter.number
+
+-- what the end of a focus finds: the object in focus and its adopter, at their places
+pub record FindsEnd (h : Heap) (v : Values) (c : Seen h v) (w : World) (object adopter : Obj) : Type 0 where
+  pub key : ℕ
+  pub guard : ℕ
+  pub number : ℕ
+  pub adopter_number : ℕ
+  pub object_named : Named
+  pub is_object : held_object key c.frame w.objects ≡ Ok object_named
+  pub is_number : object_named.number ≡ number
+  pub adopter_named : Named
+  pub is_adopter : lent_object guard adopter_number c.frame w.objects ≡ Ok adopter_named
+  pub object_made : IsMadeAt c.items object.0 number
+  pub adopter_made : IsMadeAt c.items adopter.0 adopter_number
+
+pub record CanEnd (h : Heap) (v : Values) (object adopter : Obj) : Type 0 where
+  pub seen : Seen h v
+  pub world : World
+  pub objects : world.objects ≡ seen.objects
+  pub finds : FindsEnd h v seen world object adopter
+
+-- the object goes back to its adopter, which is held again
+abbrev pub unfocused_world : (depth guard : ℕ) → (adopter number : ℕ) → World → World
+unfocused_world d g a n w = with_changed (with_changed w n (with_owner (adopted_by a))) a (with_owner (held d g))
+
+abbrev pub HasEnded : (h : Heap) (v : Values) (c : Seen h v) (w : World) (object adopter : Obj) → FindsEnd h v c w object adopter → (new : Heap) → Type 0
+HasEnded h v c w object adopter f new =
+    Shows c.items new v c.frame (unfocused_world c.frame.depth f.guard f.adopter_number f.number w).objects

@@ -7,7 +7,7 @@ ghost use Rattle.vlt_heap.specs.Shown.{IsSound, IsSameSize};
 ghost use Rattle.vlt_meaning.specs.World.{World};
 ghost use Rattle.vlt_values.specs.Shown.{Seen, IsTable, key_at};
 ghost use Rattle.vlt_acts.specs.Acts.{IsSameFrame};
-ghost use Rattle.vlt_acts.specs.Focus.{CanFocus, FindsFocus, HasFocused, IsFocus, focused_frame, focused_world};
+ghost use Rattle.vlt_acts.specs.Focus.{CanFocus, FindsFocus, HasFocused, IsFocus, CanEnd, FindsEnd, HasEnded, focused_frame, focused_world};
 
 use vlt_base::VarId;
 use vlt_core::Func;
@@ -48,4 +48,16 @@ pub fn begin_focus(values: &mut Values, heap: &mut Heap, func: &Func, y: VarId, 
         }
         Slot::Number(_) => unreachable!(),
     }
+}
+
+/// Where the block of a focus ends
+pub fn end_focus(values: &Values, heap: &mut Heap, focus: Focus)
+    requires sound { IsSound heap.old }
+    requires can { CanEnd heap.old values.now focus.object focus.adopter }
+    ensures sound { IsSound heap.new }
+    ensures size { IsSameSize heap.old heap.new }
+    ensures does { (c : Seen heap.old values.now) (w : World) → w.objects ≡ c.objects →
+        (f : FindsEnd heap.old values.now c w focus.object focus.adopter) → HasEnded heap.old values.now c w focus.object focus.adopter f heap.new }
+{
+    heap.unfocus(focus.object, focus.adopter);
 }

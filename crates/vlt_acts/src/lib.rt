@@ -8,7 +8,7 @@ mod keys;
 mod objects;
 mod vars;
 
-pub use focus::{Focus, begin_focus};
+pub use focus::{Focus, begin_focus, end_focus};
 pub use keys::unpack;
 pub use objects::{adopt, become_state, release};
 pub use vars::{fill, set};

@@ -1,5 +1,4 @@
 use Rattle.vlt_meaning.specs.Run.{any_state}
-use Rattle.vlt_heap.specs.declared.slots.Slot.TheVariants.{Object}
 use Rattle.vlt_acts.proofs.Acting.{met, met_live, right_found, become_does, number_becomes}
 use Rattle.vlt_acts.proofs.objects.become_state.Goals as goal
 

@@ -1,4 +1,4 @@
-use Rattle.std.proofs.Common.{inl, sym, ap, subst, ◌≡◌, Ok}
+use Rattle.std.proofs.Common.{inl, sym, ap, subst, Ok}
 use Rattle.vlt_base.specs.States.{has_state}
 use Rattle.vlt_core.specs.Core.{own}
 use Rattle.vlt_core.specs.View.{expr_of, operand_of}

@@ -1,4 +1,4 @@
-use Rattle.std.proofs.Common.{inl, ◌∙◌}
+use Rattle.std.proofs.Common.{inl}
 use Rattle.vlt_core.specs.View.{expr_of}
 use Rattle.vlt_acts.proofs.Acting.{set_does}
 use Rattle.vlt_acts.proofs.vars.set.Goals as goal
