@@ -17,9 +17,9 @@ use Rattle.vlt_heap.specs.declared.slots.Slot.{Slot}
 use Rattle.vlt_heap.specs.declared.slots.Slot.TheVariants.{Number}
 use Rattle.vlt_heap.specs.declared.slots.Kind.{Kind}
 use Rattle.vlt_heap.specs.declared.heap.Heap.{Heap}
-use Rattle.vlt_heap.specs.Items.{Item, Items, IsAt, live_count, is_full, new_item, with_item, with_slot, with_parent, parents_of, without, IsMadeAt, IsMade}
+use Rattle.vlt_heap.specs.Items.{Item, Items, IsAt, live_count, is_full, new_item, with_item, with_slot, with_parent, parents_of, without, IsMadeAt}
 use Rattle.vlt_heap.specs.Shown.{thing_of, things_of, IsKind, IsRow, IsShown, Holds, IsSound, IsSetKind, IsNew, IsThereOrGone, IsParentAt, IsRoot, IsHere, IsChild}
-use Rattle.vlt_heap.proofs.Listed.{thing_at, of_thing, gone_at, length_things, things_with, same_things, things_new, count_items, parents_same, with_cases, kept_new, keep_slot, made_with, left_at, made_without, things_without}
+use Rattle.vlt_heap.proofs.Listed.{thing_at, of_thing, gone_at, length_things, things_with, same_things, things_new, count_items, parents_same, with_cases, left_at, things_without}
 
 -- ---- places
 
@@ -71,11 +71,10 @@ slot_read h items n c i k x a holds at place l is read =
 -- ---- changes of one object
 
 pub with_holds : (old new : Heap) (items : Items) (n : ℕ) (x y : Item) → Holds old items → IsAt items n x → y.place ≡ x.place → rings.Holds new.places (things_of (with_item n y items))
-    → IsShown new y → ((k : ℕ) (v : Item) → IsAt items k v → k ≢ n → IsShown new v) → ((i : ℕ) (a : Slot) → slice_get y.slots i ≡ Some a → IsMade items a) → Holds new (with_item n y items)
-with_holds old new items n x y holds at same things here others ok = record {
+    → IsShown new y → ((k : ℕ) (v : Item) → IsAt items k v → k ≢ n → IsShown new v) → Holds new (with_item n y items)
+with_holds old new items n x y holds at same things here others = record {
   things = things;
   shown = λ k v at_k. by k v (with_cases items n x y at k v at_k).is;
-  made = made_with items n x y at same ok holds.made;
 }
   where
     by : (k : ℕ) (v : Item) → ((k ≡ n) × (y ≡ v)) ⊎ ((k ≢ n) × IsAt items k v) → IsShown new v
@@ -106,13 +105,11 @@ parent_set old new items n x parent same holds at things =
     with_holds old new items n x (with_parent parent x) holds at refl (subst (rings.Holds new.places) (sym (things_with items n (with_parent parent x))) things)
     (same_shown old new x (with_parent parent x) same refl (holds.shown n x at))
     (λ k v at_v other. same_shown old new v v same refl (holds.shown k v at_v))
-    (λ i a at_i. holds.made n i x a at at_i)
 
 pub released : (old new : Heap) (items : Items) (n : ℕ) (x : Item) → SameTables old new → Holds old items → IsAt items n x → rings.AreReleased (things_of items) n new.places → Holds new (without n items)
 released old new items n x same holds at r = record {
   things = subst (rings.Holds new.places) (things_without gone 0 items r.things (r.long ∙ length_things items) each) r.holds;
   shown = λ k v at_k. same_shown old new v v same refl (holds.shown k v (left_at gone 0 items k v at_k));
-  made = made_without items n holds.made;
 }
   where
     gone : ℕ → Bool
@@ -137,7 +134,6 @@ kind_set old new items n c x y k sound holds at place set is same slots =
       kind = s.kind;
       row = row v v refl refl s.row;
     })
-    (λ i a at_i. holds.made n i x a at (ap (λ l. slice_get l i) (sym slots) ∙ at_i))
   where
     within : c < length old.kinds.items
     within = let w = place_within old items holds n x at in omega (arith, w, place, sound.kinds)
@@ -170,12 +166,12 @@ pub record OneSet (old new : Heap) (k : ℕ) (a : Slot) : Type 0 where
   pub width : new.width ≡ old.width
   pub within : k < length old.cells.items
 
-pub slot_set : (old new : Heap) (items : Items) (n c i : ℕ) (x : Item) (a : Slot) → Holds old items → IsAt items n x → x.place ≡ c → i < old.width → OneSet old new (c * old.width + i) a → IsMade items a
+pub slot_set : (old new : Heap) (items : Items) (n c i : ℕ) (x : Item) (a : Slot) → Holds old items → IsAt items n x → x.place ≡ c → i < old.width → OneSet old new (c * old.width + i) a
     → Holds new (with_item n (with_slot i a x) items)
-slot_set old new items n c i x a holds at place l set made =
+slot_set old new items n c i x a holds at place l set =
     with_holds old new items n x (with_slot i a x) holds at refl
     (subst (λ h. rings.Holds h (things_of (with_item n (with_slot i a x) items))) (sym set.places) (subst (rings.Holds old.places) (sym (same_things items n x (with_slot i a x) at refl)) holds.things))
-    here others ok
+    here others
   where
     shown : (v : Item) → IsShown old v → IsRow new.cells.items (v.place * old.width) old.width v.slots → IsShown new v
     shown v s row = record {
@@ -212,16 +208,6 @@ slot_set old new items n c i x a holds at place l set made =
       long = s.row.long;
       each = λ j m. s.row.each j m ∙ sym (get_other old.cells.items (c * old.width + i) (v.place * old.width + j) a (rows_apart v.place c old.width j i (λ e. places_apart old items holds n k x v at at_v other (e ∙ sym place)) m l)) ∙ sym (read (v.place * old.width + j));
     })
-
-    ok : (j : ℕ) (b : Slot) → slice_get (slice_set x.slots i a) j ≡ Some b → IsMade items b
-    ok j b at_j = by (equal_or_not j i)
-      where
-        s : IsShown old x
-        s = holds.shown n x at
-
-        by : (j ≡ i) ⊎ (j ≢ i) → IsMade items b
-        by (inl e) = subst (IsMade items) (same_Some a b (sym (get_same x.slots i a (omega (arith, l, s.row.long))) ∙ ap (slice_get (slice_set x.slots i a)) (sym e) ∙ at_j)) made
-        by (inr d) = holds.made n j x b at (sym (get_other x.slots i j a d) ∙ at_j)
 
 -- ---- whether an object is there
 
@@ -268,11 +254,6 @@ get_replicate : {A : Type 0} (n i : ℕ) (a : A) → i < n → slice_get (replic
 get_replicate zero i a l = absurd (omega (arith, l))
 get_replicate (suc n) zero a l = refl
 get_replicate (suc n) (suc i) a l = get_replicate n i a (omega (arith, l))
-
-only_replicate : {A : Type 0} (n i : ℕ) (a b : A) → slice_get (replicate n a) i ≡ Some b → a ≡ b
-only_replicate zero i a b at = absurd (none-some b at)
-only_replicate (suc n) zero a b at = same_Some a b at
-only_replicate (suc n) (suc i) a b at = only_replicate n i a b at
 
 length_replicate : {A : Type 0} (n : ℕ) (a : A) → length (replicate n a) ≡ n
 length_replicate zero a = refl
@@ -374,7 +355,6 @@ module _ (old new : Heap) (c t : ℕ) (sound : IsSound old) (tables : NewTables 
       now = record {
         things = things;
         shown = λ k v at. shown k v at (get_push items (Some y) k (Some v) at).is;
-        made = λ k i v a at at_i. slot k i v a at at_i (get_push items (Some y) k (Some v) at).is;
       }
         where
           apart : (k : ℕ) (v : Item) → IsAt items k v → IsAt (items ++ Some y ∷ []) k v → v.place ≢ c
@@ -388,11 +368,6 @@ module _ (old new : Heap) (c t : ℕ) (sound : IsSound old) (tables : NewTables 
           shown : (k : ℕ) (v : Item) → IsAt (items ++ Some y ∷ []) k v → (IsAt items k v) ⊎ ((k ≡ length items) × (Some y ≡ Some v)) → IsShown new v
           shown k v at (inl e) = old_shown v (place_within old items holds k v e) (apart k v e at) (holds.shown k v e)
           shown k v at (inr e) = subst (IsShown new) (same_Some y v e.1) new_shown
-
-          slot : (k i : ℕ) (v : Item) (a : Slot) → IsAt (items ++ Some y ∷ []) k v → slice_get v.slots i ≡ Some a → (IsAt items k v) ⊎ ((k ≡ length items) × (Some y ≡ Some v)) → IsMade (items ++ Some y ∷ []) a
-          slot k i v a at at_i (inl e) = keep_slot items (items ++ Some y ∷ []) (kept_new items y) a (holds.made k i v a e at_i)
-          slot k i v a at at_i (inr e) =
-              subst (IsMade (items ++ Some y ∷ [])) (only_replicate old.width i (Number (pos 0)) a (ap (λ z. slice_get z.slots i) (same_Some y v e.1) ∙ at_i)) tt
 
 pub full_of_live : (h : Heap) (items : Items) → budget_of h.places ≤ rings.count_things (things_of items) → is_full (budget_of h.places) items ≡ true
 full_of_live h items full =

@@ -9,9 +9,7 @@ use Rattle.vlt_base.specs.Parents.{is_at_or_below}
 use Rattle.vlt_rings.specs.Things as rings
 use Rattle.vlt_rings.specs.Things.{Thing, Things, count_things}
 use Rattle.vlt_rings.proofs.Lists.{equal_or_not, get_same, get_other, get_push}
-use Rattle.vlt_heap.specs.declared.slots.Slot.{Slot}
-use Rattle.vlt_heap.specs.declared.slots.Slot.TheVariants.{Number, Object}
-use Rattle.vlt_heap.specs.Items.{Item, Items, IsAt, is_there, live_count, with_item, parents_of, without_from, without, IsMadeAt, IsMade, AreMade}
+use Rattle.vlt_heap.specs.Items.{Item, Items, IsAt, is_there, live_count, with_item, parents_of, without_from, without, IsMadeAt}
 use Rattle.vlt_heap.specs.Shown.{thing_of, things_of}
 
 -- ---- the things of objects
@@ -98,10 +96,6 @@ with_cases items n x y at k v at_k = by (equal_or_not k n)
 abbrev pub KeepMade : (old new : Items) → Type 0
 KeepMade old new = (c n : ℕ) → IsMadeAt old c n → IsMadeAt new c n
 
-pub keep_slot : (old new : Items) → KeepMade old new → (a : Slot) → IsMade old a → IsMade new a
-keep_slot old new keep (Number z) made = tt
-keep_slot old new keep (Object c n) made = keep c.0 n made
-
 pub kept_with : (items : Items) (n : ℕ) (x y : Item) → IsAt items n x → y.place ≡ x.place → KeepMade items (with_item n y items)
 kept_with items n x y at same c k made = record {
   made = rw (length-set items n (Some y)) (made.made);
@@ -129,14 +123,6 @@ made_at items n x at = record {
   place = λ v at_v. ap (λ z. z.place) (same_Some v x (same_Some (Some v) (Some x) (sym at_v ∙ at)));
 }
 
--- where each slot of what changed goes to what was made, all do
-pub made_with : (items : Items) (n : ℕ) (x y : Item) → IsAt items n x → y.place ≡ x.place → ((i : ℕ) (a : Slot) → slice_get y.slots i ≡ Some a → IsMade items a) → AreMade items → AreMade (with_item n y items)
-made_with items n x y at same ok made k i v a at_k at_i = keep_slot items (with_item n y items) (kept_with items n x y at same) a (by (with_cases items n x y at k v at_k).is)
-  where
-    by : ((k ≡ n) × (y ≡ v)) ⊎ ((k ≢ n) × IsAt items k v) → IsMade items a
-    by (inl e) = ok i a (ap (λ z. slice_get z.slots i) e.1 ∙ at_i)
-    by (inr e) = made k i v a e.1 at_i
-
 -- ---- a release
 
 pub length_without : (gone : ℕ → Bool) (m : ℕ) (items : Items) → length (without_from gone m items) ≡ length items
@@ -158,10 +144,6 @@ kept_without items n c k made = record {
   made = rw (length_without (is_at_or_below (parents_of items) (n ∷ [])) 0 items) (made.made);
   place = λ v at. made.place v (left_at (is_at_or_below (parents_of items) (n ∷ [])) 0 items k v at);
 }
-
-pub made_without : (items : Items) (n : ℕ) → AreMade items → AreMade (without n items)
-made_without items n made k i v a at_k at_i =
-    keep_slot items (without n items) (kept_without items n) a (made k i v a (left_at (is_at_or_below (parents_of items) (n ∷ [])) 0 items k v at_k) at_i)
 
 -- things of which these are gone are those of the objects that are left
 pub things_without : (gone : ℕ → Bool) (m : ℕ) (items : Items) (things : Things) → length things ≡ length items

@@ -4,7 +4,7 @@ use Rattle.std.specs.List.{count_by}
 use Rattle.vlt_base.specs.Parents.{Parents, is_at_or_below}
 use Rattle.vlt_meaning.specs.World.{max_made}
 use Rattle.vlt_heap.specs.declared.slots.Slot.{Slot}
-use Rattle.vlt_heap.specs.declared.slots.Slot.TheVariants.{Number, Object}
+use Rattle.vlt_heap.specs.declared.slots.Slot.TheVariants.{Number}
 
 -- a live object, and the place that it has
 pub record Item : Type 0 where
@@ -78,11 +78,3 @@ without n items = without_from (is_at_or_below (parents_of items) (n ∷ [])) 0 
 pub record IsMadeAt (items : Items) (c n : ℕ) : Type 0 where
   pub made : n < length items
   pub place : (o : Item) → IsAt items n o → o.place ≡ c
-
-abbrev pub IsMade : Items → Slot → Type 0
-IsMade items (Number z) = Unit {0}
-IsMade items (Object c n) = IsMadeAt items c.0 n
-
--- each slot of each object has a number, or goes to an object that was made
-abbrev pub AreMade : Items → Type 0
-AreMade items = (n i : ℕ) (o : Item) (a : Slot) → IsAt items n o → slice_get o.slots i ≡ Some a → IsMade items a

@@ -8,7 +8,7 @@ use Rattle.vlt_heap.specs.declared.slots.Slot.{Slot}
 use Rattle.vlt_heap.specs.declared.slots.Obj.{Obj}
 use Rattle.vlt_heap.specs.declared.slots.Kind.{Kind}
 use Rattle.vlt_heap.specs.declared.heap.Heap.{Heap}
-use Rattle.vlt_heap.specs.Items.{Item, Items, IsAt, is_full, new_item, AreMade, IsMade, IsMadeAt, with_item, with_slot, with_parent, with_out, without}
+use Rattle.vlt_heap.specs.Items.{Item, Items, IsAt, is_full, new_item, IsMadeAt, with_item, with_slot, with_parent, with_out, without}
 
 -- how many objects can be live at a time, and how many slots each has
 abbrev pub heap_of : Heap → ℕ
@@ -45,7 +45,6 @@ pub record IsShown (h : Heap) (o : Item) : Type 0 where
 pub record Holds (h : Heap) (items : Items) : Type 0 where
   pub things : rings.Holds h.places (things_of items)
   pub shown : (n : ℕ) (o : Item) → IsAt items n o → IsShown h o
-  pub made : AreMade items
 
 -- the tables have room for all places
 pub record IsSound (h : Heap) : Type 0 where
@@ -94,7 +93,13 @@ Changes o change old new = ForObject old o (λ items n x. Holds new (with_item n
 -- a slot of it is set
 abbrev pub Writes : Obj → (i : ℕ) → Slot → (old new : Heap) → Type 0
 Writes o i a old new =
-    ForObject old o (λ items n x. IsMade items a → Holds new (with_item n (with_slot i a x) items))
+    ForObject old o (λ items n x. Holds new (with_item n (with_slot i a x) items))
+
+-- so it is where the object of this number is at the place, and has so many slots
+abbrev pub Stores : Obj → (number i : ℕ) → Slot → (old new : Heap) → Type 0
+Stores o n i a old new =
+    (items : Items) (x : Item) → Holds old items → IsAt items n x → x.place ≡ o.0 → i < slots_of old →
+    Holds new (with_item n (with_slot i a x) items)
 
 -- it is below the parent
 abbrev pub Hangs : (child parent : Obj) → (old new : Heap) → Type 0
@@ -138,7 +143,6 @@ pub record IsSlotOf (items : Items) (n i : ℕ) (a : Slot) : Type 0 where
   pub item : Item
   pub at : IsAt items n item
   pub slot : slice_get item.slots i ≡ Some a
-  pub made : IsMade items a
 
 abbrev pub IsSlotOrNone : Option Slot → Items → (n i : ℕ) → Type 0
 IsSlotOrNone (Some a) items n i = IsSlotOf items n i a

@@ -1,7 +1,7 @@
 //! The heap.
 
 ghost use Rattle.std.specs.Prelude.{◌≡◌, ◌≢◌, ◌<◌, ◌≤◌, ◌+◌, ◌*◌, ◌++◌, ◌∷◌, [], ℕ, length, true, false, Some, None, IfOk, IfSome, IfNone, OnErr, slice_get, slice_set, vec_capacity};
-ghost use Rattle.vlt_heap.specs.Items.{Items, IsAt, with_state, with_parent, with_out, IsMade};
+ghost use Rattle.vlt_heap.specs.Items.{Items, IsAt, with_state, with_parent, with_out};
 ghost use Rattle.vlt_heap.specs.declared.slots.Kind.{Kind};
 
 use crate::slots::{Kind, Obj, Slot, at, clear, grow_to, kind_at, put, put_kind};
@@ -22,7 +22,7 @@ pub struct Heap {
 const MAX_MADE: u64 = 9_223_372_036_854_775_807;
 
 impl Heap {
-    ghost use Rattle.vlt_heap.specs.Shown.{IsSound, IsFresh, heap_of, slots_of, Holds, IsKind, IsSetKind, IsLive, IsChild, IsRoot, IsHere, IsSameSize, ForObject, Makes, Changes, Writes, Hangs, Releases, Tells, Finds, IsParentAt, TakesBack};
+    ghost use Rattle.vlt_heap.specs.Shown.{IsSound, IsFresh, heap_of, slots_of, Holds, IsKind, IsSetKind, IsLive, IsChild, IsRoot, IsHere, IsSameSize, ForObject, Makes, Changes, Writes, Stores, Hangs, Releases, Tells, Finds, IsParentAt, TakesBack};
 
     /// No objects, and room for `budget` live ones of `cells` slots each.
     pub fn open(alloc: Global, budget: u32, cells: u32) -> Result<Heap, Memory>
@@ -136,8 +136,7 @@ impl Heap {
         requires sound { IsSound self.now }
         requires live { IsLive self.now o }
         requires within { i < slots_of self.now }
-        ensures slot { ForObject self.now o (λ items n x. slice_get x.slots i ≡ Some result) }
-        ensures made { ForObject self.now o (λ items n x. IsMade items result) }
+        ensures { ForObject self.now o (λ items n x. slice_get x.slots i ≡ Some result) }
     {
         at(&self.cells, self.position(o, i))
     }
@@ -167,6 +166,18 @@ impl Heap {
     {
         let k = self.position(o, i);
         put(&mut self.cells, k, slot);
+    }
+
+    /// Sets a slot of the object of this number, where it is live at the place and has so many.
+    pub fn store(&mut self, o: Obj, number: u64, i: u64, slot: Slot)
+        requires sound { IsSound self.old }
+        ensures items { Stores o number i slot self.old self.new }
+        ensures size { IsSameSize self.old self.new }
+        ensures sound { IsSound self.new }
+    {
+        if self.is_held(o, number) && i < u64::from(self.width) {
+            self.write(o, i as u32, slot);
+        }
     }
 
     /// Sets what an object is.
