@@ -1,5 +1,6 @@
 -- What a focus comes to in the tables.
 use Rattle.std.specs.Prelude.{◌≡◌, ℕ, Some, Ok}
+use Rattle.vlt_core.specs.Core.{Func}
 use Rattle.vlt_core.specs.Lookups.{Reference, reference_of, guarded_of}
 use Rattle.vlt_meaning.specs.World.{reference, one, held, lent, adopted_by, World, Frame}
 use Rattle.vlt_meaning.specs.Found.{Named}
@@ -78,3 +79,15 @@ unfocused_world d g a n w = with_changed (with_changed w n (with_owner (adopted_
 abbrev pub HasEnded : (h : Heap) (v : Values) (c : Seen h v) (w : World) (object adopter : Obj) → FindsEnd h v c w object adopter → (new : Heap) → Type 0
 HasEnded h v c w object adopter f new =
     Shows c.items new v c.frame (unfocused_world c.frame.depth f.guard f.adopter_number f.number w).objects
+
+-- ---- what the calls do, whatever frame and objects the tables showed
+
+abbrev pub Focuses : Func → (y z : ℕ) → (old : Heap) → Values → (new : Heap) → Values → Focus → Type 0
+Focuses g y z old before new after r =
+    (c : Seen old before) (w : World) → c.func ≡ g → w.objects ≡ c.objects → (f : FindsFocus old before c w y z) →
+    IsFocus old before c w y z f new after r
+
+abbrev pub Unfocuses : Focus → (old : Heap) → Values → (new : Heap) → Type 0
+Unfocuses r old values new =
+    (c : Seen old values) (w : World) → w.objects ≡ c.objects → (f : FindsEnd old values c w r.object r.adopter) →
+    HasEnded old values c w r.object r.adopter f new

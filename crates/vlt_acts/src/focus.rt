@@ -1,13 +1,11 @@
 //! Foci.
 
-ghost use Rattle.std.specs.Prelude.{◌≡◌, ◌≤◌, ◌<◌, length, IfSome};
+ghost use Rattle.std.specs.Prelude.{◌≤◌, ◌<◌};
 ghost use Rattle.vlt_core.specs.View.{func_of};
-ghost use Rattle.vlt_core.specs.Lookups.{reference_of};
 ghost use Rattle.vlt_heap.specs.Shown.{IsSound, IsSameSize};
-ghost use Rattle.vlt_meaning.specs.World.{World};
-ghost use Rattle.vlt_values.specs.Shown.{Seen, IsTable, key_at};
-ghost use Rattle.vlt_acts.specs.Acts.{IsSameFrame};
-ghost use Rattle.vlt_acts.specs.Focus.{CanFocus, FindsFocus, HasFocused, IsFocus, CanEnd, FindsEnd, HasEnded, focused_frame, focused_world};
+ghost use Rattle.vlt_values.specs.Shown.{IsTable};
+ghost use Rattle.vlt_acts.specs.Acts.{HasKeySlot, IsSameFrame};
+ghost use Rattle.vlt_acts.specs.Focus.{CanFocus, CanEnd, Focuses, Unfocuses};
 
 use vlt_base::VarId;
 use vlt_core::Func;
@@ -27,13 +25,12 @@ pub fn begin_focus(values: &mut Values, heap: &mut Heap, func: &Func, y: VarId, 
     requires table { IsTable values.old }
     requires wide { 1 ≤ values.old.width }
     requires within { z.0 < values.old.vars }
-    requires key { IfSome (reference_of (func_of func.now) z.0) (λ r. key_at values.old r.key < length values.old.slots.items) }
+    requires key { HasKeySlot (func_of func.now) z.0 values.old }
     requires can { CanFocus heap.old values.old y.0 z.0 }
     ensures sound { IsSound heap.new }
     ensures size { IsSameSize heap.old heap.new }
     ensures same { IsSameFrame values.old values.new }
-    ensures does { (c : Seen heap.old values.old) (w : World) → c.func ≡ func_of func.now → w.objects ≡ c.objects →
-        (f : FindsFocus heap.old values.old c w y.0 z.0) → IsFocus heap.old values.old c w y.0 z.0 f heap.new values.new result }
+    ensures does { Focuses (func_of func.now) y.0 z.0 heap.old values.old heap.new values.new result }
 {
     match values.front(y) {
         Slot::Object(object, number) => {
@@ -56,8 +53,7 @@ pub fn end_focus(values: &Values, heap: &mut Heap, focus: Focus)
     requires can { CanEnd heap.old values.now focus.object focus.adopter }
     ensures sound { IsSound heap.new }
     ensures size { IsSameSize heap.old heap.new }
-    ensures does { (c : Seen heap.old values.now) (w : World) → w.objects ≡ c.objects →
-        (f : FindsEnd heap.old values.now c w focus.object focus.adopter) → HasEnded heap.old values.now c w focus.object focus.adopter f heap.new }
+    ensures does { Unfocuses focus heap.old values.now heap.new }
 {
     heap.unfocus(focus.object, focus.adopter);
 }

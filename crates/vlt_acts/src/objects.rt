@@ -3,10 +3,8 @@
 ghost use Rattle.std.specs.Prelude.{◌≡◌, ◌≤◌, ◌<◌, ℕ, Ok};
 ghost use Rattle.vlt_core.specs.Core.{become as a_become, release as a_release, adopt as an_adopt};
 ghost use Rattle.vlt_heap.specs.Shown.{IsSound, IsSameSize};
-ghost use Rattle.vlt_meaning.specs.World.{World};
-ghost use Rattle.vlt_meaning.specs.Run.{does_simple};
-ghost use Rattle.vlt_values.specs.Shown.{Seen, IsTable};
-ghost use Rattle.vlt_acts.specs.Acts.{setup, Does, IsRight, IsSameFrame};
+ghost use Rattle.vlt_values.specs.Shown.{IsTable};
+ghost use Rattle.vlt_acts.specs.Acts.{DoesIt, IsRight, IsSameFrame};
 
 use vlt_base::VarId;
 use vlt_heap::{Heap, Slot};
@@ -19,8 +17,7 @@ pub fn become_state(values: &Values, heap: &mut Heap, x: VarId, state: u8)
     requires right { IsRight heap.old values.now (a_become x.0 state) }
     ensures sound { IsSound heap.new }
     ensures size { IsSameSize heap.old heap.new }
-    ensures does { (c : Seen heap.old values.now) (w : World) (h d : ℕ) → w.objects ≡ c.objects →
-        Does c.items heap.new values.now (Ok tt) (does_simple (setup c.program h d) c.func (a_become x.0 state) c.frame w) }
+    ensures does { DoesIt heap.old values.now heap.new values.now (Ok tt) (a_become x.0 state) }
 {
     match values.front(x) {
         Slot::Object(o, _) => heap.become_state(o, state),
@@ -35,8 +32,7 @@ pub fn release(values: &Values, heap: &mut Heap, x: VarId)
     requires right { IsRight heap.old values.now (a_release x.0) }
     ensures sound { IsSound heap.new }
     ensures size { IsSameSize heap.old heap.new }
-    ensures does { (c : Seen heap.old values.now) (w : World) (h d : ℕ) → w.objects ≡ c.objects →
-        Does c.items heap.new values.now (Ok tt) (does_simple (setup c.program h d) c.func (a_release x.0) c.frame w) }
+    ensures does { DoesIt heap.old values.now heap.new values.now (Ok tt) (a_release x.0) }
 {
     match values.front(x) {
         Slot::Object(o, _) => heap.release(o),
@@ -54,8 +50,7 @@ pub fn adopt(values: &mut Values, heap: &mut Heap, y: VarId, x: VarId, r: VarId)
     ensures sound { IsSound heap.new }
     ensures size { IsSameSize heap.old heap.new }
     ensures same { IsSameFrame values.old values.new }
-    ensures does { (c : Seen heap.old values.old) (w : World) (h d : ℕ) → w.objects ≡ c.objects →
-        Does c.items heap.new values.new (Ok tt) (does_simple (setup c.program h d) c.func (an_adopt y.0 x.0 r.0) c.frame w) }
+    ensures does { DoesIt heap.old values.old heap.new values.new (Ok tt) (an_adopt y.0 x.0 r.0) }
 {
     match values.front(x) {
         Slot::Object(child, number) => match values.front(r) {

@@ -4,10 +4,8 @@ ghost use Rattle.std.specs.Prelude.{◌≡◌, ◌≤◌, ◌<◌, ℕ};
 ghost use Rattle.vlt_core.specs.View.{expr_of, operand_of};
 ghost use Rattle.vlt_core.specs.Core.{set as a_set, own as an_own};
 ghost use Rattle.vlt_heap.specs.Shown.{IsSound};
-ghost use Rattle.vlt_meaning.specs.World.{World};
-ghost use Rattle.vlt_meaning.specs.Run.{does_simple};
-ghost use Rattle.vlt_values.specs.Shown.{Seen, IsTable};
-ghost use Rattle.vlt_acts.specs.Acts.{setup, Does, IsSameFrame};
+ghost use Rattle.vlt_values.specs.Shown.{IsTable};
+ghost use Rattle.vlt_acts.specs.Acts.{DoesIt, IsSameFrame};
 
 use vlt_base::VarId;
 use vlt_core::{Expr, Operand};
@@ -22,8 +20,7 @@ pub fn set(values: &mut Values, heap: &Heap, v: VarId, e: &Expr) -> Result<(), T
     requires wide { 1 ≤ values.old.width }
     requires within { v.0 < values.old.vars }
     ensures same { IsSameFrame values.old values.new }
-    ensures does { (c : Seen heap.now values.old) (w : World) (h d : ℕ) → w.objects ≡ c.objects →
-        Does c.items heap.now values.new result (does_simple (setup c.program h d) c.func (a_set v.0 (expr_of e.now)) c.frame w) }
+    ensures does { DoesIt heap.now values.old heap.now values.new result (a_set v.0 (expr_of e.now)) }
 {
     let to = values.place(v);
     write(values, to, e, heap)
@@ -36,8 +33,7 @@ pub fn fill(values: &mut Values, heap: &Heap, v: VarId, o: &Operand) -> Result<(
     requires wide { 1 ≤ values.old.width }
     requires within { v.0 < values.old.vars }
     ensures same { IsSameFrame values.old values.new }
-    ensures does { (c : Seen heap.now values.old) (w : World) (h d : ℕ) → w.objects ≡ c.objects →
-        Does c.items heap.now values.new result (does_simple (setup c.program h d) c.func (an_own v.0 (operand_of o.now)) c.frame w) }
+    ensures does { DoesIt heap.now values.old heap.now values.new result (an_own v.0 (operand_of o.now)) }
 {
     let to = values.place(v);
     match o {

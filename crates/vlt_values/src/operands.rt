@@ -19,12 +19,15 @@ pub fn push_operand(values: &mut Values, o: &Operand, heap: &Heap) -> Result<(),
     requires sound { IsSound heap.now }
     requires table { IsTable values.old }
     requires wide { 1 ≤ values.old.width }
-    requires room { length values.old.slots.items + values.old.width ≤ vec_capacity values.old.slots }
+    requires room { length values.old.slots.items + values.old.width ≤
+        vec_capacity values.old.slots }
     ensures grown { IsGrown values.old values.new }
-    ensures long { length values.new.slots.items ≡ length values.old.slots.items + values.old.width }
+    ensures long { length values.new.slots.items ≡
+        length values.old.slots.items + values.old.width }
     ensures room { vec_capacity values.old.slots ≤ vec_capacity values.new.slots }
     ensures value { (c : Seen heap.now values.old) (w : World) → w.objects ≡ c.objects →
-        IsPushed c.items values.old values.new result (operand_got c.program c.func (operand_of o.now) c.frame w) }
+        IsPushed c.items values.old values.new result (operand_got c.program c.func
+        (operand_of o.now) c.frame w) }
 {
     let to = values.len();
     values.grow();
@@ -47,11 +50,13 @@ pub fn push_operands(values: &mut Values, operands: &[Operand], heap: &Heap) -> 
     requires sound { IsSound heap.now }
     requires table { IsTable values.old }
     requires wide { 1 ≤ values.old.width }
-    requires room { length values.old.slots.items + length operands.now * values.old.width ≤ vec_capacity values.old.slots }
+    requires room { length values.old.slots.items + length operands.now * values.old.width ≤
+        vec_capacity values.old.slots }
     ensures grown { IsGrown values.old values.new }
     ensures room { vec_capacity values.old.slots ≤ vec_capacity values.new.slots }
     ensures value { (c : Seen heap.now values.old) (w : World) → w.objects ≡ c.objects →
-        ArePushed c.items values.old values.new result (operands_got c.program c.func (map operand_of operands.now) c.frame w) }
+        ArePushed c.items values.old values.new result (operands_got c.program c.func
+        (map operand_of operands.now) c.frame w) }
 {
     match operands.split_first() {
         None => Ok(()),

@@ -102,7 +102,8 @@ impl Values {
     /// A slot of a variable.
     fn slot(&self, v: VarId, j: u32) -> Slot
         requires { IsTable self.now }
-        ensures { (a : Slot) → slice_get self.now.slots.items (var_at self.now v.0 + j) ≡ Some a → result ≡ a }
+        ensures { (a : Slot) → slice_get self.now.slots.items (var_at self.now v.0 + j) ≡
+            Some a → result ≡ a }
     {
         let k = u64::from(v.0) * u64::from(self.width) + u64::from(j);
         at(behind(&self.slots, self.base), k)
@@ -111,7 +112,8 @@ impl Values {
     /// The first slot of a variable.
     pub fn front(&self, v: VarId) -> Slot
         requires { IsTable self.now }
-        ensures { (a : Slot) → slice_get self.now.slots.items (var_at self.now v.0) ≡ Some a → result ≡ a }
+        ensures { (a : Slot) → slice_get self.now.slots.items (var_at self.now v.0) ≡ Some a →
+            result ≡ a }
     {
         self.slot(v, 0)
     }
@@ -181,7 +183,8 @@ impl Values {
         requires sound { IsSound heap.now }
         requires within { to + self.old.width ≤ length self.old.slots.items }
         ensures kept { IsKept to self.old self.new }
-        ensures filled { IsFilled (λ j. IsCellSlot heap.now object number (i * self.old.width + j)) self.new.slots.items to self.old.width }
+        ensures filled { IsFilled (λ j. IsCellSlot heap.now object number
+            (i * self.old.width + j)) self.new.slots.items to self.old.width }
     {
         let from = self.cell(i);
         for j in 0..self.width {

@@ -41,7 +41,8 @@ fn write_field(values: &mut Values, to: usize, x: VarId, i: u32, heap: &Heap)
     requires within { to + values.old.width ≤ length values.old.slots.items }
     ensures kept { IsKept to values.old values.new }
     ensures value { (c : Seen heap.now values.old) →
-        IsCopied c.items values.new to (value_of c.program c.func (a_field x.0 i) c.frame c.objects) }
+        IsCopied c.items values.new to (value_of c.program c.func
+        (a_field x.0 i) c.frame c.objects) }
 {
     match values.front(x) {
         Slot::Object(object, number) => values.copy_cell(object, number, i, to, heap),
@@ -57,7 +58,8 @@ pub fn write(values: &mut Values, to: usize, e: &Expr, heap: &Heap) -> Result<()
     requires wide { 1 ≤ values.old.width }
     ensures kept { IsKept to values.old values.new }
     ensures value { (c : Seen heap.now values.old) → IsPlace values.old to →
-        IsWritten c.items values.new to result (value_of c.program c.func (expr_of e.now) c.frame c.objects) }
+        IsWritten c.items values.new to result (value_of c.program c.func
+        (expr_of e.now) c.frame c.objects) }
 {
     match e {
         Expr::Var(v) => {
