@@ -30,7 +30,8 @@ pub fn begin_focus(values: &mut Values, heap: &mut Heap, func: &Func, y: VarId, 
     ensures sound { IsSound heap.new }
     ensures size { IsSameSize heap.old heap.new }
     ensures same { IsSameFrame values.old values.new }
-    ensures does { Focuses (func_of func.now) y.0 z.0 heap.old values.old heap.new values.new result }
+    ensures does { Focuses (func_of func.now) y.0 z.0 heap.old values.old
+        heap.new values.new result }
 {
     match values.front(y) {
         Slot::Object(object, number) => {

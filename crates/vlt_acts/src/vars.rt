@@ -20,7 +20,8 @@ pub fn set(values: &mut Values, heap: &Heap, v: VarId, e: &Expr) -> Result<(), T
     requires wide { 1 ≤ values.old.width }
     requires within { v.0 < values.old.vars }
     ensures same { IsSameFrame values.old values.new }
-    ensures does { DoesIt heap.now values.old heap.now values.new result (a_set v.0 (expr_of e.now)) }
+    ensures does { DoesIt heap.now values.old heap.now values.new result
+        (a_set v.0 (expr_of e.now)) }
 {
     let to = values.place(v);
     write(values, to, e, heap)
@@ -33,7 +34,8 @@ pub fn fill(values: &mut Values, heap: &Heap, v: VarId, o: &Operand) -> Result<(
     requires wide { 1 ≤ values.old.width }
     requires within { v.0 < values.old.vars }
     ensures same { IsSameFrame values.old values.new }
-    ensures does { DoesIt heap.now values.old heap.now values.new result (an_own v.0 (operand_of o.now)) }
+    ensures does { DoesIt heap.now values.old heap.now values.new result
+        (an_own v.0 (operand_of o.now)) }
 {
     let to = values.place(v);
     match o {
