@@ -20,7 +20,8 @@ use Rattle.c_memory.specs.declared.cells.Cell.TheVariants.{Unset, Number, Refere
 use Rattle.c_memory.specs.declared.cells.Shape.{Shape}
 use Rattle.c_memory.specs.declared.blocks.Blocks.{Blocks}
 use Rattle.c_memory.specs.Shown.{number_of, number_in, reference_in, numbers_at, references_at, block_by, shape_or, shape_at, block_in, blocks_of, IsMade, AreMade, Holds, IsSound, IsFresh, Come, Did, DidBack, IsNew, IsRead, IsParent, IsFoundAt, IsFoundIf, IsOutSet, is_root, is_here, is_out}
-use Rattle.c_memory.proofs.Tables.{get_table, get_past, length_table, same_table, set_table, unset_table, rows_apart, row_within, row_fits}
+use Rattle.vlt_rings.proofs.Rows.{rows_apart, row_within, row_fits}
+use Rattle.c_memory.proofs.Tables.{get_table, get_past, length_table, same_table, set_table, unset_table}
 use Rattle.c_memory.proofs.Showing.{live_at, found_live, thing_changed, block_changed, places_apart, place_within, same_block, map_same, without_is, parents_shown, count_shown}
 
 is_below : (i n : ℕ) → i < n → nat_lt i n ≡ true

@@ -1,6 +1,5 @@
--- Tables of values, and rows of a flat table.
-use Rattle.std.proofs.Common.{◌≡◌, ◌≢◌, ◌⊎◌, inl, inr, ℕ, zero, suc, ◌+◌, ◌*◌, ◌<◌, ◌≤◌, ◌∷◌, length, replicate, Option, Some, None, refl, ap, ◌∙◌, arith, slice_get, slice_set}
-use Rattle.std.proofs.Math.Nat.{mul-le-mul_right}
+-- Tables of values.
+use Rattle.std.proofs.Common.{◌≡◌, ◌≢◌, ℕ, zero, suc, ◌<◌, ◌≤◌, ◌∷◌, length, replicate, Option, Some, None, refl, ap, ◌∙◌, arith, slice_get, slice_set}
 use Rattle.c_memory.specs.Shown.{table}
 
 pub get_table : {A : Type 0} (n : ℕ) (f : ℕ → A) (i : ℕ) → i < n → slice_get (table n f) i ≡ Some (f i)
@@ -32,33 +31,3 @@ set_table (suc n) f g (suc k) y l is others =
 pub unset_table : {A : Type 0} (n : ℕ) (f : ℕ → Option A) → ((i : ℕ) → i < n → f i ≡ None) → table n f ≡ replicate n None
 unset_table zero f h = refl
 unset_table (suc n) f h = ap (λ x. x ∷ table n (λ j. f (suc j))) (h 0 (omega arith)) ∙ ap (λ l. None ∷ l) (unset_table n (λ j. f (suc j)) (λ i l. h (suc i) (omega (arith, l))))
-
--- ---- rows of so many cells
-
-next_row : (c d w : ℕ) → c < d → c * w + w ≤ d * w
-next_row c d w l = let m : (c + 1) * w ≤ d * w = mul-le-mul_right w (omega (arith, l)) in omega (arith, m)
-
-below_or_above : (c d : ℕ) → c ≢ d → (c < d) ⊎ (d < c)
-below_or_above zero zero n = absurd (n refl)
-below_or_above zero (suc d) n = inl (omega arith)
-below_or_above (suc c) zero n = inr (omega arith)
-below_or_above (suc c) (suc d) n = by (below_or_above c d (λ e. n (ap suc e)))
-  where
-    by : (c < d) ⊎ (d < c) → (suc c < suc d) ⊎ (suc d < suc c)
-    by (inl l) = inl (omega (arith, l))
-    by (inr l) = inr (omega (arith, l))
-
--- cells of different rows are different
-pub rows_apart : (c d w i j : ℕ) → c ≢ d → i < w → j < w → c * w + i ≢ d * w + j
-rows_apart c d w i j n li lj e = by (below_or_above c d n)
-  where
-    by : (c < d) ⊎ (d < c) → ⊥
-    by (inl l) = let m = next_row c d w l in omega (arith, m, li, lj, e)
-    by (inr l) = let m = next_row d c w l in omega (arith, m, li, lj, e)
-
--- a row is within the table
-pub row_within : (c n w i : ℕ) → c < n → i < w → c * w + i < n * w
-row_within c n w i l m = let k = next_row c n w l in omega (arith, k, m)
-
-pub row_fits : (c n w i : ℕ) → c < n → i ≤ w → c * w + i ≤ n * w
-row_fits c n w i l m = let k = next_row c n w l in omega (arith, k, m)

@@ -224,6 +224,12 @@ there_or_gone h ts c n p false at y not holds made = gone_where h ts c n holds m
     let same : q ≡ p = same_Some q p (sym at_q ∙ at) in
     not refl (ap (λ z. z.mark) (sym same) ∙ live) (ap (λ z. z.number) (sym same) ∙ number))
 
+-- what is in the place has the number
+pub has_number : (h : Places) (c number : ℕ) (p : Place) → slice_get h.places.items c ≡ Some p → p.number ≡ number → (ts : Things) (n : ℕ) (t : Thing) → Holds h ts → IsAt ts n t → t.place ≡ c → n ≡ number
+has_number h c number p at is ts n t holds at_n place =
+    let s = holds.hold.shown n t at_n in
+    sym s.number ∙ ap (λ q. q.number) (same_Some s.what p (sym s.at ∙ ap (slice_get h.places.items) place ∙ at)) ∙ is
+
 pub gone_beyond : (h : Places) (ts : Things) (c n : ℕ) → slice_get h.places.items c ≡ None → Holds h ts → IsMadeAt ts c n → slice_get ts n ≡ Some None
 gone_beyond h ts c n none holds made = gone_where h ts c n holds made (λ q at live number. none-some q (sym none ∙ at))
 

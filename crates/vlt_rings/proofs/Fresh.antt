@@ -1,11 +1,10 @@
 -- Places that have no things yet.
-use Rattle.std.proofs.Common.{◌≡◌, ◌≢◌, ◌⊎◌, inl, inr, ℕ, zero, suc, ◌+◌, ◌*◌, ◌<◌, ◌≤◌, ◌^◌, List, [], ◌∷◌, length, Option, Some, None, refl, sym, ap, ◌∙◌, subst, arith, slice_get}
+use Rattle.std.proofs.Common.{◌≡◌, ℕ, zero, suc, ◌≤◌, List, [], ◌∷◌, length, Some, refl, sym, ap, ◌∙◌, subst, arith, slice_get}
 use Rattle.std.proofs.lemmas.Option.{none-some, same_Some}
-use Rattle.vlt_rings.specs.Rings.{IsRing, AreInverse, next_of, back_of}
-use Rattle.vlt_rings.specs.declared.places.Place.{Place}
+use Rattle.vlt_rings.specs.Rings.{IsRing, AreInverse, back_of}
 use Rattle.vlt_rings.specs.declared.places.Places.{Places}
-use Rattle.vlt_rings.specs.Places.{IsHead, HasMembers, AreSorted, IsSound, IsSettled, IsFresh}
-use Rattle.vlt_rings.specs.Things.{Hold, Holds}
+use Rattle.vlt_rings.specs.Places.{AreSorted, IsSettled, IsFresh}
+use Rattle.vlt_rings.specs.Things.{Holds}
 
 empty_list : {A : Type 0} (xs : List A) → length xs ≡ 0 → xs ≡ []
 empty_list [] e = refl

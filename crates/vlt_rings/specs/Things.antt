@@ -83,6 +83,13 @@ pub record Holds (h : Places) (ts : Things) : Type 0 where
 abbrev pub IsLiveAt : Places → ℕ → Type 0
 IsLiveAt h c = IsMarked Live h.places.items c
 
+-- the thing in the place has no parent, or it has one
+abbrev pub IsLoneAt : Places → ℕ → Type 0
+IsLoneAt h c = (p : Place) → slice_get h.places.items c ≡ Some p → p.parent ≡ None
+
+abbrev pub IsHungAt : Places → ℕ → Type 0
+IsHungAt h c = (p : Place) → slice_get h.places.items c ≡ Some p → p.parent ≢ None
+
 -- a thing of this number was made there, which may be gone
 pub record IsMadeAt (ts : Things) (c n : ℕ) : Type 0 where
   pub made : n < length ts

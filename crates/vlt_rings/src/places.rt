@@ -3,7 +3,7 @@
 ghost use Rattle.std.specs.Prelude.{◌≡◌, ◌≢◌, ◌↔◌, ◌<◌, ◌≤◌, ◌+◌, ◌*◌, ◌++◌, ◌∷◌, [], length, max, true, false, Some, None, IfOk, IfSome, IfNone, IsTrue, ℕ, slice_get, slice_set, vec_capacity};
 ghost use Rattle.vlt_rings.specs.Rings.{IsRing, IsWhole, IsUnlinked, IsInserted, next_of, room_of};
 ghost use Rattle.vlt_rings.specs.Places.{head, member, home, IsHead, IsMoved, IsSound, IsSettled, IsFresh, StandsIn, HasNone, WasSet, WasPushed, IsMarked, IsSameBut, count_of};
-ghost use Rattle.vlt_rings.specs.Things.{Thing, Things, IsAt, count_things, Hold, Holds, AreReleased, IsMadeOrFull, IsLiveAt, IsMadeAt, IsThereOrGone, IsParentOf};
+ghost use Rattle.vlt_rings.specs.Things.{Thing, Things, IsAt, count_things, Hold, Holds, AreReleased, IsMadeOrFull, IsLiveAt, IsMadeAt, IsThereOrGone, IsParentOf, IsLoneAt, IsHungAt};
 ghost use Rattle.vlt_rings.specs.declared.places.Place.{Place};
 ghost use Rattle.vlt_rings.specs.declared.places.Mark.TheVariants.{Free as Unused, Doomed as Lost, Live as Alive};
 
@@ -228,6 +228,7 @@ impl Places {
         requires few { made_in self.old < 18446744073709551615 }
         ensures settled { IsSettled self.new }
         ensures budget { budget_of self.new ≡ budget_of self.old }
+        ensures live { IfSome result (λ c. IsLiveAt self.new c) }
         ensures things { (ts : Things) → Holds self.old ts → IsMadeOrFull result ts self.old self.new }
         ensures places { IfSome result (λ c. (c ≤ places_in self.old) × (places_in self.new ≡ max (places_in self.old) (c + 1))) }
         ensures same { IfNone result (self.new ≡ self.old) }
@@ -301,6 +302,7 @@ impl Places {
     /// Whether the place still has the thing of this number, which was made there.
     pub fn is_held(&self, c: u32, number: u64) -> bool
         ensures live { result ≡ true → IsLiveAt self.now c }
+        ensures number { result ≡ true → (ts : Things) (n : ℕ) (t : Thing) → Holds self.now ts → IsAt ts n t → t.place ≡ c → n ≡ number }
         ensures things { (ts : Things) → Holds self.now ts → IsMadeAt ts c number → IsThereOrGone result ts number c }
     {
         match self.at(c) {
@@ -309,11 +311,21 @@ impl Places {
         }
     }
 
+    /// The number of a thing, which goes by its place.
+    pub fn number(&self, c: u32) -> u64
+        requires live { IsLiveAt self.now c }
+        ensures { (ts : Things) (n : ℕ) (t : Thing) → Holds self.now ts → IsAt ts n t → t.place ≡ c → result ≡ n }
+    {
+        self.number_at(c)
+    }
+
     /// The place and the number of a thing's parent. The thing goes by its place.
     pub fn parent_of(&self, c: u32) -> Option<(u32, u64)>
         requires settled { IsSettled self.now }
         requires live { IsLiveAt self.now c }
-        ensures { (ts : Things) (n : ℕ) (t : Thing) → Holds self.now ts → IsAt ts n t → t.place ≡ c → IsParentOf ts t result }
+        ensures lone { IfNone result (IsLoneAt self.now c) }
+        ensures hung { IfSome result (λ r. IsHungAt self.now c) }
+        ensures things { (ts : Things) (n : ℕ) (t : Thing) → Holds self.now ts → IsAt ts n t → t.place ≡ c → IsParentOf ts t result }
     {
         match self.parent_at(c) {
             Some(parent) => Some((parent, self.number_at(parent))),

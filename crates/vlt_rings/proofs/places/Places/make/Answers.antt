@@ -1,7 +1,8 @@
-use Rattle.std.proofs.Common.{refl, arith, None}
+use Rattle.std.proofs.Common.{refl, arith, ap, ◌∙◌, None, slice_get}
 use Rattle.std.proofs.lemmas.Option.{none-some, slice_get_within}
 use Rattle.vlt_rings.specs.declared.places.Mark.TheVariants.{Free, Live}
 use Rattle.vlt_rings.proofs.Sounds.{sound_lone, mark_count}
+use Rattle.vlt_rings.proofs.Lists.{get_same}
 use Rattle.vlt_rings.proofs.Calls.{quiet_set, new_made}
 use Rattle.vlt_rings.proofs.places.Places.make.Goals as goal
 
@@ -18,3 +19,12 @@ returns-clause-settled c =
 
 pub returns-clause-things : goal.returns-clause-things
 returns-clause-things c = new_made c.args.self.now c.find_free.new.self _ c.in_ok-c.c c.find_free.ensures.settled.sound c.in_ok-c.ensures.some c.set_place.ensures.set c.find_free.ensures.budget c.find_free.ensures.made refl c.find_free.ensures.things
+
+pub returns-clause-live : goal.returns-clause-live
+returns-clause-live c =
+    let free = c.in_ok-c.ensures.some in
+    record {
+      what = record { number = c.find_free.new.self.made; mark = Live; parent = None };
+      at = ap (λ l. slice_get l c.in_ok-c.c) (c.set_place.ensures.set free.what free.at) ∙ get_same _ c.in_ok-c.c _ (slice_get_within _ _ _ free.at);
+      is = refl;
+    }

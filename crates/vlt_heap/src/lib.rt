@@ -1,0 +1,12 @@
+//! The heap of a run: objects in, places and numbers out; no memory is taken once it is open.
+//! Read `specs/Items.antt` first, then `specs/Shown.antt`: the objects that a heap shows, and what each call does to them.
+//! Rests on it: `vlt_interp::Machine::go`.
+#![tactic(auto)]
+
+mod heap;
+mod slots;
+#[cfg(test)]
+mod tests;
+
+pub use heap::Heap;
+pub use slots::{Obj, Slot};

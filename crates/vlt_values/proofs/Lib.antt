@@ -1,0 +1,7 @@
+pub mod Forms
+pub mod Touching
+pub mod Fronts
+pub mod Numbers
+pub mod Copies
+pub mod Writing
+pub mod Pushing

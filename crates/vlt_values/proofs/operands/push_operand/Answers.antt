@@ -1,0 +1,33 @@
+use Rattle.std.proofs.Common.{sym, ap, subst, inr, Ok}
+use Rattle.vlt_base.specs.States.{has_state}
+use Rattle.vlt_core.specs.View.{expr_of, operand_of}
+use Rattle.vlt_machine.specs.Got.{operand_got}
+use Rattle.vlt_values.specs.Shown.{IsPlace}
+use Rattle.vlt_values.specs.Pushed.{IsPushed}
+use Rattle.vlt_values.proofs.Fronts.{referred}
+use Rattle.vlt_values.proofs.Writing.{var_copied}
+use Rattle.vlt_values.proofs.Pushing.{grown_kept, seen_grown, pure_pushed, move_pushed, pack_pushed}
+use Rattle.vlt_values.proofs.operands.push_operand.Goals as goal
+
+pub returns-in-Pure-clause-value : goal.returns-in-Pure-clause-value
+returns-in-Pure-clause-value k = λ c w same.
+    let g = grown_kept k.args.values.now k.grow.new.self k.write.new.values k.len-to.result k.grow.ensures.grown k.len-to.ensures k.write.ensures.kept in
+    let place : IsPlace k.grow.new.self k.len-to.result = inr (rw (k.grow.ensures.grown.base, k.grow.ensures.grown.vars, k.grow.ensures.grown.width, k.len-to.ensures) (k.requires.table)) in
+    subst (λ o. IsPushed c.items k.args.values.now k.write.new.values k.write.result (operand_got c.program c.func o c.frame w)) (sym (ap operand_of k.in-Pure.is))
+    (pure_pushed k.args.heap.now k.args.values.now k.write.new.values g c w same (expr_of k.in-Pure.e) k.len-to.result k.write.result k.len-to.ensures
+    (k.write.ensures.value (seen_grown k.args.heap.now k.args.values.now k.grow.new.self k.grow.ensures.grown c) place))
+
+pub returns-in-Move-clause-value : goal.returns-in-Move-clause-value
+returns-in-Move-clause-value k = λ c w same.
+    let g = grown_kept k.args.values.now k.grow.new.self k.copy_var.new.self k.len-to.result k.grow.ensures.grown k.len-to.ensures k.copy_var.ensures.kept in
+    let place : IsPlace k.grow.new.self k.len-to.result = inr (rw (k.grow.ensures.grown.base, k.grow.ensures.grown.vars, k.grow.ensures.grown.width, k.len-to.ensures) (k.requires.table)) in
+    subst (λ o. IsPushed c.items k.args.values.now k.copy_var.new.self (Ok tt) (operand_got c.program c.func o c.frame w)) (sym (ap operand_of k.in-Move.is))
+    (move_pushed k.args.heap.now k.args.values.now k.copy_var.new.self g c w same k.in-Move.v.0 k.len-to.result k.len-to.ensures
+    (var_copied k.args.heap.now k.grow.new.self k.copy_var.new.self (seen_grown k.args.heap.now k.args.values.now k.grow.new.self k.grow.ensures.grown c) k.in-Move.v.0 k.len-to.result place k.copy_var.ensures.kept.width k.copy_var.ensures.filled))
+
+pub returns-in-Pack-clause-value : goal.returns-in-Pack-clause-value
+returns-in-Pack-clause-value k = λ c w same.
+    let g = grown_kept k.args.values.now k.grow.new.self k.put_front.new.self k.len-to.result k.grow.ensures.grown k.len-to.ensures k.put_front.ensures.kept in
+    subst (λ o. IsPushed c.items k.args.values.now k.put_front.new.self (Ok tt) (operand_got c.program c.func o c.frame w)) (sym (ap operand_of k.in-Pack.is))
+    (pack_pushed k.args.heap.now k.args.values.now k.put_front.new.self g c w same k.in-Pack.x.0 (has_state k.in-Pack.field-1) k.len-to.result k.front-a.result k.len-to.ensures k.requires.wide k.put_front.ensures.front
+    (λ m p. referred k.args.heap.now k.grow.new.self (seen_grown k.args.heap.now k.args.values.now k.grow.new.self k.grow.ensures.grown c) k.in-Pack.x.0 k.front-a.result k.front-a.ensures m p.touched))

@@ -1,0 +1,10 @@
+use Rattle.vlt_values.proofs.Writing.{cell_copied, number_copied}
+use Rattle.std.proofs.Common.{refl}
+use Rattle.vlt_values.proofs.writes.write_field.Goals as goal
+
+pub returns-in-Object-clause-value : goal.returns-in-Object-clause-value
+returns-in-Object-clause-value c = λ s.
+    cell_copied c.args.heap.now c.args.values.now c.copy_cell.new.self s c.args.x.0 c.args.i c.args.to c.front.result c.in-Object.object c.in-Object.number c.front.ensures c.in-Object.is c.copy_cell.ensures.kept.width c.copy_cell.ensures.filled
+
+pub returns-in-Number-clause-value : goal.returns-in-Number-clause-value
+returns-in-Number-clause-value c = λ s. number_copied c.args.heap.now c.args.values.now c.args.values.now s c.args.x.0 c.args.i c.args.to c.front.result _ c.front.ensures c.in-Number.is refl

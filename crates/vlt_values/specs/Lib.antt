@@ -1,0 +1,5 @@
+pub mod Parts
+pub mod Filled
+pub mod Shown
+pub mod Pushed
+pub mod Asked
