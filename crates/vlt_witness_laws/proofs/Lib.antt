@@ -1,0 +1,4 @@
+pub mod Paths
+pub mod Widening
+pub mod Meets
+pub mod Refuting
