@@ -1,10 +1,10 @@
 -- Some path leads to what is found.
-use Rattle.std.proofs.Common.{◌≡◌, ◌⊎◌, ℕ, zero, suc, Bool, true, false, List, [], ◌∷◌, map, refl, sym, subst, inl, inr, ⊎_elim}
+use Rattle.std.proofs.Common.{◌⊎◌, ℕ, zero, suc, true, false, List, ◌∷◌, map, refl, inl, inr, ⊎_elim}
 use Rattle.vlt_core.specs.Core.{Tok}
 use Rattle.vlt_core.specs.Maps.{Row, gone}
 use Rattle.vlt_core.specs.Flow.{Flow, step, choose, loop, switch, scope, focus, return, jump, Block, block, Stmts, done, next, Arms, no_arms, arm}
-use Rattle.vlt_core.specs.Found.{One, Ones, image, images, both, turns, Exit, to_next, to_break, to_continue, jumps, out, out_block, out_stmts, out_arms, head_of}
-use Rattle.vlt_core.specs.Witness.{Choice, choice, then_arm, else_arm, turn, exit, case_arm, only, LeadsOn, Turns, Takes, Through, ThroughBlock, ThroughStmts, ThroughArm}
+use Rattle.vlt_core.specs.Found.{One, Ones, images, both, turns, Exit, to_next, to_break, to_continue, out, out_block, out_stmts, out_arms, head_of}
+use Rattle.vlt_core.specs.Witness.{Choice, choice, then_arm, else_arm, turn, exit, case_arm, LeadsOn, Turns, Through, ThroughBlock, ThroughStmts, ThroughArm}
 use Rattle.vlt_flow_laws.specs.Tame.{IsTame, IsTameBlock, IsTameStmts, IsTameArms}
 use Rattle.vlt_flow_laws.proofs.Smooth.{smooth_images}
 use Rattle.vlt_flow_laws.proofs.Showing.{jump_none_block}

@@ -5,3 +5,4 @@ pub mod Refuting
 pub mod Leading
 pub mod Meeting
 pub mod Showing
+pub mod Formed

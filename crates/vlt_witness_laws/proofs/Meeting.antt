@@ -1,14 +1,14 @@
 -- Some path comes to each row and to each join of which something is found.
-use Rattle.std.proofs.Common.{◌≡◌, ◌+◌, ◌⊎◌, ℕ, zero, suc, Bool, true, false, List, [], ◌∷◌, map, length, refl, sym, ap, subst, inl, inr, ⊎_elim}
+use Rattle.std.proofs.Common.{◌≡◌, ◌+◌, ℕ, zero, suc, Bool, true, false, List, [], ◌∷◌, map, length, refl, ap, subst, inl, inr, ⊎_elim}
 use Rattle.vlt_core.specs.Core.{Tok}
 use Rattle.vlt_core.specs.Maps.{Row, is_tok, gone}
 use Rattle.vlt_core.specs.Flow.{Flow, step, choose, loop, switch, scope, focus, return, jump, Block, block, Stmts, done, next, Arms, no_arms, arm, end_of}
-use Rattle.vlt_core.specs.Found.{One, Ones, image, images, Exit, to_next, out, out_block, out_stmts, head_of}
-use Rattle.vlt_core.specs.Faults.{If, Spot, row_spot, head_spot, join_spot, spots, spots_block, spots_stmts, spots_arms, RowAt, SpotAt, SpotAtBlock, SpotAtStmts, SpotAtArms}
-use Rattle.vlt_core.specs.Witness.{Choice, choice, then_arm, else_arm, turn, case_arm, only, LeadsOn, Through, ThroughBlock, ThroughStmts, Reaches, RowMet, MetHere, JoinMet, Met, MetBlock, MetStmts, MetArm}
+use Rattle.vlt_core.specs.Found.{One, Ones, image, images, to_next, out, out_block, out_stmts, head_of}
+use Rattle.vlt_core.specs.Faults.{If, Spot, row_spot, spots, spots_block, spots_stmts, RowAt, SpotAt, SpotAtBlock, SpotAtStmts, SpotAtArms}
+use Rattle.vlt_core.specs.Witness.{Choice, choice, then_arm, else_arm, turn, case_arm, Through, ThroughBlock, Reaches, RowMet, MetHere, JoinMet, Met, MetBlock, MetStmts, MetArm}
 use Rattle.vlt_flow_laws.specs.Tame.{IsTame, IsTameBlock, IsTameStmts, IsTameArms}
 use Rattle.vlt_flow_laws.proofs.Smooth.{smooth_image}
-use Rattle.vlt_witness_laws.proofs.Leading.{Path, Source, source, Grows, Leads, back, lead_form, lead_block, lead_stmts}
+use Rattle.vlt_witness_laws.proofs.Leading.{Path, source, Grows, Leads, back, lead_form, lead_block, lead_stmts}
 
 -- what is so of a row, or of a join, where something is found is so of a status that is found
 pub record Singles (R : Row → Ones → Type 0) (J : Ones → Type 0) (P : (at : ℕ) → Row → One → Type 0) (Q : Spot → One → Type 0) (p : Spot) (t : Tok) : Type 1 where

@@ -1,12 +1,12 @@
 -- A path to a join comes with what is found there.
-use Rattle.std.proofs.Common.{◌≡◌, ◌+◌, ◌⊎◌, ℕ, zero, suc, List, [], ◌∷◌, map, length, refl, sym, subst, inl, inr, ⊎_elim}
+use Rattle.std.proofs.Common.{◌+◌, ℕ, zero, suc, List, [], ◌∷◌, map, length, sym, inl, inr, ⊎_elim}
 use Rattle.vlt_core.specs.Core.{Tok}
 use Rattle.vlt_core.specs.Maps.{Row, gone}
 use Rattle.vlt_core.specs.Flow.{Flow, step, choose, loop, switch, scope, focus, return, jump, Block, block, Stmts, done, next, Arms, no_arms, arm, end_of}
-use Rattle.vlt_core.specs.Found.{One, Ones, image, images, Exit, to_next, out, out_block, out_stmts, head_of}
-use Rattle.vlt_core.specs.Faults.{Spot, head_spot, join_spot, spots, spots_block, spots_arms, SpotAt, SpotAtBlock, SpotAtStmts, SpotAtArms}
-use Rattle.vlt_core.specs.Witness.{Choice, LeadsOn, Way, Through, ThroughBlock, RowMet, MetHere, JoinMet, Met, MetBlock, MetStmts, MetArm, NoRow, IsJoin}
-use Rattle.vlt_witness_laws.proofs.Paths.{Comes, lead, reaches_head, through_out, through_block, through_stmts}
+use Rattle.vlt_core.specs.Found.{One, Ones, images, to_next, out, head_of}
+use Rattle.vlt_core.specs.Faults.{Spot, spots, spots_block, SpotAt, SpotAtBlock, SpotAtStmts, SpotAtArms}
+use Rattle.vlt_core.specs.Witness.{Choice, RowMet, Met, MetBlock, MetStmts, MetArm, NoRow, IsJoin}
+use Rattle.vlt_witness_laws.proofs.Paths.{Comes, lead, reaches_head, through_out, through_block}
 
 abbrev pub Never : Row → Ones → Type 0
 Never r S = ⊥

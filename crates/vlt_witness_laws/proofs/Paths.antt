@@ -1,11 +1,11 @@
 -- What a path comes out with is found there.
-use Rattle.std.proofs.Common.{◌≡◌, ◌⊎◌, ℕ, zero, suc, Bool, true, false, List, [], ◌∷◌, map, refl, sym, subst, inl, inr, ⊎_elim}
+use Rattle.std.proofs.Common.{◌⊎◌, ℕ, zero, suc, Bool, true, false, List, map, sym, subst, inl, inr, ⊎_elim}
 use Rattle.vlt_core.specs.Core.{Tok}
 use Rattle.vlt_core.specs.Maps.{Row, gone}
 use Rattle.vlt_core.specs.Flow.{Flow, step, choose, loop, switch, scope, focus, return, jump, Block, block, Stmts, done, next, Arms, no_arms, arm}
-use Rattle.vlt_core.specs.Found.{One, Ones, image, images, Exit, to_next, to_break, to_continue, jumps, out, out_block, out_stmts, out_arms, head_of}
+use Rattle.vlt_core.specs.Found.{One, Ones, images, Exit, to_next, to_break, to_continue, jumps, out, out_block, out_stmts, out_arms, head_of}
 use Rattle.vlt_core.specs.Witness.{Choice, only, LeadsOn, Turns, Takes, Through, ThroughBlock, ThroughStmts, ThroughArm, Reaches}
-use Rattle.vlt_flow_laws.proofs.Smooth.{smooth_image, smooth_images, heads_closed}
+use Rattle.vlt_flow_laws.proofs.Smooth.{smooth_images, heads_closed}
 use Rattle.vlt_flow_laws.proofs.Sweeping.{smooth_round}
 
 pub lead : (t : Tok) (rs : List Row) (S : Ones) (o q : One) → S o → LeadsOn t rs o q → images t rs S q

@@ -1,15 +1,15 @@
 -- Where an annotation holds, no path comes to a row that refuses, and no two to a join that is mixed.
-use Rattle.std.proofs.Common.{◌≡◌, ◌+◌, ◌⊎◌, ℕ, zero, suc, Bool, true, false, List, [], ◌∷◌, map, length, Option, None, Some, refl, sym, subst, inl, inr, ⊎_elim}
+use Rattle.std.proofs.Common.{◌≡◌, ◌+◌, ◌⊎◌, ℕ, zero, suc, List, [], ◌∷◌, map, length, Option, None, Some, refl, sym, subst, inl, ⊎_elim}
 use Rattle.vlt_core.specs.Core.{Tok, Func, Program}
-use Rattle.vlt_core.specs.Maps.{Status, HeldMap, Wanted, Row, row_passed, CanPass, passed, IsBelow, is_tok, gone}
+use Rattle.vlt_core.specs.Maps.{HeldMap, Wanted, Row, row_passed, CanPass, passed, IsBelow, is_tok, gone}
 use Rattle.vlt_core.specs.Flow.{Flow, step, choose, loop, switch, scope, focus, return, jump, Block, block, Stmts, done, next, Arms, no_arms, arm, end_of, size, size_block}
 use Rattle.vlt_core.specs.Bodies.{body_flow}
 use Rattle.vlt_core.specs.Derives.{start_map}
 use Rattle.vlt_core.specs.Local.{Notes, When, leads, leads_block, leads_stmts, IsLocal, IsLocalBlock, IsLocalStmts, IsLocalArms, IsLocalIn}
-use Rattle.vlt_core.specs.Found.{One, one_absent, Ones, Has, WantsOne, image, images, Exit, to_next, to_continue, out, out_block, out_stmts, head_of}
+use Rattle.vlt_core.specs.Found.{One, one_absent, Ones, Has, to_next, to_continue}
 use Rattle.vlt_core.specs.Faults.{If, Spot, IsPresent, IsMixed, IsUnwanted, SpotAtBlock, spots, spots_block, FaultKind, at_row, at_join, FlowFault}
-use Rattle.vlt_core.specs.Witness.{Choice, only, LeadsOn, Through, ThroughBlock, ThroughStmts, Reaches, RowMet, MetHere, Met, MetBlock, MetStmts, MetArm, Refuses, NoJoin, NoRow, IsJoin, IsWitnessIn}
-use Rattle.vlt_flow_laws.proofs.Founds.{IsIn, HasAt, MeetsOne, image_in, images_in, rows_fault_none, has_below, mixed_none, local_out, local_out_block, local_out_stmts}
+use Rattle.vlt_core.specs.Witness.{Choice, only, LeadsOn, ThroughBlock, Reaches, RowMet, Met, MetBlock, MetStmts, MetArm, Refuses, NoJoin, IsWitnessIn}
+use Rattle.vlt_flow_laws.proofs.Founds.{IsIn, HasAt, image_in, images_in, rows_fault_none, has_below, mixed_none, local_out, local_out_block, local_out_stmts}
 use Rattle.vlt_flow_laws.proofs.Spots.{faulty_block}
 use Rattle.vlt_fault_laws.proofs.Together.{block_together}
 use Rattle.vlt_witness_laws.proofs.Paths.{through_out, through_block, through_stmts}

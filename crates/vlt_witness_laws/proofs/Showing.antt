@@ -1,17 +1,15 @@
 -- The first fault of a body has a witness.
-use Rattle.std.proofs.Common.{◌≡◌, ℕ, true, List, Option, None, Some, slice_get, refl, sym, subst}
+use Rattle.std.proofs.Common.{◌≡◌, ℕ, List, Option, None, Some, slice_get, refl, sym}
 use Rattle.vlt_core.specs.Core.{Tok, Func, Program}
-use Rattle.vlt_core.specs.Maps.{Wanted, Row, is_tok}
-use Rattle.vlt_core.specs.Flow.{Block}
+use Rattle.vlt_core.specs.Maps.{Wanted, Row}
 use Rattle.vlt_core.specs.Bodies.{body_flow}
 use Rattle.vlt_core.specs.Derives.{start_map}
 use Rattle.vlt_core.specs.Found.{One, one_absent, Ones, Has, WantsOne}
-use Rattle.vlt_core.specs.Faults.{Spot, SpotAtBlock, IsPresent, IsMixed, IsUnwanted, FaultKind, at_row, at_join, TellsRow, TellsJoin, IsToldOf, IsFaultIn, IsFirstIn, FlowFault, IsFirstFault}
-use Rattle.vlt_core.specs.Witness.{Choice, MetBlock, Refuses, NoJoin, NoRow, IsJoin, IsWitnessIn}
+use Rattle.vlt_core.specs.Faults.{Spot, SpotAtBlock, IsPresent, IsMixed, IsUnwanted, FaultKind, at_row, at_join, TellsRow, TellsJoin, IsToldOf, IsFaultIn, FlowFault, IsFirstFault}
+use Rattle.vlt_core.specs.Witness.{Choice, Refuses, NoJoin, NoRow, IsJoin, IsWitnessIn}
 use Rattle.vlt_flow_laws.specs.Tame.{IsTameBlock}
 use Rattle.vlt_fault_laws.proofs.Together.{block_together}
 use Rattle.vlt_witness_laws.specs.Shown.{HasWitness}
-use Rattle.vlt_witness_laws.proofs.Leading.{Path}
 use Rattle.vlt_witness_laws.proofs.Widening.{wide_block}
 use Rattle.vlt_witness_laws.proofs.Meets.{Never, Holds}
 use Rattle.vlt_witness_laws.proofs.Meeting.{Singles, body}

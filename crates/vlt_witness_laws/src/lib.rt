@@ -1,15 +1,15 @@
 //! Laws on witnesses: nothing goes in and nothing comes out.
-//! Read of vlt_core `specs/Witness.antt` first.
-//! That a witness shows a program to be refused rests on it.
+//! Read of vlt_core `specs/Witness.antt` first, then `specs/Shown.antt`.
+//! That a witness shows a program to be refused, and that each refusal has one, rests on them.
 #![tactic(auto)]
 
-ghost use Rattle.std.specs.Prelude.{◌≡◌, List, Option, Some, slice_get};
+ghost use Rattle.std.specs.Prelude.{List, Option};
 ghost use Rattle.vlt_core.specs.Core.{Func, Program};
-ghost use Rattle.vlt_core.specs.Bodies.{body_flow};
+ghost use Rattle.vlt_core.specs.Derives.{IsAccepted};
 ghost use Rattle.vlt_core.specs.Local.{Notes, IsLocalIn};
 ghost use Rattle.vlt_core.specs.Faults.{FlowFault, IsFirstFault};
 ghost use Rattle.vlt_core.specs.Witness.{Choice, IsWitnessIn};
-ghost use Rattle.vlt_flow_laws.specs.Tame.{IsTameBlock};
+ghost use Rattle.vlt_check.specs.Checks.{IsWellFormed};
 ghost use Rattle.vlt_witness_laws.specs.Shown.{HasWitness};
 
 /// In a body of which paths show a fault no annotation holds.
@@ -18,8 +18,12 @@ pub fn witness_refutes()
         IsWitnessIn p f x first second → IsLocalIn p f a → ⊥ }
 {}
 
-/// The first fault of a body has a witness, where tokens are lent in a focus alone.
+/// A program that is accepted has no witness of any fault.
+pub fn accepted_has_no_witness()
+    ensures { (p : Program) (x : FlowFault) → IsWellFormed p → IsAccepted p → HasWitness p x → ⊥ }
+{}
+
+/// The first fault of a program has a witness.
 pub fn first_fault_has_witness()
-    ensures { (p : Program) (x : FlowFault) → IsFirstFault p x →
-        ((f : Func) → slice_get p.fns x.function ≡ Some f → IsTameBlock (body_flow p f)) → HasWitness p x }
+    ensures { (p : Program) (x : FlowFault) → IsWellFormed p → IsFirstFault p x → HasWitness p x }
 {}
