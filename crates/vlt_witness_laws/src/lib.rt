@@ -14,7 +14,8 @@ ghost use Rattle.vlt_witness_laws.specs.Shown.{HasWitness};
 
 /// In a body of which paths show a fault no annotation holds.
 pub fn witness_refutes()
-    ensures { (p : Program) (f : Func) (x : FlowFault) (first : List Choice) (second : Option (List Choice)) (a : Notes) →
+    ensures { (p : Program) (f : Func) (x : FlowFault) (first : List Choice)
+        (second : Option (List Choice)) (a : Notes) →
         IsWitnessIn p f x first second → IsLocalIn p f a → ⊥ }
 {}
 
