@@ -7,7 +7,7 @@ use Rattle.vlt_core.specs.Found.{One, Ones, images, both, turns, Exit, to_next, 
 use Rattle.vlt_core.specs.Witness.{Choice, choice, then_arm, else_arm, turn, exit, case_arm, LeadsOn, Turns, Through, ThroughBlock, ThroughStmts, ThroughArm}
 use Rattle.vlt_flow_laws.specs.Tame.{IsTame, IsTameBlock, IsTameStmts, IsTameArms}
 use Rattle.vlt_flow_laws.proofs.Smooth.{smooth_images}
-use Rattle.vlt_flow_laws.proofs.Showing.{jump_none_block}
+use Rattle.vlt_witness_laws.proofs.Jumpless.{no_jump_block}
 
 -- a status that comes, and choices with which this is so
 pub record Path (S : Ones) (K : One → List Choice → Type 0) : Type 0 where
@@ -99,8 +99,8 @@ mutual
       let z = lead_block s t (images t rs S) to_next e.start ds j.1 e.comes in
       let o = source t rs S z.start z.comes in
       record { start = o.start; comes = o.comes; choices = z.choices; fact = (refl, (z.start, o.leads, (e.start, z.fact, e.leads))) }
-  lead_form (focus rs s es) t at S to_break q ds j w = absurd ((jump_none_block s t (images t rs S) q j.2).0 w)
-  lead_form (focus rs s es) t at S to_continue q ds j w = absurd ((jump_none_block s t (images t rs S) q j.2).1 w)
+  lead_form (focus rs s es) t at S to_break q ds j w = absurd ((no_jump_block s t (images t rs S) q j.2).0 w)
+  lead_form (focus rs s es) t at S to_continue q ds j w = absurd ((no_jump_block s t (images t rs S) q j.2).1 w)
   lead_form (return rs) t at S x q ds j w = absurd w
   lead_form (jump true left) t at S to_continue q ds j w = let z = source t (map gone left) S q w in record { start = z.start; comes = z.comes; choices = ds; fact = (tt, z.leads, refl) }
   lead_form (jump true left) t at S to_next q ds j w = absurd w
