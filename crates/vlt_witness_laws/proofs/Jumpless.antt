@@ -22,17 +22,20 @@ mutual
       never : IsTrue false → ⊥
       never x = search rules
 
-  pub no_jump_block : (s : Block) (t : Tok) (S : Ones) (o : One) → IsJumpingBlock false s → (out_block t s S to_break o → ⊥) × (out_block t s S to_continue o → ⊥)
+  pub no_jump_block : (s : Block) (t : Tok) (S : Ones) (o : One) → IsJumpingBlock false s →
+      (out_block t s S to_break o → ⊥) × (out_block t s S to_continue o → ⊥)
   no_jump_block (block ss bound end) t S o j = no_jump_stmts ss t S o j
 
-  no_jump_stmts : (ss : Stmts) (t : Tok) (S : Ones) (o : One) → IsJumpingStmts false ss → (out_stmts t ss S to_break o → ⊥) × (out_stmts t ss S to_continue o → ⊥)
+  no_jump_stmts : (ss : Stmts) (t : Tok) (S : Ones) (o : One) → IsJumpingStmts false ss →
+      (out_stmts t ss S to_break o → ⊥) × (out_stmts t ss S to_continue o → ⊥)
   no_jump_stmts done t S o j = (λ x. x, λ x. x)
   no_jump_stmts (next at s rest) t S o j =
       let f = no_jump s t S o j.0 in
       let e = no_jump_stmts rest t (out t s S to_next) o j.1 in
       (⊎_elim f.0 e.0, ⊎_elim f.1 e.1)
 
-  no_jump_arms : (arms : Arms) (t : Tok) (S : Ones) (o : One) → IsJumpingArms false arms → (out_arms t arms S to_break o → ⊥) × (out_arms t arms S to_continue o → ⊥)
+  no_jump_arms : (arms : Arms) (t : Tok) (S : Ones) (o : One) → IsJumpingArms false arms →
+      (out_arms t arms S to_break o → ⊥) × (out_arms t arms S to_continue o → ⊥)
   no_jump_arms no_arms t S o j = (λ x. x, λ x. x)
   no_jump_arms (arm rs s rest) t S o j =
       let f = no_jump_block s t (images t rs S) o j.0 in
