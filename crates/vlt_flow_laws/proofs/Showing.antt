@@ -125,7 +125,7 @@ mutual
       never : IsTrue false → ⊥
       never x = search rules
 
-  pub jump_none_block : (s : Block) (t : Tok) (S : Ones) (o : One) → IsJumpingBlock false s → (out_block t s S to_break o → ⊥) × (out_block t s S to_continue o → ⊥)
+  jump_none_block : (s : Block) (t : Tok) (S : Ones) (o : One) → IsJumpingBlock false s → (out_block t s S to_break o → ⊥) × (out_block t s S to_continue o → ⊥)
   jump_none_block (block ss bound end) t S o j = jump_none_stmts ss t S o j
 
   jump_none_stmts : (ss : Stmts) (t : Tok) (S : Ones) (o : One) → IsJumpingStmts false ss → (out_stmts t ss S to_break o → ⊥) × (out_stmts t ss S to_continue o → ⊥)

@@ -7,7 +7,7 @@ use Rattle.vlt_core.specs.Found.{One, Ones, images, both, turns, Exit, to_next, 
 use Rattle.vlt_core.specs.Witness.{Choice, choice, then_arm, else_arm, turn, exit, case_arm, LeadsOn, Turns, Through, ThroughBlock, ThroughStmts, ThroughArm}
 use Rattle.vlt_flow_laws.specs.Tame.{IsTame, IsTameBlock, IsTameStmts, IsTameArms}
 use Rattle.vlt_flow_laws.proofs.Smooth.{smooth_images}
-use Rattle.vlt_flow_laws.proofs.Showing.{jump_none_block}
+use Rattle.vlt_witness_laws.proofs.Jumpless.{no_jump_block}
 
 -- a status that comes, and choices with which this is so
 pub record Path (S : Ones) (K : One → List Choice → Type 0) : Type 0 where
@@ -27,7 +27,8 @@ source t rs S q w = let z = (smooth_images t rs).one S q w in record { start = z
 
 -- Turns behind turns: K says what comes behind so many.
 pub record Grows (t : Tok) (rs : List Row) (s : Block) (at : ℕ) (K : ℕ → One → List Choice → Type 0) : Type 0 where
-  pub more : (j : ℕ) (o m r : One) (es fs : List Choice) → LeadsOn t rs o m → (ThroughBlock t s m es to_next r fs ⊎ ThroughBlock t s m es to_continue r fs) → K j r fs → K (suc j) o (choice at turn ∷ es)
+  pub more : (j : ℕ) (o m r : One) (es fs : List Choice) → LeadsOn t rs o m →
+      (ThroughBlock t s m es to_next r fs ⊎ ThroughBlock t s m es to_continue r fs) → K j r fs → K (suc j) o (choice at turn ∷ es)
 
 -- ways lead to what comes out of a block
 pub record Leads (t : Tok) (s : Block) : Type 1 where
@@ -43,11 +44,21 @@ module _ (t : Tok) (rs : List Row) (s : Block) (at : ℕ) (leads : Leads t s) (K
       (λ y.
       let z = leads.path (images t rs T) to_next r fs y in
       let o = source t rs T z.start z.comes in
-      record { start = o.start; comes = o.comes; choices = choice at turn ∷ z.choices; fact = grows.more j o.start z.start r z.choices fs o.leads (inl z.fact) k })
+      record {
+        start = o.start;
+        comes = o.comes;
+        choices = choice at turn ∷ z.choices;
+        fact = grows.more j o.start z.start r z.choices fs o.leads (inl z.fact) k;
+      })
       (λ y.
       let z = leads.path (images t rs T) to_continue r fs y in
       let o = source t rs T z.start z.comes in
-      record { start = o.start; comes = o.comes; choices = choice at turn ∷ z.choices; fact = grows.more j o.start z.start r z.choices fs o.leads (inr z.fact) k }) w
+      record {
+        start = o.start;
+        comes = o.comes;
+        choices = choice at turn ∷ z.choices;
+        fact = grows.more j o.start z.start r z.choices fs o.leads (inr z.fact) k;
+      }) w
 
   pub back : (S : Ones) (n j : ℕ) (r : One) (fs : List Choice) → turns (round t rs s) n S r → K j r fs → Path S (λ o cs. (i : ℕ) × K i o cs)
   back S zero j r fs w k = record { start = r; comes = w; choices = fs; fact = (j, k) }
@@ -57,23 +68,40 @@ module _ (t : Tok) (rs : List Row) (s : Block) (at : ℕ) (leads : Leads t s) (K
 
 -- ---- parts
 
-pub turns_grow : (t : Tok) (rs : List Row) (s : Block) (at : ℕ) (q : One) (ds : List Choice) → Grows t rs s at (λ n o cs. Turns (ThroughBlock t s) t rs at n o cs q ds)
+pub turns_grow : (t : Tok) (rs : List Row) (s : Block) (at : ℕ) (q : One) (ds : List Choice) →
+    Grows t rs s at (λ n o cs. Turns (ThroughBlock t s) t rs at n o cs q ds)
 turns_grow t rs s at q ds = record { more = λ j o m r es fs l b k. (m, l, (es, refl, (r, (fs, b, k)))) }
 
 mutual
-  pub lead_form : (s : Flow) (t : Tok) (at : ℕ) (S : Ones) (x : Exit) (q : One) (ds : List Choice) → IsTame s → out t s S x q → Path S (λ o cs. Through t at s o cs x q ds)
-  lead_form (step rs) t at S to_next q ds j w = let z = source t rs S q w in record { start = z.start; comes = z.comes; choices = ds; fact = (refl, z.leads, refl) }
+  pub lead_form : (s : Flow) (t : Tok) (at : ℕ) (S : Ones) (x : Exit) (q : One) (ds : List Choice) → IsTame s → out t s S x q →
+      Path S (λ o cs. Through t at s o cs x q ds)
+  lead_form (step rs) t at S to_next q ds j w = let z = source t rs S q w in record {
+    start = z.start;
+    comes = z.comes;
+    choices = ds;
+    fact = (refl, z.leads, refl);
+  }
   lead_form (step rs) t at S to_break q ds j w = absurd w
   lead_form (step rs) t at S to_continue q ds j w = absurd w
   lead_form (choose rs a b) t at S x q ds j w = ⊎_elim
       (λ y.
       let z = lead_block a t (images t rs S) x q ds j.1 y in
       let o = source t rs S z.start z.comes in
-      record { start = o.start; comes = o.comes; choices = choice at then_arm ∷ z.choices; fact = (z.start, o.leads, (z.choices, inl (refl, z.fact))) })
+      record {
+        start = o.start;
+        comes = o.comes;
+        choices = choice at then_arm ∷ z.choices;
+        fact = (z.start, o.leads, (z.choices, inl (refl, z.fact)));
+      })
       (λ y.
       let z = lead_block b t (images t rs S) x q ds j.2 y in
       let o = source t rs S z.start z.comes in
-      record { start = o.start; comes = o.comes; choices = choice at else_arm ∷ z.choices; fact = (z.start, o.leads, (z.choices, inr (refl, z.fact))) }) w
+      record {
+        start = o.start;
+        comes = o.comes;
+        choices = choice at else_arm ∷ z.choices;
+        fact = (z.start, o.leads, (z.choices, inr (refl, z.fact)));
+      }) w
   lead_form (loop rs s) t at S to_next q ds j w =
       let leads : Leads t s = record { path = λ S x q ds y. lead_block s t S x q ds j.1 y } in
       let grows = turns_grow t rs s at q ds in
@@ -92,32 +120,64 @@ mutual
   lead_form (switch rs arms end) t at S x q ds j w =
       let z = lead_arms arms t (images t rs S) x q ds j.1 w in
       let o = source t rs S z.start z.comes in
-      record { start = o.start; comes = o.comes; choices = choice at (case_arm z.fact.0) ∷ z.choices; fact = (z.start, o.leads, (z.fact.0, (z.choices, refl, z.fact.1))) }
-  lead_form (scope s) t at S x q ds j w = let z = lead_block s t S x q ds j w in record { start = z.start; comes = z.comes; choices = z.choices; fact = z.fact }
+      record {
+        start = o.start;
+        comes = o.comes;
+        choices = choice at (case_arm z.fact.0) ∷ z.choices;
+        fact = (z.start, o.leads, (z.fact.0, (z.choices, refl, z.fact.1)));
+      }
+  lead_form (scope s) t at S x q ds j w = let z = lead_block s t S x q ds j w in record {
+    start = z.start;
+    comes = z.comes;
+    choices = z.choices;
+    fact = z.fact;
+  }
   lead_form (focus rs s es) t at S to_next q ds j w =
       let e = source t es (out_block t s (images t rs S) to_next) q w in
       let z = lead_block s t (images t rs S) to_next e.start ds j.1 e.comes in
       let o = source t rs S z.start z.comes in
       record { start = o.start; comes = o.comes; choices = z.choices; fact = (refl, (z.start, o.leads, (e.start, z.fact, e.leads))) }
-  lead_form (focus rs s es) t at S to_break q ds j w = absurd ((jump_none_block s t (images t rs S) q j.2).0 w)
-  lead_form (focus rs s es) t at S to_continue q ds j w = absurd ((jump_none_block s t (images t rs S) q j.2).1 w)
+  lead_form (focus rs s es) t at S to_break q ds j w = absurd ((no_jump_block s t (images t rs S) q j.2).0 w)
+  lead_form (focus rs s es) t at S to_continue q ds j w = absurd ((no_jump_block s t (images t rs S) q j.2).1 w)
   lead_form (return rs) t at S x q ds j w = absurd w
-  lead_form (jump true left) t at S to_continue q ds j w = let z = source t (map gone left) S q w in record { start = z.start; comes = z.comes; choices = ds; fact = (tt, z.leads, refl) }
+  lead_form (jump true left) t at S to_continue q ds j w = let z = source t (map gone left) S q w in record {
+    start = z.start;
+    comes = z.comes;
+    choices = ds;
+    fact = (tt, z.leads, refl);
+  }
   lead_form (jump true left) t at S to_next q ds j w = absurd w
   lead_form (jump true left) t at S to_break q ds j w = absurd w
-  lead_form (jump false left) t at S to_break q ds j w = let z = source t (map gone left) S q w in record { start = z.start; comes = z.comes; choices = ds; fact = (tt, z.leads, refl) }
+  lead_form (jump false left) t at S to_break q ds j w = let z = source t (map gone left) S q w in record {
+    start = z.start;
+    comes = z.comes;
+    choices = ds;
+    fact = (tt, z.leads, refl);
+  }
   lead_form (jump false left) t at S to_next q ds j w = absurd w
   lead_form (jump false left) t at S to_continue q ds j w = absurd w
 
-  pub lead_block : (s : Block) (t : Tok) (S : Ones) (x : Exit) (q : One) (ds : List Choice) → IsTameBlock s → out_block t s S x q → Path S (λ o cs. ThroughBlock t s o cs x q ds)
+  pub lead_block : (s : Block) (t : Tok) (S : Ones) (x : Exit) (q : One) (ds : List Choice) → IsTameBlock s → out_block t s S x q →
+      Path S (λ o cs. ThroughBlock t s o cs x q ds)
   lead_block (block ss bound end) t S to_next q ds j w =
       let e = source t (map gone bound) (out_stmts t ss S to_next) q w in
       let z = lead_stmts ss t S to_next e.start ds j e.comes in
       record { start = z.start; comes = z.comes; choices = z.choices; fact = (e.start, z.fact, e.leads) }
-  lead_block (block ss bound end) t S to_break q ds j w = let z = lead_stmts ss t S to_break q ds j w in record { start = z.start; comes = z.comes; choices = z.choices; fact = z.fact }
-  lead_block (block ss bound end) t S to_continue q ds j w = let z = lead_stmts ss t S to_continue q ds j w in record { start = z.start; comes = z.comes; choices = z.choices; fact = z.fact }
+  lead_block (block ss bound end) t S to_break q ds j w = let z = lead_stmts ss t S to_break q ds j w in record {
+    start = z.start;
+    comes = z.comes;
+    choices = z.choices;
+    fact = z.fact;
+  }
+  lead_block (block ss bound end) t S to_continue q ds j w = let z = lead_stmts ss t S to_continue q ds j w in record {
+    start = z.start;
+    comes = z.comes;
+    choices = z.choices;
+    fact = z.fact;
+  }
 
-  pub lead_stmts : (ss : Stmts) (t : Tok) (S : Ones) (x : Exit) (q : One) (ds : List Choice) → IsTameStmts ss → out_stmts t ss S x q → Path S (λ o cs. ThroughStmts t ss o cs x q ds)
+  pub lead_stmts : (ss : Stmts) (t : Tok) (S : Ones) (x : Exit) (q : One) (ds : List Choice) → IsTameStmts ss → out_stmts t ss S x q →
+      Path S (λ o cs. ThroughStmts t ss o cs x q ds)
   lead_stmts done t S to_next q ds j w = record { start = q; comes = w; choices = ds; fact = (refl, refl, refl) }
   lead_stmts done t S to_break q ds j w = absurd w
   lead_stmts done t S to_continue q ds j w = absurd w
@@ -126,19 +186,30 @@ mutual
       let z = lead_form s t at S to_next e.start e.choices j.0 e.comes in
       record { start = z.start; comes = z.comes; choices = z.choices; fact = (e.start, (e.choices, z.fact, e.fact)) }
   lead_stmts (next at s rest) t S to_break q ds j w = ⊎_elim
-      (λ y. let z = lead_form s t at S to_break q ds j.0 y in record { start = z.start; comes = z.comes; choices = z.choices; fact = inl z.fact })
+      (λ y. let z = lead_form s t at S to_break q ds j.0 y in record {
+        start = z.start;
+        comes = z.comes;
+        choices = z.choices;
+        fact = inl z.fact;
+      })
       (λ y.
       let e = lead_stmts rest t (out t s S to_next) to_break q ds j.1 y in
       let z = lead_form s t at S to_next e.start e.choices j.0 e.comes in
       record { start = z.start; comes = z.comes; choices = z.choices; fact = inr (e.start, (e.choices, z.fact, e.fact)) }) w
   lead_stmts (next at s rest) t S to_continue q ds j w = ⊎_elim
-      (λ y. let z = lead_form s t at S to_continue q ds j.0 y in record { start = z.start; comes = z.comes; choices = z.choices; fact = inl z.fact })
+      (λ y. let z = lead_form s t at S to_continue q ds j.0 y in record {
+        start = z.start;
+        comes = z.comes;
+        choices = z.choices;
+        fact = inl z.fact;
+      })
       (λ y.
       let e = lead_stmts rest t (out t s S to_next) to_continue q ds j.1 y in
       let z = lead_form s t at S to_next e.start e.choices j.0 e.comes in
       record { start = z.start; comes = z.comes; choices = z.choices; fact = inr (e.start, (e.choices, z.fact, e.fact)) }) w
 
-  pub lead_arms : (arms : Arms) (t : Tok) (S : Ones) (x : Exit) (q : One) (ds : List Choice) → IsTameArms arms → out_arms t arms S x q → Path S (λ o cs. (i : ℕ) × ThroughArm t i arms o cs x q ds)
+  pub lead_arms : (arms : Arms) (t : Tok) (S : Ones) (x : Exit) (q : One) (ds : List Choice) → IsTameArms arms → out_arms t arms S x q →
+      Path S (λ o cs. (i : ℕ) × ThroughArm t i arms o cs x q ds)
   lead_arms no_arms t S x q ds j w = absurd w
   lead_arms (arm rs s rest) t S x q ds j w = ⊎_elim
       (λ y.

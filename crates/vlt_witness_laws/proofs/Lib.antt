@@ -2,6 +2,7 @@ pub mod Paths
 pub mod Widening
 pub mod Meets
 pub mod Refuting
+pub mod Jumpless
 pub mod Leading
 pub mod Meeting
 pub mod Showing

@@ -15,7 +15,8 @@ pub record Singles (R : Row → Ones → Type 0) (J : Ones → Type 0) (P : (at 
   pub row : (r : Row) (S : Ones) → is_tok t r.tok ≡ true → R r S → (o : One) × S o × P p.at r o
   pub join : (S : Ones) → J S → (o : One) × S o × Q p o
 
-reaches_grow : (t : Tok) (rs : List Row) (s : Block) (at : ℕ) (q : One) (ds : List Choice) → Grows t rs s at (λ n o cs. Reaches (ThroughBlock t s) t rs at n o cs q ds)
+reaches_grow : (t : Tok) (rs : List Row) (s : Block) (at : ℕ) (q : One) (ds : List Choice) →
+    Grows t rs s at (λ n o cs. Reaches (ThroughBlock t s) t rs at n o cs q ds)
 reaches_grow t rs s at q ds = record { more = λ j o m r es fs l b k. (m, l, (es, refl, (r, (fs, b, k)))) }
 
 module _ (R : Row → Ones → Type 0) (J : Ones → Type 0) (P : (at : ℕ) → Row → One → Type 0) (Q : Spot → One → Type 0) (p : Spot) (t : Tok) (one : Singles R J P Q p t) where
@@ -25,7 +26,8 @@ module _ (R : Row → Ones → Type 0) (J : Ones → Type 0) (P : (at : ℕ) →
     pub comes : S start
     pub met : RowMet P Q t at rs start
 
-  row_here : (at n : ℕ) (b : Bool) (r : Row) (rs : List Row) (S : Ones) → is_tok t r.tok ≡ b → p ≡ row_spot at n → If b (R r S) → RowPath at (r ∷ rs) S
+  row_here : (at n : ℕ) (b : Bool) (r : Row) (rs : List Row) (S : Ones) → is_tok t r.tok ≡ b → p ≡ row_spot at n → If b (R r S) →
+      RowPath at (r ∷ rs) S
   row_here at n true r rs S e h x =
       let z = one.row r S e x in
       record { start = z.0; comes = z.1; met = inl (subst (λ a. P a r z.0) (ap (λ s. s.at) h) z.2) }
@@ -39,18 +41,26 @@ module _ (R : Row → Ones → Type 0) (J : Ones → Type 0) (P : (at : ℕ) →
       let o = (smooth_image t r).one S z.start z.comes in
       record { start = o.0; comes = o.1; met = inr (z.start, o.2, z.met) }) x
 
-  rows_path : (at n : ℕ) (rs : List Row) (S : Ones) (K : One → List Choice → Type 0) → ((o : One) → MetHere P Q t at rs o [] → K o []) → RowAt R J p t at n rs S → Path S K
-  rows_path at n rs S K f x = let z = row_path at n rs S x in record { start = z.start; comes = z.comes; choices = []; fact = f z.start (refl, z.met) }
+  rows_path : (at n : ℕ) (rs : List Row) (S : Ones) (K : One → List Choice → Type 0) → ((o : One) → MetHere P Q t at rs o [] → K o []) →
+      RowAt R J p t at n rs S → Path S K
+  rows_path at n rs S K f x = let z = row_path at n rs S x in record {
+    start = z.start;
+    comes = z.comes;
+    choices = [];
+    fact = f z.start (refl, z.met);
+  }
 
   -- a way to the next statement, with the join behind it
-  join_path : (s : Flow) (at : ℕ) (q : Spot) (S : Ones) → IsTame s → (p ≡ q) × J (out t s S to_next) → Path S (λ o cs. JoinMet P Q t q (Through t at s) o cs)
+  join_path : (s : Flow) (at : ℕ) (q : Spot) (S : Ones) → IsTame s → (p ≡ q) × J (out t s S to_next) →
+      Path S (λ o cs. JoinMet P Q t q (Through t at s) o cs)
   join_path s at q S j x =
       let y = one.join (out t s S to_next) x.1 in
       let z = lead_form s t at S to_next y.0 [] j y.1 in
       record { start = z.start; comes = z.comes; choices = z.choices; fact = (y.0, z.fact, subst (λ s. Q s y.0) x.0 y.2) }
 
   -- a path to the head of a loop, and on
-  head_path : (rs : List Row) (s : Block) (at : ℕ) (S : Ones) (q : One) (ds : List Choice) → IsTameBlock s → head_of t rs s S q → Path S (λ o cs. (n : ℕ) × Reaches (ThroughBlock t s) t rs at n o cs q ds)
+  head_path : (rs : List Row) (s : Block) (at : ℕ) (S : Ones) (q : One) (ds : List Choice) → IsTameBlock s → head_of t rs s S q →
+      Path S (λ o cs. (n : ℕ) × Reaches (ThroughBlock t s) t rs at n o cs q ds)
   head_path rs s at S q ds j w =
       let leads : Leads t s = record { path = λ S x q ds y. lead_block s t S x q ds j y } in
       back t rs s at leads (λ n o cs. Reaches (ThroughBlock t s) t rs at n o cs q ds) (reaches_grow t rs s at q ds) S w.0 zero q ds w.1 (refl, refl)
@@ -62,33 +72,78 @@ module _ (R : Row → Ones → Type 0) (J : Ones → Type 0) (P : (at : ℕ) →
         (λ y.
         let z = body a (k + length rs) (images t rs S) j.1 y in
         let o = source t rs S z.start z.comes in
-        record { start = o.start; comes = o.comes; choices = choice at then_arm ∷ z.choices; fact = inr (inl (z.start, o.leads, (z.choices, inl (refl, z.fact)))) }) (⊎_elim
+        record {
+          start = o.start;
+          comes = o.comes;
+          choices = choice at then_arm ∷ z.choices;
+          fact = inr (inl (z.start, o.leads, (z.choices, inl (refl, z.fact))));
+        }) (⊎_elim
         (λ y.
         let z = body b (k + length rs + spots_block a) (images t rs S) j.2 y in
         let o = source t rs S z.start z.comes in
-        record { start = o.start; comes = o.comes; choices = choice at else_arm ∷ z.choices; fact = inr (inl (z.start, o.leads, (z.choices, inr (refl, z.fact)))) })
-        (λ y. let z = join_path (choose rs a b) at _ S j y in record { start = z.start; comes = z.comes; choices = z.choices; fact = inr (inr z.fact) }))) x
+        record {
+          start = o.start;
+          comes = o.comes;
+          choices = choice at else_arm ∷ z.choices;
+          fact = inr (inl (z.start, o.leads, (z.choices, inr (refl, z.fact))));
+        })
+        (λ y. let z = join_path (choose rs a b) at _ S j y in record {
+          start = z.start;
+          comes = z.comes;
+          choices = z.choices;
+          fact = inr (inr z.fact);
+        }))) x
     form (loop rs s) at k S j x = ⊎_elim
         (λ y.
         let q = one.join (head_of t rs s S) y.1 in
         let z = head_path rs s at S q.0 [] j.1 q.1 in
-        record { start = z.start; comes = z.comes; choices = z.choices; fact = inl (z.fact.0, (q.0, ([], z.fact.1, inl (refl, subst (λ s. Q s q.0) y.0 q.2)))) }) (⊎_elim
+        record {
+          start = z.start;
+          comes = z.comes;
+          choices = z.choices;
+          fact = inl (z.fact.0, (q.0, ([], z.fact.1, inl (refl, subst (λ s. Q s q.0) y.0 q.2))));
+        }) (⊎_elim
         (λ y.
         let q = row_path at (k + 1) rs (head_of t rs s S) y in
         let z = head_path rs s at S q.start [] j.1 q.comes in
-        record { start = z.start; comes = z.comes; choices = z.choices; fact = inl (z.fact.0, (q.start, ([], z.fact.1, inr (inl (refl, q.met))))) }) (⊎_elim
+        record {
+          start = z.start;
+          comes = z.comes;
+          choices = z.choices;
+          fact = inl (z.fact.0, (q.start, ([], z.fact.1, inr (inl (refl, q.met)))));
+        }) (⊎_elim
         (λ y.
         let b = body s (k + 1 + length rs) (images t rs (head_of t rs s S)) j.1 y in
         let o = source t rs (head_of t rs s S) b.start b.comes in
         let z = head_path rs s at S o.start (choice at turn ∷ b.choices) j.1 o.comes in
-        record { start = z.start; comes = z.comes; choices = z.choices; fact = inl (z.fact.0, (o.start, (choice at turn ∷ b.choices, z.fact.1, inr (inr (b.start, o.leads, (b.choices, refl, b.fact)))))) })
-        (λ y. let z = join_path (loop rs s) at _ S j y in record { start = z.start; comes = z.comes; choices = z.choices; fact = inr z.fact }))) x
+        record {
+          start = z.start;
+          comes = z.comes;
+          choices = z.choices;
+          fact = inl (z.fact.0, (o.start, (choice at turn ∷ b.choices, z.fact.1, inr (inr (b.start, o.leads, (b.choices, refl, b.fact))))));
+        })
+        (λ y. let z = join_path (loop rs s) at _ S j y in record {
+          start = z.start;
+          comes = z.comes;
+          choices = z.choices;
+          fact = inr z.fact;
+        }))) x
     form (switch rs arms end) at k S j x = ⊎_elim (λ y. rows_path at k rs S _ (λ o z. inl z) y) (⊎_elim
         (λ y.
         let z = ways arms at (k + length rs) (images t rs S) j.1 y in
         let o = source t rs S z.start z.comes in
-        record { start = o.start; comes = o.comes; choices = choice at (case_arm z.fact.0) ∷ z.choices; fact = inr (inl (z.start, o.leads, (z.fact.0, (z.choices, refl, z.fact.1)))) })
-        (λ y. let z = join_path (switch rs arms end) at _ S j y in record { start = z.start; comes = z.comes; choices = z.choices; fact = inr (inr z.fact) })) x
+        record {
+          start = o.start;
+          comes = o.comes;
+          choices = choice at (case_arm z.fact.0) ∷ z.choices;
+          fact = inr (inl (z.start, o.leads, (z.fact.0, (z.choices, refl, z.fact.1))));
+        })
+        (λ y. let z = join_path (switch rs arms end) at _ S j y in record {
+          start = z.start;
+          comes = z.comes;
+          choices = z.choices;
+          fact = inr (inr z.fact);
+        })) x
     form (scope s) at k S j x = let z = body s k S j x in record { start = z.start; comes = z.comes; choices = z.choices; fact = z.fact }
     form (focus rs s es) at k S j x = ⊎_elim (λ y. rows_path at k rs S _ (λ o z. inl z) y) (⊎_elim
         (λ y.
@@ -120,7 +175,8 @@ module _ (R : Row → Ones → Type 0) (J : Ones → Type 0) (P : (at : ℕ) →
         let z = lead_form s t at S to_next e.start e.choices j.0 e.comes in
         record { start = z.start; comes = z.comes; choices = z.choices; fact = inr (e.start, (e.choices, z.fact, e.fact)) }) x
 
-    ways : (arms : Arms) (at k : ℕ) (S : Ones) → IsTameArms arms → SpotAtArms R J p t at k arms S → Path S (λ o cs. (i : ℕ) × MetArm P Q t at k i arms o cs)
+    ways : (arms : Arms) (at k : ℕ) (S : Ones) → IsTameArms arms → SpotAtArms R J p t at k arms S →
+        Path S (λ o cs. (i : ℕ) × MetArm P Q t at k i arms o cs)
     ways no_arms at k S j x = absurd x
     ways (arm rs s rest) at k S j x = ⊎_elim
         (λ y. rows_path at k rs S (λ o cs. (i : ℕ) × MetArm P Q t at k i (arm rs s rest) o cs) (λ o z. (zero, inl z)) y) (⊎_elim

@@ -21,7 +21,8 @@ module _ (p : Spot) (is : One → Type 0) (t : Tok) where
   no_row at (r ∷ rs) o w = ⊎_elim (λ y. y) (λ y. no_row at rs y.0 y.2) w
 
   mutual
-    pub met : (s : Flow) (at k : ℕ) (S : Ones) (o : One) (cs : List Choice) → S o → Met NoRow (IsJoin p is) t at k s o cs → SpotAt Never (Holds is) p t at k s S
+    pub met : (s : Flow) (at k : ℕ) (S : Ones) (o : One) (cs : List Choice) → S o → Met NoRow (IsJoin p is) t at k s o cs →
+        SpotAt Never (Holds is) p t at k s S
     met (step rs) at k S o cs h w = absurd (no_row at rs o w.1)
     met (choose rs a b) at k S o cs h w = ⊎_elim (λ y. absurd (no_row at rs o y.1)) (⊎_elim
         (λ y. ⊎_elim
@@ -47,15 +48,18 @@ module _ (p : Spot) (is : One → Type 0) (t : Tok) where
     met (return rs) at k S o cs h w = absurd (no_row at rs o w.1)
     met (jump c left) at k S o cs h w = absurd (no_row at (map gone left) o w.1)
 
-    pub met_block : (s : Block) (k : ℕ) (S : Ones) (o : One) (cs : List Choice) → S o → MetBlock NoRow (IsJoin p is) t k s o cs → SpotAtBlock Never (Holds is) p t k s S
+    pub met_block : (s : Block) (k : ℕ) (S : Ones) (o : One) (cs : List Choice) → S o → MetBlock NoRow (IsJoin p is) t k s o cs →
+        SpotAtBlock Never (Holds is) p t k s S
     met_block (block ss bound end) k S o cs h w = ⊎_elim (λ y. inl (met_stmts ss k S o cs h y)) (λ y. absurd (no_row end (map gone bound) y.0 y.2)) w
 
-    met_stmts : (ss : Stmts) (k : ℕ) (S : Ones) (o : One) (cs : List Choice) → S o → MetStmts NoRow (IsJoin p is) t k ss o cs → SpotAtStmts Never (Holds is) p t k ss S
+    met_stmts : (ss : Stmts) (k : ℕ) (S : Ones) (o : One) (cs : List Choice) → S o → MetStmts NoRow (IsJoin p is) t k ss o cs →
+        SpotAtStmts Never (Holds is) p t k ss S
     met_stmts done k S o cs h w = absurd w
     met_stmts (next at s rest) k S o cs h w = ⊎_elim (λ y. inl (met s at k S o cs h y))
         (λ y. inr (met_stmts rest (k + spots s) (out t s S to_next) y.0 y.1.0 (through_out s t at S o y.0 cs y.1.0 to_next h y.1.1) y.1.2)) w
 
-    met_arm : (arms : Arms) (at k i : ℕ) (S : Ones) (o : One) (cs : List Choice) → S o → MetArm NoRow (IsJoin p is) t at k i arms o cs → SpotAtArms Never (Holds is) p t at k arms S
+    met_arm : (arms : Arms) (at k i : ℕ) (S : Ones) (o : One) (cs : List Choice) → S o → MetArm NoRow (IsJoin p is) t at k i arms o cs →
+        SpotAtArms Never (Holds is) p t at k arms S
     met_arm no_arms at k i S o cs h w = absurd w
     met_arm (arm rs s rest) at k zero S o cs h w = ⊎_elim (λ y. absurd (no_row at rs o y.1))
         (λ y. inr (inl (met_block s (k + length rs) (images t rs S) y.0 cs (lead t rs S o y.0 h y.1) y.2))) w

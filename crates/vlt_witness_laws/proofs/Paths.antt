@@ -25,14 +25,16 @@ pub record Comes (t : Tok) (s : Block) : Type 1 where
 
 module _ (t : Tok) (rs : List Row) (s : Block) (S : Ones) (comes : Comes t s) where
   -- another turn comes to the head
-  again : (o m r : One) (es fs : List Choice) → head_of t rs s S o → LeadsOn t rs o m → (ThroughBlock t s m es to_next r fs ⊎ ThroughBlock t s m es to_continue r fs) → head_of t rs s S r
+  again : (o m r : One) (es fs : List Choice) → head_of t rs s S o → LeadsOn t rs o m →
+      (ThroughBlock t s m es to_next r fs ⊎ ThroughBlock t s m es to_continue r fs) → head_of t rs s S r
   again o m r es fs h w y =
       let H = head_of t rs s S in
       let p = lead t rs H o m h w in
       heads_closed _ (smooth_round t rs s) S r
       (⊎_elim (λ z. inl (comes.out (images t rs H) m r es fs to_next p z)) (λ z. inr (comes.out (images t rs H) m r es fs to_continue p z)) y)
 
-  pub turns_out : (at n : ℕ) (o q : One) (cs ds : List Choice) → head_of t rs s S o → Turns (ThroughBlock t s) t rs at n o cs q ds → out t (loop rs s) S to_next q
+  pub turns_out : (at n : ℕ) (o q : One) (cs ds : List Choice) → head_of t rs s S o → Turns (ThroughBlock t s) t rs at n o cs q ds →
+      out t (loop rs s) S to_next q
   turns_out at zero o q cs ds h w =
       let H = head_of t rs s S in
       ⊎_elim (λ y. inl (lead t rs H o q h y.0))
@@ -40,13 +42,15 @@ module _ (t : Tok) (rs : List Row) (s : Block) (S : Ones) (comes : Comes t s) wh
   turns_out at (suc n) o q cs ds h w =
       turns_out at n w.2.2.0 q w.2.2.1.0 ds (again o w.0 w.2.2.0 w.2.0 w.2.2.1.0 h w.1 w.2.2.1.1) w.2.2.1.2
 
-  pub reaches_head : (at n : ℕ) (o q : One) (cs ds : List Choice) → head_of t rs s S o → Reaches (ThroughBlock t s) t rs at n o cs q ds → head_of t rs s S q
+  pub reaches_head : (at n : ℕ) (o q : One) (cs ds : List Choice) → head_of t rs s S o →
+      Reaches (ThroughBlock t s) t rs at n o cs q ds → head_of t rs s S q
   reaches_head at zero o q cs ds h w = subst (head_of t rs s S) (sym w.0) h
   reaches_head at (suc n) o q cs ds h w =
       reaches_head at n w.2.2.0 q w.2.2.1.0 ds (again o w.0 w.2.2.0 w.2.0 w.2.2.1.0 h w.1 w.2.2.1.1) w.2.2.1.2
 
 mutual
-  pub through_out : (s : Flow) (t : Tok) (at : ℕ) (S : Ones) (o q : One) (cs ds : List Choice) (x : Exit) → S o → Through t at s o cs x q ds → out t s S x q
+  pub through_out : (s : Flow) (t : Tok) (at : ℕ) (S : Ones) (o q : One) (cs ds : List Choice) (x : Exit) → S o →
+      Through t at s o cs x q ds → out t s S x q
   through_out (step rs) t at S o q cs ds x h w = subst (λ x. out t (step rs) S x q) (sym w.0) (lead t rs S o q h w.1)
   through_out (choose rs a b) t at S o q cs ds x h w =
       let p = lead t rs S o w.0 h w.1 in
@@ -64,13 +68,15 @@ mutual
   through_out (return rs) t at S o q cs ds x h w = absurd w
   through_out (jump c left) t at S o q cs ds x h w = taken c x (images t (map gone left) S) q w.0 (lead t (map gone left) S o q h w.1)
 
-  pub through_block : (s : Block) (t : Tok) (S : Ones) (o q : One) (cs ds : List Choice) (x : Exit) → S o → ThroughBlock t s o cs x q ds → out_block t s S x q
+  pub through_block : (s : Block) (t : Tok) (S : Ones) (o q : One) (cs ds : List Choice) (x : Exit) → S o →
+      ThroughBlock t s o cs x q ds → out_block t s S x q
   through_block (block ss bound end) t S o q cs ds to_next h w =
       lead t (map gone bound) (out_stmts t ss S to_next) w.0 q (through_stmts ss t S o w.0 cs ds to_next h w.1) w.2
   through_block (block ss bound end) t S o q cs ds to_break h w = through_stmts ss t S o q cs ds to_break h w
   through_block (block ss bound end) t S o q cs ds to_continue h w = through_stmts ss t S o q cs ds to_continue h w
 
-  pub through_stmts : (ss : Stmts) (t : Tok) (S : Ones) (o q : One) (cs ds : List Choice) (x : Exit) → S o → ThroughStmts t ss o cs x q ds → out_stmts t ss S x q
+  pub through_stmts : (ss : Stmts) (t : Tok) (S : Ones) (o q : One) (cs ds : List Choice) (x : Exit) → S o →
+      ThroughStmts t ss o cs x q ds → out_stmts t ss S x q
   through_stmts done t S o q cs ds x h w = subst (λ x. out_stmts t done S x q) (sym w.0) (subst S (sym w.1) h)
   through_stmts (next at s rest) t S o q cs ds to_next h w =
       through_stmts rest t (out t s S to_next) w.0 q w.1.0 ds to_next (through_out s t at S o w.0 cs w.1.0 to_next h w.1.1) w.1.2
@@ -81,7 +87,8 @@ mutual
       (λ y. inl (through_out s t at S o q cs ds to_continue h y))
       (λ y. inr (through_stmts rest t (out t s S to_next) y.0 q y.1.0 ds to_continue (through_out s t at S o y.0 cs y.1.0 to_next h y.1.1) y.1.2)) w
 
-  pub through_arms : (arms : Arms) (t : Tok) (S : Ones) (i : ℕ) (o q : One) (cs ds : List Choice) (x : Exit) → S o → ThroughArm t i arms o cs x q ds → out_arms t arms S x q
+  pub through_arms : (arms : Arms) (t : Tok) (S : Ones) (i : ℕ) (o q : One) (cs ds : List Choice) (x : Exit) → S o →
+      ThroughArm t i arms o cs x q ds → out_arms t arms S x q
   through_arms no_arms t S i o q cs ds x h w = absurd w
   through_arms (arm rs s rest) t S zero o q cs ds x h w = inl (through_block s t (images t rs S) w.0 q cs ds x (lead t rs S o w.0 h w.1) w.2)
   through_arms (arm rs s rest) t S (suc i) o q cs ds x h w = inr (through_arms rest t S i o q cs ds x h w)

@@ -47,14 +47,17 @@ module _ (t : Tok) (place : ℕ) (w : Wanted) where
 
   -- a turn leads from the map at the head to that map
   pub record Turned (rs : List Row) (s : Block) (i : HeldMap) : Type 0 where
-    pub turn : (m r : One) (es fs : List Choice) → Has (passed rs i t) m → (ThroughBlock t s m es to_next r fs ⊎ ThroughBlock t s m es to_continue r fs) → Has (i t) r
+    pub turn : (m r : One) (es fs : List Choice) → Has (passed rs i t) m →
+        (ThroughBlock t s m es to_next r fs ⊎ ThroughBlock t s m es to_continue r fs) → Has (i t) r
 
-  reached : (rs : List Row) (s : Block) (i : HeldMap) → Turned rs s i → (at n : ℕ) (o q : One) (cs ds : List Choice) → Has (i t) o → Reaches (ThroughBlock t s) t rs at n o cs q ds → Has (i t) q
+  reached : (rs : List Row) (s : Block) (i : HeldMap) → Turned rs s i → (at n : ℕ) (o q : One) (cs ds : List Choice) → Has (i t) o →
+      Reaches (ThroughBlock t s) t rs at n o cs q ds → Has (i t) q
   reached rs s i f at zero o q cs ds h x = subst (Has (i t)) (sym x.0) h
   reached rs s i f at (suc n) o q cs ds h x =
       reached rs s i f at n x.2.2.0 q x.2.2.1.0 ds (f.turn x.0 x.2.2.0 x.2.0 x.2.2.1.0 (passed_has t rs i o x.0 h x.1) x.2.2.1.1) x.2.2.1.2
 
-  turned : (rs : List Row) (s : Block) (a : Notes) (n : ℕ) → IsLocalBlock a (Some n) (n + 1) (passed rs (a.around n)) s → When (leads_block a (n + 1) (passed rs (a.around n)) s) (λ m. IsBelow m (a.around n)) → Turned rs s (a.around n)
+  turned : (rs : List Row) (s : Block) (a : Notes) (n : ℕ) → IsLocalBlock a (Some n) (n + 1) (passed rs (a.around n)) s →
+      When (leads_block a (n + 1) (passed rs (a.around n)) s) (λ m. IsBelow m (a.around n)) → Turned rs s (a.around n)
   turned rs s a n d below = record {
     turn = λ m r es fs h x.
         let is = only_in (passed rs (a.around n)) t m h in
@@ -65,7 +68,8 @@ module _ (t : Tok) (place : ℕ) (w : Wanted) where
   }
 
   mutual
-    form : (s : Flow) (at k : ℕ) (a : Notes) (l : Option ℕ) (n : ℕ) (h : HeldMap) (o : One) (cs : List Choice) → Has (h t) o → IsLocal a l n h s → Met (Refuses t place w) NoJoin t at k s o cs → ⊥
+    form : (s : Flow) (at k : ℕ) (a : Notes) (l : Option ℕ) (n : ℕ) (h : HeldMap) (o : One) (cs : List Choice) → Has (h t) o →
+        IsLocal a l n h s → Met (Refuses t place w) NoJoin t at k s o cs → ⊥
     form (step rs) at k a l n h o cs p d x = rows at rs h o p d x.1
     form (choose rs u v) at k a l n h o cs p d x = ⊎_elim (λ y. rows at rs h o p d.0 y.1) (⊎_elim
         (λ y. let q = passed_has t rs h o y.0 p y.1 in ⊎_elim
@@ -93,14 +97,16 @@ module _ (t : Tok) (place : ℕ) (w : Wanted) where
     form (return rs) at k a l n h o cs p d x = rows at rs h o p d x.1
     form (jump c left) at k a l n h o cs p d x = rows at (map gone left) h o p d.0 x.1
 
-    pub body : (s : Block) (k : ℕ) (a : Notes) (l : Option ℕ) (n : ℕ) (h : HeldMap) (o : One) (cs : List Choice) → Has (h t) o → IsLocalBlock a l n h s → MetBlock (Refuses t place w) NoJoin t k s o cs → ⊥
+    pub body : (s : Block) (k : ℕ) (a : Notes) (l : Option ℕ) (n : ℕ) (h : HeldMap) (o : One) (cs : List Choice) → Has (h t) o →
+        IsLocalBlock a l n h s → MetBlock (Refuses t place w) NoJoin t k s o cs → ⊥
     body (block ss bound end) k a l n h o cs p d x = ⊎_elim (λ y. list ss k a l n h o cs p d.0 y)
         (λ y.
         let out = (local_out_stmts ss t a l n h (only o) (only_in h t o p) d.0).0 in
         let m = led (leads_stmts a n h ss) (CanPass (map gone bound)) t y.0 (out.next y.0 (through_stmts ss t (only o) o y.0 cs [] to_next refl y.1)) d.1 in
         rows end (map gone bound) m.map y.0 m.has m.fact y.2) x
 
-    list : (ss : Stmts) (k : ℕ) (a : Notes) (l : Option ℕ) (n : ℕ) (h : HeldMap) (o : One) (cs : List Choice) → Has (h t) o → IsLocalStmts a l n h ss → MetStmts (Refuses t place w) NoJoin t k ss o cs → ⊥
+    list : (ss : Stmts) (k : ℕ) (a : Notes) (l : Option ℕ) (n : ℕ) (h : HeldMap) (o : One) (cs : List Choice) → Has (h t) o →
+        IsLocalStmts a l n h ss → MetStmts (Refuses t place w) NoJoin t k ss o cs → ⊥
     list done k a l n h o cs p d x = x
     list (next at s rest) k a l n h o cs p d x = ⊎_elim (λ y. form s at k a l n h o cs p d.0 y)
         (λ y.
@@ -108,7 +114,8 @@ module _ (t : Tok) (place : ℕ) (w : Wanted) where
         let m = led (leads a n h s) (λ m. IsLocalStmts a l (n + size s) m rest) t y.0 (out.next y.0 (through_out s t at (only o) o y.0 cs y.1.0 to_next refl y.1.1)) d.1 in
         list rest (k + spots s) a l (n + size s) m.map y.0 y.1.0 m.has m.fact y.1.2) x
 
-    ways : (arms : Arms) (at k i : ℕ) (a : Notes) (l : Option ℕ) (n : ℕ) (h b : HeldMap) (o : One) (cs : List Choice) → Has (h t) o → IsLocalArms a l n h arms b → MetArm (Refuses t place w) NoJoin t at k i arms o cs → ⊥
+    ways : (arms : Arms) (at k i : ℕ) (a : Notes) (l : Option ℕ) (n : ℕ) (h b : HeldMap) (o : One) (cs : List Choice) → Has (h t) o →
+        IsLocalArms a l n h arms b → MetArm (Refuses t place w) NoJoin t at k i arms o cs → ⊥
     ways no_arms at k i a l n h b o cs p d x = x
     ways (arm rs s rest) at k zero a l n h b o cs p d x = ⊎_elim (λ y. rows at rs h o p d.0 y.1)
         (λ y. body s (k + length rs) a l n (passed rs h) y.0 cs (passed_has t rs h o y.0 p y.1) d.1 y.2) x
@@ -120,16 +127,19 @@ abbrev pub IsGone : One → Type 0
 IsGone o = o ≡ one_absent
 
 -- absent on one path to the join and present on another
-mixed : (s : Block) (q : Spot) (t : Tok) (k : ℕ) (S : Ones) → SpotAtBlock Never (Holds IsGone) q t k s S → SpotAtBlock Never (Holds IsPresent) q t k s S → SpotAtBlock IsUnwanted IsMixed q t k s S
+mixed : (s : Block) (q : Spot) (t : Tok) (k : ℕ) (S : Ones) → SpotAtBlock Never (Holds IsGone) q t k s S →
+    SpotAtBlock Never (Holds IsPresent) q t k s S → SpotAtBlock IsUnwanted IsMixed q t k s S
 mixed s q t k S x y =
     wide_block (λ r S. Never r S × Never r S) IsUnwanted (λ S. Holds IsGone S × Holds IsPresent S) IsMixed
     (λ r S z. absurd z.0) (λ S z. (subst S z.0.1 z.0.2, (z.1.0, z.1.1, z.1.2))) q t s k S
     (block_together Never Never (Holds IsGone) (Holds IsPresent) q t s k S x y)
 
-pub refuted : (p : Program) (f : Func) (x : FlowFault) (first : List Choice) (second : Option (List Choice)) (a : Notes) → IsWitnessIn p f x first second → IsLocalIn p f a → ⊥
+pub refuted : (p : Program) (f : Func) (x : FlowFault) (first : List Choice) (second : Option (List Choice)) (a : Notes) →
+    IsWitnessIn p f x first second → IsLocalIn p f a → ⊥
 refuted p f x first second a w d = by x.kind second w
   where
-    by : (kind : FaultKind) (second : Option (List Choice)) → IsWitnessIn p f (record { function = x.function; at = x.at; tok = x.tok; kind = kind }) first second → ⊥
+    by : (kind : FaultKind) (second : Option (List Choice)) →
+        IsWitnessIn p f (record { function = x.function; at = x.at; tok = x.tok; kind = kind }) first second → ⊥
     by (at_row found wanted) None y = body x.tok x.at wanted (body_flow p f) 0 a None 0 (start_map p f) y.0 first y.1 d y.2
     by (at_join present) (Some second) y =
         let t = x.tok in let h = start_map p f in let s = body_flow p f in
