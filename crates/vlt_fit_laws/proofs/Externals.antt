@@ -33,8 +33,8 @@ extern_is kinds h (Some b) f e made =
 now : (t : Tree) (p : Program) → HasFunctions (kinds_of t.decls) p → HasExternals t.decls p
 now t p fs = record {
   heads = λ i g at external.
-  let m = made_at (kinds_of t.decls) (kinds_of t.decls).heads p.fns fs.made i g at in
-  (m.head, keys_of (file_of t.decls) m.head, extern_is (kinds_of t.decls) m.head m.body g external m.made);
+      let m = made_at (kinds_of t.decls) (kinds_of t.decls).heads p.fns fs.made i g at in
+      (m.head, keys_of (file_of t.decls) m.head, extern_is (kinds_of t.decls) m.head m.body g external m.made);
 }
 
 -- what elaboration made of the functions of the tree

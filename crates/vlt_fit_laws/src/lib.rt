@@ -6,9 +6,7 @@
 ghost use Rattle.vlt_fit_laws.specs.Fit.{ProgramsAreFit};
 
 use vlt_elaborated_laws::{
-    elaborated_programs_are_kinded,
-    elaborated_programs_have_arms,
-    elaborated_programs_have_sets,
+    elaborated_programs_are_kinded, elaborated_programs_have_arms, elaborated_programs_have_sets,
     elaborated_programs_have_states,
 };
 use vlt_sound_narrow::declared_externals_are_narrow;
