@@ -1,5 +1,5 @@
 -- The externals of an elaborated program have the heads of declarations.
-use Rattle.std.proofs.Common.{◌≡◌, ℕ, Bool, true, false, true≢false, not, List, Option, Some, None, is_some, slice_get, Ok, refl, sym, ap, ◌∙◌, subst}
+use Rattle.std.proofs.Common.{◌≡◌, Bool, true, false, true≢false, Option, Some, None, Ok, refl, sym, ap, ◌∙◌, subst}
 use Rattle.vlt_syntax.specs.Tree.{Block, Head, Tree}
 use Rattle.vlt_core.specs.Core as core
 use Rattle.vlt_core.specs.Core.{Func, Program}
@@ -9,9 +9,9 @@ use Rattle.vlt_kinds_heads.specs.Phase.{core_head}
 use Rattle.vlt_kinds.specs.Kinds.{Kinds}
 use Rattle.vlt_kinds_laws.specs.Declared.{HasDeclared}
 use Rattle.vlt_resolve.specs.Elaboration.{elaborated}
-use Rattle.vlt_elaborated_laws.specs.Made.{head_made, IsMade, IsWalked}
+use Rattle.vlt_elaborated_laws.specs.Made.{IsMade}
 use Rattle.vlt_elaborated_laws.specs.Elaborated.{IsElaborated}
-use Rattle.vlt_elaborated_laws.proofs.Made.{IsTold, told, MadeAt, made_at, HasFunctions, functions_made}
+use Rattle.vlt_elaborated_laws.proofs.Made.{told, made_at, HasFunctions, functions_made}
 use Rattle.vlt_kinds.specs.Tables.{kinds_of}
 use Rattle.vlt_sound_narrow.specs.Externals.{HasExternals}
 

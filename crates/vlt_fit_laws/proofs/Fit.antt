@@ -1,20 +1,17 @@
 -- The core program of a text's tree, put together from the laws on each of its parts.
-use Rattle.std.proofs.Common.{◌≡◌, List, Ok}
-use Rattle.vlt_syntax.specs.Tree.{Decl, Tree}
+use Rattle.std.proofs.Common.{◌≡◌, List}
+use Rattle.vlt_syntax.specs.Tree.{Decl}
 use Rattle.vlt_syntax.specs.Lists.{Each}
 use Rattle.vlt_syntax.specs.Grammar.{IsDecl, language}
 use Rattle.vlt_core.specs.Core.{Program}
 use Rattle.vlt_kinds_types.specs.Files.{file_of}
-use Rattle.vlt_kinds.specs.Kinds.{Kinds}
-use Rattle.vlt_kinds.specs.Tables.{kinds_told}
 use Rattle.vlt_kinds_laws.specs.Declared.{HasDeclared, IsPassed}
-use Rattle.vlt_resolve.specs.Elaboration.{elaborated}
 use Rattle.vlt_sound_typed.specs.Sizes.{HasSizes}
 use Rattle.vlt_sound_externs.specs.Narrow.{HasNarrowHeads}
 use Rattle.vlt_sound_narrow.specs.Externals.{HasExternals}
 use Rattle.vlt_elaborated_laws.specs.Elaborated.{IsElaborated, ElaboratedProgramsAreKinded, ElaboratedProgramsHaveStates, ElaboratedProgramsHaveArms, ElaboratedProgramsHaveSets}
 use Rattle.vlt_elaborated_laws.proofs.Whole.{passed_of}
-use Rattle.vlt_fit_laws.specs.Fit.{IsFitProgram, IsTextTree, ProgramsAreFit}
+use Rattle.vlt_fit_laws.specs.Fit.{ProgramsAreFit}
 use Rattle.vlt_fit_laws.proofs.Externals.{externals_of, declared_of}
 
 pub record Laws : Type 0 where
