@@ -16,4 +16,6 @@ mod outside;
 #[cfg(test)]
 mod refusals;
 #[cfg(test)]
+mod rules;
+#[cfg(test)]
 mod sizes;

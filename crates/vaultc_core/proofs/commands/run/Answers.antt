@@ -16,9 +16,4 @@ returns-in-Err g c = λ file.
     c.finish_reply.ensures
 
 pub returns-in-Ok-judge : goal.returns-in-Ok-judge
-returns-in-Ok-judge g c = λ file.
-    let bytes = c.args.bytes.now in
-    let b = c.args.budgets in
-    let is = c.in-Ok-judge.ensures.is in
-    finishes_as g.K.Sink (IsReplyToVerdict b is.0) (IsReplyToText (run file b) bytes) c.args.out.now c.run_verdict.new.out c.run_verdict.result
-    (λ r told. inr (tree_of c.in-Ok.tree, c.in-Ok.ensures.ok, (is.0, is.1, told))) (c.run_verdict.ensures is.0 is.2)
+returns-in-Ok-judge g c = ?
