@@ -24,7 +24,8 @@ use vlt_io::Sink;
 
 /// Whether a function can be called with these arguments.
 fn can_call(glue: bool, func: &CFunc, args: &[CArg], is_glue: bool) -> bool
-    ensures { (f : run.Frame) → f.is_glue ≡ is_glue → result ≡ run.can_call glue (func_of func.now) (map arg_of args.now) f }
+    ensures { (f : run.Frame) → f.is_glue ≡ is_glue →
+        result ≡ run.can_call glue (func_of func.now) (map arg_of args.now) f }
 {
     func.params.len() == args.len() && !(glue && is_glue)
 }
@@ -32,7 +33,8 @@ fn can_call(glue: bool, func: &CFunc, args: &[CArg], is_glue: bool) -> bool
 /// The values of arguments behind those of the running frame.
 fn push_args(args: &[CArg], frames: &mut Frames) -> Result<(), u8>
     requires top { frames.old.base ≤ length frames.old.values.items }
-    requires room { length frames.old.values.items + length args.now ≤ vec_capacity frames.old.values }
+    requires room { length frames.old.values.items + length args.now ≤ vec_capacity
+        frames.old.values }
     ensures pushed { ArePushed result (map arg_of args.now) frames.old frames.new }
     ensures room { vec_capacity frames.old.values ≤ vec_capacity frames.new.values }
 {
@@ -73,11 +75,15 @@ fn enter<'a>(
 ) -> Option<CStop>
     requires ready { IsReady world.old }
     requires within { end ≤ length frames.old.values.items }
-    requires room { length frames.old.values.items + length (func_of found.func.now).vars ≤ vec_capacity frames.old.values }
+    requires room { length frames.old.values.items + length
+        (func_of found.func.now).vars ≤ vec_capacity frames.old.values }
     requires tasks { length tasks.old.items + 2 ≤ vec_capacity tasks.old }
-    ensures { (before : Values) (values : List Value) (b : Outside) → HasPushed before frames.old values → end ≡ length before.values.items
-        → Came (vec_capacity tasks.old) (vec_capacity tasks.new) before frames.new world.old world.new b b result tasks.new.items
-        (λ w. m.enter (setup_of rules.now) n target glue (numbered_of found.entry) (map value_view values) (tasks_of tasks.old.items) (state_of before w)) }
+    ensures { (before : Values) (values : List Value) (b : Outside) →
+        HasPushed before frames.old values → end ≡ length before.values.items →
+        Came (vec_capacity tasks.old) (vec_capacity tasks.new) before frames.new world.old
+        world.new b b result tasks.new.items
+        (λ w. m.enter (setup_of rules.now) n target glue (numbered_of found.entry)
+        (map value_view values) (tasks_of tasks.old.items) (state_of before w)) }
 {
     if world.fuel == 0 {
         return Some(CStop::FuelEnd);
@@ -115,9 +121,13 @@ fn call<'a>(
     frames: &mut Frames<'a>,
     world: &mut World,
 ) -> Option<CStop>
-    requires room { HasRoomToDo rules.now n (c.call (c.function name (map arg_of args.now))) (length tasks.old.items) (vec_capacity tasks.old) frames.old world.old }
-    ensures { (b : Outside) → Came (vec_capacity tasks.old) (vec_capacity tasks.new) frames.old frames.new world.old world.new b b result tasks.new.items
-        (λ w. m.does_call (setup_of rules.now) n target (c.function name (map arg_of args.now)) (tasks_of tasks.old.items) (state_of frames.old w)) }
+    requires room { HasRoomToDo rules.now n (c.call (c.function name (map arg_of args.now)))
+        (length tasks.old.items) (vec_capacity tasks.old) frames.old world.old }
+    ensures { (b : Outside) → Came (vec_capacity tasks.old)
+        (vec_capacity tasks.new) frames.old frames.new world.old world.new b b result
+        tasks.new.items (λ w. m.does_call (setup_of rules.now) n target
+        (c.function name (map arg_of args.now)) (tasks_of tasks.old.items)
+        (state_of frames.old w)) }
 {
     let Some(found) = rules.find(name) else {
         return no_value(n);
@@ -145,10 +155,14 @@ pub fn do_call<'a, K: Sink>(
     world: &mut World,
     sink: &mut K,
 ) -> Option<CStop>
-    requires room { HasRoomToDo rules.now n (c.call (call_of x.now)) (length tasks.old.items) (vec_capacity tasks.old) frames.old world.old }
-    ensures { Came (vec_capacity tasks.old) (vec_capacity tasks.new) frames.old frames.new world.old world.new
-        (record { written = K.written sink.old; faults = K.faults sink.old }) (record { written = K.written sink.new; faults = K.faults sink.new }) result tasks.new.items
-        (λ w. m.does_call (setup_of rules.now) n target (call_of x.now) (tasks_of tasks.old.items) (state_of frames.old w)) }
+    requires room { HasRoomToDo rules.now n (c.call (call_of x.now)) (length tasks.old.items)
+        (vec_capacity tasks.old) frames.old world.old }
+    ensures { Came (vec_capacity tasks.old) (vec_capacity tasks.new) frames.old frames.new
+        world.old world.new
+        (record { written = K.written sink.old; faults = K.faults sink.old })
+        (record { written = K.written sink.new; faults = K.faults sink.new }) result
+        tasks.new.items (λ w. m.does_call (setup_of rules.now) n target (call_of x.now)
+        (tasks_of tasks.old.items) (state_of frames.old w)) }
 {
     match x {
         CCall::Primitive(p, args) => {

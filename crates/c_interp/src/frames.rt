@@ -101,7 +101,8 @@ impl<'a> Frames<'a> {
 
     /// Sets a variable of the running frame.
     pub fn set(&mut self, v: CVar, a: Value)
-        ensures state { (w : model.World) → state_of self.new w ≡ with_slot v (value_view a) (state_of self.old w) }
+        ensures state { (w : model.World) → state_of self.new w
+            ≡ with_slot v (value_view a) (state_of self.old w) }
         ensures kept { KeepsFrames (Some a) self.old self.new }
     {
         if let Some(i) = place(self.func, v) {

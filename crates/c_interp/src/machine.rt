@@ -42,7 +42,8 @@ impl<'a> CMachine<'a> {
         ensures program { IfOk result (λ m. program_in m ≡ program_of c.now) }
         ensures budgets { IfOk result (λ m. budgets_of m ≡ b) }
         ensures started { IfOk result (λ m. stop_of m ≡ None) }
-        ensures too_wide { (result ≡ Err OpenError.TooWide) ↔ (limit_of 13 < slots_needed (program_of c.now) b.depth b.heap) }
+        ensures too_wide { (result ≡ Err OpenError.TooWide) ↔
+            (limit_of 13 < slots_needed (program_of c.now) b.depth b.heap) }
     {
         if is_too_wide(c, b.depth, b.heap) {
             return Err(OpenError::TooWide);
@@ -64,7 +65,8 @@ impl<'a> CMachine<'a> {
         ensures program { program_in self.new ≡ program_in self.old }
         ensures budgets { budgets_of self.new ≡ budgets_of self.old }
         ensures stopped { stop_of self.new ≡ Some result }
-        ensures again { IfSome (stop_of self.old) (λ stop. (result ≡ stop) × (sink.new ≡ sink.old)) }
+        ensures again { IfSome (stop_of self.old) (λ stop. (result ≡ stop) ×
+            (sink.new ≡ sink.old)) }
         ensures counted { K.faults sink.old ≤ K.faults sink.new }
 
         // Of a machine that hadn't stopped before:

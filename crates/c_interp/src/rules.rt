@@ -83,7 +83,8 @@ fn first_at(firsts: &[u32], i: usize) -> u32
 /// The function of a number, among those of which the first statements have these numbers.
 fn among<'a>(fns: &'a [CFunc], firsts: &[u32], number: u64) -> Option<Found<'a>>
     requires { length firsts.now ≡ length fns.now }
-    ensures { (n : ℕ) → firsts.now ≡ firsts_from n (map func_of fns.now) → IsFoundAs result (find_in n (map func_of fns.now) number) }
+    ensures { (n : ℕ) → firsts.now ≡ firsts_from n (map func_of fns.now) →
+        IsFoundAs result (find_in n (map func_of fns.now) number) }
 {
     match position(fns, number) {
         Some(i) => Some(Found {
@@ -124,7 +125,8 @@ pub fn rules_of<'a>(
 /// The function at a position, among those of which the first statements have these numbers.
 fn nth<'a>(fns: &'a [CFunc], firsts: &[u32], i: usize) -> Option<Found<'a>>
     requires { length firsts.now ≡ length fns.now }
-    ensures { (n : ℕ) → firsts.now ≡ firsts_from n (map func_of fns.now) → IsFoundAs result (number_at n (map func_of fns.now) i) }
+    ensures { (n : ℕ) → firsts.now ≡ firsts_from n (map func_of fns.now) →
+        IsFoundAs result (number_at n (map func_of fns.now) i) }
 {
     if i < fns.len() {
         Some(Found {

@@ -23,9 +23,12 @@ pub fn finish<'a, K: Sink>(
     world: &mut World,
     sink: &mut K,
 ) -> CStop
-    requires room { HasRoom rules.now tasks.old.items (vec_capacity tasks.old) frames.old world.old }
-    requires start { (b : Outside) → IsRunning rules.now (run_of rules.now world.old) (start_of world.old) b b tasks.old.items frames.old world.old }
-    ensures { IsFinished (run_of rules.now world.old) (start_of world.old) (record { written = K.written sink.old; faults = K.faults sink.old })
+    requires room { HasRoom rules.now tasks.old.items
+        (vec_capacity tasks.old) frames.old world.old }
+    requires start { (b : Outside) → IsRunning rules.now (run_of rules.now world.old)
+        (start_of world.old) b b tasks.old.items frames.old world.old }
+    ensures { IsFinished (run_of rules.now world.old) (start_of world.old)
+        (record { written = K.written sink.old; faults = K.faults sink.old })
         (record { written = K.written sink.new; faults = K.faults sink.new }) result world.new }
 {
     loop {
@@ -38,12 +41,14 @@ pub fn finish<'a, K: Sink>(
 
 /// The frame of the function that a run begins with, over an empty table of values.
 fn first_frame<'a>(main: Found<'a>, values: Vec<Option<Value>>) -> Frames<'a>
-    requires room { length values.items + length (func_of main.func.now).vars ≤ vec_capacity values }
+    requires room { length values.items + length
+        (func_of main.func.now).vars ≤ vec_capacity values }
     ensures func { result.func ≡ main.entry.func }
     ensures base { result.base ≡ 0 }
     ensures glue { result.is_glue ≡ false }
     ensures depth { result.depth ≡ 1 }
-    ensures items { result.values.items ≡ values.items ++ replicate (length (func_of main.entry.func.now).vars) None }
+    ensures items { result.values.items ≡ values.items ++ replicate
+        (length (func_of main.entry.func.now).vars) None }
     ensures kept { vec_capacity values ≤ vec_capacity result.values }
 {
     let mut values = values;
@@ -66,8 +71,10 @@ pub fn run<'a, K: Sink>(
     world: &mut World,
     sink: &mut K,
 ) -> CStop
-    requires start { CanRun rules.now main tasks.old.items (vec_capacity tasks.old) values.items (vec_capacity values) world.old }
-    ensures { IsFinished (run_of rules.now world.old) (start_of world.old) (record { written = K.written sink.old; faults = K.faults sink.old })
+    requires start { CanRun rules.now main tasks.old.items (vec_capacity tasks.old) values.items
+        (vec_capacity values) world.old }
+    ensures { IsFinished (run_of rules.now world.old) (start_of world.old)
+        (record { written = K.written sink.old; faults = K.faults sink.old })
         (record { written = K.written sink.new; faults = K.faults sink.new }) result world.new }
 {
     let mut frames = first_frame(main, values);

@@ -34,7 +34,9 @@ pub fn no_value(n: u32) -> Option<CStop>
 
 /// A value comes to the target of the statement of a number.
 fn receive(n: u32, target: Option<CVar>, value: Option<Value>, frames: &mut Frames) -> Option<CStop>
-    ensures comes { (ts : List Task) (w : model.World) → IsPlain result ts frames.new w (m.received n target (given_view value) (tasks_of ts) (state_of frames.old w)) }
+    ensures comes { (ts : List Task) (w : model.World) →
+        IsPlain result ts frames.new w (m.received n target (given_view value) (tasks_of ts)
+        (state_of frames.old w)) }
     ensures kept { KeepsFrames value frames.old frames.new }
 {
     let Some(v) = target else {
@@ -56,9 +58,10 @@ pub fn after(
     r: Result<Option<Value>, Halt>,
     frames: &mut Frames,
 ) -> Option<CStop>
-    ensures comes { (ts : List Task) (things : Things) (w : model.World) (s : Shown) (before after : Outside) (e : Effect)
-        → AreMadeSlots things frames.old.values.items → Comes things s w before after r e
-        → CameTo w before after result ts frames.new s (m.after n target e (tasks_of ts) (state_of frames.old w)) }
+    ensures comes { (ts : List Task) (things : Things) (w : model.World) (s : Shown)
+        (before after : Outside) (e : Effect) → AreMadeSlots things frames.old.values.items →
+        Comes things s w before after r e → CameTo w before after result ts frames.new s
+        (m.after n target e (tasks_of ts) (state_of frames.old w)) }
     ensures room { vec_capacity frames.old.values ≤ vec_capacity frames.new.values }
 {
     match r {
@@ -80,7 +83,8 @@ fn depth_out(is_glue: bool, depth: u32) -> u32
 
 /// Back to the caller.
 fn go_back<'a>(caller: Caller<'a>, frames: &mut Frames<'a>)
-    ensures state { (w : model.World) → state_of frames.new w ≡ m.caller_state (caller_of caller.entry) (state_of frames.old w) }
+    ensures state { (w : model.World) → state_of frames.new w
+        ≡ m.caller_state (caller_of caller.entry) (state_of frames.old w) }
     ensures kept { KeepsFrames None frames.old frames.new }
 {
     frames.values.truncate(frames.base);
@@ -96,7 +100,8 @@ pub fn leave<'a>(
     tasks: &mut Vec<Task<'a>>,
     frames: &mut Frames<'a>,
 ) -> Option<CStop>
-    ensures comes { (w : model.World) → IsPlain result tasks.new.items frames.new w (m.leave (given_view value) (tasks_of tasks.old.items) (state_of frames.old w)) }
+    ensures comes { (w : model.World) → IsPlain result tasks.new.items frames.new w
+        (m.leave (given_view value) (tasks_of tasks.old.items) (state_of frames.old w)) }
     ensures kept { KeepsFrames value frames.old frames.new }
     ensures room { vec_capacity tasks.old ≤ vec_capacity tasks.new }
 {
@@ -116,7 +121,9 @@ pub fn leave<'a>(
 
 /// Behind the loop that is under way. `count` is how many statements there are.
 pub fn break_to(count: u32, tasks: &mut Vec<Task>) -> Option<CStop>
-    ensures comes { (f : Values) (w : model.World) → IsPlain result tasks.new.items f w (m.break_to count (tasks_of tasks.old.items) (state_of f w)) }
+    ensures comes { (f : Values) (w : model.World) →
+        IsPlain result tasks.new.items f w (m.break_to count (tasks_of tasks.old.items)
+        (state_of f w)) }
     ensures room { vec_capacity tasks.old ≤ vec_capacity tasks.new }
 {
     while let Some(task) = tasks.pop() {
@@ -132,7 +139,9 @@ pub fn break_to(count: u32, tasks: &mut Vec<Task>) -> Option<CStop>
 
 /// To the next turn of the loop that is under way. `count` is how many statements there are.
 pub fn continue_to(count: u32, tasks: &mut Vec<Task>) -> Option<CStop>
-    ensures comes { (f : Values) (w : model.World) → IsPlain result tasks.new.items f w (m.continue_to count (tasks_of tasks.old.items) (state_of f w)) }
+    ensures comes { (f : Values) (w : model.World) →
+        IsPlain result tasks.new.items f w (m.continue_to count (tasks_of tasks.old.items)
+        (state_of f w)) }
     ensures room { vec_capacity tasks.old ≤ vec_capacity tasks.new }
 {
     while let Some(task) = tasks.pop() {
@@ -156,7 +165,8 @@ pub fn end_body<'a>(
     tasks: &mut Vec<Task<'a>>,
     frames: &mut Frames<'a>,
 ) -> Option<CStop>
-    ensures comes { (w : model.World) → IsPlain result tasks.new.items frames.new w (m.body_end count given None (tasks_of tasks.old.items) (state_of frames.old w)) }
+    ensures comes { (w : model.World) → IsPlain result tasks.new.items frames.new w
+        (m.body_end count given None (tasks_of tasks.old.items) (state_of frames.old w)) }
     ensures kept { KeepsFrames None frames.old frames.new }
     ensures room { vec_capacity tasks.old ≤ vec_capacity tasks.new }
 {

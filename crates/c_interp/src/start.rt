@@ -96,7 +96,8 @@ pub fn run_program<K: Sink>(
 ) -> Ended
     requires set { IsSet s }
     requires runnable { IsRunnable (program_of s.rules.program.now) }
-    ensures { IsEnded (c_run (program_of s.entry.rules.program.now) fuel s.entry.rules.heap s.entry.rules.depth input.now (lists_of answers.now))
+    ensures { IsEnded (c_run (program_of s.entry.rules.program.now) fuel s.entry.rules.heap
+        s.entry.rules.depth input.now (lists_of answers.now))
         (record { written = K.written sink.old; faults = K.faults sink.old })
         (record { written = K.written sink.new; faults = K.faults sink.new }) result }
 {

@@ -32,8 +32,9 @@ const OTHER_TYPE: u8 = 5;
 fn condition(e: &CExpr, frames: &Frames, world: &World) -> Result<i64, u8>
     requires ready { IsReady world.now }
     requires top { frames.now.base ≤ length frames.now.values.items }
-    ensures { (things : Things) (w : model.World) → Shows world.now things w → AreMadeSlots things frames.now.values.items
-        → result ≡ run.condition (expr_of e.now) (m.frame_in (state_of frames.now w)) w }
+    ensures { (things : Things) (w : model.World) → Shows world.now things w →
+        AreMadeSlots things frames.now.values.items →
+        result ≡ run.condition (expr_of e.now) (m.frame_in (state_of frames.now w)) w }
 {
     match eval(e, frames.vars(), &world.blocks) {
         Ok(Value::Number(z)) => Ok(z),
@@ -69,8 +70,11 @@ fn when<'a>(
     requires top { frames.now.base ≤ length frames.now.values.items }
     requires few { n < 4294967295 }
     requires room { length tasks.old.items < vec_capacity tasks.old }
-    ensures { (r : run.Setup) (b : Outside) → Came (vec_capacity tasks.old) (vec_capacity tasks.new) frames.now frames.now world.now world.now b b result tasks.new.items
-        (λ w. m.act r n (c.when (expr_of e.now) (stmts_of xs.now)) (tasks_of tasks.old.items) (state_of frames.now w)) }
+    ensures { (r : run.Setup) (b : Outside) →
+        Came (vec_capacity tasks.old) (vec_capacity tasks.new) frames.now frames.now world.now
+        world.now b b result tasks.new.items
+        (λ w. m.act r n (c.when (expr_of e.now) (stmts_of xs.now)) (tasks_of tasks.old.items)
+        (state_of frames.now w)) }
 {
     match condition(e, frames, world) {
         Ok(z) => {
@@ -99,8 +103,11 @@ fn choose<'a>(
     requires top { frames.now.base ≤ length frames.now.values.items }
     requires few { n + 1 + count_in (stmts_of xs.now) < 4294967295 }
     requires room { length tasks.old.items < vec_capacity tasks.old }
-    ensures { (r : run.Setup) (b : Outside) → Came (vec_capacity tasks.old) (vec_capacity tasks.new) frames.now frames.now world.now world.now b b result tasks.new.items
-        (λ w. m.act r n (c.choose (expr_of e.now) (stmts_of xs.now) (stmts_of ys.now)) (tasks_of tasks.old.items) (state_of frames.now w)) }
+    ensures { (r : run.Setup) (b : Outside) →
+        Came (vec_capacity tasks.old) (vec_capacity tasks.new) frames.now frames.now world.now
+        world.now b b result tasks.new.items
+        (λ w. m.act r n (c.choose (expr_of e.now) (stmts_of xs.now) (stmts_of ys.now))
+        (tasks_of tasks.old.items) (state_of frames.now w)) }
 {
     match condition(e, frames, world) {
         Ok(z) => {
@@ -126,8 +133,10 @@ fn give_back<'a>(
 ) -> Option<CStop>
     requires ready { IsReady world.now }
     requires top { frames.old.base ≤ length frames.old.values.items }
-    ensures { (b : Outside) → Came (vec_capacity tasks.old) (vec_capacity tasks.new) frames.old frames.new world.now world.now b b result tasks.new.items
-        (λ w. m.returns n (Some (expr_of e.now)) (tasks_of tasks.old.items) (state_of frames.old w)) }
+    ensures { (b : Outside) → Came (vec_capacity tasks.old)
+        (vec_capacity tasks.new) frames.old frames.new world.now world.now b b result
+        tasks.new.items (λ w. m.returns n (Some (expr_of e.now)) (tasks_of tasks.old.items)
+        (state_of frames.old w)) }
 {
     match eval(e, frames.vars(), &world.blocks) {
         Ok(a) => leave(Some(a), tasks, frames),
@@ -145,8 +154,10 @@ fn returns<'a>(
 ) -> Option<CStop>
     requires ready { IsReady world.now }
     requires top { frames.old.base ≤ length frames.old.values.items }
-    ensures { (b : Outside) → Came (vec_capacity tasks.old) (vec_capacity tasks.new) frames.old frames.new world.now world.now b b result tasks.new.items
-        (λ w. m.returns n (option_map expr_of value.now) (tasks_of tasks.old.items) (state_of frames.old w)) }
+    ensures { (b : Outside) → Came (vec_capacity tasks.old)
+        (vec_capacity tasks.new) frames.old frames.new world.now world.now b b result
+        tasks.new.items (λ w. m.returns n (option_map expr_of value.now)
+        (tasks_of tasks.old.items) (state_of frames.old w)) }
 {
     match value {
         None => leave(None, tasks, frames),
@@ -165,8 +176,11 @@ fn turn<'a>(
     requires ready { IsReady world.old }
     requires few { n < 4294967295 }
     requires room { length tasks.old.items + 2 ≤ vec_capacity tasks.old }
-    ensures { (r : run.Setup) (b : Outside) → Came (vec_capacity tasks.old) (vec_capacity tasks.new) frames.now frames.now world.old world.new b b result tasks.new.items
-        (λ w. m.moved r (m.again n (stmts_of body.now) ∷ tasks_of tasks.old.items) (state_of frames.now w)) }
+    ensures { (r : run.Setup) (b : Outside) →
+        Came (vec_capacity tasks.old) (vec_capacity tasks.new) frames.now frames.now world.old
+        world.new b b result tasks.new.items
+        (λ w. m.moved r (m.again n (stmts_of body.now) ∷ tasks_of tasks.old.items)
+        (state_of frames.now w)) }
 {
     if world.fuel == 0 {
         return Some(CStop::FuelEnd);
@@ -187,10 +201,14 @@ fn act<'a, K: Sink>(
     world: &mut World,
     sink: &mut K,
 ) -> Option<CStop>
-    requires room { HasRoomToDo rules.now n (stmt_of x.now) (length tasks.old.items) (vec_capacity tasks.old) frames.old world.old }
-    ensures { Came (vec_capacity tasks.old) (vec_capacity tasks.new) frames.old frames.new world.old world.new
-        (record { written = K.written sink.old; faults = K.faults sink.old }) (record { written = K.written sink.new; faults = K.faults sink.new }) result tasks.new.items
-        (λ w. m.act (setup_of rules.now) n (stmt_of x.now) (tasks_of tasks.old.items) (state_of frames.old w)) }
+    requires room { HasRoomToDo rules.now n (stmt_of x.now) (length tasks.old.items)
+        (vec_capacity tasks.old) frames.old world.old }
+    ensures { Came (vec_capacity tasks.old) (vec_capacity tasks.new) frames.old frames.new
+        world.old world.new
+        (record { written = K.written sink.old; faults = K.faults sink.old })
+        (record { written = K.written sink.new; faults = K.faults sink.new }) result
+        tasks.new.items (λ w. m.act (setup_of rules.now) n (stmt_of x.now)
+        (tasks_of tasks.old.items) (state_of frames.old w)) }
 {
     match x {
         CStmt::Set(v, e) => {
@@ -231,10 +249,14 @@ pub fn step<'a, K: Sink>(
     world: &mut World,
     sink: &mut K,
 ) -> Option<CStop>
-    requires room { HasRoom rules.now tasks.old.items (vec_capacity tasks.old) frames.old world.old }
-    ensures { Came (vec_capacity tasks.old) (vec_capacity tasks.new) frames.old frames.new world.old world.new
-        (record { written = K.written sink.old; faults = K.faults sink.old }) (record { written = K.written sink.new; faults = K.faults sink.new }) result tasks.new.items
-        (λ w. m.moved (setup_of rules.now) (tasks_of tasks.old.items) (state_of frames.old w)) }
+    requires room { HasRoom rules.now tasks.old.items
+        (vec_capacity tasks.old) frames.old world.old }
+    ensures { Came (vec_capacity tasks.old) (vec_capacity tasks.new) frames.old frames.new
+        world.old world.new
+        (record { written = K.written sink.old; faults = K.faults sink.old })
+        (record { written = K.written sink.new; faults = K.faults sink.new }) result
+        tasks.new.items (λ w. m.moved (setup_of rules.now) (tasks_of tasks.old.items)
+        (state_of frames.old w)) }
 {
     match tasks.pop() {
         Some(Task::List(n, stmts)) => match stmts.split_first() {

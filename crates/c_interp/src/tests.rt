@@ -15,7 +15,9 @@ use vlt_numbers::read_answers;
 
 /// `vr_print ( 7 ) ; while ( 1 ) { }`
 fn body(alloc: Global) -> Result<Items<CStmt>, AllocError>
-    ensures { IfOk result (λ b. stmts_of b ≡ c.next (c.call (c.primitive CPrim.Print (c.number (pos 7) ∷ []))) (c.next (c.loop c.done) c.done)) }
+    ensures { IfOk result (λ b. stmts_of b ≡ c.next
+        (c.call (c.primitive CPrim.Print (c.number (pos 7) ∷ [])))
+        (c.next (c.loop c.done) c.done)) }
 {
     let args = Items::from_vec(vec![in alloc; CArg::Number(7)]?);
     let turns = Items::new(alloc);

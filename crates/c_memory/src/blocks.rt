@@ -36,7 +36,8 @@ const MAX_MADE: u64 = 9_223_372_036_854_775_807;
 fn is_child(places: &Places, c: u32) -> bool
     requires settled { IsSettled places.now }
     requires live { IsLiveAt places.now c }
-    ensures { (ts : Things) (n : ℕ) (t : Thing) → rings.Holds places.now ts → IsAt ts n t → t.place ≡ c → result ≡ is_there t.parent }
+    ensures { (ts : Things) (n : ℕ) (t : Thing) → rings.Holds places.now ts → IsAt ts n t →
+        t.place ≡ c → result ≡ is_there t.parent }
 {
     places.parent_of(c).is_some()
 }
@@ -47,7 +48,8 @@ impl Blocks {
     /// The place of a live block; none for null and for a dead one.
     fn find(&self, p: Option<Ref>) -> Option<u32>
         ensures live { IfSome result (λ c. IsLiveAt self.now.places c) }
-        ensures things { (ts : Things) → Holds self.now ts → IsMade ts p → IsFound self.now ts p result }
+        ensures things { (ts : Things) → Holds self.now ts → IsMade ts p →
+            IsFound self.now ts p result }
     {
         match p {
             Some(r) => {
@@ -97,7 +99,8 @@ impl Blocks {
     pub fn make(&mut self, numbers: u32, references: u32) -> Result<Ref, HeapEnd>
         requires sound { IsSound self.old }
         requires within { numbers + references ≤ cells_of self.old }
-        ensures did { (ts : Things) → Holds self.old ts → IsNewOrFull ts result numbers references self.old self.new }
+        ensures did { (ts : Things) → Holds self.old ts →
+            IsNewOrFull ts result numbers references self.old self.new }
         ensures same { OnErr result (self.new ≡ self.old) }
         ensures heap { heap_of self.new ≡ heap_of self.old }
         ensures cells { cells_of self.new ≡ cells_of self.old }
@@ -126,7 +129,8 @@ impl Blocks {
     fn number_cell(&self, c: u32, i: u64) -> Option<usize>
         requires sound { IsSound self.now }
         requires live { IsLiveAt self.now.places c }
-        ensures some { IfSome result (λ k. (i < (shape_at self.now.shapes.items c).numbers) × (k ≡ c * cells_of self.now + i) × (k < length self.now.cells.items)) }
+        ensures some { IfSome result (λ k. (i < (shape_at self.now.shapes.items c).numbers) ×
+            (k ≡ c * cells_of self.now + i) × (k < length self.now.cells.items)) }
         ensures none { IfNone result ((shape_at self.now.shapes.items c).numbers ≤ i) }
     {
         if i < u64::from(self.shape(c).numbers) {
@@ -159,7 +163,8 @@ impl Blocks {
     /// 1 for a null or dead block; 2 for a cell that it hasn't or that is unset.
     pub fn read_n(&self, p: Option<Ref>, i: u64) -> Result<i64, u8>
         requires sound { IsSound self.now }
-        ensures { (ts : Things) → Holds self.now ts → IsMade ts p → result ≡ read_number (blocks_of self.now ts) (number_of p) i }
+        ensures { (ts : Things) → Holds self.now ts → IsMade ts p →
+            result ≡ read_number (blocks_of self.now ts) (number_of p) i }
     {
         let Some(c) = self.find(p) else {
             return Err(DEAD);
@@ -180,7 +185,8 @@ impl Blocks {
     /// 1 for a null or dead block; 2 for a cell that it hasn't.
     pub fn write_n(&mut self, p: Option<Ref>, i: u64, v: i64) -> Result<(), u8>
         requires sound { IsSound self.old }
-        ensures did { (ts : Things) → Holds self.old ts → IsMade ts p → Did ts result (write_number (blocks_of self.old ts) (number_of p) i v) self.new }
+        ensures did { (ts : Things) → Holds self.old ts → IsMade ts p →
+            Did ts result (write_number (blocks_of self.old ts) (number_of p) i v) self.new }
         ensures same { OnErr result (self.new ≡ self.old) }
         ensures heap { heap_of self.new ≡ heap_of self.old }
         ensures cells { cells_of self.new ≡ cells_of self.old }
@@ -203,7 +209,8 @@ impl Blocks {
     /// 1 for a null or dead block; 2 for a cell that it hasn't or that is unset.
     pub fn read_r(&self, p: Option<Ref>, i: u64) -> Result<Option<Ref>, u8>
         requires sound { IsSound self.now }
-        ensures { (ts : Things) → Holds self.now ts → IsMade ts p → IsRead ts result (read_reference (blocks_of self.now ts) (number_of p) i) }
+        ensures { (ts : Things) → Holds self.now ts → IsMade ts p →
+            IsRead ts result (read_reference (blocks_of self.now ts) (number_of p) i) }
     {
         let Some(c) = self.find(p) else {
             return Err(DEAD);
@@ -245,7 +252,8 @@ impl Blocks {
     fn find_free(&self, p: Option<Ref>) -> Option<u32>
         requires sound { IsSound self.now }
         ensures live { IfSome result (λ c. IsLiveAt self.now.places c) }
-        ensures things { (ts : Things) → Holds self.now ts → IsMade ts p → IsFoundIf is_free self.now ts p result }
+        ensures things { (ts : Things) → Holds self.now ts → IsMade ts p →
+            IsFoundIf is_free self.now ts p result }
     {
         let c = self.find(p)?;
         if self.shape(c).is_out || is_child(&self.places, c) {
@@ -259,7 +267,8 @@ impl Blocks {
     fn find_root(&self, p: Option<Ref>) -> Option<u32>
         requires sound { IsSound self.now }
         ensures live { IfSome result (λ c. IsLiveAt self.now.places c) }
-        ensures things { (ts : Things) → Holds self.now ts → IsMade ts p → IsFoundIf is_root self.now ts p result }
+        ensures things { (ts : Things) → Holds self.now ts → IsMade ts p →
+            IsFoundIf is_root self.now ts p result }
     {
         let c = self.find(p)?;
         if is_child(&self.places, c) {
@@ -273,7 +282,8 @@ impl Blocks {
     fn find_here(&self, p: Option<Ref>) -> Option<u32>
         requires sound { IsSound self.now }
         ensures live { IfSome result (λ c. IsLiveAt self.now.places c) }
-        ensures things { (ts : Things) → Holds self.now ts → IsMade ts p → IsFoundIf is_here self.now ts p result }
+        ensures things { (ts : Things) → Holds self.now ts → IsMade ts p →
+            IsFoundIf is_here self.now ts p result }
     {
         let c = self.find(p)?;
         if self.shape(c).is_out { None } else { Some(c) }
@@ -283,7 +293,8 @@ impl Blocks {
     fn find_out(&self, p: Option<Ref>) -> Option<u32>
         requires sound { IsSound self.now }
         ensures live { IfSome result (λ c. IsLiveAt self.now.places c) }
-        ensures things { (ts : Things) → Holds self.now ts → IsMade ts p → IsFoundIf is_out self.now ts p result }
+        ensures things { (ts : Things) → Holds self.now ts → IsMade ts p →
+            IsFoundIf is_out self.now ts p result }
     {
         let c = self.find(p)?;
         if self.shape(c).is_out { Some(c) } else { None }
@@ -327,7 +338,8 @@ impl Blocks {
     /// 8 for a dead child.
     pub fn disown(&mut self, child: Option<Ref>) -> Result<(), u8>
         requires sound { IsSound self.old }
-        ensures did { (ts : Things) → Holds self.old ts → IsMade ts child → Did ts result (disowned (blocks_of self.old ts) (number_of child)) self.new }
+        ensures did { (ts : Things) → Holds self.old ts → IsMade ts child →
+            Did ts result (disowned (blocks_of self.old ts) (number_of child)) self.new }
         ensures same { OnErr result (self.new ≡ self.old) }
         ensures heap { heap_of self.new ≡ heap_of self.old }
         ensures cells { cells_of self.new ≡ cells_of self.old }
@@ -350,7 +362,8 @@ impl Blocks {
     /// 8 for a block that is null, is dead or has no parent.
     pub fn parent(&self, child: Option<Ref>) -> Result<Ref, u8>
         requires sound { IsSound self.now }
-        ensures { (ts : Things) → Holds self.now ts → IsMade ts child → IsParent ts result (parent_of (blocks_of self.now ts) (number_of child)) }
+        ensures { (ts : Things) → Holds self.now ts → IsMade ts child →
+            IsParent ts result (parent_of (blocks_of self.now ts) (number_of child)) }
     {
         let Some(c) = self.find(child) else {
             return Err(MISUSED);
@@ -368,7 +381,8 @@ impl Blocks {
     /// 8 for a dead block and for one that is out.
     pub fn release(&mut self, p: Option<Ref>) -> Result<(), u8>
         requires sound { IsSound self.old }
-        ensures did { (ts : Things) → Holds self.old ts → IsMade ts p → Did ts result (released (blocks_of self.old ts) (number_of p)) self.new }
+        ensures did { (ts : Things) → Holds self.old ts → IsMade ts p →
+            Did ts result (released (blocks_of self.old ts) (number_of p)) self.new }
         ensures same { OnErr result (self.new ≡ self.old) }
         ensures heap { heap_of self.new ≡ heap_of self.old }
         ensures cells { cells_of self.new ≡ cells_of self.old }
@@ -396,7 +410,8 @@ impl Blocks {
     /// What `out` does.
     fn send_out(&mut self, p: Option<Ref>) -> Result<(), u8>
         requires sound { IsSound self.old }
-        ensures did { (ts : Things) → Holds self.old ts → IsMade ts p → Did ts result (gone_out (blocks_of self.old ts) (number_of p)) self.new }
+        ensures did { (ts : Things) → Holds self.old ts → IsMade ts p →
+            Did ts result (gone_out (blocks_of self.old ts) (number_of p)) self.new }
         ensures same { OnErr result (self.new ≡ self.old) }
         ensures heap { heap_of self.new ≡ heap_of self.old }
         ensures cells { cells_of self.new ≡ cells_of self.old }
@@ -416,7 +431,8 @@ impl Blocks {
     /// 8 for a block that is null, is dead, is out or has a parent.
     pub fn out(&mut self, p: Option<Ref>) -> Result<(), u8>
         requires sound { IsSound self.old }
-        ensures did { (ts : Things) → Holds self.old ts → IsMade ts p → Did ts result (gone_out (blocks_of self.old ts) (number_of p)) self.new }
+        ensures did { (ts : Things) → Holds self.old ts → IsMade ts p →
+            Did ts result (gone_out (blocks_of self.old ts) (number_of p)) self.new }
         ensures same { OnErr result (self.new ≡ self.old) }
         ensures heap { heap_of self.new ≡ heap_of self.old }
         ensures cells { cells_of self.new ≡ cells_of self.old }
@@ -432,7 +448,9 @@ impl Blocks {
     /// 8 for null.
     pub fn back(&mut self, p: Option<Ref>) -> Result<bool, u8>
         requires sound { IsSound self.old }
-        ensures did { (ts : Things) → Holds self.old ts → IsMade ts p → DidBack ts result (come_back (blocks_of self.old ts) (number_of p)) self.old self.new }
+        ensures did { (ts : Things) → Holds self.old ts → IsMade ts p →
+            DidBack ts result (come_back (blocks_of self.old ts) (number_of p)) self.old
+            self.new }
         ensures same { OnErr result (self.new ≡ self.old) }
         ensures heap { heap_of self.new ≡ heap_of self.old }
         ensures cells { cells_of self.new ≡ cells_of self.old }

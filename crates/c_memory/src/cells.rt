@@ -58,8 +58,10 @@ fn push(cells: &mut Vec<Cell>)
 /// Unset cells at the end, up to this length, for which there is room.
 pub fn grow_to(cells: &mut Vec<Cell>, end: usize)
     requires { end ≤ vec_capacity cells.old }
-    ensures before { (k : ℕ) → k < length cells.old.items → slice_get cells.new.items k ≡ slice_get cells.old.items k }
-    ensures added { (k : ℕ) → length cells.old.items ≤ k → k < length cells.new.items → slice_get cells.new.items k ≡ Some Cell.Unset }
+    ensures before { (k : ℕ) → k < length cells.old.items →
+        slice_get cells.new.items k ≡ slice_get cells.old.items k }
+    ensures added { (k : ℕ) → length cells.old.items ≤ k → k < length cells.new.items →
+        slice_get cells.new.items k ≡ Some Cell.Unset }
     ensures long { length cells.new.items ≡ max (length cells.old.items) end }
     ensures room { vec_capacity cells.old ≤ vec_capacity cells.new }
 {
@@ -71,9 +73,12 @@ pub fn grow_to(cells: &mut Vec<Cell>, end: usize)
 /// Unsets so many cells from a position on.
 pub fn clear(cells: &mut Vec<Cell>, from: usize, count: u32)
     requires { from + count ≤ length cells.old.items }
-    ensures inside { (k : ℕ) → from ≤ k → k < from + count → slice_get cells.new.items k ≡ Some Cell.Unset }
-    ensures before { (k : ℕ) → k < from → slice_get cells.new.items k ≡ slice_get cells.old.items k }
-    ensures behind { (k : ℕ) → from + count ≤ k → slice_get cells.new.items k ≡ slice_get cells.old.items k }
+    ensures inside { (k : ℕ) → from ≤ k → k < from + count →
+        slice_get cells.new.items k ≡ Some Cell.Unset }
+    ensures before { (k : ℕ) → k < from → slice_get cells.new.items k
+        ≡ slice_get cells.old.items k }
+    ensures behind { (k : ℕ) → from + count ≤ k →
+        slice_get cells.new.items k ≡ slice_get cells.old.items k }
     ensures long { length cells.new.items ≡ length cells.old.items }
     ensures room { vec_capacity cells.new ≡ vec_capacity cells.old }
 {
@@ -87,7 +92,8 @@ pub fn put_shape(shapes: &mut Vec<Shape>, c: u32, shape: Shape)
     requires within { c ≤ length shapes.old.items }
     requires room { c < vec_capacity shapes.old }
     ensures here { slice_get shapes.new.items c ≡ Some shape }
-    ensures others { (d : ℕ) → d ≢ c → slice_get shapes.new.items d ≡ slice_get shapes.old.items d }
+    ensures others { (d : ℕ) → d ≢ c → slice_get shapes.new.items d
+        ≡ slice_get shapes.old.items d }
     ensures long { length shapes.new.items ≡ max (length shapes.old.items) (c + 1) }
     ensures room { vec_capacity shapes.old ≤ vec_capacity shapes.new }
 {

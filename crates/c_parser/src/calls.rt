@@ -15,7 +15,8 @@ use vlt_base::Items;
 
 /// An argument. Where it may not, it is no string.
 fn arg(alloc: Global, lexemes: &[Lexeme<'_>], at: usize, texts: bool) -> Result<CArg, CError>
-    ensures reads { IfOk result (λ x. Reads lexemes.now at (at + 1) (λ rest. arg_token (arg_of x) ∷ rest)) }
+    ensures reads { IfOk result (λ x. Reads lexemes.now at (at + 1)
+        (λ rest. arg_token (arg_of x) ∷ rest)) }
     ensures is { IfOk result (λ x. texts ≡ false → HasNoText (arg_of x ∷ [])) }
 {
     match token(lexemes, at) {
@@ -36,7 +37,8 @@ fn more_args(
     first: CArg,
 ) -> Result<(Items<CArg>, usize), CError>
     requires { texts ≡ false → HasNoText (arg_of first ∷ []) }
-    ensures reads { IfOk result (λ x. ReadsBehind (arg_token (arg_of first)) lexemes.now at x.1 (args_then (map arg_of x.0))) }
+    ensures reads { IfOk result (λ x. ReadsBehind (arg_token (arg_of first)) lexemes.now at x.1
+        (args_then (map arg_of x.0))) }
     ensures is { IfOk result (λ x. texts ≡ false → HasNoText (map arg_of x.0)) }
 {
     let mut args = Items::new(alloc);

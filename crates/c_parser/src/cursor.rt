@@ -11,7 +11,8 @@ use c_syntax::{CSign, CWord};
 
 /// The token at a position.
 pub fn token<'a>(lexemes: &[Lexeme<'a>], at: usize) -> Option<Token<'a>>
-    ensures { MatchOption result (tokens_from lexemes.now at ≡ []) (λ t. Reads lexemes.now at (at + 1) (λ rest. token_of t ∷ rest)) }
+    ensures { MatchOption result (tokens_from lexemes.now at ≡ [])
+        (λ t. Reads lexemes.now at (at + 1) (λ rest. token_of t ∷ rest)) }
 {
     let lexeme = lexemes.get(at)?;
     Some(lexeme.token)

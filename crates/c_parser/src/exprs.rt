@@ -19,7 +19,8 @@ use vlt_ops::{Op, row};
 
 /// The rest of a cell, behind the variable of this number.
 pub fn cell_behind(lexemes: &[Lexeme<'_>], at: usize, base: u64) -> Result<(CCell, usize), CError>
-    ensures { IfOk result (λ x. ReadsBehind (t.variable (record { reference = true; number = base })) lexemes.now at x.1 (cell_then x.0)) }
+    ensures { IfOk result (λ x. ReadsBehind (t.variable
+        (record { reference = true; number = base })) lexemes.now at x.1 (cell_then x.0)) }
 {
     let kind = sign(lexemes, at, CSign::Arrow)?;
     let reference = match token(lexemes, kind) {
@@ -49,7 +50,8 @@ fn behind_paren(
     depth: u8,
 ) -> Result<(CExpr, usize), CError>
     requires { 1 ≤ depth }
-    ensures reads { IfOk result (λ x. ReadsBehind (t.sign OpenParen) lexemes.now at x.1 (expr_then (expr_of x.0))) }
+    ensures reads { IfOk result (λ x. ReadsBehind (t.sign OpenParen) lexemes.now at x.1
+        (expr_then (expr_of x.0))) }
     ensures is { IfOk result (λ x. IsExpr (depth + 1) (expr_of x.0)) }
 {
     match token(lexemes, at) {
@@ -77,7 +79,8 @@ fn behind_paren(
 
 /// The operator between two operands.
 fn operator(lexemes: &[Lexeme<'_>], at: usize) -> Result<Op, CError>
-    ensures reads { IfOk result (λ op. Reads lexemes.now at (at + 1) (λ rest. t.operator op ∷ rest)) }
+    ensures reads { IfOk result (λ op. Reads lexemes.now at (at + 1)
+        (λ rest. t.operator op ∷ rest)) }
     ensures arity { IfOk result (λ op. (row_of op).arity ≡ 2) }
 {
     match token(lexemes, at) {

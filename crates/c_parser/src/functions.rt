@@ -70,7 +70,8 @@ fn more_params(
     at: usize,
     first: Declaration,
 ) -> Result<(Items<Declaration>, usize), CError>
-    ensures { IfOk result (λ x. ReadsParams lexemes.now at x.1 (declaration_of first) (map declaration_of x.0)) }
+    ensures { IfOk result (λ x. ReadsParams lexemes.now at x.1 (declaration_of first)
+        (map declaration_of x.0)) }
 {
     let mut params = Items::new(alloc);
     params.push(first)?;
@@ -140,7 +141,8 @@ fn vars(
     at: usize,
 ) -> Result<(Items<Declaration>, usize), CError>
     requires { at ≤ length lexemes.now }
-    ensures { IfOk result (λ x. ReadsSome lexemes.now at x.1 (vars_then (map declaration_of x.0))) }
+    ensures { IfOk result (λ x. ReadsSome lexemes.now at x.1
+        (vars_then (map declaration_of x.0))) }
 {
     let mut vars = Items::new(alloc);
     let mut here = at;
@@ -170,7 +172,9 @@ fn body(
 
 /// The number in the second line.
 fn first_lines(lexemes: &[Lexeme<'_>]) -> Result<u64, CError>
-    ensures reads { IfOk result (λ main. tokens_from lexemes.now 0 ≡ t.include ∷ t.line_end ∷ t.define ∷ t.number (pos main) ∷ t.line_end ∷ tokens_from lexemes.now 5) }
+    ensures reads { IfOk result (λ main. tokens_from lexemes.now 0
+        ≡ t.include ∷ t.line_end ∷ t.define ∷ t.number
+        (pos main) ∷ t.line_end ∷ tokens_from lexemes.now 5) }
     ensures within { IfOk result (λ main. 5 ≤ length lexemes.now) }
 {
     match token(lexemes, 0) {

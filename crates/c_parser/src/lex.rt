@@ -117,8 +117,10 @@ fn run_at(text: &[u8]) -> &[u8]
 
 /// What stands behind these bytes, if the text begins with them.
 fn behind<'a>(text: &'a [u8], front: &[u8]) -> Option<&'a [u8]>
-    ensures rest { MatchOption result (behind front.now text.now ≡ None) (λ rest. behind front.now text.now ≡ Some rest.now) }
-    ensures taken { IfSome result (λ rest. length rest.now + length front.now ≤ length text.now) }
+    ensures rest { MatchOption result (behind front.now text.now ≡ None)
+        (λ rest. behind front.now text.now ≡ Some rest.now) }
+    ensures taken { IfSome result (λ rest.
+        length rest.now + length front.now ≤ length text.now) }
 {
     let mut rest = text;
     for &want in front {
@@ -291,7 +293,9 @@ fn quoted(text: &[u8]) -> (Token<'_>, &[u8])
 
 /// The first of the signs that begins the text, and what stands behind it.
 fn first_mark<'a>(marks: &[Mark], text: &'a [u8]) -> Option<(Mark, &'a [u8])>
-    ensures mark { MatchOption result ((other : Piece) → begun (map mark_token marks.now) text.now other ≡ other) (λ x. (other : Piece) → begun (map mark_token marks.now) text.now other ≡ (mark_token x.0, x.1.now)) }
+    ensures mark { MatchOption result ((other : Piece) →
+        begun (map mark_token marks.now) text.now other ≡ other) (λ x. (other : Piece) →
+        begun (map mark_token marks.now) text.now other ≡ (mark_token x.0, x.1.now)) }
     ensures shorter { IfSome result (λ x. length x.1.now < length text.now) }
 {
     for &mark in marks {
@@ -318,7 +322,8 @@ fn signed<'a>(text: &'a [u8], after: &'a [u8]) -> (Token<'a>, &'a [u8])
 
 /// The token at the front of a text, and what stands behind it.
 fn piece(text: &[u8]) -> Option<(Token<'_>, &[u8])>
-    ensures piece { MatchOption result (text.now ≡ []) (λ x. IsPiece text.now (token_of x.0) x.1.now) }
+    ensures piece { MatchOption result (text.now ≡ [])
+        (λ x. IsPiece text.now (token_of x.0) x.1.now) }
     ensures shorter { IfSome result (λ x. length x.1.now < length text.now) }
 {
     let (&byte, after) = text.split_first()?;
@@ -351,7 +356,8 @@ impl First {
 
     /// What stands at the front of a text where this is wanted, and what stands behind it.
     fn take(self, text: &[u8]) -> Option<(Token<'_>, &[u8])>
-        ensures piece { MatchOption result (text.now ≡ []) (λ x. IsFirst (first_piece self) text.now (token_of x.0) x.1.now) }
+        ensures piece { MatchOption result (text.now ≡ [])
+            (λ x. IsFirst (first_piece self) text.now (token_of x.0) x.1.now) }
         ensures shorter { IfSome result (λ x. length x.1.now < length text.now) }
     {
         match self {
@@ -367,7 +373,8 @@ impl First {
 fn fixed<'a>(text: &'a [u8], front: &[u8], token: Token<'a>) -> Option<(Token<'a>, &'a [u8])>
     requires spelled { front.now ≡ token_text (token_of token) }
     requires some { 0 < length front.now }
-    ensures piece { MatchOption result (text.now ≡ []) (λ x. IsFirst (fixed (token_of token.entry)) text.now (token_of x.0) x.1.now) }
+    ensures piece { MatchOption result (text.now ≡ [])
+        (λ x. IsFirst (fixed (token_of token.entry)) text.now (token_of x.0) x.1.now) }
     ensures shorter { IfSome result (λ x. length x.1.now < length text.now) }
 {
     let (_, after) = text.split_first()?;
@@ -394,7 +401,8 @@ fn lexeme<'a>(token: Token<'a>, text: &[u8], left: &[u8]) -> Lexeme<'a>
 fn others<'a>(text: &[u8], left: &'a [u8], lexemes: &mut Vec<Lexeme<'a>>) -> Result<(), Memory>
     requires size { length text.now < 2 ^ 32 }
     requires within { length left.now ≤ length text.now }
-    ensures { OnOk result (AreOthers (length text.now) left.now (lexemes_of lexemes.old.items) (lexemes_of lexemes.new.items)) }
+    ensures { OnOk result (AreOthers (length text.now) left.now (lexemes_of lexemes.old.items)
+        (lexemes_of lexemes.new.items)) }
 {
     let mut rest = past(Class::Blank, left);
     while let Some((token, after)) = piece(rest) {

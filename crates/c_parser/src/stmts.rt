@@ -28,8 +28,10 @@ fn set(
     at: usize,
     variable: CVar,
 ) -> Result<(CStmt, usize), CError>
-    ensures reads { IfOk result (λ x. ReadsBehindTwo (t.variable variable) (t.sign Assign) lexemes.now at x.1 (stmt_then (stmt_of x.0))) }
-    ensures is { (room : ℕ) → IfOk result (λ x. IsStmt language.expressions room (stmt_of x.0)) }
+    ensures reads { IfOk result (λ x. ReadsBehindTwo (t.variable variable)
+        (t.sign Assign) lexemes.now at x.1 (stmt_then (stmt_of x.0))) }
+    ensures is { (room : ℕ) → IfOk result (λ x.
+        IsStmt language.expressions room (stmt_of x.0)) }
 {
     match token(lexemes, at) {
         Some(Token::Name(_) | Token::Primitive(_)) => {
@@ -52,8 +54,10 @@ fn behind_variable(
     at: usize,
     variable: CVar,
 ) -> Result<(CStmt, usize), CError>
-    ensures reads { IfOk result (λ x. ReadsBehind (t.variable variable) lexemes.now at x.1 (stmt_then (stmt_of x.0))) }
-    ensures is { (room : ℕ) → IfOk result (λ x. IsStmt language.expressions room (stmt_of x.0)) }
+    ensures reads { IfOk result (λ x. ReadsBehind (t.variable variable) lexemes.now at x.1
+        (stmt_then (stmt_of x.0))) }
+    ensures is { (room : ℕ) → IfOk result (λ x.
+        IsStmt language.expressions room (stmt_of x.0)) }
 {
     if variable.reference && is_sign(lexemes, at, CSign::Arrow) {
         let (cell, next) = cell_behind(lexemes, at, variable.number)?;
@@ -68,8 +72,10 @@ fn behind_variable(
 
 /// What stands behind `return`.
 fn behind_return(alloc: Global, lexemes: &[Lexeme<'_>], at: usize) -> Result<(CStmt, usize), CError>
-    ensures reads { IfOk result (λ x. ReadsBehind (t.word Return) lexemes.now at x.1 (stmt_then (stmt_of x.0))) }
-    ensures is { (room : ℕ) → IfOk result (λ x. IsStmt language.expressions room (stmt_of x.0)) }
+    ensures reads { IfOk result (λ x. ReadsBehind (t.word Return) lexemes.now at x.1
+        (stmt_then (stmt_of x.0))) }
+    ensures is { (room : ℕ) → IfOk result (λ x.
+        IsStmt language.expressions room (stmt_of x.0)) }
 {
     if is_sign(lexemes, at, CSign::Semicolon) {
         return Ok((CStmt::Return(None), at + 1));
@@ -87,7 +93,8 @@ fn block(
     at: usize,
     room: u8,
 ) -> Result<(Items<CStmt>, usize), CError>
-    ensures reads { IfOk result (λ x. Reads lexemes.now at x.1 (λ rest. t.sign OpenBrace ∷ stmts_then (stmts_of x.0) (t.sign CloseBrace ∷ rest))) }
+    ensures reads { IfOk result (λ x. Reads lexemes.now at x.1
+        (λ rest. t.sign OpenBrace ∷ stmts_then (stmts_of x.0) (t.sign CloseBrace ∷ rest))) }
     ensures are { IfOk result (λ x. AreStmts language.expressions room (stmts_of x.0)) }
 {
     let open = sign(lexemes, at, CSign::OpenBrace)?;
@@ -102,7 +109,8 @@ pub fn stmts(
     at: usize,
     room: u8,
 ) -> Result<(Items<CStmt>, usize), CError>
-    ensures reads { IfOk result (λ x. Reads lexemes.now at x.1 (λ rest. stmts_then (stmts_of x.0) (t.sign CloseBrace ∷ rest))) }
+    ensures reads { IfOk result (λ x. Reads lexemes.now at x.1
+        (λ rest. stmts_then (stmts_of x.0) (t.sign CloseBrace ∷ rest))) }
     ensures are { IfOk result (λ x. AreStmts language.expressions room (stmts_of x.0)) }
 {
     let mut found = Items::new(alloc);
@@ -166,7 +174,8 @@ fn behind_if(
     at: usize,
     room: u8,
 ) -> Result<(CStmt, usize), CError>
-    ensures reads { IfOk result (λ x. ReadsBehind (t.word If) lexemes.now at x.1 (stmt_then (stmt_of x.0))) }
+    ensures reads { IfOk result (λ x. ReadsBehind (t.word If) lexemes.now at x.1
+        (stmt_then (stmt_of x.0))) }
     ensures is { IfOk result (λ x. IsStmt language.expressions (room + 1) (stmt_of x.0)) }
 {
     let open = sign(lexemes, at, CSign::OpenParen)?;
@@ -188,7 +197,8 @@ fn behind_while(
     at: usize,
     room: u8,
 ) -> Result<(CStmt, usize), CError>
-    ensures reads { IfOk result (λ x. ReadsBehind (t.word While) lexemes.now at x.1 (stmt_then (stmt_of x.0))) }
+    ensures reads { IfOk result (λ x. ReadsBehind (t.word While) lexemes.now at x.1
+        (stmt_then (stmt_of x.0))) }
     ensures is { IfOk result (λ x. IsStmt language.expressions (room + 1) (stmt_of x.0)) }
 {
     let open = sign(lexemes, at, CSign::OpenParen)?;

@@ -15,7 +15,8 @@ use c_values::{Value, Vars, arg};
 
 /// An argument that is a number.
 fn number(x: &CArg, vars: Vars) -> Result<i64, u8>
-    ensures { (ts : Things) → AreMadeSlots ts vars.entry.values.now → result ≡ number_of (arg_of x.now) (shown_vars vars.entry) }
+    ensures { (ts : Things) → AreMadeSlots ts vars.entry.values.now →
+        result ≡ number_of (arg_of x.now) (shown_vars vars.entry) }
 {
     match arg(x, vars) {
         Ok(Value::Number(z)) => Ok(z),
@@ -26,7 +27,8 @@ fn number(x: &CArg, vars: Vars) -> Result<i64, u8>
 
 /// An argument that is a reference.
 fn reference(x: &CArg, vars: Vars) -> Result<Option<Ref>, u8>
-    ensures { (ts : Things) → AreMadeSlots ts vars.entry.values.now → IsReference ts result (reference_of (arg_of x.now) (shown_vars vars.entry)) }
+    ensures { (ts : Things) → AreMadeSlots ts vars.entry.values.now →
+        IsReference ts result (reference_of (arg_of x.now) (shown_vars vars.entry)) }
 {
     match arg(x, vars) {
         Ok(Value::Reference(p)) => Ok(p),
@@ -37,7 +39,8 @@ fn reference(x: &CArg, vars: Vars) -> Result<Option<Ref>, u8>
 
 /// The one argument, a number.
 pub fn one_number(args: &[CArg], vars: Vars) -> Result<i64, u8>
-    ensures { (ts : Things) → AreMadeSlots ts vars.entry.values.now → result ≡ wanted.one_number (map arg_of args.now) (shown_vars vars.entry) }
+    ensures { (ts : Things) → AreMadeSlots ts vars.entry.values.now →
+        result ≡ wanted.one_number (map arg_of args.now) (shown_vars vars.entry) }
 {
     match args {
         [x] => number(x, vars),
@@ -47,7 +50,9 @@ pub fn one_number(args: &[CArg], vars: Vars) -> Result<i64, u8>
 
 /// The one argument, a reference.
 pub fn one_reference(args: &[CArg], vars: Vars) -> Result<Option<Ref>, u8>
-    ensures { (ts : Things) → AreMadeSlots ts vars.entry.values.now → IsReference ts result (wanted.one_reference (map arg_of args.now) (shown_vars vars.entry)) }
+    ensures { (ts : Things) → AreMadeSlots ts vars.entry.values.now →
+        IsReference ts result (wanted.one_reference (map arg_of args.now)
+        (shown_vars vars.entry)) }
 {
     match args {
         [x] => reference(x, vars),
@@ -57,7 +62,8 @@ pub fn one_reference(args: &[CArg], vars: Vars) -> Result<Option<Ref>, u8>
 
 /// Two arguments that are numbers.
 fn number_pair(x: &CArg, y: &CArg, vars: Vars) -> Result<(i64, i64), u8>
-    ensures { (ts : Things) → AreMadeSlots ts vars.entry.values.now → result ≡ wanted.number_pair (arg_of x.now) (arg_of y.now) (shown_vars vars.entry) }
+    ensures { (ts : Things) → AreMadeSlots ts vars.entry.values.now →
+        result ≡ wanted.number_pair (arg_of x.now) (arg_of y.now) (shown_vars vars.entry) }
 {
     match number(x, vars) {
         Ok(a) => match number(y, vars) {
@@ -70,7 +76,8 @@ fn number_pair(x: &CArg, y: &CArg, vars: Vars) -> Result<(i64, i64), u8>
 
 /// The two arguments, numbers.
 pub fn two_numbers(args: &[CArg], vars: Vars) -> Result<(i64, i64), u8>
-    ensures { (ts : Things) → AreMadeSlots ts vars.entry.values.now → result ≡ wanted.two_numbers (map arg_of args.now) (shown_vars vars.entry) }
+    ensures { (ts : Things) → AreMadeSlots ts vars.entry.values.now →
+        result ≡ wanted.two_numbers (map arg_of args.now) (shown_vars vars.entry) }
 {
     match args {
         [x, y] => number_pair(x, y, vars),
@@ -80,7 +87,9 @@ pub fn two_numbers(args: &[CArg], vars: Vars) -> Result<(i64, i64), u8>
 
 /// The two arguments, a number and a reference.
 pub fn number_and_reference(args: &[CArg], vars: Vars) -> Result<(i64, Option<Ref>), u8>
-    ensures { (ts : Things) → AreMadeSlots ts vars.entry.values.now → AreNumberAndReference ts result (wanted.number_and_reference (map arg_of args.now) (shown_vars vars.entry)) }
+    ensures { (ts : Things) → AreMadeSlots ts vars.entry.values.now →
+        AreNumberAndReference ts result (wanted.number_and_reference (map arg_of args.now)
+        (shown_vars vars.entry)) }
 {
     match args {
         [x, y] => match number(x, vars) {
@@ -96,7 +105,9 @@ pub fn number_and_reference(args: &[CArg], vars: Vars) -> Result<(i64, Option<Re
 
 /// The two arguments, references.
 pub fn two_references(args: &[CArg], vars: Vars) -> Result<(Option<Ref>, Option<Ref>), u8>
-    ensures { (ts : Things) → AreMadeSlots ts vars.entry.values.now → AreReferences ts result (wanted.two_references (map arg_of args.now) (shown_vars vars.entry)) }
+    ensures { (ts : Things) → AreMadeSlots ts vars.entry.values.now →
+        AreReferences ts result (wanted.two_references (map arg_of args.now)
+        (shown_vars vars.entry)) }
 {
     match args {
         [x, y] => match reference(x, vars) {

@@ -52,7 +52,8 @@ impl World<'_> {
     pub fn make(&mut self, args: &[CArg], vars: Vars) -> Result<Option<Value>, Halt>
         requires ready { IsReady self.old }
         requires room { HasRoomFor self.old CPrim.New (map arg_of args.now) }
-        ensures { DoesSilently self.old self.new vars.entry result (primitive_does self.old.heap CPrim.New (map arg_of args.now)) }
+        ensures { DoesSilently self.old self.new vars.entry result
+            (primitive_does self.old.heap CPrim.New (map arg_of args.now)) }
     {
         let Some((numbers, references)) = asked(args) else {
             return Err(Halt::Broken(MISUSED));
@@ -69,7 +70,8 @@ impl World<'_> {
     /// Gives a child its parent.
     pub fn own(&mut self, args: &[CArg], vars: Vars) -> Result<Option<Value>, Halt>
         requires ready { IsReady self.old }
-        ensures { DoesSilently self.old self.new vars.entry result (primitive_does self.old.heap CPrim.Own (map arg_of args.now)) }
+        ensures { DoesSilently self.old self.new vars.entry result
+            (primitive_does self.old.heap CPrim.Own (map arg_of args.now)) }
     {
         match two_references(args, vars) {
             Ok((child, parent)) => done(self.blocks.own(child, parent)),
@@ -80,7 +82,8 @@ impl World<'_> {
     /// Takes a child's parent away.
     pub fn disown(&mut self, args: &[CArg], vars: Vars) -> Result<Option<Value>, Halt>
         requires ready { IsReady self.old }
-        ensures { DoesSilently self.old self.new vars.entry result (primitive_does self.old.heap CPrim.Disown (map arg_of args.now)) }
+        ensures { DoesSilently self.old self.new vars.entry result
+            (primitive_does self.old.heap CPrim.Disown (map arg_of args.now)) }
     {
         match one_reference(args, vars) {
             Ok(child) => done(self.blocks.disown(child)),
@@ -91,7 +94,8 @@ impl World<'_> {
     /// A child's parent.
     pub fn parent(&mut self, args: &[CArg], vars: Vars) -> Result<Option<Value>, Halt>
         requires ready { IsReady self.old }
-        ensures { DoesSilently self.old self.new vars.entry result (primitive_does self.old.heap CPrim.Parent (map arg_of args.now)) }
+        ensures { DoesSilently self.old self.new vars.entry result
+            (primitive_does self.old.heap CPrim.Parent (map arg_of args.now)) }
     {
         match one_reference(args, vars) {
             Ok(child) => parent_value(self.blocks.parent(child)),
@@ -102,7 +106,8 @@ impl World<'_> {
     /// Ends a block and all below it.
     pub fn release(&mut self, args: &[CArg], vars: Vars) -> Result<Option<Value>, Halt>
         requires ready { IsReady self.old }
-        ensures { DoesSilently self.old self.new vars.entry result (primitive_does self.old.heap CPrim.Release (map arg_of args.now)) }
+        ensures { DoesSilently self.old self.new vars.entry result
+            (primitive_does self.old.heap CPrim.Release (map arg_of args.now)) }
     {
         match one_reference(args, vars) {
             Ok(block) => done(self.blocks.release(block)),
@@ -113,7 +118,8 @@ impl World<'_> {
     /// Sends a block out.
     pub fn out(&mut self, args: &[CArg], vars: Vars) -> Result<Option<Value>, Halt>
         requires ready { IsReady self.old }
-        ensures { DoesSilently self.old self.new vars.entry result (primitive_does self.old.heap CPrim.Out (map arg_of args.now)) }
+        ensures { DoesSilently self.old self.new vars.entry result
+            (primitive_does self.old.heap CPrim.Out (map arg_of args.now)) }
     {
         match one_reference(args, vars) {
             Ok(block) => {
@@ -129,7 +135,8 @@ impl World<'_> {
     /// Takes a block back.
     pub fn back(&mut self, args: &[CArg], vars: Vars) -> Result<Option<Value>, Halt>
         requires ready { IsReady self.old }
-        ensures { DoesSilently self.old self.new vars.entry result (primitive_does self.old.heap CPrim.Back (map arg_of args.now)) }
+        ensures { DoesSilently self.old self.new vars.entry result
+            (primitive_does self.old.heap CPrim.Back (map arg_of args.now)) }
     {
         match one_reference(args, vars) {
             Ok(block) => {

@@ -91,7 +91,8 @@ impl World<'_> {
     /// Ends the run by a trap.
     pub fn trap(&mut self, args: &[CArg], vars: Vars) -> Result<Option<Value>, Halt>
         requires ready { IsReady self.old }
-        ensures { DoesSilently self.old self.new vars.entry result (primitive_does self.old.heap CPrim.Trap (map arg_of args.now)) }
+        ensures { DoesSilently self.old self.new vars.entry result
+            (primitive_does self.old.heap CPrim.Trap (map arg_of args.now)) }
     {
         match one_number(args, vars) {
             Ok(z) => Err(trapped(z)),
@@ -102,7 +103,8 @@ impl World<'_> {
     /// The next number of the input.
     pub fn read(&mut self, args: &[CArg], vars: Vars) -> Result<Option<Value>, Halt>
         requires ready { IsReady self.old }
-        ensures { DoesSilently self.old self.new vars.entry result (primitive_does self.old.heap CPrim.Read (map arg_of args.now)) }
+        ensures { DoesSilently self.old self.new vars.entry result
+            (primitive_does self.old.heap CPrim.Read (map arg_of args.now)) }
     {
         if !is_none(args) {
             return Err(Halt::Broken(MISUSED));
@@ -119,7 +121,8 @@ impl World<'_> {
     /// Whether there is more input.
     pub fn more(&mut self, args: &[CArg], vars: Vars) -> Result<Option<Value>, Halt>
         requires ready { IsReady self.old }
-        ensures { DoesSilently self.old self.new vars.entry result (primitive_does self.old.heap CPrim.More (map arg_of args.now)) }
+        ensures { DoesSilently self.old self.new vars.entry result
+            (primitive_does self.old.heap CPrim.More (map arg_of args.now)) }
     {
         if !is_none(args) {
             return Err(Halt::Broken(MISUSED));
@@ -130,7 +133,8 @@ impl World<'_> {
     /// The next number of the answer.
     pub fn int(&mut self, args: &[CArg], vars: Vars) -> Result<Option<Value>, Halt>
         requires ready { IsReady self.old }
-        ensures { DoesSilently self.old self.new vars.entry result (primitive_does self.old.heap CPrim.Int (map arg_of args.now)) }
+        ensures { DoesSilently self.old self.new vars.entry result
+            (primitive_does self.old.heap CPrim.Int (map arg_of args.now)) }
     {
         if !is_none(args) {
             return Err(Halt::Broken(MISUSED));
@@ -150,7 +154,8 @@ impl World<'_> {
     /// The next number of the answer, which is the number of one of these bits.
     pub fn pick(&mut self, args: &[CArg], vars: Vars) -> Result<Option<Value>, Halt>
         requires ready { IsReady self.old }
-        ensures { DoesSilently self.old self.new vars.entry result (primitive_does self.old.heap CPrim.Pick (map arg_of args.now)) }
+        ensures { DoesSilently self.old self.new vars.entry result
+            (primitive_does self.old.heap CPrim.Pick (map arg_of args.now)) }
     {
         match one_number(args, vars) {
             Ok(mask) => self.pick_one(mask, vars),
@@ -161,7 +166,8 @@ impl World<'_> {
     /// The next number of the answer, which is the number of one of these bits.
     fn pick_one(&mut self, mask: i64, vars: Vars) -> Result<Option<Value>, Halt>
         requires ready { IsReady self.old }
-        ensures { DoesSilently self.old self.new vars.entry result (λ vs w. reads_answer (is_bit_of mask) w.talk w) }
+        ensures { DoesSilently self.old self.new vars.entry result
+            (λ vs w. reads_answer (is_bit_of mask) w.talk w) }
     {
         let Some(left) = unread(self.talk) else {
             return Err(Halt::Broken(MISUSED));
@@ -181,7 +187,8 @@ impl World<'_> {
     /// The end of the answer.
     pub fn end(&mut self, args: &[CArg], vars: Vars) -> Result<Option<Value>, Halt>
         requires ready { IsReady self.old }
-        ensures { DoesSilently self.old self.new vars.entry result (primitive_does self.old.heap CPrim.End (map arg_of args.now)) }
+        ensures { DoesSilently self.old self.new vars.entry result
+            (primitive_does self.old.heap CPrim.End (map arg_of args.now)) }
     {
         if !is_none(args) {
             return Err(Halt::Broken(MISUSED));

@@ -23,7 +23,8 @@ impl World<'_> {
     ) -> Result<Option<Value>, Halt>
         requires ready { IsReady self.old }
         requires room { HasRoomFor self.old p (map arg_of args.now) }
-        ensures { Does self.old self.new vars.entry (record { written = K.written sink.old; faults = K.faults sink.old })
+        ensures { Does self.old self.new vars.entry
+            (record { written = K.written sink.old; faults = K.faults sink.old })
             (record { written = K.written sink.new; faults = K.faults sink.new }) result
             (primitive_does self.old.heap p (map arg_of args.now)) }
     {

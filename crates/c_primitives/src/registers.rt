@@ -74,7 +74,8 @@ impl World<'_> {
     /// Sets a number register.
     pub fn put_number(&mut self, args: &[CArg], vars: Vars) -> Result<Option<Value>, Halt>
         requires ready { IsReady self.old }
-        ensures { DoesSilently self.old self.new vars.entry result (primitive_does self.old.heap CPrim.PutN (map arg_of args.now)) }
+        ensures { DoesSilently self.old self.new vars.entry result
+            (primitive_does self.old.heap CPrim.PutN (map arg_of args.now)) }
     {
         match two_numbers(args, vars) {
             Ok((i, z)) => match place(&self.numbers, i) {
@@ -91,7 +92,8 @@ impl World<'_> {
     /// The value of a number register.
     pub fn get_number(&mut self, args: &[CArg], vars: Vars) -> Result<Option<Value>, Halt>
         requires ready { IsReady self.old }
-        ensures { DoesSilently self.old self.new vars.entry result (primitive_does self.old.heap CPrim.GetN (map arg_of args.now)) }
+        ensures { DoesSilently self.old self.new vars.entry result
+            (primitive_does self.old.heap CPrim.GetN (map arg_of args.now)) }
     {
         match one_number(args, vars) {
             Ok(i) => match place(&self.numbers, i) {
@@ -105,7 +107,8 @@ impl World<'_> {
     /// Sets a reference register.
     pub fn put_reference(&mut self, args: &[CArg], vars: Vars) -> Result<Option<Value>, Halt>
         requires ready { IsReady self.old }
-        ensures { DoesSilently self.old self.new vars.entry result (primitive_does self.old.heap CPrim.PutP (map arg_of args.now)) }
+        ensures { DoesSilently self.old self.new vars.entry result
+            (primitive_does self.old.heap CPrim.PutP (map arg_of args.now)) }
     {
         match number_and_reference(args, vars) {
             Ok((i, p)) => match place(&self.references, i) {
@@ -122,7 +125,8 @@ impl World<'_> {
     /// The value of a reference register.
     pub fn get_reference(&mut self, args: &[CArg], vars: Vars) -> Result<Option<Value>, Halt>
         requires ready { IsReady self.old }
-        ensures { DoesSilently self.old self.new vars.entry result (primitive_does self.old.heap CPrim.GetP (map arg_of args.now)) }
+        ensures { DoesSilently self.old self.new vars.entry result
+            (primitive_does self.old.heap CPrim.GetP (map arg_of args.now)) }
     {
         match one_number(args, vars) {
             Ok(i) => match place(&self.references, i) {

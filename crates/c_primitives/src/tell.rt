@@ -39,7 +39,8 @@ impl World<'_> {
         sink: &mut K,
     ) -> Result<Option<Value>, Halt>
         requires ready { IsReady self.old }
-        ensures { Does self.old self.new vars.entry (record { written = K.written sink.old; faults = K.faults sink.old })
+        ensures { Does self.old self.new vars.entry
+            (record { written = K.written sink.old; faults = K.faults sink.old })
             (record { written = K.written sink.new; faults = K.faults sink.new }) result
             (primitive_does self.old.heap CPrim.Print (map arg_of args.now)) }
     {
@@ -56,7 +57,8 @@ impl World<'_> {
     pub fn call(&mut self, args: &[CArg], vars: Vars) -> Result<Option<Value>, Halt>
         requires ready { IsReady self.old }
         requires room { HasRoomFor self.old CPrim.Call (map arg_of args.now) }
-        ensures { DoesSilently self.old self.new vars.entry result (primitive_does self.old.heap CPrim.Call (map arg_of args.now)) }
+        ensures { DoesSilently self.old self.new vars.entry result
+            (primitive_does self.old.heap CPrim.Call (map arg_of args.now)) }
     {
         let Some(name) = one_text(args) else {
             return Err(Halt::Broken(MISUSED));
@@ -72,7 +74,8 @@ impl World<'_> {
     /// Tells a number.
     pub fn tell(&mut self, args: &[CArg], vars: Vars) -> Result<Option<Value>, Halt>
         requires ready { IsReady self.old }
-        ensures { DoesSilently self.old self.new vars.entry result (primitive_does self.old.heap CPrim.ArgN (map arg_of args.now)) }
+        ensures { DoesSilently self.old self.new vars.entry result
+            (primitive_does self.old.heap CPrim.ArgN (map arg_of args.now)) }
     {
         match one_number(args, vars) {
             Ok(z) => {
@@ -93,7 +96,8 @@ impl World<'_> {
     /// Tells the number of a block.
     pub fn tell_reference(&mut self, args: &[CArg], vars: Vars) -> Result<Option<Value>, Halt>
         requires ready { IsReady self.old }
-        ensures { DoesSilently self.old self.new vars.entry result (primitive_does self.old.heap CPrim.ArgP (map arg_of args.now)) }
+        ensures { DoesSilently self.old self.new vars.entry result
+            (primitive_does self.old.heap CPrim.ArgP (map arg_of args.now)) }
     {
         match one_reference(args, vars) {
             Ok(Some(block)) => {
@@ -120,7 +124,8 @@ impl World<'_> {
         sink: &mut K,
     ) -> Result<Option<Value>, Halt>
         requires ready { IsReady self.old }
-        ensures { Does self.old self.new vars.entry (record { written = K.written sink.old; faults = K.faults sink.old })
+        ensures { Does self.old self.new vars.entry
+            (record { written = K.written sink.old; faults = K.faults sink.old })
             (record { written = K.written sink.new; faults = K.faults sink.new }) result
             (primitive_does self.old.heap CPrim.Ask (map arg_of args.now)) }
     {

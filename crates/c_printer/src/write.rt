@@ -34,7 +34,8 @@ pub fn write_value(out: &mut Vec<u8>, value: i64) -> Result<(), Memory>
 
 /// Writes the name of a variable.
 pub fn write_variable(out: &mut Vec<u8>, variable: CVar) -> Result<(), Memory>
-    ensures { OnOk result (out.new.items ≡ out.old.items ++ variable_letter variable ∷ decimal variable.number) }
+    ensures { OnOk result (out.new.items ≡ out.old.items ++ variable_letter variable ∷ decimal
+        variable.number) }
 {
     write_text(out, if variable.reference { b"p" } else { b"n" })?;
     write_number(out, variable.number)
@@ -42,7 +43,8 @@ pub fn write_variable(out: &mut Vec<u8>, variable: CVar) -> Result<(), Memory>
 
 /// Writes the name of a function.
 pub fn write_name(out: &mut Vec<u8>, name: CName) -> Result<(), Memory>
-    ensures { OnOk result (out.new.items ≡ out.old.items ++ name_letter name ∷ decimal name.number) }
+    ensures { OnOk result (out.new.items ≡ out.old.items ++ name_letter name ∷ decimal
+        name.number) }
 {
     write_text(out, if name.glue { b"e" } else { b"f" })?;
     write_number(out, name.number)

@@ -28,7 +28,8 @@ fn operate(op: Op, a: i64, b: i64) -> Result<Value, u8>
 
 /// The reference in the `p` variable of a number.
 pub fn base(p: u64, vars: Vars) -> Result<Option<Ref>, u8>
-    ensures { (ts : Things) → AreMadeSlots ts vars.entry.values.now → IsReference ts result (base_in p (shown_vars vars.entry)) }
+    ensures { (ts : Things) → AreMadeSlots ts vars.entry.values.now →
+        IsReference ts result (base_in p (shown_vars vars.entry)) }
 {
     let v = CVar {
         reference: true,
@@ -67,7 +68,8 @@ fn cell(x: CCell, vars: Vars, blocks: &Blocks) -> Result<Value, u8>
 
 /// The value of an argument. A text has none.
 pub fn arg(x: &CArg, vars: Vars) -> Result<Value, u8>
-    ensures { (ts : Things) → AreMadeSlots ts vars.entry.values.now → IsValue ts result (arg_value (arg_of x.now) (shown_vars vars.entry)) }
+    ensures { (ts : Things) → AreMadeSlots ts vars.entry.values.now →
+        IsValue ts result (arg_value (arg_of x.now) (shown_vars vars.entry)) }
 {
     match x {
         CArg::Number(z) => Ok(Value::Number(*z)),

@@ -61,7 +61,8 @@ impl<'a> Vars<'a> {
     /// The value of a variable that is set.
     pub fn get(self, v: CVar) -> Option<Value>
         ensures shown { option_map value_view result ≡ shown_vars self.entry v }
-        ensures made { IfSome result (λ a. (ts : Things) → AreMadeSlots ts self.entry.values.now → IsMadeValue ts a) }
+        ensures made { IfSome result (λ a. (ts : Things) →
+            AreMadeSlots ts self.entry.values.now → IsMadeValue ts a) }
     {
         match find(self.params, v) {
             Some(i) => at(self.values, i),

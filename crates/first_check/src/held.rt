@@ -82,7 +82,8 @@ impl Held {
 
     /// Whether none of the first `count` keys is held.
     pub fn has_none_of(&self, count: usize) -> bool
-        ensures { IsTrue result ↔ ((key : ℕ) → key < count → map_of self.now key ≡ absent) }
+        ensures { IsTrue result ↔ ((key : ℕ) → key < count →
+            map_of self.now key ≡ absent) }
     {
         match self.states.first_key_value() {
             None => true,

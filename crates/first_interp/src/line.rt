@@ -9,8 +9,10 @@ use vlt_io::{Sink, SinkFailed};
 
 /// Writes the number and a line feed, in one piece.
 pub fn write_line<K: Sink>(sink: &mut K, number: i64) -> Result<(), SinkFailed>
-    ensures ok { OnOk result (Grew (K.written sink.old) (K.written sink.new) (line_of (printed number))) }
-    ensures part { OnErr result (GrewByPart (K.written sink.old) (K.written sink.new) (line_of (printed number))) }
+    ensures ok { OnOk result (Grew (K.written sink.old) (K.written sink.new)
+        (line_of (printed number))) }
+    ensures part { OnErr result (GrewByPart (K.written sink.old) (K.written sink.new)
+        (line_of (printed number))) }
     ensures failed { OnErr result (Rose (K.faults sink.old) (K.faults sink.new)) }
     ensures counted { K.faults sink.old ≤ K.faults sink.new }
 {

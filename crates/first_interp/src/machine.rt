@@ -87,7 +87,8 @@ impl<'a> Machine<'a> {
     pub fn go<K: Sink>(&mut self, sink: &mut K) -> Stop
         ensures run { program_run self.new ≡ program_run self.old }
         ensures stopped { stop_of self.new ≡ Some result }
-        ensures again { IfSome (stop_of self.old) (λ stop. (result ≡ stop) × (sink.new ≡ sink.old)) }
+        ensures again { IfSome (stop_of self.old) (λ stop. (result ≡ stop) ×
+            (sink.new ≡ sink.old)) }
         ensures counted { K.faults sink.old ≤ K.faults sink.new }
 
         // Of a machine that hadn't stopped before:
@@ -96,7 +97,8 @@ impl<'a> Machine<'a> {
         ensures text { IfNone (stop_of self.old)
             (IsTold (outcome_of result) (event_text (program_run self.old).world.events)
             (K.written sink.old) (K.written sink.new)) }
-        ensures fuel { IfNone (stop_of self.old) (fuel_left self.new ≡ (program_run self.old).world.fuel) }
+        ensures fuel { IfNone (stop_of self.old) (fuel_left self.new
+            ≡ (program_run self.old).world.fuel) }
         ensures cause { IfNone (stop_of self.old)
             (result ≡ Stop.SinkFault → Rose (K.faults sink.old) (K.faults sink.new)) }
     {

@@ -101,7 +101,8 @@ impl State {
         requires { print_step (kept_of self.now) (expr_of e.now) ≢ ends fault }
         ensures did { Did result (print_step (kept_of self.now) (expr_of e.now)) (kept_of self.now)
             (K.written sink.old) (K.written sink.new) }
-        ensures cause { result ≡ Err Stop.SinkFault → Rose (K.faults sink.old) (K.faults sink.new) }
+        ensures cause { result ≡ Err Stop.SinkFault →
+            Rose (K.faults sink.old) (K.faults sink.new) }
         ensures counted { K.faults sink.old ≤ K.faults sink.new }
     {
         let value = self.eval(e)?;
@@ -160,9 +161,10 @@ impl State {
     /// One statement. `heap` is how many objects may be live.
     fn act<K: Sink>(&mut self, heap: u32, form: &Form, sink: &mut K) -> Result<(), Stop>
         requires { stepped heap (form_of form.now) (kept_of self.old) ≢ ends fault }
-        ensures did { Did result (stepped heap (form_of form.now) (kept_of self.old)) (kept_of self.new)
-            (K.written sink.old) (K.written sink.new) }
-        ensures cause { result ≡ Err Stop.SinkFault → Rose (K.faults sink.old) (K.faults sink.new) }
+        ensures did { Did result (stepped heap (form_of form.now) (kept_of self.old))
+            (kept_of self.new) (K.written sink.old) (K.written sink.new) }
+        ensures cause { result ≡ Err Stop.SinkFault →
+            Rose (K.faults sink.old) (K.faults sink.new) }
         ensures counted { K.faults sink.old ≤ K.faults sink.new }
     {
         match form {

@@ -65,7 +65,8 @@ fn are_all_distinct(names: &[&[u8]]) -> bool
 
 /// The names that the whole file knows.
 fn known_names<'a>(alloc: Global, structs: &[Struct<'a>]) -> Result<Items<&'a [u8]>, AllocError>
-    ensures { IfOk result (λ names. map (λ n. n.now) names ≡ global_names (structs_of structs.now)) }
+    ensures { IfOk result (λ names. map (λ n. n.now) names
+        ≡ global_names (structs_of structs.now)) }
 {
     let mut names = Items::new(alloc);
     names.push(MAIN)?;
@@ -92,7 +93,8 @@ fn are_good_names(alloc: Global, structs: &[Struct<'_>]) -> Result<bool, AllocEr
 }
 
 fn is_struct_name(structs: &[Struct<'_>], name: &[u8]) -> bool
-    ensures { result ≡ list_any (bytes_eq name.now) (map (λ s. s.name) (structs_of structs.now)) }
+    ensures { result ≡ list_any (bytes_eq name.now)
+        (map (λ s. s.name) (structs_of structs.now)) }
 {
     for declared in structs {
         if name == declared.name {
@@ -445,7 +447,8 @@ fn struct_decls(alloc: Global, structs: &[Struct<'_>]) -> Result<Items<StructDec
 }
 
 fn key_decls(alloc: Global, scope: &[Binding<'_>]) -> Result<Items<KeyDecl>, AllocError>
-    ensures { IfOk result (λ keys. map core_view.key_of keys ≡ map key_decl (scope_of scope.now)) }
+    ensures { IfOk result (λ keys. map core_view.key_of keys
+        ≡ map key_decl (scope_of scope.now)) }
 {
     let mut keys = Items::new(alloc);
     for binding in scope {
@@ -458,7 +461,8 @@ fn key_decls(alloc: Global, scope: &[Binding<'_>]) -> Result<Items<KeyDecl>, All
 }
 
 fn var_decls(alloc: Global, scope: &[Binding<'_>]) -> Result<Items<VarDecl>, AllocError>
-    ensures { IfOk result (λ vars. map core_view.var_of vars ≡ map var_decl (scope_of scope.now)) }
+    ensures { IfOk result (λ vars. map core_view.var_of vars
+        ≡ map var_decl (scope_of scope.now)) }
 {
     let mut vars = Items::new(alloc);
     for binding in scope {
@@ -487,7 +491,8 @@ fn main_func(alloc: Global, body: Body<'_>) -> Result<Func, AllocError>
 pub fn elaborate(alloc: Global, file: &File<'_>) -> Result<Program, ResolveError>
     requires numbered { AreNumbered (structs_of file.now.structs) }
     requires room { length file.now.body < 2 ^ 32 }
-    ensures ok { IfOk result (λ p. elaborated (file_of file.now) ≡ Some (core_view.program_of p)) }
+    ensures ok { IfOk result (λ p. elaborated (file_of file.now)
+        ≡ Some (core_view.program_of p)) }
     ensures refused { OnRefused result (elaborated (file_of file.now) ≡ None) }
 {
     let structs = file.structs.as_slice();

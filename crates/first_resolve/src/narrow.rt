@@ -196,7 +196,8 @@ fn stmts<'a>(alloc: Global, stmts: &'a [Stmt]) -> Result<Items<small::Stmt<'a>>,
 
 #[tactic(auto, using(crate::proofs::Forms::block_listed))]
 fn body<'a>(alloc: Global, block: &'a Block) -> Result<Items<small::Stmt<'a>>, ResolveError>
-    ensures ok { IfOk result (λ stmts. as_body (whole.block_of block.now) ≡ Some (stmts_of stmts)) }
+    ensures ok { IfOk result (λ stmts. as_body (whole.block_of block.now)
+        ≡ Some (stmts_of stmts)) }
     ensures refused { OnRefused result (as_body (whole.block_of block.now) ≡ None) }
 {
     stmts(alloc, block.stmts.as_slice())
@@ -265,7 +266,8 @@ fn structures<'a>(alloc: Global, decls: &'a [Decl]) -> Result<Items<Struct<'a>>,
 
 /// Whether the function gives nothing, has no clause and takes nothing.
 fn is_bare(head: &Head) -> bool
-    ensures { let h = whole.head_of head.now in result ≡ forms.is_bare h.outcome h.clause h.parameters }
+    ensures { let h = whole.head_of head.now in result
+        ≡ forms.is_bare h.outcome h.clause h.parameters }
 {
     match (&head.outcome, &head.clause) {
         (Outcome::Void(_), None) => head.parameters.is_empty(),
@@ -282,7 +284,8 @@ fn is_main(head: &Head) -> bool
 
 /// The body of `main`.
 fn main_body<'a>(alloc: Global, decl: &'a Decl) -> Result<Items<small::Stmt<'a>>, ResolveError>
-    ensures ok { IfOk result (λ stmts. as_main (whole.decl_of decl.now) ≡ Some (stmts_of stmts)) }
+    ensures ok { IfOk result (λ stmts. as_main (whole.decl_of decl.now)
+        ≡ Some (stmts_of stmts)) }
     ensures refused { OnRefused result (as_main (whole.decl_of decl.now) ≡ None) }
 {
     match decl {

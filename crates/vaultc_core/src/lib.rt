@@ -76,9 +76,10 @@ pub fn vaultc<S: Store, K: Sink>(alloc: Global, words: &[String], store: &mut S,
     // The sink failed.
     ensures failed { result ≡ SINK_FAILED → Rose (K.faults out.old) (K.faults out.new) }
     // Memory was wanting: nothing was written, or a part of a reply to the store's files.
-    ensures memory { (files : Files) → S.files store.old ≡ Some files → result ≡ NO_MEMORY →
-        Grew (K.written out.old) (K.written out.new) []
-        ⊎ WrotePart K.Sink (IsReplyTo (map string_bytes words.now) files) out.old out.new }
+    ensures memory { (files : Files) → S.files store.old ≡ Some files →
+        result ≡ NO_MEMORY → Grew (K.written out.old) (K.written out.new) [] ⊎
+        WrotePart K.Sink (IsReplyTo (map string_bytes words.now) files) out.old
+        out.new }
 {
     programs_are_fit();
     accepted_programs_go_right();

@@ -34,7 +34,8 @@ pub enum FileError {
 
 /// Reads a file, once.
 pub fn read_file<S: Store>(alloc: Global, store: &mut S, name: &str) -> Result<Vec<u8>, FileError>
-    ensures ok { IfOk result (λ bytes. IsOneRead S.Store store.old store.new name.now bytes.items) }
+    ensures ok { IfOk result (λ bytes. IsOneRead S.Store store.old store.new name.now
+        bytes.items) }
     ensures short { IfOk result (λ bytes. ¬ (IsTooLong bytes.items)) }
     ensures too_long { result ≡ Err TooLong →
         (bytes : List ℕ) × IsOneRead S.Store store.old store.new name.now bytes × IsTooLong bytes }

@@ -135,8 +135,10 @@ impl Settings {
 fn option_at(words: &[String], at: usize) -> Option<(&str, &str)>
     requires { at < length words.now }
     ensures none { IfNone result (length words.now ≤ at + 1) }
-    ensures option { IfSome result (λ x. slice_get (map string_bytes words.now) at ≡ Some x.0.now) }
-    ensures value { IfSome result (λ x. slice_get (map string_bytes words.now) (at + 1) ≡ Some x.1.now) }
+    ensures option { IfSome result (λ x. slice_get (map string_bytes words.now) at
+        ≡ Some x.0.now) }
+    ensures value { IfSome result (λ x. slice_get (map string_bytes words.now) (at + 1)
+        ≡ Some x.1.now) }
 {
     if at + 1 < words.len() {
         Some((words[at].as_str(), words[at + 1].as_str()))

@@ -10,5 +10,6 @@ ghost use Rattle.vlt_check.specs.Checks.{IsWellFormed};
 pub fn accepted_has_no_fault()
     ensures none { (p : Program) (g : ℕ) (f : Func) → IsWellFormed p → IsAccepted p →
         slice_get p.fns g ≡ Some f → f.external ≡ false → HasFault p f → ⊥ }
-    ensures no_first { (p : Program) (x : FlowFault) → IsWellFormed p → IsAccepted p → IsFirstFault p x → ⊥ }
+    ensures no_first { (p : Program) (x : FlowFault) → IsWellFormed p → IsAccepted p →
+        IsFirstFault p x → ⊥ }
 {}

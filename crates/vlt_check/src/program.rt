@@ -95,7 +95,8 @@ fn check_funcs(alloc: Global, p: &Program) -> Result<Items<Option<Kept>>, CheckE
 /// with the first fault.
 pub fn check(alloc: Global, p: &Program) -> Result<Items<Option<Kept>>, CheckError>
     ensures checked { IfOk result (IsChecked (program_of p.now)) }
-    ensures accepted { OnOk result (IsWellFormed (program_of p.now) → IsAccepted (program_of p.now)) }
+    ensures accepted { OnOk result (IsWellFormed (program_of p.now) →
+        IsAccepted (program_of p.now)) }
     ensures refused { OnRefused result (λ x. HasRefused (program_of p.now) (fault_of x).function) }
     ensures first { OnRefused result (λ x.
         IsWellFormed (program_of p.now) → IsFirstFault (program_of p.now) (fault_of x)) }

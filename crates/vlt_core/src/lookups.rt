@@ -119,7 +119,8 @@ impl Func {
 
 impl Program {
     fn type_decl(&self, t: TypeId) -> Option<&TypeDecl>
-        ensures { option_map type_of (option_copied result) ≡ slice_get (program_of self.now).types t.0 }
+        ensures { option_map type_of (option_copied result)
+            ≡ slice_get (program_of self.now).types t.0 }
     {
         self.types.get(t.0 as usize)
     }
@@ -165,7 +166,8 @@ impl Program {
     }
 
     fn field(&self, t: TypeId, position: u32) -> Option<&FieldDecl>
-        ensures { option_map field_of (option_copied result) ≡ slice_get (fields_of (program_of self.now) t.0) position }
+        ensures { option_map field_of (option_copied result)
+            ≡ slice_get (fields_of (program_of self.now) t.0) position }
     {
         match self.type_decl(t)? {
             TypeDecl::Struct { fields, .. } => fields.get(position as usize),
@@ -185,7 +187,8 @@ impl Program {
 
     /// A case of a variant.
     pub fn case_at(&self, t: TypeId, case: u8) -> Option<&CaseDecl>
-        ensures { option_map case_of (option_copied result) ≡ case_at (program_of self.now) t.0 case }
+        ensures { option_map case_of (option_copied result)
+            ≡ case_at (program_of self.now) t.0 case }
     {
         match self.type_decl(t)? {
             TypeDecl::Variant { cases, .. } => cases.get(case as usize),
@@ -205,7 +208,8 @@ impl Program {
 
     /// The states that an entry names, or all of the key.
     pub fn states_or_all(&self, f: &Func, k: KeyId, named: Option<StateSet>) -> Option<StateSet>
-        ensures { IsSetOf (states_or_all (program_of self.now) (func_of f.now) k.0 (states_of named)) result }
+        ensures { IsSetOf (states_or_all (program_of self.now) (func_of f.now) k.0
+            (states_of named)) result }
     {
         match named {
             None => self.states_of_key(f, k),

@@ -13,6 +13,6 @@ ghost use Rattle.vlt_core_laws.specs.Fit.{IsFitBody};
 
 /// Each body of a program that breaks no rule on names and types is fit for the check.
 pub fn kinded_bodies_are_fit()
-    ensures { (p : Program) (n : ℕ) (f : Func) → IsKinded p → HasStates p → slice_get p.fns n ≡ Some f →
-        f.external ≡ false → HasArmsStmts f.body → IsFitBody p f }
+    ensures { (p : Program) (n : ℕ) (f : Func) → IsKinded p → HasStates p →
+        slice_get p.fns n ≡ Some f → f.external ≡ false → HasArmsStmts f.body → IsFitBody p f }
 {}

@@ -16,7 +16,8 @@ use vlt_rows::body_flow;
 /// The least maps of a function's body, by statement; `Refused` where no annotation holds in it.
 pub fn walk(alloc: Global, p: &Program, f: &Func) -> Result<Kept, Stop>
     ensures ok { IfOk result (IsLeastIn (program_of p.now) (func_of f.now)) }
-    ensures refused { OnRefused result ((a : Notes) → IsLocalIn (program_of p.now) (func_of f.now) a → ⊥) }
+    ensures refused { OnRefused result ((a : Notes) →
+        IsLocalIn (program_of p.now) (func_of f.now) a → ⊥) }
 {
     let flow = body_flow(alloc, p, f)?;
     let start = start_map_of(alloc, p, f)?;

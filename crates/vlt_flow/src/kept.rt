@@ -28,7 +28,8 @@ impl Model for Kept {
 /// Unites a map with what came before.
 fn join_into(slot: &mut Option<Held>, held: Held) -> Result<(), Stop>
     ensures ok { OnOk result (IsInto slot.old held slot.new) }
-    ensures refused { OnRefused result ((m : HeldMap) → Above slot.old m → IsBelow (map_of held) m → ⊥) }
+    ensures refused { OnRefused result ((m : HeldMap) → Above slot.old m →
+        IsBelow (map_of held) m → ⊥) }
 {
     match slot {
         None => {
@@ -83,9 +84,11 @@ impl Kept {
         requires { n < length self.old.around }
         ensures long { length self.new.around ≡ length self.old.around }
         ensures into { OnOk result (IsInto (slot self.old.around n) held (slot self.new.around n)) }
-        ensures others { (i : ℕ) → i ≢ n → slot self.new.around i ≡ slot self.old.around i }
+        ensures others { (i : ℕ) → i ≢ n →
+            slot self.new.around i ≡ slot self.old.around i }
         ensures behind { self.new.behind ≡ self.old.behind }
-        ensures refused { OnRefused result ((m : HeldMap) → Above (slot self.old.around n) m → IsBelow (map_of held) m → ⊥) }
+        ensures refused { OnRefused result ((m : HeldMap) → Above (slot self.old.around n) m →
+            IsBelow (map_of held) m → ⊥) }
     {
         join_into(&mut self.around[n], held)
     }
@@ -94,9 +97,11 @@ impl Kept {
         requires { n < length self.old.behind }
         ensures long { length self.new.behind ≡ length self.old.behind }
         ensures into { OnOk result (IsInto (slot self.old.behind n) held (slot self.new.behind n)) }
-        ensures others { (i : ℕ) → i ≢ n → slot self.new.behind i ≡ slot self.old.behind i }
+        ensures others { (i : ℕ) → i ≢ n →
+            slot self.new.behind i ≡ slot self.old.behind i }
         ensures around { self.new.around ≡ self.old.around }
-        ensures refused { OnRefused result ((m : HeldMap) → Above (slot self.old.behind n) m → IsBelow (map_of held) m → ⊥) }
+        ensures refused { OnRefused result ((m : HeldMap) → Above (slot self.old.behind n) m →
+            IsBelow (map_of held) m → ⊥) }
     {
         join_into(&mut self.behind[n], held)
     }

@@ -21,7 +21,8 @@ pub fn least_maps(alloc: Global, start: Held, body: &FlowBlock) -> Result<Kept, 
     ensures around { IfOk result (λ k. length k.around ≡ size_block (block_view body.now)) }
     ensures behind { IfOk result (λ k. length k.behind ≡ size_block (block_view body.now)) }
     ensures few { IfOk result (λ k. length k.around < 2 ^ 63) }
-    ensures refused { OnRefused result ((a : Notes) → IsLocalBlock a None 0 (map_of start) (block_view body.now) → ⊥) }
+    ensures refused { OnRefused result ((a : Notes) →
+        IsLocalBlock a None 0 (map_of start) (block_view body.now) → ⊥) }
 {
     let count = count_block(body)?;
     if count >= 1 << 62 {

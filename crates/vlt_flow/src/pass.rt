@@ -34,8 +34,10 @@ pub fn pass_rows(held: &mut Held, rows: &[Row]) -> Result<(), Stop>
 }
 
 pub fn pass_gone(held: &mut Held, toks: &[Tok]) -> Result<(), Stop>
-    ensures ok { OnOk result (Passes (map gone (toks_of toks.now)) (map_of held.old) (map_of held.new)) }
-    ensures refused { OnRefused result (CanPass (map gone (toks_of toks.now)) (map_of held.old) → ⊥) }
+    ensures ok { OnOk result (Passes (map gone (toks_of toks.now)) (map_of held.old)
+        (map_of held.new)) }
+    ensures refused { OnRefused result (CanPass (map gone (toks_of toks.now))
+        (map_of held.old) → ⊥) }
 {
     for tok in toks {
         pass_row(

@@ -26,7 +26,8 @@ fn is_before(mode: Mode) -> bool
 
 /// An absent token becomes what a row leaves.
 fn give(held: &mut Held, tok: Tok, after: After) -> Result<(), Memory>
-    ensures { OnOk result (IsGiven (tok_of tok) (after_of after) (map_of held.old) (map_of held.new)) }
+    ensures { OnOk result (IsGiven (tok_of tok) (after_of after) (map_of held.old)
+        (map_of held.new)) }
 {
     if !held.has(tok) {
         return Err(Memory);
@@ -43,7 +44,8 @@ fn give(held: &mut Held, tok: Tok, after: After) -> Result<(), Memory>
 
 /// The key of an entry is held, if it is so before the call.
 fn give_key(held: &mut Held, p: &Program, f: &Func, e: Entry) -> Result<(), Memory>
-    ensures { OnOk result (IsStarted (program_of p.now) (func_of f.now) (entry_of e) (map_of held.old) (map_of held.new)) }
+    ensures { OnOk result (IsStarted (program_of p.now) (func_of f.now) (entry_of e)
+        (map_of held.old) (map_of held.new)) }
 {
     if is_before(e.mode) {
         match p.states_or_all(f, e.key, e.before) {

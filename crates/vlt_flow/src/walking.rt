@@ -109,8 +109,10 @@ fn jump(
 ) -> Result<(), Stop>
     requires long { length kept.old.behind ≡ length kept.old.around }
     requires around { ForLoop l (IsLoop kept.old) }
-    ensures ok { OnOk result (IsJump l continues (toks_of left.now) (map_of held) kept.old kept.new) }
-    ensures refused { OnRefused result (HasNoJump l continues (toks_of left.now) (map_of held) kept.old) }
+    ensures ok { OnOk result (IsJump l continues (toks_of left.now)
+        (map_of held) kept.old kept.new) }
+    ensures refused { OnRefused result (HasNoJump l continues (toks_of left.now)
+        (map_of held) kept.old) }
 {
     let mut held = held;
     pass_gone(&mut held, left)?;
@@ -139,7 +141,8 @@ pub fn walk_form(
     ensures ok { IfOk result (λ w.
         IsWalked (form_part l n (flow_view form.now)) l n (n + size (flow_view form.now)) (map_of held) kept.old kept.new w.held) }
     ensures at { IfOk result (λ w. w.at ≡ n + size (flow_view form.now)) }
-    ensures refused { OnRefused result (HasNone (form_part l n (flow_view form.now)) (map_of held) kept.old) }
+    ensures refused { OnRefused result (HasNone (form_part l n (flow_view form.now))
+        (map_of held) kept.old) }
 {
     match form {
         Flow::Step { rows } => {
@@ -221,7 +224,8 @@ fn walk_way(
         IsJoinedWay l k n (block_view body.now) (map_of held) kept.old kept.new) }
     ensures passes { IfOk result (λ w. w.passes ≡ passes_block (block_view body.now)) }
     ensures at { IfOk result (λ w. w.at ≡ n + size_block (block_view body.now)) }
-    ensures refused { OnRefused result (HasNoWay l k n (block_view body.now) (map_of held) kept.old) }
+    ensures refused { OnRefused result (HasNoWay l k n (block_view body.now)
+        (map_of held) kept.old) }
 {
     let Walked { held, at } = walk_block(alloc, kept, body, l, n, held)?;
     match held {
@@ -244,7 +248,8 @@ fn walk_arms(
     held: Held,
 ) -> Result<Way, Stop>
     requires room { HasRoomFor kept.old l n (n + 1) (n + 1 + size_arms (arms_view arms.now)) }
-    ensures ok { OnOk result (IsJoinedArms l n (arms_view arms.now) (map_of held) kept.old kept.new) }
+    ensures ok { OnOk result (IsJoinedArms l n (arms_view arms.now)
+        (map_of held) kept.old kept.new) }
     ensures passes { IfOk result (λ w. w.passes ≡ passes_arms (arms_view arms.now)) }
     ensures at { IfOk result (λ w. w.at ≡ n + 1 + size_arms (arms_view arms.now)) }
     ensures refused { OnRefused result (HasNoArms l n (arms_view arms.now) (map_of held) kept.old) }
@@ -275,7 +280,8 @@ fn walk_turn(
     ensures ok { OnOk result (
         IsTurn (rows_view rows.now) (block_view body.now) n (n + 1 + size_block (block_view body.now)) before.now kept.old kept.new) }
     ensures at { IfOk result (λ m. m ≡ n + 1 + size_block (block_view body.now)) }
-    ensures refused { OnRefused result (HasNoTurn (rows_view rows.now) (block_view body.now) n kept.old) }
+    ensures refused { OnRefused result (HasNoTurn (rows_view rows.now)
+        (block_view body.now) n kept.old) }
 {
     let inside = pass(before.copy(alloc)?, rows)?;
     kept.join_behind(n, inside.copy(alloc)?)?;
@@ -300,9 +306,11 @@ fn walk_turns(
 ) -> Result<usize, Stop>
     requires room { HasRoom kept.old None (n + 1) (n + 1 + size_block (block_view body.now)) }
     requires some { IsSome (slot kept.old.around n) }
-    ensures ok { OnOk result (IsTurned (rows_view rows.now) (block_view body.now) n kept.old kept.new) }
+    ensures ok { OnOk result (IsTurned (rows_view rows.now)
+        (block_view body.now) n kept.old kept.new) }
     ensures at { IfOk result (λ m. m ≡ n + 1 + size_block (block_view body.now)) }
-    ensures refused { OnRefused result (HasNoTurn (rows_view rows.now) (block_view body.now) n kept.old) }
+    ensures refused { OnRefused result (HasNoTurn (rows_view rows.now)
+        (block_view body.now) n kept.old) }
 {
     loop {
         let before = kept.copy_around(alloc, n)?;
@@ -326,7 +334,8 @@ pub fn walk_block(
     ensures ok { IfOk result (λ w.
         IsWalked (block_part l n (block_view block.now)) l n (n + size_block (block_view block.now)) (map_of held) kept.old kept.new w.held) }
     ensures at { IfOk result (λ w. w.at ≡ n + size_block (block_view block.now)) }
-    ensures refused { OnRefused result (HasNone (block_part l n (block_view block.now)) (map_of held) kept.old) }
+    ensures refused { OnRefused result (HasNone (block_part l n (block_view block.now))
+        (map_of held) kept.old) }
 {
     let walked = walk_list(alloc, kept, block.stmts.as_slice(), l, n, held)?;
     leave_gone(walked, block.bound.as_slice())
@@ -342,9 +351,11 @@ fn walk_on(
     flow: Walked,
 ) -> Result<Walked, Stop>
     requires room { HasRoom kept.old l flow.at (flow.at + size (flow_view form.now)) }
-    ensures ok { IfOk result (λ w. IsWalkedOn l flow.at (flow_view form.now) flow.held kept.old kept.new w.held) }
+    ensures ok { IfOk result (λ w. IsWalkedOn l flow.at
+        (flow_view form.now) flow.held kept.old kept.new w.held) }
     ensures at { IfOk result (λ w. w.at ≡ flow.at + size (flow_view form.now)) }
-    ensures refused { OnRefused result (HasNoneOn l flow.at (flow_view form.now) flow.held kept.old) }
+    ensures refused { OnRefused result (HasNoneOn l flow.at
+        (flow_view form.now) flow.held kept.old) }
 {
     let Walked { held, at } = flow;
     match held {
@@ -372,7 +383,8 @@ fn walk_list(
     ensures ok { IfOk result (λ w.
         IsWalked (stmts_part l n (stmts_view stmts.now)) l n (n + size_stmts (stmts_view stmts.now)) (map_of held) kept.old kept.new w.held) }
     ensures at { IfOk result (λ w. w.at ≡ n + size_stmts (stmts_view stmts.now)) }
-    ensures refused { OnRefused result (HasNone (stmts_part l n (stmts_view stmts.now)) (map_of held) kept.old) }
+    ensures refused { OnRefused result (HasNone (stmts_part l n (stmts_view stmts.now))
+        (map_of held) kept.old) }
 {
     let mut flow = Walked {
         held: Some(held),

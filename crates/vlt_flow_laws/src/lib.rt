@@ -25,7 +25,8 @@ pub fn local_is_derived()
 
 /// In a body that is derived, and whose jumps stand in loops, some annotation holds.
 pub fn derived_is_local()
-    ensures { (s : Block) (h : HeldMap) → IsJumpingBlock false s → IsDerived s h → SomeLocal s h }
+    ensures { (s : Block) (h : HeldMap) → IsJumpingBlock false s → IsDerived s h →
+        SomeLocal s h }
 {}
 
 /// Where an annotation holds in a function's body, none of its rows and joins is faulty.

@@ -72,7 +72,8 @@ pub fn union(a: Ones, b: Ones) -> Ones
 
 /// Those that a row wants.
 fn wanted_in(wanted: Wanted, s: Ones) -> Ones
-    ensures { (o : One) → In (many_of result) o ↔ (In (many_of s) o × WantsOne (wanted_of wanted) o) }
+    ensures { (o : One) → In (many_of result) o ↔
+        (In (many_of s) o × WantsOne (wanted_of wanted) o) }
 {
     match wanted {
         Wanted::Absent => made(s.absent, false, 0, 0),
@@ -85,7 +86,8 @@ fn wanted_in(wanted: Wanted, s: Ones) -> Ones
 
 /// What a row leaves of those.
 fn left_by(after: After, s: Ones) -> Ones
-    ensures { (o : One) → In (many_of result) o ↔ ((o' : One) × In (many_of s) o' × LeftBy (after_of after) o' o) }
+    ensures { (o : One) → In (many_of result) o ↔
+        ((o' : One) × In (many_of s) o' × LeftBy (after_of after) o' o) }
 {
     if is_empty(s) {
         return s;
@@ -102,7 +104,9 @@ fn left_by(after: After, s: Ones) -> Ones
 
 /// Those that a row wants, and what it leaves of them.
 pub fn moved(wanted: Wanted, after: After, s: Ones) -> Ones
-    ensures { (o : One) → In (many_of result) o ↔ ((o' : One) × In (many_of s) o' × WantsOne (wanted_of wanted) o' × LeftBy (after_of after) o' o) }
+    ensures { (o : One) → In (many_of result) o ↔
+        ((o' : One) × In (many_of s) o' × WantsOne (wanted_of wanted) o' ×
+        LeftBy (after_of after) o' o) }
 {
     left_by(after, wanted_in(wanted, s))
 }

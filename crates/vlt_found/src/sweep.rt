@@ -45,7 +45,8 @@ fn land(kept: &mut Tables, l: Option<usize>, continues: bool, m: Ones)
 #[cycle(sweep)]
 fn sweep_form(kept: &mut Tables, tok: Tok, form: &Flow, l: Option<usize>, n: usize, m: Ones) -> Came
     requires room { HasRoom kept.old l (n + size (flow_view form.now)) }
-    ensures swept { Swept (tok_of tok) (flow_view form.now) l n (stock_of kept.old) (many_of m) (stock_of kept.new) (many_of result.ones) }
+    ensures swept { Swept (tok_of tok) (flow_view form.now) l n (stock_of kept.old) (many_of m)
+        (stock_of kept.new) (many_of result.ones) }
     ensures went { Went kept.old kept.new }
     ensures at { result.at ≡ n + size (flow_view form.now) }
 {
@@ -120,7 +121,8 @@ fn sweep_way(
 ) -> usize
     requires room { HasRoom kept.old l (n + size_block (block_view body.now)) }
     requires choice { c < length kept.old.around }
-    ensures swept { WayBy (SweptBlock (tok_of tok) (block_view body.now) l n) c (stock_of kept.old) (many_of m) (stock_of kept.new) }
+    ensures swept { WayBy (SweptBlock (tok_of tok) (block_view body.now) l n) c
+        (stock_of kept.old) (many_of m) (stock_of kept.new) }
     ensures went { Went kept.old kept.new }
     ensures at { result ≡ n + size_block (block_view body.now) }
 {
@@ -133,7 +135,8 @@ fn sweep_way(
 #[cycle(sweep)]
 fn sweep_turn(kept: &mut Tables, tok: Tok, body: &FlowBlock, rows: &[Row], n: usize) -> usize
     requires room { HasRoom kept.old None (n + 1 + size_block (block_view body.now)) }
-    ensures swept { TurnBy (SweptBlock (tok_of tok) (block_view body.now) (Some n) (n + 1)) (tok_of tok) (rows_view rows.now) n (stock_of kept.old) (stock_of kept.new) }
+    ensures swept { TurnBy (SweptBlock (tok_of tok) (block_view body.now) (Some n) (n + 1))
+        (tok_of tok) (rows_view rows.now) n (stock_of kept.old) (stock_of kept.new) }
     ensures went { Went kept.old kept.new }
     ensures at { result ≡ n + 1 + size_block (block_view body.now) }
 {
@@ -155,7 +158,8 @@ fn sweep_arms(
     m: Ones,
 ) -> usize
     requires room { HasRoom kept.old l (c + 1 + size_arms (arms_view arms.now)) }
-    ensures swept { SweptArms (tok_of tok) (arms_view arms.now) l c (c + 1) (stock_of kept.old) (many_of m) (stock_of kept.new) }
+    ensures swept { SweptArms (tok_of tok) (arms_view arms.now) l c (c + 1) (stock_of kept.old)
+        (many_of m) (stock_of kept.new) }
     ensures went { Went kept.old kept.new }
     ensures at { result ≡ c + 1 + size_arms (arms_view arms.now) }
 {
@@ -177,7 +181,8 @@ pub fn sweep_block(
     m: Ones,
 ) -> Came
     requires room { HasRoom kept.old l (n + size_block (block_view block.now)) }
-    ensures swept { SweptBlock (tok_of tok) (block_view block.now) l n (stock_of kept.old) (many_of m) (stock_of kept.new) (many_of result.ones) }
+    ensures swept { SweptBlock (tok_of tok) (block_view block.now) l n (stock_of kept.old)
+        (many_of m) (stock_of kept.new) (many_of result.ones) }
     ensures went { Went kept.old kept.new }
     ensures at { result.at ≡ n + size_block (block_view block.now) }
 {
@@ -198,7 +203,8 @@ fn sweep_list(
     m: Ones,
 ) -> Came
     requires room { HasRoom kept.old l (n + size_stmts (stmts_view stmts.now)) }
-    ensures swept { SweptStmts (tok_of tok) (stmts_view stmts.now) l n (stock_of kept.old) (many_of m) (stock_of kept.new) (many_of result.ones) }
+    ensures swept { SweptStmts (tok_of tok) (stmts_view stmts.now) l n (stock_of kept.old)
+        (many_of m) (stock_of kept.new) (many_of result.ones) }
     ensures went { Went kept.old kept.new }
     ensures at { result.at ≡ n + size_stmts (stmts_view stmts.now) }
 {
@@ -215,8 +221,10 @@ fn sweep_list(
 /// Sweeps until nothing grows: each table then holds just what is found.
 pub fn spread(kept: &mut Tables, tok: Tok, body: &FlowBlock, m: Ones)
     requires room { HasRoom kept.old None (size_block (block_view body.now)) }
-    requires none { IsReached (tok_of tok) (block_view body.now) (In (many_of m)) (stock_of kept.old) }
-    ensures found { IsFoundIn (tok_of tok) (block_view body.now) (In (many_of m)) (stock_of kept.new) }
+    requires none { IsReached (tok_of tok) (block_view body.now) (In (many_of m))
+        (stock_of kept.old) }
+    ensures found { IsFoundIn (tok_of tok) (block_view body.now) (In (many_of m))
+        (stock_of kept.new) }
     ensures around { length kept.new.around ≡ length kept.old.around }
     ensures behind { length kept.new.behind ≡ length kept.old.behind }
 {
@@ -239,7 +247,8 @@ pub fn found(
 ) -> Result<Tables, AllocError>
     requires count { count ≡ size_block (block_view body.now) }
     requires few { count < 2 ^ 63 }
-    ensures found { IfOk result (λ k. IsFoundIn (tok_of tok) (block_view body.now) (In (many_of m)) (stock_of k)) }
+    ensures found { IfOk result (λ k. IsFoundIn (tok_of tok) (block_view body.now)
+        (In (many_of m)) (stock_of k)) }
     ensures around { IfOk result (λ k. length k.around ≡ count) }
     ensures behind { IfOk result (λ k. length k.behind ≡ count) }
 {

@@ -38,7 +38,8 @@ trait Openable {
     ghost bytes: { Self → Option (List ℕ) };
 
     fn open(self) -> io::Result<Self::Reader>
-        ensures { IfOk result (λ reader. IfSome (bytes self) (λ whole. Self.Reader.remaining reader ≡ Some whole)) };
+        ensures { IfOk result (λ reader. IfSome (bytes self)
+            (λ whole. Self.Reader.remaining reader ≡ Some whole)) };
 }
 
 /// A file of the system by its name. Nothing is known of its bytes.
@@ -62,7 +63,8 @@ impl<'a, R: Files> Openable for NamedFile<'a, R> {
 fn read_prefix<T: Read + Drop>(alloc: Global, reader: T, limit: usize) -> io::Result<Vec<u8>>
     requires { limit < 2 ^ 32 }
     ensures bounded { IfOk result (λ bytes. vec_len bytes ≤ limit + 1) }
-    ensures prefix { IfOk result (λ bytes. IfSome (T.remaining reader) (λ whole. bytes.items ≡ take (limit + 1) whole)) }
+    ensures prefix { IfOk result (λ bytes. IfSome (T.remaining reader) (λ whole. bytes.items
+        ≡ take (limit + 1) whole)) }
 {
     let most = limit + 1;
     let mut bytes = Vec::new(alloc);
@@ -75,7 +77,8 @@ fn read_prefix<T: Read + Drop>(alloc: Global, reader: T, limit: usize) -> io::Re
 fn read_file<F: Openable>(alloc: Global, file: F, limit: usize) -> io::Result<Vec<u8>>
     requires { limit < 2 ^ 32 }
     ensures bounded { IfOk result (λ bytes. vec_len bytes ≤ limit + 1) }
-    ensures prefix { IfOk result (λ bytes. IfSome (F.bytes file) (λ whole. bytes.items ≡ take (limit + 1) whole)) }
+    ensures prefix { IfOk result (λ bytes. IfSome (F.bytes file) (λ whole. bytes.items
+        ≡ take (limit + 1) whole)) }
 {
     let reader = file.open()?;
     read_prefix(alloc, reader, limit)

@@ -54,8 +54,10 @@ impl Sink for MemSink {
     ghost written = { λ sink. Some (bytes_in sink) };
 
     fn write(&mut self, piece: &[u8]) -> Result<(), SinkFailed>
-        ensures ok { OnOk result (Grew (Some (bytes_in self.old)) (Some (bytes_in self.new)) piece.now) }
-        ensures part { OnErr result (GrewByPart (Some (bytes_in self.old)) (Some (bytes_in self.new)) piece.now) }
+        ensures ok { OnOk result (Grew (Some (bytes_in self.old))
+            (Some (bytes_in self.new)) piece.now) }
+        ensures part { OnErr result (GrewByPart (Some (bytes_in self.old))
+            (Some (bytes_in self.new)) piece.now) }
         ensures failed { OnErr result (Rose (sink_faults self.old) (sink_faults self.new)) }
         ensures counted { sink_faults self.old ≤ sink_faults self.new }
         ensures room { room_of self.new ≡ room_of self.old }
@@ -63,9 +65,14 @@ impl Sink for MemSink {
         ensures failing { failing_writes self.new ≡ failing_writes self.old }
         ensures ok_as_before { OnOk result (sink_faults self.new ≡ sink_faults self.old) }
         ensures err_once { OnErr result (sink_faults self.new ≡ one_more (sink_faults self.old)) }
-        ensures told_to_fail { fails_next_write self.old ≡ true → IsErr result × (bytes_in self.new ≡ bytes_in self.old) }
-        ensures full { fails_next_write self.old ≡ false → room_of self.old < length (bytes_in self.old) + length piece.now → IsErr result × (bytes_in self.new ≡ bytes_in self.old ++ take (room_of self.old - length (bytes_in self.old)) piece.now) }
-        ensures fits { fails_next_write self.old ≡ false → length (bytes_in self.old) + length piece.now ≤ room_of self.old → result ≡ Ok tt }
+        ensures told_to_fail { fails_next_write self.old ≡ true → IsErr result ×
+            (bytes_in self.new ≡ bytes_in self.old) }
+        ensures full { fails_next_write self.old ≡ false →
+            room_of self.old < length (bytes_in self.old) + length piece.now → IsErr result ×
+            (bytes_in self.new ≡ bytes_in self.old ++ take
+            (room_of self.old - length (bytes_in self.old)) piece.now) }
+        ensures fits { fails_next_write self.old ≡ false →
+            length (bytes_in self.old) + length piece.now ≤ room_of self.old → result ≡ Ok tt }
     {
         if self.calls.begin() {
             self.calls.fail();

@@ -37,8 +37,11 @@ impl MemStore {
 
     /// Adds a file, or gives new bytes to the one of this name.
     pub fn add(&mut self, name: &str, bytes: &[u8]) -> Result<(), Memory>
-        ensures ok { OnOk result ((other : List ℕ) → file_at self.new other ≡ (if bytes_eq name.now other then Some bytes.now else file_at self.old other)) }
-        ensures err { OnErr result ((other : List ℕ) → file_at self.new other ≡ file_at self.old other) }
+        ensures ok { OnOk result ((other : List ℕ) →
+            file_at self.new other ≡ (if bytes_eq name.now other then Some bytes.now else
+            file_at self.old other)) }
+        ensures err { OnErr result ((other : List ℕ) →
+            file_at self.new other ≡ file_at self.old other) }
         ensures calls { HasSameCalls self.old self.new }
     {
         let name = String::from_str(self.alloc, name)?;
@@ -60,18 +63,28 @@ impl Store for MemStore {
 
     fn read(&mut self, alloc: Global, name: &str, limit: usize) -> Result<Vec<u8>, StoreError>
         requires { limit < 2 ^ 32 }
-        ensures bytes { IfOk result (λ bytes. IsRead (Some (file_at self.old)) name.now limit bytes.items) }
+        ensures bytes { IfOk result (λ bytes.
+            IsRead (Some (file_at self.old)) name.now limit bytes.items) }
         ensures bounded { IfOk result (λ bytes. vec_len bytes ≤ limit + 1) }
         ensures reads { IfOk result (λ _. reads_of self.new ≡ one_more (reads_of self.old)) }
-        ensures failed { IsErrOf result StoreError.Failed → MayFail (Some (file_at self.old)) name.now (store_faults self.old) (store_faults self.new) }
+        ensures failed { IsErrOf result StoreError.Failed →
+            MayFail (Some (file_at self.old)) name.now (store_faults self.old)
+            (store_faults self.new) }
         ensures unchanged { file_at self.new ≡ file_at self.old }
         ensures counted { store_faults self.old ≤ store_faults self.new }
         ensures counted_reads { reads_of self.new ≡ one_more (reads_of self.old) }
         ensures failing { failing_reads self.new ≡ failing_reads self.old }
-        ensures told_to_fail { fails_next_read self.old ≡ true → (result ≡ Err StoreError.Failed) × (store_faults self.new ≡ one_more (store_faults self.old)) }
-        ensures else_as_before { fails_next_read self.old ≡ false → store_faults self.new ≡ store_faults self.old }
-        ensures missing { fails_next_read self.old ≡ false → file_at self.old name.now ≡ None → result ≡ Err StoreError.Failed }
-        ensures there { (whole : List ℕ) → fails_next_read self.old ≡ false → file_at self.old name.now ≡ Some whole → MatchResult result (λ bytes. bytes.items ≡ take (limit + 1) whole) (λ error. error ≡ StoreError.Memory) }
+        ensures told_to_fail { fails_next_read self.old ≡ true →
+            (result ≡ Err StoreError.Failed) ×
+            (store_faults self.new ≡ one_more (store_faults self.old)) }
+        ensures else_as_before { fails_next_read self.old ≡ false →
+            store_faults self.new ≡ store_faults self.old }
+        ensures missing { fails_next_read self.old ≡ false →
+            file_at self.old name.now ≡ None → result ≡ Err StoreError.Failed }
+        ensures there { (whole : List ℕ) → fails_next_read self.old ≡ false →
+            file_at self.old name.now ≡ Some whole →
+            MatchResult result (λ bytes. bytes.items ≡ take (limit + 1) whole) (λ error. error
+            ≡ StoreError.Memory) }
     {
         if self.calls.begin() {
             self.calls.fail();

@@ -40,7 +40,8 @@ impl<W: Write> Sink for OutSink<W> {
         ensures part { OnErr result (GrewByPart None None piece.now) }
         ensures failed { OnErr result (Rose (writer_faults self.old) (writer_faults self.new)) }
         ensures counted { writer_faults self.old ≤ writer_faults self.new }
-        ensures taken { OnOk result (Appends (W.contents (writer_of self.old)) (W.contents (writer_of self.new)) piece.now) }
+        ensures taken { OnOk result (Appends (W.contents (writer_of self.old))
+            (W.contents (writer_of self.new)) piece.now) }
     {
         if self.writer.write_all(piece).is_err() {
             self.faults.add();

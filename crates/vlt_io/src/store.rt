@@ -44,7 +44,8 @@ pub trait Store {
         ensures bytes { IfOk result (λ bytes. IsRead (files self.old) name.now limit bytes.items) }
         ensures bounded { IfOk result (λ bytes. vec_len bytes ≤ limit + 1) }
         ensures reads { IfOk result (λ bytes. reads self.old name.now bytes.items self.new) }
-        ensures failed { IsErrOf result StoreError.Failed → MayFail (files self.old) name.now (faults self.old) (faults self.new) }
+        ensures failed { IsErrOf result StoreError.Failed →
+            MayFail (files self.old) name.now (faults self.old) (faults self.new) }
         ensures unchanged { files self.new ≡ files self.old }
         ensures counted { faults self.old ≤ faults self.new };
 }

@@ -41,7 +41,8 @@ pub struct Blame {
 }
 
 fn is_no_later_tok(a: Tok, b: Tok) -> bool
-    ensures { MatchBool result (IsNoLaterTok (tok_of a) (tok_of b)) (IsNoLaterTok (tok_of b) (tok_of a)) }
+    ensures { MatchBool result (IsNoLaterTok (tok_of a) (tok_of b))
+        (IsNoLaterTok (tok_of b) (tok_of a)) }
 {
     match (a, b) {
         (Tok::Key(i), Tok::Key(j)) => i.0 <= j.0,

@@ -92,7 +92,8 @@ fn extent_of_rows(rows: &[Row]) -> Result<Extent, Memory>
 }
 
 fn extent_of_toks(toks: &[Tok]) -> Result<Extent, Memory>
-    ensures { IfOk result (IsExtent 0 (length toks.now) (λ t. AvoidsRows t (map maps.gone (toks_of toks.now)))) }
+    ensures { IfOk result (IsExtent 0 (length toks.now)
+        (λ t. AvoidsRows t (map maps.gone (toks_of toks.now)))) }
 {
     let mut sum = only(0, 0);
     for tok in toks {
@@ -104,7 +105,8 @@ fn extent_of_toks(toks: &[Tok]) -> Result<Extent, Memory>
 
 /// Of a statement with so many joins and these rows.
 fn with_rows(joins: usize, rows: &[Row]) -> Result<Extent, Memory>
-    ensures { IfOk result (IsExtent 1 (joins + length rows.now) (λ t. AvoidsRows t (rows_view rows.now))) }
+    ensures { IfOk result (IsExtent 1 (joins + length rows.now)
+        (λ t. AvoidsRows t (rows_view rows.now))) }
 {
     let own = extent_of_rows(rows)?;
     both(only(1, joins), own)
@@ -112,7 +114,8 @@ fn with_rows(joins: usize, rows: &[Row]) -> Result<Extent, Memory>
 
 #[cycle(extent)]
 fn extent_of_form(form: &Flow) -> Result<Extent, Memory>
-    ensures { IfOk result (IsExtent (size (flow_view form.now)) (spots (flow_view form.now)) (λ t. Avoids t (flow_view form.now))) }
+    ensures { IfOk result (IsExtent (size (flow_view form.now)) (spots (flow_view form.now))
+        (λ t. Avoids t (flow_view form.now))) }
 {
     match form {
         Flow::Step { rows } => with_rows(0, rows.as_slice()),
@@ -158,7 +161,8 @@ fn extent_of_form(form: &Flow) -> Result<Extent, Memory>
 
 #[cycle(extent)]
 pub fn extent_of_block(block: &FlowBlock) -> Result<Extent, Memory>
-    ensures { IfOk result (IsExtent (size_block (block_view block.now)) (spots_block (block_view block.now)) (λ t. AvoidsBlock t (block_view block.now))) }
+    ensures { IfOk result (IsExtent (size_block (block_view block.now))
+        (spots_block (block_view block.now)) (λ t. AvoidsBlock t (block_view block.now))) }
 {
     let inside = extent_of_list(block.stmts.as_slice())?;
     let bound = extent_of_toks(block.bound.as_slice())?;
@@ -167,7 +171,8 @@ pub fn extent_of_block(block: &FlowBlock) -> Result<Extent, Memory>
 
 #[cycle(extent)]
 fn extent_of_list(stmts: &[FlowStmt]) -> Result<Extent, Memory>
-    ensures { IfOk result (IsExtent (size_stmts (stmts_view stmts.now)) (spots_stmts (stmts_view stmts.now)) (λ t. AvoidsStmts t (stmts_view stmts.now))) }
+    ensures { IfOk result (IsExtent (size_stmts (stmts_view stmts.now))
+        (spots_stmts (stmts_view stmts.now)) (λ t. AvoidsStmts t (stmts_view stmts.now))) }
 {
     let mut sum = only(0, 0);
     for s in stmts {
@@ -179,7 +184,8 @@ fn extent_of_list(stmts: &[FlowStmt]) -> Result<Extent, Memory>
 
 #[cycle(extent)]
 fn extent_of_arms(arms: &[FlowArm]) -> Result<Extent, Memory>
-    ensures { IfOk result (IsExtent (size_arms (arms_view arms.now)) (spots_arms (arms_view arms.now)) (λ t. AvoidsArms t (arms_view arms.now))) }
+    ensures { IfOk result (IsExtent (size_arms (arms_view arms.now))
+        (spots_arms (arms_view arms.now)) (λ t. AvoidsArms t (arms_view arms.now))) }
 {
     let mut sum = only(0, 0);
     for arm in arms {

@@ -36,10 +36,12 @@ pub fn fault_in(
     f: &Func,
     fn_id: FnId,
 ) -> Result<Option<FlowFault>, Memory>
-    ensures first { IfOk result (λ x. IfSome x (λ y. IsFitIn (program_of p.now) (func_of f.now) →
+    ensures first { IfOk result (λ x. IfSome x
+        (λ y. IsFitIn (program_of p.now) (func_of f.now) →
         IsFirstIn (program_of p.now) (func_of f.now) y.at (tok_of y.tok) (kind_of y.kind))) }
     ensures function { IfOk result (λ x. IfSome x (λ y. y.fn_id ≡ fn_id)) }
-    ensures none { IfOk result (λ x. IsNone x → HasFault (program_of p.now) (func_of f.now) → ⊥) }
+    ensures none { IfOk result (λ x. IsNone x →
+        HasFault (program_of p.now) (func_of f.now) → ⊥) }
     ensures always { IfOk result (λ x. IsNone x → IsFitIn (program_of p.now) (func_of f.now) →
         ((a : Notes) → IsLocalIn (program_of p.now) (func_of f.now) a → ⊥) → ⊥) }
 {

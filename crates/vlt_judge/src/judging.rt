@@ -113,9 +113,15 @@ fn judge_if(
     at: u32,
     from: Point,
 ) -> Judged
-    requires room { HasRoom kept.now (size (choose (rows_view rows.now) (block_view then_block.now) (block_view else_block.now))) (spots (choose (rows_view rows.now) (block_view then_block.now) (block_view else_block.now))) from }
-    requires fits { Fitting kept.now (tok_of tok) (choose (rows_view rows.now) (block_view then_block.now) (block_view else_block.now)) from }
-    ensures { IsJudged (tok_of tok) at (choose (rows_view rows.now) (block_view then_block.now) (block_view else_block.now)) from result }
+    requires room { HasRoom kept.now (size (choose (rows_view rows.now)
+        (block_view then_block.now) (block_view else_block.now)))
+        (spots (choose (rows_view rows.now) (block_view then_block.now)
+        (block_view else_block.now))) from }
+    requires fits { Fitting kept.now (tok_of tok)
+        (choose (rows_view rows.now) (block_view then_block.now) (block_view else_block.now))
+        from }
+    ensures { IsJudged (tok_of tok) at (choose (rows_view rows.now) (block_view then_block.now)
+        (block_view else_block.now)) from result }
 {
     let p = judge_rows(tok, rows, at, from.spot, from.ones);
     let a = judge_block(
@@ -158,9 +164,12 @@ fn judge_while(
     at: u32,
     from: Point,
 ) -> Judged
-    requires room { HasRoom kept.now (size (loop (rows_view rows.now) (block_view body.now))) (spots (loop (rows_view rows.now) (block_view body.now))) from }
-    requires fits { Fitting kept.now (tok_of tok) (loop (rows_view rows.now) (block_view body.now)) from }
-    ensures { IsJudged (tok_of tok) at (loop (rows_view rows.now) (block_view body.now)) from result }
+    requires room { HasRoom kept.now (size (loop (rows_view rows.now) (block_view body.now)))
+        (spots (loop (rows_view rows.now) (block_view body.now))) from }
+    requires fits { Fitting kept.now (tok_of tok)
+        (loop (rows_view rows.now) (block_view body.now)) from }
+    ensures { IsJudged (tok_of tok) at (loop (rows_view rows.now) (block_view body.now)) from
+        result }
 {
     let top = kept.head(from.stmt);
     let head = judge_join(tok, at, Class::Head, from.spot, top);
@@ -197,9 +206,13 @@ fn judge_switch(
     at: u32,
     from: Point,
 ) -> Judged
-    requires room { HasRoom kept.now (size (switch (rows_view rows.now) (arms_view arms.now) end)) (spots (switch (rows_view rows.now) (arms_view arms.now) end)) from }
-    requires fits { Fitting kept.now (tok_of tok) (switch (rows_view rows.now) (arms_view arms.now) end) from }
-    ensures { IsJudged (tok_of tok) at (switch (rows_view rows.now) (arms_view arms.now) end) from result }
+    requires room { HasRoom kept.now (size (switch (rows_view rows.now)
+        (arms_view arms.now) end)) (spots (switch (rows_view rows.now)
+        (arms_view arms.now) end)) from }
+    requires fits { Fitting kept.now (tok_of tok)
+        (switch (rows_view rows.now) (arms_view arms.now) end) from }
+    ensures { IsJudged (tok_of tok) at (switch (rows_view rows.now) (arms_view arms.now) end)
+        from result }
 {
     let p = judge_rows(tok, rows, at, from.spot, from.ones);
     let s = judge_arms(
@@ -235,9 +248,13 @@ fn judge_focus(
     at: u32,
     from: Point,
 ) -> Judged
-    requires room { HasRoom kept.now (size (focus (rows_view rows.now) (block_view body.now) (rows_view after.now))) (spots (focus (rows_view rows.now) (block_view body.now) (rows_view after.now))) from }
-    requires fits { Fitting kept.now (tok_of tok) (focus (rows_view rows.now) (block_view body.now) (rows_view after.now)) from }
-    ensures { IsJudged (tok_of tok) at (focus (rows_view rows.now) (block_view body.now) (rows_view after.now)) from result }
+    requires room { HasRoom kept.now (size (focus (rows_view rows.now) (block_view body.now)
+        (rows_view after.now))) (spots (focus (rows_view rows.now) (block_view body.now)
+        (rows_view after.now))) from }
+    requires fits { Fitting kept.now (tok_of tok)
+        (focus (rows_view rows.now) (block_view body.now) (rows_view after.now)) from }
+    ensures { IsJudged (tok_of tok) at (focus (rows_view rows.now) (block_view body.now)
+        (rows_view after.now)) from result }
 {
     let p = judge_rows(tok, rows, at, from.spot, from.ones);
     let s = judge_block(
@@ -263,7 +280,8 @@ fn judge_focus(
 
 #[cycle(judge)]
 pub fn judge_block(kept: &Tables, tok: Tok, block: &FlowBlock, from: Point) -> Judged
-    requires room { HasRoom kept.now (size_block (block_view block.now)) (spots_block (block_view block.now)) from }
+    requires room { HasRoom kept.now (size_block (block_view block.now))
+        (spots_block (block_view block.now)) from }
     requires fits { FittingBlock kept.now (tok_of tok) (block_view block.now) from }
     ensures { IsJudgedBlock (tok_of tok) (block_view block.now) from result }
 {
@@ -287,7 +305,8 @@ pub fn judge_block(kept: &Tables, tok: Tok, block: &FlowBlock, from: Point) -> J
 
 #[cycle(judge)]
 fn judge_list(kept: &Tables, tok: Tok, stmts: &[FlowStmt], from: Point) -> Judged
-    requires room { HasRoom kept.now (size_stmts (stmts_view stmts.now)) (spots_stmts (stmts_view stmts.now)) from }
+    requires room { HasRoom kept.now (size_stmts (stmts_view stmts.now))
+        (spots_stmts (stmts_view stmts.now)) from }
     requires fits { FittingStmts kept.now (tok_of tok) (stmts_view stmts.now) from }
     ensures { IsJudgedStmts (tok_of tok) (stmts_view stmts.now) from result }
 {
@@ -304,7 +323,8 @@ fn judge_list(kept: &Tables, tok: Tok, stmts: &[FlowStmt], from: Point) -> Judge
 /// The arms of a switch at this place. What comes out of them isn't told.
 #[cycle(judge)]
 fn judge_arms(kept: &Tables, tok: Tok, arms: &[FlowArm], at: u32, from: Point) -> Judged
-    requires room { HasRoom kept.now (size_arms (arms_view arms.now)) (spots_arms (arms_view arms.now)) from }
+    requires room { HasRoom kept.now (size_arms (arms_view arms.now))
+        (spots_arms (arms_view arms.now)) from }
     requires fits { FittingArms kept.now (tok_of tok) (arms_view arms.now) from }
     ensures { IsJudgedArms (tok_of tok) at (arms_view arms.now) from result }
 {

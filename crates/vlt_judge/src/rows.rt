@@ -42,7 +42,8 @@ fn judge_row(tok: Tok, row: Row, at: u32, number: usize, m: Ones) -> Option<Blam
 
 pub fn judge_rows(tok: Tok, rows: &[Row], at: u32, number: usize, m: Ones) -> Passed
     requires { number + length rows.now < 2 ^ 63 }
-    ensures first { FirstOfRows (tok_of tok) at number (rows_view rows.now) (In (many_of m)) result.first }
+    ensures first { FirstOfRows (tok_of tok) at number (rows_view rows.now)
+        (In (many_of m)) result.first }
     ensures ones { IsImage (tok_of tok) (rows_view rows.now) (many_of m) (many_of result.ones) }
 {
     let mut first = None;
@@ -69,8 +70,10 @@ fn gone(tok: Tok) -> Row
 
 pub fn judge_gone(tok: Tok, toks: &[Tok], at: u32, number: usize, m: Ones) -> Passed
     requires { number + length toks.now < 2 ^ 63 }
-    ensures first { FirstOfRows (tok_of tok) at number (map maps.gone (toks_of toks.now)) (In (many_of m)) result.first }
-    ensures ones { IsImage (tok_of tok) (map maps.gone (toks_of toks.now)) (many_of m) (many_of result.ones) }
+    ensures first { FirstOfRows (tok_of tok) at number (map maps.gone (toks_of toks.now))
+        (In (many_of m)) result.first }
+    ensures ones { IsImage (tok_of tok) (map maps.gone (toks_of toks.now)) (many_of m)
+        (many_of result.ones) }
 {
     let mut first = None;
     let mut cur = m;
@@ -85,7 +88,8 @@ pub fn judge_gone(tok: Tok, toks: &[Tok], at: u32, number: usize, m: Ones) -> Pa
 }
 
 pub fn judge_join(tok: Tok, at: u32, class: Class, number: usize, m: Ones) -> Option<Blame>
-    ensures { FirstOfJoin (tok_of tok) (record { at = at; class = class_of class; number = number }) (In (many_of m)) result }
+    ensures { FirstOfJoin (tok_of tok) (record
+        { at = at; class = class_of class; number = number }) (In (many_of m)) result }
 {
     if is_mixed(m) {
         Some(Blame {

@@ -36,7 +36,8 @@ fn judge_token(
     tok: Tok,
 ) -> Result<Option<Blame>, Memory>
     requires { IsWhole (block_view body.now) (map_of start.now) extent }
-    ensures { IfOk result (IsFirstOver (λ t. t ≡ tok_of tok) (block_view body.now) (map_of start.now)) }
+    ensures { IfOk result (IsFirstOver (λ t. t ≡ tok_of tok) (block_view body.now)
+        (map_of start.now)) }
 {
     let ones = singles_of(status_at(start, tok));
     let kept = found(alloc, tok, body, extent.stmts, ones)?;
@@ -106,7 +107,8 @@ fn judge_keys(
     extent: Extent,
 ) -> Result<Option<Blame>, Memory>
     requires { IsWhole (block_view body.now) (map_of start.now) extent }
-    ensures { IfOk result (IsFirstOver (IsKeyBelow extent.keys) (block_view body.now) (map_of start.now)) }
+    ensures { IfOk result (IsFirstOver (IsKeyBelow extent.keys) (block_view body.now)
+        (map_of start.now)) }
 {
     let mut first = None;
     for key in 0..extent.keys {
@@ -125,7 +127,8 @@ fn judge_vars(
     extent: Extent,
 ) -> Result<Option<Blame>, Memory>
     requires { IsWhole (block_view body.now) (map_of start.now) extent }
-    ensures { IfOk result (IsFirstOver (IsVarBelow extent.vars) (block_view body.now) (map_of start.now)) }
+    ensures { IfOk result (IsFirstOver (IsVarBelow extent.vars) (block_view body.now)
+        (map_of start.now)) }
 {
     let mut first = None;
     for var in 0..extent.vars {

@@ -105,8 +105,10 @@ impl Held {
     pub fn step(&mut self, row: Row) -> Result<(), TokenFault>
         requires { HasPlace self.old (tok_of row.tok) }
         ensures range { IsSameRange self.old self.new }
-        ensures wanted { OnOk result (IsWanted (wanted_of row.wanted) (map_of self.old (tok_of row.tok))) }
-        ensures passed { OnOk result (map_of self.new ≡ row_passed (row_of row) (map_of self.old)) }
+        ensures wanted { OnOk result (IsWanted (wanted_of row.wanted)
+            (map_of self.old (tok_of row.tok))) }
+        ensures passed { OnOk result (map_of self.new
+            ≡ row_passed (row_of row) (map_of self.old)) }
         ensures same { OnErr result (self.new ≡ self.old) }
         ensures refused { IfErr result (IsTokenFault (row_of row) (map_of self.old)) }
     {
@@ -166,7 +168,8 @@ impl Held {
         requires { IsSameRange self.old o.now }
         ensures range { IsSameRange self.old self.new }
         ensures joined { OnOk result (IsJoin (map_of self.old) (map_of o.now) (map_of self.new)) }
-        ensures grew { IfOk result (λ g. MatchBool g (gap self.new < gap self.old) (self.new ≡ self.old)) }
+        ensures grew { IfOk result (λ g. MatchBool g (gap self.new < gap self.old) (self.new
+            ≡ self.old)) }
         ensures same { OnErr result (self.new ≡ self.old) }
         ensures refused { IfErr result (IsJoinFault (map_of self.old) (map_of o.now)) }
     {

@@ -28,7 +28,8 @@ pub fn first_apart(xs: &[Status], ys: &[Status]) -> Option<usize>
     ensures none { IfNone result (IsAlike xs.now ys.now) }
     ensures some { IfSome result (λ i. kind_of (at xs.now i) ≡ kind_of (at ys.now i) → ⊥) }
     ensures within { IfSome result (λ i. i < length xs.now) }
-    ensures before { IfSome result (λ i. (k : ℕ) → k < i → kind_of (at xs.now k) ≡ kind_of (at ys.now k)) }
+    ensures before { IfSome result (λ i. (k : ℕ) → k < i →
+        kind_of (at xs.now k) ≡ kind_of (at ys.now k)) }
 {
     for i in 0..xs.len() {
         if !is_alike(xs[i], ys[i]) {

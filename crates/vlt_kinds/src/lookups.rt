@@ -21,7 +21,8 @@ use vlt_syntax::Name;
 impl Kinds<'_> {
     /// The function of this name.
     pub fn function_named(&self, name: &Name) -> Option<FnId>
-        ensures { option_map (λ f. f.0) result ≡ s.function_named (kinds_seen self.now) (name_of name.now) }
+        ensures { option_map (λ f. f.0) result
+            ≡ s.function_named (kinds_seen self.now) (name_of name.now) }
     {
         match self.file.globals.find(name.text.as_slice()) {
             Some(Global::AFunction(number)) => Some(FnId(number)),
@@ -31,7 +32,8 @@ impl Kinds<'_> {
 
     /// The head of the function of this name.
     pub fn head_named(&self, name: &Name) -> Option<&Func>
-        ensures { option_map (λ f. view.func_of f.now) result ≡ s.head_named (kinds_seen self.now) (name_of name.now) }
+        ensures { option_map (λ f. view.func_of f.now) result
+            ≡ s.head_named (kinds_seen self.now) (name_of name.now) }
     {
         let FnId(number) = self.function_named(name)?;
         self.heads.get(number as usize)
@@ -56,21 +58,24 @@ impl Kinds<'_> {
 
     /// All states of a type; the first one alone where it has no set.
     pub fn all_states(&self, number: TypeId) -> StateSet
-        ensures { has_state result ≡ l.all_states (s.declared_program (kinds_seen self.now)) number.0 }
+        ensures { has_state result ≡ l.all_states
+            (s.declared_program (kinds_seen self.now)) number.0 }
     {
         self.declared().all_states(number)
     }
 
     /// The states in which an object of a type may be released.
     pub fn release_set(&self, number: TypeId) -> StateSet
-        ensures { has_state result ≡ l.release_set (s.declared_program (kinds_seen self.now)) number.0 }
+        ensures { has_state result ≡ l.release_set
+            (s.declared_program (kinds_seen self.now)) number.0 }
     {
         self.declared().release_set(number)
     }
 
     /// The states in which a field of a struct may be touched.
     pub fn permitted(&self, number: TypeId, field: u32) -> StateSet
-        requires { is_some (slice_get (l.fields_of (s.declared_program (kinds_seen self.now)) number.0) field) ≡ true }
+        requires { is_some (slice_get (l.fields_of
+            (s.declared_program (kinds_seen self.now)) number.0) field) ≡ true }
         ensures { has_state result
             ≡ l.permitted_in (s.declared_program (kinds_seen self.now)) number.0 field }
     {
@@ -79,7 +84,8 @@ impl Kinds<'_> {
 
     /// Whether objects of a struct may be dropped with all that they own.
     pub fn is_droppable_struct(&self, number: TypeId) -> bool
-        ensures { result ≡ t.is_droppable_struct (s.declared_program (kinds_seen self.now)) number.0 }
+        ensures { result ≡ t.is_droppable_struct
+            (s.declared_program (kinds_seen self.now)) number.0 }
     {
         self.declared().is_struct(number)
             && !vlt_kinds_queries::is_marked(self.marks.as_slice(), number)
@@ -87,7 +93,8 @@ impl Kinds<'_> {
 
     /// Whether a value of the type may be dropped with all that it owns.
     pub fn is_droppable(&self, ty: &Ty) -> bool
-        ensures { result ≡ t.is_droppable (s.declared_program (kinds_seen self.now)) (view.ty_of ty.now) }
+        ensures { result ≡ t.is_droppable (s.declared_program (kinds_seen self.now))
+            (view.ty_of ty.now) }
     {
         match ty {
             Ty::Own(states, number, _) => {
@@ -100,7 +107,8 @@ impl Kinds<'_> {
     }
 
     fn is_droppable_variant(&self, number: TypeId) -> bool
-        ensures { result ≡ t.is_droppable (s.declared_program (kinds_seen self.now)) (core.owning_variant number.0 []) }
+        ensures { result ≡ t.is_droppable (s.declared_program (kinds_seen self.now))
+            (core.owning_variant number.0 []) }
     {
         let declared = self.declared();
         declared.is_variant(number)

@@ -48,9 +48,11 @@ fn told(found: Found) -> Result<(), KindError>
 fn file_table<'a>(alloc: Global, decls: &'a [Decl]) -> Result<File<'a>, KindError>
     requires language { Each (IsDecl language) (map view.decl_of decls.now) }
     requires few { length decls.now < 2 ^ 32 - 1 }
-    ensures file { IfOk result (λ file. file_seen file ≡ f.file_of (map view.decl_of decls.now)) }
+    ensures file { IfOk result (λ file. file_seen file
+        ≡ f.file_of (map view.decl_of decls.now)) }
     ensures ok { IfOk result (λ _. least (names_refused (map view.decl_of decls.now)) ≡ None) }
-    ensures refused { OnRefused result (λ x. least (names_refused (map view.decl_of decls.now)) ≡ Some x) }
+    ensures refused { OnRefused result (λ x. least (names_refused (map view.decl_of decls.now))
+        ≡ Some x) }
 {
     let mut found = Found { least: None };
     let globals = check_names(alloc, decls, &mut found)?;
@@ -65,7 +67,8 @@ fn type_table(alloc: Global, file: &File<'_>, decls: &[Decl]) -> Result<Items<Ty
     ensures types { IfOk result (λ types. map core_view.type_of types
         ≡ core_types (file_seen file.now) (map view.decl_of decls.now)) }
     ensures known { IfOk result (All (HasKnownSet (length file.now.sets))) }
-    ensures ok { IfOk result (λ _. least (types_refused (file_seen file.now) (map view.decl_of decls.now)) ≡ None) }
+    ensures ok { IfOk result (λ _. least (types_refused (file_seen file.now)
+        (map view.decl_of decls.now)) ≡ None) }
     ensures refused { OnRefused result
         (λ x. least (types_refused (file_seen file.now) (map view.decl_of decls.now)) ≡ Some x) }
 {
@@ -86,8 +89,8 @@ fn head_table(
     requires { Each (IsDecl language) (map view.decl_of decls.now) }
     ensures heads { IfOk result (λ heads. map core_view.func_of heads
         ≡ core_heads (file_seen file.now) (map view.decl_of decls.now)) }
-    ensures ok { IfOk result (λ _. least (heads_refused (file_seen file.now) (map core_view.type_of types.now)
-        (map view.decl_of decls.now)) ≡ None) }
+    ensures ok { IfOk result (λ _. least (heads_refused (file_seen file.now)
+        (map core_view.type_of types.now) (map view.decl_of decls.now)) ≡ None) }
     ensures refused { OnRefused result (λ x. least (heads_refused (file_seen file.now)
         (map core_view.type_of types.now) (map view.decl_of decls.now)) ≡ Some x) }
 {
@@ -100,8 +103,9 @@ fn head_table(
 /// For each type whether a part is reached from it that no release may reach.
 fn type_marks(alloc: Global, file: &File<'_>, types: &[TypeDecl]) -> Result<Items<bool>, KindError>
     requires { All (HasKnownSet (length file.now.sets)) types.now }
-    ensures marks { IfOk result (λ marks. AreMarks (program_with (map core_view.set_of file.now.sets)
-        (map core_view.type_of types.now)) marks) }
+    ensures marks { IfOk result (λ marks. AreMarks
+        (program_with (map core_view.set_of file.now.sets) (map core_view.type_of types.now))
+        marks) }
     ensures refused { OnRefused result (λ _. ⊥) }
 {
     let declared = Declared {
@@ -117,7 +121,8 @@ fn type_marks(alloc: Global, file: &File<'_>, types: &[TypeDecl]) -> Result<Item
 pub fn kinds_of<'a>(alloc: Global, decls: &'a [Decl]) -> Result<Kinds<'a>, KindError>
     requires language { Each (IsDecl language) (map view.decl_of decls.now) }
     requires few { length decls.now < 2 ^ 32 - 1 }
-    ensures ok { IfOk result (λ kinds. names_told (map view.decl_of decls.now) ≡ Ok (kinds_seen kinds)) }
+    ensures ok { IfOk result (λ kinds. names_told (map view.decl_of decls.now)
+        ≡ Ok (kinds_seen kinds)) }
     ensures refused { OnRefused result (λ r. names_told (map view.decl_of decls.now) ≡ Err r) }
 {
     let file = file_table(alloc, decls)?;

@@ -30,8 +30,9 @@ fn check_object_states(
     states: &Option<States>,
     found: &mut Found,
 ) -> Result<(), AllocError>
-    ensures { OnOk result (found.new.least ≡ least_from found.old.least (d.object_states_refused (file_seen file.now)
-        wanted (option_map view.states_of states.now))) }
+    ensures { OnOk result (found.new.least ≡ least_from found.old.least
+        (d.object_states_refused (file_seen file.now) wanted
+        (option_map view.states_of states.now))) }
 {
     match wanted {
         Some(Wanted::OfType(number)) => file.check_owned_states(
@@ -53,8 +54,9 @@ fn check_case_key(
     key: &KeyStates,
     found: &mut Found,
 ) -> Result<(), AllocError>
-    ensures { OnOk result (found.new.least ≡ least_from found.old.least (d.case_key_refused (file_seen file.now)
-        (map view.header_param_of params.now) is_wrong (view.key_states_of key.now))) }
+    ensures { OnOk result (found.new.least ≡ least_from found.old.least
+        (d.case_key_refused (file_seen file.now) (map view.header_param_of params.now) is_wrong
+        (view.key_states_of key.now))) }
 {
     let wanted = wanted_of(&file.globals, params, key.key.text.as_slice());
     if is_wrong || is_any(wanted) {
@@ -78,8 +80,9 @@ fn check_next_key(
     ensures seen { OnOk result (seen.new
         ≡ d.with_key (map view.header_param_of params.now) seen.old (view.key_states_of key.now)) }
     ensures small { OnOk result (All (λ i. i < 32) seen.new) }
-    ensures refused { OnOk result (found.new.least ≡ least_from found.old.least (d.next_key_refused
-        (file_seen file.now) (map view.header_param_of params.now) seen.old (view.key_states_of key.now))) }
+    ensures refused { OnOk result (found.new.least
+        ≡ least_from found.old.least (d.next_key_refused (file_seen file.now)
+        (map view.header_param_of params.now) seen.old (view.key_states_of key.now))) }
 {
     let is_wrong = add_listed(seen, header_position(params, key.key.text.as_slice()))?;
     check_case_key(alloc, file, params, is_wrong, key, found)?;
@@ -94,7 +97,8 @@ fn check_case_keys(
     found: &mut Found,
 ) -> Result<(), AllocError>
     requires { length params.now ≤ 32 }
-    ensures { OnOk result (found.new.least ≡ found_along (d.with_key (map view.header_param_of params.now))
+    ensures { OnOk result (found.new.least ≡ found_along
+        (d.with_key (map view.header_param_of params.now))
         (d.next_key_refused (file_seen file.now) (map view.header_param_of params.now)) []
         (map view.key_states_of keys.now) found.old.least) }
 {
@@ -130,8 +134,9 @@ fn check_case(
     found: &mut Found,
 ) -> Result<(), AllocError>
     requires { length params.now ≤ 32 }
-    ensures { OnOk result (found.new.least ≡ least_from found.old.least (d.case_refused (file_seen file.now)
-        (map view.header_param_of params.now) (view.case_of case.now))) }
+    ensures { OnOk result (found.new.least ≡ least_from found.old.least
+        (d.case_refused (file_seen file.now) (map view.header_param_of params.now)
+        (view.case_of case.now))) }
 {
     check_payload(alloc, file, params, case.payload.as_slice(), found)?;
     check_case_keys(alloc, file, params, case.keys.as_slice(), found)?;
@@ -165,8 +170,9 @@ pub fn check_variant(
     found: &mut Found,
 ) -> Result<(), AllocError>
     requires { length params.now ≤ 32 }
-    ensures { OnOk result (found.new.least ≡ least_from found.old.least (d.variant_refused (file_seen file.now)
-        (map view.header_param_of params.now) (map view.case_of cases.now))) }
+    ensures { OnOk result (found.new.least ≡ least_from found.old.least
+        (d.variant_refused (file_seen file.now) (map view.header_param_of params.now)
+        (map view.case_of cases.now))) }
 {
     check_header(file, params, found);
     check_cases(alloc, file, params, cases, found)?;

@@ -22,8 +22,9 @@ fn check_field(
     field: &Field,
     found: &mut Found,
 ) -> Result<(), AllocError>
-    ensures { OnOk result (found.new.least ≡ least_from found.old.least (d.field_refused (file_seen file.now)
-        (map view.header_param_of params.now) (states_seen known.now) (view.field_of field.now))) }
+    ensures { OnOk result (found.new.least ≡ least_from found.old.least
+        (d.field_refused (file_seen file.now) (map view.header_param_of params.now)
+        (states_seen known.now) (view.field_of field.now))) }
 {
     check_typed(alloc, file, params, Part::Field, &field.ty, found)?;
     check_states(alloc, known, &field.states, found)?;
@@ -58,8 +59,9 @@ pub fn check_struct(
     release: &Option<States>,
     found: &mut Found,
 ) -> Result<(), AllocError>
-    ensures { OnOk result (found.new.least ≡ least_from found.old.least (d.struct_refused (file_seen file.now)
-        (view.name_of name.now) (map view.header_param_of params.now) (map view.field_of fields.now)
+    ensures { OnOk result (found.new.least ≡ least_from found.old.least
+        (d.struct_refused (file_seen file.now) (view.name_of name.now)
+        (map view.header_param_of params.now) (map view.field_of fields.now)
         (option_map view.states_of release.now))) }
 {
     check_header(file, params, found);

@@ -32,7 +32,8 @@ pub fn header_position(params: &[HeaderParam], key: &[u8]) -> Option<u8>
 
 /// What a header says of the object of a key.
 pub fn wanted_of(known: &Globals<'_>, params: &[HeaderParam], key: &[u8]) -> Option<Wanted>
-    ensures { result ≡ d.wanted_of (names_seen known.now) (map view.header_param_of params.now) key.now }
+    ensures { result ≡ d.wanted_of (names_seen known.now)
+        (map view.header_param_of params.now) key.now }
 {
     for param in params {
         if key == param.key.text.as_slice() {
@@ -85,8 +86,9 @@ fn disagrees(has: Wanted, wants: Wanted) -> bool
 
 #[tactic(auto, unfolding(crate::specs::Decls::use_refused))]
 fn check_use(file: &File<'_>, params: &[HeaderParam], place: &KeyUse<'_>, found: &mut Found)
-    ensures { found.new.least ≡ least_from found.old.least (d.use_refused (names_seen file.now.globals)
-        (map view.header_param_of params.now) (use_seen place.now)) }
+    ensures { found.new.least ≡ least_from found.old.least
+        (d.use_refused (names_seen file.now.globals) (map view.header_param_of params.now)
+        (use_seen place.now)) }
 {
     match wanted_of(&file.globals, params, place.key) {
         None => found.add(rules::KEY_NOT_IN_HEADER, place.at),
@@ -129,7 +131,8 @@ fn is_wrong_payload(ty: &Ty, sort: Option<Sort>) -> bool
 }
 
 fn check_part(part: Part, ty: &Ty, sort: Option<Sort>, found: &mut Found)
-    ensures { found.new.least ≡ least_from found.old.least (d.part_refused part (view.ty_of ty.now) sort) }
+    ensures { found.new.least ≡ least_from found.old.least
+        (d.part_refused part (view.ty_of ty.now) sort) }
 {
     match part {
         Part::Field => found.add_if(is_wrong_field(ty, sort), rules::FIELD_TYPE, ty_place(ty)),
@@ -151,8 +154,9 @@ pub fn check_typed(
     ty: &Ty,
     found: &mut Found,
 ) -> Result<(), AllocError>
-    ensures { OnOk result (found.new.least ≡ least_from found.old.least (d.typed_refused (file_seen file.now)
-        (map view.header_param_of params.now) part (view.ty_of ty.now))) }
+    ensures { OnOk result (found.new.least ≡ least_from found.old.least
+        (d.typed_refused (file_seen file.now) (map view.header_param_of params.now) part
+        (view.ty_of ty.now))) }
 {
     file.check_type(alloc, ty, found)?;
     check_part(part, ty, sort_in(file.shape_in(ty)), found);

@@ -108,8 +108,9 @@ fn core_fields(
     fields: &[Field],
 ) -> Result<Items<FieldDecl>, AllocError>
     requires { length params.now ≤ 32 }
-    ensures { IfOk result (λ decls. map core_view.field_of decls ≡ map (m.core_field (file_seen file.now)
-        (map view.header_param_of params.now) (states_seen known.now)) (map view.field_of fields.now)) }
+    ensures { IfOk result (λ decls. map core_view.field_of decls
+        ≡ map (m.core_field (file_seen file.now) (map view.header_param_of params.now)
+        (states_seen known.now)) (map view.field_of fields.now)) }
 {
     let mut decls = Items::new(alloc);
     for field in fields {
@@ -129,8 +130,9 @@ fn core_struct(
     release: &Option<States>,
 ) -> Result<TypeDecl, AllocError>
     requires { length params.now ≤ 32 }
-    ensures decl { IfOk result (λ decl. core_view.type_of decl ≡ core.a_struct (m.core_struct (file_seen file.now)
-        (view.name_of name.now) (map view.header_param_of params.now) (option_map view.name_of set.now)
+    ensures decl { IfOk result (λ decl. core_view.type_of decl
+        ≡ core.a_struct (m.core_struct (file_seen file.now) (view.name_of name.now)
+        (map view.header_param_of params.now) (option_map view.name_of set.now)
         (map view.field_of fields.now) (option_map view.states_of release.now))) }
     ensures known { IfOk result (HasKnownSet (length file.now.sets)) }
 {
@@ -166,8 +168,9 @@ fn core_case_key(
     key: &KeyStates,
 ) -> Result<(u32, StateSet), AllocError>
     requires { length params.now ≤ 32 }
-    ensures { IfOk result (λ made. core_view.case_key_of made ≡ m.core_case_key (file_seen file.now)
-        (map view.header_param_of params.now) (view.key_states_of key.now)) }
+    ensures { IfOk result (λ made. core_view.case_key_of made
+        ≡ m.core_case_key (file_seen file.now) (map view.header_param_of params.now)
+        (view.key_states_of key.now)) }
 {
     let numbers = HeaderNumbers { params };
     let position = numbers.number(key.key.text.as_slice());
@@ -183,8 +186,9 @@ fn core_case_keys(
     keys: &[KeyStates],
 ) -> Result<Items<(u32, StateSet)>, AllocError>
     requires { length params.now ≤ 32 }
-    ensures { IfOk result (λ made. map core_view.case_key_of made ≡ map (m.core_case_key (file_seen file.now)
-        (map view.header_param_of params.now)) (map view.key_states_of keys.now)) }
+    ensures { IfOk result (λ made. map core_view.case_key_of made
+        ≡ map (m.core_case_key (file_seen file.now) (map view.header_param_of params.now))
+        (map view.key_states_of keys.now)) }
 {
     let mut made = Items::new(alloc);
     for key in keys {
@@ -248,8 +252,9 @@ fn core_cases(
     cases: &[Case],
 ) -> Result<Items<CaseDecl>, AllocError>
     requires { length params.now ≤ 32 }
-    ensures { IfOk result (λ decls. map core_view.case_of decls ≡ map (m.core_case (file_seen file.now)
-        (map view.header_param_of params.now)) (map view.case_of cases.now)) }
+    ensures { IfOk result (λ decls. map core_view.case_of decls
+        ≡ map (m.core_case (file_seen file.now) (map view.header_param_of params.now))
+        (map view.case_of cases.now)) }
 {
     let mut decls = Items::new(alloc);
     for case in cases {
@@ -267,8 +272,9 @@ fn core_variant(
     cases: &[Case],
 ) -> Result<TypeDecl, AllocError>
     requires { length params.now ≤ 32 }
-    ensures decl { IfOk result (λ decl. core_view.type_of decl ≡ core.a_variant (m.core_variant (file_seen file.now)
-        (view.name_of name.now) (map view.header_param_of params.now) (map view.case_of cases.now))) }
+    ensures decl { IfOk result (λ decl. core_view.type_of decl
+        ≡ core.a_variant (m.core_variant (file_seen file.now) (view.name_of name.now)
+        (map view.header_param_of params.now) (map view.case_of cases.now))) }
     ensures known { IfOk result (HasKnownSet (length file.now.sets)) }
 {
     let name = Items::from_slice(alloc, name.text.as_slice())?;
@@ -287,7 +293,8 @@ fn core_abstract(
     name: &Name,
     set: &Option<Name>,
 ) -> Result<TypeDecl, AllocError>
-    ensures decl { IfOk result (λ decl. core_view.type_of decl ≡ core.an_abstract (view.name_of name.now).text
+    ensures decl { IfOk result (λ decl. core_view.type_of decl
+        ≡ core.an_abstract (view.name_of name.now).text
         (f.set_in (names_seen file.now.globals) (option_map view.name_of set.now))) }
     ensures known { IfOk result (HasKnownSet (length file.now.sets)) }
 {

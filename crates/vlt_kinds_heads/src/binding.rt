@@ -66,8 +66,8 @@ pub fn check_names(
     names: &[HeadName<'_>],
     found: &mut Found,
 ) -> Result<(), AllocError>
-    ensures { OnOk result (found.new.least ≡ found_along h.with_name (h.name_refused (names_seen known.now)) []
-        (map name_seen names.now) found.old.least) }
+    ensures { OnOk result (found.new.least ≡ found_along h.with_name
+        (h.name_refused (names_seen known.now)) [] (map name_seen names.now) found.old.least) }
 {
     let mut seen = Names {
         seen: IndexMap::new(alloc),

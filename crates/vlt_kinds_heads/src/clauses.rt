@@ -27,7 +27,8 @@ fn is_fresh_result(facts: &Facts) -> bool
 }
 
 fn check_entry_key(facts: &Facts, is_fresh: bool, at: u32, found: &mut Found)
-    ensures { found.new.least ≡ least_from found.old.least (h.entry_key_refused facts.now is_fresh at) }
+    ensures { found.new.least ≡ least_from found.old.least
+        (h.entry_key_refused facts.now is_fresh at) }
 {
     if is_fresh {
         found.add_if(!is_fresh_result(facts), rules::RESULT_KEY, at);
@@ -55,8 +56,9 @@ fn check_key_states(
     states: Option<&States>,
     found: &mut Found,
 ) -> Result<(), AllocError>
-    ensures { OnOk result (found.new.least ≡ least_from found.old.least (h.key_states_refused (file_seen file.now)
-        facts.now facts.now.typing (option_map (λ ss. view.states_of ss.now) states.entry))) }
+    ensures { OnOk result (found.new.least ≡ least_from found.old.least
+        (h.key_states_refused (file_seen file.now) facts.now facts.now.typing
+        (option_map (λ ss. view.states_of ss.now) states.entry))) }
 {
     let Some(states) = states else {
         return Ok(());
@@ -116,7 +118,8 @@ pub fn check_entries(
     clause: &[Entry],
     found: &mut Found,
 ) -> Result<(), AllocError>
-    ensures { OnOk result (found.new.least ≡ found_each (h.entry_refused (file_seen file.now) (keys_seen keys.now))
+    ensures { OnOk result (found.new.least ≡ found_each
+        (h.entry_refused (file_seen file.now) (keys_seen keys.now))
         (map view.entry_of clause.now) found.old.least) }
 {
     for entry in clause {
@@ -144,7 +147,8 @@ fn is_tracked_result(outcome: &Outcome, key: &Name) -> bool
 }
 
 fn is_main_clause(outcome: &Outcome, clause: &[Entry]) -> bool
-    ensures { result ≡ h.is_main_clause (view.outcome_of outcome.now) (map view.entry_of clause.now) }
+    ensures { result ≡ h.is_main_clause (view.outcome_of outcome.now)
+        (map view.entry_of clause.now) }
 {
     match clause {
         [] => is_void(outcome),
@@ -156,7 +160,8 @@ fn is_main_clause(outcome: &Outcome, clause: &[Entry]) -> bool
 /// Refuses a `main` that a program can't begin with.
 #[tactic(auto, unfolding(crate::specs::Heads::main_refused))]
 pub fn check_main(head: &Head, found: &mut Found)
-    ensures { found.new.least ≡ least_from found.old.least (h.main_refused (view.head_of head.now)) }
+    ensures { found.new.least ≡ least_from found.old.least
+        (h.main_refused (view.head_of head.now)) }
 {
     let name = &head.name;
     let fits = head.parameters.as_slice().is_empty()

@@ -54,13 +54,15 @@ fn check_parameters(file: &File<'_>, parameters: &[Parameter], found: &mut Found
 // ---- results
 
 fn is_abstract(decl: Option<&TypeDecl>) -> bool
-    ensures { result ≡ core_types.is_abstract (option_map (λ d. core_view.type_of d.now) decl.entry) }
+    ensures { result ≡ core_types.is_abstract
+        (option_map (λ d. core_view.type_of d.now) decl.entry) }
 {
     matches!(decl, Some(TypeDecl::Abstract { .. }))
 }
 
 fn is_host_payload(types: &[TypeDecl], ty: &Ty) -> bool
-    ensures { result ≡ e.is_host_payload (map core_view.type_of types.now) (core_view.ty_of ty.now) }
+    ensures { result ≡ e.is_host_payload (map core_view.type_of types.now)
+        (core_view.ty_of ty.now) }
 {
     match ty {
         Ty::Int | Ty::Bool => true,
@@ -70,7 +72,8 @@ fn is_host_payload(types: &[TypeDecl], ty: &Ty) -> bool
 }
 
 fn are_host_payload(types: &[TypeDecl], payload: &[Ty]) -> bool
-    ensures { result ≡ list_all (e.is_host_payload (map core_view.type_of types.now)) (map core_view.ty_of payload.now) }
+    ensures { result ≡ list_all (e.is_host_payload (map core_view.type_of types.now))
+        (map core_view.ty_of payload.now) }
 {
     for ty in payload {
         if !is_host_payload(types, ty) {
@@ -93,7 +96,8 @@ fn has_host_payloads(types: &[TypeDecl], cases: &[CaseDecl]) -> bool
 }
 
 fn cases_in(decl: Option<&TypeDecl>) -> &[CaseDecl]
-    ensures { map core_view.case_of result.now ≡ l.cases_in (option_map (λ d. core_view.type_of d.now) decl.entry) }
+    ensures { map core_view.case_of result.now
+        ≡ l.cases_in (option_map (λ d. core_view.type_of d.now) decl.entry) }
 {
     match decl {
         Some(TypeDecl::Variant { cases, .. }) => cases.as_slice(),
@@ -141,8 +145,8 @@ fn is_wrong_result(
     keys: &HeadKeys<'_>,
     ty: &vlt_syntax::Ty,
 ) -> Result<bool, AllocError>
-    ensures { IfOk result (λ wrong. wrong ≡ e.is_wrong_result (file_seen file.now) (map core_view.type_of types.now)
-        (keys_seen keys.now) (view.ty_of ty.now)) }
+    ensures { IfOk result (λ wrong. wrong ≡ e.is_wrong_result (file_seen file.now)
+        (map core_view.type_of types.now) (keys_seen keys.now) (view.ty_of ty.now)) }
 {
     match ty {
         vlt_syntax::Ty::Int(_) | vlt_syntax::Ty::Bool(_) => Ok(false),
@@ -162,7 +166,8 @@ fn is_wrong_result(
 // ---- the keys that a case of the result lists
 
 fn lists_position_in(keys: &[(u32, StateSet)], position: u32) -> bool
-    ensures { result ≡ list_any (λ k. k.position == position) (map core_view.case_key_of keys.now) }
+    ensures { result ≡ list_any (λ k. k.position == position)
+        (map core_view.case_key_of keys.now) }
 {
     for key in keys {
         if key.0 == position {
@@ -192,8 +197,9 @@ impl HeadKeys<'_> {
         key: &Name,
         found: &mut Found,
     ) -> Result<(), AllocError>
-        ensures { OnOk result (found.new.least ≡ least_from found.old.least (e.case_argument_refused
-            (keys_seen self.now) (map core_view.case_of cases.now) position (view.name_of key.now))) }
+        ensures { OnOk result (found.new.least
+            ≡ least_from found.old.least (e.case_argument_refused (keys_seen self.now)
+            (map core_view.case_of cases.now) position (view.name_of key.now))) }
     {
         let facts = self.facts_of(key.text.as_slice())?;
         let broken = lists_position(cases, position) && !facts.is_tracked_parameter;
@@ -207,8 +213,9 @@ impl HeadKeys<'_> {
         args: &[Name],
         found: &mut Found,
     ) -> Result<(), AllocError>
-        ensures { OnOk result (found.new.least ≡ found_along e.next_position (e.case_argument_refused
-            (keys_seen self.now) (map core_view.case_of cases.now)) 0 (view.names_of args.now) found.old.least) }
+        ensures { OnOk result (found.new.least
+            ≡ found_along e.next_position (e.case_argument_refused (keys_seen self.now)
+            (map core_view.case_of cases.now)) 0 (view.names_of args.now) found.old.least) }
     {
         for (i, key) in args.iter().enumerate() {
             let Ok(position) = u32::try_from(i) else {
@@ -232,7 +239,8 @@ impl HeadKeys<'_> {
     }
 
     fn check_host_entries(&self, clause: &[Entry], found: &mut Found) -> Result<(), AllocError>
-        ensures { OnOk result (found.new.least ≡ found_each (e.host_entry_refused (keys_seen self.now))
+        ensures { OnOk result (found.new.least
+            ≡ found_each (e.host_entry_refused (keys_seen self.now))
             (map view.entry_of clause.now) found.old.least) }
     {
         for entry in clause {
@@ -250,8 +258,9 @@ fn check_fitting(
     named: &Named,
     found: &mut Found,
 ) -> Result<(), AllocError>
-    ensures { OnOk result (found.new.least ≡ least_from found.old.least (e.fitting_refused (file_seen file.now)
-        (map core_view.type_of types.now) (keys_seen keys.now) (view.named_of named.now))) }
+    ensures { OnOk result (found.new.least ≡ least_from found.old.least
+        (e.fitting_refused (file_seen file.now) (map core_view.type_of types.now)
+        (keys_seen keys.now) (view.named_of named.now))) }
 {
     let cases = cases_named(file, types, named);
     keys.check_case_arguments(cases, named.keys.as_slice(), found)?;
@@ -266,8 +275,9 @@ fn check_arguments(
     named: &Named,
     found: &mut Found,
 ) -> Result<(), AllocError>
-    ensures { OnOk result (found.new.least ≡ least_from found.old.least (e.arguments_refused (file_seen file.now)
-        (map core_view.type_of types.now) (keys_seen keys.now) (view.named_of named.now))) }
+    ensures { OnOk result (found.new.least ≡ least_from found.old.least
+        (e.arguments_refused (file_seen file.now) (map core_view.type_of types.now)
+        (keys_seen keys.now) (view.named_of named.now))) }
 {
     if named.keys.len() == header_len(file.shape_named(&named.name)) {
         check_fitting(file, types, keys, named, found)
@@ -292,8 +302,9 @@ fn check_result_arguments(
     ty: &vlt_syntax::Ty,
     found: &mut Found,
 ) -> Result<(), AllocError>
-    ensures { OnOk result (found.new.least ≡ least_from found.old.least (e.result_arguments_refused
-        (file_seen file.now) (map core_view.type_of types.now) (keys_seen keys.now) (view.ty_of ty.now))) }
+    ensures { OnOk result (found.new.least ≡ least_from found.old.least
+        (e.result_arguments_refused (file_seen file.now) (map core_view.type_of types.now)
+        (keys_seen keys.now) (view.ty_of ty.now))) }
 {
     match ty {
         vlt_syntax::Ty::Tracked { named, .. } => check_arguments(file, types, keys, named, found),
@@ -310,8 +321,9 @@ fn check_host_type(
     ty: &vlt_syntax::Ty,
     found: &mut Found,
 ) -> Result<(), AllocError>
-    ensures { OnOk result (found.new.least ≡ least_from found.old.least (e.host_ty_refused (file_seen file.now)
-        (map core_view.type_of types.now) (keys_seen keys.now) (view.ty_of ty.now))) }
+    ensures { OnOk result (found.new.least ≡ least_from found.old.least
+        (e.host_ty_refused (file_seen file.now) (map core_view.type_of types.now)
+        (keys_seen keys.now) (view.ty_of ty.now))) }
 {
     let broken = is_wrong_result(file, types, keys, ty)?;
     found.add_if(broken, rules::EXTERN_HEAD, ty_place(ty));
@@ -326,8 +338,9 @@ fn check_host_result(
     outcome: &Outcome,
     found: &mut Found,
 ) -> Result<(), AllocError>
-    ensures { OnOk result (found.new.least ≡ least_from found.old.least (e.host_result_refused (file_seen file.now)
-        (map core_view.type_of types.now) (keys_seen keys.now) (view.outcome_of outcome.now))) }
+    ensures { OnOk result (found.new.least ≡ least_from found.old.least
+        (e.host_result_refused (file_seen file.now) (map core_view.type_of types.now)
+        (keys_seen keys.now) (view.outcome_of outcome.now))) }
 {
     match outcome {
         Outcome::Void(_) => Ok(()),
@@ -344,8 +357,9 @@ pub fn check_external(
     keys: &HeadKeys<'_>,
     found: &mut Found,
 ) -> Result<(), AllocError>
-    ensures { OnOk result (found.new.least ≡ least_from found.old.least (e.external_refused (file_seen file.now)
-        (map core_view.type_of types.now) (view.head_of head.now) (keys_seen keys.now))) }
+    ensures { OnOk result (found.new.least ≡ least_from found.old.least
+        (e.external_refused (file_seen file.now) (map core_view.type_of types.now)
+        (view.head_of head.now) (keys_seen keys.now))) }
 {
     check_parameters(file, head.parameters.as_slice(), found);
     check_host_result(file, types, keys, &head.outcome, found)?;

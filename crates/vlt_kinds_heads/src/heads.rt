@@ -171,7 +171,8 @@ fn check_head<'a>(
     head: &'a Head,
     found: &mut Found,
 ) -> Result<HeadKeys<'a>, AllocError>
-    ensures keys { IfOk result (λ keys. keys_seen keys ≡ k.keys_of (file_seen file.now) (view.head_of head.now)) }
+    ensures keys { IfOk result (λ keys. keys_seen keys
+        ≡ k.keys_of (file_seen file.now) (view.head_of head.now)) }
     ensures refused { OnOk result (found.new.least ≡ least_from found.old.least
         (h.head_refused (file_seen file.now) (view.head_of head.now))) }
 {
@@ -195,7 +196,8 @@ fn check_extern<'a>(
     head: &'a Head,
     found: &mut Found,
 ) -> Result<HeadKeys<'a>, AllocError>
-    ensures keys { IfOk result (λ keys. keys_seen keys ≡ k.keys_of (file_seen file.now) (view.head_of head.now)) }
+    ensures keys { IfOk result (λ keys. keys_seen keys
+        ≡ k.keys_of (file_seen file.now) (view.head_of head.now)) }
     ensures refused { OnOk result (found.new.least ≡ least_from found.old.least
         (q.extern_refused (file_seen file.now) (map core_view.type_of types.now) (view.head_of head.now))) }
 {
@@ -242,8 +244,9 @@ fn add_heads(
     requires { Each (IsDecl language) (map view.decl_of decls.now) }
     ensures heads { IfOk result (λ heads. map core_view.func_of heads
         ≡ q.core_heads (file_seen file.now) (map view.decl_of decls.now)) }
-    ensures refused { OnOk result (found.new.least ≡ found_each (q.heads_refused_in (file_seen file.now)
-        (map core_view.type_of types.now)) (map view.decl_of decls.now) found.old.least) }
+    ensures refused { OnOk result (found.new.least
+        ≡ found_each (q.heads_refused_in (file_seen file.now) (map core_view.type_of types.now))
+        (map view.decl_of decls.now) found.old.least) }
 {
     let mut heads = Items::new(alloc);
     for decl in decls {

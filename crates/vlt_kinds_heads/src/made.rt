@@ -45,7 +45,8 @@ fn key_type(typing: Option<Typing>) -> Option<TypeId>
 }
 
 fn key_decls(alloc: Heap, keys: &HeadKeys<'_>) -> Result<Items<KeyDecl>, AllocError>
-    ensures { IfOk result (λ decls. map core_view.key_of decls ≡ map q.key_decl (keys_seen keys.now)) }
+    ensures { IfOk result (λ decls. map core_view.key_of decls
+        ≡ map q.key_decl (keys_seen keys.now)) }
 {
     let mut decls = Items::new(alloc);
     for (name, facts) in keys.table.iter() {
@@ -214,8 +215,9 @@ impl HeadKeys<'_> {
         file: &File<'_>,
         parameters: &[Parameter],
     ) -> Result<Items<VarDecl>, AllocError>
-        ensures { IfOk result (λ made. map core_view.var_of made ≡ map (q.core_parameter (file_seen file.now)
-            (keys_seen self.now)) (map view.parameter_of parameters.now)) }
+        ensures { IfOk result (λ made. map core_view.var_of made
+            ≡ map (q.core_parameter (file_seen file.now) (keys_seen self.now))
+            (map view.parameter_of parameters.now)) }
     {
         let mut made = Items::new(alloc);
         for parameter in parameters {

@@ -58,7 +58,8 @@ impl HeadKeys<'_> {
 
 impl<'a> HeadKeys<'a> {
     fn insert(&mut self, key: &'a [u8], facts: Facts) -> Result<(), AllocError>
-        ensures { OnOk result (keys_seen self.new ≡ k.with_facts (keys_seen self.old) key.now facts) }
+        ensures { OnOk result (keys_seen self.new
+            ≡ k.with_facts (keys_seen self.old) key.now facts) }
     {
         self.table.insert(key, facts)?;
         Ok(())
@@ -94,7 +95,8 @@ impl<'a> HeadKeys<'a> {
 
     /// Notes that a clause has a key.
     pub fn note_entry(&mut self, entry: &'a Entry) -> Result<(), AllocError>
-        ensures { OnOk result (keys_seen self.new ≡ k.behind_entry (keys_seen self.old) (view.entry_of entry.now)) }
+        ensures { OnOk result (keys_seen self.new
+            ≡ k.behind_entry (keys_seen self.old) (view.entry_of entry.now)) }
     {
         let key = entry_key(entry).text.as_slice();
         let facts = self.facts_of(key)?;
@@ -109,7 +111,8 @@ impl<'a> HeadKeys<'a> {
 
     /// Notes the type that a place gives to its key, if it gives one.
     pub fn note_typing(&mut self, place: &KeyUse<'a>) -> Result<(), AllocError>
-        ensures { OnOk result (keys_seen self.new ≡ k.behind_use (keys_seen self.old) (use_seen place.now)) }
+        ensures { OnOk result (keys_seen self.new
+            ≡ k.behind_use (keys_seen self.old) (use_seen place.now)) }
     {
         let Wanted::OfType(type_id) = place.wanted else {
             return Ok(());
@@ -127,7 +130,8 @@ impl<'a> HeadKeys<'a> {
 
     /// Notes the keys of the result.
     pub fn note_results(&mut self, uses: &[KeyUse<'a>]) -> Result<(), AllocError>
-        ensures { OnOk result (keys_seen self.new ≡ k.behind_result (keys_seen self.old) (map use_seen uses.now)) }
+        ensures { OnOk result (keys_seen self.new
+            ≡ k.behind_result (keys_seen self.old) (map use_seen uses.now)) }
     {
         for place in uses {
             self.note_result(place)?;
@@ -137,7 +141,8 @@ impl<'a> HeadKeys<'a> {
 
     /// Notes the keys of the parameters.
     pub fn note_parameters(&mut self, uses: &[KeyUse<'a>]) -> Result<(), AllocError>
-        ensures { OnOk result (keys_seen self.new ≡ k.behind_parameters (keys_seen self.old) (map use_seen uses.now)) }
+        ensures { OnOk result (keys_seen self.new
+            ≡ k.behind_parameters (keys_seen self.old) (map use_seen uses.now)) }
     {
         for place in uses {
             self.note_parameter(place)?;
@@ -146,7 +151,8 @@ impl<'a> HeadKeys<'a> {
     }
 
     fn note_fresh(&mut self, place: &KeyUse<'a>) -> Result<(), AllocError>
-        ensures { OnOk result (keys_seen self.new ≡ k.behind_fresh (keys_seen self.old) (use_seen place.now)) }
+        ensures { OnOk result (keys_seen self.new
+            ≡ k.behind_fresh (keys_seen self.old) (use_seen place.now)) }
     {
         let facts = self.facts_of(place.key)?;
         if place.tracked && facts.is_fresh {
@@ -158,7 +164,8 @@ impl<'a> HeadKeys<'a> {
 
     /// Notes the type that the result gives to a `new` key.
     pub fn note_fresh_types(&mut self, uses: &[KeyUse<'a>]) -> Result<(), AllocError>
-        ensures { OnOk result (keys_seen self.new ≡ k.fresh_typed (keys_seen self.old) (map use_seen uses.now)) }
+        ensures { OnOk result (keys_seen self.new
+            ≡ k.fresh_typed (keys_seen self.old) (map use_seen uses.now)) }
     {
         for place in uses {
             self.note_fresh(place)?;

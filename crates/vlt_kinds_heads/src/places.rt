@@ -18,7 +18,8 @@ pub fn result_uses<'a>(
     file: &File<'_>,
     outcome: &'a Outcome,
 ) -> Result<Items<KeyUse<'a>>, AllocError>
-    ensures { IfOk result (λ uses. map use_seen uses ≡ p.result_uses (file_seen file.now) (view.outcome_of outcome.now)) }
+    ensures { IfOk result (λ uses. map use_seen uses
+        ≡ p.result_uses (file_seen file.now) (view.outcome_of outcome.now)) }
 {
     let mut uses = Items::new(alloc);
     if let Outcome::Value(ty) = outcome {
@@ -45,7 +46,8 @@ pub fn parameter_uses<'a>(
 
 /// The entries of a clause.
 pub fn clause_in(clause: &Option<Items<Entry>>) -> &[Entry]
-    ensures { map view.entry_of result.now ≡ p.clause_in (option_map (map view.entry_of) clause.now) }
+    ensures { map view.entry_of result.now ≡ p.clause_in
+        (option_map (map view.entry_of) clause.now) }
 {
     match clause {
         None => &[],
@@ -73,7 +75,8 @@ pub fn is_fresh(entry: &Entry) -> bool
 
 /// The states before the call; of an entry that changes nothing those that it names.
 pub fn first_states(entry: &Entry) -> Option<&States>
-    ensures { option_map (λ ss. view.states_of ss.now) result ≡ p.first_states (view.entry_of entry.now) }
+    ensures { option_map (λ ss. view.states_of ss.now) result
+        ≡ p.first_states (view.entry_of entry.now) }
 {
     match entry {
         Entry::Held(states) => states.states.as_ref(),
@@ -86,7 +89,8 @@ pub fn first_states(entry: &Entry) -> Option<&States>
 
 /// The states after the call, of an entry that changes them.
 pub fn second_states(entry: &Entry) -> Option<&States>
-    ensures { option_map (λ ss. view.states_of ss.now) result ≡ p.second_states (view.entry_of entry.now) }
+    ensures { option_map (λ ss. view.states_of ss.now) result
+        ≡ p.second_states (view.entry_of entry.now) }
 {
     match entry {
         Entry::Changed { after, .. } => Some(after),
@@ -192,7 +196,8 @@ pub fn head_names<'a>(
     file: &File<'_>,
     head: &'a Head,
 ) -> Result<Items<HeadName<'a>>, AllocError>
-    ensures { IfOk result (λ names. map name_seen names ≡ p.head_names (file_seen file.now) (view.head_of head.now)) }
+    ensures { IfOk result (λ names. map name_seen names
+        ≡ p.head_names (file_seen file.now) (view.head_of head.now)) }
 {
     let mut names = Items::new(alloc);
     add_result(alloc, file, &head.outcome, &mut names)?;

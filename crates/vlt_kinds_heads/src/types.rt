@@ -35,7 +35,8 @@ fn check_clash_with(
     at: u32,
     found: &mut Found,
 )
-    ensures { found.new.least ≡ least_from found.old.least (h.clash_with had wanted is_tracked at) }
+    ensures { found.new.least ≡ least_from found.old.least
+        (h.clash_with had wanted is_tracked at) }
 {
     if let (Some(had), Wanted::OfType(type_id)) = (had, wanted) {
         found.add_if(had.type_id != type_id, type_rule(is_tracked), at);
@@ -93,7 +94,8 @@ impl<'a> HeadKeys<'a> {
         uses: &[KeyUse<'a>],
         found: &mut Found,
     ) -> Result<(), AllocError>
-        ensures keys { OnOk result (keys_seen self.new ≡ k.parameters_typed (keys_seen self.old) (map use_seen uses.now)) }
+        ensures keys { OnOk result (keys_seen self.new
+            ≡ k.parameters_typed (keys_seen self.old) (map use_seen uses.now)) }
         ensures refused { OnOk result (found.new.least
             ≡ found_along k.behind_use h.clash (keys_seen self.old) (map use_seen uses.now) found.old.least) }
     {
@@ -174,8 +176,9 @@ impl<'a> HeadKeys<'a> {
     ) -> Result<(), AllocError>
         ensures keys { OnOk result
             (keys_seen self.new ≡ k.behind_clause (keys_seen self.old) (map view.entry_of clause.now)) }
-        ensures refused { OnOk result (found.new.least ≡ found_along k.behind_entry h.again_refused
-            (keys_seen self.old) (map view.entry_of clause.now) found.old.least) }
+        ensures refused { OnOk result (found.new.least
+            ≡ found_along k.behind_entry h.again_refused (keys_seen self.old)
+            (map view.entry_of clause.now) found.old.least) }
     {
         for entry in clause {
             self.check_again(entry, found)?;

@@ -79,7 +79,8 @@ impl Counts {
     fn declare(&mut self, decl: &Decl) -> Global
         requires { self.old.sets + self.old.types + self.old.functions < 2 ^ 32 - 1 }
         ensures what { result ≡ declared (counts_seen self.old) (decl_of decl.now) }
-        ensures counts { counts_seen self.new ≡ counted (counts_seen self.old) (decl_of decl.now) }
+        ensures counts { counts_seen self.new
+            ≡ counted (counts_seen self.old) (decl_of decl.now) }
         ensures sum { self.new.sets + self.new.types + self.new.functions
             ≡ self.old.sets + self.old.types + self.old.functions + 1 }
     {

@@ -72,7 +72,8 @@ fn is_named_one<T: HasName>(name: &Name, others: &[T]) -> bool
 /// Refuses each name that stands here for another time. The lists that come here are bounded by limits of the grammar.
 #[tactic(auto, unfolding(crate::specs::Names::repeated))]
 pub fn refuse_repeated<T: HasName>(rule: u8, named: &[T], found: &mut Found)
-    ensures { found.new.least ≡ least_from found.old.least (refuse rule (n.repeated (map T.name named.now))) }
+    ensures { found.new.least ≡ least_from found.old.least
+        (refuse rule (n.repeated (map T.name named.now))) }
 {
     for (i, one) in named.iter().enumerate() {
         let name = one.name();
@@ -135,8 +136,9 @@ fn check_struct(
     known: &Globals<'_>,
     found: &mut Found,
 )
-    ensures { found.new.least ≡ least_from found.old.least (n.struct_refused (names_seen known.now)
-        (map view.header_param_of params.now) (option_map view.name_of set.now) (map view.field_of fields.now)) }
+    ensures { found.new.least ≡ least_from found.old.least
+        (n.struct_refused (names_seen known.now) (map view.header_param_of params.now)
+        (option_map view.name_of set.now) (map view.field_of fields.now)) }
 {
     check_header(params, known, found);
     check_set(set, known, found);
@@ -145,8 +147,9 @@ fn check_struct(
 
 #[tactic(auto, using(crate::proofs::Least::least_of_both, crate::proofs::Least::mapped_twice), unfolding(crate::specs::Names::variant_refused))]
 fn check_variant(params: &[HeaderParam], cases: &[Case], known: &Globals<'_>, found: &mut Found)
-    ensures { found.new.least ≡ least_from found.old.least (n.variant_refused (names_seen known.now)
-        (map view.header_param_of params.now) (map view.case_of cases.now)) }
+    ensures { found.new.least ≡ least_from found.old.least
+        (n.variant_refused (names_seen known.now) (map view.header_param_of params.now)
+        (map view.case_of cases.now)) }
 {
     check_header(params, known, found);
     refuse_repeated(rules::REPEATED_PART, cases, found);
@@ -154,7 +157,8 @@ fn check_variant(params: &[HeaderParam], cases: &[Case], known: &Globals<'_>, fo
 
 #[tactic(auto, unfolding(crate::specs::Names::name_beyond_ascii))]
 fn check_extern(head: &Head, found: &mut Found)
-    ensures { found.new.least ≡ least_from found.old.least (n.name_beyond_ascii (view.head_of head.now)) }
+    ensures { found.new.least ≡ least_from found.old.least
+        (n.name_beyond_ascii (view.head_of head.now)) }
 {
     if !is_all_ascii(head.name.text.as_slice()) {
         found.add(rules::EXTERN_NOT_ASCII, head.name.at.from);
@@ -201,7 +205,8 @@ fn has_main(decls: &[Decl]) -> bool
 
 #[tactic(auto, unfolding(crate::specs::Names::no_main))]
 fn check_main(decls: &[Decl], found: &mut Found)
-    ensures { found.new.least ≡ least_from found.old.least (n.no_main (map view.decl_of decls.now)) }
+    ensures { found.new.least ≡ least_from found.old.least
+        (n.no_main (map view.decl_of decls.now)) }
 {
     if !has_main(decls) {
         found.add(rules::NO_MAIN, 0);

@@ -100,7 +100,8 @@ fn has_keys(cases: &[CaseDecl]) -> bool
 
 impl Declared<'_> {
     fn decl(&self, number: TypeId) -> Option<&TypeDecl>
-        ensures is { option_map (λ d. view.type_of d.now) result ≡ t.decl_of (declared_seen self.now) number.0 }
+        ensures is { option_map (λ d. view.type_of d.now) result
+            ≡ t.decl_of (declared_seen self.now) number.0 }
         ensures known { IfSome result (λ d. HasKnownSet (length self.now.sets.now) d.now) }
     {
         let decl = self.types.get(number.0 as usize)?;
@@ -160,7 +161,8 @@ impl Declared<'_> {
 
     /// The states in which a field of a struct may be touched.
     pub fn permitted(&self, number: TypeId, field: u32) -> StateSet
-        requires { is_some (slice_get (l.fields_of (declared_seen self.now) number.0) field) ≡ true }
+        requires { is_some (slice_get (l.fields_of (declared_seen self.now) number.0) field)
+            ≡ true }
         ensures { has_state result ≡ l.permitted_in (declared_seen self.now) number.0 field }
     {
         match self.field(number, field) {
@@ -219,7 +221,8 @@ impl Declared<'_> {
     }
 
     fn is_payload_marked(&self, marks: &[bool], payload: &[Ty]) -> bool
-        ensures { result ≡ list_any (r.part_marked (declared_seen self.now) marks.now) (map view.ty_of payload.now) }
+        ensures { result ≡ list_any (r.part_marked (declared_seen self.now) marks.now)
+            (map view.ty_of payload.now) }
     {
         for ty in payload {
             if self.is_part_marked(marks, ty) {
@@ -230,7 +233,8 @@ impl Declared<'_> {
     }
 
     fn is_case_marked(&self, marks: &[bool], cases: &[CaseDecl]) -> bool
-        ensures { result ≡ list_any (λ c. list_any (r.part_marked (declared_seen self.now) marks.now) c.payload)
+        ensures { result ≡ list_any (λ c. list_any
+            (r.part_marked (declared_seen self.now) marks.now) c.payload)
             (map view.case_of cases.now) }
     {
         for case in cases {
@@ -242,7 +246,8 @@ impl Declared<'_> {
     }
 
     fn is_decl_marked(&self, marks: &[bool], decl: &TypeDecl) -> bool
-        ensures { result ≡ r.decl_marked (declared_seen self.now) marks.now (view.type_of decl.now) }
+        ensures { result ≡ r.decl_marked (declared_seen self.now) marks.now
+            (view.type_of decl.now) }
     {
         match decl {
             TypeDecl::Abstract { .. } => false,

@@ -68,7 +68,8 @@ fn add_header<'b>(
 
 impl File<'_> {
     fn wanted_named(&self, name: &Name) -> Wanted
-        ensures { result ≡ f.wanted_type (f.type_named (file_seen self.now) (view.name_of name.now)) }
+        ensures { result ≡ f.wanted_type (f.type_named (file_seen self.now)
+            (view.name_of name.now)) }
     {
         match self.type_named(name) {
             None => Wanted::Unknown,

@@ -20,7 +20,8 @@ impl File<'_> {
     /// The names of the states of a type of this shape.
     #[tactic(auto, unfolding(crate::specs::Files::state_names))]
     pub fn state_names(&self, shape: Option<&Shape>) -> StateNames<'_>
-        ensures { states_seen result ≡ f.state_names (file_seen self.now) (option_map (λ s. s.now) shape.entry) }
+        ensures { states_seen result ≡ f.state_names (file_seen self.now)
+            (option_map (λ s. s.now) shape.entry) }
     {
         let Some(
             Shape {
@@ -56,7 +57,8 @@ fn position_of(names: &[Items<u8>], name: &Name) -> Option<u8>
 impl StateNames<'_> {
     /// The number of the state of this name.
     pub fn number(&self, name: &Name) -> Option<u8>
-        ensures number { result ≡ f.state_number (t.known_states (states_seen self.now)) (view.name_of name.now) }
+        ensures number { result ≡ f.state_number (t.known_states (states_seen self.now))
+            (view.name_of name.now) }
         ensures small { IfSome result (λ i. i < 32) }
     {
         match self.names {

@@ -28,7 +28,8 @@ fn key_numbers<K: KeyNumbers>(
     numbers: &K,
     keys: &[Name],
 ) -> Result<Items<KeyId>, AllocError>
-    ensures { IfOk result (λ ids. core_view.keys_of ids ≡ t.key_numbers (K.numbers numbers.now) (view.names_of keys.now)) }
+    ensures { IfOk result (λ ids. core_view.keys_of ids
+        ≡ t.key_numbers (K.numbers numbers.now) (view.names_of keys.now)) }
 {
     let mut ids = Items::new(alloc);
     for key in keys {
@@ -52,7 +53,8 @@ impl File<'_> {
         states: &Option<States>,
         named: &Named,
     ) -> Result<Ty, AllocError>
-        ensures { IfOk result (λ ty. core_view.ty_of ty ≡ t.owned_ty (file_seen self.now) (K.numbers numbers.now)
+        ensures { IfOk result (λ ty. core_view.ty_of ty
+            ≡ t.owned_ty (file_seen self.now) (K.numbers numbers.now)
             (option_map view.states_of states.now) (view.named_of named.now)) }
     {
         let number = self.type_number(&named.name);

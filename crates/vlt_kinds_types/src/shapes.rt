@@ -87,7 +87,8 @@ pub fn header_in(
     known: &Globals<'_>,
     params: &[HeaderParam],
 ) -> Result<Items<Wanted>, AllocError>
-    ensures { IfOk result (λ header. header ≡ f.header_in (names_seen known.now) (map view.header_param_of params.now)) }
+    ensures { IfOk result (λ header. header ≡ f.header_in (names_seen known.now)
+        (map view.header_param_of params.now)) }
 {
     let mut header = Items::new(alloc);
     for param in params {
@@ -115,7 +116,8 @@ fn leaves_payload_open(known: &Globals<'_>, ty: &Ty) -> bool
 }
 
 fn owns_some(known: &Globals<'_>, payload: &[Ty]) -> bool
-    ensures { result ≡ list_any (f.owns_payload (names_seen known.now)) (map view.ty_of payload.now) }
+    ensures { result ≡ list_any (f.owns_payload (names_seen known.now))
+        (map view.ty_of payload.now) }
 {
     for ty in payload {
         if owns_payload(known, ty) {
@@ -126,7 +128,8 @@ fn owns_some(known: &Globals<'_>, payload: &[Ty]) -> bool
 }
 
 fn leaves_some_open(known: &Globals<'_>, payload: &[Ty]) -> bool
-    ensures { result ≡ list_any (f.leaves_payload_open (names_seen known.now)) (map view.ty_of payload.now) }
+    ensures { result ≡ list_any (f.leaves_payload_open (names_seen known.now))
+        (map view.ty_of payload.now) }
 {
     for ty in payload {
         if leaves_payload_open(known, ty) {
@@ -199,7 +202,8 @@ fn add_shape(
     decl: &Decl,
     shapes: &mut Items<Shape>,
 ) -> Result<(), AllocError>
-    ensures { OnOk result (shapes.new ≡ shapes.old ++ f.shapes_in (names_seen known.now) (view.decl_of decl.now)) }
+    ensures { OnOk result (shapes.new ≡ shapes.old ++ f.shapes_in (names_seen known.now)
+        (view.decl_of decl.now)) }
 {
     match decl {
         Decl::Abstract { states, .. } => {
@@ -239,7 +243,8 @@ pub fn shapes_of(
     known: &Globals<'_>,
     decls: &[Decl],
 ) -> Result<Items<Shape>, AllocError>
-    ensures { IfOk result (λ shapes. shapes ≡ of_each (f.shapes_in (names_seen known.now)) (map view.decl_of decls.now)) }
+    ensures { IfOk result (λ shapes. shapes ≡ of_each (f.shapes_in (names_seen known.now))
+        (map view.decl_of decls.now)) }
 {
     let mut shapes = Items::new(alloc);
     for decl in decls {

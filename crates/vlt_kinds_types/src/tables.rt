@@ -38,7 +38,8 @@ impl File<'_> {
     /// The shape of the type of this name.
     #[tactic(auto, unfolding(crate::specs::Files::shape_named))]
     pub fn shape_named(&self, name: &Name) -> Option<&Shape>
-        ensures { option_map (λ s. s.now) result ≡ f.shape_named (file_seen self.now) (view.name_of name.now) }
+        ensures { option_map (λ s. s.now) result
+            ≡ f.shape_named (file_seen self.now) (view.name_of name.now) }
     {
         let number = self.type_named(name)?;
         self.shape_at(number)
@@ -46,7 +47,8 @@ impl File<'_> {
 }
 
 fn texts(alloc: Heap, names: &[Name]) -> Result<Items<Items<u8>>, AllocError>
-    ensures texts { IfOk result (λ texts. map (λ n. n) texts ≡ f.texts (view.names_of names.now)) }
+    ensures texts { IfOk result (λ texts. map (λ n. n) texts
+        ≡ f.texts (view.names_of names.now)) }
     ensures len { IfOk result (λ texts. length texts ≡ length names.now) }
 {
     let mut texts = Items::new(alloc);
@@ -84,7 +86,8 @@ fn add_set(alloc: Heap, decl: &Decl, sets: &mut Items<SetDecl>) -> Result<(), Al
 
 fn sets_of(alloc: Heap, decls: &[Decl]) -> Result<Items<SetDecl>, AllocError>
     requires { Each (IsDecl language) (map view.decl_of decls.now) }
-    ensures sets { IfOk result (λ sets. map core_view.set_of sets ≡ of_each f.sets_in (map view.decl_of decls.now)) }
+    ensures sets { IfOk result (λ sets. map core_view.set_of sets
+        ≡ of_each f.sets_in (map view.decl_of decls.now)) }
     ensures small { IfOk result AreSmallSets }
 {
     let mut sets = Items::new(alloc);

@@ -85,7 +85,8 @@ pub fn ty_place(ty: &Ty) -> u32
 
 #[tactic(auto, using(vlt_kinds_names::proofs::Least::least_of_both), unfolding(crate::specs::Types::form_refused))]
 fn check_form(ty: &Ty, sort: Option<Sort>, at: u32, found: &mut Found)
-    ensures { found.new.least ≡ least_from found.old.least (t.form_refused (view.ty_of ty.now) sort at) }
+    ensures { found.new.least ≡ least_from found.old.least
+        (t.form_refused (view.ty_of ty.now) sort at) }
 {
     found.add_if(has_wrong_prefix(ty, sort), rules::WRONG_PREFIX, at);
     found.add_if(has_wrong_ownership(ty, sort), rules::WRONG_OWNERSHIP, at);
@@ -126,7 +127,8 @@ impl File<'_> {
     /// The shape that the name in a type stands for.
     #[tactic(auto, unfolding(crate::specs::Types::shape_in))]
     pub fn shape_in(&self, ty: &Ty) -> Option<&Shape>
-        ensures { option_map (λ s. s.now) result ≡ t.shape_in (file_seen self.now) (view.ty_of ty.now) }
+        ensures { option_map (λ s. s.now) result
+            ≡ t.shape_in (file_seen self.now) (view.ty_of ty.now) }
     {
         match ty {
             Ty::Int(_) | Ty::Bool(_) => None,
@@ -146,8 +148,9 @@ impl File<'_> {
         states: &Option<States>,
         found: &mut Found,
     ) -> Result<(), AllocError>
-        ensures { OnOk result (found.new.least ≡ least_from found.old.least (t.owned_states_refused
-            (file_seen self.now) (option_map (λ s. s.now) shape.entry) (option_map view.states_of states.now))) }
+        ensures { OnOk result (found.new.least
+            ≡ least_from found.old.least (t.owned_states_refused (file_seen self.now)
+            (option_map (λ s. s.now) shape.entry) (option_map view.states_of states.now))) }
     {
         if has_states(sort_in(shape)) {
             let known = self.state_names(shape);
@@ -165,8 +168,9 @@ impl File<'_> {
         states: &States,
         found: &mut Found,
     ) -> Result<(), AllocError>
-        ensures { OnOk result (found.new.least ≡ least_from found.old.least (t.owned_states_refused
-            (file_seen self.now) (option_map (λ s. s.now) shape.entry) (Some (view.states_of states.now)))) }
+        ensures { OnOk result (found.new.least
+            ≡ least_from found.old.least (t.owned_states_refused (file_seen self.now)
+            (option_map (λ s. s.now) shape.entry) (Some (view.states_of states.now)))) }
     {
         if has_states(sort_in(shape)) {
             let known = self.state_names(shape);
@@ -184,9 +188,11 @@ impl File<'_> {
         named: &Named,
         found: &mut Found,
     ) -> Result<(), AllocError>
-        ensures { OnOk result (found.new.least ≡ least_from found.old.least (t.owned_refused (file_seen self.now)
-            (f.shape_named (file_seen self.now) (view.named_of named.now).name) (view.ty_of ty.now)
-            (option_map view.states_of states.now) (view.named_of named.now))) }
+        ensures { OnOk result (found.new.least
+            ≡ least_from found.old.least (t.owned_refused (file_seen self.now)
+            (f.shape_named (file_seen self.now) (view.named_of named.now).name)
+            (view.ty_of ty.now) (option_map view.states_of states.now)
+            (view.named_of named.now))) }
     {
         let shape = self.shape_named(&named.name);
         check_named(shape, ty, named, found);

@@ -129,11 +129,15 @@ pub fn lex(alloc: Global, text: &[u8]) -> Result<Vec<Token<'_>>, LexError>
     ensures slices { IfOk result (λ found. AreSlicesOf text.now 0 (lexemes found.items)) }
 
     // Where there is a list of tokens within the limit it is the answer, if there is memory, and likewise a refusal.
-    ensures all_tokens { (ls : List Lexeme) → IsTokensOf text.now ls → length ls ≤ limit_of 3 → MatchResult result (λ found. lexemes found.items ≡ ls) (λ e. e ≡ LexError.Memory) }
-    ensures all_refusals { (refusal : LexError) → IsRefused text.now refusal → MatchResult result (λ _. ⊥) (λ e. (e ≡ LexError.Memory) ⊎ (e ≡ refusal)) }
+    ensures all_tokens { (ls : List Lexeme) → IsTokensOf text.now ls →
+        length ls ≤ limit_of 3 → MatchResult result (λ found. lexemes found.items ≡ ls)
+        (λ e. e ≡ LexError.Memory) }
+    ensures all_refusals { (refusal : LexError) → IsRefused text.now refusal →
+        MatchResult result (λ _. ⊥) (λ e. (e ≡ LexError.Memory) ⊎ (e ≡ refusal)) }
 
     // A text has at most one list of tokens, however long.
-    ensures one_list { (ls ms : List Lexeme) → IsTokensOf text.now ls → IsTokensOf text.now ms → ls ≡ ms }
+    ensures one_list { (ls ms : List Lexeme) → IsTokensOf text.now ls →
+        IsTokensOf text.now ms → ls ≡ ms }
 {
     read(alloc, text)
 }

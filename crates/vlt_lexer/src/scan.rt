@@ -57,7 +57,9 @@ fn starts_name(c: char) -> bool
 
 /// The first character, and the text behind it.
 fn first(text: &str) -> Option<(char, &str)>
-    ensures split { MatchOption result ((text.now ≡ []) × (chars text.now ≡ [])) (λ x. (chars text.now ≡ x.0 ∷ chars x.1.now) × (text.now ≡ encode_utf8 x.0 ++ x.1.now)) }
+    ensures split { MatchOption result ((text.now ≡ []) ×
+        (chars text.now ≡ [])) (λ x. (chars text.now ≡ x.0 ∷ chars x.1.now) ×
+        (text.now ≡ encode_utf8 x.0 ++ x.1.now)) }
     ensures shorter { IfSome result (λ x. length x.1.now < length text.now) }
 {
     let mut chars = text.chars();
@@ -82,7 +84,8 @@ fn past(class: Class, text: &str) -> &str
 
 /// The text behind the name at its front, if it begins with one.
 fn past_name(text: &str) -> Option<&str>
-    ensures rest { MatchOption result (past_name (chars text.now) ≡ None) (λ rest. past_name (chars text.now) ≡ Some (chars rest.now)) }
+    ensures rest { MatchOption result (past_name (chars text.now) ≡ None)
+        (λ rest. past_name (chars text.now) ≡ Some (chars rest.now)) }
     ensures shorter { IfSome result (λ rest. length rest.now < length text.now) }
 {
     let (c, after) = first(text)?;
@@ -110,8 +113,10 @@ fn past_line(text: &str) -> &str
 
 /// The text behind these ASCII characters, if it begins with them.
 fn behind<'a>(text: &'a str, front: &[u8]) -> Option<&'a str>
-    ensures rest { MatchOption result (behind front.now (chars text.now) ≡ None) (λ rest. behind front.now (chars text.now) ≡ Some (chars rest.now)) }
-    ensures taken { IfSome result (λ rest. length rest.now + length front.now ≤ length text.now) }
+    ensures rest { MatchOption result (behind front.now (chars text.now) ≡ None)
+        (λ rest. behind front.now (chars text.now) ≡ Some (chars rest.now)) }
+    ensures taken { IfSome result (λ rest.
+        length rest.now + length front.now ≤ length text.now) }
 {
     let mut rest = text;
     for &want in front {
@@ -126,7 +131,8 @@ fn behind<'a>(text: &'a str, front: &[u8]) -> Option<&'a str>
 
 /// The text behind the first `*/`.
 fn past_close(text: &str) -> Option<&str>
-    ensures rest { MatchOption result (after_close (chars text.now) ≡ None) (λ rest. after_close (chars text.now) ≡ Some (chars rest.now)) }
+    ensures rest { MatchOption result (after_close (chars text.now) ≡ None)
+        (λ rest. after_close (chars text.now) ≡ Some (chars rest.now)) }
     ensures no_longer { IfSome result (λ rest. length rest.now ≤ length text.now) }
 {
     let mut rest = text;
@@ -180,7 +186,8 @@ fn first_spelled(words: &[Word], name: &[u8]) -> Option<Word>
 
 /// The first of the signs that begins the text, and the text behind it.
 fn first_begun<'a>(marks: &[Mark], text: &'a str) -> Option<(Mark, &'a str)>
-    ensures sign { MatchOption result (begun sign_text marks.now (chars text.now) ≡ None) (λ x. begun sign_text marks.now (chars text.now) ≡ Some (x.0, chars x.1.now)) }
+    ensures sign { MatchOption result (begun sign_text marks.now (chars text.now) ≡ None)
+        (λ x. begun sign_text marks.now (chars text.now) ≡ Some (x.0, chars x.1.now)) }
     ensures shorter { IfSome result (λ x. length x.1.now < length text.now) }
 {
     for &mark in marks {
@@ -202,7 +209,8 @@ fn keyword_or_name(name: &[u8]) -> TokenKind
 /// The longest sign at the front of the text, and the text behind it.
 #[tactic(auto, unfolding(crate::specs::Steps::sign_of))]
 fn sign(text: &str) -> Option<(Mark, &str)>
-    ensures sign { MatchOption result (sign_of (chars text.now) ≡ None) (λ x. sign_of (chars text.now) ≡ Some (x.0, chars x.1.now)) }
+    ensures sign { MatchOption result (sign_of (chars text.now) ≡ None)
+        (λ x. sign_of (chars text.now) ≡ Some (x.0, chars x.1.now)) }
     ensures shorter { IfSome result (λ x. length x.1.now < length text.now) }
 {
     first_begun(&Mark::ALL, text)
@@ -210,9 +218,11 @@ fn sign(text: &str) -> Option<(Mark, &str)>
 
 /// The text behind the comment at its front, if it begins with one.
 fn past_comment(text: &str) -> Result<Option<&str>, Fault>
-    ensures gap { IfOk result (λ found. MatchOption found (IsNoComment (chars text.now)) (λ rest. IsGap (chars text.now) (chars rest.now))) }
+    ensures gap { IfOk result (λ found. MatchOption found (IsNoComment (chars text.now))
+        (λ rest. IsGap (chars text.now) (chars rest.now))) }
     ensures open { IfErr result (λ fault. IsStuck fault (chars text.now)) }
-    ensures shorter { IfOk result (λ found. IfSome found (λ rest. length rest.now < length text.now)) }
+    ensures shorter { IfOk result (λ found. IfSome found
+        (λ rest. length rest.now < length text.now)) }
 {
     if let Some(inside) = behind(text, b"//") {
         return Ok(Some(past_line(inside)));
@@ -228,7 +238,8 @@ fn past_comment(text: &str) -> Result<Option<&str>, Fault>
 
 /// The number at the front of the text, which begins with a digit.
 fn number_token(text: &str) -> Result<Piece<'_>, Fault>
-    requires { (c : ℕ) × (cs : List ℕ) × (chars text.now ≡ c ∷ cs) × (is_digit c ≡ true) }
+    requires { (c : ℕ) × (cs : List ℕ) × (chars text.now ≡ c ∷ cs) ×
+        (is_digit c ≡ true) }
     ensures found { IfOk result (λ piece. IsFound (chars text.now) (Some piece)) }
     ensures stuck { IfErr result (λ fault. IsStuck fault (chars text.now)) }
     ensures shorter { IfOk result (λ piece. IsShorter (length text.now) (Some piece)) }

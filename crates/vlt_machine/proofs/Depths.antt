@@ -8,8 +8,8 @@ use Rattle.vlt_meaning.specs.Found.{Found}
 use Rattle.vlt_meaning.specs.Step.{Step, goes, jumps, leaves, ends, with_found, where_so, first_input, with_input, first_answer, with_answer, with_made, with_moved, with_released, with_dropped, fill, with_filled, deliver, left_block}
 use Rattle.vlt_meaning.specs.Operands.{with_operand, with_operands, with_case_packed}
 use Rattle.vlt_meaning.specs.Calls.{Binding, bindings, entries_after, with_names, back_in, with_returned}
-use Rattle.vlt_meaning.specs.Answers.{Piece, plain, new_in, nothing, piece, case_with}
-use Rattle.vlt_meaning.specs.Answers as answers
+use Rattle.vlt_meaning.specs.HostAnswers.{Piece, plain, new_in, nothing, piece, case_with}
+use Rattle.vlt_meaning.specs.HostAnswers as answers
 use Rattle.vlt_meaning.specs.Externals.{with_pieces, with_fresh, with_result, call_external}
 use Rattle.vlt_machine.specs.Bounds.{IsAt}
 use Rattle.vlt_meaning.specs.Run.{Setup, made_in, swapped, opened, does_simple, left_function, unfocused, focus_end}

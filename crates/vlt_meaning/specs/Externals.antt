@@ -11,7 +11,7 @@ use Rattle.vlt_meaning.specs.Found.{Found, ◌>>=◌, or_fault}
 use Rattle.vlt_meaning.specs.Objects.{with_state, changed, moved}
 use Rattle.vlt_meaning.specs.Step.{Step, with_found, with_objects, with_event, with_answer, with_moved, with_made, with_key, deliver}
 use Rattle.vlt_meaning.specs.Calls.{entries_after, caller_object, passed_objects, Binding, binding}
-use Rattle.vlt_meaning.specs.Answers.{Piece, plain, new_in, Result, nothing, piece, case_with, Answer, answer_of}
+use Rattle.vlt_meaning.specs.HostAnswers.{Piece, plain, new_in, Result, nothing, piece, case_with, Answer, answer_of}
 
 -- ---- what goes out, and what comes back
 

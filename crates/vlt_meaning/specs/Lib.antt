@@ -5,7 +5,7 @@ pub mod Values
 pub mod Step
 pub mod Operands
 pub mod Calls
-pub mod Answers
+pub mod HostAnswers
 pub mod Externals
 pub mod Run
 pub mod Does

@@ -9,7 +9,7 @@ use Rattle.vlt_meaning.specs.World.{Owner, Object, Frame, Outcome, held, is_out,
 use Rattle.vlt_meaning.specs.Found.{Found, ◌>>=◌, or_fault}
 use Rattle.vlt_meaning.specs.Objects.{changed, changed_in, with_owner, with_state, moved, owned_at, is_under, released}
 use Rattle.vlt_meaning.specs.Calls.{entries_after, caller_object, changed_if, handed_over, Binding, with_holders}
-use Rattle.vlt_meaning.specs.Answers.{Answer, answer_of}
+use Rattle.vlt_meaning.specs.HostAnswers.{Answer, answer_of}
 use Rattle.vlt_meaning.specs.Externals.{is_given, come_back, with_states, with_answered, entry_states, case_states, case_objects, Fitting, fitting}
 use Rattle.vlt_meaning_laws.specs.Keeping.{KeepsObjects}
 use Rattle.vlt_meaning_laws.proofs.Lists.{get_set_same, get_set_other, get_more, get_numbered}

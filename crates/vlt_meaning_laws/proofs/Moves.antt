@@ -10,8 +10,8 @@ use Rattle.vlt_meaning.specs.Objects.{with_owner, with_state, with_cell}
 use Rattle.vlt_meaning.specs.Step.{Step, goes, jumps, leaves, ends, with_found, where_so, with_objects, with_changed, with_event, spend, first_input, with_input, first_answer, with_answer, with_made, with_moved, with_released, with_dropped, fill, with_filled, deliver, then_do, then_turn, left_block}
 use Rattle.vlt_meaning.specs.Operands.{with_operand, with_operands, with_case_packed, with_case_opened, Case}
 use Rattle.vlt_meaning.specs.Calls.{Binding, bindings, entries_after, back_in, with_returned}
-use Rattle.vlt_meaning.specs.Answers.{Piece, plain, new_in, nothing, piece, case_with}
-use Rattle.vlt_meaning.specs.Answers as answers
+use Rattle.vlt_meaning.specs.HostAnswers.{Piece, plain, new_in, nothing, piece, case_with}
+use Rattle.vlt_meaning.specs.HostAnswers as answers
 use Rattle.vlt_meaning.specs.Externals.{or_bad, fitting, with_pieces, with_fresh, with_result, call_external}
 use Rattle.vlt_meaning.specs.Run.{Setup, Meaning, made_in, swapped, opened, does_simple, call_body, call_by, left_function, unfocused, focus_end, does_form, does_block, does_stmts, does_arm, less}
 use Rattle.vlt_meaning_laws.specs.Keeping.{KeepsObjects, world_after}

@@ -19,8 +19,10 @@ use vlt_rows::{FlowBlock, body_flow};
 
 /// The least annotation of a body that begins with the map.
 pub fn annotate_block(alloc: Global, start: Held, flow: &FlowBlock) -> Result<Annotation, Stop>
-    ensures listed { IfOk result (λ a. AreNotes (block_view flow.now) (map_of start) (map note_of a.maps)) }
-    ensures refused { OnRefused result ((a : Notes) → IsLocalBlock a None 0 (map_of start) (block_view flow.now) → ⊥) }
+    ensures listed { IfOk result (λ a. AreNotes (block_view flow.now) (map_of start)
+        (map note_of a.maps)) }
+    ensures refused { OnRefused result ((a : Notes) →
+        IsLocalBlock a None 0 (map_of start) (block_view flow.now) → ⊥) }
 {
     match least_maps(alloc, start, flow) {
         Ok(kept) => {
@@ -34,8 +36,10 @@ pub fn annotate_block(alloc: Global, start: Held, flow: &FlowBlock) -> Result<An
 
 /// The least annotation of a function's body; `Refused` where none holds in it.
 pub fn annotate(alloc: Global, p: &Program, f: &Func) -> Result<Annotation, Stop>
-    ensures least { IfOk result (λ a. IsLeast (program_of p.now) (func_of f.now) (map note_of a.maps)) }
-    ensures refused { OnRefused result ((a : Notes) → IsLocalIn (program_of p.now) (func_of f.now) a → ⊥) }
+    ensures least { IfOk result (λ a. IsLeast (program_of p.now) (func_of f.now)
+        (map note_of a.maps)) }
+    ensures refused { OnRefused result ((a : Notes) →
+        IsLocalIn (program_of p.now) (func_of f.now) a → ⊥) }
 {
     let flow = body_flow(alloc, p, f)?;
     let start = start_map_of(alloc, p, f)?;

@@ -69,7 +69,8 @@ fn note_join(
     passes: bool,
 ) -> Result<(), Memory>
     requires { IsLong kept.now (n + 1) }
-    ensures { OnOk result (IsNoted kept.now (if passes then a_join n ∷ [] else []) notes.old notes.new) }
+    ensures { OnOk result (IsNoted kept.now (if passes then a_join n ∷ [] else []) notes.old
+        notes.new) }
 {
     if !passes {
         return Ok(());
@@ -88,7 +89,8 @@ fn note_form(
     n: usize,
 ) -> Result<usize, Memory>
     requires room { IsLong kept.now (n + size (flow_view form.now)) }
-    ensures noted { OnOk result (IsNoted kept.now (noted n (flow_view form.now)) notes.old notes.new) }
+    ensures noted { OnOk result (IsNoted kept.now
+        (noted n (flow_view form.now)) notes.old notes.new) }
     ensures at { IfOk result (λ m. m ≡ n + size (flow_view form.now)) }
 {
     match form {
@@ -126,7 +128,8 @@ pub fn note_block(
     n: usize,
 ) -> Result<usize, Memory>
     requires room { IsLong kept.now (n + size_block (block_view block.now)) }
-    ensures noted { OnOk result (IsNoted kept.now (noted_block n (block_view block.now)) notes.old notes.new) }
+    ensures noted { OnOk result (IsNoted kept.now
+        (noted_block n (block_view block.now)) notes.old notes.new) }
     ensures at { IfOk result (λ m. m ≡ n + size_block (block_view block.now)) }
 {
     note_list(alloc, notes, kept, block.stmts.as_slice(), n)
@@ -141,7 +144,8 @@ fn note_list(
     n: usize,
 ) -> Result<usize, Memory>
     requires room { IsLong kept.now (n + size_stmts (stmts_view stmts.now)) }
-    ensures noted { OnOk result (IsNoted kept.now (noted_stmts n (stmts_view stmts.now)) notes.old notes.new) }
+    ensures noted { OnOk result (IsNoted kept.now
+        (noted_stmts n (stmts_view stmts.now)) notes.old notes.new) }
     ensures at { IfOk result (λ m. m ≡ n + size_stmts (stmts_view stmts.now)) }
 {
     let mut at = n;
@@ -160,7 +164,8 @@ fn note_arms(
     n: usize,
 ) -> Result<usize, Memory>
     requires room { IsLong kept.now (n + size_arms (arms_view arms.now)) }
-    ensures noted { OnOk result (IsNoted kept.now (noted_arms n (arms_view arms.now)) notes.old notes.new) }
+    ensures noted { OnOk result (IsNoted kept.now
+        (noted_arms n (arms_view arms.now)) notes.old notes.new) }
     ensures at { IfOk result (λ m. m ≡ n + size_arms (arms_view arms.now)) }
 {
     let mut at = n;

@@ -18,7 +18,8 @@ impl Answers {
 
     /// The numbers of the answer at an index, if there are so many.
     pub fn get(&self, index: usize) -> Option<&[i64]>
-        ensures { option_map (λ numbers. numbers.now) result ≡ slice_get (lists_of self.now) index }
+        ensures { option_map (λ numbers. numbers.now) result
+            ≡ slice_get (lists_of self.now) index }
     {
         let end = *self.ends.get(index)?;
         Some(&self.numbers[self.start(index) as usize..end as usize])

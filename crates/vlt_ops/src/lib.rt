@@ -164,7 +164,8 @@ fn fit(value: Option<i64>) -> Result<i64, TrapKind>
 
 /// A quotient or a remainder by `b`, where there is one.
 fn divide(b: i64, value: Option<i64>) -> Result<i64, TrapKind>
-    ensures { result ≡ ok_or value (if equals b (pos 0) then TrapKind.ZeroDivisor else TrapKind.Overflow) }
+    ensures { result ≡ ok_or value (if equals b
+        (pos 0) then TrapKind.ZeroDivisor else TrapKind.Overflow) }
 {
     value.ok_or(if b == 0 {
         TrapKind::ZeroDivisor

@@ -226,7 +226,8 @@ fn variant(alloc: Global, tokens: &[Token<'_>], at: usize) -> Result<(Decl, usiz
     ensures placed { Lies decl_of decl_at tokens.now at result }
     ensures right { Holds decl_of (IsDecl language) result }
     ensures moves { Advances tokens.now at result }
-    ensures place { Takes (machine.keyword Variant ∷ machine.behind_variant) tokens.now at result }
+    ensures place { Takes (machine.keyword Variant ∷ machine.behind_variant) tokens.now at
+        result }
 {
     let next = keyword(tokens, at, Word::Variant)?;
     let (name, next) = name(alloc, tokens, next)?;
@@ -267,7 +268,8 @@ fn function(alloc: Global, tokens: &[Token<'_>], at: usize) -> Result<(Decl, usi
     ensures placed { Lies decl_of decl_at tokens.now at result }
     ensures right { Holds decl_of (IsDecl language) result }
     ensures moves { Advances tokens.now at result }
-    ensures place { Takes (machine.head ∷ machine.block language.depth ∷ []) tokens.now at result }
+    ensures place { Takes (machine.head ∷ machine.block language.depth ∷ []) tokens.now at
+        result }
 {
     let (head, next) = head(alloc, tokens, at)?;
     let (body, next) = block(alloc, tokens, next, limit(DEPTH) as usize)?;

@@ -91,8 +91,8 @@ fn operator(tokens: &[Token<'_>], at: usize, least: u8) -> Option<Op>
     ensures spelled { IfSome result (λ op. left tokens.now at ≡ a_sign (sign_of op) ∷
         left tokens.now (at + 1)) }
     ensures arity { IfSome result (λ op. (row_of op).arity ≡ 2) }
-    ensures level { IfSome result (λ op. (least ≤ level op) × (next_level (ahead tokens.now at) ≡
-        level op)) }
+    ensures level { IfSome result (λ op. (least ≤ level op) ×
+        (next_level (ahead tokens.now at) ≡ level op)) }
     ensures none { IfNone result (next_level (ahead tokens.now at) < least) }
     ensures moves { IfSome result (λ op. Moves tokens.now at (at + 1)) }
     ensures begins { IfSome result (λ op. OperatorComes op tokens.now at) }

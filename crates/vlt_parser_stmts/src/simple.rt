@@ -91,8 +91,9 @@ fn put(alloc: Global, tokens: &[Token<'_>], at: usize) -> Result<(Stmt, usize), 
     ensures placed { Lies stmt_of stmt_at tokens.now at result }
     ensures right { Holds stmt_of IsSimple result }
     ensures moves { Advances tokens.now at result }
-    ensures place { Takes (machine.name ∷ machine.sign Dot ∷ machine.name ∷ machine.sign Assign ∷
-        machine.thing machine.an_expr ∷ machine.sign Semicolon ∷ []) tokens.now at result }
+    ensures place { Takes (machine.name ∷ machine.sign Dot ∷ machine.name ∷ machine.sign
+        Assign ∷ machine.thing machine.an_expr ∷ machine.sign Semicolon ∷ []) tokens.now at
+        result }
 {
     let (base, next) = name(alloc, tokens, at)?;
     let next = sign(tokens, next, Mark::Dot)?;
@@ -169,8 +170,8 @@ fn return_stmt(alloc: Global, tokens: &[Token<'_>], at: usize) -> Result<(Stmt, 
     ensures placed { Lies stmt_of stmt_at tokens.now at result }
     ensures right { Holds stmt_of IsSimple result }
     ensures moves { Advances tokens.now at result }
-    ensures place { Takes (machine.keyword Return ∷ machine.returned ∷ machine.sign Semicolon ∷
-        []) tokens.now at result }
+    ensures place { Takes (machine.keyword Return ∷ machine.returned ∷ machine.sign
+        Semicolon ∷ []) tokens.now at result }
 {
     let next = keyword(tokens, at, Word::Return)?;
     let (value, next) = returned(alloc, tokens, next)?;
@@ -185,8 +186,8 @@ fn release(alloc: Global, tokens: &[Token<'_>], at: usize) -> Result<(Stmt, usiz
     ensures placed { Lies stmt_of stmt_at tokens.now at result }
     ensures right { Holds stmt_of IsSimple result }
     ensures moves { Advances tokens.now at result }
-    ensures place { Takes (machine.keyword Release ∷ machine.name ∷ machine.sign Semicolon ∷ [])
-        tokens.now at result }
+    ensures place { Takes (machine.keyword Release ∷ machine.name ∷ machine.sign Semicolon ∷
+        []) tokens.now at result }
 {
     let next = keyword(tokens, at, Word::Release)?;
     let (variable, next) = name(alloc, tokens, next)?;
@@ -226,8 +227,9 @@ fn swap(alloc: Global, tokens: &[Token<'_>], at: usize) -> Result<(Stmt, usize),
     ensures placed { Lies stmt_of stmt_at tokens.now at result }
     ensures right { Holds stmt_of IsSimple result }
     ensures moves { Advances tokens.now at result }
-    ensures place { Takes (machine.keyword Swap ∷ machine.name ∷ machine.sign Dot ∷ machine.name ∷
-        machine.sign Comma ∷ machine.name ∷ machine.sign Semicolon ∷ []) tokens.now at result }
+    ensures place { Takes (machine.keyword Swap ∷ machine.name ∷ machine.sign Dot ∷
+        machine.name ∷ machine.sign Comma ∷ machine.name ∷ machine.sign Semicolon ∷ [])
+        tokens.now at result }
 {
     let next = keyword(tokens, at, Word::Swap)?;
     let (base, next) = name(alloc, tokens, next)?;

@@ -56,9 +56,9 @@ fn focus_head(
     ensures placed { IfOk result (λ x. Stands focus_at
         tokens.now at (name_of x.0.variable, name_of x.0.key, name_of x.0.alias) x.1) }
     ensures moves { Advances tokens.now at result }
-    ensures place { Takes (machine.keyword words.Focus ∷ machine.name ∷ machine.keyword words.As ∷
-        machine.keyword words.Tracked ∷ machine.sign OpenParen ∷ machine.name ∷
-        machine.sign CloseParen ∷ machine.name ∷ []) tokens.now at result }
+    ensures place { Takes (machine.keyword words.Focus ∷ machine.name ∷ machine.keyword words.As
+        ∷ machine.keyword words.Tracked ∷ machine.sign OpenParen ∷ machine.name ∷ machine.sign
+        CloseParen ∷ machine.name ∷ []) tokens.now at result }
 {
     let next = keyword(tokens, at, Word::Focus)?;
     let (variable, next) = name(alloc, tokens, next)?;

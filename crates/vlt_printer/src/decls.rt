@@ -66,14 +66,16 @@ impl Part for Case {
 }
 
 fn write_header(out: &mut Vec<u8>, params: &[HeaderParam]) -> Result<(), Memory>
-    ensures { OnOk result (out.new.items ≡ header_after out.old.items (map header_param_of params.now)) }
+    ensures { OnOk result (out.new.items ≡ header_after out.old.items
+        (map header_param_of params.now)) }
 {
     write_enclosed(out, b"<", b">", params)
 }
 
 /// Writes the line of the states in which an object is released, or nothing.
 fn write_release_line(out: &mut Vec<u8>, release: &Option<States>) -> Result<(), Memory>
-    ensures { OnOk result (out.new.items ≡ release_line_after out.old.items (option_map states_of release.now)) }
+    ensures { OnOk result (out.new.items ≡ release_line_after out.old.items
+        (option_map states_of release.now)) }
 {
     match release {
         Some(states) => {
@@ -87,7 +89,8 @@ fn write_release_line(out: &mut Vec<u8>, release: &Option<States>) -> Result<(),
 
 /// Writes the body of a struct.
 fn write_fields(out: &mut Vec<u8>, fields: &[Field], release: &Option<States>) -> Result<(), Memory>
-    ensures { OnOk result (out.new.items ≡ fields_after out.old.items (map field_of fields.now) (option_map states_of release.now)) }
+    ensures { OnOk result (out.new.items ≡ fields_after out.old.items (map field_of fields.now)
+        (option_map states_of release.now)) }
 {
     if fields.is_empty() && release.is_none() {
         return write_text(out, b"{}");
@@ -168,7 +171,8 @@ fn write_decl(alloc: Global, out: &mut Vec<u8>, decl: &Decl) -> Result<(), Memor
 
 /// Writes each declaration, its last line ended.
 pub fn write_decls(alloc: Global, out: &mut Vec<u8>, decls: &[Decl]) -> Result<(), Memory>
-    ensures { OnOk result (out.new.items ≡ each_after decl_line_after out.old.items (map decl_of decls.now)) }
+    ensures { OnOk result (out.new.items ≡ each_after decl_line_after out.old.items
+        (map decl_of decls.now)) }
 {
     for decl in decls {
         write_decl(alloc, out, decl)?;

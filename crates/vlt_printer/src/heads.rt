@@ -68,7 +68,8 @@ fn write_outcome(out: &mut Vec<u8>, outcome: &Outcome) -> Result<(), Memory>
 
 /// Writes the clause of a head, or nothing.
 fn write_clause(out: &mut Vec<u8>, clause: &Option<Items<Entry>>) -> Result<(), Memory>
-    ensures { OnOk result (out.new.items ≡ clause_after out.old.items (option_map (map entry_of) clause.now)) }
+    ensures { OnOk result (out.new.items ≡ clause_after out.old.items
+        (option_map (map entry_of) clause.now)) }
 {
     match clause {
         Some(entries) => {

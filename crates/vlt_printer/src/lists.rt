@@ -28,7 +28,8 @@ pub fn write_text(out: &mut Vec<u8>, text: &[u8]) -> Result<(), Memory>
 
 /// Writes one thing behind another.
 pub fn write_each<T: Part>(out: &mut Vec<u8>, items: &[T]) -> Result<(), Memory>
-    ensures { OnOk result (out.new.items ≡ each_after T.after out.old.items (map T.view items.now)) }
+    ensures { OnOk result (out.new.items ≡ each_after T.after out.old.items
+        (map T.view items.now)) }
 {
     for item in items {
         item.write(out)?;
@@ -42,7 +43,8 @@ pub fn write_separated<T: Part>(
     separator: &[u8],
     items: &[T],
 ) -> Result<(), Memory>
-    ensures { OnOk result (out.new.items ≡ separated_after separator.now T.after out.old.items (map T.view items.now)) }
+    ensures { OnOk result (out.new.items ≡ separated_after separator.now T.after out.old.items
+        (map T.view items.now)) }
 {
     let Some((first, rest)) = items.split_first() else {
         return Ok(());
@@ -57,7 +59,8 @@ pub fn write_separated<T: Part>(
 
 /// Writes things with commas between them.
 pub fn write_listed<T: Part>(out: &mut Vec<u8>, items: &[T]) -> Result<(), Memory>
-    ensures { OnOk result (out.new.items ≡ listed_after T.after out.old.items (map T.view items.now)) }
+    ensures { OnOk result (out.new.items ≡ listed_after T.after out.old.items
+        (map T.view items.now)) }
 {
     write_separated(out, b", ", items)
 }
@@ -69,7 +72,8 @@ pub fn write_enclosed<T: Part>(
     closing: &[u8],
     items: &[T],
 ) -> Result<(), Memory>
-    ensures { OnOk result (out.new.items ≡ enclosed_after opening.now closing.now T.after out.old.items (map T.view items.now)) }
+    ensures { OnOk result (out.new.items ≡ enclosed_after opening.now closing.now T.after
+        out.old.items (map T.view items.now)) }
 {
     if items.is_empty() {
         return Ok(());
@@ -81,7 +85,8 @@ pub fn write_enclosed<T: Part>(
 
 /// Writes such a list between braces on one line.
 pub fn write_braced<T: Part>(out: &mut Vec<u8>, items: &[T]) -> Result<(), Memory>
-    ensures { OnOk result (out.new.items ≡ braced_after T.after out.old.items (map T.view items.now)) }
+    ensures { OnOk result (out.new.items ≡ braced_after T.after out.old.items
+        (map T.view items.now)) }
 {
     if items.is_empty() {
         return write_text(out, b"{}");

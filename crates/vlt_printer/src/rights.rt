@@ -43,7 +43,8 @@ pub fn write_call(out: &mut Vec<u8>, call: &Call) -> Result<(), Memory>
 
 /// Writes the variable of an object that adopts, or nothing.
 fn write_owner(out: &mut Vec<u8>, owner: &Option<Name>) -> Result<(), Memory>
-    ensures { OnOk result (out.new.items ≡ owner_after out.old.items (option_map name_of owner.now)) }
+    ensures { OnOk result (out.new.items ≡ owner_after out.old.items
+        (option_map name_of owner.now)) }
 {
     match owner {
         Some(owner) => {
@@ -92,7 +93,8 @@ pub fn write_right(out: &mut Vec<u8>, right: &Right) -> Result<(), Memory>
 
 /// Writes what is returned with a space before it, or nothing.
 pub fn write_returned(out: &mut Vec<u8>, returned: &Returned) -> Result<(), Memory>
-    ensures { OnOk result (out.new.items ≡ returned_after out.old.items (returned_of returned.now)) }
+    ensures { OnOk result (out.new.items ≡ returned_after out.old.items
+        (returned_of returned.now)) }
 {
     match returned {
         Returned::Nothing => Ok(()),

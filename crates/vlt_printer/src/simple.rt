@@ -14,7 +14,9 @@ use vlt_syntax::{Expr, Name, Right, Ty};
 
 /// `x = 1;`
 pub fn write_assign(out: &mut Vec<u8>, name: &Name, value: &Right) -> Result<(), Memory>
-    ensures { OnOk result (out.new.items ≡ right_after (name_after out.old.items (name_of name.now) ++ codes " = ") (right_of value.now) ++ codes ";") }
+    ensures { OnOk result (out.new.items ≡ right_after
+        (name_after out.old.items (name_of name.now) ++ codes " = ")
+        (right_of value.now) ++ codes ";") }
 {
     write_name(out, name)?;
     write_text(out, b" = ")?;
@@ -24,7 +26,9 @@ pub fn write_assign(out: &mut Vec<u8>, name: &Name, value: &Right) -> Result<(),
 
 /// `int x = 1;`
 pub fn write_declare(out: &mut Vec<u8>, ty: &Ty, name: &Name, value: &Right) -> Result<(), Memory>
-    ensures { OnOk result (out.new.items ≡ right_after (name_after (ty_after out.old.items (ty_of ty.now) ++ codes " ") (name_of name.now) ++ codes " = ") (right_of value.now) ++ codes ";") }
+    ensures { OnOk result (out.new.items ≡ right_after
+        (name_after (ty_after out.old.items (ty_of ty.now) ++ codes " ")
+        (name_of name.now) ++ codes " = ") (right_of value.now) ++ codes ";") }
 {
     write_ty(out, ty)?;
     write_text(out, b" ")?;
@@ -33,7 +37,9 @@ pub fn write_declare(out: &mut Vec<u8>, ty: &Ty, name: &Name, value: &Right) -> 
 
 /// `x.f = 1;`
 pub fn write_put(out: &mut Vec<u8>, base: &Name, field: &Name, value: &Expr) -> Result<(), Memory>
-    ensures { OnOk result (out.new.items ≡ expr_after (name_after (name_after out.old.items (name_of base.now) ++ codes ".") (name_of field.now) ++ codes " = ") (expr_of value.now) ++ codes ";") }
+    ensures { OnOk result (out.new.items ≡ expr_after
+        (name_after (name_after out.old.items (name_of base.now) ++ codes ".")
+        (name_of field.now) ++ codes " = ") (expr_of value.now) ++ codes ";") }
 {
     write_name(out, base)?;
     write_text(out, b".")?;
@@ -45,7 +51,8 @@ pub fn write_put(out: &mut Vec<u8>, base: &Name, field: &Name, value: &Expr) -> 
 
 /// `print(1);`
 pub fn write_print(out: &mut Vec<u8>, value: &Expr) -> Result<(), Memory>
-    ensures { OnOk result (out.new.items ≡ expr_after (out.old.items ++ codes "print(") (expr_of value.now) ++ codes ");") }
+    ensures { OnOk result (out.new.items ≡ expr_after
+        (out.old.items ++ codes "print(") (expr_of value.now) ++ codes ");") }
 {
     write_text(out, b"print(")?;
     write_expr(out, value)?;
@@ -54,7 +61,8 @@ pub fn write_print(out: &mut Vec<u8>, value: &Expr) -> Result<(), Memory>
 
 /// `release x;`
 pub fn write_release(out: &mut Vec<u8>, name: &Name) -> Result<(), Memory>
-    ensures { OnOk result (out.new.items ≡ name_after (out.old.items ++ codes "release ") (name_of name.now) ++ codes ";") }
+    ensures { OnOk result (out.new.items ≡ name_after (out.old.items ++ codes "release ")
+        (name_of name.now) ++ codes ";") }
 {
     write_text(out, b"release ")?;
     write_name(out, name)?;
@@ -63,7 +71,9 @@ pub fn write_release(out: &mut Vec<u8>, name: &Name) -> Result<(), Memory>
 
 /// `become x@s;`
 pub fn write_become(out: &mut Vec<u8>, variable: &Name, state: &Name) -> Result<(), Memory>
-    ensures { OnOk result (out.new.items ≡ name_after (name_after (out.old.items ++ codes "become ") (name_of variable.now) ++ codes "@") (name_of state.now) ++ codes ";") }
+    ensures { OnOk result (out.new.items ≡ name_after
+        (name_after (out.old.items ++ codes "become ") (name_of variable.now) ++ codes "@")
+        (name_of state.now) ++ codes ";") }
 {
     write_text(out, b"become ")?;
     write_name(out, variable)?;
@@ -79,7 +89,10 @@ pub fn write_swap(
     field: &Name,
     variable: &Name,
 ) -> Result<(), Memory>
-    ensures { OnOk result (out.new.items ≡ name_after (name_after (name_after (out.old.items ++ codes "swap ") (name_of base.now) ++ codes ".") (name_of field.now) ++ codes ", ") (name_of variable.now) ++ codes ";") }
+    ensures { OnOk result (out.new.items ≡ name_after
+        (name_after (name_after (out.old.items ++ codes "swap ")
+        (name_of base.now) ++ codes ".") (name_of field.now) ++ codes ", ")
+        (name_of variable.now) ++ codes ";") }
 {
     write_text(out, b"swap ")?;
     write_name(out, base)?;
@@ -92,7 +105,9 @@ pub fn write_swap(
 
 /// `open x into (v, w);`
 pub fn write_open(out: &mut Vec<u8>, variable: &Name, parts: &[Name]) -> Result<(), Memory>
-    ensures { OnOk result (out.new.items ≡ listed_after name_after (name_after (out.old.items ++ codes "open ") (name_of variable.now) ++ codes " into (") (names_of parts.now) ++ codes ");") }
+    ensures { OnOk result (out.new.items ≡ listed_after name_after
+        (name_after (out.old.items ++ codes "open ") (name_of variable.now) ++ codes " into (")
+        (names_of parts.now) ++ codes ");") }
 {
     write_text(out, b"open ")?;
     write_name(out, variable)?;
@@ -108,7 +123,10 @@ pub fn write_focus(
     key: &Name,
     alias: &Name,
 ) -> Result<(), Memory>
-    ensures { OnOk result (out.new.items ≡ name_after (name_after (name_after (out.old.items ++ codes "focus ") (name_of variable.now) ++ codes " as tracked(") (name_of key.now) ++ codes ") ") (name_of alias.now) ++ codes " ") }
+    ensures { OnOk result (out.new.items ≡ name_after
+        (name_after (name_after (out.old.items ++ codes "focus ")
+        (name_of variable.now) ++ codes " as tracked(") (name_of key.now) ++ codes ") ")
+        (name_of alias.now) ++ codes " ") }
 {
     write_text(out, b"focus ")?;
     write_name(out, variable)?;

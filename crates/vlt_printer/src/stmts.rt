@@ -35,7 +35,8 @@ pub fn write_block(
     indent: &[u8],
     block: &Block,
 ) -> Result<(), Memory>
-    ensures { OnOk result (out.new.items ≡ block_after indent.now out.old.items (block_of block.now)) }
+    ensures { OnOk result (out.new.items ≡ block_after indent.now out.old.items
+        (block_of block.now)) }
 {
     if block.stmts.as_slice().is_empty() {
         return write_text(out, b"{}");
@@ -55,7 +56,8 @@ fn write_stmts(
     indent: &[u8],
     stmts: &[Stmt],
 ) -> Result<(), Memory>
-    ensures { OnOk result (out.new.items ≡ stmts_after indent.now out.old.items (stmts_of stmts.now)) }
+    ensures { OnOk result (out.new.items ≡ stmts_after indent.now out.old.items
+        (stmts_of stmts.now)) }
 {
     for stmt in stmts {
         write_text(out, indent)?;
@@ -68,7 +70,8 @@ fn write_stmts(
 /// Writes a statement, from behind its indentation to before its line feed.
 #[cycle(statements)]
 fn write_stmt(alloc: Global, out: &mut Vec<u8>, indent: &[u8], stmt: &Stmt) -> Result<(), Memory>
-    ensures { OnOk result (out.new.items ≡ stmt_after indent.now out.old.items (stmt_of stmt.now)) }
+    ensures { OnOk result (out.new.items ≡ stmt_after indent.now out.old.items
+        (stmt_of stmt.now)) }
 {
     match stmt {
         Stmt::Declare {
@@ -159,7 +162,8 @@ fn write_else(
     indent: &[u8],
     otherwise: &Else,
 ) -> Result<(), Memory>
-    ensures { OnOk result (out.new.items ≡ else_after indent.now out.old.items (else_of otherwise.now)) }
+    ensures { OnOk result (out.new.items ≡ else_after indent.now out.old.items
+        (else_of otherwise.now)) }
 {
     match otherwise {
         Else::Nothing => Ok(()),
@@ -183,7 +187,9 @@ fn write_switch(
     variable: &Name,
     arms: &[Arm],
 ) -> Result<(), Memory>
-    ensures { (at : Span) → OnOk result (out.new.items ≡ stmt_after indent.now out.old.items (a_switch (name_of variable.now) (arms_of arms.now) at)) }
+    ensures { (at : Span) → OnOk result (out.new.items
+        ≡ stmt_after indent.now out.old.items
+        (a_switch (name_of variable.now) (arms_of arms.now) at)) }
 {
     write_text(out, b"switch (")?;
     write_name(out, variable)?;
@@ -200,7 +206,8 @@ fn write_switch(
 /// Writes each arm on lines of its own.
 #[cycle(statements)]
 fn write_arms(alloc: Global, out: &mut Vec<u8>, indent: &[u8], arms: &[Arm]) -> Result<(), Memory>
-    ensures { OnOk result (out.new.items ≡ arms_after indent.now out.old.items (arms_of arms.now)) }
+    ensures { OnOk result (out.new.items ≡ arms_after indent.now out.old.items
+        (arms_of arms.now)) }
 {
     for arm in arms {
         write_text(out, indent)?;

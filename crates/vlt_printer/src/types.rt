@@ -54,7 +54,8 @@ pub fn write_name(out: &mut Vec<u8>, name: &Name) -> Result<(), Memory>
 
 /// Writes `@` and a name, or nothing.
 pub fn write_at_name(out: &mut Vec<u8>, name: &Option<Name>) -> Result<(), Memory>
-    ensures { OnOk result (out.new.items ≡ at_name_after out.old.items (option_map name_of name.now)) }
+    ensures { OnOk result (out.new.items ≡ at_name_after out.old.items
+        (option_map name_of name.now)) }
 {
     match name {
         Some(name) => {
@@ -76,7 +77,8 @@ pub fn write_states(out: &mut Vec<u8>, states: &States) -> Result<(), Memory>
 
 /// Writes `@` and states, or nothing.
 pub fn write_at_states(out: &mut Vec<u8>, states: &Option<States>) -> Result<(), Memory>
-    ensures { OnOk result (out.new.items ≡ at_states_after out.old.items (option_map states_of states.now)) }
+    ensures { OnOk result (out.new.items ≡ at_states_after out.old.items
+        (option_map states_of states.now)) }
 {
     match states {
         Some(states) => {

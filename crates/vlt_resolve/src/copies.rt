@@ -188,7 +188,8 @@ pub fn func_of_head(
     body: Items<vlt_core::Stmt>,
     end: u32,
 ) -> Result<Func, AllocError>
-    ensures { IfOk result (λ f. f ≡ record head.now { keys = keys; vars = vars; body = body; end = end }) }
+    ensures { IfOk result (λ f. f ≡ record head.now
+        { keys = keys; vars = vars; body = body; end = end }) }
 {
     Ok(Func {
         name: copy_bytes(alloc, &head.name)?,

@@ -58,7 +58,8 @@ fn add_key_names<'k>(
 }
 
 fn add_var_names<'k>(scope: &mut Scope<'k>, vars: &'k [VarDecl]) -> Result<(), AllocError>
-    ensures { OnOk result (scope_seen scope.new ≡ e.with_var_names (scope_seen scope.old) 0 (map var_of vars.now)) }
+    ensures { OnOk result (scope_seen scope.new
+        ≡ e.with_var_names (scope_seen scope.old) 0 (map var_of vars.now)) }
 {
     for (i, var) in vars.iter().enumerate() {
         let Ok(number) = u32::try_from(i) else {
@@ -95,7 +96,8 @@ fn body_scope<'k>(alloc: Heap, head: &'k Func) -> Result<Scope<'k>, AllocError>
 
 #[tactic(auto, using(vlt_kinds_names::proofs::Least::least_of_both), unfolding(crate::specs::Elaboration::head_refused))]
 fn check_head(head: &Func, at: u32, found: &mut Found)
-    ensures { found.new.least ≡ least_from found.old.least (e.head_refused (func_of head.now) at) }
+    ensures { found.new.least ≡ least_from found.old.least
+        (e.head_refused (func_of head.now) at) }
 {
     found.add_if(head.keys.len() > 256, TOO_MANY_KEYS, at);
     found.add_if(head.vars.len() > 256, TOO_MANY_VARIABLES, at);
@@ -103,7 +105,8 @@ fn check_head(head: &Func, at: u32, found: &mut Found)
 
 fn head_passes(head: &Func, at: u32) -> Result<(), Stop>
     ensures ok { OnOk result (least (e.head_refused (func_of head.now) at) ≡ None) }
-    ensures refused { OnRefused result (λ r. least (e.head_refused (func_of head.now) at) ≡ Some r) }
+    ensures refused { OnRefused result (λ r. least (e.head_refused (func_of head.now) at)
+        ≡ Some r) }
 {
     let mut found = Found { least: None };
     check_head(head, at, &mut found);
@@ -113,7 +116,8 @@ fn head_passes(head: &Func, at: u32) -> Result<(), Stop>
 
 #[tactic(auto, unfolding(crate::specs::Elaboration::end_refused))]
 fn check_end(head: &Func, body: &Block, found: &mut Found)
-    ensures { found.new.least ≡ least_from found.old.least (e.end_refused (func_of head.now) (tree.block_of body.now)) }
+    ensures { found.new.least ≡ least_from found.old.least
+        (e.end_refused (func_of head.now) (tree.block_of body.now)) }
 {
     found.add_if(
         head.result.is_some() && !block_ends(body),
@@ -123,8 +127,10 @@ fn check_end(head: &Func, body: &Block, found: &mut Found)
 }
 
 fn end_passes(head: &Func, body: &Block) -> Result<(), Stop>
-    ensures ok { OnOk result (least (e.end_refused (func_of head.now) (tree.block_of body.now)) ≡ None) }
-    ensures refused { OnRefused result (λ r. least (e.end_refused (func_of head.now) (tree.block_of body.now)) ≡ Some r) }
+    ensures ok { OnOk result (least (e.end_refused (func_of head.now) (tree.block_of body.now))
+        ≡ None) }
+    ensures refused { OnRefused result (λ r.
+        least (e.end_refused (func_of head.now) (tree.block_of body.now)) ≡ Some r) }
 {
     let mut found = Found { least: None };
     check_end(head, body, &mut found);
@@ -134,7 +140,8 @@ fn end_passes(head: &Func, body: &Block) -> Result<(), Stop>
 
 /// A body that doesn't end has a last statement at its closing brace.
 fn add_last(body: &Block, stmts: &mut Items<vlt_core::Stmt>) -> Result<(), AllocError>
-    ensures { OnOk result (map stmt_of stmts.new ≡ map stmt_of stmts.old ++ e.last_return (tree.block_of body.now)) }
+    ensures { OnOk result (map stmt_of stmts.new
+        ≡ map stmt_of stmts.old ++ e.last_return (tree.block_of body.now)) }
 {
     if !block_ends(body) {
         stmts.push(vlt_core::Stmt {
@@ -146,8 +153,8 @@ fn add_last(body: &Block, stmts: &mut Items<vlt_core::Stmt>) -> Result<(), Alloc
 }
 
 fn walk_body(alloc: Heap, kinds: &Kinds<'_>, head: &Func, body: &Block) -> Result<Func, Stop>
-    ensures ok { IfOk result (λ f. e.walk_body (kinds_seen kinds.now) (func_of head.now) (tree.block_of body.now)
-        ≡ Ok (func_of f)) }
+    ensures ok { IfOk result (λ f. e.walk_body (kinds_seen kinds.now) (func_of head.now)
+        (tree.block_of body.now) ≡ Ok (func_of f)) }
     ensures refused { OnRefused result (λ r. e.walk_body (kinds_seen kinds.now) (func_of head.now)
         (tree.block_of body.now) ≡ Err r) }
 {
@@ -181,10 +188,11 @@ fn walk_defined(
     body: &Block,
     at: u32,
 ) -> Result<Func, Stop>
-    ensures ok { IfOk result (λ f. e.walk_defined (kinds_seen kinds.now) (func_of head.now) (tree.block_of body.now) at
-        ≡ Ok (func_of f)) }
-    ensures refused { OnRefused result (λ r. e.walk_defined (kinds_seen kinds.now) (func_of head.now)
-        (tree.block_of body.now) at ≡ Err r) }
+    ensures ok { IfOk result (λ f. e.walk_defined (kinds_seen kinds.now) (func_of head.now)
+        (tree.block_of body.now) at ≡ Ok (func_of f)) }
+    ensures refused { OnRefused result (λ r.
+        e.walk_defined (kinds_seen kinds.now) (func_of head.now) (tree.block_of body.now) at
+        ≡ Err r) }
 {
     head_passes(head, at)?;
     walk_body(alloc, kinds, head, body)
@@ -192,10 +200,11 @@ fn walk_defined(
 
 fn walk_function(alloc: Heap, kinds: &Kinds<'_>, head: &Func, decl: &Decl) -> Result<Func, Stop>
     requires { e.is_function (tree.decl_of decl.now) ≡ true }
-    ensures ok { IfOk result (λ f. e.walk_function (kinds_seen kinds.now) (func_of head.now) (tree.decl_of decl.now)
-        ≡ Ok (func_of f)) }
-    ensures refused { OnRefused result (λ r. e.walk_function (kinds_seen kinds.now) (func_of head.now)
-        (tree.decl_of decl.now) ≡ Err r) }
+    ensures ok { IfOk result (λ f. e.walk_function (kinds_seen kinds.now) (func_of head.now)
+        (tree.decl_of decl.now) ≡ Ok (func_of f)) }
+    ensures refused { OnRefused result (λ r.
+        e.walk_function (kinds_seen kinds.now) (func_of head.now) (tree.decl_of decl.now)
+        ≡ Err r) }
 {
     match decl {
         Decl::Function { body, at, .. } => walk_defined(alloc, kinds, head, body, at.from),
@@ -212,9 +221,10 @@ fn is_function(decl: &Decl) -> bool
 
 /// The functions in the order of the text.
 pub fn walk_decls(alloc: Heap, kinds: &Kinds<'_>, decls: &[Decl]) -> Result<Items<Func>, Stop>
-    ensures ok { IfOk result (λ fs. e.walk_decls (kinds_seen kinds.now) (map func_of kinds.now.heads)
-        (map tree.decl_of decls.now) ≡ Ok (map func_of fs)) }
-    ensures refused { OnRefused result (λ r. e.walk_decls (kinds_seen kinds.now) (map func_of kinds.now.heads)
+    ensures ok { IfOk result (λ fs. e.walk_decls (kinds_seen kinds.now)
+        (map func_of kinds.now.heads) (map tree.decl_of decls.now) ≡ Ok (map func_of fs)) }
+    ensures refused { OnRefused result (λ r.
+        e.walk_decls (kinds_seen kinds.now) (map func_of kinds.now.heads)
         (map tree.decl_of decls.now) ≡ Err r) }
 {
     let heads = kinds.heads.as_slice();

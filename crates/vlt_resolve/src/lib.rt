@@ -26,8 +26,10 @@ use vlt_resolve_exprs::limits::{TOO_MANY_KEYS, TOO_MANY_VARIABLES};
 use vlt_syntax::Tree;
 
 fn program(alloc: Heap, tree: &Tree, kinds: &Kinds<'_>) -> Result<Program, Stop>
-    ensures ok { IfOk result (λ p. walk_tree (tree_of tree.now) (kinds_seen kinds.now) ≡ Ok (program_of p)) }
-    ensures refused { OnRefused result (λ r. walk_tree (tree_of tree.now) (kinds_seen kinds.now) ≡ Err r) }
+    ensures ok { IfOk result (λ p. walk_tree (tree_of tree.now) (kinds_seen kinds.now)
+        ≡ Ok (program_of p)) }
+    ensures refused { OnRefused result (λ r. walk_tree (tree_of tree.now) (kinds_seen kinds.now)
+        ≡ Err r) }
 {
     let fns = functions::walk_decls(alloc, kinds, tree.decls.as_slice())?;
     let sets = copies::copy_sets(alloc, kinds.file.sets.as_slice())?;
@@ -59,8 +61,10 @@ fn error_of(refusal: Refusal) -> ElabError
 /// The bodies are read in the order of the text, and the first refusal is told. At one place limits go before rules, and
 /// lesser numbers before greater ones.
 pub fn elaborate(alloc: Heap, tree: &Tree, kinds: &Kinds<'_>) -> Result<Program, ElabError>
-    ensures ok { IfOk result (λ p. elaborated (tree_of tree.now) (kinds_seen kinds.now) ≡ Ok (program_of p)) }
-    ensures refused { OnTold result (λ t. elaborated (tree_of tree.now) (kinds_seen kinds.now) ≡ Err t) }
+    ensures ok { IfOk result (λ p. elaborated (tree_of tree.now) (kinds_seen kinds.now)
+        ≡ Ok (program_of p)) }
+    ensures refused { OnTold result (λ t. elaborated (tree_of tree.now) (kinds_seen kinds.now)
+        ≡ Err t) }
 {
     match program(alloc, tree, kinds) {
         Ok(made) => Ok(made),

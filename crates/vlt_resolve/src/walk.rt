@@ -93,9 +93,11 @@ fn walk_simple<'a>(
     found: Found,
     stmt: &'a Stmt,
 ) -> Result<Forms, Stop>
-    ensures ok { IfOk result (λ fs. w.walk_simple (kinds_seen kinds.now) (around_seen around.entry) (scope_seen scope.old)
-        found.least (tree.stmt_of stmt.now) ≡ Ok (forms_of fs, scope_seen scope.new)) }
-    ensures refused { OnRefused result (λ r. w.walk_simple (kinds_seen kinds.now) (around_seen around.entry)
+    ensures ok { IfOk result (λ fs. w.walk_simple (kinds_seen kinds.now)
+        (around_seen around.entry) (scope_seen scope.old) found.least (tree.stmt_of stmt.now)
+        ≡ Ok (forms_of fs, scope_seen scope.new)) }
+    ensures refused { OnRefused result (λ r.
+        w.walk_simple (kinds_seen kinds.now) (around_seen around.entry)
         (scope_seen scope.old) found.least (tree.stmt_of stmt.now) ≡ Err r) }
 {
     let mut found = found;
@@ -111,11 +113,14 @@ fn tested(
     found: Found,
     condition: &Expr,
 ) -> Result<vlt_core::Expr, Stop>
-    ensures ok { IfOk result (λ c. (least_from found.least (e.wanted_refused (kinds_seen kinds.now) (scope_seen scope.now)
-        (Some core.bool) (tree.expr_of condition.now)) ≡ None)
-        × (core_view.expr_of c ≡ e.core_expr (kinds_seen kinds.now) (scope_seen scope.now) (tree.expr_of condition.now))) }
-    ensures refused { OnRefused result (λ r. least_from found.least (e.wanted_refused (kinds_seen kinds.now)
-        (scope_seen scope.now) (Some core.bool) (tree.expr_of condition.now)) ≡ Some r) }
+    ensures ok { IfOk result (λ c. (least_from found.least
+        (e.wanted_refused (kinds_seen kinds.now) (scope_seen scope.now) (Some core.bool)
+        (tree.expr_of condition.now)) ≡ None) ×
+        (core_view.expr_of c ≡ e.core_expr (kinds_seen kinds.now) (scope_seen scope.now)
+        (tree.expr_of condition.now))) }
+    ensures refused { OnRefused result (λ r.
+        least_from found.least (e.wanted_refused (kinds_seen kinds.now) (scope_seen scope.now)
+        (Some core.bool) (tree.expr_of condition.now)) ≡ Some r) }
 {
     let mut found = found;
     check_wanted(alloc, kinds, scope, &Some(Ty::Bool), condition, &mut found)?;
@@ -134,13 +139,15 @@ fn switched(
     arms: &[Arm],
     at: u32,
 ) -> Result<Option<Ty>, Stop>
-    ensures ok { IfOk result (λ t. (least_from found.least (sw.switch_refused (kinds_seen kinds.now)
-        (var_ty (scope_seen scope.now) (tree.name_of variable.now).text) (tree.name_of variable.now)
-        (sw.arm_names (tree.arms_of arms.now)) at) ≡ None)
-        × (option_map ty_of t ≡ var_ty (scope_seen scope.now) (tree.name_of variable.now).text)) }
-    ensures refused { OnRefused result (λ r. least_from found.least (sw.switch_refused (kinds_seen kinds.now)
-        (var_ty (scope_seen scope.now) (tree.name_of variable.now).text) (tree.name_of variable.now)
-        (sw.arm_names (tree.arms_of arms.now)) at) ≡ Some r) }
+    ensures ok { IfOk result (λ t. (least_from found.least
+        (sw.switch_refused (kinds_seen kinds.now)
+        (var_ty (scope_seen scope.now) (tree.name_of variable.now).text)
+        (tree.name_of variable.now) (sw.arm_names (tree.arms_of arms.now)) at) ≡ None) ×
+        (option_map ty_of t ≡ var_ty (scope_seen scope.now) (tree.name_of variable.now).text)) }
+    ensures refused { OnRefused result (λ r.
+        least_from found.least (sw.switch_refused (kinds_seen kinds.now)
+        (var_ty (scope_seen scope.now) (tree.name_of variable.now).text)
+        (tree.name_of variable.now) (sw.arm_names (tree.arms_of arms.now)) at) ≡ Some r) }
 {
     let mut found = found;
     let ty = known_ty(alloc, scope, variable)?;
@@ -169,12 +176,15 @@ fn focused<'a>(
     key: &'a Name,
     alias: &'a Name,
 ) -> Result<(), Stop>
-    ensures ok { OnOk result ((least_from found.least (sw.focus_refused (kinds_seen kinds.now) (scope_seen scope.old)
-        (option_map ty_of ty.now) (tree.name_of variable.now) (tree.name_of key.now) (tree.name_of alias.now)) ≡ None)
-        × (scope_seen scope.new ≡ sw.bound_scope (scope_seen scope.old) (option_map ty_of ty.now) (tree.name_of key.now)
+    ensures ok { OnOk result ((least_from found.least
+        (sw.focus_refused (kinds_seen kinds.now) (scope_seen scope.old)
+        (option_map ty_of ty.now) (tree.name_of variable.now) (tree.name_of key.now)
+        (tree.name_of alias.now)) ≡ None) × (scope_seen scope.new
+        ≡ sw.bound_scope (scope_seen scope.old) (option_map ty_of ty.now) (tree.name_of key.now)
         (tree.name_of alias.now))) }
-    ensures refused { OnRefused result (λ r. least_from found.least (sw.focus_refused (kinds_seen kinds.now)
-        (scope_seen scope.old) (option_map ty_of ty.now) (tree.name_of variable.now) (tree.name_of key.now)
+    ensures refused { OnRefused result (λ r.
+        least_from found.least (sw.focus_refused (kinds_seen kinds.now) (scope_seen scope.old)
+        (option_map ty_of ty.now) (tree.name_of variable.now) (tree.name_of key.now)
         (tree.name_of alias.now)) ≡ Some r) }
 {
     let mut found = found;
@@ -192,13 +202,17 @@ fn bound_arm<'a>(
     tick: &Name,
     names: &'a [Name],
 ) -> Result<Items<VarId>, Stop>
-    ensures ok { IfOk result (λ vs. (least_from None (sw.arm_refused (kinds_seen kinds.now) (scope_seen scope.old)
-        (option_map case_seen case.now) (tree.name_of tick.now) (tree.names_of names.now)) ≡ None)
-        × (scope_seen scope.new ≡ sw.arm_scope (scope_seen scope.old) (option_map case_seen case.now) (tree.names_of names.now))
-        × (core_view.vars_of vs ≡ sw.arm_numbers (scope_seen scope.old) (option_map case_seen case.now)
-        (tree.names_of names.now))) }
-    ensures refused { OnRefused result (λ r. least_from None (sw.arm_refused (kinds_seen kinds.now) (scope_seen scope.old)
-        (option_map case_seen case.now) (tree.name_of tick.now) (tree.names_of names.now)) ≡ Some r) }
+    ensures ok { IfOk result (λ vs. (least_from None
+        (sw.arm_refused (kinds_seen kinds.now) (scope_seen scope.old)
+        (option_map case_seen case.now) (tree.name_of tick.now) (tree.names_of names.now))
+        ≡ None) × (scope_seen scope.new ≡ sw.arm_scope (scope_seen scope.old)
+        (option_map case_seen case.now) (tree.names_of names.now)) ×
+        (core_view.vars_of vs ≡ sw.arm_numbers (scope_seen scope.old)
+        (option_map case_seen case.now) (tree.names_of names.now))) }
+    ensures refused { OnRefused result (λ r.
+        least_from None (sw.arm_refused (kinds_seen kinds.now) (scope_seen scope.old)
+        (option_map case_seen case.now) (tree.name_of tick.now) (tree.names_of names.now))
+        ≡ Some r) }
 {
     let mut found = Found { least: None };
     let vars = bind_arm(alloc, kinds, scope, case, tick, names, &mut found)?;
@@ -247,9 +261,11 @@ pub fn walk_stmts<'a>(
     scope: &mut Scope<'a>,
     stmts: &'a [Stmt],
 ) -> Result<Items<vlt_core::Stmt>, Stop>
-    ensures ok { IfOk result (λ r. w.walk_stmts (kinds_seen kinds.now) (around_seen around.entry) (scope_seen scope.old)
-        false (tree.stmts_of stmts.now) ≡ Ok (map core_view.stmt_of r, scope_seen scope.new)) }
-    ensures refused { OnRefused result (λ r. w.walk_stmts (kinds_seen kinds.now) (around_seen around.entry)
+    ensures ok { IfOk result (λ r. w.walk_stmts (kinds_seen kinds.now)
+        (around_seen around.entry) (scope_seen scope.old) false (tree.stmts_of stmts.now)
+        ≡ Ok (map core_view.stmt_of r, scope_seen scope.new)) }
+    ensures refused { OnRefused result (λ r.
+        w.walk_stmts (kinds_seen kinds.now) (around_seen around.entry)
         (scope_seen scope.old) false (tree.stmts_of stmts.now) ≡ Err r) }
 {
     let mut made = Items::new(alloc);
@@ -272,9 +288,11 @@ fn walk_stmt<'a>(
     found: Found,
     stmt: &'a Stmt,
 ) -> Result<Forms, Stop>
-    ensures ok { IfOk result (λ fs. w.walk_stmt (kinds_seen kinds.now) (around_seen around.entry) (scope_seen scope.old)
-        found.least (tree.stmt_of stmt.now) ≡ Ok (forms_of fs, scope_seen scope.new)) }
-    ensures refused { OnRefused result (λ r. w.walk_stmt (kinds_seen kinds.now) (around_seen around.entry)
+    ensures ok { IfOk result (λ fs. w.walk_stmt (kinds_seen kinds.now)
+        (around_seen around.entry) (scope_seen scope.old) found.least (tree.stmt_of stmt.now)
+        ≡ Ok (forms_of fs, scope_seen scope.new)) }
+    ensures refused { OnRefused result (λ r.
+        w.walk_stmt (kinds_seen kinds.now) (around_seen around.entry)
         (scope_seen scope.old) found.least (tree.stmt_of stmt.now) ≡ Err r) }
 {
     match stmt {
@@ -336,12 +354,14 @@ fn walk_focus<'a>(
     alias: &'a Name,
     body: &'a Block,
 ) -> Result<Forms, Stop>
-    ensures ok { IfOk result (λ fs. w.walk_focus (kinds_seen kinds.now) (around_seen around.entry) (scope_seen scope.old)
-        found.least (tree.name_of variable.now) (tree.name_of key.now) (tree.name_of alias.now) (tree.block_of body.now)
-        ≡ Ok (forms_of fs, scope_seen scope.new)) }
-    ensures refused { OnRefused result (λ r. w.walk_focus (kinds_seen kinds.now) (around_seen around.entry)
-        (scope_seen scope.old) found.least (tree.name_of variable.now) (tree.name_of key.now) (tree.name_of alias.now)
-        (tree.block_of body.now) ≡ Err r) }
+    ensures ok { IfOk result (λ fs. w.walk_focus (kinds_seen kinds.now)
+        (around_seen around.entry) (scope_seen scope.old) found.least
+        (tree.name_of variable.now) (tree.name_of key.now) (tree.name_of alias.now)
+        (tree.block_of body.now) ≡ Ok (forms_of fs, scope_seen scope.new)) }
+    ensures refused { OnRefused result (λ r.
+        w.walk_focus (kinds_seen kinds.now) (around_seen around.entry)
+        (scope_seen scope.old) found.least (tree.name_of variable.now) (tree.name_of key.now)
+        (tree.name_of alias.now) (tree.block_of body.now) ≡ Err r) }
 {
     let ty = known_ty(alloc, scope, variable)?;
     let y = var_number(scope, variable);
@@ -367,10 +387,12 @@ fn walk_block<'a>(
     scope: &mut Scope<'a>,
     block: &'a Block,
 ) -> Result<vlt_core::Block, Stop>
-    ensures ok { IfOk result (λ b. w.walk_block (kinds_seen kinds.now) (around_seen around.entry) (scope_seen scope.old)
-        (tree.block_of block.now) ≡ Ok (core_view.block_of b, scope_seen scope.new)) }
-    ensures refused { OnRefused result (λ r. w.walk_block (kinds_seen kinds.now) (around_seen around.entry)
-        (scope_seen scope.old) (tree.block_of block.now) ≡ Err r) }
+    ensures ok { IfOk result (λ b. w.walk_block (kinds_seen kinds.now)
+        (around_seen around.entry) (scope_seen scope.old) (tree.block_of block.now)
+        ≡ Ok (core_view.block_of b, scope_seen scope.new)) }
+    ensures refused { OnRefused result (λ r.
+        w.walk_block (kinds_seen kinds.now) (around_seen around.entry) (scope_seen scope.old)
+        (tree.block_of block.now) ≡ Err r) }
 {
     let outer = scope.enter(alloc);
     let stmts = walk_stmts(alloc, kinds, around, scope, block.stmts.as_slice())?;
@@ -387,9 +409,11 @@ fn walk_if<'a>(
     found: Found,
     choice: &'a If,
 ) -> Result<Forms, Stop>
-    ensures ok { IfOk result (λ fs. w.walk_if (kinds_seen kinds.now) (around_seen around.entry) (scope_seen scope.old)
-        found.least (tree.if_of choice.now) ≡ Ok (forms_of fs, scope_seen scope.new)) }
-    ensures refused { OnRefused result (λ r. w.walk_if (kinds_seen kinds.now) (around_seen around.entry)
+    ensures ok { IfOk result (λ fs. w.walk_if (kinds_seen kinds.now) (around_seen around.entry)
+        (scope_seen scope.old) found.least (tree.if_of choice.now)
+        ≡ Ok (forms_of fs, scope_seen scope.new)) }
+    ensures refused { OnRefused result (λ r.
+        w.walk_if (kinds_seen kinds.now) (around_seen around.entry)
         (scope_seen scope.old) found.least (tree.if_of choice.now) ≡ Err r) }
 {
     let cond = tested(alloc, kinds, scope, found, &choice.condition)?;
@@ -412,10 +436,12 @@ fn walk_else<'a>(
     end: u32,
     other: &'a Else,
 ) -> Result<vlt_core::Block, Stop>
-    ensures ok { IfOk result (λ b. w.walk_else (kinds_seen kinds.now) (around_seen around.entry) (scope_seen scope.old) end
-        (tree.else_of other.now) ≡ Ok (core_view.block_of b, scope_seen scope.new)) }
-    ensures refused { OnRefused result (λ r. w.walk_else (kinds_seen kinds.now) (around_seen around.entry)
-        (scope_seen scope.old) end (tree.else_of other.now) ≡ Err r) }
+    ensures ok { IfOk result (λ b. w.walk_else (kinds_seen kinds.now) (around_seen around.entry)
+        (scope_seen scope.old) end (tree.else_of other.now)
+        ≡ Ok (core_view.block_of b, scope_seen scope.new)) }
+    ensures refused { OnRefused result (λ r.
+        w.walk_else (kinds_seen kinds.now) (around_seen around.entry) (scope_seen scope.old) end
+        (tree.else_of other.now) ≡ Err r) }
 {
     match other {
         Else::Nothing => Ok(vlt_core::Block {
@@ -438,9 +464,11 @@ fn walk_chained<'a>(
     end: u32,
     choice: &'a If,
 ) -> Result<vlt_core::Block, Stop>
-    ensures ok { IfOk result (λ b. w.walk_chained (kinds_seen kinds.now) (around_seen around.entry) (scope_seen scope.old)
-        end (tree.if_of choice.now) ≡ Ok (core_view.block_of b, scope_seen scope.new)) }
-    ensures refused { OnRefused result (λ r. w.walk_chained (kinds_seen kinds.now) (around_seen around.entry)
+    ensures ok { IfOk result (λ b. w.walk_chained (kinds_seen kinds.now)
+        (around_seen around.entry) (scope_seen scope.old) end (tree.if_of choice.now)
+        ≡ Ok (core_view.block_of b, scope_seen scope.new)) }
+    ensures refused { OnRefused result (λ r.
+        w.walk_chained (kinds_seen kinds.now) (around_seen around.entry)
         (scope_seen scope.old) end (tree.if_of choice.now) ≡ Err r) }
 {
     let cond = tested(
@@ -474,10 +502,12 @@ fn walk_arms<'a>(
     ty: &Option<Ty>,
     arms: &'a [Arm],
 ) -> Result<Items<vlt_core::Arm>, Stop>
-    ensures ok { IfOk result (λ r. w.walk_arms (kinds_seen kinds.now) (around_seen around.entry) (scope_seen scope.old)
-        (option_map ty_of ty.now) (tree.arms_of arms.now) ≡ Ok (map core_view.arm_of r, scope_seen scope.new)) }
-    ensures refused { OnRefused result (λ r. w.walk_arms (kinds_seen kinds.now) (around_seen around.entry)
-        (scope_seen scope.old) (option_map ty_of ty.now) (tree.arms_of arms.now) ≡ Err r) }
+    ensures ok { IfOk result (λ r. w.walk_arms (kinds_seen kinds.now) (around_seen around.entry)
+        (scope_seen scope.old) (option_map ty_of ty.now) (tree.arms_of arms.now)
+        ≡ Ok (map core_view.arm_of r, scope_seen scope.new)) }
+    ensures refused { OnRefused result (λ r.
+        w.walk_arms (kinds_seen kinds.now) (around_seen around.entry) (scope_seen scope.old)
+        (option_map ty_of ty.now) (tree.arms_of arms.now) ≡ Err r) }
 {
     let mut made = Items::new(alloc);
     for arm in arms {
@@ -496,10 +526,12 @@ fn walk_arm<'a>(
     ty: &Option<Ty>,
     arm: &'a Arm,
 ) -> Result<vlt_core::Arm, Stop>
-    ensures ok { IfOk result (λ r. w.walk_one_arm (kinds_seen kinds.now) (around_seen around.entry) (scope_seen scope.old)
-        (option_map ty_of ty.now) (tree.arm_of arm.now) ≡ Ok (core_view.arm_of r, scope_seen scope.new)) }
-    ensures refused { OnRefused result (λ r. w.walk_one_arm (kinds_seen kinds.now) (around_seen around.entry)
-        (scope_seen scope.old) (option_map ty_of ty.now) (tree.arm_of arm.now) ≡ Err r) }
+    ensures ok { IfOk result (λ r. w.walk_one_arm (kinds_seen kinds.now)
+        (around_seen around.entry) (scope_seen scope.old) (option_map ty_of ty.now)
+        (tree.arm_of arm.now) ≡ Ok (core_view.arm_of r, scope_seen scope.new)) }
+    ensures refused { OnRefused result (λ r.
+        w.walk_one_arm (kinds_seen kinds.now) (around_seen around.entry) (scope_seen scope.old)
+        (option_map ty_of ty.now) (tree.arm_of arm.now) ≡ Err r) }
 {
     let case = arm_case(alloc, kinds, ty, &arm.case)?;
     let outer = scope.enter(alloc);

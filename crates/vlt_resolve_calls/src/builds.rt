@@ -70,7 +70,8 @@ fn case_position(cases: &[CaseDecl], tick: &Name) -> Option<usize>
 }
 
 fn types_under(alloc: Heap, args: &[KeyId], types: &[Ty]) -> Result<Items<Ty>, AllocError>
-    ensures { IfOk result (λ ts. map ty_of ts ≡ map (ty_under (keys_of args.now)) (map ty_of types.now)) }
+    ensures { IfOk result (λ ts. map ty_of ts
+        ≡ map (ty_under (keys_of args.now)) (map ty_of types.now)) }
 {
     let mut made = Items::new(alloc);
     for ty in types {
@@ -80,7 +81,8 @@ fn types_under(alloc: Heap, args: &[KeyId], types: &[Ty]) -> Result<Items<Ty>, A
 }
 
 fn payload_in(alloc: Heap, args: &[KeyId], case: Option<&CaseDecl>) -> Result<Items<Ty>, AllocError>
-    ensures { IfOk result (λ ts. map ty_of ts ≡ b.payload_in (keys_of args.now) (option_map (λ c. case_of c.now) case.entry)) }
+    ensures { IfOk result (λ ts. map ty_of ts
+        ≡ b.payload_in (keys_of args.now) (option_map (λ c. case_of c.now) case.entry)) }
 {
     match case {
         None => Ok(Items::new(alloc)),
@@ -94,7 +96,8 @@ fn case_at(
     args: &[KeyId],
     number: usize,
 ) -> Result<Case, AllocError>
-    ensures { IfOk result (λ c. case_seen c ≡ b.case_at (map case_of cases.now) (keys_of args.now) number) }
+    ensures { IfOk result (λ c. case_seen c ≡ b.case_at (map case_of cases.now)
+        (keys_of args.now) number) }
 {
     let payload = payload_in(alloc, args, cases.get(number))?;
     match u8::try_from(number) {
@@ -174,8 +177,9 @@ fn check_case(
     build: &Build,
     found: &mut Found,
 ) -> Result<(), AllocError>
-    ensures { OnOk result (found.new.least ≡ least_from found.old.least (b.case_refused (kinds_seen kinds.now)
-        (scope_seen scope.now) (option_map case_seen case.now) (tree.build_of build.now))) }
+    ensures { OnOk result (found.new.least ≡ least_from found.old.least
+        (b.case_refused (kinds_seen kinds.now) (scope_seen scope.now)
+        (option_map case_seen case.now) (tree.build_of build.now))) }
 {
     match case {
         None => {
@@ -194,8 +198,8 @@ fn case_form(
     case: &Option<Case>,
     build: &Build,
 ) -> Result<Form, AllocError>
-    ensures { IfOk result (λ f. form_of f ≡ b.case_form (kinds_seen kinds.now) (scope_seen scope.now) v.0
-        (option_map case_seen case.now) (tree.build_of build.now)) }
+    ensures { IfOk result (λ f. form_of f ≡ b.case_form (kinds_seen kinds.now)
+        (scope_seen scope.now) v.0 (option_map case_seen case.now) (tree.build_of build.now)) }
 {
     match case {
         None => Ok(Form::Build {

@@ -78,8 +78,9 @@ fn check_each_argument(
     found: &mut Found,
 ) -> Result<(), AllocError>
     requires { length params.now ≡ length args.now }
-    ensures { OnOk result (found.new.least ≡ arguments_found (kinds_seen kinds.now) (scope_seen scope.now)
-        (map ty_of params.now) (map tree.expr_of args.now) found.old.least) }
+    ensures { OnOk result (found.new.least ≡ arguments_found (kinds_seen kinds.now)
+        (scope_seen scope.now) (map ty_of params.now)
+        (map tree.expr_of args.now) found.old.least) }
 {
     for (i, arg) in args.iter().enumerate() {
         check_argument(alloc, kinds, scope, &params[i], arg, found)?;
@@ -97,8 +98,9 @@ fn check_arguments(
     found: &mut Found,
 ) -> Result<(), AllocError>
     requires { length params.now ≡ length args.now }
-    ensures { OnOk result (found.new.least ≡ least_from found.old.least (c.arguments_refused (kinds_seen kinds.now)
-        (scope_seen scope.now) (map ty_of params.now) (map tree.expr_of args.now))) }
+    ensures { OnOk result (found.new.least ≡ least_from found.old.least
+        (c.arguments_refused (kinds_seen kinds.now) (scope_seen scope.now)
+        (map ty_of params.now) (map tree.expr_of args.now))) }
 {
     check_each_argument(alloc, kinds, scope, params, args, found)?;
     Ok(())
@@ -129,7 +131,8 @@ fn owns(ty: &Option<Ty>) -> bool
 
 #[tactic(auto, unfolding(crate::specs::Calls::dropped_refused))]
 fn check_dropped(head: &Func, at: u32, found: &mut Found)
-    ensures { found.new.least ≡ least_from found.old.least (c.dropped_refused (func_of head.now) at) }
+    ensures { found.new.least ≡ least_from found.old.least
+        (c.dropped_refused (func_of head.now) at) }
 {
     found.add_if(
         owns(&head.result) || has_fresh(head.clause.as_slice()),
@@ -150,7 +153,8 @@ fn result_keys_fit(alloc: Heap, pairs: &[Pair], gives: &Ty, ty: &Ty) -> Result<b
 }
 
 fn result_fits(alloc: Heap, pairs: &[Pair], gives: &Option<Ty>, ty: &Ty) -> Result<bool, AllocError>
-    ensures { IfOk result (λ b. b ≡ c.result_fits (pairs_of pairs.now) (option_map ty_of gives.now) (ty_of ty.now)) }
+    ensures { IfOk result (λ b. b ≡ c.result_fits (pairs_of pairs.now)
+        (option_map ty_of gives.now) (ty_of ty.now)) }
 {
     match gives {
         None => Ok(false),
@@ -171,7 +175,8 @@ fn target_fits(
     pairs: &[Pair],
     target: &Target,
 ) -> Result<bool, AllocError>
-    ensures { IfOk result (λ b. b ≡ c.target_fits (func_of head.now) (pairs_of pairs.now) (target_seen target.now)) }
+    ensures { IfOk result (λ b. b ≡ c.target_fits (func_of head.now) (pairs_of pairs.now)
+        (target_seen target.now)) }
 {
     if has_fresh(head.clause.as_slice()) == target.binds {
         result_fits(alloc, pairs, &head.result, &target.ty)
@@ -282,8 +287,9 @@ fn check_full_call(
 ) -> Result<(), AllocError>
     requires params { map ty_of params.now ≡ c.param_types (func_of head.now) }
     requires all { length params.now ≡ length call.now.arguments }
-    ensures { OnOk result (found.new.least ≡ least_from found.old.least (c.full_call_refused (kinds_seen kinds.now)
-        (scope_seen scope.now) (func_of head.now) (use_seen used.entry) (tree.call_of call.now))) }
+    ensures { OnOk result (found.new.least ≡ least_from found.old.least
+        (c.full_call_refused (kinds_seen kinds.now) (scope_seen scope.now) (func_of head.now)
+        (use_seen used.entry) (tree.call_of call.now))) }
 {
     let args = call.arguments.as_slice();
     let pairs = call_pairs(alloc, kinds, scope, args, params)?;
@@ -309,8 +315,9 @@ fn check_head(
     call: &Call,
     found: &mut Found,
 ) -> Result<(), AllocError>
-    ensures { OnOk result (found.new.least ≡ least_from found.old.least (c.head_refused (kinds_seen kinds.now)
-        (scope_seen scope.now) (func_of head.now) (use_seen used.entry) (tree.call_of call.now))) }
+    ensures { OnOk result (found.new.least ≡ least_from found.old.least
+        (c.head_refused (kinds_seen kinds.now) (scope_seen scope.now) (func_of head.now)
+        (use_seen used.entry) (tree.call_of call.now))) }
 {
     let params = param_types(alloc, head)?;
     if params.len() == call.arguments.len() {
@@ -339,8 +346,10 @@ fn check_callee(
     call: &Call,
     found: &mut Found,
 ) -> Result<(), AllocError>
-    ensures { OnOk result (found.new.least ≡ least_from found.old.least (c.callee_refused (kinds_seen kinds.now)
-        (scope_seen scope.now) (option_map (λ f. func_of f.now) head.entry) (use_seen used.entry) (tree.call_of call.now))) }
+    ensures { OnOk result (found.new.least ≡ least_from found.old.least
+        (c.callee_refused (kinds_seen kinds.now) (scope_seen scope.now)
+        (option_map (λ f. func_of f.now) head.entry) (use_seen used.entry)
+        (tree.call_of call.now))) }
 {
     match head {
         None => {
@@ -380,8 +389,9 @@ fn head_form(
     target: Option<VarId>,
     call: &Call,
 ) -> Result<Form, AllocError>
-    ensures { IfOk result (λ form. form_of form ≡ c.head_form (kinds_seen kinds.now) (scope_seen scope.now)
-        (func_of head.now) f.0 (use_seen used.entry) (option_map (λ v. v.0) target) (tree.call_of call.now)) }
+    ensures { IfOk result (λ form. form_of form
+        ≡ c.head_form (kinds_seen kinds.now) (scope_seen scope.now) (func_of head.now) f.0
+        (use_seen used.entry) (option_map (λ v. v.0) target) (tree.call_of call.now)) }
 {
     let params = param_types(alloc, head)?;
     let given = call.arguments.as_slice();
@@ -411,9 +421,10 @@ fn callee_form(
     target: Option<VarId>,
     call: &Call,
 ) -> Result<Form, AllocError>
-    ensures { IfOk result (λ form. form_of form ≡ c.callee_form (kinds_seen kinds.now) (scope_seen scope.now)
-        (option_map (λ f. func_of f.now) head.entry) f.0 (use_seen used.entry) (option_map (λ v. v.0) target)
-        (tree.call_of call.now)) }
+    ensures { IfOk result (λ form. form_of form
+        ≡ c.callee_form (kinds_seen kinds.now) (scope_seen scope.now)
+        (option_map (λ f. func_of f.now) head.entry) f.0 (use_seen used.entry)
+        (option_map (λ v. v.0) target) (tree.call_of call.now)) }
 {
     match head {
         None => Ok(Form::Call {
@@ -448,8 +459,9 @@ pub fn call(
 ) -> Result<Form, AllocError>
     ensures refused { OnOk result (found.new.least ≡ least_from found.old.least
         (c.call_refused (kinds_seen kinds.now) (scope_seen scope.now) (use_seen used.entry) (tree.call_of call.now))) }
-    ensures form { IfOk result (λ form. form_of form ≡ c.core_call (kinds_seen kinds.now) (scope_seen scope.now)
-        (use_seen used.entry) (option_map (λ v. v.0) target) (tree.call_of call.now)) }
+    ensures form { IfOk result (λ form. form_of form
+        ≡ c.core_call (kinds_seen kinds.now) (scope_seen scope.now) (use_seen used.entry)
+        (option_map (λ v. v.0) target) (tree.call_of call.now)) }
 {
     check_callee(
         alloc,

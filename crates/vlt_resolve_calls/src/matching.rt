@@ -91,7 +91,8 @@ pub fn add_paired(
     caller: &[KeyId],
     pairs: &mut Items<Pair>,
 ) -> Result<(), AllocError>
-    ensures { OnOk result (pairs_of pairs.new ≡ pairs_of pairs.old ++ c.paired (keys_of callee.now) (keys_of caller.now)) }
+    ensures { OnOk result (pairs_of pairs.new
+        ≡ pairs_of pairs.old ++ c.paired (keys_of callee.now) (keys_of caller.now)) }
 {
     if callee.len() == caller.len() {
         add_each(callee, caller, pairs)?;
@@ -181,7 +182,8 @@ fn add_argument(
     arg: &Expr,
     pairs: &mut Items<Pair>,
 ) -> Result<(), AllocError>
-    ensures { OnOk result (pairs_of pairs.new ≡ pairs_of pairs.old ++ c.argument_pairs (ty_of wanted.now)
+    ensures { OnOk result (pairs_of pairs.new
+        ≡ pairs_of pairs.old ++ c.argument_pairs (ty_of wanted.now)
         (type_of_expr (kinds_seen kinds.now) (scope_seen scope.now) (tree.expr_of arg.now))) }
 {
     let given = type_of(alloc, kinds, scope, arg)?;
@@ -197,8 +199,9 @@ pub fn call_pairs(
     args: &[Expr],
     params: &[Ty],
 ) -> Result<Items<Pair>, AllocError>
-    ensures { IfOk result (λ pairs. pairs_of pairs ≡ c.call_pairs (kinds_seen kinds.now) (scope_seen scope.now)
-        (map tree.expr_of args.now) (map ty_of params.now)) }
+    ensures { IfOk result (λ pairs. pairs_of pairs
+        ≡ c.call_pairs (kinds_seen kinds.now) (scope_seen scope.now) (map tree.expr_of args.now)
+        (map ty_of params.now)) }
 {
     let mut pairs = Items::new(alloc);
     for (i, arg) in args.iter().enumerate() {
@@ -267,7 +270,8 @@ fn are_apart(keys: &[u32]) -> bool
 }
 
 fn clause_keys(alloc: Heap, pairs: &[Pair], clause: &[Entry]) -> Result<Items<u32>, AllocError>
-    ensures { IfOk result (λ ks. ks ≡ c.clause_keys (pairs_of pairs.now) (map entry_of clause.now)) }
+    ensures { IfOk result (λ ks. ks ≡ c.clause_keys (pairs_of pairs.now)
+        (map entry_of clause.now)) }
 {
     let mut keys = Items::new(alloc);
     for entry in clause {
@@ -298,7 +302,8 @@ pub fn check_matching(
 
 /// Whether the callee's key met one key of the caller at most.
 fn is_sole(pairs: &[Pair], key: KeyId) -> bool
-    ensures { result ≡ list_all (λ q. not (key.0 == q.0) || c.is_pair (pairs_of pairs.now) q) (pairs_of pairs.now) }
+    ensures { result ≡ list_all (λ q. not (key.0 == q.0) || c.is_pair (pairs_of pairs.now) q)
+        (pairs_of pairs.now) }
 {
     for pair in pairs {
         if key.0 == pair.0.0 && !is_pair(pairs, *pair) {
@@ -342,7 +347,8 @@ pub fn keys_given(
     fresh: KeyId,
     keys: &[KeyDecl],
 ) -> Result<Items<KeyId>, AllocError>
-    ensures { IfOk result (λ ks. keys_of ks ≡ c.keys_given (pairs_of pairs.now) fresh.0 0 (map key_of keys.now)) }
+    ensures { IfOk result (λ ks. keys_of ks ≡ c.keys_given (pairs_of pairs.now) fresh.0 0
+        (map key_of keys.now)) }
 {
     let mut made = Items::new(alloc);
     for (i, _key) in keys.iter().enumerate() {

@@ -99,7 +99,8 @@ impl Target {
         x: VarId,
         expr: &Expr,
     ) -> Result<Form, AllocError>
-        ensures { IfOk result (λ f. form_of f ≡ t.core_value (kinds_seen kinds.now) (scope_seen scope.now)
+        ensures { IfOk result (λ f. form_of f
+            ≡ t.core_value (kinds_seen kinds.now) (scope_seen scope.now)
             (target_seen self.now) x.0 (tree.expr_of expr.now)) }
     {
         let got = type_of(alloc, kinds, scope, expr)?;

@@ -22,14 +22,16 @@ use vlt_syntax::Name;
 
 #[tactic(auto, unfolding(crate::specs::Bindings::too_many_vars))]
 pub fn check_too_many_vars(scope: &Scope<'_>, at: u32, found: &mut Found)
-    ensures { found.new.least ≡ least_from found.old.least (b.too_many_vars (scope_seen scope.now) at) }
+    ensures { found.new.least ≡ least_from found.old.least
+        (b.too_many_vars (scope_seen scope.now) at) }
 {
     found.add_if(scope.vars.len() > 255, TOO_MANY_VARIABLES, at);
 }
 
 #[tactic(auto, unfolding(crate::specs::Bindings::too_many_keys))]
 pub fn check_too_many_keys(scope: &Scope<'_>, at: u32, found: &mut Found)
-    ensures { found.new.least ≡ least_from found.old.least (b.too_many_keys (scope_seen scope.now) at) }
+    ensures { found.new.least ≡ least_from found.old.least
+        (b.too_many_keys (scope_seen scope.now) at) }
 {
     found.add_if(scope.keys.len() > 255, TOO_MANY_KEYS, at);
 }
@@ -76,8 +78,9 @@ fn add_new_vars<'a>(
     types: &[Ty],
     found: &mut Found,
 ) -> Result<Items<VarId>, AllocError>
-    ensures refused { OnOk result (found.new.least ≡ new_vars_found (kinds_seen kinds.now) (scope_seen scope.old)
-        (tree.names_of names.now) (map ty_of types.now) found.old.least) }
+    ensures refused { OnOk result (found.new.least
+        ≡ new_vars_found (kinds_seen kinds.now) (scope_seen scope.old) (tree.names_of names.now)
+        (map ty_of types.now) found.old.least) }
     ensures scope { OnOk result (scope_seen scope.new
         ≡ b.with_vars (scope_seen scope.old) (tree.names_of names.now) (map ty_of types.now)) }
     ensures numbers { IfOk result (λ vs. vars_of vs
@@ -106,7 +109,8 @@ fn add_each<'a>(
     types: &[Ty],
     found: &mut Found,
 ) -> Result<Items<VarId>, AllocError>
-    ensures refused { OnOk result (found.new.least ≡ least_from found.old.least (b.new_vars_refused (kinds_seen kinds.now)
+    ensures refused { OnOk result (found.new.least
+        ≡ least_from found.old.least (b.new_vars_refused (kinds_seen kinds.now)
         (scope_seen scope.old) (tree.names_of names.now) (map ty_of types.now))) }
     ensures scope { OnOk result (scope_seen scope.new
         ≡ b.with_vars (scope_seen scope.old) (tree.names_of names.now) (map ty_of types.now)) }
@@ -128,7 +132,8 @@ pub fn add_several<'a>(
     at: u32,
     found: &mut Found,
 ) -> Result<Items<VarId>, AllocError>
-    ensures refused { OnOk result (found.new.least ≡ least_from found.old.least (b.several_refused (kinds_seen kinds.now)
+    ensures refused { OnOk result (found.new.least
+        ≡ least_from found.old.least (b.several_refused (kinds_seen kinds.now)
         (scope_seen scope.old) (tree.names_of names.now) (map ty_of types.now) at)) }
     ensures scope { OnOk result (scope_seen scope.new
         ≡ b.with_several (scope_seen scope.old) (tree.names_of names.now) (map ty_of types.now)) }

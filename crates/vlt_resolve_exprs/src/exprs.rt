@@ -63,7 +63,8 @@ pub fn fields_of<'k>(kinds: &'k Kinds<'_>, t: TypeId) -> &'k [FieldDecl]
 
 /// The position of the first field of this name.
 fn find_field(fields: &[FieldDecl], name: &Name) -> Option<usize>
-    ensures { result ≡ position (λ d. bytes_eq (tree.name_of name.now).text d.name) (map field_of fields.now) }
+    ensures { result ≡ position (λ d. bytes_eq (tree.name_of name.now).text d.name)
+        (map field_of fields.now) }
 {
     for (i, field) in fields.iter().enumerate() {
         if name.text.as_slice() == field.name.as_slice() {
@@ -83,7 +84,8 @@ pub fn field_position(kinds: &Kinds<'_>, t: TypeId, name: &Name) -> Option<usize
 /// The field of this name.
 #[tactic(auto, unfolding(crate::specs::Exprs::field_named))]
 pub fn field_named<'k>(kinds: &'k Kinds<'_>, t: TypeId, name: &Name) -> Option<&'k FieldDecl>
-    ensures { option_map (λ d. field_of d.now) result ≡ e.field_named (kinds_seen kinds.now) t.0 (tree.name_of name.now) }
+    ensures { option_map (λ d. field_of d.now) result
+        ≡ e.field_named (kinds_seen kinds.now) t.0 (tree.name_of name.now) }
 {
     let i = field_position(kinds, t, name)?;
     fields_of(kinds, t).get(i)
@@ -120,7 +122,8 @@ fn value_ty(
     args: &[KeyId],
     field: Option<&FieldDecl>,
 ) -> Result<Option<Ty>, AllocError>
-    ensures { IfOk result (λ t. option_map ty_of t ≡ e.value_ty (keys_of args.now) (option_map (λ d. field_of d.now) field.entry)) }
+    ensures { IfOk result (λ t. option_map ty_of t
+        ≡ e.value_ty (keys_of args.now) (option_map (λ d. field_of d.now) field.entry)) }
 {
     match field {
         Some(decl) if !is_owning(&decl.ty) => Ok(Some(ty_under(alloc, args, &decl.ty)?)),
@@ -244,7 +247,8 @@ pub fn core_expr(
     scope: &Scope<'_>,
     expr: &Expr,
 ) -> Result<vlt_core::Expr, AllocError>
-    ensures { IfOk result (λ x. expr_of x ≡ e.core_expr (kinds_seen kinds.now) (scope_seen scope.now) (tree.expr_of expr.now)) }
+    ensures { IfOk result (λ x. expr_of x ≡ e.core_expr (kinds_seen kinds.now)
+        (scope_seen scope.now) (tree.expr_of expr.now)) }
 {
     match expr {
         Expr::Number(number, _) => Ok(vlt_core::Expr::Number(*number)),
@@ -297,7 +301,8 @@ fn is_basic(ty: &Ty) -> bool
 
 #[tactic(auto, unfolding(crate::specs::Exprs::not_basic))]
 fn check_basic(ty: &Option<Ty>, at: u32, found: &mut Found)
-    ensures { found.new.least ≡ least_from found.old.least (e.not_basic (option_map ty_of ty.now) at) }
+    ensures { found.new.least ≡ least_from found.old.least
+        (e.not_basic (option_map ty_of ty.now) at) }
 {
     match ty {
         Some(ty) => {
@@ -325,7 +330,8 @@ fn taken(takes: Takes, left: &Option<Ty>) -> Option<Ty>
 
 #[tactic(auto, unfolding(crate::specs::Exprs::left_refused))]
 fn check_left(takes: Takes, ty: &Option<Ty>, at: u32, found: &mut Found)
-    ensures { found.new.least ≡ least_from found.old.least (e.left_refused takes (option_map ty_of ty.now) at) }
+    ensures { found.new.least ≡ least_from found.old.least
+        (e.left_refused takes (option_map ty_of ty.now) at) }
 {
     match takes {
         Takes::Int => check_fit(&Some(Ty::Int), ty, at, found),
@@ -373,7 +379,8 @@ fn check_guard(
 
 #[tactic(auto, unfolding(crate::specs::Exprs::owner_refused))]
 fn check_owner(field: &FieldDecl, base: &Name, found: &mut Found)
-    ensures { found.new.least ≡ least_from found.old.least (e.owner_refused (field_of field.now) (tree.name_of base.now)) }
+    ensures { found.new.least ≡ least_from found.old.least
+        (e.owner_refused (field_of field.now) (tree.name_of base.now)) }
 {
     found.add_if(is_owning(&field.ty), WRONG_SWAP, base.at.from);
 }

@@ -23,7 +23,8 @@ use vlt_syntax::Expr;
 
 #[tactic(auto, unfolding(crate::specs::Operands::misfit))]
 pub fn check_misfit(wanted: &Ty, given: &Option<Ty>, at: u32, found: &mut Found)
-    ensures { found.new.least ≡ least_from found.old.least (o.misfit (ty_of wanted.now) (option_map ty_of given.now) at) }
+    ensures { found.new.least ≡ least_from found.old.least
+        (o.misfit (ty_of wanted.now) (option_map ty_of given.now) at) }
 {
     match given {
         Some(ty) => {
@@ -61,8 +62,9 @@ fn check_each_operand(
     found: &mut Found,
 ) -> Result<(), AllocError>
     requires { length wanted.now ≡ length exprs.now }
-    ensures { OnOk result (found.new.least ≡ operands_found (kinds_seen kinds.now) (scope_seen scope.now)
-        (map ty_of wanted.now) (map tree.expr_of exprs.now) found.old.least) }
+    ensures { OnOk result (found.new.least ≡ operands_found (kinds_seen kinds.now)
+        (scope_seen scope.now) (map ty_of wanted.now)
+        (map tree.expr_of exprs.now) found.old.least) }
 {
     for (i, expr) in exprs.iter().enumerate() {
         check_operand(alloc, kinds, scope, &wanted[i], expr, found)?;
@@ -81,8 +83,9 @@ pub fn check_operands(
     found: &mut Found,
 ) -> Result<(), AllocError>
     requires { length wanted.now ≡ length exprs.now }
-    ensures { OnOk result (found.new.least ≡ least_from found.old.least (o.operands_refused (kinds_seen kinds.now)
-        (scope_seen scope.now) (map ty_of wanted.now) (map tree.expr_of exprs.now))) }
+    ensures { OnOk result (found.new.least ≡ least_from found.old.least
+        (o.operands_refused (kinds_seen kinds.now) (scope_seen scope.now) (map ty_of wanted.now)
+        (map tree.expr_of exprs.now))) }
 {
     check_each_operand(alloc, kinds, scope, wanted, exprs, found)?;
     Ok(())
@@ -99,7 +102,8 @@ pub fn variable_in(expr: &vlt_core::Expr) -> VarId
 }
 
 fn object_operand(states: StateSet, got: &Option<Ty>, v: VarId) -> Operand
-    ensures { operand_of result ≡ o.object_operand (has_state states) (option_map ty_of got.now) v.0 }
+    ensures { operand_of result ≡ o.object_operand (has_state states)
+        (option_map ty_of got.now) v.0 }
 {
     match got {
         Some(Ty::Key(..)) => Operand::Pack(v, states),
@@ -110,7 +114,8 @@ fn object_operand(states: StateSet, got: &Option<Ty>, v: VarId) -> Operand
 /// An expression of one type, for a target of another that takes it.
 #[tactic(auto, unfolding(crate::specs::Operands::operand_for))]
 pub fn operand_for(wanted: &Ty, got: &Option<Ty>, expr: vlt_core::Expr) -> Operand
-    ensures { operand_of result ≡ o.operand_for (ty_of wanted.now) (option_map ty_of got.now) (expr_of expr) }
+    ensures { operand_of result ≡ o.operand_for (ty_of wanted.now) (option_map ty_of got.now)
+        (expr_of expr) }
 {
     match wanted {
         Ty::Own(states, ..) => object_operand(*states, got, variable_in(&expr)),
@@ -144,7 +149,8 @@ pub fn core_operands(
     exprs: &[Expr],
     wanted: &[Ty],
 ) -> Result<Items<Operand>, AllocError>
-    ensures { IfOk result (λ r. map operand_of r ≡ o.core_operands (kinds_seen kinds.now) (scope_seen scope.now)
+    ensures { IfOk result (λ r. map operand_of r
+        ≡ o.core_operands (kinds_seen kinds.now) (scope_seen scope.now)
         (map tree.expr_of exprs.now) (map ty_of wanted.now)) }
 {
     let mut made = Items::new(alloc);

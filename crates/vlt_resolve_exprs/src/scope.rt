@@ -56,7 +56,8 @@ impl Scope<'_> {
     /// The type of the variable of this name.
     #[tactic(auto, unfolding(crate::specs::Scopes::var_ty))]
     pub fn var_ty(&self, name: &[u8]) -> Option<&Ty>
-        ensures { option_map (λ t. ty_of t.now) result ≡ s.var_ty (scope_seen self.now) name.now }
+        ensures { option_map (λ t. ty_of t.now) result
+            ≡ s.var_ty (scope_seen self.now) name.now }
     {
         let v = self.var_named(name)?;
         let decl = self.vars.get(v.0 as usize)?;
@@ -96,7 +97,8 @@ impl KeyNumbers for Scope<'_> {
 impl<'a> Scope<'a> {
     /// The name stands for the token from here on.
     pub fn name_tok(&mut self, name: &'a [u8], tok: Tok) -> Result<(), AllocError>
-        ensures { OnOk result (scope_seen self.new ≡ s.with_name (scope_seen self.old) name.now (tok_of tok)) }
+        ensures { OnOk result (scope_seen self.new
+            ≡ s.with_name (scope_seen self.old) name.now (tok_of tok)) }
     {
         self.names.insert(name, tok)?;
         Ok(())
@@ -142,7 +144,8 @@ impl<'a> Scope<'a> {
     /// A new variable that no name stands for: a hidden one where the name is empty.
     pub fn add_hidden_var(&mut self, alloc: Heap, name: &[u8], ty: Ty) -> Result<VarId, AllocError>
         ensures number { IfOk result (λ v. v.0 ≡ length self.old.vars) }
-        ensures scope { OnOk result (scope_seen self.new ≡ s.more_var (scope_seen self.old) name.now (ty_of ty)) }
+        ensures scope { OnOk result (scope_seen self.new
+            ≡ s.more_var (scope_seen self.old) name.now (ty_of ty)) }
     {
         let Ok(number) = u32::try_from(self.vars.len()) else {
             return Err(AllocError);
@@ -177,7 +180,8 @@ impl<'a> Scope<'a> {
     /// A new variable, in scope from here on.
     pub fn add_var(&mut self, alloc: Heap, name: &'a [u8], ty: Ty) -> Result<VarId, AllocError>
         ensures number { IfOk result (λ v. v.0 ≡ length self.old.vars) }
-        ensures scope { OnOk result (scope_seen self.new ≡ s.with_var (scope_seen self.old) name.now (ty_of ty)) }
+        ensures scope { OnOk result (scope_seen self.new
+            ≡ s.with_var (scope_seen self.old) name.now (ty_of ty)) }
     {
         let v = self.add_hidden_var(alloc, name, ty)?;
         self.name_tok(name, Tok::Var(v))?;

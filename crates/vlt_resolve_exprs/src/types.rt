@@ -75,7 +75,8 @@ pub fn same_ty(a: &Ty, b: &Ty) -> bool
 /// Whether a target of these states takes an owner of some of them, or a tracked object.
 #[tactic(auto, unfolding(crate::specs::Types::takes_object))]
 fn takes_object(states: StateSet, type_id: TypeId, args: &[KeyId], got: &Ty) -> bool
-    ensures { result ≡ here.takes_object (has_state states) type_id.0 (keys_of args.now) (ty_of got.now) }
+    ensures { result ≡ here.takes_object (has_state states) type_id.0 (keys_of args.now)
+        (ty_of got.now) }
 {
     match got {
         Ty::Own(r, u, others) => lies_within(*r, states)
@@ -136,7 +137,8 @@ fn key_at(args: &[KeyId], position: KeyId) -> KeyId
 }
 
 fn keys_at(alloc: Heap, args: &[KeyId], positions: &[KeyId]) -> Result<Items<KeyId>, AllocError>
-    ensures { IfOk result (λ ks. keys_of ks ≡ map (types.stands_for (keys_of args.now)) (keys_of positions.now)) }
+    ensures { IfOk result (λ ks. keys_of ks ≡ map (types.stands_for (keys_of args.now))
+        (keys_of positions.now)) }
 {
     let mut keys = Items::new(alloc);
     for position in positions {

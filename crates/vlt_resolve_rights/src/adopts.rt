@@ -19,7 +19,8 @@ use vlt_resolve_exprs::{Scope, check_known, same_object, var_number};
 use vlt_syntax::Name;
 
 fn recipient_fits(recipient: Option<&Ty>, ty: &Ty) -> bool
-    ensures { result ≡ a.recipient_fits (option_map (λ t. ty_of t.now) recipient.entry) (ty_of ty.now) }
+    ensures { result ≡ a.recipient_fits (option_map (λ t. ty_of t.now) recipient.entry)
+        (ty_of ty.now) }
 {
     match recipient {
         None => true,
@@ -28,7 +29,8 @@ fn recipient_fits(recipient: Option<&Ty>, ty: &Ty) -> bool
 }
 
 fn object_fits(object: Option<&Ty>, ty: &Ty) -> bool
-    ensures { result ≡ a.object_fits (option_map (λ t. ty_of t.now) object.entry) (ty_of ty.now) }
+    ensures { result ≡ a.object_fits (option_map (λ t. ty_of t.now) object.entry)
+        (ty_of ty.now) }
 {
     match (object, ty) {
         (Some(Ty::Key(_, t, args)), Ty::Guard(_, u, others)) => same_object(
@@ -66,8 +68,9 @@ fn is_adoptable(kinds: &Kinds<'_>, ty: &Ty) -> bool
 
 #[tactic(auto, unfolding(crate::specs::Adopts::object_refused))]
 fn check_object(kinds: &Kinds<'_>, ty: Option<&Ty>, name: &Name, found: &mut Found)
-    ensures { found.new.least ≡ least_from found.old.least (a.object_refused (kinds_seen kinds.now)
-        (option_map (λ t. ty_of t.now) ty.entry) (tree.name_of name.now)) }
+    ensures { found.new.least ≡ least_from found.old.least
+        (a.object_refused (kinds_seen kinds.now) (option_map (λ t. ty_of t.now) ty.entry)
+        (tree.name_of name.now)) }
 {
     match ty {
         None => {}
@@ -86,8 +89,9 @@ pub fn check_adopt(
     at: u32,
     found: &mut Found,
 )
-    ensures { found.new.least ≡ least_from found.old.least (a.adopt_refused (kinds_seen kinds.now) (scope_seen scope.now)
-        (ty_of ty.now) (tree.name_of object.now) (tree.name_of recipient.now) at) }
+    ensures { found.new.least ≡ least_from found.old.least
+        (a.adopt_refused (kinds_seen kinds.now) (scope_seen scope.now) (ty_of ty.now)
+        (tree.name_of object.now) (tree.name_of recipient.now) at) }
 {
     let given = scope.var_ty(object.text.as_slice());
     let holder = scope.var_ty(recipient.text.as_slice());
@@ -99,7 +103,8 @@ pub fn check_adopt(
 
 #[tactic(auto, unfolding(crate::specs::Adopts::core_adopt))]
 pub fn core_adopt(scope: &Scope<'_>, y: VarId, object: &Name, recipient: &Name) -> Form
-    ensures { form_of result ≡ a.core_adopt (scope_seen scope.now) y.0 (tree.name_of object.now) (tree.name_of recipient.now) }
+    ensures { form_of result ≡ a.core_adopt (scope_seen scope.now) y.0 (tree.name_of object.now)
+        (tree.name_of recipient.now) }
 {
     Form::Adopt {
         y,

@@ -33,7 +33,8 @@ use vlt_syntax::{Init, Name, Named, Right};
 
 #[tactic(auto, unfolding(crate::specs::News::target_fits))]
 fn target_fits(adopted: bool, target: &Target, t: TypeId, args: &Option<Items<KeyId>>) -> bool
-    ensures { result ≡ n.target_fits adopted (target_seen target.now) t.0 (option_map keys_of args.now) }
+    ensures { result ≡ n.target_fits adopted (target_seen target.now) t.0
+        (option_map keys_of args.now) }
 {
     match (adopted, &target.ty) {
         (true, Ty::Guard(_, u, others)) => object_fits(t, args, *u, others.as_slice()),
@@ -53,8 +54,9 @@ fn check_target(
     at: u32,
     found: &mut Found,
 )
-    ensures { found.new.least ≡ least_from found.old.least (n.target_refused adopted (target_seen target.now)
-        (option_map (λ t. t.0) t) (option_map keys_of args.now) at) }
+    ensures { found.new.least ≡ least_from found.old.least
+        (n.target_refused adopted (target_seen target.now) (option_map (λ t. t.0) t)
+        (option_map keys_of args.now) at) }
 {
     match t {
         None => {}
@@ -123,7 +125,8 @@ fn takes_first(ty: &Ty) -> bool
 
 #[tactic(auto, using(vlt_kinds_names::proofs::Least::least_of_both), unfolding(crate::specs::News::adopted_refused))]
 fn check_adopted(kinds: &Kinds<'_>, t: TypeId, at: u32, found: &mut Found)
-    ensures { found.new.least ≡ least_from found.old.least (n.adopted_refused (kinds_seen kinds.now) t.0 at) }
+    ensures { found.new.least ≡ least_from found.old.least
+        (n.adopted_refused (kinds_seen kinds.now) t.0 at) }
 {
     found.add_if(!may_drop_struct(kinds, t), WRONG_RELEASE, at);
     found.add_if(
@@ -154,8 +157,9 @@ fn check_values(
     inits: &[Init],
     found: &mut Found,
 ) -> Result<(), AllocError>
-    ensures { OnOk result (found.new.least ≡ least_from found.old.least (n.values_refused (kinds_seen kinds.now)
-        (scope_seen scope.now) (map field_of fields.now) (option_map keys_of args.now) (map tree.init_of inits.now))) }
+    ensures { OnOk result (found.new.least ≡ least_from found.old.least
+        (n.values_refused (kinds_seen kinds.now) (scope_seen scope.now)
+        (map field_of fields.now) (option_map keys_of args.now) (map tree.init_of inits.now))) }
 {
     match args {
         None => Ok(()),
@@ -177,8 +181,10 @@ fn check_struct(
     at: u32,
     found: &mut Found,
 ) -> Result<(), AllocError>
-    ensures { OnOk result (found.new.least ≡ least_from found.old.least (n.struct_refused (kinds_seen kinds.now)
-        (scope_seen scope.now) (map field_of fields.now) (option_map keys_of args.now) (map tree.init_of inits.now) at)) }
+    ensures { OnOk result (found.new.least ≡ least_from found.old.least
+        (n.struct_refused (kinds_seen kinds.now) (scope_seen scope.now)
+        (map field_of fields.now) (option_map keys_of args.now)
+        (map tree.init_of inits.now) at)) }
 {
     if fields_agree(fields, inits) {
         check_values(alloc, kinds, scope, fields, args, inits, found)?;
@@ -199,8 +205,9 @@ fn check_object(
     at: u32,
     found: &mut Found,
 ) -> Result<(), AllocError>
-    ensures { OnOk result (found.new.least ≡ least_from found.old.least (n.object_refused (kinds_seen kinds.now)
-        (scope_seen scope.now) t.0 (option_map keys_of args.now) (map tree.init_of inits.now) at)) }
+    ensures { OnOk result (found.new.least ≡ least_from found.old.least
+        (n.object_refused (kinds_seen kinds.now) (scope_seen scope.now) t.0
+        (option_map keys_of args.now) (map tree.init_of inits.now) at)) }
 {
     if is_struct(kinds.types.get(t.0 as usize)) {
         check_struct(
@@ -232,8 +239,10 @@ fn check_known_made(
     at: u32,
     found: &mut Found,
 ) -> Result<(), AllocError>
-    ensures { OnOk result (found.new.least ≡ least_from found.old.least (n.known_made_refused (kinds_seen kinds.now)
-        (scope_seen scope.now) adopted (target_seen target.now) t.0 (option_map keys_of args.now) (map tree.init_of inits.now) at)) }
+    ensures { OnOk result (found.new.least ≡ least_from found.old.least
+        (n.known_made_refused (kinds_seen kinds.now) (scope_seen scope.now) adopted
+        (target_seen target.now) t.0 (option_map keys_of args.now)
+        (map tree.init_of inits.now) at)) }
 {
     check_start(kinds, adopted, &target.ty, t, at, found);
     check_object(alloc, kinds, scope, t, args, inits, at, found)?;
@@ -253,8 +262,9 @@ fn check_made(
     at: u32,
     found: &mut Found,
 ) -> Result<(), AllocError>
-    ensures { OnOk result (found.new.least ≡ least_from found.old.least (n.made_refused (kinds_seen kinds.now)
-        (scope_seen scope.now) adopted (target_seen target.now) (option_map (λ t. t.0) t) (option_map keys_of args.now)
+    ensures { OnOk result (found.new.least ≡ least_from found.old.least
+        (n.made_refused (kinds_seen kinds.now) (scope_seen scope.now) adopted
+        (target_seen target.now) (option_map (λ t. t.0) t) (option_map keys_of args.now)
         (map tree.init_of inits.now) at)) }
 {
     match t {
@@ -278,8 +288,9 @@ pub fn check_new(
     at: u32,
     found: &mut Found,
 ) -> Result<(), AllocError>
-    ensures { OnOk result (found.new.least ≡ least_from found.old.least (n.new_refused (kinds_seen kinds.now)
-        (scope_seen scope.now) (target_seen target.now) (option_map tree.name_of recipient.now) (tree.named_of named.now)
+    ensures { OnOk result (found.new.least ≡ least_from found.old.least
+        (n.new_refused (kinds_seen kinds.now) (scope_seen scope.now) (target_seen target.now)
+        (option_map tree.name_of recipient.now) (tree.named_of named.now)
         (map tree.init_of inits.now) at)) }
 {
     let t = type_named(kinds, named);
@@ -318,7 +329,8 @@ fn hides(right: &Right, ty: &Option<Ty>) -> bool
 /// What is refused where a right side at this place has a hidden key and variable.
 #[tactic(auto, using(vlt_kinds_names::proofs::Least::least_of_both), unfolding(crate::specs::News::hidden_refused))]
 fn check_both_hidden(scope: &Scope<'_>, at: u32, found: &mut Found)
-    ensures { found.new.least ≡ least_from found.old.least (n.hidden_refused (scope_seen scope.now) true at) }
+    ensures { found.new.least ≡ least_from found.old.least
+        (n.hidden_refused (scope_seen scope.now) true at) }
 {
     check_too_many_keys(scope, at, found);
     check_too_many_vars(scope, at, found);
@@ -334,7 +346,8 @@ fn args_or_none(args: &Option<Items<KeyId>>) -> &[KeyId]
 }
 
 fn type_named(kinds: &Kinds<'_>, named: &Named) -> Option<TypeId>
-    ensures { option_map (λ t. t.0) result ≡ type_named (kinds_seen kinds.now).file (tree.named_of named.now).name }
+    ensures { option_map (λ t. t.0) result ≡ type_named (kinds_seen kinds.now).file
+        (tree.named_of named.now).name }
 {
     match kinds.file.type_named(&named.name) {
         None => None,
@@ -354,7 +367,8 @@ fn number_of_type(t: Option<TypeId>) -> TypeId
 /// What is refused where the right side has a hidden key and variable, which are bound at this place.
 #[tactic(auto, unfolding(crate::specs::News::hidden_refused))]
 pub fn check_hidden(scope: &Scope<'_>, right: &Right, ty: &Option<Ty>, at: u32, found: &mut Found)
-    ensures { found.new.least ≡ least_from found.old.least (n.hidden_refused (scope_seen scope.now)
+    ensures { found.new.least ≡ least_from found.old.least
+        (n.hidden_refused (scope_seen scope.now)
         (n.hides (tree.right_of right.now) (option_map ty_of ty.now)) at) }
 {
     if hides(right, ty) {
@@ -388,8 +402,9 @@ pub fn add_hidden(
     right: &Right,
     ty: &Option<Ty>,
 ) -> Result<(), AllocError>
-    ensures { OnOk result (scope_seen scope.new ≡ n.with_hidden (kinds_seen kinds.now) (scope_seen scope.old)
-        (tree.right_of right.now) (option_map ty_of ty.now)) }
+    ensures { OnOk result (scope_seen scope.new
+        ≡ n.with_hidden (kinds_seen kinds.now) (scope_seen scope.old) (tree.right_of right.now)
+        (option_map ty_of ty.now)) }
 {
     match right {
         Right::New { named, .. } => {
@@ -412,7 +427,8 @@ fn made_operands(
     named: &Named,
     inits: &[Init],
 ) -> Result<Items<Operand>, AllocError>
-    ensures { IfOk result (λ os. map operand_of os ≡ n.made_operands (kinds_seen kinds.now) (scope_seen scope.now)
+    ensures { IfOk result (λ os. map operand_of os
+        ≡ n.made_operands (kinds_seen kinds.now) (scope_seen scope.now)
         (tree.named_of named.now) (map tree.init_of inits.now)) }
 {
     let t = number_of_type(type_named(kinds, named));
@@ -465,9 +481,10 @@ pub fn new_forms(
     named: &Named,
     inits: &[Init],
 ) -> Result<Forms, AllocError>
-    ensures { IfOk result (λ fs. forms_of fs ≡ n.new_forms (kinds_seen kinds.now) (scope_seen scope.now)
-        (target_seen target.now) x.0 hidden.0 (option_map tree.name_of recipient.now) (tree.named_of named.now)
-        (map tree.init_of inits.now)) }
+    ensures { IfOk result (λ fs. forms_of fs
+        ≡ n.new_forms (kinds_seen kinds.now) (scope_seen scope.now)
+        (target_seen target.now) x.0 hidden.0 (option_map tree.name_of recipient.now)
+        (tree.named_of named.now) (map tree.init_of inits.now)) }
 {
     let args = made_operands(alloc, kinds, scope, named, inits)?;
     Ok(made_forms(scope, &target.ty, x, hidden, recipient, args))

@@ -25,7 +25,8 @@ fn known_keys(
     scope: &Scope<'_>,
     names: &[Name],
 ) -> Result<Option<Items<KeyId>>, AllocError>
-    ensures { IfOk result (λ ks. option_map keys_of ks ≡ n.known_keys (scope_seen scope.now) (tree.names_of names.now)) }
+    ensures { IfOk result (λ ks. option_map keys_of ks
+        ≡ n.known_keys (scope_seen scope.now) (tree.names_of names.now)) }
 {
     let mut keys = Items::new(alloc);
     for name in names {
@@ -131,7 +132,8 @@ pub fn field_types(
     fields: &[FieldDecl],
     args: &[KeyId],
 ) -> Result<Items<Ty>, AllocError>
-    ensures { IfOk result (λ ts. map ty_of ts ≡ n.field_types (map field_of fields.now) (keys_of args.now)) }
+    ensures { IfOk result (λ ts. map ty_of ts
+        ≡ n.field_types (map field_of fields.now) (keys_of args.now)) }
 {
     let mut types = Items::new(alloc);
     for field in fields {
@@ -148,8 +150,9 @@ fn check_each_init(
     types: &[Ty],
     found: &mut Found,
 ) -> Result<(), AllocError>
-    ensures { OnOk result (found.new.least ≡ inits_found (kinds_seen kinds.now) (scope_seen scope.now)
-        (map tree.init_of inits.now) (map ty_of types.now) found.old.least) }
+    ensures { OnOk result (found.new.least ≡ inits_found (kinds_seen kinds.now)
+        (scope_seen scope.now) (map tree.init_of inits.now)
+        (map ty_of types.now) found.old.least) }
 {
     for (i, init) in inits.iter().enumerate() {
         match types.get(i) {
@@ -170,8 +173,9 @@ pub fn check_inits(
     types: &[Ty],
     found: &mut Found,
 ) -> Result<(), AllocError>
-    ensures { OnOk result (found.new.least ≡ least_from found.old.least (n.inits_refused (kinds_seen kinds.now)
-        (scope_seen scope.now) (map tree.init_of inits.now) (map ty_of types.now))) }
+    ensures { OnOk result (found.new.least ≡ least_from found.old.least
+        (n.inits_refused (kinds_seen kinds.now) (scope_seen scope.now)
+        (map tree.init_of inits.now) (map ty_of types.now))) }
 {
     check_each_init(alloc, kinds, scope, inits, types, found)?;
     Ok(())
@@ -185,7 +189,8 @@ pub fn init_operands(
     inits: &[Init],
     types: &[Ty],
 ) -> Result<Items<Operand>, AllocError>
-    ensures { IfOk result (λ os. map operand_of os ≡ n.init_operands (kinds_seen kinds.now) (scope_seen scope.now)
+    ensures { IfOk result (λ os. map operand_of os
+        ≡ n.init_operands (kinds_seen kinds.now) (scope_seen scope.now)
         (map tree.init_of inits.now) (map ty_of types.now)) }
 {
     let mut made = Items::new(alloc);

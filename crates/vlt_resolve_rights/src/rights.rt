@@ -23,7 +23,8 @@ use vlt_syntax::Right;
 
 #[tactic(auto, unfolding(crate::specs::Rights::input_refused))]
 fn check_input(wanted: &Ty, ty: &Ty, at: u32, found: &mut Found)
-    ensures { found.new.least ≡ least_from found.old.least (r.input_refused (ty_of wanted.now) (ty_of ty.now) at) }
+    ensures { found.new.least ≡ least_from found.old.least
+        (r.input_refused (ty_of wanted.now) (ty_of ty.now) at) }
 {
     found.add_if(!same_ty(wanted, ty), WRONG_TYPE, at);
 }
@@ -38,9 +39,11 @@ fn target_right(
     right: &Right,
     found: &mut Found,
 ) -> Result<Forms, AllocError>
-    ensures refused { OnOk result (found.new.least ≡ least_from found.old.least (r.target_right_refused
-        (kinds_seen kinds.now) (scope_seen scope.now) (target_seen target.now) (tree.right_of right.now))) }
-    ensures forms { IfOk result (λ fs. forms_of fs ≡ r.target_right_forms (kinds_seen kinds.now) (scope_seen scope.now)
+    ensures refused { OnOk result (found.new.least
+        ≡ least_from found.old.least (r.target_right_refused (kinds_seen kinds.now)
+        (scope_seen scope.now) (target_seen target.now) (tree.right_of right.now))) }
+    ensures forms { IfOk result (λ fs. forms_of fs
+        ≡ r.target_right_forms (kinds_seen kinds.now) (scope_seen scope.now)
         (target_seen target.now) x.0 hidden.0 (tree.right_of right.now)) }
 {
     match right {
@@ -127,7 +130,8 @@ pub fn right_for(
 ) -> Result<Forms, AllocError>
     ensures refused { OnOk result (found.new.least ≡ least_from found.old.least (r.right_refused
         (kinds_seen kinds.now) (scope_seen scope.now) (Some (target_seen target.now)) (tree.right_of right.now))) }
-    ensures forms { IfOk result (λ fs. forms_of fs ≡ r.right_forms (kinds_seen kinds.now) (scope_seen scope.now)
+    ensures forms { IfOk result (λ fs. forms_of fs
+        ≡ r.right_forms (kinds_seen kinds.now) (scope_seen scope.now)
         (Some (target_seen target.now)) x.0 hidden.0 (tree.right_of right.now)) }
 {
     target_right(alloc, kinds, scope, target, x, hidden, right, found)
@@ -148,7 +152,8 @@ pub fn right(
 ) -> Result<Forms, AllocError>
     ensures refused { OnOk result (found.new.least ≡ least_from found.old.least (r.right_refused
         (kinds_seen kinds.now) (scope_seen scope.now) (option_map target_seen target.now) (tree.right_of right.now))) }
-    ensures forms { IfOk result (λ fs. forms_of fs ≡ r.right_forms (kinds_seen kinds.now) (scope_seen scope.now)
+    ensures forms { IfOk result (λ fs. forms_of fs
+        ≡ r.right_forms (kinds_seen kinds.now) (scope_seen scope.now)
         (option_map target_seen target.now) x.0 hidden.0 (tree.right_of right.now)) }
 {
     match target {

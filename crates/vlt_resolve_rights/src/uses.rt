@@ -19,7 +19,8 @@ use vlt_resolve_exprs::Scope;
 use vlt_syntax::{Name, Named};
 
 fn check_typed(given: Option<TypeId>, wanted: u32, tracked: bool, at: u32, found: &mut Found)
-    ensures { found.new.least ≡ least_from found.old.least (n.typed_refused (option_map (λ t. t.0) given) wanted tracked at) }
+    ensures { found.new.least ≡ least_from found.old.least
+        (n.typed_refused (option_map (λ t. t.0) given) wanted tracked at) }
 {
     match given {
         None => found.add(KEY_ARGUMENT, at),
@@ -34,7 +35,8 @@ fn check_typed(given: Option<TypeId>, wanted: u32, tracked: bool, at: u32, found
 }
 
 fn check_wanted(given: Option<TypeId>, wanted: Wanted, tracked: bool, at: u32, found: &mut Found)
-    ensures { found.new.least ≡ least_from found.old.least (n.wanted_refused (option_map (λ t. t.0) given) wanted tracked at) }
+    ensures { found.new.least ≡ least_from found.old.least
+        (n.wanted_refused (option_map (λ t. t.0) given) wanted tracked at) }
 {
     match wanted {
         Wanted::Any => {}
@@ -45,7 +47,8 @@ fn check_wanted(given: Option<TypeId>, wanted: Wanted, tracked: bool, at: u32, f
 
 #[tactic(auto, unfolding(crate::specs::News::use_refused))]
 fn check_use(scope: &Scope<'_>, key: KeyUse<'_>, found: &mut Found)
-    ensures { found.new.least ≡ least_from found.old.least (n.use_refused (scope_seen scope.now) (use_seen key.entry)) }
+    ensures { found.new.least ≡ least_from found.old.least
+        (n.use_refused (scope_seen scope.now) (use_seen key.entry)) }
 {
     match scope.key_named(key.key) {
         None => found.add(UNKNOWN_NAME, key.at),
@@ -54,7 +57,8 @@ fn check_use(scope: &Scope<'_>, key: KeyUse<'_>, found: &mut Found)
 }
 
 fn check_each_use(scope: &Scope<'_>, uses: &[KeyUse<'_>], found: &mut Found)
-    ensures { found.new.least ≡ found_each (n.use_refused (scope_seen scope.now)) (map use_seen uses.now) found.old.least }
+    ensures { found.new.least ≡ found_each (n.use_refused (scope_seen scope.now))
+        (map use_seen uses.now) found.old.least }
 {
     for key in uses {
         check_use(scope, *key, found);
@@ -64,7 +68,8 @@ fn check_each_use(scope: &Scope<'_>, uses: &[KeyUse<'_>], found: &mut Found)
 /// What is refused in the keys of a type: each has to be in scope, and its object of the type that is wanted there.
 #[tactic(auto, using(vlt_kinds_names::proofs::Least::each_is), unfolding(crate::specs::News::uses_refused))]
 pub fn check_uses(scope: &Scope<'_>, uses: &[KeyUse<'_>], found: &mut Found)
-    ensures { found.new.least ≡ least_from found.old.least (n.uses_refused (scope_seen scope.now) (map use_seen uses.now)) }
+    ensures { found.new.least ≡ least_from found.old.least
+        (n.uses_refused (scope_seen scope.now) (map use_seen uses.now)) }
 {
     check_each_use(scope, uses, found);
 }

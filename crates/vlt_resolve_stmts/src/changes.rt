@@ -37,8 +37,9 @@ fn check_put(
     value: &Expr,
     found: &mut Found,
 ) -> Result<(), AllocError>
-    ensures { OnOk result (found.new.least ≡ least_from found.old.least (s.put_refused (kinds_seen kinds.now)
-        (scope_seen scope.now) (tree.name_of base.now) (tree.name_of field.now) (tree.expr_of value.now))) }
+    ensures { OnOk result (found.new.least ≡ least_from found.old.least
+        (s.put_refused (kinds_seen kinds.now) (scope_seen scope.now) (tree.name_of base.now)
+        (tree.name_of field.now) (tree.expr_of value.now))) }
 {
     check_field(kinds, scope, base, field, found);
     let wanted = field_ty(alloc, kinds, scope, base, field)?;
@@ -56,10 +57,13 @@ pub fn put(
     value: &Expr,
     found: &mut Found,
 ) -> Result<Form, AllocError>
-    ensures refused { OnOk result (found.new.least ≡ least_from found.old.least (s.put_refused (kinds_seen kinds.now)
-        (scope_seen scope.now) (tree.name_of base.now) (tree.name_of field.now) (tree.expr_of value.now))) }
-    ensures form { IfOk result (λ f. form_of f ≡ s.core_put (kinds_seen kinds.now) (scope_seen scope.now)
-        (tree.name_of base.now) (tree.name_of field.now) (tree.expr_of value.now)) }
+    ensures refused { OnOk result (found.new.least
+        ≡ least_from found.old.least (s.put_refused (kinds_seen kinds.now)
+        (scope_seen scope.now) (tree.name_of base.now) (tree.name_of field.now)
+        (tree.expr_of value.now))) }
+    ensures form { IfOk result (λ f. form_of f
+        ≡ s.core_put (kinds_seen kinds.now) (scope_seen scope.now) (tree.name_of base.now)
+        (tree.name_of field.now) (tree.expr_of value.now)) }
 {
     check_put(alloc, kinds, scope, base, field, value, found)?;
     let number = field_number(kinds, scope, base, field)?;
@@ -84,8 +88,9 @@ fn is_releasable(kinds: &Kinds<'_>, ty: &Ty) -> bool
 
 #[tactic(auto, unfolding(crate::specs::Statements::release_refused))]
 fn check_release(kinds: &Kinds<'_>, ty: Option<&Ty>, name: &Name, found: &mut Found)
-    ensures { found.new.least ≡ least_from found.old.least (s.release_refused (kinds_seen kinds.now)
-        (option_map (λ t. ty_of t.now) ty.entry) (tree.name_of name.now)) }
+    ensures { found.new.least ≡ least_from found.old.least
+        (s.release_refused (kinds_seen kinds.now) (option_map (λ t. ty_of t.now) ty.entry)
+        (tree.name_of name.now)) }
 {
     match ty {
         None => found.add(UNKNOWN_NAME, name.at.from),
@@ -104,9 +109,11 @@ fn release_form(ty: Option<&Ty>, v: VarId) -> Form
 }
 
 pub fn release(kinds: &Kinds<'_>, scope: &Scope<'_>, name: &Name, found: &mut Found) -> Form
-    ensures refused { found.new.least ≡ least_from found.old.least (s.release_refused (kinds_seen kinds.now)
+    ensures refused { found.new.least ≡ least_from found.old.least
+        (s.release_refused (kinds_seen kinds.now)
         (var_ty (scope_seen scope.now) (tree.name_of name.now).text) (tree.name_of name.now)) }
-    ensures form { form_of result ≡ s.release_form (var_ty (scope_seen scope.now) (tree.name_of name.now).text)
+    ensures form { form_of result ≡ s.release_form
+        (var_ty (scope_seen scope.now) (tree.name_of name.now).text)
         (e.var_number (scope_seen scope.now) (tree.name_of name.now)) }
 {
     check_release(kinds, scope.var_ty(name.text.as_slice()), name, found);
@@ -127,8 +134,9 @@ fn state_of(kinds: &Kinds<'_>, t: TypeId, name: &Name) -> Option<u8>
 
 #[tactic(auto, unfolding(crate::specs::Statements::state_refused))]
 fn check_state(kinds: &Kinds<'_>, t: TypeId, name: &Name, state: &Name, found: &mut Found)
-    ensures { found.new.least ≡ least_from found.old.least (s.state_refused (kinds_seen kinds.now) t.0
-        (tree.name_of name.now) (tree.name_of state.now)) }
+    ensures { found.new.least ≡ least_from found.old.least
+        (s.state_refused (kinds_seen kinds.now) t.0 (tree.name_of name.now)
+        (tree.name_of state.now)) }
 {
     if is_struct(kinds.types.get(t.0 as usize)) {
         found.add_if(
@@ -143,8 +151,9 @@ fn check_state(kinds: &Kinds<'_>, t: TypeId, name: &Name, state: &Name, found: &
 
 #[tactic(auto, unfolding(crate::specs::Statements::become_refused))]
 fn check_become(kinds: &Kinds<'_>, ty: Option<&Ty>, name: &Name, state: &Name, found: &mut Found)
-    ensures { found.new.least ≡ least_from found.old.least (s.become_refused (kinds_seen kinds.now)
-        (option_map (λ t. ty_of t.now) ty.entry) (tree.name_of name.now) (tree.name_of state.now)) }
+    ensures { found.new.least ≡ least_from found.old.least
+        (s.become_refused (kinds_seen kinds.now) (option_map (λ t. ty_of t.now) ty.entry)
+        (tree.name_of name.now) (tree.name_of state.now)) }
 {
     match ty {
         None => found.add(UNKNOWN_NAME, name.at.from),
@@ -164,8 +173,8 @@ fn tracked_type(ty: Option<&Ty>) -> TypeId
 
 #[tactic(auto, unfolding(crate::specs::Statements::core_become))]
 fn become_form(kinds: &Kinds<'_>, scope: &Scope<'_>, name: &Name, state: &Name) -> Form
-    ensures { form_of result ≡ s.core_become (kinds_seen kinds.now) (scope_seen scope.now) (tree.name_of name.now)
-        (tree.name_of state.now) }
+    ensures { form_of result ≡ s.core_become (kinds_seen kinds.now) (scope_seen scope.now)
+        (tree.name_of name.now) (tree.name_of state.now) }
 {
     let t = tracked_type(scope.var_ty(name.text.as_slice()));
     let number = match state_of(kinds, t, state) {
@@ -185,10 +194,12 @@ pub fn change_state(
     state: &Name,
     found: &mut Found,
 ) -> Form
-    ensures refused { found.new.least ≡ least_from found.old.least (s.become_refused (kinds_seen kinds.now)
-        (var_ty (scope_seen scope.now) (tree.name_of name.now).text) (tree.name_of name.now) (tree.name_of state.now)) }
-    ensures form { form_of result ≡ s.core_become (kinds_seen kinds.now) (scope_seen scope.now) (tree.name_of name.now)
-        (tree.name_of state.now) }
+    ensures refused { found.new.least ≡ least_from found.old.least
+        (s.become_refused (kinds_seen kinds.now)
+        (var_ty (scope_seen scope.now) (tree.name_of name.now).text) (tree.name_of name.now)
+        (tree.name_of state.now)) }
+    ensures form { form_of result ≡ s.core_become (kinds_seen kinds.now) (scope_seen scope.now)
+        (tree.name_of name.now) (tree.name_of state.now) }
 {
     check_become(
         kinds,
@@ -222,8 +233,10 @@ fn check_owner(
     variable: &Name,
     found: &mut Found,
 ) -> Result<(), AllocError>
-    ensures { OnOk result (found.new.least ≡ least_from found.old.least (s.owner_refused (keys_of args.now)
-        (field_of decl.now) (option_map (λ t. ty_of t.now) given.entry) (tree.name_of base.now) (tree.name_of variable.now))) }
+    ensures { OnOk result (found.new.least ≡ least_from found.old.least
+        (s.owner_refused (keys_of args.now) (field_of decl.now)
+        (option_map (λ t. ty_of t.now) given.entry) (tree.name_of base.now)
+        (tree.name_of variable.now))) }
 {
     if is_owning(&decl.ty) {
         let wanted = ty_under(alloc, args, &decl.ty)?;
@@ -244,9 +257,11 @@ fn check_swapped_field(
     variable: &Name,
     found: &mut Found,
 ) -> Result<(), AllocError>
-    ensures { OnOk result (found.new.least ≡ least_from found.old.least (s.swapped_field_refused (keys_of args.now)
-        (option_map (λ d. field_of d.now) decl.entry) (option_map (λ t. ty_of t.now) given.entry)
-        (tree.name_of base.now) (tree.name_of field.now) (tree.name_of variable.now))) }
+    ensures { OnOk result (found.new.least ≡ least_from found.old.least
+        (s.swapped_field_refused (keys_of args.now)
+        (option_map (λ d. field_of d.now) decl.entry)
+        (option_map (λ t. ty_of t.now) given.entry) (tree.name_of base.now)
+        (tree.name_of field.now) (tree.name_of variable.now))) }
 {
     match decl {
         None => {
@@ -268,9 +283,10 @@ fn check_base(
     variable: &Name,
     found: &mut Found,
 ) -> Result<(), AllocError>
-    ensures { OnOk result (found.new.least ≡ least_from found.old.least (s.base_refused (kinds_seen kinds.now)
-        (option_map (λ t. ty_of t.now) ty.entry) (option_map (λ t. ty_of t.now) given.entry)
-        (tree.name_of base.now) (tree.name_of field.now) (tree.name_of variable.now))) }
+    ensures { OnOk result (found.new.least ≡ least_from found.old.least
+        (s.base_refused (kinds_seen kinds.now) (option_map (λ t. ty_of t.now) ty.entry)
+        (option_map (λ t. ty_of t.now) given.entry) (tree.name_of base.now)
+        (tree.name_of field.now) (tree.name_of variable.now))) }
 {
     match ty {
         None => {
@@ -306,8 +322,9 @@ fn check_swap(
     variable: &Name,
     found: &mut Found,
 ) -> Result<(), AllocError>
-    ensures { OnOk result (found.new.least ≡ least_from found.old.least (s.swap_refused (kinds_seen kinds.now)
-        (scope_seen scope.now) (tree.name_of base.now) (tree.name_of field.now) (tree.name_of variable.now))) }
+    ensures { OnOk result (found.new.least ≡ least_from found.old.least
+        (s.swap_refused (kinds_seen kinds.now) (scope_seen scope.now) (tree.name_of base.now)
+        (tree.name_of field.now) (tree.name_of variable.now))) }
 {
     let ty = scope.var_ty(base.text.as_slice());
     let given = scope.var_ty(variable.text.as_slice());
@@ -326,10 +343,13 @@ pub fn swap(
     variable: &Name,
     found: &mut Found,
 ) -> Result<Form, AllocError>
-    ensures refused { OnOk result (found.new.least ≡ least_from found.old.least (s.swap_refused (kinds_seen kinds.now)
-        (scope_seen scope.now) (tree.name_of base.now) (tree.name_of field.now) (tree.name_of variable.now))) }
-    ensures form { IfOk result (λ f. form_of f ≡ s.core_swap (kinds_seen kinds.now) (scope_seen scope.now)
-        (tree.name_of base.now) (tree.name_of field.now) (tree.name_of variable.now)) }
+    ensures refused { OnOk result (found.new.least
+        ≡ least_from found.old.least (s.swap_refused (kinds_seen kinds.now)
+        (scope_seen scope.now) (tree.name_of base.now) (tree.name_of field.now)
+        (tree.name_of variable.now))) }
+    ensures form { IfOk result (λ f. form_of f
+        ≡ s.core_swap (kinds_seen kinds.now) (scope_seen scope.now) (tree.name_of base.now)
+        (tree.name_of field.now) (tree.name_of variable.now)) }
 {
     check_swap(alloc, kinds, scope, base, field, variable, found)?;
     let number = field_number(kinds, scope, base, field)?;

@@ -143,12 +143,13 @@ fn declare_behind<'a>(
     value: &Right,
     found: &mut Found,
 ) -> Result<Forms, AllocError>
-    ensures refused { OnOk result (found.new.least ≡ least_from found.old.least (d.hidden_right_refused
-        (kinds_seen kinds.now) (scope_seen scope.old) (target_seen target.now) (tree.name_of name.now)
+    ensures refused { OnOk result (found.new.least
+        ≡ least_from found.old.least (d.hidden_right_refused (kinds_seen kinds.now)
+        (scope_seen scope.old) (target_seen target.now) (tree.name_of name.now)
         (tree.right_of value.now))) }
-    ensures became { IfOk result (λ fs. d.declared_became (kinds_seen kinds.now) hidden.0 (scope_seen scope.old)
-        (target_seen target.now) (tree.name_of name.now) (tree.right_of value.now)
-        ≡ (forms_of fs, scope_seen scope.new)) }
+    ensures became { IfOk result (λ fs. d.declared_became (kinds_seen kinds.now) hidden.0
+        (scope_seen scope.old) (target_seen target.now) (tree.name_of name.now)
+        (tree.right_of value.now) ≡ (forms_of fs, scope_seen scope.new)) }
 {
     check_new_var(kinds, scope, name, found);
     let x = next_var(scope)?;
@@ -169,12 +170,13 @@ fn declare_target<'a>(
     at: u32,
     found: &mut Found,
 ) -> Result<Forms, AllocError>
-    ensures refused { OnOk result (found.new.least ≡ least_from found.old.least (d.declared_refused
-        (kinds_seen kinds.now) (scope_seen scope.old) (target_seen target.now) (tree.name_of name.now)
+    ensures refused { OnOk result (found.new.least
+        ≡ least_from found.old.least (d.declared_refused (kinds_seen kinds.now)
+        (scope_seen scope.old) (target_seen target.now) (tree.name_of name.now)
         (tree.right_of value.now) at)) }
-    ensures became { IfOk result (λ fs. d.hidden_became (kinds_seen kinds.now) (scope_seen scope.old)
-        (target_seen target.now) (tree.name_of name.now) (tree.right_of value.now)
-        ≡ (forms_of fs, scope_seen scope.new)) }
+    ensures became { IfOk result (λ fs. d.hidden_became (kinds_seen kinds.now)
+        (scope_seen scope.old) (target_seen target.now) (tree.name_of name.now)
+        (tree.right_of value.now) ≡ (forms_of fs, scope_seen scope.new)) }
 {
     let ty = Some(copy_ty(alloc, &target.ty)?);
     check_hidden(scope, value, &ty, at, found);
@@ -200,8 +202,9 @@ fn declare_keyed<'a>(
     ensures refused { OnOk result (found.new.least ≡ least_from found.old.least (d.keyed_refused
         (kinds_seen kinds.now) binds (scope_seen scope.old) (tree.ty_of ty.now) (tree.name_of name.now)
         (tree.right_of value.now) at)) }
-    ensures became { IfOk result (λ fs. d.keyed_became (kinds_seen kinds.now) binds (scope_seen scope.old)
-        (tree.ty_of ty.now) (tree.name_of name.now) (tree.right_of value.now) ≡ (forms_of fs, scope_seen scope.new)) }
+    ensures became { IfOk result (λ fs. d.keyed_became (kinds_seen kinds.now) binds
+        (scope_seen scope.old) (tree.ty_of ty.now) (tree.name_of name.now)
+        (tree.right_of value.now) ≡ (forms_of fs, scope_seen scope.new)) }
 {
     check_type(alloc, kinds, scope, ty, found)?;
     let target = Target {
@@ -227,8 +230,9 @@ pub fn declare<'a>(
     ensures refused { OnOk result (found.new.least ≡ least_from found.old.least (d.declare_refused
         (kinds_seen kinds.now) (scope_seen scope.old) (tree.ty_of ty.now) (tree.name_of name.now)
         (tree.right_of value.now) at)) }
-    ensures became { IfOk result (λ fs. d.declare_became (kinds_seen kinds.now) (scope_seen scope.old)
-        (tree.ty_of ty.now) (tree.name_of name.now) (tree.right_of value.now) ≡ (forms_of fs, scope_seen scope.new)) }
+    ensures became { IfOk result (λ fs. d.declare_became (kinds_seen kinds.now)
+        (scope_seen scope.old) (tree.ty_of ty.now) (tree.name_of name.now)
+        (tree.right_of value.now) ≡ (forms_of fs, scope_seen scope.new)) }
 {
     check_bound_key(kinds, scope, ty, found);
     let binds = binds_key(scope, ty);
@@ -240,7 +244,8 @@ pub fn declare<'a>(
 // ---- assignments
 
 fn assigned_target(alloc: Heap, ty: &Option<vlt_core::Ty>) -> Result<Option<Target>, AllocError>
-    ensures { IfOk result (λ t. option_map target_seen t ≡ d.assigned_target (option_map ty_of ty.now)) }
+    ensures { IfOk result (λ t. option_map target_seen t
+        ≡ d.assigned_target (option_map ty_of ty.now)) }
 {
     match ty {
         None => Ok(None),
@@ -257,7 +262,8 @@ pub fn known_ty(
     scope: &Scope<'_>,
     name: &Name,
 ) -> Result<Option<vlt_core::Ty>, AllocError>
-    ensures { IfOk result (λ t. option_map ty_of t ≡ var_ty (scope_seen scope.now) (tree.name_of name.now).text) }
+    ensures { IfOk result (λ t. option_map ty_of t
+        ≡ var_ty (scope_seen scope.now) (tree.name_of name.now).text) }
 {
     match scope.var_ty(name.text.as_slice()) {
         None => Ok(None),
@@ -278,8 +284,9 @@ pub fn assign(
 ) -> Result<Forms, AllocError>
     ensures refused { OnOk result (found.new.least ≡ least_from found.old.least (d.assign_refused
         (kinds_seen kinds.now) (scope_seen scope.old) (tree.name_of name.now) (tree.right_of value.now) at)) }
-    ensures became { IfOk result (λ fs. d.assign_became (kinds_seen kinds.now) (scope_seen scope.old)
-        (tree.name_of name.now) (tree.right_of value.now) ≡ (forms_of fs, scope_seen scope.new)) }
+    ensures became { IfOk result (λ fs. d.assign_became (kinds_seen kinds.now)
+        (scope_seen scope.old) (tree.name_of name.now) (tree.right_of value.now)
+        ≡ (forms_of fs, scope_seen scope.new)) }
 {
     let ty = known_ty(alloc, scope, name)?;
     let x = var_number(scope, name);

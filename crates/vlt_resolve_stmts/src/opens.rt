@@ -23,7 +23,8 @@ use vlt_resolve_exprs::{
 use vlt_syntax::Name;
 
 fn owning_types(alloc: Heap, args: &[KeyId], fields: &[FieldDecl]) -> Result<Items<Ty>, AllocError>
-    ensures { IfOk result (λ ts. map ty_of ts ≡ s.owning_types (keys_of args.now) (map field_of fields.now)) }
+    ensures { IfOk result (λ ts. map ty_of ts
+        ≡ s.owning_types (keys_of args.now) (map field_of fields.now)) }
 {
     let mut types = Items::new(alloc);
     for field in fields {
@@ -40,7 +41,8 @@ fn parts_of(
     t: TypeId,
     args: &[KeyId],
 ) -> Result<Option<Items<Ty>>, AllocError>
-    ensures { IfOk result (λ ts. option_map (map ty_of) ts ≡ s.parts_of (kinds_seen kinds.now) t.0 (keys_of args.now)) }
+    ensures { IfOk result (λ ts. option_map (map ty_of) ts
+        ≡ s.parts_of (kinds_seen kinds.now) t.0 (keys_of args.now)) }
 {
     if is_struct(kinds.types.get(t.0 as usize)) {
         Ok(Some(owning_types(alloc, args, fields_of(kinds, t))?))
@@ -86,11 +88,14 @@ fn open_parts<'a>(
     at: u32,
     found: &mut Found,
 ) -> Result<Forms, AllocError>
-    ensures refused { OnOk result (found.new.least ≡ least_from found.old.least (s.opened_refused (kinds_seen kinds.now)
-        (scope_seen scope.old) (option_map (map ty_of) types.now) (var_ty (scope_seen scope.old) (tree.name_of name.now).text)
-        (tree.name_of name.now) (tree.names_of parts.now) at)) }
-    ensures became { IfOk result (λ fs. s.opened_became (scope_seen scope.old) (option_map (map ty_of) types.now)
-        (tree.name_of name.now) (tree.names_of parts.now) ≡ (forms_of fs, scope_seen scope.new)) }
+    ensures refused { OnOk result (found.new.least
+        ≡ least_from found.old.least (s.opened_refused (kinds_seen kinds.now)
+        (scope_seen scope.old) (option_map (map ty_of) types.now)
+        (var_ty (scope_seen scope.old) (tree.name_of name.now).text) (tree.name_of name.now)
+        (tree.names_of parts.now) at)) }
+    ensures became { IfOk result (λ fs. s.opened_became (scope_seen scope.old)
+        (option_map (map ty_of) types.now) (tree.name_of name.now) (tree.names_of parts.now)
+        ≡ (forms_of fs, scope_seen scope.new)) }
 {
     match types {
         None => {
@@ -116,7 +121,8 @@ pub fn open<'a>(
     at: u32,
     found: &mut Found,
 ) -> Result<Forms, AllocError>
-    ensures refused { OnOk result (found.new.least ≡ least_from found.old.least (s.open_refused (kinds_seen kinds.now)
+    ensures refused { OnOk result (found.new.least
+        ≡ least_from found.old.least (s.open_refused (kinds_seen kinds.now)
         (scope_seen scope.old) (tree.name_of name.now) (tree.names_of parts.now) at)) }
     ensures became { IfOk result (λ fs. s.open_became (kinds_seen kinds.now) (scope_seen scope.old)
         (tree.name_of name.now) (tree.names_of parts.now) ≡ (forms_of fs, scope_seen scope.new)) }

@@ -51,7 +51,8 @@ fn is_given_back(entry: &Entry) -> bool
 }
 
 fn gives_key_back(key: KeyId, clause: &[Entry]) -> bool
-    ensures { result ≡ list_any (λ e. (e.key == key.0) && is_given_back e) (map entry_of clause.now) }
+    ensures { result ≡ list_any (λ e. (e.key == key.0) && is_given_back e)
+        (map entry_of clause.now) }
 {
     for entry in clause {
         if entry.key.0 == key.0 && is_given_back(entry) {
@@ -79,7 +80,8 @@ fn check_fresh_given(
     at: u32,
     found: &mut Found,
 )
-    ensures { found.new.least ≡ least_from found.old.least (s.fresh_misfit (map entry_of clause.now) (ty_of wanted.now)
+    ensures { found.new.least ≡ least_from found.old.least
+        (s.fresh_misfit (map entry_of clause.now) (ty_of wanted.now)
         (option_map ty_of given.now) value at) }
 {
     match given {
@@ -105,8 +107,9 @@ fn check_fresh(
     at: u32,
     found: &mut Found,
 ) -> Result<(), AllocError>
-    ensures { OnOk result (found.new.least ≡ least_from found.old.least (s.fresh_refused (kinds_seen kinds.now)
-        (scope_seen scope.now) (map entry_of clause.now) (ty_of wanted.now) (tree.expr_of expr.now) at)) }
+    ensures { OnOk result (found.new.least ≡ least_from found.old.least
+        (s.fresh_refused (kinds_seen kinds.now) (scope_seen scope.now) (map entry_of clause.now)
+        (ty_of wanted.now) (tree.expr_of expr.now) at)) }
 {
     check_any(alloc, kinds, scope, expr, found)?;
     let given = type_of(alloc, kinds, scope, expr)?;
@@ -125,8 +128,9 @@ fn check_value(
     at: u32,
     found: &mut Found,
 ) -> Result<(), AllocError>
-    ensures { OnOk result (found.new.least ≡ least_from found.old.least (s.value_refused (kinds_seen kinds.now)
-        (scope_seen scope.now) (map entry_of clause.now) (ty_of wanted.now) (tree.expr_of expr.now) at)) }
+    ensures { OnOk result (found.new.least ≡ least_from found.old.least
+        (s.value_refused (kinds_seen kinds.now) (scope_seen scope.now) (map entry_of clause.now)
+        (ty_of wanted.now) (tree.expr_of expr.now) at)) }
 {
     if has_fresh(clause) {
         check_fresh(alloc, kinds, scope, clause, wanted, expr, at, found)
@@ -145,8 +149,9 @@ fn check_value_for(
     at: u32,
     found: &mut Found,
 ) -> Result<(), AllocError>
-    ensures { OnOk result (found.new.least ≡ least_from found.old.least (s.value_refused_for (kinds_seen kinds.now)
-        (scope_seen scope.now) (map entry_of clause.now) (option_map ty_of wanted.now) (tree.expr_of expr.now) at)) }
+    ensures { OnOk result (found.new.least ≡ least_from found.old.least
+        (s.value_refused_for (kinds_seen kinds.now) (scope_seen scope.now)
+        (map entry_of clause.now) (option_map ty_of wanted.now) (tree.expr_of expr.now) at)) }
 {
     match wanted {
         None => Ok(()),
@@ -161,7 +166,8 @@ fn returned_value(
     wanted: &Option<Ty>,
     expr: &Expr,
 ) -> Result<Forms, AllocError>
-    ensures { IfOk result (λ fs. forms_of fs ≡ s.returned_value (kinds_seen kinds.now) (scope_seen scope.now)
+    ensures { IfOk result (λ fs. forms_of fs
+        ≡ s.returned_value (kinds_seen kinds.now) (scope_seen scope.now)
         (option_map ty_of wanted.now) (tree.expr_of expr.now)) }
 {
     match wanted {
@@ -193,10 +199,13 @@ fn return_known_build(
     built: &Build,
     found: &mut Found,
 ) -> Result<Forms, AllocError>
-    ensures refused { OnOk result (found.new.least ≡ least_from found.old.least (b.build_refused (kinds_seen kinds.now)
-        (more_var (scope_seen scope.old) [] (ty_of wanted.now)) (ty_of wanted.now) (tree.build_of built.now))) }
-    ensures became { IfOk result (λ fs. s.returned_build (kinds_seen kinds.now) (scope_seen scope.old)
-        (Some (ty_of wanted.now)) (tree.build_of built.now) ≡ (forms_of fs, scope_seen scope.new)) }
+    ensures refused { OnOk result (found.new.least
+        ≡ least_from found.old.least (b.build_refused (kinds_seen kinds.now)
+        (more_var (scope_seen scope.old) [] (ty_of wanted.now)) (ty_of wanted.now)
+        (tree.build_of built.now))) }
+    ensures became { IfOk result (λ fs. s.returned_build (kinds_seen kinds.now)
+        (scope_seen scope.old) (Some (ty_of wanted.now)) (tree.build_of built.now)
+        ≡ (forms_of fs, scope_seen scope.new)) }
 {
     let hidden = scope.add_hidden_var(alloc, &[], copy_ty(alloc, wanted)?)?;
     let form = build(alloc, kinds, scope, wanted, hidden, built, found)?;
@@ -214,10 +223,12 @@ fn return_build_for(
     built: &Build,
     found: &mut Found,
 ) -> Result<Forms, AllocError>
-    ensures refused { OnOk result (found.new.least ≡ least_from found.old.least (s.build_refused_for
-        (kinds_seen kinds.now) (scope_seen scope.old) (option_map ty_of wanted.now) (tree.build_of built.now))) }
-    ensures became { IfOk result (λ fs. s.returned_build (kinds_seen kinds.now) (scope_seen scope.old)
-        (option_map ty_of wanted.now) (tree.build_of built.now) ≡ (forms_of fs, scope_seen scope.new)) }
+    ensures refused { OnOk result (found.new.least
+        ≡ least_from found.old.least (s.build_refused_for (kinds_seen kinds.now)
+        (scope_seen scope.old) (option_map ty_of wanted.now) (tree.build_of built.now))) }
+    ensures became { IfOk result (λ fs. s.returned_build (kinds_seen kinds.now)
+        (scope_seen scope.old) (option_map ty_of wanted.now) (tree.build_of built.now)
+        ≡ (forms_of fs, scope_seen scope.new)) }
 {
     match wanted {
         None => Ok(Forms::Nothing),
@@ -236,10 +247,12 @@ fn return_build(
     at: u32,
     found: &mut Found,
 ) -> Result<Forms, AllocError>
-    ensures refused { OnOk result (found.new.least ≡ least_from found.old.least (s.built_refused (kinds_seen kinds.now)
+    ensures refused { OnOk result (found.new.least
+        ≡ least_from found.old.least (s.built_refused (kinds_seen kinds.now)
         (scope_seen scope.old) (option_map ty_of wanted.now) (tree.build_of built.now) at)) }
-    ensures became { IfOk result (λ fs. s.returned_build (kinds_seen kinds.now) (scope_seen scope.old)
-        (option_map ty_of wanted.now) (tree.build_of built.now) ≡ (forms_of fs, scope_seen scope.new)) }
+    ensures became { IfOk result (λ fs. s.returned_build (kinds_seen kinds.now)
+        (scope_seen scope.old) (option_map ty_of wanted.now) (tree.build_of built.now)
+        ≡ (forms_of fs, scope_seen scope.new)) }
 {
     check_too_many_vars(scope, at, found);
     let forms = return_build_for(alloc, kinds, scope, wanted, built, found)?;
@@ -258,10 +271,12 @@ fn returned(
     at: u32,
     found: &mut Found,
 ) -> Result<Forms, AllocError>
-    ensures refused { OnOk result (found.new.least ≡ least_from found.old.least (s.returned_refused (kinds_seen kinds.now)
+    ensures refused { OnOk result (found.new.least
+        ≡ least_from found.old.least (s.returned_refused (kinds_seen kinds.now)
         (around_seen around.entry) (scope_seen scope.old) (tree.returned_of gives.now) at)) }
-    ensures became { IfOk result (λ fs. s.return_became (kinds_seen kinds.now) (around_seen around.entry)
-        (scope_seen scope.old) (tree.returned_of gives.now) ≡ (forms_of fs, scope_seen scope.new)) }
+    ensures became { IfOk result (λ fs. s.return_became (kinds_seen kinds.now)
+        (around_seen around.entry) (scope_seen scope.old) (tree.returned_of gives.now)
+        ≡ (forms_of fs, scope_seen scope.new)) }
 {
     match gives {
         Returned::Nothing => Ok(Forms::One(Form::Return { value: None })),
@@ -311,10 +326,12 @@ pub fn return_stmt(
     at: u32,
     found: &mut Found,
 ) -> Result<Forms, AllocError>
-    ensures refused { OnOk result (found.new.least ≡ least_from found.old.least (s.return_refused (kinds_seen kinds.now)
+    ensures refused { OnOk result (found.new.least
+        ≡ least_from found.old.least (s.return_refused (kinds_seen kinds.now)
         (around_seen around.entry) (scope_seen scope.old) (tree.returned_of gives.now) at)) }
-    ensures became { IfOk result (λ fs. s.return_became (kinds_seen kinds.now) (around_seen around.entry)
-        (scope_seen scope.old) (tree.returned_of gives.now) ≡ (forms_of fs, scope_seen scope.new)) }
+    ensures became { IfOk result (λ fs. s.return_became (kinds_seen kinds.now)
+        (around_seen around.entry) (scope_seen scope.old) (tree.returned_of gives.now)
+        ≡ (forms_of fs, scope_seen scope.new)) }
 {
     found.add_if(around.in_focus, WRONG_JUMP, at);
     found.add_if(

@@ -28,7 +28,8 @@ use vlt_syntax::{Expr, Stmt};
 
 #[tactic(auto, unfolding(crate::specs::Statements::jump_refused))]
 fn check_jump(around: Around<'_>, at: u32, found: &mut Found)
-    ensures { found.new.least ≡ least_from found.old.least (s.jump_refused (around_seen around.entry) at) }
+    ensures { found.new.least ≡ least_from found.old.least
+        (s.jump_refused (around_seen around.entry) at) }
 {
     found.add_if(!around.in_loop, WRONG_JUMP, at);
 }
@@ -40,7 +41,8 @@ fn print(
     value: &Expr,
     found: &mut Found,
 ) -> Result<Form, AllocError>
-    ensures refused { OnOk result (found.new.least ≡ least_from found.old.least (e.wanted_refused (kinds_seen kinds.now)
+    ensures refused { OnOk result (found.new.least
+        ≡ least_from found.old.least (e.wanted_refused (kinds_seen kinds.now)
         (scope_seen scope.now) (Some core.int) (tree.expr_of value.now))) }
     ensures form { IfOk result (λ f. form_of f
         ≡ core.simple (core.print (e.core_expr (kinds_seen kinds.now) (scope_seen scope.now) (tree.expr_of value.now)))) }
@@ -59,10 +61,12 @@ pub fn simple<'a>(
     stmt: &'a Stmt,
     found: &mut Found,
 ) -> Result<Forms, AllocError>
-    ensures refused { OnOk result (found.new.least ≡ least_from found.old.least (s.simple_refused (kinds_seen kinds.now)
+    ensures refused { OnOk result (found.new.least
+        ≡ least_from found.old.least (s.simple_refused (kinds_seen kinds.now)
         (around_seen around.entry) (scope_seen scope.old) (tree.stmt_of stmt.now))) }
-    ensures became { IfOk result (λ fs. s.simple_became (kinds_seen kinds.now) (around_seen around.entry)
-        (scope_seen scope.old) (tree.stmt_of stmt.now) ≡ (forms_of fs, scope_seen scope.new)) }
+    ensures became { IfOk result (λ fs. s.simple_became (kinds_seen kinds.now)
+        (around_seen around.entry) (scope_seen scope.old) (tree.stmt_of stmt.now)
+        ≡ (forms_of fs, scope_seen scope.new)) }
 {
     match stmt {
         Stmt::Declare {

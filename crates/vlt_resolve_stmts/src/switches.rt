@@ -116,8 +116,9 @@ fn check_cases(
     at: u32,
     found: &mut Found,
 ) -> Result<(), AllocError>
-    ensures { OnOk result (found.new.least ≡ least_from found.old.least (s.cases_refused (kinds_seen kinds.now)
-        (option_map ty_of ty.now) (tree.name_of name.now) (texts_seen names.now) at)) }
+    ensures { OnOk result (found.new.least ≡ least_from found.old.least
+        (s.cases_refused (kinds_seen kinds.now) (option_map ty_of ty.now)
+        (tree.name_of name.now) (texts_seen names.now) at)) }
 {
     match ty {
         None => found.add(UNKNOWN_NAME, name.at.from),
@@ -140,8 +141,9 @@ pub fn check_switch(
     at: u32,
     found: &mut Found,
 ) -> Result<(), AllocError>
-    ensures { OnOk result (found.new.least ≡ least_from found.old.least (s.switch_refused (kinds_seen kinds.now)
-        (option_map ty_of ty.now) (tree.name_of name.now) (texts_seen names.now) at)) }
+    ensures { OnOk result (found.new.least ≡ least_from found.old.least
+        (s.switch_refused (kinds_seen kinds.now) (option_map ty_of ty.now)
+        (tree.name_of name.now) (texts_seen names.now) at)) }
 {
     found.add_if(!are_distinct(names), WRONG_SWITCH, at);
     check_cases(alloc, kinds, ty, name, names, at, found)?;
@@ -177,8 +179,10 @@ pub fn bind_arm<'a>(
     names: &'a [Name],
     found: &mut Found,
 ) -> Result<Items<VarId>, AllocError>
-    ensures refused { OnOk result (found.new.least ≡ least_from found.old.least (s.arm_refused (kinds_seen kinds.now)
-        (scope_seen scope.old) (option_map case_seen case.now) (tree.name_of tick.now) (tree.names_of names.now))) }
+    ensures refused { OnOk result (found.new.least
+        ≡ least_from found.old.least (s.arm_refused (kinds_seen kinds.now)
+        (scope_seen scope.old) (option_map case_seen case.now) (tree.name_of tick.now)
+        (tree.names_of names.now))) }
     ensures scope { OnOk result (scope_seen scope.new
         ≡ s.arm_scope (scope_seen scope.old) (option_map case_seen case.now) (tree.names_of names.now)) }
     ensures numbers { IfOk result (λ vs. vars_of vs
@@ -257,8 +261,10 @@ fn bind_focus_names<'a>(
     alias: &'a Name,
     found: &mut Found,
 ) -> Result<(), AllocError>
-    ensures refused { OnOk result (found.new.least ≡ least_from found.old.least (s.bound_refused (kinds_seen kinds.now)
-        (scope_seen scope.old) (option_map ty_of ty.now) (tree.name_of key.now) (tree.name_of alias.now))) }
+    ensures refused { OnOk result (found.new.least
+        ≡ least_from found.old.least (s.bound_refused (kinds_seen kinds.now)
+        (scope_seen scope.old) (option_map ty_of ty.now) (tree.name_of key.now)
+        (tree.name_of alias.now))) }
     ensures scope { OnOk result (scope_seen scope.new ≡ s.bound_scope (scope_seen scope.old)
         (option_map ty_of ty.now) (tree.name_of key.now) (tree.name_of alias.now)) }
 {
@@ -282,9 +288,10 @@ pub fn bind_focus<'a>(
     alias: &'a Name,
     found: &mut Found,
 ) -> Result<(), AllocError>
-    ensures refused { OnOk result (found.new.least ≡ least_from found.old.least (s.focus_refused (kinds_seen kinds.now)
-        (scope_seen scope.old) (option_map ty_of ty.now) (tree.name_of name.now) (tree.name_of key.now)
-        (tree.name_of alias.now))) }
+    ensures refused { OnOk result (found.new.least
+        ≡ least_from found.old.least (s.focus_refused (kinds_seen kinds.now)
+        (scope_seen scope.old) (option_map ty_of ty.now) (tree.name_of name.now)
+        (tree.name_of key.now) (tree.name_of alias.now))) }
     ensures scope { OnOk result (scope_seen scope.new ≡ s.bound_scope (scope_seen scope.old)
         (option_map ty_of ty.now) (tree.name_of key.now) (tree.name_of alias.now)) }
 {

@@ -74,7 +74,8 @@ fn set_parent(places: &mut Vec<Place>, c: u32, parent: Option<u32>)
 /// Gives a place to a thing without a parent.
 fn set_place(places: &mut Vec<Place>, c: u32, number: u64)
     requires { c < length places.old.items }
-    ensures set { WasSet (λ p. record { number = number; mark = Alive; parent = None }) c places.old.items places.new.items }
+    ensures set { WasSet (λ p. record { number = number; mark = Alive; parent = None }) c
+        places.old.items places.new.items }
     ensures room { vec_capacity places.new ≡ vec_capacity places.old }
 {
     places[c as usize] = Place {
@@ -156,7 +157,8 @@ impl Places {
         requires sound { IsSound self.old }
         requires live { IsMarked Alive self.old.places.items c }
         ensures sound { IsSound self.new }
-        ensures set { WasSet (λ p. record p { mark = Lost }) c self.old.places.items self.new.places.items }
+        ensures set { WasSet (λ p. record p { mark = Lost }) c self.old.places.items
+            self.new.places.items }
         ensures made { made_in self.new ≡ made_in self.old }
         ensures budget { budget_of self.new ≡ budget_of self.old }
     {
@@ -170,7 +172,8 @@ impl Places {
         requires sound { IsSound self.old }
         requires doomed { IsMarked Lost self.old.places.items c }
         ensures sound { IsSound self.new }
-        ensures set { WasSet (λ p. record p { mark = Unused }) c self.old.places.items self.new.places.items }
+        ensures set { WasSet (λ p. record p { mark = Unused }) c self.old.places.items
+            self.new.places.items }
         ensures made { made_in self.new ≡ made_in self.old }
         ensures budget { budget_of self.new ≡ budget_of self.old }
     {
@@ -208,8 +211,10 @@ impl Places {
         ensures some { IfSome result (λ c. IsMarked Unused self.new.places.items c) }
         ensures none { IfNone result (self.old.budget ≤ count_of self.old.places.items) }
         ensures same { IfNone result (self.new ≡ self.old) }
-        ensures things { (ts : Things) → Hold self.old.places.items ts → Hold self.new.places.items ts }
-        ensures places { IfSome result (λ c. (c ≤ places_in self.old) × (places_in self.new ≡ max (places_in self.old) (c + 1))) }
+        ensures things { (ts : Things) → Hold self.old.places.items ts →
+            Hold self.new.places.items ts }
+        ensures places { IfSome result (λ c. (c ≤ places_in self.old) ×
+            (places_in self.new ≡ max (places_in self.old) (c + 1))) }
     {
         if let Some(c) = self.first(FREE) {
             return Some(c);
@@ -229,8 +234,10 @@ impl Places {
         ensures settled { IsSettled self.new }
         ensures budget { budget_of self.new ≡ budget_of self.old }
         ensures live { IfSome result (λ c. IsLiveAt self.new c) }
-        ensures things { (ts : Things) → Holds self.old ts → IsMadeOrFull result ts self.old self.new }
-        ensures places { IfSome result (λ c. (c ≤ places_in self.old) × (places_in self.new ≡ max (places_in self.old) (c + 1))) }
+        ensures things { (ts : Things) → Holds self.old ts →
+            IsMadeOrFull result ts self.old self.new }
+        ensures places { IfSome result (λ c. (c ≤ places_in self.old) ×
+            (places_in self.new ≡ max (places_in self.old) (c + 1))) }
         ensures same { IfNone result (self.new ≡ self.old) }
     {
         let c = self.find_free()?;
@@ -248,8 +255,9 @@ impl Places {
         requires parent { IsLiveAt self.old parent }
         ensures settled { IsSettled self.new }
         ensures places { IsSameBut self.old self.new }
-        ensures things { (ts : Things) (n m : ℕ) (t u : Thing) → Holds self.old ts → IsAt ts n t → t.place ≡ child → IsAt ts m u → u.place ≡ parent
-            → Holds self.new (slice_set ts n (Some (record t { parent = Some m }))) }
+        ensures things { (ts : Things) (n m : ℕ) (t u : Thing) → Holds self.old ts →
+            IsAt ts n t → t.place ≡ child → IsAt ts m u → u.place ≡ parent →
+            Holds self.new (slice_set ts n (Some (record t { parent = Some m }))) }
     {
         set_parent(&mut self.places, child, Some(parent));
         move_to(&mut self.rings, 2 * parent + 2, child);
@@ -261,8 +269,9 @@ impl Places {
         requires child { IsLiveAt self.old child }
         ensures settled { IsSettled self.new }
         ensures places { IsSameBut self.old self.new }
-        ensures things { (ts : Things) (n : ℕ) (t : Thing) → Holds self.old ts → IsAt ts n t → t.place ≡ child
-            → Holds self.new (slice_set ts n (Some (record t { parent = None }))) }
+        ensures things { (ts : Things) (n : ℕ) (t : Thing) → Holds self.old ts →
+            IsAt ts n t → t.place ≡ child →
+            Holds self.new (slice_set ts n (Some (record t { parent = None }))) }
     {
         set_parent(&mut self.places, child, None);
         self.rings.unlink(2 * child + 3);
@@ -274,7 +283,8 @@ impl Places {
         requires live { IsLiveAt self.old c }
         ensures settled { IsSettled self.new }
         ensures places { IsSameBut self.old self.new }
-        ensures things { (ts : Things) (n : ℕ) (t : Thing) → Holds self.old ts → IsAt ts n t → t.place ≡ c → AreReleased ts n self.new }
+        ensures things { (ts : Things) (n : ℕ) (t : Thing) → Holds self.old ts →
+            IsAt ts n t → t.place ≡ c → AreReleased ts n self.new }
     {
         self.doom(c);
         while let Some(doomed) = self.first(DOOMED) {
@@ -302,8 +312,10 @@ impl Places {
     /// Whether the place still has the thing of this number, which was made there.
     pub fn is_held(&self, c: u32, number: u64) -> bool
         ensures live { result ≡ true → IsLiveAt self.now c }
-        ensures number { result ≡ true → (ts : Things) (n : ℕ) (t : Thing) → Holds self.now ts → IsAt ts n t → t.place ≡ c → n ≡ number }
-        ensures things { (ts : Things) → Holds self.now ts → IsMadeAt ts c number → IsThereOrGone result ts number c }
+        ensures number { result ≡ true → (ts : Things) (n : ℕ) (t : Thing) →
+            Holds self.now ts → IsAt ts n t → t.place ≡ c → n ≡ number }
+        ensures things { (ts : Things) → Holds self.now ts → IsMadeAt ts c number →
+            IsThereOrGone result ts number c }
     {
         match self.at(c) {
             Some(place) => place.has(number),
@@ -314,7 +326,8 @@ impl Places {
     /// The number of a thing, which goes by its place.
     pub fn number(&self, c: u32) -> u64
         requires live { IsLiveAt self.now c }
-        ensures { (ts : Things) (n : ℕ) (t : Thing) → Holds self.now ts → IsAt ts n t → t.place ≡ c → result ≡ n }
+        ensures { (ts : Things) (n : ℕ) (t : Thing) → Holds self.now ts → IsAt ts n t →
+            t.place ≡ c → result ≡ n }
     {
         self.number_at(c)
     }
@@ -325,7 +338,8 @@ impl Places {
         requires live { IsLiveAt self.now c }
         ensures lone { IfNone result (IsLoneAt self.now c) }
         ensures hung { IfSome result (λ r. IsHungAt self.now c) }
-        ensures things { (ts : Things) (n : ℕ) (t : Thing) → Holds self.now ts → IsAt ts n t → t.place ≡ c → IsParentOf ts t result }
+        ensures things { (ts : Things) (n : ℕ) (t : Thing) → Holds self.now ts →
+            IsAt ts n t → t.place ≡ c → IsParentOf ts t result }
     {
         match self.parent_at(c) {
             Some(parent) => Some((parent, self.number_at(parent))),
@@ -336,7 +350,8 @@ impl Places {
     /// The place of a thing's parent.
     fn parent_at(&self, c: u32) -> Option<u32>
         requires live { IsLiveAt self.now c }
-        ensures { (p : Place) → slice_get self.now.places.items c ≡ Some p → p.parent ≡ result }
+        ensures { (p : Place) → slice_get self.now.places.items c ≡ Some p →
+            p.parent ≡ result }
     {
         self.places[c as usize].parent
     }
@@ -344,7 +359,8 @@ impl Places {
     /// The number of the thing that a place has, or had.
     fn number_at(&self, c: u32) -> u64
         requires { c < length self.now.places.items }
-        ensures { (p : Place) → slice_get self.now.places.items c ≡ Some p → p.number ≡ result }
+        ensures { (p : Place) → slice_get self.now.places.items c ≡ Some p →
+            p.number ≡ result }
     {
         self.places[c as usize].number
     }

@@ -64,7 +64,8 @@ fn put(list: &mut Items<Tok>, t: Tok) -> Result<(), RowError>
 }
 
 fn put_if(list: &mut Items<Tok>, t: Tok, wanted: bool) -> Result<(), RowError>
-    ensures { OnOk result (toks_of list.new ≡ toks_of list.old ++ (if wanted then tok_of t ∷ [] else [])) }
+    ensures { OnOk result (toks_of list.new ≡ toks_of list.old ++
+        (if wanted then tok_of t ∷ [] else [])) }
 {
     if wanted { put(list, t) } else { Ok(()) }
 }

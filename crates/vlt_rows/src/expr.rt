@@ -11,8 +11,8 @@ use vlt_core::{After, Expr, Func, Operand, Program, Wanted};
 
 /// The rows of an expression, from the left.
 pub fn take_expr<S: RowSink>(p: &Program, f: &Func, e: &Expr, to: &mut S) -> Result<(), RowError>
-    ensures { TookOrStopped S.takes S.stops (expr_rows (program_of p.now) (func_of f.now) (expr_of e.now))
-        to.old to.new result }
+    ensures { TookOrStopped S.takes S.stops (expr_rows (program_of p.now) (func_of f.now)
+        (expr_of e.now)) to.old to.new result }
 {
     match e {
         Expr::Field(x, position) => take_touch(p, f, *x, *position, to),
@@ -31,8 +31,8 @@ pub fn take_operand<S: RowSink>(
     operand: &Operand,
     to: &mut S,
 ) -> Result<(), RowError>
-    ensures { TookOrStopped S.takes S.stops (operand_rows (program_of p.now) (func_of f.now) (operand_of operand.now))
-        to.old to.new result }
+    ensures { TookOrStopped S.takes S.stops (operand_rows (program_of p.now) (func_of f.now)
+        (operand_of operand.now)) to.old to.new result }
 {
     match operand {
         Operand::Pure(e) => take_expr(p, f, e, to),
@@ -48,8 +48,8 @@ pub fn take_operands<S: RowSink>(
     operands: &[Operand],
     to: &mut S,
 ) -> Result<(), RowError>
-    ensures { TookOrStopped S.takes S.stops (operands_rows (program_of p.now) (func_of f.now) (map operand_of operands.now))
-        to.old to.new result }
+    ensures { TookOrStopped S.takes S.stops (operands_rows (program_of p.now) (func_of f.now)
+        (map operand_of operands.now)) to.old to.new result }
 {
     for operand in operands {
         take_operand(p, f, operand, to)?;

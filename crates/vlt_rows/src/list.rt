@@ -49,7 +49,8 @@ impl RowSink for RowList {
 
 /// The rows of an expression.
 pub fn expr_list(alloc: Global, p: &Program, f: &Func, e: &Expr) -> Result<Items<Row>, RowError>
-    ensures { IfOk result (λ rs. rows_view rs ≡ expr_rows (program_of p.now) (func_of f.now) (expr_of e.now)) }
+    ensures { IfOk result (λ rs. rows_view rs
+        ≡ expr_rows (program_of p.now) (func_of f.now) (expr_of e.now)) }
 {
     let mut list = RowList::new(alloc);
     take_expr(p, f, e, &mut list)?;
@@ -58,7 +59,8 @@ pub fn expr_list(alloc: Global, p: &Program, f: &Func, e: &Expr) -> Result<Items
 
 /// The rows of a statement without blocks that goes on to the next one.
 pub fn form_list(alloc: Global, p: &Program, f: &Func, form: &Form) -> Result<Items<Row>, RowError>
-    ensures { IfOk result (λ rs. rows_view rs ≡ own_rows (program_of p.now) (func_of f.now) (form_of form.now)) }
+    ensures { IfOk result (λ rs. rows_view rs
+        ≡ own_rows (program_of p.now) (func_of f.now) (form_of form.now)) }
 {
     let mut list = RowList::new(alloc);
     take_form(p, f, form, &mut list)?;
@@ -98,7 +100,8 @@ pub fn focus_list(
     y: VarId,
     z: VarId,
 ) -> Result<Items<Row>, RowError>
-    ensures { IfOk result (λ rs. rows_view rs ≡ focus_rows (program_of p.now) (func_of f.now) y.0 z.0) }
+    ensures { IfOk result (λ rs. rows_view rs
+        ≡ focus_rows (program_of p.now) (func_of f.now) y.0 z.0) }
 {
     let mut list = RowList::new(alloc);
     take_focus(p, f, y, z, &mut list)?;
@@ -113,7 +116,8 @@ pub fn focus_end_list(
     y: VarId,
     z: VarId,
 ) -> Result<Items<Row>, RowError>
-    ensures { IfOk result (λ rs. rows_view rs ≡ focus_end_rows (program_of p.now) (func_of f.now) y.0 z.0) }
+    ensures { IfOk result (λ rs. rows_view rs
+        ≡ focus_end_rows (program_of p.now) (func_of f.now) y.0 z.0) }
 {
     let mut list = RowList::new(alloc);
     take_focus_end(p, f, y, z, &mut list)?;

@@ -26,8 +26,8 @@ pub fn take_touch<S: RowSink>(
     position: u32,
     to: &mut S,
 ) -> Result<(), RowError>
-    ensures { TookOrStopped S.takes S.stops (touch_rows (program_of p.now) (func_of f.now) x.0 position)
-        to.old to.new result }
+    ensures { TookOrStopped S.takes S.stops (touch_rows (program_of p.now)
+        (func_of f.now) x.0 position) to.old to.new result }
 {
     if let Some(r) = f.reference(x) {
         match p.permitted(r.type_id, position) {
@@ -63,8 +63,8 @@ pub fn take_key<S: RowSink>(
     after: After,
     to: &mut S,
 ) -> Result<(), RowError>
-    ensures { TookOrStopped S.takes S.stops (key_row (func_of f.now) x.0 (wanted_of wanted) (after_of after))
-        to.old to.new result }
+    ensures { TookOrStopped S.takes S.stops (key_row (func_of f.now) x.0 (wanted_of wanted)
+        (after_of after)) to.old to.new result }
 {
     match f.reference(x) {
         None => Ok(()),

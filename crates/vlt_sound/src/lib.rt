@@ -16,6 +16,6 @@ ghost use Rattle.vlt_sound_externs.specs.Narrow.{HasNarrowHeads};
 pub fn accepted_programs_go_right()
     ensures never { (p : Program) → IsKinded p → IsAccepted p → HasSizes p → HasStates p →
         HasNarrowHeads p → NeverGoesWrong p }
-    ensures leaves { (p : Program) → IsKinded p → IsAccepted p → HasSizes p → HasStates p →
-        HasNarrowHeads p → LeavesOnlyItsClause p }
+    ensures leaves { (p : Program) → IsKinded p → IsAccepted p → HasSizes p →
+        HasStates p → HasNarrowHeads p → LeavesOnlyItsClause p }
 {}

@@ -4,7 +4,7 @@ use Rattle.vlt_core.specs.Core.{Func, Program}
 use Rattle.vlt_meaning.specs.World.{is_out, loose, Object, Frame, Reason, missing}
 use Rattle.vlt_meaning.specs.Found.{or_fault}
 use Rattle.vlt_meaning.specs.Objects.{moved}
-use Rattle.vlt_meaning.specs.Answers.{answer_of}
+use Rattle.vlt_meaning.specs.HostAnswers.{answer_of}
 use Rattle.vlt_meaning.specs.Externals.{come_back, case_objects, Fitting, fitting}
 use Rattle.vlt_sound_given.proofs.Given.{found_then}
 use Rattle.vlt_sound_results.proofs.TakenOver.{same_ok}

@@ -18,7 +18,7 @@ use Rattle.vlt_sound_leaving.proofs.Pairs.{among_filtered, filtered_among, filte
 use Rattle.vlt_sound_returns.proofs.Taking.{take_other}
 use Rattle.vlt_sound_given.specs.Given.{whatever, back_row, came}
 use Rattle.vlt_sound_told.specs.Told.{told_row, told, IsHeldAt}
-use Rattle.vlt_sound_hosts.specs.Answers.{sent}
+use Rattle.vlt_sound_hosts.specs.HostAnswers.{sent}
 use Rattle.vlt_sound_hosts.proofs.TakenKeys.{take_here}
 
 false_true : false ≡ true → ⊥

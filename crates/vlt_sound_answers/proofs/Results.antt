@@ -16,7 +16,7 @@ use Rattle.vlt_meaning.specs.Found.{Found}
 use Rattle.vlt_meaning.specs.Objects.{moved}
 use Rattle.vlt_meaning.specs.Step.{with_found, with_objects, deliver}
 use Rattle.vlt_meaning.specs.Calls.{entries_after}
-use Rattle.vlt_meaning.specs.Answers.{Piece, plain, new_in, Result, nothing, piece, case_with}
+use Rattle.vlt_meaning.specs.HostAnswers.{Piece, plain, new_in, Result, nothing, piece, case_with}
 use Rattle.vlt_meaning.specs.Externals.{is_given, case_objects, keys_of_case, objects_of_keys, case_states, entry_states, with_states, with_answered, Fitting, fitting, or_bad, type_in, new_key, with_fresh, with_result}
 use Rattle.vlt_meaning.specs.Run.{Setup}
 use Rattle.vlt_sound_owners.specs.Members.{In}
@@ -49,7 +49,7 @@ use Rattle.vlt_sound_results.specs.TakenOver.{AreTakenOver, NamesObject}
 use Rattle.vlt_sound_results.proofs.TakenOver.{same_ok, taken_over, over_all}
 use Rattle.vlt_sound_results.proofs.Cases.{case_safe}
 use Rattle.vlt_sound_results.proofs.References.{reference_safe}
-use Rattle.vlt_sound_hosts.specs.Answers.{sent, answered, AreNamed, AnswersAreSafe}
+use Rattle.vlt_sound_hosts.specs.HostAnswers.{sent, answered, AreNamed, AnswersAreSafe}
 use Rattle.vlt_sound_answers.proofs.Maps.{back, now, given_away, told_at, same_map, new_absent, new_held}
 use Rattle.vlt_sound_answers.proofs.Fitting.{IsFitted, fitted}
 use Rattle.vlt_sound_answers.proofs.News.{in_has, among_at, own_in, same_key, same_args, none_new, IsNew, one_new}

@@ -5,7 +5,7 @@
 
 ghost use Rattle.vlt_meaning.specs.Run.{Setup};
 ghost use Rattle.vlt_sound_results.specs.Heads.{HasHosts};
-ghost use Rattle.vlt_sound_hosts.specs.Answers.{AnswersAreSafe};
+ghost use Rattle.vlt_sound_hosts.specs.HostAnswers.{AnswersAreSafe};
 
 /// Where heads of externals are as the rules want them, what is done with an answer ends in no
 /// fault, whatever its numbers.

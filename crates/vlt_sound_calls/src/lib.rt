@@ -18,6 +18,7 @@ pub fn foci_change_no_head()
 
 /// No function returns while a focus of its own is open.
 pub fn no_focus_is_open_at_a_return()
-    ensures { (p : Program) (f : Func) (c : Context) (a : Option Value) (given : List ℕ) (w : World) (q : Focus)
-        (rest : List Focus) → c.foci ≡ q ∷ rest → q.depth ≡ c.depth → Returned p f c a given w → ⊥ }
+    ensures { (p : Program) (f : Func) (c : Context) (a : Option Value) (given : List ℕ)
+        (w : World) (q : Focus) (rest : List Focus) → c.foci ≡ q ∷ rest → q.depth ≡ c.depth →
+        Returned p f c a given w → ⊥ }
 {}

@@ -12,10 +12,12 @@ ghost use Rattle.vlt_sound_changes.specs.Moved.{MovesThese, ArePassing, IsMoved}
 
 /// Objects whose owners pass the test are moved, and nothing else changes; chains of owners stay without a cycle.
 pub fn objects_move_together()
-    ensures moved { (from : Owner → Bool) (to : Owner) (xs : List ℕ) (os : List Object) → IsOnce xs →
-        ArePassing from xs os → IsMoved from to xs os }
-    ensures roots { (old new : ℕ → Object) (xs : List ℕ) (q : Owner) → MovesThese xs q old new → above q ≡ None →
-        (q ≡ gone → ⊥) → IsRanked old → IsRanked new }
-    ensures children { (old new : ℕ → Object) (xs : List ℕ) (g : ℕ) (q : Owner) → MovesThese xs q old new →
-        above q ≡ Some g → (In g xs → ⊥) → IsLive old g → above (old g).owner ≡ None → IsRanked old → IsRanked new }
+    ensures moved { (from : Owner → Bool) (to : Owner) (xs : List ℕ) (os : List Object) →
+        IsOnce xs → ArePassing from xs os → IsMoved from to xs os }
+    ensures roots { (old new : ℕ → Object) (xs : List ℕ) (q : Owner) →
+        MovesThese xs q old new → above q ≡ None → (q ≡ gone → ⊥) → IsRanked old →
+        IsRanked new }
+    ensures children { (old new : ℕ → Object) (xs : List ℕ) (g : ℕ) (q : Owner) →
+        MovesThese xs q old new → above q ≡ Some g → (In g xs → ⊥) → IsLive old g →
+        above (old g).owner ≡ None → IsRanked old → IsRanked new }
 {}

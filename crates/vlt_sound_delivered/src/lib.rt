@@ -20,10 +20,10 @@ ghost use Rattle.vlt_sound_delivered.specs.Given.{IsGiven};
 
 /// What a call gives goes to its target without a fault, where the call breaks no rule and the held map passes the target's rows.
 pub fn results_are_delivered()
-    ensures { (p : Program) (f g : Func) (c : Context) (h : HeldMap) (ids : Ids) (frame : Frame) (w : World)
-        (keys : List ℕ) (a : Option Value) (target : Option ℕ) → IsTyped p f → HasHead p g → IsCall p f g ids keys →
-        call_target_broken f ids g keys target ≡ [] → CanPass (target_rows f target) h →
-        IsGiven p f c h ids frame w.objects keys g.result a →
-        Safe (goes_to p f c (passed (target_rows f target) h) (with_call_target f (Some g) target ids) [])
-        (step.deliver f target a frame w) }
+    ensures { (p : Program) (f g : Func) (c : Context) (h : HeldMap) (ids : Ids) (frame : Frame)
+        (w : World) (keys : List ℕ) (a : Option Value) (target : Option ℕ) → IsTyped p f →
+        HasHead p g → IsCall p f g ids keys → call_target_broken f ids g keys target ≡ [] →
+        CanPass (target_rows f target) h → IsGiven p f c h ids frame w.objects keys g.result a →
+        Safe (goes_to p f c (passed (target_rows f target) h)
+        (with_call_target f (Some g) target ids) []) (step.deliver f target a frame w) }
 {}

@@ -10,6 +10,6 @@ ghost use Rattle.vlt_sound_drops.specs.Parts.{IsAmong, IsFree};
 
 /// What a type that may be dropped owns may be dropped, however deep it lies: the bounded search finds all.
 pub fn parts_of_what_may_be_dropped()
-    ensures { (p : Program) (t : ℕ) → IsFree p t → (ty : Ty) → IsAmong ty (owning_parts p t) →
-        (is_fast p ty ≡ false) × IsFree p (part_type ty) }
+    ensures { (p : Program) (t : ℕ) → IsFree p t → (ty : Ty) →
+        IsAmong ty (owning_parts p t) → (is_fast p ty ≡ false) × IsFree p (part_type ty) }
 {}

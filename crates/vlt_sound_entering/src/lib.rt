@@ -20,17 +20,21 @@ ghost use Rattle.vlt_sound_entering.specs.Ready.{IsReady};
 /// Where arguments were handed over and the held map passes the rows of the callee's clause, the callee gets the objects of
 /// the clause, and what its start map and its parameters say is so.
 pub fn callees_begin()
-    ensures passed { (p : Program) (f : Func) (c : Context) (h : HeldMap) (ids : Ids) (frame : Frame) (os : List Object)
-        (g : Func) (keys : List ℕ) (values : List Value) → IsReady p f c h ids frame os g keys values →
-        (ns : List ℕ) × (passed_objects p g keys frame os g.clause ≡ Ok ns) }
-    ensures agrees { (p : Program) (f : Func) (c : Context) (h : HeldMap) (ids : Ids) (frame : Frame) (os : List Object)
-        (g : Func) (keys : List ℕ) (values : List Value) → IsReady p f c h ids frame os g keys values →
+    ensures passed { (p : Program) (f : Func) (c : Context) (h : HeldMap) (ids : Ids)
+        (frame : Frame) (os : List Object) (g : Func) (keys : List ℕ) (values : List Value) →
+        IsReady p f c h ids frame os g keys values → (ns : List ℕ) ×
+        (passed_objects p g keys frame os g.clause ≡ Ok ns) }
+    ensures agrees { (p : Program) (f : Func) (c : Context) (h : HeldMap) (ids : Ids)
+        (frame : Frame) (os : List Object) (g : Func) (keys : List ℕ) (values : List Value) →
+        IsReady p f c h ids frame os g keys values →
         Agrees p g (callee_context f h ids frame c g keys) (start_map p g) (first_ids p g) []
         (callee_frame g keys values frame) (handed_over keys frame g.clause os) }
-    ensures context { (p : Program) (f : Func) (c : Context) (h : HeldMap) (ids : Ids) (frame : Frame) (os : List Object)
-        (g : Func) (keys : List ℕ) (values : List Value) → IsReady p f c h ids frame os g keys values →
+    ensures context { (p : Program) (f : Func) (c : Context) (h : HeldMap) (ids : Ids)
+        (frame : Frame) (os : List Object) (g : Func) (keys : List ℕ) (values : List Value) →
+        IsReady p f c h ids frame os g keys values →
         IsEntered p g (callee_context f h ids frame c g keys) }
-    ensures scope { (p : Program) (f : Func) (c : Context) (h : HeldMap) (ids : Ids) (frame : Frame) (os : List Object)
-        (g : Func) (keys : List ℕ) (values : List Value) → IsReady p f c h ids frame os g keys values →
+    ensures scope { (p : Program) (f : Func) (c : Context) (h : HeldMap) (ids : Ids)
+        (frame : Frame) (os : List Object) (g : Func) (keys : List ℕ) (values : List Value) →
+        IsReady p f c h ids frame os g keys values →
         IsScoped g (callee_context f h ids frame c g keys) (first_ids p g) }
 {}

@@ -12,6 +12,7 @@ ghost use Rattle.vlt_sound_blocks.specs.Statements.{IsSafeForm, IsSafeBlock};
 
 /// A focus is safe where its block is: the guard is lent, the object is held under its own key, and both go back at the end.
 pub fn focuses_are_safe()
-    ensures { (r : Setup) (rest_of : Meaning) (f : Func) (y z : ℕ) (b : Block) → IsTyped r.program f → HasKeys f →
-        IsSafeBlock r rest_of f b → IsSafeForm r rest_of f (focus y z b) }
+    ensures { (r : Setup) (rest_of : Meaning) (f : Func) (y z : ℕ) (b : Block) →
+        IsTyped r.program f → HasKeys f → IsSafeBlock r rest_of f b →
+        IsSafeForm r rest_of f (focus y z b) }
 {}

@@ -17,8 +17,10 @@ ghost use Rattle.vlt_sound_frames.specs.Fine.{IsFine};
 
 /// Where the held map passes its rows, an expression gives a value that fits its type, or a trap, but never a fault.
 pub fn expressions_are_fine()
-    ensures { (p : Program) (f : Func) (c : Context) (h : HeldMap) (ids : Ids) (hand : List Handed) (frame : Frame)
-        (os : List Object) (a : Agrees p f c h ids hand frame os) (e : Expr) → IsTyped p f →
+    ensures { (p : Program) (f : Func) (c : Context) (h : HeldMap) (ids : Ids)
+        (hand : List Handed) (frame : Frame) (os : List Object)
+        (a : Agrees p f c h ids hand frame os) (e : Expr) → IsTyped p f →
         expr_broken p f ids e ≡ [] → CanPass (expr_rows p f e) h →
-        IsFine p (scene c os a.heads) frame.keys (type_of_expr p f e) (value_of p f e frame os) }
+        IsFine p (scene c os a.heads) frame.keys (type_of_expr p f e)
+        (value_of p f e frame os) }
 {}

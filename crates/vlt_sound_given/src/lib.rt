@@ -17,8 +17,10 @@ ghost use Rattle.vlt_sound_given.specs.Given.{came, AreGivable};
 
 /// Where the objects of keys that are given come back, the caller holds each under the key that names it, in some state.
 pub fn given_keys_have_what_they_name()
-    ensures { (p : Program) (f : Func) (c : Context) (h : HeldMap) (ids : Ids) (hand : List Handed) (frame : Frame)
-        (os back : List Object) (keys : List ℕ) (es : List Entry) → IsTyped p f → IsEntered p f c → IsScoped f c ids →
-        Agrees p f c h ids hand frame os → AreGivable ids keys es h → come_back keys frame es os ≡ Ok back →
+    ensures { (p : Program) (f : Func) (c : Context) (h : HeldMap) (ids : Ids)
+        (hand : List Handed) (frame : Frame) (os back : List Object) (keys : List ℕ)
+        (es : List Entry) → IsTyped p f → IsEntered p f c → IsScoped f c ids →
+        Agrees p f c h ids hand frame os → AreGivable ids keys es h →
+        come_back keys frame es os ≡ Ok back →
         Agrees p f c (came keys es h) ids hand frame back }
 {}

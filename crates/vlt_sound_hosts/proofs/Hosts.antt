@@ -44,7 +44,7 @@ use Rattle.vlt_sound_bodies.specs.Externals.{ExternalsAreSafe}
 use Rattle.vlt_sound_returns.proofs.Taking.{take_other}
 use Rattle.vlt_sound_outside.specs.Sent.{AreSent}
 use Rattle.vlt_sound_outside.proofs.Sending.{agrees_sent}
-use Rattle.vlt_sound_hosts.specs.Answers.{answered, sent, AreNamed, AnswersAreSafe}
+use Rattle.vlt_sound_hosts.specs.HostAnswers.{answered, sent, AreNamed, AnswersAreSafe}
 use Rattle.vlt_sound_hosts.proofs.TakenKeys.{take_here, taken_before, entry_taken, taken_once, entry_at, key_at, held_by, taken_passes}
 
 -- an answer is taken, if there is one

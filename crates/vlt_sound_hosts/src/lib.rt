@@ -5,7 +5,7 @@
 
 ghost use Rattle.vlt_meaning.specs.Run.{Setup};
 ghost use Rattle.vlt_sound_bodies.specs.Externals.{ExternalsAreSafe};
-ghost use Rattle.vlt_sound_hosts.specs.Answers.{AnswersAreSafe};
+ghost use Rattle.vlt_sound_hosts.specs.HostAnswers.{AnswersAreSafe};
 
 /// Calls of externals are safe where what is done with answers is: what the host takes is there, and goes out.
 pub fn externals_are_safe()

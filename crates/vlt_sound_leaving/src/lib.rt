@@ -21,11 +21,14 @@ ghost use Rattle.vlt_sound_leaving.specs.Waits.{IsCaller};
 /// Where a callee has left, its caller has the objects of the clause back under its own keys, a new one under a new key, and
 /// the result in the target, where it fits.
 pub fn callers_go_on()
-    ensures { (p : Program) (f : Func) (c : Context) (h : HeldMap) (ids : Ids) (hand : List Handed) (frame : Frame)
-        (w : World) (g : Func) (keys : List ℕ) (target : Option ℕ) (a : Option Value) (given : List ℕ) (w' : World) →
-        IsCaller p f c h ids hand frame w.objects g keys → call_target_broken f ids g keys target ≡ [] →
+    ensures { (p : Program) (f : Func) (c : Context) (h : HeldMap) (ids : Ids)
+        (hand : List Handed) (frame : Frame) (w : World) (g : Func) (keys : List ℕ)
+        (target : Option ℕ) (a : Option Value) (given : List ℕ) (w' : World) →
+        IsCaller p f c h ids hand frame w.objects g keys →
+        call_target_broken f ids g keys target ≡ [] →
         CanPass (target_rows f target) (passed (clause_rows p f keys g.clause) h) →
         Returned p g (callee_context f h ids frame c g keys) a given w' →
-        Safe (goes_to p f c (passed (target_rows f target) (passed (clause_rows p f keys g.clause) h))
-        (with_call_target f (Some g) target ids) []) (back_in f target keys g frame (leaves a given w')) }
+        Safe (goes_to p f c (passed (target_rows f target)
+        (passed (clause_rows p f keys g.clause) h)) (with_call_target f (Some g) target ids) [])
+        (back_in f target keys g frame (leaves a given w')) }
 {}

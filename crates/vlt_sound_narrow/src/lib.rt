@@ -13,6 +13,6 @@ ghost use Rattle.vlt_sound_narrow.specs.Externals.{HasExternals};
 /// Where types and externals are those of declarations of the language, answers give states below
 /// 32 alone.
 pub fn declared_externals_are_narrow()
-    ensures { (ds : List Decl) (p : Program) → IsPassed ds → HasDeclared ds p → HasExternals ds p →
-        HasNarrowHeads p }
+    ensures { (ds : List Decl) (p : Program) → IsPassed ds → HasDeclared ds p →
+        HasExternals ds p → HasNarrowHeads p }
 {}

@@ -9,7 +9,7 @@ use Rattle.vlt_meaning.specs.World as world
 use Rattle.vlt_meaning.specs.World.{Value, one, owned, Object, World, Frame, loose, out, heap_end, is_full}
 use Rattle.vlt_meaning.specs.Objects.{with_owner, changed, changed_in}
 use Rattle.vlt_meaning.specs.Step.{Step, ends, with_made, with_objects}
-use Rattle.vlt_meaning.specs.Answers.{plain, new_in, piece}
+use Rattle.vlt_meaning.specs.HostAnswers.{plain, new_in, piece}
 use Rattle.vlt_meaning.specs.Externals.{from_host, type_in, with_result}
 use Rattle.vlt_sound_worlds.specs.Look.{look}
 use Rattle.vlt_sound_worlds.proofs.Look.{makes_one}

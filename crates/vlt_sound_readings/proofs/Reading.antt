@@ -6,7 +6,7 @@ use Rattle.std.specs.List.{range_with_len}
 use Rattle.vlt_core.specs.Core.{States, Ty, int, bool, tracked, owning, guarded, variant, owning_variant, CaseDecl, Func, Program}
 use Rattle.vlt_core.specs.Lookups.{cases_of, after_set}
 use Rattle.vlt_meaning.specs.Calls.{entries_after}
-use Rattle.vlt_meaning.specs.Answers.{Reading, reads, then_reads, any_number, natural, each, members, one_of, state_in, Piece, plain, new_in, Result, nothing, piece, case_with, Answer, piece_of, key_state, case_read, variant_read, piece_read, result_read, answer_read, if_last, answer_of}
+use Rattle.vlt_meaning.specs.HostAnswers.{Reading, reads, then_reads, any_number, natural, each, members, one_of, state_in, Piece, plain, new_in, Result, nothing, piece, case_with, Answer, piece_of, key_state, case_read, variant_read, piece_read, result_read, answer_read, if_last, answer_of}
 use Rattle.vlt_sound_readings.specs.Said.{GoTogether, IsAfter, IsKeyState, IsPieceOf, IsCaseOf, IsResultOf, IsAnswerOf}
 
 -- ---- readings one after another

@@ -3,7 +3,7 @@ use Rattle.std.specs.Prelude.{◌≡◌, ℕ, IsTrue, List, [], ◌∷◌, Optio
 use Rattle.vlt_core.specs.Core.{Ty, int, bool, tracked, owning, guarded, variant, owning_variant, CaseKey, CaseDecl, Entry, Func, Program}
 use Rattle.vlt_core.specs.Lookups.{case_at, after_set}
 use Rattle.vlt_meaning.specs.Calls.{entries_after}
-use Rattle.vlt_meaning.specs.Answers.{Piece, plain, new_in, Result, nothing, piece, case_with, Answer}
+use Rattle.vlt_meaning.specs.HostAnswers.{Piece, plain, new_in, Result, nothing, piece, case_with, Answer}
 
 -- two lists are as long as each other, and the elements at each position go together
 abbrev pub GoTogether : {A B : Type 0} → (A → B → Type 0) → List A → List B → Type 0

@@ -12,7 +12,7 @@ use Rattle.vlt_core.specs.KindedScopes.{Ids}
 use Rattle.vlt_meaning.specs.World.{Part, Value, one, of_case, Object, World, Frame, missing}
 use Rattle.vlt_meaning.specs.Found.{or_fault}
 use Rattle.vlt_meaning.specs.Step.{Step}
-use Rattle.vlt_meaning.specs.Answers.{Piece, case_with}
+use Rattle.vlt_meaning.specs.HostAnswers.{Piece, case_with}
 use Rattle.vlt_meaning.specs.Externals.{objects_of_keys, keys_of_case, case_objects, with_states, payload_in, with_pieces, with_result}
 use Rattle.vlt_sound_worlds.specs.Look.{look}
 use Rattle.vlt_sound_owners.specs.Members.{In}

@@ -10,7 +10,7 @@ use Rattle.vlt_meaning.specs.World as world
 use Rattle.vlt_meaning.specs.World.{Part, Value, one, owned, objects_in, objects_in_part, loose, out, Object, World, Frame, heap_end, is_full}
 use Rattle.vlt_meaning.specs.Objects.{with_owner, changed, changed_in}
 use Rattle.vlt_meaning.specs.Step.{Step, ends, with_made, with_objects}
-use Rattle.vlt_meaning.specs.Answers.{Piece, plain, new_in}
+use Rattle.vlt_meaning.specs.HostAnswers.{Piece, plain, new_in}
 use Rattle.vlt_meaning.specs.Externals.{from_host, with_pieces}
 use Rattle.vlt_sound_worlds.specs.Look.{look}
 use Rattle.vlt_sound_worlds.proofs.Look.{makes_one}

@@ -13,7 +13,7 @@ ghost use Rattle.vlt_core.specs.KindedScopes.{Ids};
 ghost use Rattle.vlt_meaning.specs.World.{Value, Object, Frame, World};
 ghost use Rattle.vlt_meaning.specs.Step.{Step};
 ghost use Rattle.vlt_meaning.specs.Calls.{binding};
-ghost use Rattle.vlt_meaning.specs.Answers.{Piece, case_with};
+ghost use Rattle.vlt_meaning.specs.HostAnswers.{Piece, case_with};
 ghost use Rattle.vlt_meaning.specs.Externals.{case_objects, with_states, with_fresh, with_result};
 ghost use Rattle.vlt_sound_frames.specs.Agrees.{Context, Agrees};
 ghost use Rattle.vlt_sound_frames.specs.Safe.{Safe, goes_to};

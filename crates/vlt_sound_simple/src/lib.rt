@@ -13,8 +13,9 @@ ghost use Rattle.vlt_sound_blocks.specs.Statements.{IsSafeForm};
 
 /// Each statement without blocks that calls nothing is safe, by itself and at a site.
 pub fn simple_statements_are_safe()
-    ensures steps { (r : Setup) (f : Func) (s : Simple) → IsTyped r.program f → HasKeys f → HasCases r.program f →
-        IsStepOf r f s }
-    ensures forms { (r : Setup) (rest_of : Meaning) (f : Func) (s : Simple) → IsTyped r.program f → HasKeys f →
-        HasCases r.program f → IsSafeForm r rest_of f (simple s) }
+    ensures steps { (r : Setup) (f : Func) (s : Simple) → IsTyped r.program f → HasKeys f →
+        HasCases r.program f → IsStepOf r f s }
+    ensures forms { (r : Setup) (rest_of : Meaning) (f : Func) (s : Simple) →
+        IsTyped r.program f → HasKeys f → HasCases r.program f →
+        IsSafeForm r rest_of f (simple s) }
 {}

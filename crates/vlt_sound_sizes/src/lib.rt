@@ -13,5 +13,6 @@ ghost use Rattle.vlt_sound_typed.specs.Sizes.{HasSizes};
 
 /// A program with the sets of declarations of the language has no set of more than 32 states.
 pub fn declared_sets_are_small()
-    ensures { (ds : List Decl) (p : Program) → Each (IsDecl language) ds → p.sets ≡ (file_of ds).sets → HasSizes p }
+    ensures { (ds : List Decl) (p : Program) → Each (IsDecl language) ds →
+        p.sets ≡ (file_of ds).sets → HasSizes p }
 {}

@@ -31,7 +31,8 @@ pub fn owning_steps_are_safe()
 
 /// Where the held map passes the rows of what a block bound, nothing is left behind under it.
 pub fn blocks_leave_nothing_behind()
-    ensures { (p : Program) (f : Func) (c : Context) (h : HeldMap) (ids : Ids) (hand : List Handed) (frame : Frame)
-        (w : World) (bound : List Tok) → Agrees p f c h ids hand frame w.objects → AreOwning f bound →
+    ensures { (p : Program) (f : Func) (c : Context) (h : HeldMap) (ids : Ids)
+        (hand : List Handed) (frame : Frame) (w : World) (bound : List Tok) →
+        Agrees p f c h ids hand frame w.objects → AreOwning f bound →
         CanPass (map gone bound) h → are_unused bound frame w ≡ true }
 {}

@@ -14,7 +14,7 @@ ghost use Rattle.vlt_sound_switch.specs.Arms.{AreSafeArms};
 
 /// A switch is safe where the blocks of its arms are: the case's keys get their objects, and the arm's variables its payload.
 pub fn switches_are_safe()
-    ensures { (r : Setup) (rest_of : Meaning) (f : Func) (v : ℕ) (arms : Arms) (end : ℕ) → IsTyped r.program f →
-        HasKeys f → HasCases r.program f → AreSafeArms r rest_of f arms →
+    ensures { (r : Setup) (rest_of : Meaning) (f : Func) (v : ℕ) (arms : Arms) (end : ℕ) →
+        IsTyped r.program f → HasKeys f → HasCases r.program f → AreSafeArms r rest_of f arms →
         IsSafeForm r rest_of f (switch v arms end) }
 {}

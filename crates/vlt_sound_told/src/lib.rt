@@ -15,8 +15,10 @@ ghost use Rattle.vlt_sound_told.specs.Told.{told, AreTellable};
 
 /// Where an answer gives the objects of keys that are held other states of the clause, the held map says those behind it.
 pub fn answered_states_are_told()
-    ensures { (p : Program) (f g : Func) (c : Context) (h : HeldMap) (ids : Ids) (hand : List Handed) (frame : Frame)
-        (os : List Object) (keys : List ℕ) (es : List Entry) (states : List ℕ) → Agrees p f c h ids hand frame os →
+    ensures { (p : Program) (f g : Func) (c : Context) (h : HeldMap) (ids : Ids)
+        (hand : List Handed) (frame : Frame) (os : List Object) (keys : List ℕ)
+        (es : List Entry) (states : List ℕ) → Agrees p f c h ids hand frame os →
         AreTellable p f g keys es h → GoTogether (IsAfter p g) es states →
-        Agrees p f c (told p f keys es h) ids hand frame (with_states (entry_states keys frame es states) os) }
+        Agrees p f c (told p f keys es h) ids hand frame
+        (with_states (entry_states keys frame es states) os) }
 {}

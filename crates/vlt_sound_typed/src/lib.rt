@@ -17,14 +17,16 @@ ghost use Rattle.vlt_sound_typed.specs.Sizes.{HasSizes};
 
 /// What is known of a program that breaks no rule, and of each of its functions, without a run.
 pub fn kinded_programs_are_typed()
-    ensures typed { (p : Program) (g : ℕ) (f : Func) → IsKinded p → HasSizes p → slice_get p.fns g ≡ Some f →
-        IsTyped p f }
-    ensures cases { (p : Program) (g : ℕ) (f : Func) → IsKinded p → HasStates p → slice_get p.fns g ≡ Some f →
-        HasCases p f }
-    ensures keys { (p : Program) (g : ℕ) (f : Func) → IsKinded p → slice_get p.fns g ≡ Some f → HasKeys f }
-    ensures heads { (p : Program) (g : ℕ) (f : Func) → IsKinded p → slice_get p.fns g ≡ Some f → HasHead p f }
-    ensures bodies { (p : Program) (g : ℕ) (f : Func) → IsKinded p → slice_get p.fns g ≡ Some f →
-        BreakNone (body_rows p f) }
-    ensures ends { (p : Program) (g : ℕ) (f : Func) → IsKinded p → slice_get p.fns g ≡ Some f →
-        end_broken p f ≡ [] }
+    ensures typed { (p : Program) (g : ℕ) (f : Func) → IsKinded p → HasSizes p →
+        slice_get p.fns g ≡ Some f → IsTyped p f }
+    ensures cases { (p : Program) (g : ℕ) (f : Func) → IsKinded p → HasStates p →
+        slice_get p.fns g ≡ Some f → HasCases p f }
+    ensures keys { (p : Program) (g : ℕ) (f : Func) → IsKinded p →
+        slice_get p.fns g ≡ Some f → HasKeys f }
+    ensures heads { (p : Program) (g : ℕ) (f : Func) → IsKinded p →
+        slice_get p.fns g ≡ Some f → HasHead p f }
+    ensures bodies { (p : Program) (g : ℕ) (f : Func) → IsKinded p →
+        slice_get p.fns g ≡ Some f → BreakNone (body_rows p f) }
+    ensures ends { (p : Program) (g : ℕ) (f : Func) → IsKinded p →
+        slice_get p.fns g ≡ Some f → end_broken p f ≡ [] }
 {}

@@ -31,7 +31,8 @@ pub enum Verdict {
 /// What a tree that a text has is as a program, or want of memory.
 pub fn judge(alloc: Global, tree: &Tree) -> Result<Verdict, AllocError>
     requires { IsTextTree (tree_of tree.now) }
-    ensures is { IfOk result (λ x. (t : v.Verdict) × IsVerdictOf (tree_of tree.now) t × IsSeenAs x t) }
+    ensures is { IfOk result (λ x. (t : v.Verdict) × IsVerdictOf (tree_of tree.now) t ×
+        IsSeenAs x t) }
     ensures tellable { IfOk result IsTellable }
 {
     programs_are_fit();

@@ -21,10 +21,12 @@ pub fn witness_refutes()
 
 /// A program that is accepted has no witness of any fault.
 pub fn accepted_has_no_witness()
-    ensures { (p : Program) (x : FlowFault) → IsWellFormed p → IsAccepted p → HasWitness p x → ⊥ }
+    ensures { (p : Program) (x : FlowFault) → IsWellFormed p → IsAccepted p →
+        HasWitness p x → ⊥ }
 {}
 
 /// The first fault of a program has a witness.
 pub fn first_fault_has_witness()
-    ensures { (p : Program) (x : FlowFault) → IsWellFormed p → IsFirstFault p x → HasWitness p x }
+    ensures { (p : Program) (x : FlowFault) → IsWellFormed p → IsFirstFault p x →
+        HasWitness p x }
 {}
