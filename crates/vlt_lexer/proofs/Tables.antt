@@ -1,9 +1,11 @@
 -- Each keyword and each sign is the one item of its table that is spelled so.
-use Rattle.std.proofs.Common.{◌≡◌, ◌∙◌, ℕ, Bool, true, false, List, [], ◌∷◌, Option, Some, None, ◌⊎◌, inl, inr, ◌++◌, ◌&&◌, nat_le, length, ◌≤◌, refl, sym, ap, cond, arith}
+use Rattle.std.proofs.Common.{◌≡◌, ◌∙◌, ℕ, Bool, true, false, List, [], ◌∷◌, Option, Some, None, ◌⊎◌, inl, inr, ◌++◌, ◌&&◌, nat_le, length, ◌≤◌, refl, sym, ap, subst, cond, arith}
 use Rattle.std.specs.List.{list_all}
 use Rattle.std.proofs.lemmas.Slice.Eq.{bytes_eq-Decides}
 use Rattle.std.proofs.lemmas.Bool.Decides.{nat_tests}
-use Rattle.vlt_lexer.proofs.Runs.{some_is, not_behind, behind_splits}
+use Rattle.vlt_lexer.proofs.Runs.{some_is, not_behind, behind_splits, true_false, head_is}
+use Rattle.std.specs.Prelude.{filter, slice_get}
+use Rattle.std.proofs.lemmas.Bool.{eq-eqb}
 use Rattle.std.specs.Str.{bytes_eq}
 use Rattle.vlt_lexer.specs.declared.token.Word.{Word}
 use Rattle.vlt_lexer.specs.declared.token.Word.TheVariants as word
@@ -12,7 +14,7 @@ use Rattle.vlt_lexer.specs.declared.token.Mark.TheVariants as sign
 use Rattle.vlt_lexer.specs.declared.token.TheConstants.Word as words
 use Rattle.vlt_lexer.specs.declared.token.TheConstants.Mark as signs
 use Rattle.vlt_lexer.specs.Spelling.{word_text, sign_text}
-use Rattle.vlt_lexer.specs.Steps.{spelled, begun, with_rest}
+use Rattle.vlt_lexer.specs.Steps.{spelled, begun, with_rest, may_begin}
 use Rattle.vlt_lexer.specs.Characters.{behind}
 
 pub word_found : (w : Word) → spelled word_text words.ALL (word_text w) ≡ Some w
@@ -130,6 +132,40 @@ module _ {X : Type 0} (text : X → List ℕ) where
     | inl h ↦ behind_splits (text y) cs r h.0 ∙ ap (λ z. text z ++ r) (sym h.1)
     | inr h ↦ begun_splits ys cs x r h.1
   ]
+
+  -- an item that doesn't begin so isn't spelled so, and its text begins no text that does
+  not_spelled : (t : List ℕ) (c : ℕ) (cs : List ℕ) → may_begin c t ≡ false → bytes_eq t (c ∷ cs) ≡ false
+  not_spelled [] c cs e = absurd cc
+  not_spelled (d ∷ ds) c cs e = at (bytes_eq (d ∷ ds) (c ∷ cs)) refl
+    where
+      at : (b : Bool) → bytes_eq (d ∷ ds) (c ∷ cs) ≡ b → b ≡ false
+      at false h = refl
+      at true h = absurd (true_false (sym (eq-eqb d c (head_is ((bytes_eq-Decides (d ∷ ds) (c ∷ cs)).0 h))) ∙ e))
+
+  not_begun : (t : List ℕ) (c : ℕ) (cs : List ℕ) → may_begin c t ≡ false → behind t (c ∷ cs) ≡ None
+  not_begun [] c cs e = absurd cc
+  not_begun (d ∷ ds) c cs e = ap (λ b. cond b (behind ds cs) None) e
+
+  -- so the items that may begin so suffice
+  spelled_from : (xs : List X) (c : ℕ) (cs : List ℕ) → spelled text (filter (λ x. may_begin c (text x)) xs) (c ∷ cs) ≡ spelled text xs (c ∷ cs)
+  spelled_from [] c cs = refl
+  spelled_from (x ∷ xs) c cs = at (may_begin c (text x)) refl (spelled_from xs c cs)
+    where
+      at : (b : Bool) → may_begin c (text x) ≡ b → spelled text (filter (λ x. may_begin c (text x)) xs) (c ∷ cs) ≡ spelled text xs (c ∷ cs) → spelled text (cond b (x ∷ filter (λ x. may_begin c (text x)) xs) (filter (λ x. may_begin c (text x)) xs)) (c ∷ cs) ≡ spelled text (x ∷ xs) (c ∷ cs)
+      at true h rest = ap (λ r. cond (bytes_eq (text x) (c ∷ cs)) (Some x) r) rest
+      at false h rest = rest ∙ sym (ap (λ b. cond b (Some x) (spelled text xs (c ∷ cs))) (not_spelled (text x) c cs h))
+
+  pub spelled_at : (xs : List X) (cs : List ℕ) (c d : ℕ) → c ≡ d → Some d ≡ slice_get cs 0 → spelled text (filter (λ x. may_begin c (text x)) xs) cs ≡ spelled text xs cs
+  spelled_at xs [] c d h e = absurd cc
+  spelled_at xs (x ∷ cs) c d h e = subst (λ x. spelled text (filter (λ x. may_begin c (text x)) xs) (x ∷ cs) ≡ spelled text xs (x ∷ cs)) (h ∙ some_is e) (spelled_from xs c cs)
+
+  pub begun_from : (xs : List X) (c : ℕ) (cs : List ℕ) → begun text (filter (λ x. may_begin c (text x)) xs) (c ∷ cs) ≡ begun text xs (c ∷ cs)
+  begun_from [] c cs = refl
+  begun_from (x ∷ xs) c cs = at (may_begin c (text x)) refl (begun_from xs c cs)
+    where
+      at : (b : Bool) → may_begin c (text x) ≡ b → begun text (filter (λ x. may_begin c (text x)) xs) (c ∷ cs) ≡ begun text xs (c ∷ cs) → begun text (cond b (x ∷ filter (λ x. may_begin c (text x)) xs) (filter (λ x. may_begin c (text x)) xs)) (c ∷ cs) ≡ begun text (x ∷ xs) (c ∷ cs)
+      at true h rest = ap (λ r. with_rest x (behind (text x) (c ∷ cs)) r) rest
+      at false h rest = rest ∙ sym (ap (λ b. with_rest x b (begun text xs (c ∷ cs))) (not_begun (text x) c cs h))
 
   -- no item of the table is longer than one before it
   abbrev pub falls : List X → Bool

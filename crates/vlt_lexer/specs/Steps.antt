@@ -1,5 +1,5 @@
 -- What one step of reading finds.
-use Rattle.std.specs.Prelude.{◌≡◌, ◌<◌, ◌≤◌, ℕ, ℤ, pos, Bool, if◌then◌else◌, List, [], ◌∷◌, ◌++◌, length, Option, Some, None, codes}
+use Rattle.std.specs.Prelude.{◌≡◌, ◌<◌, ◌≤◌, ℕ, ◌==◌, ℤ, pos, Bool, true, if◌then◌else◌, List, [], ◌∷◌, ◌++◌, length, Option, Some, None, codes}
 use Rattle.std.specs.Str.{chars, bytes_eq}
 use Rattle.vlt_lexer.specs.declared.token.Word.{Word}
 use Rattle.vlt_lexer.specs.declared.token.Mark.{Mark}
@@ -54,6 +54,11 @@ with_rest x (Some after) other = Some (x, after)
 abbrev pub begun : {X : Type 0} → (X → List ℕ) → List X → List ℕ → Option (X × List ℕ)
 begun text [] cs = None
 begun text (x ∷ xs) cs = with_rest x (behind (text x) cs) (begun text xs cs)
+
+-- a text may begin with this character
+abbrev pub may_begin : ℕ → List ℕ → Bool
+may_begin c [] = true
+may_begin c (d ∷ ds) = d == c
 
 -- the keyword that is spelled so
 unfoldable pub keyword_of : List ℕ → Option Word

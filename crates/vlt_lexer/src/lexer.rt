@@ -11,21 +11,28 @@ ghost use Rattle.vlt_lexer.specs.declared.lexer.LexError.{LexError};
 use crate::scan::{Fault, Piece, next_piece};
 use crate::token::{Token, TokenKind};
 use std::alloc::{AllocError, AllocFailed, Global};
+use thiserror::Error;
 use vlt_base::{Span, limit};
 
 /// Why a text has no list of tokens. A place is the number of bytes before it.
-#[derive(Clone, Copy, Debug, PartialEq, Eq)]
+#[derive(Clone, Copy, Debug, PartialEq, Eq, Error)]
 pub enum LexError {
     /// The text isn't UTF-8: the first byte behind its longest valid prefix.
+    #[error("the text isn't UTF-8")]
     NotUtf8(u32),
     /// A character with which no token, blank or comment begins.
+    #[error("no token begins with this character")]
     BadByte(u32),
     /// The first digit of a number above 9223372036854775807.
+    #[error("the number is too large")]
     NumberTooLarge(u32),
     /// The `/` of a `/*` that no `*/` closes.
+    #[error("the comment isn't closed")]
     OpenComment(u32),
     /// There are more tokens than this limit says.
+    #[error("there are too many tokens")]
     Limit(u8),
+    #[error("there is no memory for the tokens")]
     Memory,
 }
 

@@ -1,4 +1,6 @@
-//! The tokens of a source text.
+//! The lexer: the bytes of a source text go in, its tokens with their places come out, or why there are none.
+//! Read `specs/Text.antt` (IsTokensOf) first, then `Reading.antt` (IsRefused).
+//! The parser reads these tokens; the replies to bytes that are no tokens rest on `lex`.
 #![tactic(auto)]
 
 mod lexer;

@@ -1,10 +1,12 @@
 //! Takes one piece off the front of a text.
 
-ghost use Rattle.std.specs.Prelude.{◌≡◌, ◌≤◌, ◌<◌, ◌+◌, ◌*◌, ◌-◌, ◌++◌, ◌∷◌, ℕ, List, [], length, true, MatchOption, Some, None, IfSome, IfOk, IfErr, encode_utf8};
+ghost use Rattle.std.specs.Prelude.{◌≡◌, ◌≤◌, ◌<◌, ◌+◌, ◌*◌, ◌-◌, ◌++◌, ◌∷◌, ℕ, List, [], filter, length, slice_get, true, MatchOption, Some, None, IfSome, IfOk, IfErr, encode_utf8};
 ghost use Rattle.std.specs.Str.{chars};
 ghost use Rattle.vlt_lexer.specs.Characters.{is_blank, is_digit, is_name_start, value_of, after_line, behind, after_close};
-ghost use Rattle.vlt_lexer.specs.Steps.{is_in, run, past_run, past_name, spelled, begun, keyword_of, sign_of, kind_of, IsNoComment, Holds, IsFound, IsShorter};
+ghost use Rattle.vlt_lexer.specs.Steps.{is_in, run, past_run, past_name, spelled, begun, may_begin, keyword_of, sign_of, kind_of, IsNoComment, Holds, IsFound, IsShorter};
 ghost use Rattle.vlt_lexer.specs.Spelling.{word_text, sign_text};
+ghost use Rattle.vlt_lexer.specs.declared.token.TheConstants.Word as words;
+ghost use Rattle.vlt_lexer.specs.declared.token.TheConstants.Mark as signs;
 ghost use Rattle.vlt_lexer.specs.Reading.{IsGap, IsStuck};
 
 use crate::token::{Mark, TokenKind, Word};
@@ -198,22 +200,91 @@ fn first_begun<'a>(marks: &[Mark], text: &'a str) -> Option<(Mark, &'a str)>
     None
 }
 
+/// The keywords that begin with this character.
+fn words_from(first: u8) -> &'static [Word]
+    ensures { result.now ≡ filter (λ w. may_begin first (word_text w)) words.ALL }
+{
+    match first {
+        b'a' => &[Word::Abstract, Word::Adopt, Word::As],
+        b'b' => &[Word::Become, Word::Bool, Word::Break],
+        b'c' => &[Word::Case, Word::Continue],
+        b'e' => &[Word::Else, Word::Extern],
+        b'f' => &[Word::False, Word::Focus],
+        b'i' => &[Word::If, Word::Input, Word::Int, Word::Into],
+        b'm' => &[Word::More],
+        b'n' => &[Word::New],
+        b'o' => &[Word::Open],
+        b'p' => &[Word::Print],
+        b'r' => &[Word::Release, Word::Return],
+        b's' => &[Word::Stateset, Word::Struct, Word::Swap, Word::Switch],
+        b't' => &[Word::Tracked, Word::True],
+        b'v' => &[Word::Variant, Word::Void],
+        b'w' => &[Word::While],
+        _ => &[],
+    }
+}
+
+/// The keyword that is spelled so, by its first character.
+#[tactic(auto, unfolding(crate::specs::Steps::keyword_of))]
+fn keyword(first: u8, name: &[u8]) -> Option<Word>
+    requires { Some first ≡ slice_get name.now 0 }
+    ensures { result ≡ keyword_of name.now }
+{
+    first_spelled(words_from(first), name)
+}
+
 /// A keyword, or a name where none is spelled so.
 #[tactic(auto, unfolding(crate::specs::Steps::keyword_of))]
 fn keyword_or_name(name: &[u8]) -> TokenKind
     ensures { result ≡ kind_of (keyword_of name.now) }
 {
-    first_spelled(&Word::ALL, name).map_or(TokenKind::Name, TokenKind::Keyword)
+    match name.first() {
+        Some(first) => keyword(*first, name).map_or(TokenKind::Name, TokenKind::Keyword),
+        None => TokenKind::Name,
+    }
 }
 
-/// The longest sign at the front of the text, and the text behind it.
+/// The signs that begin with this character, the longer ones first.
+fn marks_from(first: char) -> &'static [Mark]
+    ensures { result.now ≡ filter (λ m. may_begin first (sign_text m)) signs.ALL }
+{
+    match first {
+        '{' => &[Mark::OpenBrace],
+        '}' => &[Mark::CloseBrace],
+        '(' => &[Mark::OpenParen],
+        ')' => &[Mark::CloseParen],
+        '[' => &[Mark::OpenBracket],
+        ']' => &[Mark::CloseBracket],
+        '<' => &[Mark::LessEqual, Mark::Less],
+        '>' => &[Mark::GreaterEqual, Mark::Greater],
+        ',' => &[Mark::Comma],
+        ';' => &[Mark::Semicolon],
+        ':' => &[Mark::Colon],
+        '.' => &[Mark::Dot],
+        '@' => &[Mark::At],
+        '-' => &[Mark::Arrow, Mark::Minus],
+        '=' => &[Mark::Equal, Mark::Assign],
+        '+' => &[Mark::Plus],
+        '*' => &[Mark::Star],
+        '/' => &[Mark::Slash],
+        '%' => &[Mark::Percent],
+        '!' => &[Mark::NotEqual, Mark::Not],
+        '&' => &[Mark::AndAnd, Mark::And],
+        '|' => &[Mark::OrOr, Mark::Or],
+        '^' => &[Mark::Xor],
+        _ => &[],
+    }
+}
+
+/// The longest sign at the front of the text, which begins with this character, and the text behind it.
 #[tactic(auto, unfolding(crate::specs::Steps::sign_of))]
-fn sign(text: &str) -> Option<(Mark, &str)>
+fn sign(first: char, text: &str) -> Option<(Mark, &str)>
+    requires { (cs : List ℕ) × (chars text.now ≡ first ∷ cs) }
     ensures sign { MatchOption result (sign_of (chars text.now) ≡ None)
         (λ x. sign_of (chars text.now) ≡ Some (x.0, chars x.1.now)) }
     ensures shorter { IfSome result (λ x. length x.1.now < length text.now) }
 {
-    first_begun(&Mark::ALL, text)
+    first_begun(marks_from(first), text)
 }
 
 /// The text behind the comment at its front, if it begins with one.
@@ -262,7 +333,9 @@ pub fn next_piece(text: &str) -> Result<Option<Piece<'_>>, Fault>
     if is_blank(c) {
         return Ok(Some(Piece::Gap(after)));
     }
-    if let Some(rest) = past_comment(text)? {
+    if c == '/'
+        && let Some(rest) = past_comment(text)?
+    {
         return Ok(Some(Piece::Gap(rest)));
     }
     if let Some(rest) = past_name(text) {
@@ -278,7 +351,7 @@ pub fn next_piece(text: &str) -> Result<Option<Piece<'_>>, Fault>
             None => Err(Fault::BadByte),
         };
     }
-    match sign(text) {
+    match sign(c, text) {
         Some((mark, rest)) => Ok(Some(Piece::Token(TokenKind::Sign(mark), rest))),
         None => Err(Fault::BadByte),
     }

@@ -1,4 +1,3 @@
 pub mod Viewing
 pub mod Sameness
-pub mod Limits
 mod Trials
