@@ -13,7 +13,7 @@ use Rattle.vlt_elaborated_laws.specs.Made.{IsMade}
 use Rattle.vlt_elaborated_laws.specs.Elaborated.{IsElaborated}
 use Rattle.vlt_elaborated_laws.proofs.Made.{told, made_at, HasFunctions, functions_made}
 use Rattle.vlt_kinds.specs.Tables.{kinds_of}
-use Rattle.vlt_sound_narrow.specs.Externals.{HasExternals}
+use Rattle.vlt_sound_declared.specs.Externals.{HasExternals}
 
 with_no_body : (file : File) (h : Head) (keys : Keys) → record (core_head file true h keys) { body = core.done } ≡ core_head file true h keys
 unfolding core_head

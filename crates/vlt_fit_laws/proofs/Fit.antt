@@ -7,8 +7,8 @@ use Rattle.vlt_core.specs.Core.{Program}
 use Rattle.vlt_kinds_types.specs.Files.{file_of}
 use Rattle.vlt_kinds_laws.specs.Declared.{HasDeclared, IsPassed}
 use Rattle.vlt_sound_typed.specs.Sizes.{HasSizes}
-use Rattle.vlt_sound_externs.specs.Narrow.{HasNarrowHeads}
-use Rattle.vlt_sound_narrow.specs.Externals.{HasExternals}
+use Rattle.vlt_sound_typed.specs.Narrow.{HasNarrowHeads}
+use Rattle.vlt_sound_declared.specs.Externals.{HasExternals}
 use Rattle.vlt_elaborated_laws.specs.Elaborated.{IsElaborated, ElaboratedProgramsAreKinded, ElaboratedProgramsHaveStates, ElaboratedProgramsHaveArms, ElaboratedProgramsHaveSets}
 use Rattle.vlt_elaborated_laws.proofs.Whole.{passed_of}
 use Rattle.vlt_fit_laws.specs.Fit.{ProgramsAreFit}

@@ -9,7 +9,7 @@ use Rattle.vlt_kinds.specs.Tables.{kinds_told}
 use Rattle.vlt_resolve.specs.Elaboration.{elaborated}
 use Rattle.vlt_check.specs.Checks.{IsWellFormed}
 use Rattle.vlt_sound_typed.specs.Sizes.{HasSizes}
-use Rattle.vlt_sound_externs.specs.Narrow.{HasNarrowHeads}
+use Rattle.vlt_sound_typed.specs.Narrow.{HasNarrowHeads}
 use Rattle.vlt_ticks_laws.specs.Ticks.{HasTicks}
 
 -- All that the laws on checks and runs want to know of a program: it breaks no rule on names and types, each of its sets has a

@@ -9,8 +9,7 @@ use vlt_elaborated_laws::{
     elaborated_programs_are_kinded, elaborated_programs_have_arms, elaborated_programs_have_sets,
     elaborated_programs_have_states,
 };
-use vlt_sound_narrow::declared_externals_are_narrow;
-use vlt_sound_sizes::declared_sets_are_small;
+use vlt_sound_declared::{declared_externals_are_narrow, declared_sets_are_small};
 
 /// The core program of a tree that a text has is all that the check and the law on runs ask for.
 pub fn programs_are_fit()

@@ -6,22 +6,22 @@ use Rattle.vlt_core.specs.Kinded.{IsKinded}
 use Rattle.vlt_meaning.specs.Run.{Setup, Meaning, less}
 use Rattle.vlt_core_laws.specs.States.{HasStates}
 use Rattle.vlt_sound_calls.specs.Returned.{CalleesAreSafe}
-use Rattle.vlt_sound_blocks.specs.Statements.{RestIsSafe}
-use Rattle.vlt_sound_bodies.specs.Meet.{HasFunctions}
-use Rattle.vlt_sound_bodies.specs.Externals.{ExternalsAreSafe}
-use Rattle.vlt_sound_bodies.proofs.Bodies.{calls_are_safe}
+use Rattle.vlt_sound_statements.specs.Statements.{RestIsSafe}
+use Rattle.vlt_sound_returns.specs.Meet.{HasFunctions}
+use Rattle.vlt_sound_returns.specs.Externals.{ExternalsAreSafe}
+use Rattle.vlt_sound_returns.proofs.Bodies.{calls_are_safe}
 use Rattle.vlt_sound_returns.proofs.Returns.{returns_are_safe}
 use Rattle.vlt_sound_typed.specs.Sizes.{HasSizes}
 use Rattle.vlt_sound_typed.proofs.Facts.{has_cases, has_keys, body_kinded, end_kinded}
-use Rattle.vlt_sound_heads.proofs.Functions.{has_functions}
-use Rattle.vlt_sound_simple.proofs.Simple.{step_safe}
+use Rattle.vlt_sound_typed.proofs.Functions.{has_functions}
+use Rattle.vlt_sound_statements.proofs.Simple.{step_safe}
 use Rattle.vlt_sound_statements.specs.Parts.{HasSafeParts}
 use Rattle.vlt_sound_statements.proofs.Statements.{stmts_safe}
 use Rattle.vlt_sound_statements.proofs.Bodies.{body_safe}
-use Rattle.vlt_sound_externs.specs.Narrow.{HasNarrowHeads}
-use Rattle.vlt_sound_externs.proofs.Heads.{has_hosts}
+use Rattle.vlt_sound_typed.specs.Narrow.{HasNarrowHeads}
+use Rattle.vlt_sound_typed.proofs.Heads.{has_hosts}
 use Rattle.vlt_sound_hosts.proofs.Hosts.{externals_are_safe}
-use Rattle.vlt_sound_answers.proofs.Results.{answers_safe}
+use Rattle.vlt_sound_hosts.proofs.Results.{answers_safe}
 
 module _ (p : Program) (heap depth : ℕ) (kinded : IsKinded p) (accepted : IsAccepted p)
     (sizes : HasSizes p) (filled : HasStates p) (narrow : HasNarrowHeads p) where

@@ -21,8 +21,8 @@ use Rattle.vlt_sound_frames.specs.Agrees.{Agrees}
 use Rattle.vlt_sound_frames.specs.Safe.{Safe}
 use Rattle.vlt_sound_calls.specs.Returned.{returns_to}
 use Rattle.vlt_sound_typed.specs.Sizes.{HasSizes}
-use Rattle.vlt_sound_entering.specs.Callee.{Among}
-use Rattle.vlt_sound_externs.specs.Narrow.{HasNarrowHeads}
+use Rattle.vlt_sound_calls.specs.Callee.{Among}
+use Rattle.vlt_sound_typed.specs.Narrow.{HasNarrowHeads}
 use Rattle.vlt_sound.specs.Promise.{NeverGoesWrong, LeavesOnlyItsClause}
 use Rattle.vlt_sound.specs.Main.{IsMain}
 use Rattle.vlt_sound.proofs.Start.{main_context, main_agrees, main_entered, main_scoped}

@@ -9,7 +9,7 @@ ghost use Rattle.vlt_core.specs.Derives.{IsAccepted};
 ghost use Rattle.vlt_core_laws.specs.States.{HasStates};
 ghost use Rattle.vlt_sound_typed.specs.Sizes.{HasSizes};
 ghost use Rattle.vlt_sound.specs.Promise.{NeverGoesWrong, LeavesOnlyItsClause};
-ghost use Rattle.vlt_sound_externs.specs.Narrow.{HasNarrowHeads};
+ghost use Rattle.vlt_sound_typed.specs.Narrow.{HasNarrowHeads};
 
 /// No run of an accepted program ends in a fault, and one that comes to main's end leaves only what
 /// its clause or the host has: whatever the bounds, the input and the answers.

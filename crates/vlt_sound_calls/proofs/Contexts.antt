@@ -4,11 +4,11 @@ use Rattle.vlt_core.specs.Core.{Entry, Func, Program}
 use Rattle.vlt_meaning.specs.Calls.{entries_after}
 use Rattle.vlt_meaning.specs.World as world
 use Rattle.vlt_meaning.specs.World.{Value, World, Object}
-use Rattle.vlt_sound_worlds.specs.Look.{look}
+use Rattle.vlt_sound_owners.specs.Look.{look}
 use Rattle.vlt_sound_owners.specs.Members.{In}
-use Rattle.vlt_sound_keys.proofs.Keys.{under_lent}
-use Rattle.vlt_sound_focus.specs.Scene.{Focus}
-use Rattle.vlt_sound_focus.specs.Fits.{Names}
+use Rattle.vlt_sound_owners.proofs.Keys.{under_lent}
+use Rattle.vlt_sound_owners.specs.Scene.{Focus}
+use Rattle.vlt_sound_owners.specs.Fits.{Names}
 use Rattle.vlt_sound_frames.specs.Agrees.{Pin, Context, FociAgree}
 use Rattle.vlt_sound_calls.specs.Returned.{IsEntered, AreKept, Returned}
 

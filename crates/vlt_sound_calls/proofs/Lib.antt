@@ -1,1 +1,11 @@
 pub mod Contexts
+pub mod Entries
+pub mod Rekeyed
+pub mod ClauseRows
+pub mod Over
+pub mod Parameters
+pub mod Typing
+pub mod Begins
+pub mod Entering
+pub mod Telling
+pub mod Given

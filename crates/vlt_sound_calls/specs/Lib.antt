@@ -1,3 +1,7 @@
 pub mod Returned
 pub mod Heads
 pub mod Calls
+pub mod Callee
+pub mod Ready
+pub mod Told
+pub mod Given

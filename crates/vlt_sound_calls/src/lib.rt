@@ -1,24 +1,14 @@
-//! Laws on the contexts of functions that were called: nothing goes in and nothing comes out.
-//! Read `vlt_sound_frames/specs/Agrees.antt` first, then `specs/Returned.antt` and `specs/Calls.antt`.
-//! The laws of calls, of returns and of blocks rest on them.
+//! Laws on calls, on the way in: nothing goes in and nothing comes out.
+//! Read `specs/Calls.antt` first, then `specs/Callee.antt`.
+//! `vlt_sound` rests on them: no run of an accepted program goes wrong.
 #![tactic(auto)]
 
-ghost use Rattle.std.specs.Prelude.{◌≡◌, ℕ, List, ◌∷◌, Option};
-ghost use Rattle.vlt_core.specs.Core.{Func, Program};
-ghost use Rattle.vlt_meaning.specs.World.{Value, World};
-ghost use Rattle.vlt_sound_focus.specs.Scene.{Focus};
-ghost use Rattle.vlt_sound_frames.specs.Agrees.{Pin, Context};
-ghost use Rattle.vlt_sound_calls.specs.Returned.{IsEntered, Returned};
+mod calls;
+mod entering;
+mod given;
+mod told;
 
-/// What is known of a context from the call stays so whatever foci are open and whatever keys are pinned.
-pub fn foci_change_no_head()
-    ensures { (p : Program) (f : Func) (c : Context) (foci : List Focus) (pins : List Pin) →
-        IsEntered p f c → IsEntered p f (record c { foci = foci; pins = pins }) }
-{}
-
-/// No function returns while a focus of its own is open.
-pub fn no_focus_is_open_at_a_return()
-    ensures { (p : Program) (f : Func) (c : Context) (a : Option Value) (given : List ℕ)
-        (w : World) (q : Focus) (rest : List Focus) → c.foci ≡ q ∷ rest → q.depth ≡ c.depth →
-        Returned p f c a given w → ⊥ }
-{}
+pub use calls::{foci_change_no_head, no_focus_is_open_at_a_return};
+pub use entering::callees_begin;
+pub use given::given_keys_have_what_they_name;
+pub use told::answered_states_are_told;

@@ -10,16 +10,16 @@ use Rattle.vlt_core.specs.KindedScopes.{Ids, with_var, with_binding, with_target
 use Rattle.vlt_meaning.specs.World.{Value, objects_in, Object, Frame}
 use Rattle.vlt_meaning.specs.Step.{set_at}
 use Rattle.vlt_meaning.specs.Step as step
-use Rattle.vlt_sound_worlds.specs.Look.{look, IsLive}
-use Rattle.vlt_sound_worlds.proofs.Ranks.{ranked_same}
+use Rattle.vlt_sound_owners.specs.Look.{look, IsLive}
+use Rattle.vlt_sound_owners.proofs.Ranks.{ranked_same}
 use Rattle.vlt_sound_owners.specs.Roots.{Root, in_var, in_hand, in_wait, in_cell, owned_by, cell_of, content, home}
 use Rattle.vlt_sound_owners.proofs.Placed as placed
 use Rattle.vlt_sound_owners.proofs.Roots.{homes, same_root}
-use Rattle.vlt_sound_keys.specs.Keys.{IsUnder, IsSameObject}
-use Rattle.vlt_sound_keys.proofs.Keys.{key_kept, under_all}
-use Rattle.vlt_sound_focus.specs.Scene.{Focus, Grows}
-use Rattle.vlt_sound_focus.proofs.Scene.{Stays, grows}
-use Rattle.vlt_sound_focus.specs.Fits.{Fits}
+use Rattle.vlt_sound_owners.specs.Keys.{IsUnder, IsSameObject}
+use Rattle.vlt_sound_owners.proofs.Keys.{key_kept, under_all}
+use Rattle.vlt_sound_owners.specs.Scene.{Focus, Grows}
+use Rattle.vlt_sound_owners.proofs.Scene.{Stays, grows}
+use Rattle.vlt_sound_owners.specs.Fits.{Fits}
 use Rattle.vlt_sound_frames.specs.Agrees.{ObjectFits, HasVar, InScope, Handed, Context, FociAgree, scene, stock, Agrees}
 use Rattle.vlt_sound_frames.proofs.Kept.{KeepsOwned, var_states, rest_kept, hand_states, vars_kept, handed_kept}
 

@@ -21,10 +21,10 @@ use Rattle.vlt_meaning.specs.World as world
 use Rattle.vlt_meaning.specs.Found.{Found, ◌>>=◌, or_fault}
 use Rattle.vlt_meaning_laws.proofs.Keeping.{err-ok}
 use Rattle.vlt_meaning.specs.Values.{number_in, is_number, or_trap, joined, value_of}
-use Rattle.vlt_sound_worlds.specs.Look.{look}
-use Rattle.vlt_sound_focus.specs.Scene.{Scene}
-use Rattle.vlt_sound_focus.specs.Fits.{Names, names_of, Fits}
-use Rattle.vlt_sound_focus.proofs.Fits.{fits_named, fits_before}
+use Rattle.vlt_sound_owners.specs.Look.{look}
+use Rattle.vlt_sound_owners.specs.Scene.{Scene}
+use Rattle.vlt_sound_owners.specs.Fits.{Names, names_of, Fits}
+use Rattle.vlt_sound_owners.proofs.Fits.{fits_named, fits_before}
 use Rattle.vlt_sound_frames.specs.Agrees.{FitCells, Handed, Context, scene, Agrees}
 use Rattle.vlt_sound_frames.specs.Typed.{IsTyped}
 use Rattle.vlt_sound_frames.specs.Fine.{IsRead, IsFine}

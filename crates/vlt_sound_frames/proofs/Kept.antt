@@ -7,17 +7,17 @@ use Rattle.vlt_core.specs.Maps.{HeldMap}
 use Rattle.vlt_core.specs.KindedScopes.{Ids}
 use Rattle.vlt_meaning.specs.World.{Value, objects_in, Owner, gone, adopted_by, Object, Frame}
 use Rattle.vlt_meaning.specs.World as world
-use Rattle.vlt_sound_worlds.specs.Look.{look, IsLive}
+use Rattle.vlt_sound_owners.specs.Look.{look, IsLive}
 use Rattle.vlt_sound_owners.specs.Members.{In}
 use Rattle.vlt_sound_owners.specs.Placed.{IsOwned, IsPlaced}
 use Rattle.vlt_sound_owners.specs.Roots.{Root, in_var, in_hand, in_wait, in_cell, owned_by, cell_of, unless_gone, home, owner_of}
 use Rattle.vlt_sound_owners.proofs.Members.{in_left, in_right, in_either}
 use Rattle.vlt_sound_owners.proofs.Roots.{homes}
-use Rattle.vlt_sound_keys.specs.Keys.{IsUnder, SameUnder}
-use Rattle.vlt_sound_keys.proofs.Keys.{key_kept}
-use Rattle.vlt_sound_focus.specs.Scene.{Scene, Grows, SameStates}
-use Rattle.vlt_sound_focus.specs.Fits.{Names, names_of}
-use Rattle.vlt_sound_focus.proofs.Fits.{fits_kept}
+use Rattle.vlt_sound_owners.specs.Keys.{IsUnder, SameUnder}
+use Rattle.vlt_sound_owners.proofs.Keys.{key_kept}
+use Rattle.vlt_sound_owners.specs.Scene.{Scene, Grows, SameStates}
+use Rattle.vlt_sound_owners.specs.Fits.{Names, names_of}
+use Rattle.vlt_sound_owners.proofs.Fits.{fits_kept}
 use Rattle.vlt_sound_frames.specs.Agrees.{FitCells, ObjectFits, VarsFit, Handed, values_of, FitHanded, Waiting, Context, FociAgree, WaitsWell, RestAgrees, scene, Agrees}
 
 -- objects that a value or a field owns keep their states and their types

@@ -8,17 +8,17 @@ use Rattle.vlt_core.specs.KindedScopes.{Ids}
 use Rattle.vlt_meaning.specs.World.{Value, objects_in, Owner, adopted_by, gone, Object, Frame}
 use Rattle.vlt_meaning.specs.World as world
 use Rattle.vlt_meaning.specs.Objects.{with_owner}
-use Rattle.vlt_sound_worlds.specs.Look.{look, IsLive, ChangesOne}
-use Rattle.vlt_sound_worlds.proofs.Look.{owns_one}
+use Rattle.vlt_sound_owners.specs.Look.{look, IsLive, ChangesOne}
+use Rattle.vlt_sound_owners.proofs.Look.{owns_one}
 use Rattle.vlt_sound_owners.specs.Members.{In}
 use Rattle.vlt_sound_owners.specs.Placed.{IsOwned}
 use Rattle.vlt_sound_owners.specs.Roots.{Root, in_var, in_hand, in_wait, in_cell, cell_of, content, home}
 use Rattle.vlt_sound_owners.proofs.Placed as placed
 use Rattle.vlt_sound_owners.proofs.Roots.{homes, same_root}
-use Rattle.vlt_sound_keys.specs.Keys.{KeyAgrees, IsUnder}
-use Rattle.vlt_sound_keys.proofs.Keys.{key_kept, under_one}
-use Rattle.vlt_sound_focus.specs.Scene.{Focus, Scene}
-use Rattle.vlt_sound_focus.specs.Fits.{Names, Fits}
+use Rattle.vlt_sound_owners.specs.Keys.{KeyAgrees, IsUnder}
+use Rattle.vlt_sound_owners.proofs.Keys.{key_kept, under_one}
+use Rattle.vlt_sound_owners.specs.Scene.{Focus, Scene}
+use Rattle.vlt_sound_owners.specs.Fits.{Names, Fits}
 use Rattle.vlt_sound_frames.specs.Agrees.{IsAdoptable, VarsAgree, Handed, values_of, FitHanded, Context, FociAgree, scene, stock, Agrees}
 use Rattle.std.proofs.lemmas.Option.{same_Some}
 use Rattle.vlt_meaning.specs.World.{loose, one, owned, above}
@@ -27,9 +27,9 @@ use Rattle.vlt_core.specs.Lookups.{is_owning_var}
 use Rattle.vlt_sound_frames.specs.Agrees.{HasVar}
 use Rattle.std.proofs.lemmas.List.{append-nil, append_assoc}
 use Rattle.std.proofs.Common.{zero, suc, ◌++◌, slice_set}
-use Rattle.vlt_sound_worlds.proofs.Look.{changes_one}
-use Rattle.vlt_sound_worlds.proofs.Ranks.{ranked_root, ranked_child}
-use Rattle.vlt_sound_keys.proofs.Keys.{key_absent, under_is}
+use Rattle.vlt_sound_owners.proofs.Look.{changes_one}
+use Rattle.vlt_sound_owners.proofs.Ranks.{ranked_root, ranked_child}
+use Rattle.vlt_sound_owners.proofs.Keys.{key_absent, under_is}
 use Rattle.vlt_sound_frames.proofs.Owners.{agrees_owner, ChangesTok, cells_stay}
 
 pub key_same : {k j : ℕ} → a_key k ≡ a_key j → k ≡ j

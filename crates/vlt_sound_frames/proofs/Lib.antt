@@ -8,3 +8,11 @@ pub mod Kept
 pub mod Changes
 pub mod Owners
 pub mod Leaving
+pub mod Handing
+pub mod TypeFacts
+pub mod PlainSteps
+pub mod Fields
+pub mod Owning
+pub mod Adopting
+pub mod Blocks
+pub mod Coming

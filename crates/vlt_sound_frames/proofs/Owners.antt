@@ -8,14 +8,14 @@ use Rattle.vlt_core.specs.Maps.{Status, HeldMap}
 use Rattle.vlt_core.specs.KindedScopes.{Ids}
 use Rattle.vlt_meaning.specs.World.{objects_in, Owner, adopted_by, gone, Object, Frame}
 use Rattle.vlt_meaning.specs.Objects.{with_owner}
-use Rattle.vlt_sound_worlds.specs.Look.{look, IsLive, ChangesOne}
-use Rattle.vlt_sound_worlds.specs.Ranks.{IsRanked}
+use Rattle.vlt_sound_owners.specs.Look.{look, IsLive, ChangesOne}
+use Rattle.vlt_sound_owners.specs.Ranks.{IsRanked}
 use Rattle.vlt_sound_owners.specs.Placed.{IsPlaced}
 use Rattle.vlt_sound_owners.specs.Roots.{cell_of, owned_by, content, home, owner_of}
-use Rattle.vlt_sound_keys.specs.Keys.{KeyAgrees, IsUnder}
-use Rattle.vlt_sound_keys.proofs.Keys.{under_one}
-use Rattle.vlt_sound_focus.specs.Scene.{IsGuardedBy, Grows, SameStates}
-use Rattle.vlt_sound_focus.proofs.Scene.{grows}
+use Rattle.vlt_sound_owners.specs.Keys.{KeyAgrees, IsUnder}
+use Rattle.vlt_sound_owners.proofs.Keys.{under_one}
+use Rattle.vlt_sound_owners.specs.Scene.{IsGuardedBy, Grows, SameStates}
+use Rattle.vlt_sound_owners.proofs.Scene.{grows}
 use Rattle.vlt_sound_frames.specs.Agrees.{IsAdoptable, VarsFit, VarsAgree, Handed, values_of, FitHanded, Context, FociAgree, PinsAgree, scene, stock, Agrees}
 use Rattle.vlt_sound_frames.proofs.Kept.{KeepsOwned, vars_kept, handed_kept, waits_kept, object_kept, cells_in}
 

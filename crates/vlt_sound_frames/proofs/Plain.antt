@@ -7,8 +7,8 @@ use Rattle.vlt_core.specs.Core.{Ty, int, bool, tracked, owning, guarded, variant
 use Rattle.vlt_core.specs.Lookups.{is_owning, cases_of}
 use Rattle.vlt_core.specs.Types.{same_ty, same_keys, same_object, is_filled, is_keyed, is_owning_type}
 use Rattle.vlt_meaning.specs.World.{Value, Part, objects_in, objects_in_part}
-use Rattle.vlt_sound_focus.specs.Scene.{Scene}
-use Rattle.vlt_sound_focus.specs.Fits.{Names, names_of, FitsPart, FitParts, FitKeys, IsCase, Fits}
+use Rattle.vlt_sound_owners.specs.Scene.{Scene}
+use Rattle.vlt_sound_owners.specs.Fits.{Names, names_of, FitsPart, FitParts, FitKeys, IsCase, Fits}
 use Rattle.vlt_sound_frames.proofs.Empty.{both_so}
 
 pub keys_same : (a b : List ℕ) → same_keys a b ≡ true → a ≡ b

@@ -4,8 +4,8 @@ use Rattle.vlt_core.specs.Core.{Ty, Program}
 use Rattle.vlt_meaning.specs.World.{Value, World, Reason}
 use Rattle.vlt_meaning.specs.Found.{Found}
 use Rattle.vlt_meaning.specs.Step.{Step, with_found, where_so, first_input, with_input}
-use Rattle.vlt_sound_focus.specs.Scene.{Scene}
-use Rattle.vlt_sound_focus.specs.Fits.{Names}
+use Rattle.vlt_sound_owners.specs.Scene.{Scene}
+use Rattle.vlt_sound_owners.specs.Fits.{Names}
 use Rattle.vlt_sound_frames.specs.Fine.{IsRead, IsFine}
 use Rattle.vlt_sound_frames.specs.Safe.{Goal, Safe}
 

@@ -9,13 +9,13 @@ use Rattle.vlt_core.specs.KindedHeads.{has}
 use Rattle.vlt_core.specs.KindedScopes.{Ids}
 use Rattle.vlt_meaning.specs.World.{Value, objects_in, adopted_by, Object, Frame}
 use Rattle.vlt_meaning.specs.World as world
-use Rattle.vlt_sound_worlds.specs.Look.{look, IsLive}
-use Rattle.vlt_sound_worlds.specs.Ranks.{IsRanked}
+use Rattle.vlt_sound_owners.specs.Look.{look, IsLive}
+use Rattle.vlt_sound_owners.specs.Ranks.{IsRanked}
 use Rattle.vlt_sound_owners.specs.Placed.{IsPlaced}
 use Rattle.vlt_sound_owners.specs.Roots.{Stock, owned_by, content, home, owner_of}
-use Rattle.vlt_sound_keys.specs.Keys.{KeyAgrees, IsUnder}
-use Rattle.vlt_sound_focus.specs.Scene.{Focus, Scene}
-use Rattle.vlt_sound_focus.specs.Fits.{Names, names_of, Fits}
+use Rattle.vlt_sound_owners.specs.Keys.{KeyAgrees, IsUnder}
+use Rattle.vlt_sound_owners.specs.Scene.{Focus, Scene}
+use Rattle.vlt_sound_owners.specs.Fits.{Names, names_of, Fits}
 
 -- ---- objects, each by itself
 

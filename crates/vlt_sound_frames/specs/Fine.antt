@@ -4,8 +4,8 @@ use Rattle.vlt_core.specs.Core.{Ty, Program}
 use Rattle.vlt_core.specs.Lookups.{is_owning}
 use Rattle.vlt_meaning.specs.World.{Value, is_fault}
 use Rattle.vlt_meaning.specs.Found.{Found}
-use Rattle.vlt_sound_focus.specs.Scene.{Scene}
-use Rattle.vlt_sound_focus.specs.Fits.{Names, Fits}
+use Rattle.vlt_sound_owners.specs.Scene.{Scene}
+use Rattle.vlt_sound_owners.specs.Fits.{Names, Fits}
 
 -- a value of a known type that owns nothing
 pub record IsRead (p : Program) (s : Scene) (names : Names) (type : Option Ty) (value : Value) : Type 0 where

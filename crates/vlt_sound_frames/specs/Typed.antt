@@ -5,7 +5,7 @@ use Rattle.vlt_core.specs.Lookups.{var_type, key_type, fields_of, all_states}
 use Rattle.vlt_core.specs.KindedHeads.{has_set}
 use Rattle.vlt_core.specs.Types.{decl_of, header_of, type_in, args_of, keys_of_ty, is_owning_type}
 use Rattle.vlt_sound_owners.specs.Members.{In}
-use Rattle.vlt_sound_focus.specs.Fits.{header_type}
+use Rattle.vlt_sound_owners.specs.Fits.{header_type}
 use Rattle.vlt_sound_frames.specs.Limited.{IsNarrow}
 
 -- a type is declared, and has as many arguments as the declaration's header

@@ -1,26 +1,10 @@
-//! Laws on running functions: nothing goes in and nothing comes out.
-//! Read `specs/Agrees.antt` first: the fact that each step of a run keeps.
-//! `vlt_sound` rests on it: what a held map and a scope say of a running function is so.
+//! Laws on frames and on statements without blocks: nothing goes in and nothing comes out.
+//! Read `specs/Agrees.antt` (what each step keeps) first, then `specs/Steps.antt`.
+//! `vlt_sound` rests on them: no run of an accepted program goes wrong.
 #![tactic(auto)]
 
-ghost use Rattle.std.specs.Prelude.{◌≡◌, List, []};
-ghost use Rattle.vlt_core.specs.Core.{Expr, Func, Program};
-ghost use Rattle.vlt_core.specs.Maps.{HeldMap, CanPass};
-ghost use Rattle.vlt_core.specs.Rows.{expr_rows};
-ghost use Rattle.vlt_core.specs.KindedScopes.{Ids};
-ghost use Rattle.vlt_core.specs.KindedOperands.{type_of_expr, expr_broken};
-ghost use Rattle.vlt_meaning.specs.World.{Object, Frame};
-ghost use Rattle.vlt_meaning.specs.Values.{value_of};
-ghost use Rattle.vlt_sound_frames.specs.Agrees.{Handed, Context, scene, Agrees};
-ghost use Rattle.vlt_sound_frames.specs.Typed.{IsTyped};
-ghost use Rattle.vlt_sound_frames.specs.Fine.{IsFine};
+mod frames;
+mod steps;
 
-/// Where the held map passes its rows, an expression gives a value that fits its type, or a trap, but never a fault.
-pub fn expressions_are_fine()
-    ensures { (p : Program) (f : Func) (c : Context) (h : HeldMap) (ids : Ids)
-        (hand : List Handed) (frame : Frame) (os : List Object)
-        (a : Agrees p f c h ids hand frame os) (e : Expr) → IsTyped p f →
-        expr_broken p f ids e ≡ [] → CanPass (expr_rows p f e) h →
-        IsFine p (scene c os a.heads) frame.keys (type_of_expr p f e)
-        (value_of p f e frame os) }
-{}
+pub use frames::expressions_are_fine;
+pub use steps::{blocks_leave_nothing_behind, owning_steps_are_safe, plain_steps_are_safe};

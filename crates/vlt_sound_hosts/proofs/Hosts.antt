@@ -15,13 +15,13 @@ use Rattle.vlt_meaning.specs.Step.{Step, with_answer, first_answer, with_objects
 use Rattle.vlt_meaning.specs.Calls.{passed_objects}
 use Rattle.vlt_meaning.specs.Externals.{is_taken, taken_objects, call_external}
 use Rattle.vlt_meaning.specs.Run.{Setup}
-use Rattle.vlt_sound_worlds.specs.Look.{look, IsLive}
-use Rattle.vlt_sound_worlds.proofs.Look.{live_within}
+use Rattle.vlt_sound_owners.specs.Look.{look, IsLive}
+use Rattle.vlt_sound_owners.proofs.Look.{live_within}
 use Rattle.vlt_sound_owners.specs.Members.{In}
 use Rattle.vlt_sound_owners.specs.Roots.{in_hand}
 use Rattle.vlt_sound_owners.proofs.Members.{in_either, in_left, in_right}
-use Rattle.vlt_sound_focus.specs.Scene.{Scene}
-use Rattle.vlt_sound_focus.specs.Fits.{Names}
+use Rattle.vlt_sound_owners.specs.Scene.{Scene}
+use Rattle.vlt_sound_owners.specs.Fits.{Names}
 use Rattle.vlt_sound_frames.specs.Agrees.{Handed, values_of, FitHanded, Context, scene, Agrees}
 use Rattle.vlt_sound_frames.specs.Typed.{IsTyped}
 use Rattle.vlt_sound_frames.specs.Safe.{Goal, Safe, goes_to}
@@ -29,21 +29,21 @@ use Rattle.vlt_sound_frames.proofs.Safe.{found_safe}
 use Rattle.vlt_sound_frames.proofs.Leaving.{key_same, var_is_no_key}
 use Rattle.vlt_sound_scopes.specs.Scoped.{IsScoped}
 use Rattle.vlt_sound_scopes.proofs.Binding.{first_or_other}
-use Rattle.vlt_sound_operands.specs.Handed.{handed}
-use Rattle.vlt_sound_changes.specs.Moved.{ArePassing, IsMoved}
-use Rattle.vlt_sound_changes.proofs.Moved.{moved_all, moved_safe}
+use Rattle.vlt_sound_scopes.specs.Handed.{handed}
+use Rattle.vlt_sound_scopes.specs.Moved.{ArePassing, IsMoved}
+use Rattle.vlt_sound_scopes.proofs.Moved.{moved_all, moved_safe}
 use Rattle.vlt_sound_calls.specs.Returned.{IsEntered}
 use Rattle.vlt_sound_calls.specs.Heads.{HasHead}
-use Rattle.vlt_sound_entering.specs.Callee.{AreApartBy, IsCall, caller_key}
-use Rattle.vlt_sound_entering.proofs.Parameters.{handed_objects}
-use Rattle.vlt_sound_entering.proofs.Over.{HoldsAll, holds_object, all_passed}
-use Rattle.vlt_sound_entering.proofs.Begins.{holds, passes_states}
-use Rattle.vlt_sound_leaving.specs.Fresh.{IsFreshCall}
-use Rattle.vlt_sound_leaving.proofs.Pairs.{among_filtered, filtered_among, filtered_apart}
-use Rattle.vlt_sound_bodies.specs.Externals.{ExternalsAreSafe}
+use Rattle.vlt_sound_calls.specs.Callee.{AreApartBy, IsCall, caller_key}
+use Rattle.vlt_sound_calls.proofs.Parameters.{handed_objects}
+use Rattle.vlt_sound_calls.proofs.Over.{HoldsAll, holds_object, all_passed}
+use Rattle.vlt_sound_calls.proofs.Begins.{holds, passes_states}
+use Rattle.vlt_sound_returns.specs.Fresh.{IsFreshCall}
+use Rattle.vlt_sound_returns.proofs.Pairs.{among_filtered, filtered_among, filtered_apart}
+use Rattle.vlt_sound_returns.specs.Externals.{ExternalsAreSafe}
 use Rattle.vlt_sound_returns.proofs.Taking.{take_other}
-use Rattle.vlt_sound_outside.specs.Sent.{AreSent}
-use Rattle.vlt_sound_outside.proofs.Sending.{agrees_sent}
+use Rattle.vlt_sound_scopes.specs.Sent.{AreSent}
+use Rattle.vlt_sound_scopes.proofs.Sending.{agrees_sent}
 use Rattle.vlt_sound_hosts.specs.HostAnswers.{answered, sent, AreNamed, AnswersAreSafe}
 use Rattle.vlt_sound_hosts.proofs.TakenKeys.{take_here, taken_before, entry_taken, taken_once, entry_at, key_at, held_by, taken_passes}
 

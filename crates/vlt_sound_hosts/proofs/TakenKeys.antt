@@ -12,14 +12,14 @@ use Rattle.vlt_meaning.specs.World as world
 use Rattle.vlt_meaning.specs.World.{is_at, Object, Frame}
 use Rattle.vlt_meaning.specs.Calls.{caller_object}
 use Rattle.vlt_meaning.specs.Externals.{is_taken, taken_objects}
-use Rattle.vlt_sound_worlds.specs.Look.{look}
+use Rattle.vlt_sound_owners.specs.Look.{look}
 use Rattle.vlt_sound_owners.specs.Members.{In, IsOnce}
 use Rattle.vlt_sound_owners.proofs.Members.{in_either, in_left, in_right, once_both}
 use Rattle.vlt_sound_frames.proofs.Rows.{row_here}
 use Rattle.vlt_sound_frames.proofs.Leaving.{key_same}
-use Rattle.vlt_sound_changes.specs.Moved.{ArePassing}
-use Rattle.vlt_sound_entering.specs.Callee.{Among, AreApartBy, caller_key}
-use Rattle.vlt_sound_entering.proofs.Over.{Holds, HoldsAll, holds_object}
+use Rattle.vlt_sound_scopes.specs.Moved.{ArePassing}
+use Rattle.vlt_sound_calls.specs.Callee.{Among, AreApartBy, caller_key}
+use Rattle.vlt_sound_calls.proofs.Over.{Holds, HoldsAll, holds_object}
 use Rattle.vlt_sound_returns.proofs.Taking.{take_rows, take_other}
 
 -- behind rows that take, their own keys are absent

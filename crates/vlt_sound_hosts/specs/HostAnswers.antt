@@ -17,8 +17,8 @@ use Rattle.vlt_sound_frames.specs.Safe.{Safe, goes_to}
 use Rattle.vlt_sound_scopes.specs.Scoped.{IsScoped}
 use Rattle.vlt_sound_calls.specs.Returned.{IsEntered}
 use Rattle.vlt_sound_calls.specs.Heads.{HasHead}
-use Rattle.vlt_sound_entering.specs.Callee.{caller_key, IsCall}
-use Rattle.vlt_sound_leaving.specs.Fresh.{IsFreshCall}
+use Rattle.vlt_sound_calls.specs.Callee.{caller_key, IsCall}
+use Rattle.vlt_sound_returns.specs.Fresh.{IsFreshCall}
 
 -- the map where the host has what it takes: each key that is taken is absent
 abbrev pub sent : Func → (keys : List ℕ) → HeldMap → HeldMap

@@ -1,13 +1,10 @@
-//! A law on calls of externals: nothing goes in and nothing comes out.
-//! Read `specs/Answers.antt` first, then `vlt_sound_bodies/specs/Externals.antt`.
-//! `vlt_sound` rests on it: no call of an external in an accepted program ends in a fault.
+//! Laws on calls of externals: nothing goes in and nothing comes out.
+//! Read `specs/HostAnswers.antt` first.
+//! `vlt_sound` rests on them: no run of an accepted program goes wrong.
 #![tactic(auto)]
 
-ghost use Rattle.vlt_meaning.specs.Run.{Setup};
-ghost use Rattle.vlt_sound_bodies.specs.Externals.{ExternalsAreSafe};
-ghost use Rattle.vlt_sound_hosts.specs.HostAnswers.{AnswersAreSafe};
+mod answers;
+mod hosts;
 
-/// Calls of externals are safe where what is done with answers is: what the host takes is there, and goes out.
-pub fn externals_are_safe()
-    ensures { (r : Setup) → AnswersAreSafe r → ExternalsAreSafe r }
-{}
+pub use answers::answers_are_safe;
+pub use hosts::externals_are_safe;

@@ -8,25 +8,25 @@ use Rattle.vlt_core.specs.Maps.{HeldMap, passed}
 use Rattle.vlt_core.specs.KindedScopes.{Ids}
 use Rattle.vlt_meaning.specs.World.{objects_in, loose, gone, adopted_by, above, Object, Frame}
 use Rattle.vlt_meaning.specs.World as world
-use Rattle.vlt_sound_worlds.specs.Look.{look, IsLive}
-use Rattle.vlt_sound_worlds.proofs.Look.{live_within}
+use Rattle.vlt_sound_owners.specs.Look.{look, IsLive}
+use Rattle.vlt_sound_owners.proofs.Look.{live_within}
 use Rattle.vlt_sound_owners.specs.Members.{In}
 use Rattle.vlt_sound_owners.specs.Placed.{IsOwned}
 use Rattle.vlt_sound_owners.specs.Roots.{Root, in_var, in_hand, in_wait, in_cell, cell_of, content, home}
 use Rattle.vlt_sound_owners.proofs.Members.{in_or_not}
 use Rattle.vlt_sound_owners.proofs.Placed as placed
 use Rattle.vlt_sound_owners.proofs.Roots.{homes, same_root}
-use Rattle.vlt_sound_keys.specs.Keys.{KeyAgrees, IsUnder, SameUnder}
-use Rattle.vlt_sound_keys.proofs.Keys.{key_kept, key_absent, under_is}
-use Rattle.vlt_sound_focus.specs.Scene.{Focus}
-use Rattle.vlt_sound_focus.specs.Fits.{Fits}
+use Rattle.vlt_sound_owners.specs.Keys.{KeyAgrees, IsUnder, SameUnder}
+use Rattle.vlt_sound_owners.proofs.Keys.{key_kept, key_absent, under_is}
+use Rattle.vlt_sound_owners.specs.Scene.{Focus}
+use Rattle.vlt_sound_owners.specs.Fits.{Fits}
 use Rattle.vlt_sound_frames.specs.Agrees.{HasVar, Handed, values_of, Context, FociAgree, scene, stock, Agrees}
 use Rattle.vlt_sound_frames.proofs.Kept.{object_kept}
 use Rattle.vlt_sound_frames.proofs.Owners.{cells_stay}
 use Rattle.vlt_sound_frames.proofs.Leaving.{key_same}
-use Rattle.vlt_sound_changes.specs.Moved.{MovesThese}
-use Rattle.vlt_sound_changes.proofs.Chains.{ranked_roots}
-use Rattle.vlt_sound_changes.proofs.Changing.{agrees_changed, owned_live}
+use Rattle.vlt_sound_scopes.specs.Moved.{MovesThese}
+use Rattle.vlt_sound_scopes.proofs.Chains.{ranked_roots}
+use Rattle.vlt_sound_scopes.proofs.Changing.{agrees_changed, owned_live}
 use Rattle.vlt_sound_made.proofs.Shuffled.{held_unowned}
 use Rattle.vlt_sound_made.proofs.Packing.{pack_row, keys_in_list, HoldAll, packed_absent, packed_other, held_in, named_in, hold_once}
 

@@ -21,12 +21,12 @@ use Rattle.vlt_meaning.specs.Step.{is_fillable, fill}
 use Rattle.vlt_meaning.specs.Operands.{part_of, parts_of}
 use Rattle.vlt_meaning.specs.Externals.{payload_in}
 use Rattle.vlt_meaning.specs.Run.{Setup, does_simple}
-use Rattle.vlt_sound_worlds.specs.Look.{look}
+use Rattle.vlt_sound_owners.specs.Look.{look}
 use Rattle.vlt_sound_owners.specs.Members.{In}
-use Rattle.vlt_sound_keys.specs.Keys.{IsOfType}
-use Rattle.vlt_sound_focus.specs.Scene.{Scene}
-use Rattle.vlt_sound_focus.specs.Fits.{Names, names_of, joined, header_type, FitParts, FitKeys, IsCase, IsOne, Fits}
-use Rattle.vlt_sound_focus.proofs.Fits.{fits_named, fits_behind}
+use Rattle.vlt_sound_owners.specs.Keys.{IsOfType}
+use Rattle.vlt_sound_owners.specs.Scene.{Scene}
+use Rattle.vlt_sound_owners.specs.Fits.{Names, names_of, joined, header_type, FitParts, FitKeys, IsCase, IsOne, Fits}
+use Rattle.vlt_sound_owners.proofs.Fits.{fits_named, fits_behind}
 use Rattle.vlt_sound_frames.specs.Agrees.{FitHanded, Context, scene, Agrees}
 use Rattle.vlt_sound_frames.specs.Typed.{IsTyped}
 use Rattle.vlt_sound_frames.specs.Safe.{Safe, goes_to}
@@ -36,11 +36,11 @@ use Rattle.vlt_sound_frames.proofs.Expressions.{names_at}
 use Rattle.vlt_sound_frames.proofs.Plain.{plain_value}
 use Rattle.vlt_sound_frames.proofs.Safe.{found_safe, so_safe}
 use Rattle.vlt_sound_frames.proofs.Changes.{agrees_set, target_scope}
-use Rattle.vlt_sound_steps.proofs.Owning.{fill_safe}
-use Rattle.vlt_sound_steps.proofs.TypeFacts.{target_known}
-use Rattle.vlt_sound_operands.specs.Handed.{handed}
-use Rattle.vlt_sound_operands.proofs.Hand.{given, agrees_hand}
-use Rattle.vlt_sound_operands.proofs.Operands.{operands_safe}
+use Rattle.vlt_sound_frames.proofs.Owning.{fill_safe}
+use Rattle.vlt_sound_frames.proofs.TypeFacts.{target_known}
+use Rattle.vlt_sound_scopes.specs.Handed.{handed}
+use Rattle.vlt_sound_scopes.proofs.Hand.{given, agrees_hand}
+use Rattle.vlt_sound_scopes.proofs.Operands.{operands_safe}
 use Rattle.vlt_sound_made.specs.Makings.{HasCases}
 use Rattle.vlt_sound_made.proofs.Slots.{values_handed}
 use Rattle.vlt_sound_made.proofs.Swaps.{keys_itself}

@@ -8,3 +8,11 @@ pub mod Makes
 pub mod Packing
 pub mod Boxing
 pub mod Builds
+pub mod Below
+pub mod Parts
+pub mod Ending
+pub mod Releasing
+pub mod Dropping
+pub mod Cells
+pub mod Filling
+pub mod Opening

@@ -18,8 +18,8 @@ use Rattle.vlt_meaning.specs.World as world
 use Rattle.vlt_meaning.specs.Found.{or_fault}
 use Rattle.vlt_meaning.specs.Step.{Step, ends, with_made, with_objects}
 use Rattle.vlt_meaning.specs.Run.{Setup, does_simple, new_object, made_in}
-use Rattle.vlt_sound_worlds.specs.Look.{look}
-use Rattle.vlt_sound_worlds.proofs.Look.{live_within, makes_one}
+use Rattle.vlt_sound_owners.specs.Look.{look}
+use Rattle.vlt_sound_owners.proofs.Look.{live_within, makes_one}
 use Rattle.vlt_sound_owners.specs.Members.{In, IsOnce}
 use Rattle.vlt_sound_owners.specs.Roots.{in_hand}
 use Rattle.vlt_sound_frames.specs.Agrees.{InScope, values_of, Context, Agrees}
@@ -29,16 +29,16 @@ use Rattle.vlt_sound_frames.proofs.Empty.{both_empty, unless_so}
 use Rattle.vlt_sound_frames.proofs.Rows.{pass_split, passed_split, row_here}
 use Rattle.vlt_sound_frames.proofs.Safe.{found_safe, so_safe}
 use Rattle.vlt_sound_frames.proofs.Changes.{agrees_set, set_here}
-use Rattle.vlt_sound_steps.specs.Scopes.{IsFresh}
-use Rattle.vlt_sound_steps.proofs.Owning.{absent_is, row_tok}
-use Rattle.vlt_sound_steps.proofs.TypeFacts.{var_known}
+use Rattle.vlt_sound_frames.specs.Scopes.{IsFresh}
+use Rattle.vlt_sound_frames.proofs.Owning.{absent_is, row_tok}
+use Rattle.vlt_sound_frames.proofs.TypeFacts.{var_known}
 use Rattle.vlt_sound_scopes.specs.Scoped.{IsScoped, HasKeys}
 use Rattle.vlt_sound_scopes.proofs.Binding.{binding_kept, first_or_other}
 use Rattle.vlt_sound_scopes.proofs.Fresh.{is_fresh}
-use Rattle.vlt_sound_operands.specs.Handed.{handed}
-use Rattle.vlt_sound_operands.proofs.Operands.{operands_safe}
-use Rattle.vlt_sound_changes.specs.Moved.{ArePassing}
-use Rattle.vlt_sound_changes.proofs.Moved.{moved_all, moved_safe}
+use Rattle.vlt_sound_scopes.specs.Handed.{handed}
+use Rattle.vlt_sound_scopes.proofs.Operands.{operands_safe}
+use Rattle.vlt_sound_scopes.specs.Moved.{ArePassing}
+use Rattle.vlt_sound_scopes.proofs.Moved.{moved_all, moved_safe}
 use Rattle.vlt_sound_made.specs.Makings.{HasCases}
 use Rattle.vlt_sound_made.proofs.Slots.{values_handed}
 use Rattle.vlt_sound_made.proofs.Speaking.{operands_keys}

@@ -12,20 +12,20 @@ use Rattle.vlt_core.specs.KindedStatements.{field_types}
 use Rattle.vlt_meaning.specs.World.{Value, objects_in, Owner, loose, inside, gone, adopted_by, above, Object, Frame}
 use Rattle.vlt_meaning.specs.World as world
 use Rattle.vlt_meaning.specs.Step.{with_key}
-use Rattle.vlt_sound_worlds.specs.Look.{look, IsLive}
-use Rattle.vlt_sound_worlds.proofs.Look.{look_past, live_within, makes_one}
-use Rattle.vlt_sound_worlds.proofs.Ranks.{ranked_root}
+use Rattle.vlt_sound_owners.specs.Look.{look, IsLive}
+use Rattle.vlt_sound_owners.proofs.Look.{look_past, live_within, makes_one}
+use Rattle.vlt_sound_owners.proofs.Ranks.{ranked_root}
 use Rattle.vlt_sound_owners.specs.Members.{In, IsOnce}
 use Rattle.vlt_sound_owners.specs.Placed.{IsOwned}
 use Rattle.vlt_sound_owners.specs.Roots.{Root, in_var, in_hand, in_wait, in_cell, owned_by, cell_of, content, home}
 use Rattle.vlt_sound_owners.proofs.Members.{in_or_not}
 use Rattle.vlt_sound_owners.proofs.Placed.{one_place}
 use Rattle.vlt_sound_owners.proofs.Roots.{homes, same_root}
-use Rattle.vlt_sound_keys.specs.Keys.{KeyAgrees, IsUnder, IsOfType}
-use Rattle.vlt_sound_keys.proofs.Keys.{key_kept, key_held, none_under}
-use Rattle.vlt_sound_focus.specs.Scene.{Scene, IsOf, Grows}
-use Rattle.vlt_sound_focus.specs.Fits.{Names, names_of}
-use Rattle.vlt_sound_focus.proofs.Fits.{fits_named, fits_behind}
+use Rattle.vlt_sound_owners.specs.Keys.{KeyAgrees, IsUnder, IsOfType}
+use Rattle.vlt_sound_owners.proofs.Keys.{key_kept, key_held, none_under}
+use Rattle.vlt_sound_owners.specs.Scene.{Scene, IsOf, Grows}
+use Rattle.vlt_sound_owners.specs.Fits.{Names, names_of}
+use Rattle.vlt_sound_owners.proofs.Fits.{fits_named, fits_behind}
 use Rattle.vlt_sound_frames.specs.Agrees.{HasVar, FitCells, ObjectFits, Handed, values_of, FitHanded, Pin, Context, PinsAgree, scene, stock, Agrees}
 use Rattle.vlt_sound_frames.specs.Typed.{IsTyped}
 use Rattle.vlt_sound_frames.proofs.Kept.{KeepsOwned, cells_kept, object_kept}
@@ -33,12 +33,12 @@ use Rattle.vlt_sound_frames.proofs.Expressions.{names_at}
 use Rattle.vlt_sound_frames.proofs.Changes.{set_here, set_other}
 use Rattle.vlt_sound_frames.proofs.Owners.{ChangesTok}
 use Rattle.vlt_sound_frames.proofs.Leaving.{key_same, var_is_no_key}
-use Rattle.vlt_sound_steps.specs.Scopes.{NoneSpeaks, NonePins, IsFresh}
-use Rattle.vlt_sound_operands.specs.Handed.{handed}
-use Rattle.vlt_sound_changes.specs.Moved.{MovesThese}
-use Rattle.vlt_sound_changes.proofs.Chains.{ranked_children}
-use Rattle.vlt_sound_changes.proofs.Places.{spread}
-use Rattle.vlt_sound_changes.proofs.Changing.{Changed, agrees_changed, heads_changed}
+use Rattle.vlt_sound_frames.specs.Scopes.{NoneSpeaks, NonePins, IsFresh}
+use Rattle.vlt_sound_scopes.specs.Handed.{handed}
+use Rattle.vlt_sound_scopes.specs.Moved.{MovesThese}
+use Rattle.vlt_sound_scopes.proofs.Chains.{ranked_children}
+use Rattle.vlt_sound_scopes.proofs.Places.{spread}
+use Rattle.vlt_sound_scopes.proofs.Changing.{Changed, agrees_changed, heads_changed}
 use Rattle.vlt_sound_made.specs.Makings.{HasCases}
 use Rattle.vlt_sound_made.proofs.Shuffled.{Shuffles, was_unowned, is_unowned, gone_unowned, adopted_unowned, held_unowned, under_stays, under_was, cells_shuffle, foci_shuffle}
 use Rattle.vlt_sound_made.proofs.Slots.{slot_in, in_slot, slot_within, slot_is, slot_once, values_handed}

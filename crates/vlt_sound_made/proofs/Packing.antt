@@ -13,18 +13,18 @@ use Rattle.vlt_meaning.specs.Objects.{in_states, with_owner, changed}
 use Rattle.vlt_meaning.specs.Values.{held_object}
 use Rattle.vlt_meaning.specs.Step.{Step, with_changed}
 use Rattle.vlt_meaning.specs.Operands.{with_case_packed}
-use Rattle.vlt_sound_worlds.specs.Look.{look, ChangesOne}
-use Rattle.vlt_sound_worlds.proofs.Look.{look_at, live_within, changes_one}
+use Rattle.vlt_sound_owners.specs.Look.{look, ChangesOne}
+use Rattle.vlt_sound_owners.proofs.Look.{look_at, live_within, changes_one}
 use Rattle.vlt_sound_owners.specs.Members.{In, IsOnce}
-use Rattle.vlt_sound_keys.specs.Keys.{IsOfType}
-use Rattle.vlt_sound_keys.proofs.Keys.{held_one}
+use Rattle.vlt_sound_owners.specs.Keys.{IsOfType}
+use Rattle.vlt_sound_owners.proofs.Keys.{held_one}
 use Rattle.vlt_sound_frames.specs.Agrees.{Handed, Context, Agrees}
 use Rattle.vlt_sound_frames.specs.Safe.{Goal, Safe}
 use Rattle.vlt_sound_frames.proofs.Rows.{row_here, row_other}
 use Rattle.vlt_sound_frames.proofs.Safe.{found_safe}
 use Rattle.vlt_sound_frames.proofs.Touch.{held_is, held_found, named}
 use Rattle.vlt_sound_frames.proofs.Leaving.{key_same, length_changed}
-use Rattle.vlt_sound_changes.specs.Moved.{MovesThese}
+use Rattle.vlt_sound_scopes.specs.Moved.{MovesThese}
 
 -- the row of a key that a case lists
 abbrev pub pack_row : KeyIn → Row

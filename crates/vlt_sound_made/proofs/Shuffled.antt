@@ -4,8 +4,8 @@ use Rattle.vlt_meaning.specs.World.{Value, Owner, gone, adopted_by, Object}
 use Rattle.vlt_meaning.specs.World as world
 use Rattle.vlt_sound_owners.specs.Placed.{IsOwned}
 use Rattle.vlt_sound_owners.specs.Roots.{cell_of, unless_gone, owned_by}
-use Rattle.vlt_sound_keys.specs.Keys.{IsUnder, IsSameObject}
-use Rattle.vlt_sound_focus.specs.Scene.{Focus}
+use Rattle.vlt_sound_owners.specs.Keys.{IsUnder, IsSameObject}
+use Rattle.vlt_sound_owners.specs.Scene.{Focus}
 use Rattle.vlt_sound_frames.specs.Agrees.{FociAgree}
 
 -- the object has its owner still, or it was owned by a value or a field and is

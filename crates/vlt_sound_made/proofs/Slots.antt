@@ -7,7 +7,7 @@ use Rattle.vlt_sound_owners.specs.Members.{In, IsOnce}
 use Rattle.vlt_sound_owners.specs.Roots.{owned_by}
 use Rattle.vlt_sound_owners.proofs.Members.{in_or_not, in_left, in_right, in_either, once_left, once_right, once_apart}
 use Rattle.vlt_sound_frames.specs.Agrees.{values_of}
-use Rattle.vlt_sound_operands.specs.Handed.{handed}
+use Rattle.vlt_sound_scopes.specs.Handed.{handed}
 
 slot_by : {X : Type 0} → X ⊎ (X → ⊥) → ℕ → ℕ
 slot_by (inl i) n = zero

@@ -17,8 +17,8 @@ use Rattle.vlt_sound_frames.proofs.Touch.{Used, used}
 use Rattle.vlt_sound_frames.proofs.Expressions.{field_at, not_owning}
 use Rattle.vlt_sound_frames.proofs.Plain.{keys_same, same_plain}
 use Rattle.vlt_sound_scopes.specs.Scoped.{IsKeyInScope, AreKeysInScope}
-use Rattle.vlt_sound_steps.proofs.TypeFacts.{move_facts, pack_facts, packed_tracked}
-use Rattle.vlt_sound_operands.specs.Handed.{handed}
+use Rattle.vlt_sound_frames.proofs.TypeFacts.{move_facts, pack_facts, packed_tracked}
+use Rattle.vlt_sound_scopes.specs.Handed.{handed}
 
 -- ---- keys of types
 

@@ -12,29 +12,29 @@ use Rattle.vlt_meaning.specs.World as world
 use Rattle.vlt_meaning.specs.Objects.{with_cell}
 use Rattle.vlt_meaning.specs.Step.{set_at, with_var}
 use Rattle.vlt_meaning_laws.proofs.Lists.{get_set_same, get_set_other}
-use Rattle.vlt_sound_worlds.specs.Look.{look, IsLive, ChangesOne}
-use Rattle.vlt_sound_worlds.proofs.Look.{live_within}
-use Rattle.vlt_sound_worlds.proofs.Ranks.{ranked_same}
+use Rattle.vlt_sound_owners.specs.Look.{look, IsLive, ChangesOne}
+use Rattle.vlt_sound_owners.proofs.Look.{live_within}
+use Rattle.vlt_sound_owners.proofs.Ranks.{ranked_same}
 use Rattle.vlt_sound_owners.specs.Members.{In}
 use Rattle.vlt_sound_owners.specs.Placed.{IsOwned}
 use Rattle.vlt_sound_owners.specs.Roots.{Root, in_var, in_hand, in_wait, in_cell, owned_by, cell_of, content, home}
 use Rattle.vlt_sound_owners.proofs.Members.{in_or_not}
 use Rattle.vlt_sound_owners.proofs.Roots.{same_root}
-use Rattle.vlt_sound_keys.specs.Keys.{IsUnder}
-use Rattle.vlt_sound_keys.proofs.Keys.{key_kept}
-use Rattle.vlt_sound_focus.specs.Scene.{Grows}
-use Rattle.vlt_sound_focus.specs.Fits.{Names, names_of, Fits}
-use Rattle.vlt_sound_focus.proofs.Fits.{fits_kept, fits_named, fits_behind}
+use Rattle.vlt_sound_owners.specs.Keys.{IsUnder}
+use Rattle.vlt_sound_owners.proofs.Keys.{key_kept}
+use Rattle.vlt_sound_owners.specs.Scene.{Grows}
+use Rattle.vlt_sound_owners.specs.Fits.{Names, names_of, Fits}
+use Rattle.vlt_sound_owners.proofs.Fits.{fits_kept, fits_named, fits_behind}
 use Rattle.vlt_sound_frames.specs.Agrees.{HasVar, VarsFit, VarsAgree, ObjectFits, Handed, Context, scene, stock, Agrees}
 use Rattle.vlt_sound_frames.specs.Typed.{IsTyped}
 use Rattle.vlt_sound_frames.proofs.Kept.{KeepsOwned, cells_in, object_kept, old_cells_kept}
 use Rattle.vlt_sound_frames.proofs.Expressions.{Read, names_at}
 use Rattle.vlt_sound_frames.proofs.Changes.{set_here, set_other}
-use Rattle.vlt_sound_steps.proofs.Fields.{cells_set}
-use Rattle.vlt_sound_changes.specs.Moved.{MovesThese}
-use Rattle.vlt_sound_changes.proofs.Chains.{ranked_roots, ranked_children}
-use Rattle.vlt_sound_changes.proofs.Places.{exchanged}
-use Rattle.vlt_sound_changes.proofs.Changing.{agrees_changed, owned_live}
+use Rattle.vlt_sound_frames.proofs.Fields.{cells_set}
+use Rattle.vlt_sound_scopes.specs.Moved.{MovesThese}
+use Rattle.vlt_sound_scopes.proofs.Chains.{ranked_roots, ranked_children}
+use Rattle.vlt_sound_scopes.proofs.Places.{exchanged}
+use Rattle.vlt_sound_scopes.proofs.Changing.{agrees_changed, owned_live}
 use Rattle.vlt_sound_made.proofs.Shuffled.{Shuffles, was_unowned, is_unowned, gone_unowned, adopted_unowned, under_stays, under_was, cells_shuffle, foci_shuffle}
 
 module _ {p : Program} {f : Func} (typed : IsTyped p f) {c : Context} {h : HeldMap} {ids : Ids} {hand : List Handed} {frame : Frame} {os : List Object}

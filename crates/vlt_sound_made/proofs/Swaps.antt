@@ -20,8 +20,8 @@ use Rattle.vlt_meaning.specs.Objects.{owned_at, with_cell, changed}
 use Rattle.vlt_meaning.specs.Values.{object_of, touchable}
 use Rattle.vlt_meaning.specs.Step.{with_objects}
 use Rattle.vlt_meaning.specs.Run.{Setup, does_simple, swapped}
-use Rattle.vlt_sound_worlds.specs.Look.{look, IsLive}
-use Rattle.vlt_sound_worlds.proofs.Look.{look_at, live_within, changes_one}
+use Rattle.vlt_sound_owners.specs.Look.{look, IsLive}
+use Rattle.vlt_sound_owners.proofs.Look.{look_at, live_within, changes_one}
 use Rattle.vlt_sound_owners.specs.Members.{In, IsOnce}
 use Rattle.vlt_sound_owners.specs.Roots.{in_var, in_cell, owned_by, cell_of}
 use Rattle.vlt_sound_frames.specs.Agrees.{HasVar, InScope, Context, scene, Agrees}
@@ -35,12 +35,12 @@ use Rattle.vlt_sound_frames.proofs.Plain.{keys_same}
 use Rattle.vlt_sound_frames.proofs.Safe.{found_safe, so_safe}
 use Rattle.vlt_sound_frames.proofs.Kept.{cells_in}
 use Rattle.vlt_sound_frames.proofs.Leaving.{length_changed}
-use Rattle.vlt_sound_steps.proofs.Adopting.{object_found}
-use Rattle.vlt_sound_steps.proofs.Fields.{owns_behind}
-use Rattle.vlt_sound_steps.proofs.Owning.{full_is}
-use Rattle.vlt_sound_steps.proofs.TypeFacts.{tracked_known, fits_wider}
-use Rattle.vlt_sound_changes.specs.Moved.{ArePassing, IsMoved}
-use Rattle.vlt_sound_changes.proofs.Moved.{owned_found, moved_all, moved_safe}
+use Rattle.vlt_sound_frames.proofs.Adopting.{object_found}
+use Rattle.vlt_sound_frames.proofs.Fields.{owns_behind}
+use Rattle.vlt_sound_frames.proofs.Owning.{full_is}
+use Rattle.vlt_sound_frames.proofs.TypeFacts.{tracked_known, fits_wider}
+use Rattle.vlt_sound_scopes.specs.Moved.{ArePassing, IsMoved}
+use Rattle.vlt_sound_scopes.proofs.Moved.{owned_found, moved_all, moved_safe}
 use Rattle.vlt_sound_made.proofs.Swapping.{agrees_swapped}
 
 -- ---- types that are the same

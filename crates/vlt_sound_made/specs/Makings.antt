@@ -7,7 +7,7 @@ use Rattle.vlt_core.specs.Types.{decl_of, is_variant, header_of, keys_of_ty}
 use Rattle.vlt_core.specs.KindedHeads.{is_payload_type}
 use Rattle.vlt_core.specs.KindedStatements.{variant_args}
 use Rattle.vlt_sound_owners.specs.Members.{In}
-use Rattle.vlt_sound_focus.specs.Fits.{header_type}
+use Rattle.vlt_sound_owners.specs.Fits.{header_type}
 
 pub record HasCases (p : Program) (f : Func) : Type 0 where
   -- each type has a state that a new object of it is in

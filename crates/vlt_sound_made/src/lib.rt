@@ -1,16 +1,12 @@
-//! Laws on statements that make, build and swap: nothing goes in and nothing comes out.
-//! Read `vlt_sound_frames/specs/Agrees.antt` first, then `vlt_sound_scopes/specs/Steps.antt`.
-//! `vlt_sound` rests on them: no such statement of an accepted program ends in a fault.
+//! Laws on objects that are made, end and are opened: nothing goes in and nothing comes out.
+//! Read `specs/Steps.antt` first, then `specs/Makings.antt`.
+//! `vlt_sound` rests on them: no run of an accepted program goes wrong.
 #![tactic(auto)]
 
-ghost use Rattle.std.specs.Prelude.{ℕ, List};
-ghost use Rattle.vlt_core.specs.Core.{Operand, make, build, swap};
-ghost use Rattle.vlt_sound_scopes.specs.Steps.{IsScopedStep};
-ghost use Rattle.vlt_sound_made.specs.Steps.{IsMadeStep};
+mod ends;
+mod made;
+mod opens;
 
-/// A new object, a value of a case, and an exchange of a field's value with a variable's are safe.
-pub fn making_is_safe()
-    ensures made { (x : ℕ) (args : List Operand) → IsMadeStep (make x args) }
-    ensures built { (v case : ℕ) (args : List Operand) → IsMadeStep (build v case args) }
-    ensures swapped { (x i v : ℕ) → IsScopedStep (swap x i v) }
-{}
+pub use ends::ending_steps_are_safe;
+pub use made::making_is_safe;
+pub use opens::opening_is_safe;

@@ -1,3 +1,12 @@
+pub mod Look
+pub mod Ranks
+pub mod Below
 pub mod Members
 pub mod Placed
 pub mod Roots
+pub mod Reading
+pub mod Counting
+pub mod Dropping
+pub mod Keys
+pub mod Scene
+pub mod Fits

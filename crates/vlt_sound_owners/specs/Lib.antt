@@ -1,3 +1,11 @@
+pub mod Look
+pub mod Ranks
+pub mod Below
 pub mod Members
 pub mod Placed
 pub mod Roots
+pub mod Said
+pub mod Parts
+pub mod Keys
+pub mod Scene
+pub mod Fits

@@ -1,27 +1,18 @@
-//! Laws on owned objects: nothing goes in and nothing comes out.
-//! Read `specs/Placed.antt` first, then `specs/Roots.antt`.
-//! `vlt_sound` rests on them: one law for each way in which objects go from one place to another.
+//! Laws on who has what in a run: nothing goes in and nothing comes out.
+//! Read `specs/Ranks.antt` first, then `Placed.antt`, `Keys.antt` and `Fits.antt`.
+//! `vlt_sound` rests on them: no run of an accepted program goes wrong.
 #![tactic(auto)]
 
-ghost use Rattle.std.specs.Prelude.{ℕ, List};
-ghost use Rattle.vlt_meaning.specs.World.{Owner};
-ghost use Rattle.vlt_sound_owners.specs.Members.{In, IsOnce};
-ghost use Rattle.vlt_sound_owners.specs.Placed.{IsOwned, IsPlaced, OwnsThese, Shifts, Takes, LetsGo};
-ghost use Rattle.vlt_sound_owners.specs.Roots.{Root, home};
+mod drops;
+mod focus;
+mod keys;
+mod owners;
+mod readings;
+mod worlds;
 
-/// Each owned object stays at one place: where objects go from a place to another one, come to a place from none, and
-/// go from a place to none.
-pub fn owned_objects_stay_at_one_place()
-    ensures shifted { (old new : Root → List ℕ) (was now : ℕ →
-        Owner) (from to : Root) (xs ys zs : List ℕ) → IsPlaced old home was →
-        Shifts from to xs ys zs old new → OwnsThese xs (home to) was now →
-        IsPlaced new home now }
-    ensures taken { (old new : Root → List ℕ) (was now : ℕ →
-        Owner) (to : Root) (xs zs : List ℕ) → IsPlaced old home was → Takes to xs zs old new →
-        IsOnce xs → ((n : ℕ) → In n xs → (P : Root) → In n (old P) → ⊥) →
-        OwnsThese xs (home to) was now → IsPlaced new home now }
-    ensures let_go { (old new : Root → List ℕ) (was now : ℕ →
-        Owner) (from : Root) (xs ys : List ℕ) (q : Owner) → IsPlaced old home was →
-        (IsOwned q → ⊥) → LetsGo from xs ys old new → OwnsThese xs q was now →
-        IsPlaced new home now }
-{}
+pub use drops::parts_of_what_may_be_dropped;
+pub use focus::values_stay_fit;
+pub use keys::keys_name_what_is_under_them;
+pub use owners::owned_objects_stay_at_one_place;
+pub use readings::answers_say_what_is_asked;
+pub use worlds::released_ends_below;

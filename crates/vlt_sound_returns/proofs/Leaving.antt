@@ -19,14 +19,14 @@ use Rattle.vlt_meaning.specs.Step.{Step, leaves}
 use Rattle.vlt_meaning.specs.Values.{held_object}
 use Rattle.vlt_meaning.specs.Calls.{entries_after, is_new_key, new_object, returned_object, returned_objects, holds_only, is_emptied}
 use Rattle.vlt_meaning.specs.Run.{Setup, left_function}
-use Rattle.vlt_sound_worlds.specs.Look.{look}
-use Rattle.vlt_sound_worlds.proofs.Look.{live_within, look_is, look_at}
+use Rattle.vlt_sound_owners.specs.Look.{look}
+use Rattle.vlt_sound_owners.proofs.Look.{live_within, look_is, look_at}
 use Rattle.vlt_sound_owners.specs.Members.{In, IsOnce}
 use Rattle.vlt_sound_owners.specs.Roots.{owned_by}
 use Rattle.vlt_sound_owners.proofs.Members.{in_or_not}
-use Rattle.vlt_sound_keys.specs.Keys.{IsUnder, IsOnly}
-use Rattle.vlt_sound_keys.proofs.Keys.{held_one, none_under, under_is, under_held, under_lent}
-use Rattle.vlt_sound_focus.specs.Fits.{Names}
+use Rattle.vlt_sound_owners.specs.Keys.{IsUnder, IsOnly}
+use Rattle.vlt_sound_owners.proofs.Keys.{held_one, none_under, under_is, under_held, under_lent}
+use Rattle.vlt_sound_owners.specs.Fits.{Names}
 use Rattle.vlt_sound_frames.specs.Agrees.{HasVar, Handed, values_of, Context, scene, Agrees}
 use Rattle.vlt_sound_frames.specs.Safe.{Safe}
 use Rattle.vlt_sound_frames.proofs.Safe.{found_safe, so_safe}
@@ -36,11 +36,11 @@ use Rattle.vlt_sound_frames.proofs.Leaving.{var_is_no_key, key_same}
 use Rattle.vlt_sound_scopes.proofs.Starting.{has_left, has_right}
 use Rattle.vlt_sound_calls.specs.Returned.{is_lasting, IsEntered, IsKept, AreKept, FitsResult, Returned, returns_to}
 use Rattle.vlt_sound_calls.specs.Heads.{HasHead}
-use Rattle.vlt_sound_entering.specs.Callee.{Among, AreApartBy}
-use Rattle.vlt_sound_entering.proofs.Entries.{same_entry, Sought, sought}
-use Rattle.vlt_sound_leaving.proofs.Pairs.{among_filtered, filtered_among, filtered_apart}
-use Rattle.vlt_sound_leaving.proofs.Results.{new_is_after}
-use Rattle.vlt_sound_bodies.proofs.Statics.{apart_by, among_at, any_new, param_not_new}
+use Rattle.vlt_sound_calls.specs.Callee.{Among, AreApartBy}
+use Rattle.vlt_sound_calls.proofs.Entries.{same_entry, Sought, sought}
+use Rattle.vlt_sound_returns.proofs.Pairs.{among_filtered, filtered_among, filtered_apart}
+use Rattle.vlt_sound_returns.proofs.Results.{new_is_after}
+use Rattle.vlt_sound_returns.proofs.Statics.{apart_by, among_at, any_new, param_not_new}
 use Rattle.vlt_sound_returns.proofs.Taking.{take_rows, take_other, take_wanted, gone_absent, key_token, var_token, all_numbered, all_filtered}
 
 absent_is : (s : Status) → kind_of s ≡ is_absent → s ≡ absent

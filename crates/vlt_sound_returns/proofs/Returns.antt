@@ -25,13 +25,13 @@ use Rattle.vlt_meaning.specs.Step.{Step, with_found}
 use Rattle.vlt_meaning.specs.Operands.{with_operand}
 use Rattle.vlt_meaning.specs.Calls.{is_new_key, new_object, returned_object, with_returned}
 use Rattle.vlt_meaning.specs.Run.{Setup, Meaning, does_form, left_function}
-use Rattle.vlt_sound_worlds.specs.Look.{look}
-use Rattle.vlt_sound_worlds.proofs.Look.{look_at}
+use Rattle.vlt_sound_owners.specs.Look.{look}
+use Rattle.vlt_sound_owners.proofs.Look.{look_at}
 use Rattle.vlt_sound_owners.specs.Members.{In}
 use Rattle.vlt_sound_owners.specs.Roots.{owned_by}
-use Rattle.vlt_sound_focus.specs.Scene.{Scene, IsOf}
-use Rattle.vlt_sound_focus.specs.Fits.{Names, Fits}
-use Rattle.vlt_sound_focus.proofs.Fits.{fits_named}
+use Rattle.vlt_sound_owners.specs.Scene.{Scene, IsOf}
+use Rattle.vlt_sound_owners.specs.Fits.{Names, Fits}
+use Rattle.vlt_sound_owners.proofs.Fits.{fits_named}
 use Rattle.vlt_sound_frames.specs.Agrees.{InScope, Handed, values_of, Context, scene, Agrees}
 use Rattle.vlt_sound_frames.specs.Typed.{IsTyped}
 use Rattle.vlt_sound_frames.specs.Safe.{Goal, Safe}
@@ -41,15 +41,15 @@ use Rattle.vlt_sound_frames.proofs.Rows.{pass_split}
 use Rattle.vlt_sound_frames.proofs.Plain.{keys_same}
 use Rattle.vlt_sound_frames.proofs.Touch.{named, used, tracked_held, tracked_found}
 use Rattle.vlt_sound_scopes.proofs.Starting.{has_in}
-use Rattle.vlt_sound_operands.proofs.Operands.{operand_safe}
+use Rattle.vlt_sound_scopes.proofs.Operands.{operand_safe}
 use Rattle.vlt_sound_calls.specs.Returned.{IsEntered, FitsResult, Returned, returns_to}
 use Rattle.vlt_sound_calls.specs.Heads.{IsNewKey, HasHead}
 use Rattle.vlt_sound_calls.specs.Calls.{ReturnsAreSafe}
-use Rattle.vlt_sound_entering.specs.Callee.{Among}
-use Rattle.vlt_sound_entering.proofs.Entries.{same_entry}
-use Rattle.vlt_sound_leaving.proofs.Pairs.{among_filtered, filtered_among}
-use Rattle.vlt_sound_leaving.proofs.Results.{NewEntry, new_entry}
-use Rattle.vlt_sound_bodies.proofs.Statics.{among_at, any_new}
+use Rattle.vlt_sound_calls.specs.Callee.{Among}
+use Rattle.vlt_sound_calls.proofs.Entries.{same_entry}
+use Rattle.vlt_sound_returns.proofs.Pairs.{among_filtered, filtered_among}
+use Rattle.vlt_sound_returns.proofs.Results.{NewEntry, new_entry}
+use Rattle.vlt_sound_returns.proofs.Statics.{among_at, any_new}
 use Rattle.vlt_sound_returns.proofs.Taking.{take_rows}
 use Rattle.vlt_sound_returns.proofs.Leaving.{is_given, false_true, entry_has, new_key_true, kept_entries, key_of, wants, names, names_old, names_new, left_safe}
 

@@ -12,8 +12,8 @@ use Rattle.vlt_meaning.specs.World.{Object}
 use Rattle.vlt_sound_frames.proofs.Rows.{row_here, row_other}
 use Rattle.vlt_sound_frames.proofs.Leaving.{key_same}
 use Rattle.vlt_sound_scopes.proofs.Binding.{first_or_other}
-use Rattle.vlt_sound_entering.specs.Callee.{Among, AreApartBy}
-use Rattle.vlt_sound_entering.proofs.Parameters.{in_range}
+use Rattle.vlt_sound_calls.specs.Callee.{Among, AreApartBy}
+use Rattle.vlt_sound_calls.proofs.Parameters.{in_range}
 
 -- ---- rows that take
 

@@ -1,12 +1,18 @@
-//! Laws on returns: nothing goes in and nothing comes out.
-//! Read `vlt_sound_calls/specs/Returned.antt` and `Calls.antt` first.
-//! `vlt_sound` rests on them: a function of an accepted program leaves what its clause says, and nothing else.
+//! Laws on calls, on the way back: nothing goes in and nothing comes out.
+//! Read `specs/Waits.antt` first, then `specs/Meet.antt`.
+//! `vlt_sound` rests on them: no run of an accepted program goes wrong.
 #![tactic(auto)]
 
-ghost use Rattle.vlt_meaning.specs.Run.{Setup, Meaning};
-ghost use Rattle.vlt_sound_calls.specs.Calls.{ReturnsAreSafe};
+mod bodies;
+mod delivered;
+mod leaving;
+mod pieces;
+mod results;
+mod returns;
 
-/// A return that breaks no rule, and whose rows the held map passes, leaves the objects of the clause and the result.
-pub fn returns_are_safe()
-    ensures { (r : Setup) (rest_of : Meaning) → ReturnsAreSafe r rest_of }
-{}
+pub use bodies::calls_are_safe;
+pub use delivered::results_are_delivered;
+pub use leaving::callers_go_on;
+pub use pieces::pieces_are_given;
+pub use results::{cases_are_given, references_are_given};
+pub use returns::returns_are_safe;

@@ -6,7 +6,7 @@ use Rattle.vlt_core.specs.declared.rules.TheConstants as rule
 use Rattle.vlt_core.specs.KindedScopes.{Ids, fresh_broken}
 use Rattle.vlt_sound_frames.specs.Agrees.{Handed, Pin, Context}
 use Rattle.vlt_sound_frames.proofs.Empty.{unless_so}
-use Rattle.vlt_sound_steps.specs.Scopes.{NoneSpeaks, NonePins, IsFresh}
+use Rattle.vlt_sound_frames.specs.Scopes.{NoneSpeaks, NonePins, IsFresh}
 use Rattle.vlt_sound_scopes.specs.Scoped.{WasKeyBound, WerePinsBound, IsScoped, AreKeysInScope}
 
 clash : (b : Bool) → b ≡ true → not b ≡ true → ⊥

@@ -3,3 +3,17 @@ pub mod Binding
 pub mod Scoping
 pub mod Fresh
 pub mod Starting
+pub mod Becoming
+pub mod Unpacking
+pub mod Hand
+pub mod Given
+pub mod Operands
+pub mod Moved
+pub mod Chains
+pub mod Places
+pub mod Changing
+pub mod Sending
+pub mod Returning
+pub mod Hosting
+pub mod Telling
+pub mod Taking

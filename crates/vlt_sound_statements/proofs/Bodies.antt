@@ -18,9 +18,9 @@ use Rattle.vlt_sound_frames.specs.Safe.{Safe}
 use Rattle.vlt_sound_frames.proofs.Empty.{both_so, unless_so}
 use Rattle.vlt_sound_scopes.specs.Scoped.{IsScoped}
 use Rattle.vlt_sound_calls.specs.Returned.{IsEntered, returns_to}
-use Rattle.vlt_sound_blocks.specs.Kinded.{BreakNone}
-use Rattle.vlt_sound_blocks.specs.Sites.{Site, comes_to}
-use Rattle.vlt_sound_blocks.specs.Statements.{RestIsSafe}
+use Rattle.vlt_sound_statements.specs.Kinded.{BreakNone}
+use Rattle.vlt_sound_statements.specs.Sites.{Site, comes_to}
+use Rattle.vlt_sound_statements.specs.Statements.{RestIsSafe}
 use Rattle.vlt_sound_statements.specs.Parts.{HasSafeParts}
 use Rattle.vlt_sound_statements.proofs.Statements.{stmts_safe}
 

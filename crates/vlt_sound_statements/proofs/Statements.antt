@@ -11,15 +11,15 @@ use Rattle.vlt_core.specs.KindedCalls.{with_call_target, return_broken}
 use Rattle.vlt_meaning.specs.Run.{Setup, Meaning, does_simple, does_form, does_stmts, out_of_fuel}
 use Rattle.vlt_sound_frames.specs.Safe.{goes_to}
 use Rattle.vlt_sound_frames.proofs.Empty.{both_empty, unless_so}
-use Rattle.vlt_sound_steps.proofs.Blocks.{agrees_below}
+use Rattle.vlt_sound_frames.proofs.Blocks.{agrees_below}
 use Rattle.vlt_sound_calls.specs.Returned.{returns_to}
-use Rattle.vlt_sound_blocks.specs.Sites.{comes_to}
-use Rattle.vlt_sound_blocks.specs.Statements.{IsSafeForm, IsSafeBlock, AreSafe, RestIsSafe}
-use Rattle.vlt_sound_blocks.proofs.Control.{weaker}
-use Rattle.vlt_sound_blocks.proofs.Branches.{block_is_safe, done_is_safe, next_is_safe, choose_is_safe, loop_is_safe, scope_is_safe, jump_is_safe}
-use Rattle.vlt_sound_focus_steps.proofs.Focuses.{focus_is_safe}
-use Rattle.vlt_sound_switch.specs.Arms.{AreSafeArms}
-use Rattle.vlt_sound_switch.proofs.Switches.{switch_is_safe}
+use Rattle.vlt_sound_statements.specs.Sites.{comes_to}
+use Rattle.vlt_sound_statements.specs.Statements.{IsSafeForm, IsSafeBlock, AreSafe, RestIsSafe}
+use Rattle.vlt_sound_statements.proofs.Control.{weaker}
+use Rattle.vlt_sound_statements.proofs.Branches.{block_is_safe, done_is_safe, next_is_safe, choose_is_safe, loop_is_safe, scope_is_safe, jump_is_safe}
+use Rattle.vlt_sound_statements.proofs.Focuses.{focus_is_safe}
+use Rattle.vlt_sound_statements.specs.Arms.{AreSafeArms}
+use Rattle.vlt_sound_statements.proofs.Switches.{switch_is_safe}
 use Rattle.vlt_sound_statements.specs.Parts.{HasSafeParts}
 
 module _ (r : Setup) (rest_of : Meaning) (f : Func) (parts : HasSafeParts r rest_of f) where

@@ -1,38 +1,16 @@
-//! The laws of all statements and of bodies: nothing goes in and nothing comes out.
-//! Read `vlt_sound_blocks/specs/Statements.antt` first, then `specs/Parts.antt`.
-//! `vlt_sound` rests on them: no body of an accepted program ends in a fault, and each leaves what its clause says.
+//! Laws on statements with blocks, and on bodies: nothing goes in and nothing comes out.
+//! Read `specs/Sites.antt` first, then `specs/Statements.antt`.
+//! `vlt_sound` rests on them: no run of an accepted program goes wrong.
 #![tactic(auto)]
 
-ghost use Rattle.std.specs.Prelude.{◌≡◌, ℕ, false, []};
-ghost use Rattle.vlt_core.specs.Core.{Stmts, Func};
-ghost use Rattle.vlt_core.specs.Derives.{start_map, IsAcceptedFunc};
-ghost use Rattle.vlt_core.specs.KindedBodies.{first_ids, body_rows, end_broken};
-ghost use Rattle.vlt_meaning.specs.World.{World, Frame};
-ghost use Rattle.vlt_meaning.specs.Run.{Setup, Meaning, does_stmts, out_of_fuel};
-ghost use Rattle.vlt_sound_frames.specs.Agrees.{Context, Agrees};
-ghost use Rattle.vlt_sound_frames.specs.Safe.{Safe};
-ghost use Rattle.vlt_sound_scopes.specs.Scoped.{IsScoped};
-ghost use Rattle.vlt_sound_calls.specs.Returned.{IsEntered, returns_to};
-ghost use Rattle.vlt_sound_blocks.specs.Kinded.{BreakNone};
-ghost use Rattle.vlt_sound_blocks.specs.Statements.{AreSafe, RestIsSafe};
-ghost use Rattle.vlt_sound_statements.specs.Parts.{HasSafeParts};
+mod blocks;
+mod focus_steps;
+mod simple;
+mod statements;
+mod switch;
 
-/// Statements are safe where what they are made of is, and what comes after a unit of fuel was spent; where there is no fuel,
-/// nothing comes.
-pub fn statements_are_safe()
-    ensures all { (r : Setup) (rest_of : Meaning) (f : Func) → HasSafeParts r rest_of f →
-        RestIsSafe r rest_of f → (ss : Stmts) → AreSafe r f ss (does_stmts r rest_of f ss) }
-    ensures none { (r : Setup) (f : Func) → RestIsSafe r out_of_fuel f }
-{}
-
-/// An accepted body that breaks no rule on names and types leaves what its clause says.
-pub fn bodies_are_safe()
-    ensures { (r : Setup) (rest_of : Meaning) (f : Func) (c : Context) (frame : Frame)
-        (w : World) → HasSafeParts r rest_of f → RestIsSafe r rest_of f → f.external ≡ false →
-        IsAcceptedFunc r.program f → BreakNone (body_rows r.program f) →
-        end_broken r.program f ≡ [] → IsEntered r.program f c →
-        IsScoped f c (first_ids r.program f) →
-        Agrees r.program f c (start_map r.program f)
-        (first_ids r.program f) [] frame w.objects →
-        Safe (returns_to r.program f c) (does_stmts r rest_of f f.body frame w) }
-{}
+pub use blocks::{blocks_are_safe, branches_are_safe, lists_are_safe};
+pub use focus_steps::focuses_are_safe;
+pub use simple::simple_statements_are_safe;
+pub use statements::{bodies_are_safe, statements_are_safe};
+pub use switch::switches_are_safe;

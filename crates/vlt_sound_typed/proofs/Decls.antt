@@ -11,10 +11,10 @@ use Rattle.vlt_core.specs.declared.rules.TheConstants as rule
 use Rattle.vlt_core.specs.Kinded.{IsKinded}
 use Rattle.vlt_core_laws.specs.States.{HasStates}
 use Rattle.vlt_sound_owners.specs.Members.{In}
-use Rattle.vlt_sound_focus.specs.Fits.{joined, header_type}
+use Rattle.vlt_sound_owners.specs.Fits.{joined, header_type}
 use Rattle.vlt_sound_frames.specs.Typed.{IsLimited}
 use Rattle.vlt_sound_frames.proofs.Empty.{both_empty, unless_so}
-use Rattle.vlt_sound_blocks.specs.Kinded.{BreakNone}
+use Rattle.vlt_sound_statements.specs.Kinded.{BreakNone}
 use Rattle.vlt_sound_typed.specs.Sizes.{HasSizes}
 use Rattle.vlt_sound_typed.proofs.Rows.{flat_at, none_at, type_kinded}
 use Rattle.vlt_sound_typed.proofs.Types.{TyKinded, ty_kinded, variant_plain}

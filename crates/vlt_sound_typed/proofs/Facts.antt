@@ -12,7 +12,7 @@ use Rattle.vlt_sound_frames.proofs.Empty.{both_empty, unless_so}
 use Rattle.vlt_sound_scopes.specs.Scoped.{HasKeys}
 use Rattle.vlt_sound_made.specs.Makings.{HasCases}
 use Rattle.vlt_sound_calls.specs.Heads.{HasHead}
-use Rattle.vlt_sound_blocks.specs.Kinded.{BreakNone}
+use Rattle.vlt_sound_statements.specs.Kinded.{BreakNone}
 use Rattle.vlt_sound_typed.specs.Sizes.{HasSizes}
 use Rattle.vlt_sound_typed.proofs.Rows.{function_kinded}
 use Rattle.vlt_sound_typed.proofs.Types.{variant_plain, variant_declared, variant_type}

@@ -3,3 +3,8 @@ pub mod Types
 pub mod Decls
 pub mod Vars
 pub mod Facts
+pub mod Meeting
+pub mod HeadsDeclared
+pub mod Functions
+pub mod ExternsDeclared
+pub mod Heads

@@ -9,8 +9,8 @@ use Rattle.vlt_core.specs.declared.rules.TheConstants as rule
 use Rattle.vlt_core.specs.Kinded.{has_main, function_rows, first_broken, least_of, IsKinded}
 use Rattle.vlt_sound_owners.specs.Members.{In}
 use Rattle.vlt_sound_frames.proofs.Empty.{both_empty}
-use Rattle.vlt_sound_blocks.specs.Kinded.{BreakNone}
-use Rattle.vlt_sound_blocks.proofs.Unbroken.{none_left, none_right}
+use Rattle.vlt_sound_statements.specs.Kinded.{BreakNone}
+use Rattle.vlt_sound_statements.proofs.Unbroken.{none_left, none_right}
 
 -- ---- lists
 

@@ -9,7 +9,7 @@ use Rattle.vlt_core.specs.KindedHeads.{Rules, unless, when_some, shape_broken, t
 use Rattle.vlt_core.specs.KindedStatements.{variant_args}
 use Rattle.vlt_core.specs.declared.rules.TheConstants as rule
 use Rattle.vlt_sound_owners.specs.Members.{In}
-use Rattle.vlt_sound_focus.specs.Fits.{joined, header_type}
+use Rattle.vlt_sound_owners.specs.Fits.{joined, header_type}
 use Rattle.vlt_sound_frames.specs.Typed.{IsDeclared}
 use Rattle.vlt_sound_frames.proofs.Empty.{both_empty, both_so, unless_so}
 use Rattle.vlt_sound_frames.proofs.Expressions.{not_so}

@@ -13,7 +13,7 @@ use Rattle.vlt_core.specs.Kinded.{IsKinded}
 use Rattle.vlt_core.specs.KindedBodies.{end_broken}
 use Rattle.vlt_sound_owners.specs.Members.{In}
 use Rattle.vlt_sound_owners.proofs.Members.{in_either}
-use Rattle.vlt_sound_focus.specs.Fits.{header_type}
+use Rattle.vlt_sound_owners.specs.Fits.{header_type}
 use Rattle.vlt_sound_frames.proofs.Empty.{both_empty, both_so, unless_so}
 use Rattle.vlt_sound_frames.proofs.Expressions.{not_so}
 use Rattle.vlt_sound_calls.specs.Heads.{IsNewKey}

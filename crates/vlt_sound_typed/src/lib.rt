@@ -1,32 +1,12 @@
 //! Laws on programs that break no rule on names and types: nothing goes in and nothing comes out.
-//! Read `vlt_core/specs/Kinded.antt` first, then `vlt_sound_frames/specs/Typed.antt` and `specs/Sizes.antt`.
-//! `vlt_sound` rests on them: all that the laws on runs want to know of a program without a run follows.
+//! Read `specs/Sizes.antt` first, then `specs/Fields.antt`.
+//! `vlt_sound` rests on them: no run of an accepted program goes wrong.
 #![tactic(auto)]
 
-ghost use Rattle.std.specs.Prelude.{◌≡◌, ℕ, false, [], Some, slice_get};
-ghost use Rattle.vlt_core.specs.Core.{Func, Program};
-ghost use Rattle.vlt_core.specs.Kinded.{IsKinded};
-ghost use Rattle.vlt_core.specs.KindedBodies.{body_rows, end_broken};
-ghost use Rattle.vlt_core_laws.specs.States.{HasStates};
-ghost use Rattle.vlt_sound_frames.specs.Typed.{IsTyped};
-ghost use Rattle.vlt_sound_scopes.specs.Scoped.{HasKeys};
-ghost use Rattle.vlt_sound_made.specs.Makings.{HasCases};
-ghost use Rattle.vlt_sound_calls.specs.Heads.{HasHead};
-ghost use Rattle.vlt_sound_blocks.specs.Kinded.{BreakNone};
-ghost use Rattle.vlt_sound_typed.specs.Sizes.{HasSizes};
+mod externs;
+mod heads;
+mod typed;
 
-/// What is known of a program that breaks no rule, and of each of its functions, without a run.
-pub fn kinded_programs_are_typed()
-    ensures typed { (p : Program) (g : ℕ) (f : Func) → IsKinded p → HasSizes p →
-        slice_get p.fns g ≡ Some f → IsTyped p f }
-    ensures cases { (p : Program) (g : ℕ) (f : Func) → IsKinded p → HasStates p →
-        slice_get p.fns g ≡ Some f → HasCases p f }
-    ensures keys { (p : Program) (g : ℕ) (f : Func) → IsKinded p →
-        slice_get p.fns g ≡ Some f → HasKeys f }
-    ensures heads { (p : Program) (g : ℕ) (f : Func) → IsKinded p →
-        slice_get p.fns g ≡ Some f → HasHead p f }
-    ensures bodies { (p : Program) (g : ℕ) (f : Func) → IsKinded p →
-        slice_get p.fns g ≡ Some f → BreakNone (body_rows p f) }
-    ensures ends { (p : Program) (g : ℕ) (f : Func) → IsKinded p →
-        slice_get p.fns g ≡ Some f → end_broken p f ≡ [] }
-{}
+pub use externs::kinded_externals_are_known;
+pub use heads::kinded_functions_are_known;
+pub use typed::kinded_programs_are_typed;

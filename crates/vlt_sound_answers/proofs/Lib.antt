@@ -1,4 +1,0 @@
-pub mod Maps
-pub mod Fitting
-pub mod News
-pub mod Results

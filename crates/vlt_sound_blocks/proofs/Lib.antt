@@ -1,4 +1,0 @@
-pub mod Unbroken
-pub mod Tokens
-pub mod Control
-pub mod Branches

@@ -1,5 +1,0 @@
-use Rattle.vlt_sound_blocks.proofs.Branches.{block_is_safe}
-use Rattle.vlt_sound_blocks.proofs.blocks_are_safe.Goals as goal
-
-pub returns : goal.returns
-returns c = λ r rest_of f ss bound end typed keyed safe. block_is_safe r rest_of f typed keyed ss bound end safe

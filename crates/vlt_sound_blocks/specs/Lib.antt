@@ -1,3 +1,0 @@
-pub mod Kinded
-pub mod Sites
-pub mod Statements

@@ -1,2 +1,0 @@
-pub mod Meet
-pub mod Externals

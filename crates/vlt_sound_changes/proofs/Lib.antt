@@ -1,4 +1,0 @@
-pub mod Moved
-pub mod Chains
-pub mod Places
-pub mod Changing

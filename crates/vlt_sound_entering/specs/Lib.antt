@@ -1,2 +1,0 @@
-pub mod Callee
-pub mod Ready

@@ -1,5 +1,0 @@
-pub mod Lending
-pub mod Opening
-pub mod Taking
-pub mod Facts
-pub mod Focuses

@@ -1,5 +1,0 @@
-use Rattle.vlt_sound_heads.proofs.Functions.{has_functions}
-use Rattle.vlt_sound_heads.proofs.kinded_functions_are_known.Goals as goal
-
-pub returns : goal.returns
-returns c = λ p kinded sizes. has_functions p kinded sizes

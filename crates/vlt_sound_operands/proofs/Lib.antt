@@ -1,3 +1,0 @@
-pub mod Hand
-pub mod Given
-pub mod Operands

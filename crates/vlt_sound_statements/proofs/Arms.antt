@@ -1,0 +1,113 @@
+-- The arm of a case.
+use Rattle.std.proofs.Common.{◌≡◌, ⊎_elim, ℕ, ◌==◌, true, false, if◌then◌else◌, List, [], ◌++◌, map, refl, sym, ap, ◌∙◌, subst}
+use Rattle.std.proofs.lemmas.Bool.{cases_Bool, eqb-true, eq-eqb}
+use Rattle.vlt_core.specs.Core.{Arms, no_arms, arm, Block, Func, Program}
+use Rattle.vlt_core.specs.Maps.{HeldMap, CanPass, passed}
+use Rattle.vlt_core.specs.Rows.{arm_rows}
+use Rattle.vlt_core.specs.Bodies.{flow_of_block, flow_of_arms}
+use Rattle.vlt_core.specs.Derives.{DerivesBlock, DerivesArms}
+use Rattle.vlt_core.specs.KindedHeads.{has}
+use Rattle.vlt_core.specs.KindedScopes.{Ids, left_behind}
+use Rattle.vlt_core.specs.KindedBodies.{arm_cases, owning_toks, with_vars, arm_broken, list_broken, arms_broken, block_rows, arms_rows, ids_behind_block, ids_behind_arms}
+use Rattle.vlt_core_laws.proofs.Ids.{or_split}
+use Rattle.vlt_meaning.specs.World.{one, World, Frame}
+use Rattle.vlt_meaning.specs.Step.{with_filled}
+use Rattle.vlt_meaning.specs.Operands.{Case}
+use Rattle.vlt_meaning.specs.Run.{Setup, Meaning, does_block, does_arm}
+use Rattle.vlt_sound_frames.proofs.Empty.{both_empty}
+use Rattle.vlt_sound_scopes.proofs.Widening.{vars_widen, block_widens, widens_both}
+use Rattle.vlt_sound_scopes.proofs.Binding.{left_scoped}
+use Rattle.vlt_sound_statements.specs.Kinded.{BreakNone, IsKindedBlock}
+use Rattle.vlt_sound_statements.specs.Sites.{Site, IsAt}
+use Rattle.vlt_sound_statements.specs.Statements.{IsSafeBlock}
+use Rattle.vlt_sound_statements.proofs.Unbroken.{none_left, none_right}
+use Rattle.vlt_sound_statements.specs.Arms.{AreSafeArms}
+
+-- the scope behind the arms is the one before them
+pub arms_vars : (p : Program) (f : Func) (arms : Arms) (ids : Ids) → (ids_behind_arms p f arms ids).vars ≡ ids.vars
+arms_vars p f no_arms ids = refl
+arms_vars p f (arm c vs b rest) ids =
+    arms_vars p f rest (left_behind ids (ids_behind_block p f b (with_vars f vs ids)))
+
+module _ (r : Setup) (rest_of : Meaning) (f : Func) (s : Site) (v : ℕ) (h k : HeldMap) where
+  -- what is known of the arm of a case, where the arms before it are passed over
+  pub record ArmAt (case : ℕ) (arms : Arms) (ids : Ids) : Type 0 where
+    pub vs : List ℕ
+    pub body : Block
+    pub scope : Ids
+    pub vars : scope.vars ≡ ids.vars
+    pub here : IsAt r.program f s scope
+    pub broken : arm_broken r.program f scope v case vs ≡ []
+    pub kinded : IsKindedBlock r.program f s.around (owning_toks f vs) (with_vars f vs scope) body
+    pub pass : CanPass (arm_rows r.program f v case vs) h
+    pub leads : DerivesBlock s.breaks s.turns (passed (arm_rows r.program f v case vs) h) (flow_of_block r.program f s.left body) k
+    pub safe : IsSafeBlock r rest_of f body
+    pub does : (c : Case) (frame : Frame) (w : World) → c.number ≡ case →
+        does_arm r rest_of f c arms frame w ≡
+        with_filled f vs (map one c.parts) frame w (λ frame. does_block r rest_of f body frame w)
+
+  pub arm_at : (case : ℕ) (arms : Arms) (ids : Ids) → IsAt r.program f s ids → arms_broken r.program f ids v arms ≡ [] →
+      BreakNone (arms_rows r.program f s.around ids arms) →
+      DerivesArms s.breaks s.turns h (flow_of_arms r.program f s.left v arms) k → AreSafeArms r rest_of f arms →
+      has (arm_cases arms) case ≡ true → ArmAt case arms ids
+  arm_at case no_arms ids here broken rows leads safe among = cc
+  arm_at case (arm c vs b rest) ids here broken rows leads safe among =
+      let ids1 = with_vars f vs ids in
+      let ids2 = left_behind ids (ids_behind_block r.program f b ids1) in
+      let s2 = both_empty (arm_broken r.program f ids v c vs ++ list_broken r.program f (owning_toks f vs) ids1 b) (arms_broken r.program f ids2 v rest) broken in
+      let s1 = both_empty (arm_broken r.program f ids v c vs) (list_broken r.program f (owning_toks f vs) ids1 b) s2.0 in
+      let rows_b = none_left (block_rows r.program f s.around ids1 b) (arms_rows r.program f s.around ids2 rest) rows in
+      let rows_rest = none_right (block_rows r.program f s.around ids1 b) (arms_rows r.program f s.around ids2 rest) rows in
+      ⊎_elim
+      (λ same. subst (λ n. ArmAt n (arm c vs b rest) ids) (eqb-true c case same)
+      (record {
+        vs = vs;
+        body = b;
+        scope = ids;
+        vars = refl;
+        here = here;
+        broken = s1.0;
+        kinded = record { listed = s1.1; rows = rows_b };
+        pass = leads.0;
+        leads = leads.1;
+        safe = safe.0;
+        does = λ q frame w e. ap (λ t. if t then with_filled f vs (map one q.parts) frame w (λ frame. does_block r rest_of f b frame w) else does_arm r rest_of f q rest frame w) (eq-eqb q.number c e);
+      }))
+      (λ other. ⊎_elim
+      (λ same. absurd (clash (sym same ∙ other)))
+      (λ more.
+      let found = arm_at case rest ids2 (at_next ids vs b here) s2.1 rows_rest leads.2 safe.1 more in
+      record {
+        vs = found.vs;
+        body = found.body;
+        scope = found.scope;
+        vars = found.vars;
+        here = found.here;
+        broken = found.broken;
+        kinded = found.kinded;
+        pass = found.pass;
+        leads = found.leads;
+        safe = found.safe;
+        does = λ q frame w e.
+            ap (λ t. if t then with_filled f vs (map one q.parts) frame w (λ frame. does_block r rest_of f b frame w) else does_arm r rest_of f q rest frame w)
+            (not_same q.number case c e other) ∙ found.does q frame w e;
+      })
+      (or_split (c == case) (has (arm_cases rest) case) among))
+      (cases_Bool (c == case))
+    where
+      clash : true ≡ false → ⊥
+      clash e = cc
+
+      not_same : (n case c : ℕ) → n ≡ case → (c == case) ≡ false → (n == c) ≡ false
+      not_same n case c e other = ⊎_elim
+          (λ same. absurd (clash (sym (eq-eqb c case (sym (eqb-true n c same) ∙ e)) ∙ other)))
+          (λ no. no)
+          (cases_Bool (n == c))
+
+      at_next : (ids : Ids) (vs : List ℕ) (b : Block) → IsAt r.program f s ids →
+          IsAt r.program f s (left_behind ids (ids_behind_block r.program f b (with_vars f vs ids)))
+      at_next ids vs b here = record {
+        entered = here.entered;
+        scoped = left_scoped (widens_both (vars_widen f vs ids) (block_widens r.program f b (with_vars f vs ids))) here.scoped;
+        outer = here.outer;
+      }

@@ -1,3 +1,0 @@
-pub mod Look
-pub mod Ranks
-pub mod Below
