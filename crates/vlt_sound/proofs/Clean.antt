@@ -17,7 +17,7 @@ use Rattle.vlt_sound_owners.specs.Placed.{IsOwned, HasIt}
 use Rattle.vlt_sound_owners.proofs.Members.{in_left, in_right}
 use Rattle.vlt_sound_owners.specs.Roots.{Root, in_var, in_hand, in_wait, in_cell, owned_by, content, home}
 use Rattle.vlt_sound_owners.specs.Keys.{IsUnder}
-use Rattle.vlt_sound_owners.proofs.Keys.{none_under}
+use Rattle.vlt_sound_owners.proofs.KeysLaws.{none_under}
 use Rattle.vlt_sound_frames.specs.Agrees.{scene, stock}
 use Rattle.vlt_sound_calls.specs.Returned.{FitsResult, Returned}
 use Rattle.vlt_sound_returns.proofs.Taking.{all_numbered}

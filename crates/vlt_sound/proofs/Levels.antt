@@ -9,18 +9,18 @@ use Rattle.vlt_sound_calls.specs.Returned.{CalleesAreSafe}
 use Rattle.vlt_sound_statements.specs.Statements.{RestIsSafe}
 use Rattle.vlt_sound_returns.specs.Meet.{HasFunctions}
 use Rattle.vlt_sound_returns.specs.Externals.{ExternalsAreSafe}
-use Rattle.vlt_sound_returns.proofs.Bodies.{calls_are_safe}
-use Rattle.vlt_sound_returns.proofs.Returns.{returns_are_safe}
+use Rattle.vlt_sound_returns.proofs.BodiesLaws.{calls_are_safe}
+use Rattle.vlt_sound_returns.proofs.ReturnsLaws.{returns_are_safe}
 use Rattle.vlt_sound_typed.specs.Sizes.{HasSizes}
 use Rattle.vlt_sound_typed.proofs.Facts.{has_cases, has_keys, body_kinded, end_kinded}
 use Rattle.vlt_sound_typed.proofs.Functions.{has_functions}
-use Rattle.vlt_sound_statements.proofs.Simple.{step_safe}
+use Rattle.vlt_sound_statements.proofs.SimpleLaws.{step_safe}
 use Rattle.vlt_sound_statements.specs.Parts.{HasSafeParts}
-use Rattle.vlt_sound_statements.proofs.Statements.{stmts_safe}
+use Rattle.vlt_sound_statements.proofs.StatementsLaws.{stmts_safe}
 use Rattle.vlt_sound_statements.proofs.Bodies.{body_safe}
 use Rattle.vlt_sound_typed.specs.Narrow.{HasNarrowHeads}
-use Rattle.vlt_sound_typed.proofs.Heads.{has_hosts}
-use Rattle.vlt_sound_hosts.proofs.Hosts.{externals_are_safe}
+use Rattle.vlt_sound_typed.proofs.HeadsLaws.{has_hosts}
+use Rattle.vlt_sound_hosts.proofs.HostsLaws.{externals_are_safe}
 use Rattle.vlt_sound_hosts.proofs.Results.{answers_safe}
 
 module _ (p : Program) (heap depth : ℕ) (kinded : IsKinded p) (accepted : IsAccepted p)

@@ -13,7 +13,7 @@ use Rattle.vlt_sound_owners.specs.Look.{look}
 use Rattle.vlt_sound_owners.specs.Members.{In, IsOnce}
 use Rattle.vlt_sound_owners.specs.Roots.{Root, in_var, in_hand, in_wait, in_cell, content}
 use Rattle.vlt_sound_owners.specs.Keys.{KeyAgrees}
-use Rattle.vlt_sound_owners.proofs.Keys.{key_absent}
+use Rattle.vlt_sound_owners.proofs.KeysLaws.{key_absent}
 use Rattle.vlt_sound_frames.specs.Agrees.{HasVar, InScope, Waiting, Context, stock, Agrees}
 use Rattle.vlt_sound_scopes.specs.Scoped.{IsScoped}
 use Rattle.vlt_sound_scopes.proofs.Starting.{has_left, has_right, start_scoped}

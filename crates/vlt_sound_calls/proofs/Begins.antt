@@ -17,7 +17,7 @@ use Rattle.vlt_meaning.specs.Calls.{handed_over, is_new_key, callee_key}
 use Rattle.vlt_sound_owners.specs.Look.{look, IsLive}
 use Rattle.vlt_sound_owners.proofs.Look.{live_within}
 use Rattle.vlt_sound_owners.specs.Keys.{IsOfType, KeyAgrees, IsUnder, IsSameObject, SameUnder, IsOnly}
-use Rattle.vlt_sound_owners.proofs.Keys.{key_kept, key_absent, key_held, held_one, under_is}
+use Rattle.vlt_sound_owners.proofs.KeysLaws.{key_kept, key_absent, key_held, held_one, under_is}
 use Rattle.vlt_sound_frames.specs.Agrees.{Handed, Context, Agrees}
 use Rattle.vlt_sound_frames.specs.Typed.{IsLimited}
 use Rattle.vlt_sound_frames.proofs.Touch.{held_is}

@@ -6,7 +6,7 @@ use Rattle.vlt_meaning.specs.World as world
 use Rattle.vlt_meaning.specs.World.{Value, World, Object}
 use Rattle.vlt_sound_owners.specs.Look.{look}
 use Rattle.vlt_sound_owners.specs.Members.{In}
-use Rattle.vlt_sound_owners.proofs.Keys.{under_lent}
+use Rattle.vlt_sound_owners.proofs.KeysLaws.{under_lent}
 use Rattle.vlt_sound_owners.specs.Scene.{Focus}
 use Rattle.vlt_sound_owners.specs.Fits.{Names}
 use Rattle.vlt_sound_frames.specs.Agrees.{Pin, Context, FociAgree}

@@ -6,6 +6,6 @@ pub mod Over
 pub mod Parameters
 pub mod Typing
 pub mod Begins
-pub mod Entering
+pub mod EnteringLaws
 pub mod Telling
-pub mod Given
+pub mod GivenLaws

@@ -1,2 +1,2 @@
 pub mod Sets
-pub mod Narrow
+pub mod NarrowLaws

@@ -13,7 +13,7 @@ use Rattle.vlt_meaning.specs.Step.{Step, goes, jumps, left_block, is_unused, are
 use Rattle.vlt_sound_owners.specs.Look.{look}
 use Rattle.vlt_sound_owners.proofs.Look.{look_is}
 use Rattle.vlt_sound_owners.specs.Keys.{IsUnder}
-use Rattle.vlt_sound_owners.proofs.Keys.{key_below, none_under}
+use Rattle.vlt_sound_owners.proofs.KeysLaws.{key_below, none_under}
 use Rattle.vlt_sound_frames.specs.Agrees.{HasVar, InScope, Handed, Context, Agrees}
 use Rattle.vlt_sound_frames.specs.Safe.{Goal, Safe}
 use Rattle.vlt_sound_frames.specs.Scopes.{AreOwning}

@@ -16,7 +16,7 @@ use Rattle.vlt_sound_owners.specs.Roots.{Root, in_var, in_hand, in_wait, in_cell
 use Rattle.vlt_sound_owners.proofs.Placed as placed
 use Rattle.vlt_sound_owners.proofs.Roots.{homes, same_root}
 use Rattle.vlt_sound_owners.specs.Keys.{IsUnder, IsSameObject}
-use Rattle.vlt_sound_owners.proofs.Keys.{key_kept, under_all}
+use Rattle.vlt_sound_owners.proofs.KeysLaws.{key_kept, under_all}
 use Rattle.vlt_sound_owners.specs.Scene.{Focus, Grows}
 use Rattle.vlt_sound_owners.proofs.Scene.{Stays, grows}
 use Rattle.vlt_sound_owners.specs.Fits.{Fits}

@@ -14,7 +14,7 @@ use Rattle.vlt_sound_owners.specs.Roots.{Root, in_var, in_hand, in_wait, in_cell
 use Rattle.vlt_sound_owners.proofs.Members.{in_left, in_right, in_either}
 use Rattle.vlt_sound_owners.proofs.Roots.{homes}
 use Rattle.vlt_sound_owners.specs.Keys.{IsUnder, SameUnder}
-use Rattle.vlt_sound_owners.proofs.Keys.{key_kept}
+use Rattle.vlt_sound_owners.proofs.KeysLaws.{key_kept}
 use Rattle.vlt_sound_owners.specs.Scene.{Scene, Grows, SameStates}
 use Rattle.vlt_sound_owners.specs.Fits.{Names, names_of}
 use Rattle.vlt_sound_owners.proofs.Fits.{fits_kept}

@@ -16,7 +16,7 @@ use Rattle.vlt_sound_owners.specs.Roots.{Root, in_var, in_hand, in_wait, in_cell
 use Rattle.vlt_sound_owners.proofs.Placed as placed
 use Rattle.vlt_sound_owners.proofs.Roots.{homes, same_root}
 use Rattle.vlt_sound_owners.specs.Keys.{KeyAgrees, IsUnder}
-use Rattle.vlt_sound_owners.proofs.Keys.{key_kept, under_one}
+use Rattle.vlt_sound_owners.proofs.KeysLaws.{key_kept, under_one}
 use Rattle.vlt_sound_owners.specs.Scene.{Focus, Scene}
 use Rattle.vlt_sound_owners.specs.Fits.{Names, Fits}
 use Rattle.vlt_sound_frames.specs.Agrees.{IsAdoptable, VarsAgree, Handed, values_of, FitHanded, Context, FociAgree, scene, stock, Agrees}
@@ -29,7 +29,7 @@ use Rattle.std.proofs.lemmas.List.{append-nil, append_assoc}
 use Rattle.std.proofs.Common.{zero, suc, ◌++◌, slice_set}
 use Rattle.vlt_sound_owners.proofs.Look.{changes_one}
 use Rattle.vlt_sound_owners.proofs.Ranks.{ranked_root, ranked_child}
-use Rattle.vlt_sound_owners.proofs.Keys.{key_absent, under_is}
+use Rattle.vlt_sound_owners.proofs.KeysLaws.{key_absent, under_is}
 use Rattle.vlt_sound_frames.proofs.Owners.{agrees_owner, ChangesTok, cells_stay}
 
 pub key_same : {k j : ℕ} → a_key k ≡ a_key j → k ≡ j

@@ -13,7 +13,7 @@ use Rattle.vlt_sound_owners.specs.Ranks.{IsRanked}
 use Rattle.vlt_sound_owners.specs.Placed.{IsPlaced}
 use Rattle.vlt_sound_owners.specs.Roots.{cell_of, owned_by, content, home, owner_of}
 use Rattle.vlt_sound_owners.specs.Keys.{KeyAgrees, IsUnder}
-use Rattle.vlt_sound_owners.proofs.Keys.{under_one}
+use Rattle.vlt_sound_owners.proofs.KeysLaws.{under_one}
 use Rattle.vlt_sound_owners.specs.Scene.{IsGuardedBy, Grows, SameStates}
 use Rattle.vlt_sound_owners.proofs.Scene.{grows}
 use Rattle.vlt_sound_frames.specs.Agrees.{IsAdoptable, VarsFit, VarsAgree, Handed, values_of, FitHanded, Context, FociAgree, PinsAgree, scene, stock, Agrees}

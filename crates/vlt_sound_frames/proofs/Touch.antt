@@ -18,7 +18,7 @@ use Rattle.vlt_meaning.specs.Objects.{in_states}
 use Rattle.vlt_meaning.specs.Values.{held_object, tracked_object, guarded_object, object_behind, touchable}
 use Rattle.vlt_sound_owners.specs.Look.{look, IsLive}
 use Rattle.vlt_sound_owners.proofs.Look.{look_at, live_at}
-use Rattle.vlt_sound_owners.proofs.Keys.{held_one}
+use Rattle.vlt_sound_owners.proofs.KeysLaws.{held_one}
 use Rattle.vlt_sound_owners.specs.Scene.{Focus, Scene, IsOf, IsFocusOn, IsGuardedBy}
 use Rattle.vlt_sound_frames.specs.Agrees.{InScope, Handed, Context, FociAgree, scene, Agrees}
 use Rattle.vlt_sound_frames.specs.Typed.{IsLimited}

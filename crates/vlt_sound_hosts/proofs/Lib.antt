@@ -1,5 +1,5 @@
 pub mod TakenKeys
-pub mod Hosts
+pub mod HostsLaws
 pub mod Maps
 pub mod Fitting
 pub mod News

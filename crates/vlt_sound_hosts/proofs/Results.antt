@@ -33,16 +33,16 @@ use Rattle.vlt_sound_calls.proofs.Entries.{same_entry}
 use Rattle.vlt_sound_calls.proofs.Typing.{keys_typed}
 use Rattle.vlt_sound_returns.specs.Fresh.{IsFreshCall}
 use Rattle.vlt_sound_returns.proofs.Pairs.{among_filtered, filtered_among, filtered_apart}
-use Rattle.vlt_sound_returns.proofs.Results.{new_is_after, NewEntry, new_entry}
+use Rattle.vlt_sound_returns.proofs.ResultsLaws.{new_is_after, NewEntry, new_entry}
 use Rattle.vlt_sound_owners.specs.Said.{IsResultOf, IsCaseOf, IsAnswerOf}
 use Rattle.vlt_sound_owners.proofs.Reading.{answer_said}
 use Rattle.vlt_sound_calls.specs.Given.{AreGivable}
-use Rattle.vlt_sound_calls.proofs.Given.{agrees_came}
+use Rattle.vlt_sound_calls.proofs.GivenLaws.{agrees_came}
 use Rattle.vlt_sound_calls.specs.Told.{AreTellable}
 use Rattle.vlt_sound_calls.proofs.Telling.{agrees_told}
 use Rattle.vlt_sound_returns.specs.Given.{IsGiven}
-use Rattle.vlt_sound_returns.proofs.Delivered.{delivered}
-use Rattle.vlt_sound_returns.proofs.Pieces.{number_safe, new_safe}
+use Rattle.vlt_sound_returns.proofs.DeliveredLaws.{delivered}
+use Rattle.vlt_sound_returns.proofs.PiecesLaws.{number_safe, new_safe}
 use Rattle.vlt_sound_returns.specs.Heads.{HasHostHead, HasHosts}
 use Rattle.vlt_sound_returns.specs.TakenOver as over
 use Rattle.vlt_sound_returns.specs.TakenOver.{AreTakenOver, NamesObject}

@@ -17,7 +17,7 @@ use Rattle.vlt_sound_owners.proofs.Members.{in_or_not}
 use Rattle.vlt_sound_owners.proofs.Placed as placed
 use Rattle.vlt_sound_owners.proofs.Roots.{homes, same_root}
 use Rattle.vlt_sound_owners.specs.Keys.{KeyAgrees, IsUnder, SameUnder}
-use Rattle.vlt_sound_owners.proofs.Keys.{key_kept, key_absent, under_is}
+use Rattle.vlt_sound_owners.proofs.KeysLaws.{key_kept, key_absent, under_is}
 use Rattle.vlt_sound_owners.specs.Scene.{Focus}
 use Rattle.vlt_sound_owners.specs.Fits.{Fits}
 use Rattle.vlt_sound_frames.specs.Agrees.{HasVar, Handed, values_of, Context, FociAgree, scene, stock, Agrees}

@@ -40,7 +40,7 @@ use Rattle.vlt_sound_frames.proofs.Owning.{fill_safe}
 use Rattle.vlt_sound_frames.proofs.TypeFacts.{target_known}
 use Rattle.vlt_sound_scopes.specs.Handed.{handed}
 use Rattle.vlt_sound_scopes.proofs.Hand.{given, agrees_hand}
-use Rattle.vlt_sound_scopes.proofs.Operands.{operands_safe}
+use Rattle.vlt_sound_scopes.proofs.OperandsLaws.{operands_safe}
 use Rattle.vlt_sound_made.specs.Makings.{HasCases}
 use Rattle.vlt_sound_made.proofs.Slots.{values_handed}
 use Rattle.vlt_sound_made.proofs.Swaps.{keys_itself}

@@ -26,7 +26,7 @@ use Rattle.vlt_sound_owners.proofs.Members.{in_left, once_left}
 use Rattle.vlt_sound_owners.proofs.Placed.{one_place}
 use Rattle.vlt_sound_owners.proofs.Roots.{same_root}
 use Rattle.vlt_sound_owners.specs.Keys.{IsUnder}
-use Rattle.vlt_sound_owners.proofs.Keys.{key_kept}
+use Rattle.vlt_sound_owners.proofs.KeysLaws.{key_kept}
 use Rattle.vlt_sound_frames.specs.Agrees.{HasVar, Handed, Context, scene, stock, Agrees}
 use Rattle.vlt_sound_frames.specs.Typed.{IsTyped}
 use Rattle.vlt_sound_frames.specs.Safe.{Goal, Safe, goes_to}

@@ -36,7 +36,7 @@ use Rattle.vlt_sound_scopes.specs.Scoped.{IsScoped, HasKeys}
 use Rattle.vlt_sound_scopes.proofs.Binding.{binding_kept, first_or_other}
 use Rattle.vlt_sound_scopes.proofs.Fresh.{is_fresh}
 use Rattle.vlt_sound_scopes.specs.Handed.{handed}
-use Rattle.vlt_sound_scopes.proofs.Operands.{operands_safe}
+use Rattle.vlt_sound_scopes.proofs.OperandsLaws.{operands_safe}
 use Rattle.vlt_sound_scopes.specs.Moved.{ArePassing}
 use Rattle.vlt_sound_scopes.proofs.Moved.{moved_all, moved_safe}
 use Rattle.vlt_sound_made.specs.Makings.{HasCases}

@@ -22,7 +22,7 @@ use Rattle.vlt_sound_owners.proofs.Members.{in_or_not}
 use Rattle.vlt_sound_owners.proofs.Placed.{one_place}
 use Rattle.vlt_sound_owners.proofs.Roots.{homes, same_root}
 use Rattle.vlt_sound_owners.specs.Keys.{KeyAgrees, IsUnder, IsOfType}
-use Rattle.vlt_sound_owners.proofs.Keys.{key_kept, key_held, none_under}
+use Rattle.vlt_sound_owners.proofs.KeysLaws.{key_kept, key_held, none_under}
 use Rattle.vlt_sound_owners.specs.Scene.{Scene, IsOf, Grows}
 use Rattle.vlt_sound_owners.specs.Fits.{Names, names_of}
 use Rattle.vlt_sound_owners.proofs.Fits.{fits_named, fits_behind}

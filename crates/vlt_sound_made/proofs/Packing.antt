@@ -17,7 +17,7 @@ use Rattle.vlt_sound_owners.specs.Look.{look, ChangesOne}
 use Rattle.vlt_sound_owners.proofs.Look.{look_at, live_within, changes_one}
 use Rattle.vlt_sound_owners.specs.Members.{In, IsOnce}
 use Rattle.vlt_sound_owners.specs.Keys.{IsOfType}
-use Rattle.vlt_sound_owners.proofs.Keys.{held_one}
+use Rattle.vlt_sound_owners.proofs.KeysLaws.{held_one}
 use Rattle.vlt_sound_frames.specs.Agrees.{Handed, Context, Agrees}
 use Rattle.vlt_sound_frames.specs.Safe.{Goal, Safe}
 use Rattle.vlt_sound_frames.proofs.Rows.{row_here, row_other}

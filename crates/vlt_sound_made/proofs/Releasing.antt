@@ -23,7 +23,7 @@ use Rattle.vlt_sound_owners.specs.Placed.{IsOwned}
 use Rattle.vlt_sound_owners.specs.Roots.{Root, content}
 use Rattle.vlt_sound_owners.proofs.Roots.{homes}
 use Rattle.vlt_sound_owners.specs.Keys.{KeyAgrees, IsUnder}
-use Rattle.vlt_sound_owners.proofs.Keys.{key_kept, key_absent, under_is}
+use Rattle.vlt_sound_owners.proofs.KeysLaws.{key_kept, key_absent, under_is}
 use Rattle.vlt_sound_frames.specs.Agrees.{HasVar, InScope, VarsAgree, Handed, Context, stock, Agrees}
 use Rattle.vlt_sound_frames.specs.Typed.{IsTyped}
 use Rattle.vlt_sound_frames.specs.Safe.{Goal, Safe, goes_to}

@@ -21,7 +21,7 @@ use Rattle.vlt_sound_owners.specs.Roots.{Root, in_var, in_hand, in_wait, in_cell
 use Rattle.vlt_sound_owners.proofs.Members.{in_or_not}
 use Rattle.vlt_sound_owners.proofs.Roots.{same_root}
 use Rattle.vlt_sound_owners.specs.Keys.{IsUnder}
-use Rattle.vlt_sound_owners.proofs.Keys.{key_kept}
+use Rattle.vlt_sound_owners.proofs.KeysLaws.{key_kept}
 use Rattle.vlt_sound_owners.specs.Scene.{Grows}
 use Rattle.vlt_sound_owners.specs.Fits.{Names, names_of, Fits}
 use Rattle.vlt_sound_owners.proofs.Fits.{fits_kept, fits_named, fits_behind}

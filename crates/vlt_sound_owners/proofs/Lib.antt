@@ -7,6 +7,6 @@ pub mod Roots
 pub mod Reading
 pub mod Counting
 pub mod Dropping
-pub mod Keys
+pub mod KeysLaws
 pub mod Scene
 pub mod Fits

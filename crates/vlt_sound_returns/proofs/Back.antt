@@ -21,7 +21,7 @@ use Rattle.vlt_sound_owners.specs.Placed.{IsPlaced}
 use Rattle.vlt_sound_owners.specs.Roots.{owned_by, content, home, owner_of}
 use Rattle.vlt_sound_owners.proofs.Members.{in_or_not}
 use Rattle.vlt_sound_owners.specs.Keys.{IsOfType, KeyAgrees, IsUnder, SameUnder}
-use Rattle.vlt_sound_owners.proofs.Keys.{key_kept, key_held, none_under}
+use Rattle.vlt_sound_owners.proofs.KeysLaws.{key_kept, key_held, none_under}
 use Rattle.vlt_sound_owners.specs.Scene.{Scene}
 use Rattle.vlt_sound_owners.specs.Fits.{Fits}
 use Rattle.vlt_sound_owners.proofs.Fits.{fits_named, fits_before}

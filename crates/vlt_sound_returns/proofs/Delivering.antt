@@ -40,7 +40,7 @@ use Rattle.vlt_sound_calls.specs.Callee.{caller_key, IsCall, callee_context}
 use Rattle.vlt_sound_calls.proofs.Rekeyed.{rekeyed_grows, rekeyed_states}
 use Rattle.vlt_sound_returns.specs.Fresh.{IsFreshCall}
 use Rattle.vlt_sound_returns.proofs.Pairs.{entry_number, filtered_among}
-use Rattle.vlt_sound_returns.proofs.Results.{owning_with, result_same, caller_type_is, same_fits, same_owning, new_is_after, new_entry, binding_scope}
+use Rattle.vlt_sound_returns.proofs.ResultsLaws.{owning_with, result_same, caller_type_is, same_fits, same_owning, new_is_after, new_entry, binding_scope}
 use Rattle.vlt_sound_returns.proofs.Back.{names_frame, back_names, back_objects, back_frame, back_map, same_length, rekeyed, callee_name, lasting, is_kept, named_back, keep_scoped, agrees_again}
 
 not_so : (b : Bool) → not b ≡ true → b ≡ false

@@ -1,10 +1,10 @@
 pub mod Pairs
 pub mod Places
 pub mod Back
-pub mod Results
+pub mod ResultsLaws
 pub mod Delivering
-pub mod Delivered
-pub mod Pieces
+pub mod DeliveredLaws
+pub mod PiecesLaws
 pub mod Boxing
 pub mod TakenOver
 pub mod Telling
@@ -12,7 +12,7 @@ pub mod ResultsPieces
 pub mod Cases
 pub mod References
 pub mod Statics
-pub mod Bodies
+pub mod BodiesLaws
 pub mod Taking
-pub mod Leaving
-pub mod Returns
+pub mod LeavingLaws
+pub mod ReturnsLaws

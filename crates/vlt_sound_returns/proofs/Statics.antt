@@ -28,7 +28,7 @@ use Rattle.vlt_sound_calls.specs.Heads.{IsNewKey, HasHead}
 use Rattle.vlt_sound_calls.specs.Callee.{Among, AreApartBy, caller_key, IsParamKey, IsCall}
 use Rattle.vlt_sound_calls.proofs.Parameters.{in_range}
 use Rattle.vlt_sound_returns.specs.Fresh.{IsFreshCall}
-use Rattle.vlt_sound_returns.proofs.Results.{result_same, caller_type_is, new_entry}
+use Rattle.vlt_sound_returns.proofs.ResultsLaws.{result_same, caller_type_is, new_entry}
 use Rattle.vlt_sound_returns.specs.Meet.{KeysMeet}
 
 -- ---- lists of numbers

@@ -12,7 +12,7 @@ use Rattle.vlt_sound_owners.specs.Look.{look, ChangesOne}
 use Rattle.vlt_sound_owners.proofs.Look.{look_is, changes_one, makes_one, live_within}
 use Rattle.vlt_sound_owners.specs.Members.{In}
 use Rattle.vlt_sound_frames.proofs.Leaving.{length_changed}
-use Rattle.vlt_sound_calls.proofs.Given.{found_then}
+use Rattle.vlt_sound_calls.proofs.GivenLaws.{found_then}
 use Rattle.vlt_sound_returns.specs.TakenOver.{AreTakenOver}
 
 -- ---- what was found

@@ -17,7 +17,7 @@ use Rattle.vlt_sound_owners.specs.Roots.{Root, in_var, in_hand, in_wait, in_cell
 use Rattle.vlt_sound_owners.proofs.Placed as placed
 use Rattle.vlt_sound_owners.proofs.Roots.{homes, same_root}
 use Rattle.vlt_sound_owners.specs.Keys.{IsUnder, SameUnder}
-use Rattle.vlt_sound_owners.proofs.Keys.{key_kept}
+use Rattle.vlt_sound_owners.proofs.KeysLaws.{key_kept}
 use Rattle.vlt_sound_owners.specs.Scene.{Focus, IsOf, Grows}
 use Rattle.vlt_sound_owners.specs.Fits.{names_of}
 use Rattle.vlt_sound_frames.specs.Agrees.{FitCells, ObjectFits, Handed, Context, FociAgree, scene, stock, Agrees}

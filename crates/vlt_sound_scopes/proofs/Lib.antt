@@ -7,7 +7,7 @@ pub mod Becoming
 pub mod Unpacking
 pub mod Hand
 pub mod Given
-pub mod Operands
+pub mod OperandsLaws
 pub mod Moved
 pub mod Chains
 pub mod Places

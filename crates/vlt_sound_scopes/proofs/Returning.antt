@@ -16,7 +16,7 @@ use Rattle.vlt_sound_owners.specs.Roots.{Root, in_var, in_hand, in_wait, in_cell
 use Rattle.vlt_sound_owners.proofs.Placed as placed
 use Rattle.vlt_sound_owners.proofs.Roots.{homes, same_root}
 use Rattle.vlt_sound_owners.specs.Keys.{KeyAgrees, IsUnder, IsOfType}
-use Rattle.vlt_sound_owners.proofs.Keys.{key_kept, key_held, none_under, under_one}
+use Rattle.vlt_sound_owners.proofs.KeysLaws.{key_kept, key_held, none_under, under_one}
 use Rattle.vlt_sound_owners.specs.Scene.{Focus}
 use Rattle.vlt_sound_frames.specs.Agrees.{HasVar, Handed, Context, FociAgree, stock, Agrees}
 use Rattle.vlt_sound_frames.proofs.Owners.{agrees_owner, ChangesTok, cells_stay}

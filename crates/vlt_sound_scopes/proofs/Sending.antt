@@ -19,7 +19,7 @@ use Rattle.vlt_sound_owners.proofs.Placed as placed
 use Rattle.vlt_sound_owners.proofs.Placed.{one_place}
 use Rattle.vlt_sound_owners.proofs.Roots.{homes, same_root}
 use Rattle.vlt_sound_owners.specs.Keys.{KeyAgrees, IsUnder, SameUnder}
-use Rattle.vlt_sound_owners.proofs.Keys.{key_kept, key_absent, under_is}
+use Rattle.vlt_sound_owners.proofs.KeysLaws.{key_kept, key_absent, under_is}
 use Rattle.vlt_sound_owners.specs.Scene.{Focus}
 use Rattle.vlt_sound_frames.specs.Agrees.{HasVar, Handed, values_of, Context, FociAgree, stock, Agrees}
 use Rattle.vlt_sound_frames.proofs.Kept.{object_kept}

@@ -15,7 +15,7 @@ use Rattle.vlt_sound_owners.specs.Roots.{Root, in_var, in_hand, in_wait, in_cell
 use Rattle.vlt_sound_owners.proofs.Placed as placed
 use Rattle.vlt_sound_owners.proofs.Roots.{homes, same_root}
 use Rattle.vlt_sound_owners.specs.Keys.{IsUnder}
-use Rattle.vlt_sound_owners.proofs.Keys.{key_kept, under_one}
+use Rattle.vlt_sound_owners.proofs.KeysLaws.{key_kept, under_one}
 use Rattle.vlt_sound_owners.specs.Scene.{Focus, Grows}
 use Rattle.vlt_sound_owners.proofs.Scene.{grows}
 use Rattle.vlt_sound_frames.specs.Agrees.{Handed, Context, FociAgree, ObjectFits, scene, stock, Agrees}

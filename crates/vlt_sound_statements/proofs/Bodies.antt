@@ -22,7 +22,7 @@ use Rattle.vlt_sound_statements.specs.Kinded.{BreakNone}
 use Rattle.vlt_sound_statements.specs.Sites.{Site, comes_to}
 use Rattle.vlt_sound_statements.specs.Statements.{RestIsSafe}
 use Rattle.vlt_sound_statements.specs.Parts.{HasSafeParts}
-use Rattle.vlt_sound_statements.proofs.Statements.{stmts_safe}
+use Rattle.vlt_sound_statements.proofs.StatementsLaws.{stmts_safe}
 
 -- ---- a list that ends
 

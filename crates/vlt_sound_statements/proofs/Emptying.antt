@@ -25,7 +25,7 @@ use Rattle.vlt_sound_owners.proofs.Members.{in_left}
 use Rattle.vlt_sound_owners.proofs.Placed as placed
 use Rattle.vlt_sound_owners.proofs.Roots.{homes, same_root}
 use Rattle.vlt_sound_owners.specs.Keys.{KeyAgrees, IsUnder, IsOfType}
-use Rattle.vlt_sound_owners.proofs.Keys.{key_kept, key_held, none_under, under_one}
+use Rattle.vlt_sound_owners.proofs.KeysLaws.{key_kept, key_held, none_under, under_one}
 use Rattle.vlt_sound_owners.specs.Scene.{Focus}
 use Rattle.vlt_sound_owners.specs.Fits.{Names}
 use Rattle.vlt_sound_frames.specs.Agrees.{HasVar, Handed, values_of, FitHanded, Context, FociAgree, scene, stock, Agrees}

@@ -13,6 +13,6 @@ pub mod Parts
 pub mod Emptying
 pub mod Arms
 pub mod Switches
-pub mod Statements
+pub mod StatementsLaws
 pub mod Bodies
-pub mod Simple
+pub mod SimpleLaws

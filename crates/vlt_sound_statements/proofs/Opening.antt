@@ -6,7 +6,7 @@ use Rattle.vlt_core.specs.KindedScopes.{Ids}
 use Rattle.vlt_meaning.specs.World.{objects_in, adopted_by, Object, Frame}
 use Rattle.vlt_sound_owners.specs.Look.{look}
 use Rattle.vlt_sound_owners.specs.Keys.{IsSameObject}
-use Rattle.vlt_sound_owners.proofs.Keys.{under_all}
+use Rattle.vlt_sound_owners.proofs.KeysLaws.{under_all}
 use Rattle.vlt_sound_owners.specs.Scene.{Focus, IsGuardedBy, Grows, SameStates}
 use Rattle.vlt_sound_frames.specs.Agrees.{Handed, values_of, Pin, Context, FociAgree, PinsAgree, scene, Agrees}
 use Rattle.vlt_sound_frames.proofs.Kept.{vars_kept, handed_kept, waits_kept, cells_kept}

@@ -19,7 +19,7 @@ use Rattle.vlt_sound_owners.specs.Roots.{Root, in_var, in_hand, in_wait, in_cell
 use Rattle.vlt_sound_owners.proofs.Placed as placed
 use Rattle.vlt_sound_owners.proofs.Roots.{homes, same_root}
 use Rattle.vlt_sound_owners.specs.Keys.{KeyAgrees, IsUnder, IsOfType}
-use Rattle.vlt_sound_owners.proofs.Keys.{key_kept, key_held, none_under, under_one}
+use Rattle.vlt_sound_owners.proofs.KeysLaws.{key_kept, key_held, none_under, under_one}
 use Rattle.vlt_sound_owners.specs.Scene.{Focus, IsFocusOn}
 use Rattle.vlt_sound_owners.proofs.Fits.{fits_named}
 use Rattle.vlt_sound_frames.specs.Agrees.{HasVar, Pin, Context, FociAgree, PinsAgree, scene, stock, Agrees}

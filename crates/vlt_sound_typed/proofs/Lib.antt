@@ -7,4 +7,4 @@ pub mod Meeting
 pub mod HeadsDeclared
 pub mod Functions
 pub mod ExternsDeclared
-pub mod Heads
+pub mod HeadsLaws

@@ -1,6 +1,6 @@
 use Rattle.vlt_sound_calls.proofs.Over.{all_passed}
 use Rattle.vlt_sound_calls.proofs.Begins.{holds, passes_states}
-use Rattle.vlt_sound_calls.proofs.Entering.{callee_agrees, callee_entered, callee_scoped}
+use Rattle.vlt_sound_calls.proofs.EnteringLaws.{callee_agrees, callee_entered, callee_scoped}
 use Rattle.vlt_sound_calls.proofs.entering.callees_begin.Goals as goal
 
 pub returns-clause-passed : goal.returns-clause-passed

@@ -1,4 +1,4 @@
-use Rattle.vlt_sound_calls.proofs.Given.{agrees_came}
+use Rattle.vlt_sound_calls.proofs.GivenLaws.{agrees_came}
 use Rattle.vlt_sound_calls.proofs.given.given_keys_have_what_they_name.Goals as goal
 
 pub returns : goal.returns

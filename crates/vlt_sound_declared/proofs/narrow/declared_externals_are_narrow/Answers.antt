@@ -1,4 +1,4 @@
-use Rattle.vlt_sound_declared.proofs.Narrow.{externals_narrow}
+use Rattle.vlt_sound_declared.proofs.NarrowLaws.{externals_narrow}
 use Rattle.vlt_sound_declared.proofs.narrow.declared_externals_are_narrow.Goals as goal
 
 pub returns : goal.returns

@@ -1,4 +1,4 @@
-use Rattle.vlt_sound_hosts.proofs.Hosts as hosts
+use Rattle.vlt_sound_hosts.proofs.HostsLaws as hosts
 use Rattle.vlt_sound_hosts.proofs.hosts.externals_are_safe.Goals as goal
 
 pub returns : goal.returns

@@ -1,5 +1,5 @@
 use Rattle.std.proofs.Common.{refl}
-use Rattle.vlt_sound_owners.proofs.Keys.{under_is, none_under, key_kept}
+use Rattle.vlt_sound_owners.proofs.KeysLaws.{under_is, none_under, key_kept}
 use Rattle.vlt_sound_owners.proofs.keys.keys_name_what_is_under_them.Goals as goal
 
 pub returns-clause-named : goal.returns-clause-named

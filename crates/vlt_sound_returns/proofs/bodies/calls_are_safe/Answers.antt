@@ -1,4 +1,4 @@
-use Rattle.vlt_sound_returns.proofs.Bodies as bodies
+use Rattle.vlt_sound_returns.proofs.BodiesLaws as bodies
 use Rattle.vlt_sound_returns.proofs.bodies.calls_are_safe.Goals as goal
 
 pub returns : goal.returns

@@ -1,4 +1,4 @@
-use Rattle.vlt_sound_returns.proofs.Delivered as proved
+use Rattle.vlt_sound_returns.proofs.DeliveredLaws as proved
 use Rattle.vlt_sound_returns.proofs.delivered.results_are_delivered.Goals as goal
 
 pub returns : goal.returns

@@ -1,6 +1,6 @@
 use Rattle.std.specs.Prelude.{[]}
 use Rattle.vlt_sound_frames.specs.Safe.{goes_to}
-use Rattle.vlt_sound_returns.proofs.Pieces.{number_safe, new_safe}
+use Rattle.vlt_sound_returns.proofs.PiecesLaws.{number_safe, new_safe}
 use Rattle.vlt_sound_returns.proofs.pieces.pieces_are_given.Goals as goal
 
 pub returns-clause-number : goal.returns-clause-number

@@ -1,4 +1,4 @@
-use Rattle.vlt_sound_returns.proofs.Returns as proved
+use Rattle.vlt_sound_returns.proofs.ReturnsLaws as proved
 use Rattle.vlt_sound_returns.proofs.returns.returns_are_safe.Goals as goal
 
 pub returns : goal.returns

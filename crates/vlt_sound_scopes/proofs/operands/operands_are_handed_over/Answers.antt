@@ -1,5 +1,5 @@
 use Rattle.vlt_sound_frames.specs.Safe.{goes_to}
-use Rattle.vlt_sound_scopes.proofs.Operands.{operand_safe, operands_safe}
+use Rattle.vlt_sound_scopes.proofs.OperandsLaws.{operand_safe, operands_safe}
 use Rattle.vlt_sound_scopes.proofs.operands.operands_are_handed_over.Goals as goal
 
 pub returns-clause-one : goal.returns-clause-one

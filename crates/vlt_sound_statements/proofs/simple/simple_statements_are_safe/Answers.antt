@@ -1,4 +1,4 @@
-use Rattle.vlt_sound_statements.proofs.Simple.{step_safe, form_safe}
+use Rattle.vlt_sound_statements.proofs.SimpleLaws.{step_safe, form_safe}
 use Rattle.vlt_sound_statements.proofs.simple.simple_statements_are_safe.Goals as goal
 
 pub returns-clause-steps : goal.returns-clause-steps

@@ -1,4 +1,4 @@
-use Rattle.vlt_sound_statements.proofs.Statements.{stmts_safe, rest_ends}
+use Rattle.vlt_sound_statements.proofs.StatementsLaws.{stmts_safe, rest_ends}
 use Rattle.vlt_sound_statements.proofs.statements.statements_are_safe.Goals as goal
 
 pub returns-clause-all : goal.returns-clause-all

@@ -1,4 +1,4 @@
-use Rattle.vlt_sound_typed.proofs.Heads.{has_hosts}
+use Rattle.vlt_sound_typed.proofs.HeadsLaws.{has_hosts}
 use Rattle.vlt_sound_typed.proofs.externs.kinded_externals_are_known.Goals as goal
 
 pub returns : goal.returns

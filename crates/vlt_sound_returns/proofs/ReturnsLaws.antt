@@ -41,17 +41,17 @@ use Rattle.vlt_sound_frames.proofs.Rows.{pass_split}
 use Rattle.vlt_sound_frames.proofs.Plain.{keys_same}
 use Rattle.vlt_sound_frames.proofs.Touch.{named, used, tracked_held, tracked_found}
 use Rattle.vlt_sound_scopes.proofs.Starting.{has_in}
-use Rattle.vlt_sound_scopes.proofs.Operands.{operand_safe}
+use Rattle.vlt_sound_scopes.proofs.OperandsLaws.{operand_safe}
 use Rattle.vlt_sound_calls.specs.Returned.{IsEntered, FitsResult, Returned, returns_to}
 use Rattle.vlt_sound_calls.specs.Heads.{IsNewKey, HasHead}
 use Rattle.vlt_sound_calls.specs.Calls.{ReturnsAreSafe}
 use Rattle.vlt_sound_calls.specs.Callee.{Among}
 use Rattle.vlt_sound_calls.proofs.Entries.{same_entry}
 use Rattle.vlt_sound_returns.proofs.Pairs.{among_filtered, filtered_among}
-use Rattle.vlt_sound_returns.proofs.Results.{NewEntry, new_entry}
+use Rattle.vlt_sound_returns.proofs.ResultsLaws.{NewEntry, new_entry}
 use Rattle.vlt_sound_returns.proofs.Statics.{among_at, any_new}
 use Rattle.vlt_sound_returns.proofs.Taking.{take_rows}
-use Rattle.vlt_sound_returns.proofs.Leaving.{is_given, false_true, entry_has, new_key_true, kept_entries, key_of, wants, names, names_old, names_new, left_safe}
+use Rattle.vlt_sound_returns.proofs.LeavingLaws.{is_given, false_true, entry_has, new_key_true, kept_entries, key_of, wants, names, names_old, names_new, left_safe}
 
 take_append : (at : Entry → ℕ) (wanted : Entry → maps.Wanted) (xs ys : List Entry) →
     take_rows at wanted (xs ++ ys) ≡ take_rows at wanted xs ++ take_rows at wanted ys

@@ -27,14 +27,14 @@ use Rattle.vlt_sound_frames.proofs.Changes.{agrees_map}
 use Rattle.vlt_sound_frames.proofs.Empty.{both_empty}
 use Rattle.vlt_sound_scopes.specs.Scoped.{IsScoped}
 use Rattle.vlt_sound_scopes.specs.Handed.{handed}
-use Rattle.vlt_sound_scopes.proofs.Operands.{operands_safe}
+use Rattle.vlt_sound_scopes.proofs.OperandsLaws.{operands_safe}
 use Rattle.vlt_sound_calls.specs.Returned.{IsEntered, Returned, returns_to, CalleesAreSafe}
 use Rattle.vlt_sound_calls.specs.Heads.{HasHead}
 use Rattle.vlt_sound_calls.specs.Calls.{CallsAreSafe}
 use Rattle.vlt_sound_calls.specs.Callee.{IsCall, callee_context}
 use Rattle.vlt_sound_calls.proofs.Over.{all_passed}
 use Rattle.vlt_sound_calls.proofs.Begins.{holds, passes_states}
-use Rattle.vlt_sound_calls.proofs.Entering.{argument_types, callee_agrees, callee_entered, callee_scoped}
+use Rattle.vlt_sound_calls.proofs.EnteringLaws.{argument_types, callee_agrees, callee_entered, callee_scoped}
 use Rattle.vlt_sound_returns.specs.Fresh.{IsFreshCall}
 use Rattle.vlt_sound_returns.proofs.Delivering.{deliver_safe}
 use Rattle.vlt_sound_returns.specs.Meet.{KeysMeet, HasFunctions}

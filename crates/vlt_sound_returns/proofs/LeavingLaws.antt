@@ -25,7 +25,7 @@ use Rattle.vlt_sound_owners.specs.Members.{In, IsOnce}
 use Rattle.vlt_sound_owners.specs.Roots.{owned_by}
 use Rattle.vlt_sound_owners.proofs.Members.{in_or_not}
 use Rattle.vlt_sound_owners.specs.Keys.{IsUnder, IsOnly}
-use Rattle.vlt_sound_owners.proofs.Keys.{held_one, none_under, under_is, under_held, under_lent}
+use Rattle.vlt_sound_owners.proofs.KeysLaws.{held_one, none_under, under_is, under_held, under_lent}
 use Rattle.vlt_sound_owners.specs.Fits.{Names}
 use Rattle.vlt_sound_frames.specs.Agrees.{HasVar, Handed, values_of, Context, scene, Agrees}
 use Rattle.vlt_sound_frames.specs.Safe.{Safe}
@@ -39,7 +39,7 @@ use Rattle.vlt_sound_calls.specs.Heads.{HasHead}
 use Rattle.vlt_sound_calls.specs.Callee.{Among, AreApartBy}
 use Rattle.vlt_sound_calls.proofs.Entries.{same_entry, Sought, sought}
 use Rattle.vlt_sound_returns.proofs.Pairs.{among_filtered, filtered_among, filtered_apart}
-use Rattle.vlt_sound_returns.proofs.Results.{new_is_after}
+use Rattle.vlt_sound_returns.proofs.ResultsLaws.{new_is_after}
 use Rattle.vlt_sound_returns.proofs.Statics.{apart_by, among_at, any_new, param_not_new}
 use Rattle.vlt_sound_returns.proofs.Taking.{take_rows, take_other, take_wanted, gone_absent, key_token, var_token, all_numbered, all_filtered}
 

@@ -31,7 +31,7 @@ use Rattle.vlt_sound_frames.proofs.Owning.{fill_safe}
 use Rattle.vlt_sound_scopes.proofs.Binding.{binding_kept}
 use Rattle.vlt_sound_calls.specs.Heads.{HasHead}
 use Rattle.vlt_sound_calls.specs.Callee.{IsCall}
-use Rattle.vlt_sound_returns.proofs.Results.{owning_with, result_same, caller_type_is, same_fits, same_owning, new_entry, binding_scope}
+use Rattle.vlt_sound_returns.proofs.ResultsLaws.{owning_with, result_same, caller_type_is, same_fits, same_owning, new_entry, binding_scope}
 use Rattle.vlt_meaning.specs.Step.{is_fillable, fill, deliver}
 use Rattle.vlt_sound_returns.specs.Given.{IsGiven}
 
