@@ -14,7 +14,9 @@ pub const MOST_HEAP: u32 = 16_777_216;
 pub const MOST_DEPTH: u32 = 100_000;
 /// The budgets of a run where no option sets them.
 pub const DEFAULT_FUEL: u64 = 1_000_000;
+
 pub const DEFAULT_HEAP: u32 = 65_536;
+
 pub const DEFAULT_DEPTH: u32 = 1_000;
 
 /// A command with its file.
