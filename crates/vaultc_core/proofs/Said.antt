@@ -1,10 +1,9 @@
 -- What a command replies for the parts of its file.
-use Rattle.std.proofs.Common.{◌≡◌, inl, inr, ℕ, List, Option, Some, None, refl, sym, subst}
+use Rattle.std.proofs.Common.{◌≡◌, inl, inr, ℕ, Bool, true, false, List, Option, Some, None, sym, subst}
 use Rattle.std.specs.Prelude.{Result, Ok, Err, IfOk, IfSome, option_map}
 use Rattle.std.specs.declared.alloc.AllocError.{AllocError}
 use Rattle.vlt_base.specs.declared.Budgets.{Budgets}
 use Rattle.vlt_core.specs.View.{program_of}
-use Rattle.vlt_core.specs.declared.program.Program.{Program}
 use Rattle.vlt_printer.specs.Layout.{layout}
 use Rattle.vlt_syntax.specs.Tree.{Tree}
 use Rattle.vaultc_core.specs.declared.reply.Reply.{Reply}
@@ -13,13 +12,13 @@ use Rattle.vlt_verdict.specs.declared.verdict.Verdict as shown
 use Rattle.vlt_verdict.specs.declared.verdict.Verdict.TheVariants.{Broken, Exceeded, Faulty, Accepted}
 use Rattle.vlt_verdict.specs.Verdicts.{Verdict, refused, faulty, accepted, IsVerdictOf}
 use Rattle.vlt_verdict.specs.Seen.{IsSeenAs}
-use Rattle.vaultc_core.specs.Commands.{Command, check, fmt}
+use Rattle.vaultc_core.specs.Commands.{Command, check, run, fmt}
 use Rattle.vaultc_core.specs.Lines as lines
 use Rattle.vaultc_core.specs.Texts.{Refusal, AreRefused, IsTextOf, refusal_reply}
 use Rattle.vaultc_core.specs.Verdicts.{check_reply}
 use Rattle.vaultc_core.specs.Parts.{IsReplyToRunOf}
 use Rattle.vaultc_core.specs.Replies.{IsReplyToVerdict, IsReplyToRun, IsReplyToText}
-use Rattle.vaultc_core.specs.Shown.{shown_reply}
+use Rattle.vaultc_core.specs.Shown.{shown_reply, is_accepted, IsJudged}
 
 -- ---- texts that are refused
 
@@ -58,36 +57,32 @@ laid_said bytes t (Err e) reads is = tt
 
 -- ---- verdicts
 
--- the verdict is none that was accepted
-pub is_not_accepted : shown.Verdict → Type 0
-is_not_accepted (Accepted q) = ⊥
-is_not_accepted _ = Unit {0}
-
-pub not_accepted : (v : shown.Verdict) → ((q : Program) → v ≡ Accepted q → ⊥) → is_not_accepted v
-not_accepted (Accepted q) never = never q refl
-not_accepted (Broken rule at) never = tt
-not_accepted (Exceeded n) never = tt
-not_accepted (Faulty p x) never = tt
-
 -- `run` says of a verdict that isn't accepted what `check` says of it
-check_is_run : (text : List ℕ) (b : Budgets) (t : Tree) (v : shown.Verdict) (s : Verdict) (r : lines.Reply) → is_not_accepted v →
+check_is_run : (text : List ℕ) (b : Budgets) (t : Tree) (v : shown.Verdict) (s : Verdict) (r : lines.Reply) → is_accepted v ≡ false →
     IsSeenAs v s → r ≡ check_reply text s → IsReplyToVerdict text b t s r
-check_is_run text b t v (refused x) r none seen e = e
-check_is_run text b t v (faulty p f x) r none seen e = e
-check_is_run text b t (Accepted q) (accepted p) r none seen e = absurd none
-check_is_run text b t (Broken rule at) (accepted p) r none seen e = absurd cc
-check_is_run text b t (Exceeded n) (accepted p) r none seen e = absurd cc
-check_is_run text b t (Faulty q x) (accepted p) r none (f, there, same) e = absurd cc
+check_is_run text b t v (refused x) r no seen e = e
+check_is_run text b t v (faulty p f x) r no seen e = e
+check_is_run text b t (Accepted q) (accepted p) r no seen e = absurd cc
+check_is_run text b t (Broken rule at) (accepted p) r no seen e = absurd cc
+check_is_run text b t (Exceeded n) (accepted p) r no seen e = absurd cc
+check_is_run text b t (Faulty q x) (accepted p) r no (f, there, same) e = absurd cc
 
--- what is said of a verdict is what `run` replies to it
-pub refused_run : (text : List ℕ) (b : Budgets) (t : Tree) (v : shown.Verdict) (r : Result Reply AllocError) → is_not_accepted v →
-    (s : Verdict) × IsVerdictOf t s × IsSeenAs v s → IfOk r (λ x. (s : Verdict) → IsSeenAs v s → shown_reply x ≡ check_reply text s) →
-    IfOk r (λ x. IsReplyToRun text b t (shown_reply x))
-refused_run text b t v (Ok x) none (s, is, seen) said = (s, is, check_is_run text b t v s (shown_reply x) none seen (said s seen))
-refused_run text b t v (Err e) none is said = tt
+-- what is said of a verdict that isn't accepted is what `run` replies to the text
+pub refused_run : (text file : List ℕ) (b : Budgets) (t : Tree) (v : shown.Verdict) (r : Result Reply AllocError) → IsTextOf t text →
+    is_accepted v ≡ false → IsJudged t v → IfOk r (λ x. (s : Verdict) → IsSeenAs v s → shown_reply x ≡ check_reply text s) →
+    IfOk r (λ x. IsReplyToText (run file b) text (shown_reply x))
+refused_run text file b t v (Ok x) reads no (s, is, seen) said =
+    inr (t, reads, (s, is, check_is_run text b t v s (shown_reply x) no seen (said s seen)))
+refused_run text file b t v (Err e) reads no judged said = tt
 
--- the run of an accepted tree is what `run` replies to it
-pub accepted_run : (text : List ℕ) (b : Budgets) (t : Tree) (q : Program) (r : lines.Reply) →
-    (s : Verdict) × IsVerdictOf t s × IsSeenAs (Accepted q) s → IsReplyToRunOf b t r → IsReplyToRun text b t r
-accepted_run text b t q r (s, is, same) replies =
-    (accepted (program_of q), subst (IsVerdictOf t) same is, replies)
+accepted_judged : (text : List ℕ) (b : Budgets) (t : Tree) (v : shown.Verdict) (r : lines.Reply) → is_accepted v ≡ true → IsJudged t v →
+    IsReplyToRunOf b t r → IsReplyToRun text b t r
+accepted_judged text b t (Accepted q) r yes (s, is, same) replies = (accepted (program_of q), subst (IsVerdictOf t) same is, replies)
+accepted_judged text b t (Broken rule at) r yes judged replies = absurd cc
+accepted_judged text b t (Exceeded n) r yes judged replies = absurd cc
+accepted_judged text b t (Faulty q x) r yes judged replies = absurd cc
+
+-- the run of a tree that is accepted is what `run` replies to the text
+pub accepted_run : (text file : List ℕ) (b : Budgets) (t : Tree) (v : shown.Verdict) → IsTextOf t text → is_accepted v ≡ true → IsJudged t v →
+    (r : lines.Reply) → IsReplyToRunOf b t r → IsReplyToText (run file b) text r
+accepted_run text file b t v reads yes judged r replies = inr (t, reads, accepted_judged text b t v r yes judged replies)

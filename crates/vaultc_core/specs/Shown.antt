@@ -1,5 +1,5 @@
 -- The plain refusals, parts and replies that those of the code stand for.
-use Rattle.std.specs.Prelude.{◌≡◌, ◌⊎◌, ℕ, MatchOption, Option, Some, None, Result, Ok, Err}
+use Rattle.std.specs.Prelude.{◌≡◌, ◌⊎◌, ℕ, Bool, true, false, MatchOption, Option, Some, None, Result, Ok, Err}
 use Rattle.std.specs.declared.alloc.AllocError.{AllocError}
 use Rattle.first_core.specs.Kinds.{IsKinded}
 use Rattle.first_core.specs.Derives.{IsAccepted}
@@ -11,6 +11,11 @@ use Rattle.first_interp.specs.Stops.{outcome_of}
 use Rattle.first_interp.specs.declared.stop.Stop.{Stop}
 use Rattle.first_interp.specs.declared.stop.Stop.TheVariants.{SinkFault}
 use Rattle.vlt_io.specs.declared.sink.Sink.{Ghosts}
+use Rattle.vlt_syntax.specs.Tree.{Tree}
+use Rattle.vlt_verdict.specs.Verdicts as verdicts
+use Rattle.vlt_verdict.specs.Seen.{IsSeenAs}
+use Rattle.vlt_verdict.specs.declared.verdict.Verdict.{Verdict}
+use Rattle.vlt_verdict.specs.declared.verdict.Verdict.TheVariants as verdict
 use Rattle.vaultc_core.specs.declared.status.TheConstants.{SINK_FAILED, NO_MEMORY}
 use Rattle.vaultc_core.specs.Finishes.{Finishes}
 use Rattle.vaultc_core.specs.Runs.{EndsWith}
@@ -38,6 +43,14 @@ Shows part.Outside p.outside = Unit {0}
 Shows part.Refused (p.refused x) = Unit {0}
 Shows (part.Accepted q) (p.accepted x) = x ≡ program_of q
 Shows _ _ = ⊥
+
+-- the code's verdict stands for one of the tree
+abbrev pub IsJudged : Tree → Verdict → Type 0
+IsJudged t v = (s : verdicts.Verdict) × verdicts.IsVerdictOf t s × IsSeenAs v s
+
+abbrev pub is_accepted : Verdict → Bool
+is_accepted (verdict.Accepted p) = true
+is_accepted _ = false
 
 abbrev pub shown_reply : Reply → lines.Reply
 shown_reply r = lines.reply r.status r.text.items

@@ -1,14 +1,15 @@
 //! Carries out the commands.
 
-ghost use Rattle.std.specs.Prelude.{◌≡◌, ◌≢◌, ◌<◌, ◌^◌, ℕ, List, length, map, None, Some, IfOk, string_bytes};
+ghost use Rattle.std.specs.Prelude.{◌≡◌, ◌≢◌, ◌<◌, ◌-◌, ◌^◌, ℕ, List, length, map, None, Some, IfOk, string_bytes};
 ghost use Rattle.vaultc_core.specs.Commands.{command_of};
-ghost use Rattle.vaultc_core.specs.Texts.{IsTooLong};
+ghost use Rattle.vlt_verdict.specs.Seen.{IsTellable};
+ghost use Rattle.vaultc_core.specs.Texts.{IsTooLong, IsTextOf};
 ghost use Rattle.vaultc_core.specs.Replies.{IsReplyToText, MayReply};
 ghost use Rattle.vaultc_core.specs.Parts as p;
 ghost use Rattle.vaultc_core.specs.Parts.{IsReplyToPart, IsReplyToRunOf};
 ghost use Rattle.vaultc_core.specs.Commands as c;
 ghost use Rattle.vaultc_core.specs.Finishes.{Finishes};
-ghost use Rattle.vaultc_core.specs.Shown.{IsRunnable, Shows, shown_reply};
+ghost use Rattle.vaultc_core.specs.Shown.{IsJudged, IsRunnable, Shows, is_accepted, shown_reply};
 ghost use Rattle.vlt_syntax.specs.Spelling.{spelling};
 ghost use Rattle.vlt_syntax.specs.View.{tree_of};
 ghost use Rattle.vaultc_core.specs.View.{seen_command};
@@ -54,6 +55,13 @@ fn reply_to_fmt(alloc: Global, bytes: &[u8]) -> Result<Reply, AllocError>
     }
 }
 
+/// Whether the verdict is that the program follows all rules.
+fn is_accepted(judged: &Verdict) -> bool
+    ensures { result ≡ is_accepted judged.now }
+{
+    matches!(judged, Verdict::Accepted(_))
+}
+
 /// Runs a program of the part of the language that runs, or says that it is none.
 fn run_part<K: Sink>(alloc: Global, part: &Part, budgets: Budgets, out: &mut K) -> u8
     requires { IsRunnable part.now }
@@ -78,6 +86,29 @@ fn run_tree<K: Sink>(alloc: Global, tree: &Tree, budgets: Budgets, out: &mut K) 
     }
 }
 
+/// Runs a tree that is accepted, or says of it what `check` says.
+fn run_judged<K: Sink>(
+    alloc: Global,
+    bytes: &[u8],
+    tree: &Tree,
+    judged: &Verdict,
+    budgets: Budgets,
+    out: &mut K,
+) -> u8
+    requires size { length bytes.now < 2 ^ 32 - 1 }
+    requires reads { IsTextOf (tree_of tree.now) bytes.now }
+    requires few { length (spelling (tree_of tree.now)) < 2 ^ 32 }
+    requires is { IsJudged (tree_of tree.now) judged.now }
+    requires tellable { IsTellable judged.now }
+    ensures { (file : List ℕ) →
+        Finishes K.Sink (IsReplyToText (c.run file budgets) bytes.now) out.old out.new result }
+{
+    if is_accepted(judged) {
+        return run_tree(alloc, tree, budgets, out);
+    }
+    finish_reply(out, verdict(alloc, bytes, judged))
+}
+
 /// Runs the program of a text, or says of it what `check` says.
 fn run<K: Sink>(alloc: Global, bytes: &[u8], budgets: Budgets, out: &mut K) -> u8
     requires { ¬ (IsTooLong bytes.now) }
@@ -89,8 +120,7 @@ fn run<K: Sink>(alloc: Global, bytes: &[u8], budgets: Budgets, out: &mut K) -> u
         Err(error) => return finish_reply(out, refusal(alloc, bytes, error)),
     };
     match judge(alloc, &tree) {
-        Ok(Verdict::Accepted(_)) => run_tree(alloc, &tree, budgets, out),
-        Ok(judged) => finish_reply(out, verdict(alloc, bytes, &judged)),
+        Ok(judged) => run_judged(alloc, bytes, &tree, &judged, budgets, out),
         Err(AllocError) => NO_MEMORY,
     }
 }
