@@ -11,35 +11,34 @@ use Rattle.vaultc_core.specs.declared.status.TheConstants.{DONE, UNREAD, SINK_FA
 use Rattle.vaultc_core.specs.Commands.{Command, check, run, fmt, command_of, file_of}
 use Rattle.vaultc_core.specs.Lines.{Reply, reply, usage_reply, unread_reply, over_reply}
 use Rattle.vaultc_core.specs.Texts.{Refusal, AreRefused, IsTextOf, IsTooLong, refusal_reply}
-use Rattle.vlt_verdict.specs.Verdicts.{Verdict, accepted, IsVerdictOf}
-use Rattle.vaultc_core.specs.Verdicts.{check_reply}
-use Rattle.vaultc_core.specs.Parts.{IsReplyToRunOf}
+use Rattle.vaultc_core.specs.Verdicts.{Verdict, accepted, IsVerdictOf, check_reply}
+use Rattle.vaultc_core.specs.Runs.{IsReplyToProgram}
 
--- ---- a tree, with the text that it stands in
+-- ---- a tree
 
-abbrev pub IsReplyToCheck : (text : List ℕ) → Tree → Reply → Type 0
-IsReplyToCheck text t r = (v : Verdict) × IsVerdictOf t v × (r ≡ check_reply text v)
+abbrev pub IsReplyToCheck : Tree → Reply → Type 0
+IsReplyToCheck t r = (v : Verdict) × IsVerdictOf t v × (r ≡ check_reply v)
 
 -- `run` replies as `check` does where that doesn't accept
-abbrev pub IsReplyToVerdict : (text : List ℕ) → Budgets → Tree → Verdict → Reply → Type 0
-IsReplyToVerdict text b t (accepted p) r = IsReplyToRunOf b t r
-IsReplyToVerdict text b t v r = r ≡ check_reply text v
+abbrev pub IsReplyToVerdict : Budgets → Verdict → Reply → Type 0
+IsReplyToVerdict b (accepted p) r = IsReplyToProgram p b r
+IsReplyToVerdict b v r = r ≡ check_reply v
 
-abbrev pub IsReplyToRun : (text : List ℕ) → Budgets → Tree → Reply → Type 0
-IsReplyToRun text b t r = (v : Verdict) × IsVerdictOf t v × IsReplyToVerdict text b t v r
+abbrev pub IsReplyToRun : Budgets → Tree → Reply → Type 0
+IsReplyToRun b t r = (v : Verdict) × IsVerdictOf t v × IsReplyToVerdict b v r
 
 -- what a command replies to a tree
-abbrev pub IsReplyToTree : Command → (text : List ℕ) → Tree → Reply → Type 0
-IsReplyToTree (check file) text t r = IsReplyToCheck text t r
-IsReplyToTree (run file b) text t r = IsReplyToRun text b t r
-IsReplyToTree (fmt file) text t r = r ≡ reply DONE (layout t)
+abbrev pub IsReplyToTree : Command → Tree → Reply → Type 0
+IsReplyToTree (check file) t r = IsReplyToCheck t r
+IsReplyToTree (run file b) t r = IsReplyToRun b t r
+IsReplyToTree (fmt file) t r = r ≡ reply DONE (layout t)
 
 -- ---- bytes
 
 -- every command says the same of bytes that are refused
 abbrev pub IsReplyToText : Command → List ℕ → Reply → Type 0
 IsReplyToText command bytes r =
-    ((e : Refusal) × AreRefused bytes e × (r ≡ refusal_reply bytes e)) ⊎ ((t : Tree) × IsTextOf t bytes × IsReplyToTree command bytes t r)
+    ((e : Refusal) × AreRefused bytes e × (r ≡ refusal_reply bytes e)) ⊎ ((t : Tree) × IsTextOf t bytes × IsReplyToTree command t r)
 
 -- The reply where a file has these bytes: too many are refused, and others have the reply to them. A command with several files
 -- asks this of one after another.

@@ -16,6 +16,4 @@ mod outside;
 #[cfg(test)]
 mod refusals;
 #[cfg(test)]
-mod rules;
-#[cfg(test)]
 mod sizes;

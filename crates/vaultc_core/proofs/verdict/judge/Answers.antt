@@ -1,8 +1,8 @@
 use Rattle.std.proofs.Common.{◌∙◌, ap, refl}
 use Rattle.std.specs.Prelude.{Err}
 use Rattle.first_core.specs.View.{program_of}
-use Rattle.vaultc_core.specs.Parts.{refused, accepted}
-use Rattle.vaultc_core.proofs.parts.part_of.Goals as goal
+use Rattle.vaultc_core.specs.Verdicts.{refused, accepted}
+use Rattle.vaultc_core.proofs.verdict.judge.Goals as goal
 
 pub returns-in-Ok-check-clause-is : goal.returns-in-Ok-check-clause-is
 returns-in-Ok-check-clause-is c = (accepted (program_of c.in-Ok.program), (c.in-Ok.ensures.ok, c.in-Ok-check.ensures.ok), refl)
