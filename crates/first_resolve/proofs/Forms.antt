@@ -4,10 +4,10 @@ use Rattle.std.proofs.Common.{◌≡◌, List, [], ◌∷◌, ◌++◌, map, Boo
 use Rattle.std.proofs.lemmas.List.{map-append}
 use Rattle.vlt_base.specs.declared.places.Span.{Span}
 use Rattle.vlt_syntax.specs.Tree as s
-use Rattle.vlt_syntax.specs.View.{ArmView, else_step, stmt_step, arm_step, block_step, if_step, stmt_of, block_of, decl_of, name_of, names_of, states_of, header_param_of, parameter_of, stmts_made}
+use Rattle.vlt_syntax.specs.View.{ArmView, else_step, stmt_step, arm_step, block_step, if_step, stmt_of, block_of, decl_of, name_of, names_of, states_of, header_key_of, parameter_of, stmts_made}
 use Rattle.vlt_syntax.specs.declared.tree.Name.{Name}
 use Rattle.vlt_syntax.specs.declared.tree.States.{States}
-use Rattle.vlt_syntax.specs.declared.tree.HeaderParam.{HeaderParam}
+use Rattle.vlt_syntax.specs.declared.tree.HeaderKey.{HeaderKey}
 use Rattle.vlt_syntax.specs.declared.tree.Parameter.{Parameter}
 use Rattle.vlt_syntax.specs.declared.tree.Block.{Block, out-Block}
 use Rattle.vlt_syntax.specs.declared.tree.Decl.{Decl}
@@ -20,16 +20,16 @@ pub keys_refused : (n : s.Name) (ks : List Name) → (ks ≡ [] → ⊥) → as_
 keys_refused n [] some = absurd (some refl)
 keys_refused n (k ∷ ks) some = refl
 
-pub header_refused : (n : s.Name) (ps : List HeaderParam) (ss : Option s.Name) (fs : List s.Field) (r : Option s.States) (at : Span) → (ps ≡ [] → ⊥) → as_struct (s.struct n (map header_param_of ps) ss fs r at) ≡ None
+pub header_refused : (n : s.Name) (ps : List HeaderKey) (ss : Option s.Name) (fs : List s.Field) (r : Option s.States) (at : Span) → (ps ≡ [] → ⊥) → as_struct (s.struct n (map header_key_of ps) ss fs r at) ≡ None
 header_refused n [] ss fs r at some = absurd (some refl)
 header_refused n (p ∷ ps) ss fs r at some = refl
 
-pub states_refused : (n : s.Name) (ps : List s.HeaderParam) (ss : Option Name) (fs : List s.Field) (r : Option s.States) (at : Span) → (ss ≡ None → ⊥) → as_struct (s.struct n ps (option_map name_of ss) fs r at) ≡ None
+pub states_refused : (n : s.Name) (ps : List s.HeaderKey) (ss : Option Name) (fs : List s.Field) (r : Option s.States) (at : Span) → (ss ≡ None → ⊥) → as_struct (s.struct n ps (option_map name_of ss) fs r at) ≡ None
 states_refused n [] None fs r at some = absurd (some refl)
 states_refused n (p ∷ ps) ss fs r at some = refl
 states_refused n [] (Some x) fs r at some = refl
 
-pub release_refused : (n : s.Name) (ps : List s.HeaderParam) (ss : Option s.Name) (fs : List s.Field) (r : Option States) (at : Span) → (r ≡ None → ⊥) → as_struct (s.struct n ps ss fs (option_map states_of r) at) ≡ None
+pub release_refused : (n : s.Name) (ps : List s.HeaderKey) (ss : Option s.Name) (fs : List s.Field) (r : Option States) (at : Span) → (r ≡ None → ⊥) → as_struct (s.struct n ps ss fs (option_map states_of r) at) ≡ None
 release_refused n [] None fs None at some = absurd (some refl)
 release_refused n (p ∷ ps) ss fs r at some = refl
 release_refused n [] (Some x) fs r at some = refl

@@ -175,7 +175,7 @@ init_alike i j is rest =
 
 declaration_alike : (t : s.Ty) (x : s.Name) (v : s.Right) (y : Stmt) → as_declaration t x v ≡ Some y → (rest : List Token)
     → Alike (whole.ty_then t (whole.name_then x (sign mark.Assign ∷ whole.right_then v (semicolon_then rest)))) (stmt_then y rest) rest
-declaration_alike (s.keyed k t at) x (s.make None m fs at') y is rest =
+declaration_alike (s.tracked k t at) x (s.make None m fs at') y is rest =
     let a = gives (as_name k) (λ k. then_with (as_type_name t) (λ t. then_with (as_name x) (λ x. then_with (as_type_name m) (λ m. then_with (as_each as_init fs) (λ is. Some (declare k t x m is)))))) y is in
     let b = gives (as_type_name t) (λ t. then_with (as_name x) (λ x. then_with (as_type_name m) (λ m. then_with (as_each as_init fs) (λ is. Some (declare a.value t x m is))))) y a.second in
     let c = three_give (as_name x) (as_type_name m) (as_each as_init fs) (declare a.value b.value) y b.second in
@@ -183,7 +183,7 @@ declaration_alike (s.keyed k t at) x (s.make None m fs at') y is rest =
     let made = λ (ts : List Token). named_alike m c.second c.is_second (sign mark.OpenBrace ∷ ts) in
     let typed = λ (ts : List Token). named_alike t b.value b.first ts in
     let fields = whole.right_then (s.make None m fs at') (semicolon_then rest) in
-    let all : whole.stmt_then (s.declare (s.keyed k t at) x (s.make None m fs at') at) rest ≡ stmt_then (declare a.value b.value c.first c.second c.third) rest =
+    let all : whole.stmt_then (s.declare (s.tracked k t at) x (s.make None m fs at') at) rest ≡ stmt_then (declare a.value b.value c.first c.second c.third) rest =
     λ i. keyword word.Tracked ∷ sign mark.OpenParen ∷ name (same_name k a.value a.first i) ∷ sign mark.CloseParen ∷
     (typed (name (same_name x c.first c.is_first i) ∷ sign mark.Assign ∷ keyword word.New ∷ (made (inits.same i)).same i)).same i in
     record {
@@ -277,8 +277,8 @@ struct_alike d y is rest = absurd (none-some y is)
 main_name_ascii : (n : s.Name) → n.text ≡ codes "main" → list_all is_ascii n.text ≡ true
 main_name_ascii n is = ap (list_all is_ascii) is
 
-bare_alike : (o : s.Outcome) (clause : Option (List s.Entry)) (ps : List s.Parameter) (n : s.Name) (ts us rest : List Token) → is_bare o clause ps ≡ true → n.text ≡ codes "main" → Alike ts us rest
-    → Alike (whole.outcome_then o (whole.name_then n (sign mark.OpenParen ∷ listed_then whole.parameter_then mark.CloseParen ps (whole.clause_then clause ts))))
+bare_alike : (o : s.ResultType) (clause : Option (List s.Entry)) (ps : List s.Parameter) (n : s.Name) (ts us rest : List Token) → is_bare o clause ps ≡ true → n.text ≡ codes "main" → Alike ts us rest
+    → Alike (whole.result_type_then o (whole.name_then n (sign mark.OpenParen ∷ listed_then whole.parameter_then mark.CloseParen ps (whole.clause_then clause ts))))
     (keyword word.Void ∷ name (codes "main") ∷ sign mark.OpenParen ∷ sign mark.CloseParen ∷ us) rest
 bare_alike (s.void at) None [] n ts us rest is named alike = record {
   same = λ i. keyword word.Void ∷ name (named i) ∷ sign mark.OpenParen ∷ sign mark.CloseParen ∷ alike.same i;
@@ -294,9 +294,9 @@ both false b is = absurd (true≢false (sym is))
 main_alike : AreAlike as_main whole.decl_then main_then
 main_alike (s.function h b at) y is rest =
     let m = if_gives (is_main h) (as_body b) y is in
-    let parts = both (is_bare h.outcome h.clause h.parameters) (bytes_eq h.name.text (codes "main")) m.0 in
+    let parts = both (is_bare h.result_type h.clause h.parameters) (bytes_eq h.name.text (codes "main")) m.0 in
     let named = (bytes_eq-Decides h.name.text (codes "main")).0 parts.1 in
-    bare_alike h.outcome h.clause h.parameters h.name (whole.block_then b rest) (body_then y rest) rest parts.0 named (body_alike b y m.1 rest)
+    bare_alike h.result_type h.clause h.parameters h.name (whole.block_then b rest) (body_then y rest) rest parts.0 named (body_alike b y m.1 rest)
 main_alike d y is rest = absurd (none-some y is)
 
 abbrev pub only_main : List Stmt → File

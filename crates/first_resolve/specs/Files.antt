@@ -51,7 +51,7 @@ as_init i =
 
 -- a new object under a key of its own, without owner: `tracked(k) t x = new made { f: e };`
 abbrev pub as_declaration : s.Ty → s.Name → s.Right → Option Stmt
-as_declaration (s.keyed k t at) x (s.make None made fs at') =
+as_declaration (s.tracked k t at) x (s.make None made fs at') =
     then_with (as_name k) (λ k.
     then_with (as_type_name t) (λ t.
     then_with (as_name x) (λ x.
@@ -97,13 +97,13 @@ as_struct (s.struct n [] None fs None at) =
 as_struct _ = None
 
 -- a function that gives nothing, has no clause and takes nothing
-abbrev pub is_bare : s.Outcome → Option (List s.Entry) → List s.Parameter → Bool
+abbrev pub is_bare : s.ResultType → Option (List s.Entry) → List s.Parameter → Bool
 is_bare (s.void at) None [] = true
 is_bare _ _ _ = false
 
 -- the head `void main()`
 abbrev pub is_main : s.Head → Bool
-is_main h = is_bare h.outcome h.clause h.parameters && bytes_eq h.name.text (codes "main")
+is_main h = is_bare h.result_type h.clause h.parameters && bytes_eq h.name.text (codes "main")
 
 -- `void main() { }`, as its statements
 abbrev pub as_main : s.Decl → Option (List Stmt)

@@ -16,7 +16,7 @@ use std::alloc::Global;
 use vlt_base::Items;
 use vlt_ops::Op;
 use vlt_syntax::{
-    Block, Decl, Expr, Field, Head, Init, Name, Named, Outcome, Right, Stmt, Tree, Ty,
+    Block, Decl, Expr, Field, Head, Init, Name, Named, ResultType, Right, Stmt, Tree, Ty,
 };
 
 fn is_all_ascii(text: &[u8]) -> bool
@@ -112,7 +112,7 @@ fn declaration<'a>(
     ensures refused { OnRefused result (
         as_declaration (whole.ty_of ty.now) (whole.name_of name.now) (whole.right_of value.now) ≡ None) }
 {
-    let Ty::Keyed { key, named, .. } = ty else {
+    let Ty::Tracked { key, named, .. } = ty else {
         return Err(ResolveError::Kind);
     };
     let Right::New {
@@ -267,10 +267,10 @@ fn structures<'a>(alloc: Global, decls: &'a [Decl]) -> Result<Items<Struct<'a>>,
 /// Whether the function gives nothing, has no clause and takes nothing.
 fn is_bare(head: &Head) -> bool
     ensures { let h = whole.head_of head.now in result
-        ≡ forms.is_bare h.outcome h.clause h.parameters }
+        ≡ forms.is_bare h.result_type h.clause h.parameters }
 {
-    match (&head.outcome, &head.clause) {
-        (Outcome::Void(_), None) => head.parameters.is_empty(),
+    match (&head.result_type, &head.clause) {
+        (ResultType::Void(_), None) => head.parameters.is_empty(),
         _ => false,
     }
 }

@@ -7,7 +7,7 @@ ghost use Rattle.vlt_syntax.specs.Spelling.{spelling};
 use crate::{ResolveError, resolve};
 use std::alloc::{AllocError, Global};
 use vlt_base::{Items, Span};
-use vlt_syntax::{Block, Decl, Head, Name, Outcome, Tree};
+use vlt_syntax::{Block, Decl, Head, Name, ResultType, Tree};
 
 const NOWHERE: Span = Span { from: 0, to: 0 };
 
@@ -16,7 +16,7 @@ fn one_function(alloc: Global, name: &[u8]) -> Result<Tree, AllocError>
     ensures { IfOk result (λ t. length (spelling (tree_of t)) ≡ 6) }
 {
     let head = Head {
-        outcome: Outcome::Void(NOWHERE),
+        result_type: ResultType::Void(NOWHERE),
         name: Name {
             text: Items::from_slice(alloc, name)?,
             at: NOWHERE,

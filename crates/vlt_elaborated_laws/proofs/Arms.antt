@@ -115,7 +115,7 @@ plain_arms kinds around scope (s.return r at) = returned_arms kinds around scope
 plain_arms kinds around scope (s.release x at) = (release_arms (var_ty scope x.text) (var_number scope x), tt)
 plain_arms kinds around scope (s.become x n at) = (tt, tt)
 plain_arms kinds around scope (s.swap x f v at) = (tt, tt)
-plain_arms kinds around scope (s.unpack x vs at) = opened_arms scope (opened_parts kinds (var_ty scope x.text)) x vs
+plain_arms kinds around scope (s.open_into x vs at) = opened_arms scope (opened_parts kinds (var_ty scope x.text)) x vs
 plain_arms kinds around scope (s.block b) = tt
 plain_arms kinds around scope (s.choose i) = tt
 plain_arms kinds around scope (s.loop e b at) = tt
@@ -161,7 +161,7 @@ module _ (kinds : Kinds) where
     stmt_arms around scope room found (s.release v at) r g e = simple_arms around scope found (s.release v at) r e
     stmt_arms around scope room found (s.become v t at) r g e = simple_arms around scope found (s.become v t at) r e
     stmt_arms around scope room found (s.swap v i w at) r g e = simple_arms around scope found (s.swap v i w at) r e
-    stmt_arms around scope room found (s.unpack v ws at) r g e = simple_arms around scope found (s.unpack v ws at) r e
+    stmt_arms around scope room found (s.open_into v ws at) r g e = simple_arms around scope found (s.open_into v ws at) r e
     stmt_arms around scope room found (s.block b) r g e =
         let u = unless_ok found _ r e in
         let a = then_ok (walk_block kinds around scope b) _ r u.1 in

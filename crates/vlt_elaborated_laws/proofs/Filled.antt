@@ -2,7 +2,7 @@
 use Rattle.std.proofs.Common.{◌≡◌, ℕ, ◌==◌, Bool, true, false, true≢false, not, is_some, if◌then◌else◌, List, [], ◌∷◌, ◌++◌, map, length, Option, Some, None, slice_get, option_map, IfSome, refl, sym, subst}
 use Rattle.std.proofs.lemmas.Option.{none-some, same_Some}
 use Rattle.vlt_syntax.specs.Tree as s
-use Rattle.vlt_syntax.specs.Tree.{Name, Right, Stmt, Field, Case, HeaderParam, Block, Decl, Tree}
+use Rattle.vlt_syntax.specs.Tree.{Name, Right, Stmt, Field, Case, HeaderKey, Block, Decl, Tree}
 use Rattle.vlt_syntax.specs.Lists.{Each}
 use Rattle.vlt_core.specs.Core as core
 use Rattle.vlt_core.specs.Core.{States, Ty, VarDecl, FieldDecl, CaseKey, CaseDecl, TypeDecl, Entry, Func, Program}
@@ -109,16 +109,16 @@ module _ (ds : List Decl) (p : Program) (described : Describes (file_of ds) p) w
 
   -- ---- declared types
 
-  fields_say : (ps : List HeaderParam) (known : Option (List (List ℕ))) (fs : List Field) → Each (λ f. SaysStates f.ty) (map (core_field file ps known) fs)
+  fields_say : (ps : List HeaderKey) (known : Option (List (List ℕ))) (fs : List Field) → Each (λ f. SaysStates f.ty) (map (core_field file ps known) fs)
   unfolding core_field
   fields_say ps known [] = tt
   fields_say ps known (f ∷ fs) = (type_filled file p described (header_number ps) f.ty, fields_say ps known fs)
 
-  payload_says : (ps : List HeaderParam) (ts : List s.Ty) → Each SaysStates (map (core_ty file (header_number ps)) ts)
+  payload_says : (ps : List HeaderKey) (ts : List s.Ty) → Each SaysStates (map (core_ty file (header_number ps)) ts)
   payload_says ps [] = tt
   payload_says ps (t ∷ ts) = (type_filled file p described (header_number ps) t, payload_says ps ts)
 
-  cases_say : (ps : List HeaderParam) (cs : List Case) → Each (λ c. Each SaysStates c.payload) (map (core_case file ps) cs)
+  cases_say : (ps : List HeaderKey) (cs : List Case) → Each (λ c. Each SaysStates c.payload) (map (core_case file ps) cs)
   unfolding core_case
   cases_say ps [] = tt
   cases_say ps (c ∷ cs) = (payload_says ps c.payload, cases_say ps cs)
@@ -183,14 +183,14 @@ module _ (ds : List Decl) (p : Program) (described : Describes (file_of ds) p) w
 
   bound_says : (scope : Scope) (ty : s.Ty) → KeepsStates scope (with_bound_key kinds scope ty)
   unfolding with_bound_key
-  bound_says scope (s.keyed k n at) = by (is_known_key scope k)
+  bound_says scope (s.tracked k n at) = by (is_known_key scope k)
     where
       by : (q : Bool) → KeepsStates scope (if q then scope else with_key scope k.text (type_named file n.name))
       by true = λ e. e
       by false = λ e. e
   bound_says scope (s.int at) = λ e. e
   bound_says scope (s.bool at) = λ e. e
-  bound_says scope (s.tracked ss n at) = λ e. e
+  bound_says scope (s.owning ss n at) = λ e. e
   bound_says scope (s.guarded k n) = λ e. e
   bound_says scope (s.plain n) = λ e. e
 
@@ -252,7 +252,7 @@ module _ (ds : List Decl) (p : Program) (described : Describes (file_of ds) p) w
   plain_says around scope (s.release x at) none = λ e. e
   plain_says around scope (s.become x n at) none = λ e. e
   plain_says around scope (s.swap x f v at) none = λ e. e
-  plain_says around scope (s.unpack x vs at) none = open_says scope x vs (opened_parts kinds (var_ty scope x.text)) refl
+  plain_says around scope (s.open_into x vs at) none = open_says scope x vs (opened_parts kinds (var_ty scope x.text)) refl
   plain_says around scope (s.block x) none = λ e. e
   plain_says around scope (s.choose i) none = λ e. e
   plain_says around scope (s.loop e x at) none = λ e. e

@@ -6,7 +6,7 @@ use Rattle.std.proofs.lemmas.Bool.{eq-eqb, eqb-true, ltb-true, ltb-false, and_pa
 use Rattle.std.proofs.lemmas.List.{length-map}
 use Rattle.std.proofs.lemmas.Option.{none-some, same_Some, slice_get_within}
 use Rattle.vlt_syntax.specs.Tree.{Head}
-use Rattle.vlt_syntax.specs.Lists.{Each, IsSome}
+use Rattle.vlt_syntax.specs.Lists.{Each, IsFilled}
 use Rattle.vlt_core.specs.Core as core
 use Rattle.vlt_core.specs.Core.{Ty, KeyDecl, VarDecl, Func, Program}
 use Rattle.vlt_core.specs.Lookups.{key_type_in}
@@ -111,15 +111,15 @@ types_each keys k (x ∷ ts) e = by (x.key == k) refl (types_each keys k ts e.1)
     by true is more = (subst (λ j. type_among keys j ≡ Some x.type) (eqb-true x.key k is) e.0, more)
     by false is more = more
 
-some_more : (k : ℕ) (ts us : List Typing) → IsSome (types_at k us) → IsSome (types_at k (ts ++ us))
+some_more : (k : ℕ) (ts us : List Typing) → IsFilled (types_at k us) → IsFilled (types_at k (ts ++ us))
 some_more k [] us e = e
 some_more k (x ∷ ts) us e = by (x.key == k) (some_more k ts us e)
   where
-    by : (b : Bool) → IsSome (types_at k (ts ++ us)) → IsSome (map (λ x. x.type) (cond b (x ∷ filter (λ x. x.key == k) (ts ++ us)) (filter (λ x. x.key == k) (ts ++ us))))
+    by : (b : Bool) → IsFilled (types_at k (ts ++ us)) → IsFilled (map (λ x. x.type) (cond b (x ∷ filter (λ x. x.key == k) (ts ++ us)) (filter (λ x. x.key == k) (ts ++ us))))
     by true more = tt
     by false more = more
 
-own_some : (k : ℕ) (ty : Ty) (rest : List Typing) → tracked_key (Some ty) ≡ Some k → IsSome (types_at k (own_typings ty ++ rest))
+own_some : (k : ℕ) (ty : Ty) (rest : List Typing) → tracked_key (Some ty) ≡ Some k → IsFilled (types_at k (own_typings ty ++ rest))
 own_some k core.int rest e = absurd (none-some k e)
 own_some k core.bool rest e = absurd (none-some k e)
 own_some k (core.tracked j t args) rest e = rw (eq-eqb j k (same_Some j k e)) tt
@@ -128,7 +128,7 @@ own_some k (core.guarded j t args) rest e = absurd (none-some k e)
 own_some k (core.variant t args) rest e = absurd (none-some k e)
 own_some k (core.owning_variant t args) rest e = absurd (none-some k e)
 
-types_some : (k : ℕ) (ds : List VarDecl) (i : ℕ) (d : VarDecl) → slice_get ds i ≡ Some d → tracked_key (Some d.ty) ≡ Some k → IsSome (types_at k (flat_map (λ d. own_typings d.ty) ds))
+types_some : (k : ℕ) (ds : List VarDecl) (i : ℕ) (d : VarDecl) → slice_get ds i ≡ Some d → tracked_key (Some d.ty) ≡ Some k → IsFilled (types_at k (flat_map (λ d. own_typings d.ty) ds))
 types_some k [] i d at own = absurd (none-some d at)
 types_some k (x ∷ ds) zero d at own = own_some k x.ty (flat_map (λ d. own_typings d.ty) ds) (ap (λ d. tracked_key (Some d.ty)) (same_Some x d at) ∙ own)
 types_some k (x ∷ ds) (suc i) d at own = some_more k (own_typings x.ty) (flat_map (λ d. own_typings d.ty) ds) (types_some k ds i d at own)

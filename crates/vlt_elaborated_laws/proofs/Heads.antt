@@ -3,7 +3,7 @@ use Rattle.std.proofs.Common.{◌≡◌, ℕ, Bool, List, [], ◌∷◌, map, le
 use Rattle.std.proofs.lemmas.List.{length-map}
 use Rattle.std.proofs.lemmas.Option.{none-some, same_Some, slice_get-map}
 use Rattle.vlt_syntax.specs.Tree as s
-use Rattle.vlt_syntax.specs.Tree.{Head, Parameter, Outcome}
+use Rattle.vlt_syntax.specs.Tree.{Head, Parameter, ResultType}
 use Rattle.vlt_syntax.specs.Lists.{Each}
 use Rattle.vlt_core.specs.Core.{Ty, KeyDecl, Program}
 use Rattle.vlt_core.specs.Lookups.{key_type_in}
@@ -15,7 +15,7 @@ use Rattle.vlt_kinds_types.specs.Files.{File}
 use Rattle.vlt_kinds_types.specs.Types.{KeyUse, ty_uses, ty_refused, core_ty}
 use Rattle.vlt_kinds_heads.specs.Places.{result_uses, parameter_uses}
 use Rattle.vlt_kinds_heads.specs.Keys.{Keys, keys_of}
-use Rattle.vlt_kinds_heads.specs.Heads.{outcome_refused, parameter_refused, head_refused}
+use Rattle.vlt_kinds_heads.specs.Heads.{result_type_refused, parameter_refused, head_refused}
 use Rattle.vlt_kinds_heads.specs.Phase.{key_number, key_decl, core_result, core_parameter, core_head}
 use Rattle.vlt_kinds_laws.specs.Shapes.{Describes, HasHeaders, IsWell}
 use Rattle.vlt_kinds_laws.proofs.Empty.{no_left, no_right}
@@ -69,10 +69,10 @@ module _ (file : File) (p : Program) (described : Describes file p) (h : Head) (
   unfolding core_head
   table_typed external = all_typed h.parameters pass.types (parameters_all_in (results file h) (parameters file h) (entries file h)) pass.wanted
 
-  result_in : (headers : HasHeaders p) (out : Outcome) → h.outcome ≡ out → (ty : Ty) → core_result file keys out ≡ Some ty → IsWell p ty × HasTypings p (map key_decl keys) ty
+  result_in : (headers : HasHeaders p) (out : ResultType) → h.result_type ≡ out → (ty : Ty) → core_result file keys out ≡ Some ty → IsWell p ty × HasTypings p (map key_decl keys) ty
   result_in headers (s.void at) is ty e = absurd (none-some ty e)
   result_in headers (s.value t) is ty e =
-      let none : ty_refused file t ≡ [] = sym (ap (outcome_refused file) is) ∙ pass.outcome in
+      let none : ty_refused file t ≡ [] = sym (ap (result_type_refused file) is) ∙ pass.result_type in
       subst (λ ty. IsWell p ty × HasTypings p (map key_decl keys) ty) (same_Some (core_ty file number t) ty e) (
         ty_well file p described t number none,
         uses_typed t none (subst (λ out. Each (λ u. IsIn keys u.key) (result_uses file out)) is (results_in (results file h) (parameters file h) (entries file h)))
@@ -81,7 +81,7 @@ module _ (file : File) (p : Program) (described : Describes file p) (h : Head) (
 
   table_result : (headers : HasHeaders p) (external : Bool) (ty : Ty) → (core_head file external h keys).result ≡ Some ty → IsWell p ty × HasTypings p (core_head file external h keys).keys ty
   unfolding core_head
-  table_result headers external ty e = result_in headers h.outcome refl ty e
+  table_result headers external ty e = result_in headers h.result_type refl ty e
 
 -- the type of a head's result
 pub result_typed : (file : File) (p : Program) (h : Head) (external : Bool) → Describes file p → HasHeaders p → head_refused file h ≡ []

@@ -5,7 +5,7 @@ use Rattle.std.specs.Str.{bytes_eq}
 use Rattle.std.proofs.lemmas.Bool.{and_from}
 use Rattle.std.proofs.lemmas.List.Folds.{list_any-append}
 use Rattle.vlt_syntax.specs.Tree as s
-use Rattle.vlt_syntax.specs.Tree.{Name, Case, HeaderParam, Decl}
+use Rattle.vlt_syntax.specs.Tree.{Name, Case, HeaderKey, Decl}
 use Rattle.vlt_syntax.specs.Lists.{Each}
 use Rattle.vlt_core.specs.Core.{TypeDecl}
 use Rattle.vlt_core.specs.Lookups.{cases_in}
@@ -89,7 +89,7 @@ distinct_behind seen (n ∷ ns) ticks e = by (list_any (has_text n) seen) (disti
 abbrev Distinct : TypeDecl → Type 0
 Distinct d = are_distinct (case_names (cases_in (Some d))) ≡ true
 
-names_are : (file : File) (ps : List HeaderParam) (cs : List Case) → case_names (map (core_case file ps) cs) ≡ tails (map (λ c. c.name) cs)
+names_are : (file : File) (ps : List HeaderKey) (cs : List Case) → case_names (map (core_case file ps) cs) ≡ tails (map (λ c. c.name) cs)
 unfolding core_case
 names_are file ps [] = refl
 names_are file ps (c ∷ cs) = ap (λ ns. drop 1 c.name.text ∷ ns) (names_are file ps cs)

@@ -4,7 +4,7 @@ use Rattle.std.specs.List.{flat_map}
 use Rattle.std.proofs.lemmas.Bool.{eq-eqb}
 use Rattle.std.proofs.lemmas.Option.{none-some, same_Some}
 use Rattle.vlt_syntax.specs.Tree as s
-use Rattle.vlt_syntax.specs.Tree.{Name, Named, Entry, Head, Parameter, Outcome}
+use Rattle.vlt_syntax.specs.Tree.{Name, Named, Entry, Head, Parameter, ResultType}
 use Rattle.vlt_syntax.specs.Lists.{Each}
 use Rattle.vlt_core.specs.Core as core
 use Rattle.vlt_core.specs.Core.{KeyDecl, VarDecl, TypeDecl, Func, Program}
@@ -18,7 +18,7 @@ use Rattle.vlt_kinds_types.specs.Files.{File, type_named, wanted_type}
 use Rattle.vlt_kinds_types.specs.Types.{KeyUse, ty_uses, ty_refused, core_ty}
 use Rattle.vlt_kinds_heads.specs.Places.{result_uses, parameter_uses}
 use Rattle.vlt_kinds_heads.specs.Keys.{Keys}
-use Rattle.vlt_kinds_heads.specs.Heads.{outcome_refused, parameter_refused}
+use Rattle.vlt_kinds_heads.specs.Heads.{result_type_refused, parameter_refused}
 use Rattle.vlt_kinds_heads.specs.Phase.{key_number, key_decl, core_entry, core_result, core_parameter}
 use Rattle.vlt_kinds_heads.specs.declared.facts.Facts.{Facts}
 use Rattle.vlt_kinds_heads.specs.declared.facts.Typing.{Typing as Given}
@@ -153,12 +153,12 @@ module _ (file : File) (p : Program) (described : Describes file p) (headers : H
       (parameters_unbroken h.parameters pass.types (parameters_all_in (results file h) (parameters file h) (entries file h)) pass.wanted) more)
 
   pub result_unbroken : when_some f.result (type_broken p f) ≡ []
-  result_unbroken = ap (λ o. when_some o (type_broken p f)) func.result ∙ by h.outcome refl
+  result_unbroken = ap (λ o. when_some o (type_broken p f)) func.result ∙ by h.result_type refl
     where
-      by : (out : Outcome) → h.outcome ≡ out → when_some (core_result file keys out) (type_broken p f) ≡ []
+      by : (out : ResultType) → h.result_type ≡ out → when_some (core_result file keys out) (type_broken p f) ≡ []
       by (s.void at) is = refl
       by (s.value t) is =
-          type_unbroken t (sym (ap (outcome_refused file) is) ∙ pass.outcome)
+          type_unbroken t (sym (ap (result_type_refused file) is) ∙ pass.result_type)
           (subst (λ out. Each (λ u. IsIn keys u.key) (result_uses file out)) is (results_in (results file h) (parameters file h) (entries file h)))
           (subst (λ out. Each (λ u. IsAsWanted keys u.key u.wanted) (result_uses file out)) is (results_wanted file p described headers h pass))
 
@@ -176,10 +176,10 @@ module _ (file : File) (p : Program) (described : Describes file p) (headers : H
 
       by_result : IsResultKey file p described headers h pass external f func j → is_some (decl_of p had.type_id) ≡ true
       by_result x =
-          let none : ty_refused file (s.keyed x.key x.type x.at) ≡ [] = sym (ap (outcome_refused file) x.outcome) ∙ pass.outcome in
-          let w = written file p described (s.keyed x.key x.type x.at) x.type none in
+          let none : ty_refused file (s.tracked x.key x.type x.at) ≡ [] = sym (ap (result_type_refused file) x.result_type) ∙ pass.result_type in
+          let w = written file p described (s.tracked x.key x.type x.at) x.type none in
           let wants : IsAsWanted keys x.key.text (wanted_type (type_named file x.type.name)) =
-          (subst (λ out. Each (λ u. IsAsWanted keys u.key u.wanted) (result_uses file out)) x.outcome (results_wanted file p described headers h pass)).0 in
+          (subst (λ out. Each (λ u. IsAsWanted keys u.key u.wanted) (result_uses file out)) x.result_type (results_wanted file p described headers h pass)).0 in
           let typed : IsOfType keys j w.stood.type = subst (λ k. IsOfType keys k w.stood.type) (sym x.same) (rw w.stood.named at wants) in
           let same : w.stood.type ≡ had.type_id = sym typed.2 ∙ ap (λ g. g.type_id) (same_Some typed.0 had (sym typed.1 ∙ is)) in
           subst (λ t. is_some (decl_of p t) ≡ true) same (ap is_some w.stood.there)

@@ -7,8 +7,8 @@ use Rattle.std.proofs.lemmas.List.{length-map, map-append}
 use Rattle.std.proofs.lemmas.Option.{none-some, same_Some, slice_get-map, slice_get_within}
 use Rattle.vlt_base.specs.declared.places.Span.{Span}
 use Rattle.vlt_syntax.specs.Tree as s
-use Rattle.vlt_syntax.specs.Tree.{Name, Named, Entry, Head, Parameter, Outcome}
-use Rattle.vlt_syntax.specs.Lists.{Each, IsSome}
+use Rattle.vlt_syntax.specs.Tree.{Name, Named, Entry, Head, Parameter, ResultType}
+use Rattle.vlt_syntax.specs.Lists.{Each, IsFilled}
 use Rattle.vlt_core.specs.Core as core
 use Rattle.vlt_core.specs.Core.{KeyDecl, VarDecl, Func, Program}
 use Rattle.vlt_core.specs.Lookups.{is_new}
@@ -22,7 +22,7 @@ use Rattle.vlt_kinds_types.specs.Files.{File, type_named, wanted_type}
 use Rattle.vlt_kinds_types.specs.Types.{KeyUse, named_uses, ty_uses, type_number, core_ty}
 use Rattle.vlt_kinds_heads.specs.Places.{result_uses, parameter_uses, clause_in, entry_key, is_fresh}
 use Rattle.vlt_kinds_heads.specs.Keys.{Keys, facts_of}
-use Rattle.vlt_kinds_heads.specs.Heads.{outcome_refused, parameter_refused, is_fresh_result, entry_key_refused, entry_refused}
+use Rattle.vlt_kinds_heads.specs.Heads.{result_type_refused, parameter_refused, is_fresh_result, entry_key_refused, entry_refused}
 use Rattle.vlt_kinds_heads.specs.Phase.{key_number, key_decl, core_entry, core_result, core_parameter, core_head}
 use Rattle.vlt_kinds_heads.specs.declared.facts.Typing.{Typing as Given}
 use Rattle.vlt_kinds_laws.specs.Shapes.{Describes, HasHeaders}
@@ -114,7 +114,7 @@ has_new file keys k (e ∷ es) is =
 
 pub record IsFunc (file : File) (keys : Keys) (h : Head) (external : Bool) (f : Func) : Type 0 where
   pub external_is : f.external ≡ external
-  pub result : f.result ≡ core_result file keys h.outcome
+  pub result : f.result ≡ core_result file keys h.result_type
   pub params : f.params ≡ length h.parameters
   pub clause : f.clause ≡ map (core_entry file keys) (clause_in h.clause)
   pub more_keys : List KeyDecl
@@ -138,7 +138,7 @@ func_of file keys h external f head = record {
 -- a key's type and the types that it is given: each is that type, and there is one where it has one
 pub record Gives (type : Option ℕ) (given : List ℕ) : Type 0 where
   pub each : Each (λ t. type ≡ Some t) given
-  pub some : (t : ℕ) → type ≡ Some t → IsSome given
+  pub some : (t : ℕ) → type ≡ Some t → IsFilled given
 
 module _ (file : File) (p : Program) (described : Describes file p) (headers : HasHeaders p) (h : Head) (pass : IsPassed file h) (external : Bool) (f : Func)
     (func : IsFunc file (table file h) h external f) where
@@ -228,23 +228,23 @@ module _ (file : File) (p : Program) (described : Describes file p) (headers : H
     pub key : Name
     pub type : Named
     pub at : Span
-    pub outcome : h.outcome ≡ s.value (s.keyed key type at)
+    pub result_type : h.result_type ≡ s.value (s.tracked key type at)
     pub same : j ≡ key.text
 
-  result_use : (j : List ℕ) (out : Outcome) → h.outcome ≡ out → SomeOf (λ u. (j ≡ u.key) × (u.tracked ≡ true)) (result_uses file out) → IsResultKey j
+  result_use : (j : List ℕ) (out : ResultType) → h.result_type ≡ out → SomeOf (λ u. (j ≡ u.key) × (u.tracked ≡ true)) (result_uses file out) → IsResultKey j
   result_use j (s.void at) is some = absurd some
   result_use j (s.value (s.int at)) is some = absurd some
   result_use j (s.value (s.bool at)) is some = absurd some
-  result_use j (s.value (s.keyed k n at)) is some =
-      ⊎_elim (λ a. record { key = k; type = n; at = at; outcome = is; same = a.0 }) (λ b. from_each _ _ (λ u x free. absurd (true≢false (sym x.1 ∙ free))) (named_uses file n) b (named_free file n)) some
-  result_use j (s.value (s.tracked ss n at)) is some = from_each _ _ (λ u x free. absurd (true≢false (sym x.1 ∙ free))) (named_uses file n) some (named_free file n)
+  result_use j (s.value (s.tracked k n at)) is some =
+      ⊎_elim (λ a. record { key = k; type = n; at = at; result_type = is; same = a.0 }) (λ b. from_each _ _ (λ u x free. absurd (true≢false (sym x.1 ∙ free))) (named_uses file n) b (named_free file n)) some
+  result_use j (s.value (s.owning ss n at)) is some = from_each _ _ (λ u x free. absurd (true≢false (sym x.1 ∙ free))) (named_uses file n) some (named_free file n)
   result_use j (s.value (s.guarded k n)) is some = ⊎_elim (λ a. absurd (true≢false (sym a.1))) (λ b. from_each _ _ (λ u x free. absurd (true≢false (sym x.1 ∙ free))) (named_uses file n) b (named_free file n)) some
   result_use j (s.value (s.plain n)) is some = from_each _ _ (λ u x free. absurd (true≢false (sym x.1 ∙ free))) (named_uses file n) some (named_free file n)
 
   pub result_key : (j : List ℕ) → (facts_of keys j).is_fresh ≡ true → IsResultKey j
   result_key j e =
       let right = and_parts _ _ (and_parts _ _ (and_parts _ _ (fresh_right j e)).0).0 in
-      result_use j h.outcome refl (result_key_from (results file h) (parameters file h) (entries file h) j right.0)
+      result_use j h.result_type refl (result_key_from (results file h) (parameters file h) (entries file h) j right.0)
 
   -- ---- the types that a key is given
 
@@ -265,13 +265,13 @@ module _ (file : File) (p : Program) (described : Describes file p) (headers : H
     where
       by : IsResultKey j → Gives (type_of_key j) (given_types p f (number j))
       by x =
-          let w = written file p described (s.keyed x.key x.type x.at) x.type (sym (ap (outcome_refused file) x.outcome) ∙ pass.outcome) in
+          let w = written file p described (s.tracked x.key x.type x.at) x.type (sym (ap (result_type_refused file) x.result_type) ∙ pass.result_type) in
           let given : given_types p f (number j) ≡ w.stood.type ∷ [] =
-          given_new (number j) (core_ty file number (s.keyed x.key x.type x.at)) (fresh_has j e) (func.result ∙ ap (core_result file keys) x.outcome)
+          given_new (number j) (core_ty file number (s.tracked x.key x.type x.at)) (fresh_has j e) (func.result ∙ ap (core_result file keys) x.result_type)
           ∙ (ap (λ b. map (λ (y : Typing). y.type) (cond b (record { key = number x.key.text; type = type_number file x.type.name } ∷ []) [])) (eq-eqb (number x.key.text) (number j) (ap number (sym x.same)))
           ∙ ap (λ t. t ∷ []) (number_is file p described x.type.name w.stood)) in
           let wants : IsAsWanted keys x.key.text (wanted_type (type_named file x.type.name)) =
-          (subst (λ out. Each (λ u. IsAsWanted keys u.key u.wanted) (result_uses file out)) x.outcome (results_wanted file p described headers h pass)).0 in
+          (subst (λ out. Each (λ u. IsAsWanted keys u.key u.wanted) (result_uses file out)) x.result_type (results_wanted file p described headers h pass)).0 in
           let is : type_of_key j ≡ Some w.stood.type = subst (λ k. type_of_key k ≡ Some w.stood.type) (sym x.same) (of_type x.key.text w.stood.type (rw w.stood.named at wants)) in
           rw given (record { each = (is, tt); some = λ t e. tt })
 
@@ -291,20 +291,20 @@ module _ (file : File) (p : Program) (described : Describes file p) (headers : H
       by wanted.Unknown is more = more
       by (wanted.OfType t) is more = one t is (number u.key == number j) refl more
 
-  types_some : (j : List ℕ) (t : ℕ) (us : List KeyUse) → SomeOf (λ u. (j ≡ u.key) × (u.wanted ≡ wanted.OfType t)) us → IsSome (types_at (number j) (use_typings number us))
+  types_some : (j : List ℕ) (t : ℕ) (us : List KeyUse) → SomeOf (λ u. (j ≡ u.key) × (u.wanted ≡ wanted.OfType t)) us → IsFilled (types_at (number j) (use_typings number us))
   types_some j t [] some = absurd some
   types_some j t (u ∷ us) some = ⊎_elim (λ a. here a) (λ b. by u.wanted (types_some j t us b)) some
     where
-      kept : (x : Typing) (b : Bool) → IsSome (types_at (number j) (use_typings number us)) → IsSome (map (λ x. x.type) (cond b (x ∷ filter (λ x. x.key == number j) (use_typings number us)) (filter (λ x. x.key == number j) (use_typings number us))))
+      kept : (x : Typing) (b : Bool) → IsFilled (types_at (number j) (use_typings number us)) → IsFilled (map (λ x. x.type) (cond b (x ∷ filter (λ x. x.key == number j) (use_typings number us)) (filter (λ x. x.key == number j) (use_typings number us))))
       kept x true more = tt
       kept x false more = more
 
-      by : (w : Wanted) → IsSome (types_at (number j) (use_typings number us)) → IsSome (types_at (number j) (typing_of (number u.key) w (use_typings number us)))
+      by : (w : Wanted) → IsFilled (types_at (number j) (use_typings number us)) → IsFilled (types_at (number j) (typing_of (number u.key) w (use_typings number us)))
       by wanted.Any more = more
       by wanted.Unknown more = more
       by (wanted.OfType v) more = kept (record { key = number u.key; type = v }) (number u.key == number j) more
 
-      here : (j ≡ u.key) × (u.wanted ≡ wanted.OfType t) → IsSome (types_at (number j) (typing_of (number u.key) u.wanted (use_typings number us)))
+      here : (j ≡ u.key) × (u.wanted ≡ wanted.OfType t) → IsFilled (types_at (number j) (typing_of (number u.key) u.wanted (use_typings number us)))
       here a = rw (a.1, eq-eqb (number u.key) (number j) (ap number (sym a.0))) tt
 
   pub gives : (j : List ℕ) → IsIn keys j → Gives (type_of_key j) (given_types p f (number j))
@@ -327,6 +327,6 @@ module _ (file : File) (p : Program) (described : Describes file p) (headers : H
             some = λ t is. typed t is (typing_at keys j) refl;
           })
         where
-          typed : (t : ℕ) → type_of_key j ≡ Some t → (o : Option Given) → typing_at keys j ≡ o → IsSome (types_at (number j) (use_typings number (parameters file h)))
+          typed : (t : ℕ) → type_of_key j ≡ Some t → (o : Option Given) → typing_at keys j ≡ o → IsFilled (types_at (number j) (use_typings number (parameters file h)))
           typed t is None had = absurd (none-some t (sym (ap (option_map (λ t. t.type_id)) had) ∙ is))
           typed t is (Some g) had = ⊎_elim (λ a. absurd (true≢false (sym a ∙ e))) (λ b. types_some j g.type_id (parameters file h) b) (typed_by file p described headers h pass j g had)

@@ -6,7 +6,7 @@ use Rattle.std.proofs.lemmas.List.Folds.{list_any-append}
 use Rattle.std.proofs.lemmas.Option.{none-some, same_Some}
 use Rattle.vlt_base.specs.declared.places.Span.{Span}
 use Rattle.vlt_syntax.specs.Tree as s
-use Rattle.vlt_syntax.specs.Tree.{Name, Named, Entry, Head, Parameter, Outcome}
+use Rattle.vlt_syntax.specs.Tree.{Name, Named, Entry, Head, Parameter, ResultType}
 use Rattle.vlt_syntax.specs.Lists.{Each}
 use Rattle.vlt_core.specs.Core as core
 use Rattle.vlt_core.specs.Core.{VarDecl, TypeDecl, Func, Program}
@@ -91,15 +91,15 @@ fresh_parts f e =
     (one.0, not-true f.in_result_again one.1, not-true f.in_parameters two.1)
 
 -- the key of a result, and the keys in it
-keyed_text : Outcome → List ℕ
-keyed_text (s.value (s.keyed k n at)) = k.text
+keyed_text : ResultType → List ℕ
+keyed_text (s.value (s.tracked k n at)) = k.text
 keyed_text out = []
 
-keyed_text_is : (k : Name) (n : Named) (at : Span) → keyed_text (s.value (s.keyed k n at)) ≡ k.text
+keyed_text_is : (k : Name) (n : Named) (at : Span) → keyed_text (s.value (s.tracked k n at)) ≡ k.text
 unfolding keyed_text
 keyed_text_is k n at = refl
 
-same_keyed : (a b : Name) (m n : Named) (i j : Span) → ◌≡◌ {A = Outcome} (s.value (s.keyed a m i)) (s.value (s.keyed b n j)) → a.text ≡ b.text
+same_keyed : (a b : Name) (m n : Named) (i j : Span) → ◌≡◌ {A = ResultType} (s.value (s.tracked a m i)) (s.value (s.tracked b n j)) → a.text ≡ b.text
 same_keyed a b m n i j e = sym (keyed_text_is a m i) ∙ (ap keyed_text e ∙ keyed_text_is b n j)
 
 abbrev result_keys : Option core.Ty → List ℕ
@@ -230,7 +230,7 @@ module _ (file : File) (p : Program) (described : Describes file p) (headers : H
       once = (fresh_parts (facts_of keys x.key) (fresh_right file p described headers h pass external f func x.key x.fresh)).1
 
       results_are : results file h ≡ tracked_use (wanted_type (type_named file r.type.name)) r.key ∷ named_uses file r.type
-      results_are = ap (result_uses file) r.outcome
+      results_are = ap (result_uses file) r.result_type
 
       there : Each (λ u. IsIn keys u.key) (named_uses file r.type)
       there = (subst (λ us. Each (λ u. IsIn keys u.key) us) results_are (results_in (results file h) (parameters file h) (entries file h))).1
@@ -249,7 +249,7 @@ module _ (file : File) (p : Program) (described : Describes file p) (headers : H
 
   key_right : (k : ℕ) (x : IsNew k) (r : IsResultKey file p described headers h pass external f func x.key) → is_key_of_result f.result k ≡ true
   key_right k x r =
-      ap (λ o. is_key_of_result o k) (func.result ∙ ap (core_result file keys) r.outcome)
+      ap (λ o. is_key_of_result o k) (func.result ∙ ap (core_result file keys) r.result_type)
       ∙ and_from _ _ (eq-eqb (number r.key.text) k (ap number (sym r.same) ∙ x.same)) (ap not (alone k x r))
 
   pub not_in_parameters : (k : ℕ) (x : IsNew k) → has (keys_of_parameters f) k ≡ false
@@ -279,14 +279,14 @@ module _ (file : File) (p : Program) (described : Describes file p) (headers : H
       fits u x = holds _ rule.RESULT_KEY
           (⊎_elim (λ a. or_left _ _ (fresh_has file p described headers h pass external f func u.key a)) (λ b. or_right (has (new_keys f) (number u.key)) _ (in_parameters_has file p described headers h pass external f func u.key b)) (bound file p described headers h pass u.key x))
 
-      by_outcome : (out : Outcome) → h.outcome ≡ out → flat_map (λ k. unless (has (new_keys f) k || has (keys_of_parameters f) k) rule.RESULT_KEY) (result_keys (core_result file keys out)) ≡ []
-      by_outcome (s.void at) is = refl
-      by_outcome (s.value t) is =
+      by_result_type : (out : ResultType) → h.result_type ≡ out → flat_map (λ k. unless (has (new_keys f) k || has (keys_of_parameters f) k) rule.RESULT_KEY) (result_keys (core_result file keys out)) ≡ []
+      by_result_type (s.void at) is = refl
+      by_result_type (s.value t) is =
           none_of_each _ (keys_of_ty (core_ty file number t)) (rw (keys_are_uses file number t) (each_number (λ k. unless (has (new_keys f) k || has (keys_of_parameters f) k) rule.RESULT_KEY ≡ []) number (ty_uses file t)
           (each_other _ _ (λ u x. fits u x) (ty_uses file t) (subst (λ out. Each (λ u. IsIn keys u.key) (result_uses file out)) is (results_in (results file h) (parameters file h) (entries file h))))))
 
-      by : (o : Option core.Ty) → f.result ≡ core_result file keys h.outcome → flat_map (λ k. unless (has (new_keys f) k || has (keys_of_parameters f) k) rule.RESULT_KEY) (keys_of_result f) ≡ []
-      by o is = ap (λ o. flat_map (λ k. unless (has (new_keys f) k || has (keys_of_parameters f) k) rule.RESULT_KEY) (result_keys o)) is ∙ by_outcome h.outcome refl
+      by : (o : Option core.Ty) → f.result ≡ core_result file keys h.result_type → flat_map (λ k. unless (has (new_keys f) k || has (keys_of_parameters f) k) rule.RESULT_KEY) (keys_of_result f) ≡ []
+      by o is = ap (λ o. flat_map (λ k. unless (has (new_keys f) k || has (keys_of_parameters f) k) rule.RESULT_KEY) (result_keys o)) is ∙ by_result_type h.result_type refl
 
   -- there is one `new` key at most
   pub few_new : nat_le (length (new_keys f)) 1 ≡ true
@@ -301,7 +301,7 @@ module _ (file : File) (p : Program) (described : Describes file p) (headers : H
           (each_there _ (new_keys f) (λ j e.
           let y = is_new_key j e in
           let q = result_key file p described headers h pass external f func y.key y.fresh in
-          sym y.same ∙ ap number (q.same ∙ same_keyed q.key r.key q.type r.type q.at r.at (sym q.outcome ∙ r.outcome))))
+          sym y.same ∙ ap number (q.same ∙ same_keyed q.key r.key q.type r.type q.at r.at (sym q.result_type ∙ r.result_type))))
 
   pub results_unbroken : ((k : ℕ) → has (new_keys f) k ≡ true → Each (λ d. has (keys_of_ty d.ty) k ≡ false) func.more_vars) → result_broken f ≡ []
   results_unbroken apart =

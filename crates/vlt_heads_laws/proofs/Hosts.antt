@@ -7,7 +7,7 @@ use Rattle.std.proofs.lemmas.List.{length-map, map-append}
 use Rattle.std.proofs.lemmas.List.Folds.{list_any-append}
 use Rattle.std.proofs.lemmas.Option.{none-some, same_Some, slice_get-map}
 use Rattle.vlt_syntax.specs.Tree as s
-use Rattle.vlt_syntax.specs.Tree.{Name, Named, Entry, Head, Parameter, Outcome}
+use Rattle.vlt_syntax.specs.Tree.{Name, Named, Entry, Head, Parameter, ResultType}
 use Rattle.vlt_syntax.specs.Lists.{Each}
 use Rattle.vlt_core.specs.Core as core
 use Rattle.vlt_core.specs.Core.{CaseKey, CaseDecl, TypeDecl, an_abstract, a_struct, a_variant, Func, Program}
@@ -23,7 +23,7 @@ use Rattle.vlt_kinds_types.specs.Types as k
 use Rattle.vlt_kinds_types.specs.Types.{KeyUse, named_uses, ty_uses, ty_refused, ty_place, sort_in, shape_in, is_variant, is_variant_in, type_number, key_numbers, owned_refused, owned_ty, core_ty, states_listed}
 use Rattle.vlt_kinds_heads.specs.Places.{parameter_uses, clause_in, entry_key}
 use Rattle.vlt_kinds_heads.specs.Keys.{Keys, facts_of}
-use Rattle.vlt_kinds_heads.specs.Heads.{outcome_refused, parameter_refused, is_main_clause, has_none, main_refused}
+use Rattle.vlt_kinds_heads.specs.Heads.{result_type_refused, parameter_refused, is_main_clause, has_none, main_refused}
 use Rattle.vlt_kinds_heads.specs.Externals as e
 use Rattle.vlt_kinds_heads.specs.Externals.{is_wrong_parameter, host_parameter_refused, is_host_payload, has_host_payload, variant_cases, cases_named, is_no_abstract, is_wrong_variant, is_wrong_result, lists_position, case_argument_refused, next_position, case_arguments_refused, fitting_refused, arguments_refused, result_arguments_refused, host_ty_refused, host_result_refused, host_entry_refused, external_refused}
 use Rattle.vlt_kinds_heads.specs.Phase.{key_number, core_entry, core_result}
@@ -113,15 +113,15 @@ main_by None [] = true
 main_by (Some (core.tracked k t args)) (e ∷ []) = is_new e
 main_by _ _ = false
 
-main_clause : (file : File) (keys : Keys) (out : Outcome) (es : List Entry) → is_main_clause out es ≡ true → main_by (core_result file keys out) (map (core_entry file keys) es) ≡ true
+main_clause : (file : File) (keys : Keys) (out : ResultType) (es : List Entry) → is_main_clause out es ≡ true → main_by (core_result file keys out) (map (core_entry file keys) es) ≡ true
 unfolding core_entry
 main_clause file keys (s.void at) [] e = refl
 main_clause file keys (s.value t) [] e = absurd (true≢false (sym e))
-main_clause file keys (s.value (s.keyed k n at)) (s.fresh j at2 ∷ []) e = refl
+main_clause file keys (s.value (s.tracked k n at)) (s.fresh j at2 ∷ []) e = refl
 main_clause file keys (s.void at) (s.fresh j at2 ∷ []) e = absurd (true≢false (sym e))
 main_clause file keys (s.value (s.int at)) (s.fresh j at2 ∷ []) e = absurd (true≢false (sym e))
 main_clause file keys (s.value (s.bool at)) (s.fresh j at2 ∷ []) e = absurd (true≢false (sym e))
-main_clause file keys (s.value (s.tracked ss n at)) (s.fresh j at2 ∷ []) e = absurd (true≢false (sym e))
+main_clause file keys (s.value (s.owning ss n at)) (s.fresh j at2 ∷ []) e = absurd (true≢false (sym e))
 main_clause file keys (s.value (s.guarded k n)) (s.fresh j at2 ∷ []) e = absurd (true≢false (sym e))
 main_clause file keys (s.value (s.plain n)) (s.fresh j at2 ∷ []) e = absurd (true≢false (sym e))
 main_clause file keys out (s.held k ∷ es) e = absurd (true≢false (sym e))
@@ -146,9 +146,9 @@ module _ (file : File) (p : Program) (described : Describes file p) (headers : H
   unfolding main_refused
   main_right named =
       let clean = not_broken _ rule.MAIN_HEAD h.name.at.from pass.main in
-      let both = and_parts (has_none h.parameters) (is_main_clause h.outcome (clause_in h.clause)) (not-false _ (sym (ap (λ b. b && not (has_none h.parameters && is_main_clause h.outcome (clause_in h.clause))) named) ∙ clean)) in
+      let both = and_parts (has_none h.parameters) (is_main_clause h.result_type (clause_in h.clause)) (not-false _ (sym (ap (λ b. b && not (has_none h.parameters && is_main_clause h.result_type (clause_in h.clause))) named) ∙ clean)) in
       and_from _ _ (eq-eqb f.params 0 (func.params ∙ none_long h.parameters both.0))
-      (ap₂ main_by func.result func.clause ∙ main_clause file keys h.outcome (clause_in h.clause) both.1)
+      (ap₂ main_by func.result func.clause ∙ main_clause file keys h.result_type (clause_in h.clause) both.1)
 
   -- ---- parameters and keys of externals
 
@@ -156,15 +156,15 @@ module _ (file : File) (p : Program) (described : Describes file p) (headers : H
   unfolding shape_in owned_ty owned_refused
   external_type (s.int at) none right = refl
   external_type (s.bool at) none right = refl
-  external_type (s.keyed k n at) none right = refl
+  external_type (s.tracked k n at) none right = refl
   external_type (s.guarded k n) none right = refl
   external_type (s.plain n) none right =
       let x = written file p described (s.plain n) n none in
       let copied = plain_copied x.stood.decl n x.owned x.bare in
       absurd (true≢false (sym (ap (λ o. is_wrong_parameter (s.plain n) (sort_in o)) x.stood.shaped ∙ (variant_is x.stood.decl ∙ copied.0)) ∙ right))
-  external_type (s.tracked ss n at) none right =
-      let x = written file p described (s.tracked ss n at) n (no_left _ _ none) in
-      let plain : is_variant (core_sort x.stood.decl) ≡ false = sym (ap (λ o. is_wrong_parameter (s.tracked ss n at) (sort_in o)) x.stood.shaped) ∙ right in
+  external_type (s.owning ss n at) none right =
+      let x = written file p described (s.owning ss n at) n (no_left _ _ none) in
+      let plain : is_variant (core_sort x.stood.decl) ≡ false = sym (ap (λ o. is_wrong_parameter (s.owning ss n at) (sort_in o)) x.stood.shaped) ∙ right in
       rw (ap (λ o. is_variant_in (sort_in o)) x.stood.shaped ∙ plain) refl
 
   external_parameters : (qs : List Parameter) → of_each (parameter_refused file) qs ≡ [] → of_each (host_parameter_refused file) qs ≡ []
@@ -178,9 +178,9 @@ module _ (file : File) (p : Program) (described : Describes file p) (headers : H
   own_tracked : (j : List ℕ) (t : s.Ty) → SomeOf (λ u. (j ≡ u.key) × (u.tracked ≡ true)) (ty_uses file t) → has (map (λ x. x.key) (own_typings (core_ty file number t))) (number j) ≡ true
   own_tracked j (s.int at) some = absurd some
   own_tracked j (s.bool at) some = absurd some
-  own_tracked j (s.keyed k n at) some =
+  own_tracked j (s.tracked k n at) some =
       ⊎_elim (λ a. or_left _ _ (eq-eqb (number k.text) (number j) (ap number (sym a.0)))) (λ b. from_each _ _ (λ u x free. absurd (true≢false (sym x.1 ∙ free))) (named_uses file n) b (named_free file n)) some
-  own_tracked j (s.tracked ss n at) some = from_each _ _ (λ u x free. absurd (true≢false (sym x.1 ∙ free))) (named_uses file n) some (named_free file n)
+  own_tracked j (s.owning ss n at) some = from_each _ _ (λ u x free. absurd (true≢false (sym x.1 ∙ free))) (named_uses file n) some (named_free file n)
   own_tracked j (s.guarded k n) some = ⊎_elim (λ a. absurd (true≢false (sym a.1))) (λ b. from_each _ _ (λ u x free. absurd (true≢false (sym x.1 ∙ free))) (named_uses file n) b (named_free file n)) some
   own_tracked j (s.plain n) some = from_each _ _ (λ u x free. absurd (true≢false (sym x.1 ∙ free))) (named_uses file n) some (named_free file n)
 
@@ -245,22 +245,22 @@ module _ (file : File) (p : Program) (described : Describes file p) (headers : H
   result_right (s.int at) none right args = refl
   result_right (s.bool at) none right args = refl
   result_right (s.guarded k n) none right args = absurd (true≢false right)
-  result_right (s.keyed k n at) none right args =
-      let x = written file p described (s.keyed k n at) n none in
+  result_right (s.tracked k n at) none right args =
+      let x = written file p described (s.tracked k n at) n none in
       let both = or_parts _ _ right in
       holds _ rule.EXTERN_HEAD (and_from _ _
       (ap is_abstract (ap (decl_of p) (number_is file p described n.name x.stood) ∙ x.stood.there) ∙ abstract_is x.stood.decl (sym (ap (λ o. is_no_abstract (sort_in o)) x.stood.shaped) ∙ both.1))
       (fresh_has file p described headers h pass external f func k.text (not-false _ both.0)))
   result_right (s.plain n) none right args = cases_right (s.plain n) n (written file p described (s.plain n) n none) right args
-  result_right (s.tracked ss n at) none right args =
-      by (written file p described (s.tracked ss n at) n (no_left _ _ none)) (or_parts _ _ right)
+  result_right (s.owning ss n at) none right args =
+      by (written file p described (s.owning ss n at) n (no_left _ _ none)) (or_parts _ _ right)
     where
-      by : (x : IsWritten file p (s.tracked ss n at) n) → (e.is_struct (sort_in (shape_named file n.name)) ≡ false) × (is_wrong_variant file p.types n ≡ false) → external_result_broken p f (core_ty file number (s.tracked ss n at)) ≡ []
+      by : (x : IsWritten file p (s.owning ss n at) n) → (e.is_struct (sort_in (shape_named file n.name)) ≡ false) × (is_wrong_variant file p.types n ≡ false) → external_result_broken p f (core_ty file number (s.owning ss n at)) ≡ []
       by x both = sorted (states_listed (state_names file (shape_named file n.name)) ss) (is_variant_in (sort_in (shape_named file n.name))) (ap (λ o. is_variant_in (sort_in o)) x.stood.shaped ∙ variant_is x.stood.decl)
         where
           sorted : (states : core.States) (b : Bool) → b ≡ c.is_variant (Some x.stood.decl)
               → external_result_broken p f (if b then core.owning_variant (type_number file n.name) (key_numbers number n.keys) else core.owning states (type_number file n.name) (key_numbers number n.keys)) ≡ []
-          sorted states true is = cases_right (s.tracked ss n at) n x both.1 args
+          sorted states true is = cases_right (s.owning ss n at) n x both.1 args
           sorted states false is = holds _ rule.EXTERN_HEAD
               (ap is_abstract (ap (decl_of p) (number_is file p described n.name x.stood) ∙ x.stood.there) ∙ neither_is x.stood.decl (sym (ap (λ o. e.is_struct (sort_in o)) x.stood.shaped) ∙ both.0) (sym is))
 
@@ -273,9 +273,9 @@ module _ (file : File) (p : Program) (described : Describes file p) (headers : H
       (ap (flat_map (λ ty. unless (is_external_parameter ty) rule.EXTERN_HEAD)) (parameters_are file p described headers h pass external f func) ∙ external_parameters h.parameters pass.types (no_left _ _ none))
       (ap (flat_map (λ x. unless (is_new x || has (tracked_keys f) x.key) rule.EXTERN_HEAD)) func.clause
       ∙ each_mapped (core_entry file keys) (λ x. unless (is_new x || has (tracked_keys f) x.key) rule.EXTERN_HEAD) (entries file h)
-      (each_other _ _ external_entry (entries file h) (none_in_each (host_entry_refused keys) (entries file h) (no_right (host_result_refused file p.types keys h.outcome) _ rest)))))
-      (ap (λ o. when_some o (λ ty. if is_declared_result p ty then external_result_broken p f ty else [])) func.result ∙ by h.outcome refl (no_left _ _ rest))
+      (each_other _ _ external_entry (entries file h) (none_in_each (host_entry_refused keys) (entries file h) (no_right (host_result_refused file p.types keys h.result_type) _ rest)))))
+      (ap (λ o. when_some o (λ ty. if is_declared_result p ty then external_result_broken p f ty else [])) func.result ∙ by h.result_type refl (no_left _ _ rest))
     where
-      by : (out : Outcome) → h.outcome ≡ out → host_result_refused file p.types keys out ≡ [] → when_some (core_result file keys out) (λ ty. if is_declared_result p ty then external_result_broken p f ty else []) ≡ []
+      by : (out : ResultType) → h.result_type ≡ out → host_result_refused file p.types keys out ≡ [] → when_some (core_result file keys out) (λ ty. if is_declared_result p ty then external_result_broken p f ty else []) ≡ []
       by (s.void at) is none = refl
-      by (s.value t) is none = if_only _ _ (result_right t (sym (ap (outcome_refused file) is) ∙ pass.outcome) (not_broken _ rule.EXTERN_HEAD (ty_place t) (no_left _ _ none)) (no_right (refuse_if (is_wrong_result file p.types keys t) rule.EXTERN_HEAD (ty_place t)) _ none))
+      by (s.value t) is none = if_only _ _ (result_right t (sym (ap (result_type_refused file) is) ∙ pass.result_type) (not_broken _ rule.EXTERN_HEAD (ty_place t) (no_left _ _ none)) (no_right (refuse_if (is_wrong_result file p.types keys t) rule.EXTERN_HEAD (ty_place t)) _ none))

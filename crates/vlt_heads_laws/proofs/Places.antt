@@ -4,7 +4,7 @@ use Rattle.std.proofs.lemmas.Bool.{or_cases, eqb-true, not-false}
 use Rattle.std.proofs.lemmas.List.{length-map}
 use Rattle.std.proofs.lemmas.Option.{same_Some}
 use Rattle.vlt_syntax.specs.Tree as s
-use Rattle.vlt_syntax.specs.Tree.{Name, Named, Entry, Head, Parameter, Outcome}
+use Rattle.vlt_syntax.specs.Tree.{Name, Named, Entry, Head, Parameter, ResultType}
 use Rattle.vlt_syntax.specs.Lists.{Each}
 use Rattle.vlt_core.specs.Core.{Header, Program}
 use Rattle.vlt_core.specs.Types.{decl_of, header_in}
@@ -16,7 +16,7 @@ use Rattle.vlt_kinds_types.specs.Files.{File}
 use Rattle.vlt_kinds_types.specs.Types.{KeyUse, argument_uses, named_uses, ty_uses, ty_refused, owned_refused}
 use Rattle.vlt_kinds_heads.specs.Places.{result_uses, parameter_uses, clause_in, entry_key, is_fresh, head_names}
 use Rattle.vlt_kinds_heads.specs.Keys.{Keys, facts_of, is_unknown, places_behind, keys_behind, keys_of}
-use Rattle.vlt_kinds_heads.specs.Heads.{outcome_refused, parameter_refused, names_refused, is_bound, type_rule, result_place, result_clash_with, result_clash, result_key_refused, entry_key_refused, entry_refused, main_refused, types_refused, clause_again, typings_refused, result_refused, head_refused_by, head_refused}
+use Rattle.vlt_kinds_heads.specs.Heads.{result_type_refused, parameter_refused, names_refused, is_bound, type_rule, result_place, result_clash_with, result_clash, result_key_refused, entry_key_refused, entry_refused, main_refused, types_refused, clause_again, typings_refused, result_refused, head_refused_by, head_refused}
 use Rattle.vlt_kinds_heads.specs.declared.facts.Facts.{Facts}
 use Rattle.vlt_kinds_heads.specs.declared.facts.Typing.{Typing}
 use Rattle.vlt_kinds_laws.specs.Shapes.{header_wanted, Describes, HasType, HasHeaders}
@@ -57,14 +57,14 @@ module _ (file : File) (p : Program) (described : Describes file p) (headers : H
   unfolding owned_refused
   uses_want (s.int at) none = tt
   uses_want (s.bool at) none = tt
-  uses_want (s.keyed k n at) none =
-      let x = written file p described (s.keyed k n at) n none in
-      (rw x.stood.named (ap is_some x.stood.there), named_want (s.keyed k n at) n x)
-  uses_want (s.tracked ss n at) none = named_want (s.tracked ss n at) n (written file p described (s.tracked ss n at) n (no_left _ _ none))
+  uses_want (s.tracked k n at) none =
+      let x = written file p described (s.tracked k n at) n none in
+      (rw x.stood.named (ap is_some x.stood.there), named_want (s.tracked k n at) n x)
+  uses_want (s.owning ss n at) none = named_want (s.owning ss n at) n (written file p described (s.owning ss n at) n (no_left _ _ none))
   uses_want (s.guarded k n) none = (tt, named_want (s.guarded k n) n (written file p described (s.guarded k n) n none))
   uses_want (s.plain n) none = named_want (s.plain n) n (written file p described (s.plain n) n none)
 
-  pub result_wants : (out : Outcome) → outcome_refused file out ≡ [] → Each (λ u. WantsDeclared p u.wanted) (result_uses file out)
+  pub result_wants : (out : ResultType) → result_type_refused file out ≡ [] → Each (λ u. WantsDeclared p u.wanted) (result_uses file out)
   result_wants (s.void at) none = tt
   result_wants (s.value t) none = uses_want t none
 
@@ -77,7 +77,7 @@ module _ (file : File) (p : Program) (described : Describes file p) (headers : H
 
 module _ (file : File) (h : Head) where
   abbrev pub results : List KeyUse
-  results = result_uses file h.outcome
+  results = result_uses file h.result_type
 
   abbrev pub parameters : List KeyUse
   parameters = parameter_uses file h.parameters
@@ -92,7 +92,7 @@ module _ (file : File) (h : Head) where
   table_is = keys_are results parameters entries
 
   pub record IsPassed : Type 0 where
-    pub outcome : outcome_refused file h.outcome ≡ []
+    pub result_type : result_type_refused file h.result_type ≡ []
     pub types : of_each (parameter_refused file) h.parameters ≡ []
     pub apart : AreApart entries
     pub wanted : Each (λ u. IsAsWanted table u.key u.wanted) parameters
@@ -112,8 +112,8 @@ module _ (file : File) (h : Head) where
       let typings = no_left (typings_refused (places_behind results parameters entries) results parameters) _ behind_clause in
       let result = no_left (result_refused (keys_behind results parameters entries) results) _ behind_typings in
       record {
-        outcome = no_left _ _ (no_left (types_refused file h) _ none);
-        types = no_right (outcome_refused file h.outcome) _ (no_left (types_refused file h) _ none);
+        result_type = no_left _ _ (no_left (types_refused file h) _ none);
+        types = no_right (result_type_refused file h.result_type) _ (no_left (types_refused file h) _ none);
         apart = apart _ entries (no_left (clause_again results parameters entries) _ behind_names);
         wanted = unclashed _ parameters (sym (ap (λ keys. typings_refused keys results parameters) (places_are results parameters entries)) ∙ typings);
         clashes = rw table_is at (none_in_each (result_clash (keys_of file h)) results (no_left _ _ result));

@@ -43,10 +43,10 @@ module _ (file : File) (p : Program) (described : Describes file p) where
   unfolding owned_ty
   type_filled number (s.int at) states e = none_filled states e
   type_filled number (s.bool at) states e = none_filled states e
-  type_filled number (s.keyed k n at) states e = none_filled states e
+  type_filled number (s.tracked k n at) states e = none_filled states e
   type_filled number (s.guarded k n) states e = none_filled states e
   type_filled number (s.plain n) states e = none_filled states e
-  type_filled number (s.tracked ss n at) states e = by (is_variant_in (sort_in (shape_named file n.name))) e
+  type_filled number (s.owning ss n at) states e = by (is_variant_in (sort_in (shape_named file n.name))) e
     where
       by : (b : Bool) → owning_states_in (Some (if b then core.owning_variant (type_number file n.name) (key_numbers number n.keys) else core.owning (states_listed (state_names file (shape_named file n.name)) ss) (type_number file n.name) (key_numbers number n.keys))) ≡ Some states
           → IsFilled states

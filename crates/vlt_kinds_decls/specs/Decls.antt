@@ -3,7 +3,7 @@ use Rattle.std.specs.Prelude.{ℕ, Bool, true, false, not, ◌&&◌, ◌||◌, �
 use Rattle.std.specs.List.{position}
 use Rattle.std.specs.Str.{bytes_eq}
 use Rattle.vlt_syntax.specs.Tree as s
-use Rattle.vlt_syntax.specs.Tree.{Name, States, KeyStates, Ty, HeaderParam, Field, Case, Decl}
+use Rattle.vlt_syntax.specs.Tree.{Name, States, KeyStates, Ty, HeaderKey, Field, Case, Decl}
 use Rattle.vlt_kinds_names.specs.declared.found.Refusal.{Refusal}
 use Rattle.vlt_core.specs.declared.rules.TheConstants as rule
 use Rattle.vlt_kinds_names.specs.Refusals.{refusal, refuse_if, of_each}
@@ -28,13 +28,13 @@ abbrev pub key_type_refused : File → Option Name → List Refusal
 key_type_refused file None = []
 key_type_refused file (Some n) = object_refused (sort_in (shape_named file n)) n
 
-unfoldable pub header_refused : File → HeaderParam → List Refusal
+unfoldable pub header_refused : File → HeaderKey → List Refusal
 header_refused file p = key_type_refused file p.key_type
 
 -- ---- 9, 18: the keys in a field's or a payload's type
 
 -- what the header says of the object of this key, where it has the key
-abbrev pub wanted_of : Globals → List HeaderParam → List ℕ → Option Wanted
+abbrev pub wanted_of : Globals → List HeaderKey → List ℕ → Option Wanted
 wanted_of known [] k = None
 wanted_of known (p ∷ ps) k = if bytes_eq k p.key.text then Some (wanted_in known p.key_type) else wanted_of known ps k
 
@@ -48,20 +48,20 @@ abbrev pub key_refused : Option Wanted → KeyUse → List Refusal
 key_refused None u = refusal rule.KEY_NOT_IN_HEADER u.at ∷ []
 key_refused (Some has) u = refuse_if (not u.tracked && disagrees has u.wanted) rule.KEY_ARGUMENT u.at
 
-unfoldable pub use_refused : Globals → List HeaderParam → KeyUse → List Refusal
+unfoldable pub use_refused : Globals → List HeaderKey → KeyUse → List Refusal
 use_refused known ps u = key_refused (wanted_of known ps u.key) u
 
 -- ---- 14, 15: types that no field, or no payload, has
 
 abbrev pub is_wrong_field : Ty → Option Sort → Bool
-is_wrong_field (s.keyed k n at) kind = true
-is_wrong_field (s.tracked ss n at) (Some sort.KeyedVariant) = true
+is_wrong_field (s.tracked k n at) kind = true
+is_wrong_field (s.owning ss n at) (Some sort.KeyedVariant) = true
 is_wrong_field (s.plain n) (Some sort.KeyedVariant) = true
 is_wrong_field _ _ = false
 
 abbrev pub is_wrong_payload : Ty → Option Sort → Bool
-is_wrong_payload (s.keyed k n at) kind = true
-is_wrong_payload (s.tracked ss n at) (Some kind) = is_variant kind
+is_wrong_payload (s.tracked k n at) kind = true
+is_wrong_payload (s.owning ss n at) (Some kind) = is_variant kind
 is_wrong_payload (s.plain n) (Some kind) = true
 is_wrong_payload _ _ = false
 
@@ -70,17 +70,17 @@ part_refused part.Field t kind = refuse_if (is_wrong_field t kind) rule.FIELD_TY
 part_refused part.Payload t kind = refuse_if (is_wrong_payload t kind) rule.PAYLOAD_TYPE (ty_place t)
 
 -- a type in a declaration with this header
-unfoldable pub typed_refused : File → List HeaderParam → Part → Ty → List Refusal
+unfoldable pub typed_refused : File → List HeaderKey → Part → Ty → List Refusal
 typed_refused file ps p t =
     ty_refused file t
     ++ (part_refused p t (sort_in (shape_in file t)) ++ of_each (use_refused file.globals ps) (ty_uses file t))
 
 -- ---- structs, with the names of their states
 
-unfoldable pub field_refused : File → List HeaderParam → Option (List (List ℕ)) → Field → List Refusal
+unfoldable pub field_refused : File → List HeaderKey → Option (List (List ℕ)) → Field → List Refusal
 field_refused file ps known f = typed_refused file ps part.Field f.ty ++ states_refused known f.states
 
-unfoldable pub struct_refused : File → Name → List HeaderParam → List Field → Option States → List Refusal
+unfoldable pub struct_refused : File → Name → List HeaderKey → List Field → Option States → List Refusal
 struct_refused file n ps fs r =
     of_each (header_refused file) ps
     ++ (of_each (field_refused file ps (state_names file (shape_named file n))) fs
@@ -88,7 +88,7 @@ struct_refused file n ps fs r =
 
 -- ---- 16: the keys that a case lists, and their states
 
-abbrev pub header_position : List HeaderParam → List ℕ → Option ℕ
+abbrev pub header_position : List HeaderKey → List ℕ → Option ℕ
 header_position ps k = position (λ p. bytes_eq k p.key.text) ps
 
 -- A key must be one of the header, with a type there, and not be listed before.
@@ -100,29 +100,29 @@ abbrev pub object_states_refused : File → Option Wanted → Option States → 
 object_states_refused file (Some (wanted.OfType t)) ss = owned_states_refused file (shape_at file t) ss
 object_states_refused file _ ss = []
 
-unfoldable pub case_key_refused : File → List HeaderParam → (is_wrong : Bool) → KeyStates → List Refusal
+unfoldable pub case_key_refused : File → List HeaderKey → (is_wrong : Bool) → KeyStates → List Refusal
 case_key_refused file ps is_wrong k =
     if is_wrong || is_any (wanted_of file.globals ps k.key.text) then refusal rule.CASE_KEY k.key.at.from ∷ []
     else object_states_refused file (wanted_of file.globals ps k.key.text) k.states
 
 -- the positions of the keys that are listed, once the next one is read
-abbrev pub with_key : List HeaderParam → (seen : List ℕ) → KeyStates → List ℕ
+abbrev pub with_key : List HeaderKey → (seen : List ℕ) → KeyStates → List ℕ
 with_key ps seen k = with_listed seen (header_position ps k.key.text)
 
-unfoldable pub next_key_refused : File → List HeaderParam → (seen : List ℕ) → KeyStates → List Refusal
+unfoldable pub next_key_refused : File → List HeaderKey → (seen : List ℕ) → KeyStates → List Refusal
 next_key_refused file ps seen k =
     case_key_refused file ps (is_unknown_or_listed seen (header_position ps k.key.text)) k
 
-abbrev pub case_keys_refused : File → List HeaderParam → List KeyStates → List Refusal
+abbrev pub case_keys_refused : File → List HeaderKey → List KeyStates → List Refusal
 case_keys_refused file ps = along (with_key ps) (next_key_refused file ps) []
 
 -- ---- variants, and the whole phase
 
-unfoldable pub case_refused : File → List HeaderParam → Case → List Refusal
+unfoldable pub case_refused : File → List HeaderKey → Case → List Refusal
 case_refused file ps c =
     of_each (typed_refused file ps part.Payload) c.payload ++ case_keys_refused file ps c.keys
 
-unfoldable pub variant_refused : File → List HeaderParam → List Case → List Refusal
+unfoldable pub variant_refused : File → List HeaderKey → List Case → List Refusal
 variant_refused file ps cs = of_each (header_refused file) ps ++ of_each (case_refused file ps) cs
 
 abbrev pub type_refused : File → Decl → List Refusal

@@ -1,7 +1,7 @@
 -- What a declared type becomes that isn't refused.
 use Rattle.std.specs.Prelude.{ℕ, List, [], ◌∷◌, map, drop, Option, Some, None, unwrap_or}
 use Rattle.vlt_syntax.specs.Tree as s
-use Rattle.vlt_syntax.specs.Tree.{Name, States, KeyStates, HeaderParam, Field, Case, Decl}
+use Rattle.vlt_syntax.specs.Tree.{Name, States, KeyStates, HeaderKey, Field, Case, Decl}
 use Rattle.vlt_core.specs.Core as core
 use Rattle.vlt_kinds_names.specs.Refusals.{of_each}
 use Rattle.vlt_kinds_names.specs.Globals.{Globals}
@@ -15,21 +15,21 @@ abbrev pub type_wanted : Wanted → Option ℕ
 type_wanted (wanted.OfType t) = Some t
 type_wanted _ = None
 
-abbrev pub core_header : Globals → List HeaderParam → core.Header
+abbrev pub core_header : Globals → List HeaderKey → core.Header
 core_header known ps = map type_wanted (header_in known ps)
 
 -- a key goes by its position in the header
-abbrev pub header_number : List HeaderParam → List ℕ → ℕ
+abbrev pub header_number : List HeaderKey → List ℕ → ℕ
 header_number ps k = unwrap_or (header_position ps k) 0
 
-unfoldable pub core_field : File → List HeaderParam → Option (List (List ℕ)) → Field → core.FieldDecl
+unfoldable pub core_field : File → List HeaderKey → Option (List (List ℕ)) → Field → core.FieldDecl
 core_field file ps known f = record {
   name = f.name.text;
   ty = core_ty file (header_number ps) f.ty;
   states = states_listed known f.states;
 }
 
-unfoldable pub core_struct : File → Name → List HeaderParam → Option Name → List Field → Option States → core.StructDecl
+unfoldable pub core_struct : File → Name → List HeaderKey → Option Name → List Field → Option States → core.StructDecl
 core_struct file n ps ss fs r = record {
   name = n.text;
   header = core_header file.globals ps;
@@ -43,21 +43,21 @@ abbrev pub object_states : File → Option Wanted → Option (List (List ℕ))
 object_states file (Some (wanted.OfType t)) = state_names file (shape_at file t)
 object_states file _ = None
 
-unfoldable pub core_case_key : File → List HeaderParam → KeyStates → core.CaseKey
+unfoldable pub core_case_key : File → List HeaderKey → KeyStates → core.CaseKey
 core_case_key file ps k = record {
   position = header_number ps k.key.text;
   states = states_listed (object_states file (wanted_of file.globals ps k.key.text)) k.states;
 }
 
 -- a case's name has no tick here
-unfoldable pub core_case : File → List HeaderParam → Case → core.CaseDecl
+unfoldable pub core_case : File → List HeaderKey → Case → core.CaseDecl
 core_case file ps c = record {
   name = drop 1 c.name.text;
   payload = map (core_ty file (header_number ps)) c.payload;
   keys = map (core_case_key file ps) c.keys;
 }
 
-unfoldable pub core_variant : File → Name → List HeaderParam → List Case → core.VariantDecl
+unfoldable pub core_variant : File → Name → List HeaderKey → List Case → core.VariantDecl
 core_variant file n ps cs = record {
   name = n.text;
   header = core_header file.globals ps;

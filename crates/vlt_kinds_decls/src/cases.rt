@@ -15,7 +15,7 @@ use std::alloc::{AllocError, Global as Heap};
 use vlt_base::Items;
 use vlt_kinds_names::{Found, rules};
 use vlt_kinds_types::{File, Wanted, add_listed};
-use vlt_syntax::{Case, HeaderParam, KeyStates, States, Ty};
+use vlt_syntax::{Case, HeaderKey, KeyStates, States, Ty};
 
 fn is_any(wanted: Option<Wanted>) -> bool
     ensures { result ≡ d.is_any wanted }
@@ -49,13 +49,13 @@ fn check_object_states(
 fn check_case_key(
     alloc: Heap,
     file: &File<'_>,
-    params: &[HeaderParam],
+    params: &[HeaderKey],
     is_wrong: bool,
     key: &KeyStates,
     found: &mut Found,
 ) -> Result<(), AllocError>
     ensures { OnOk result (found.new.least ≡ least_from found.old.least
-        (d.case_key_refused (file_seen file.now) (map view.header_param_of params.now) is_wrong
+        (d.case_key_refused (file_seen file.now) (map view.header_key_of params.now) is_wrong
         (view.key_states_of key.now))) }
 {
     let wanted = wanted_of(&file.globals, params, key.key.text.as_slice());
@@ -70,7 +70,7 @@ fn check_case_key(
 fn check_next_key(
     alloc: Heap,
     file: &File<'_>,
-    params: &[HeaderParam],
+    params: &[HeaderKey],
     seen: &mut Items<u8>,
     key: &KeyStates,
     found: &mut Found,
@@ -78,11 +78,11 @@ fn check_next_key(
     requires few { length params.now ≤ 32 }
     requires seen { All (λ i. i < 32) seen.old }
     ensures seen { OnOk result (seen.new
-        ≡ d.with_key (map view.header_param_of params.now) seen.old (view.key_states_of key.now)) }
+        ≡ d.with_key (map view.header_key_of params.now) seen.old (view.key_states_of key.now)) }
     ensures small { OnOk result (All (λ i. i < 32) seen.new) }
     ensures refused { OnOk result (found.new.least
         ≡ least_from found.old.least (d.next_key_refused (file_seen file.now)
-        (map view.header_param_of params.now) seen.old (view.key_states_of key.now))) }
+        (map view.header_key_of params.now) seen.old (view.key_states_of key.now))) }
 {
     let is_wrong = add_listed(seen, header_position(params, key.key.text.as_slice()))?;
     check_case_key(alloc, file, params, is_wrong, key, found)?;
@@ -92,14 +92,14 @@ fn check_next_key(
 fn check_case_keys(
     alloc: Heap,
     file: &File<'_>,
-    params: &[HeaderParam],
+    params: &[HeaderKey],
     keys: &[KeyStates],
     found: &mut Found,
 ) -> Result<(), AllocError>
     requires { length params.now ≤ 32 }
     ensures { OnOk result (found.new.least ≡ found_along
-        (d.with_key (map view.header_param_of params.now))
-        (d.next_key_refused (file_seen file.now) (map view.header_param_of params.now)) []
+        (d.with_key (map view.header_key_of params.now))
+        (d.next_key_refused (file_seen file.now) (map view.header_key_of params.now)) []
         (map view.key_states_of keys.now) found.old.least) }
 {
     let mut seen = Items::new(alloc);
@@ -112,12 +112,12 @@ fn check_case_keys(
 fn check_payload(
     alloc: Heap,
     file: &File<'_>,
-    params: &[HeaderParam],
+    params: &[HeaderKey],
     payload: &[Ty],
     found: &mut Found,
 ) -> Result<(), AllocError>
     ensures { OnOk result (found.new.least ≡ found_each (d.typed_refused (file_seen file.now)
-        (map view.header_param_of params.now) part.Payload) (map view.ty_of payload.now) found.old.least) }
+        (map view.header_key_of params.now) part.Payload) (map view.ty_of payload.now) found.old.least) }
 {
     for ty in payload {
         check_typed(alloc, file, params, Part::Payload, ty, found)?;
@@ -129,13 +129,13 @@ fn check_payload(
 fn check_case(
     alloc: Heap,
     file: &File<'_>,
-    params: &[HeaderParam],
+    params: &[HeaderKey],
     case: &Case,
     found: &mut Found,
 ) -> Result<(), AllocError>
     requires { length params.now ≤ 32 }
     ensures { OnOk result (found.new.least ≡ least_from found.old.least
-        (d.case_refused (file_seen file.now) (map view.header_param_of params.now)
+        (d.case_refused (file_seen file.now) (map view.header_key_of params.now)
         (view.case_of case.now))) }
 {
     check_payload(alloc, file, params, case.payload.as_slice(), found)?;
@@ -146,13 +146,13 @@ fn check_case(
 fn check_cases(
     alloc: Heap,
     file: &File<'_>,
-    params: &[HeaderParam],
+    params: &[HeaderKey],
     cases: &[Case],
     found: &mut Found,
 ) -> Result<(), AllocError>
     requires { length params.now ≤ 32 }
     ensures { OnOk result (found.new.least ≡ found_each (d.case_refused (file_seen file.now)
-        (map view.header_param_of params.now)) (map view.case_of cases.now) found.old.least) }
+        (map view.header_key_of params.now)) (map view.case_of cases.now) found.old.least) }
 {
     for case in cases {
         check_case(alloc, file, params, case, found)?;
@@ -165,13 +165,13 @@ fn check_cases(
 pub fn check_variant(
     alloc: Heap,
     file: &File<'_>,
-    params: &[HeaderParam],
+    params: &[HeaderKey],
     cases: &[Case],
     found: &mut Found,
 ) -> Result<(), AllocError>
     requires { length params.now ≤ 32 }
     ensures { OnOk result (found.new.least ≡ least_from found.old.least
-        (d.variant_refused (file_seen file.now) (map view.header_param_of params.now)
+        (d.variant_refused (file_seen file.now) (map view.header_key_of params.now)
         (map view.case_of cases.now))) }
 {
     check_header(file, params, found);

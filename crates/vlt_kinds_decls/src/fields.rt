@@ -11,19 +11,19 @@ use crate::parts::Part;
 use std::alloc::{AllocError, Global as Heap};
 use vlt_kinds_names::Found;
 use vlt_kinds_types::{File, StateNames, check_states};
-use vlt_syntax::{Field, HeaderParam, Name, States};
+use vlt_syntax::{Field, HeaderKey, Name, States};
 
 #[tactic(auto, using(vlt_kinds_names::proofs::Least::least_of_both), unfolding(crate::specs::Decls::field_refused))]
 fn check_field(
     alloc: Heap,
     file: &File<'_>,
-    params: &[HeaderParam],
+    params: &[HeaderKey],
     known: &StateNames<'_>,
     field: &Field,
     found: &mut Found,
 ) -> Result<(), AllocError>
     ensures { OnOk result (found.new.least ≡ least_from found.old.least
-        (d.field_refused (file_seen file.now) (map view.header_param_of params.now)
+        (d.field_refused (file_seen file.now) (map view.header_key_of params.now)
         (states_seen known.now) (view.field_of field.now))) }
 {
     check_typed(alloc, file, params, Part::Field, &field.ty, found)?;
@@ -34,13 +34,13 @@ fn check_field(
 fn check_fields(
     alloc: Heap,
     file: &File<'_>,
-    params: &[HeaderParam],
+    params: &[HeaderKey],
     known: &StateNames<'_>,
     fields: &[Field],
     found: &mut Found,
 ) -> Result<(), AllocError>
     ensures { OnOk result (found.new.least ≡ found_each (d.field_refused (file_seen file.now)
-        (map view.header_param_of params.now) (states_seen known.now)) (map view.field_of fields.now) found.old.least) }
+        (map view.header_key_of params.now) (states_seen known.now)) (map view.field_of fields.now) found.old.least) }
 {
     for field in fields {
         check_field(alloc, file, params, known, field, found)?;
@@ -54,14 +54,14 @@ pub fn check_struct(
     alloc: Heap,
     file: &File<'_>,
     name: &Name,
-    params: &[HeaderParam],
+    params: &[HeaderKey],
     fields: &[Field],
     release: &Option<States>,
     found: &mut Found,
 ) -> Result<(), AllocError>
     ensures { OnOk result (found.new.least ≡ least_from found.old.least
         (d.struct_refused (file_seen file.now) (view.name_of name.now)
-        (map view.header_param_of params.now) (map view.field_of fields.now)
+        (map view.header_key_of params.now) (map view.field_of fields.now)
         (option_map view.states_of release.now))) }
 {
     check_header(file, params, found);

@@ -14,12 +14,12 @@ use std::alloc::{AllocError, Global as Heap};
 use vlt_base::Items;
 use vlt_kinds_names::{Found, Globals, rules};
 use vlt_kinds_types::{File, KeyUse, Sort, Wanted, sort_in, ty_place, wanted_in};
-use vlt_syntax::{HeaderParam, Name, Ty};
+use vlt_syntax::{HeaderKey, Name, Ty};
 
 /// The position of a key in a header.
-pub fn header_position(params: &[HeaderParam], key: &[u8]) -> Option<u8>
+pub fn header_position(params: &[HeaderKey], key: &[u8]) -> Option<u8>
     requires { length params.now ≤ 32 }
-    ensures position { result ≡ d.header_position (map view.header_param_of params.now) key.now }
+    ensures position { result ≡ d.header_position (map view.header_key_of params.now) key.now }
     ensures small { IfSome result (λ i. i < 32) }
 {
     for (i, param) in params.iter().enumerate() {
@@ -31,9 +31,9 @@ pub fn header_position(params: &[HeaderParam], key: &[u8]) -> Option<u8>
 }
 
 /// What a header says of the object of a key.
-pub fn wanted_of(known: &Globals<'_>, params: &[HeaderParam], key: &[u8]) -> Option<Wanted>
+pub fn wanted_of(known: &Globals<'_>, params: &[HeaderKey], key: &[u8]) -> Option<Wanted>
     ensures { result ≡ d.wanted_of (names_seen known.now)
-        (map view.header_param_of params.now) key.now }
+        (map view.header_key_of params.now) key.now }
 {
     for param in params {
         if key == param.key.text.as_slice() {
@@ -57,17 +57,17 @@ fn check_key_type(file: &File<'_>, key_type: &Option<Name>, found: &mut Found)
 }
 
 #[tactic(auto, unfolding(crate::specs::Decls::header_refused))]
-fn check_header_key(file: &File<'_>, param: &HeaderParam, found: &mut Found)
+fn check_header_key(file: &File<'_>, param: &HeaderKey, found: &mut Found)
     ensures { found.new.least ≡ least_from found.old.least
-        (d.header_refused (file_seen file.now) (view.header_param_of param.now)) }
+        (d.header_refused (file_seen file.now) (view.header_key_of param.now)) }
 {
     check_key_type(file, &param.key_type, found)
 }
 
 /// Refuses what is no type of an object in a header.
-pub fn check_header(file: &File<'_>, params: &[HeaderParam], found: &mut Found)
+pub fn check_header(file: &File<'_>, params: &[HeaderKey], found: &mut Found)
     ensures { found.new.least
-        ≡ found_each (d.header_refused (file_seen file.now)) (map view.header_param_of params.now) found.old.least }
+        ≡ found_each (d.header_refused (file_seen file.now)) (map view.header_key_of params.now) found.old.least }
 {
     for param in params {
         check_header_key(file, param, found);
@@ -85,9 +85,9 @@ fn disagrees(has: Wanted, wants: Wanted) -> bool
 }
 
 #[tactic(auto, unfolding(crate::specs::Decls::use_refused))]
-fn check_use(file: &File<'_>, params: &[HeaderParam], place: &KeyUse<'_>, found: &mut Found)
+fn check_use(file: &File<'_>, params: &[HeaderKey], place: &KeyUse<'_>, found: &mut Found)
     ensures { found.new.least ≡ least_from found.old.least
-        (d.use_refused (names_seen file.now.globals) (map view.header_param_of params.now)
+        (d.use_refused (names_seen file.now.globals) (map view.header_key_of params.now)
         (use_seen place.now)) }
 {
     match wanted_of(&file.globals, params, place.key) {
@@ -99,9 +99,9 @@ fn check_use(file: &File<'_>, params: &[HeaderParam], place: &KeyUse<'_>, found:
     }
 }
 
-fn check_uses(file: &File<'_>, params: &[HeaderParam], uses: &[KeyUse<'_>], found: &mut Found)
+fn check_uses(file: &File<'_>, params: &[HeaderKey], uses: &[KeyUse<'_>], found: &mut Found)
     ensures { found.new.least ≡ found_each (d.use_refused (names_seen file.now.globals)
-        (map view.header_param_of params.now)) (map use_seen uses.now) found.old.least }
+        (map view.header_key_of params.now)) (map use_seen uses.now) found.old.least }
 {
     for place in uses {
         check_use(file, params, place, found);
@@ -112,8 +112,8 @@ fn is_wrong_field(ty: &Ty, sort: Option<Sort>) -> bool
     ensures { result ≡ d.is_wrong_field (view.ty_of ty.now) sort }
 {
     match (ty, sort) {
-        (Ty::Keyed { .. }, _) => true,
-        (Ty::Tracked { .. }, Some(Sort::KeyedVariant)) => true,
+        (Ty::Tracked { .. }, _) => true,
+        (Ty::Owning { .. }, Some(Sort::KeyedVariant)) => true,
         (Ty::Plain(_), Some(Sort::KeyedVariant)) => true,
         _ => false,
     }
@@ -123,8 +123,8 @@ fn is_wrong_payload(ty: &Ty, sort: Option<Sort>) -> bool
     ensures { result ≡ d.is_wrong_payload (view.ty_of ty.now) sort }
 {
     match (ty, sort) {
-        (Ty::Keyed { .. }, _) => true,
-        (Ty::Tracked { .. }, Some(sort)) => sort.is_variant(),
+        (Ty::Tracked { .. }, _) => true,
+        (Ty::Owning { .. }, Some(sort)) => sort.is_variant(),
         (Ty::Plain(_), Some(_)) => true,
         _ => false,
     }
@@ -149,13 +149,13 @@ fn check_part(part: Part, ty: &Ty, sort: Option<Sort>, found: &mut Found)
 pub fn check_typed(
     alloc: Heap,
     file: &File<'_>,
-    params: &[HeaderParam],
+    params: &[HeaderKey],
     part: Part,
     ty: &Ty,
     found: &mut Found,
 ) -> Result<(), AllocError>
     ensures { OnOk result (found.new.least ≡ least_from found.old.least
-        (d.typed_refused (file_seen file.now) (map view.header_param_of params.now) part
+        (d.typed_refused (file_seen file.now) (map view.header_key_of params.now) part
         (view.ty_of ty.now))) }
 {
     file.check_type(alloc, ty, found)?;

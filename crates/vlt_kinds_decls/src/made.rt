@@ -20,17 +20,17 @@ use vlt_base::{Items, SetId, StateSet, TypeId};
 use vlt_core::{CaseDecl, FieldDecl, Ty, TypeDecl};
 use vlt_kinds_names::Globals;
 use vlt_kinds_types::{File, KeyNumbers, StateNames, Wanted, set_in, states_listed, wanted_in};
-use vlt_syntax::{self, Case, Decl, Field, HeaderParam, KeyStates, Name, States};
+use vlt_syntax::{self, Case, Decl, Field, HeaderKey, KeyStates, Name, States};
 
 /// The keys of a header, by their positions.
 #[derive(Clone, Copy)]
 struct HeaderNumbers<'a> {
-    params: &'a [HeaderParam],
+    params: &'a [HeaderKey],
     ghost few: { length params.now ≤ 32 },
 }
 
 impl KeyNumbers for HeaderNumbers<'_> {
-    ghost numbers = { λ h. m.header_number (map view.header_param_of h.params.now) };
+    ghost numbers = { λ h. m.header_number (map view.header_key_of h.params.now) };
 
     fn number(&self, key: &[u8]) -> u32 {
         match header_position(self.params, key) {
@@ -52,10 +52,10 @@ fn type_wanted(wanted: Wanted) -> Option<TypeId>
 fn core_header(
     alloc: Heap,
     known: &Globals<'_>,
-    params: &[HeaderParam],
+    params: &[HeaderKey],
 ) -> Result<Items<Option<TypeId>>, AllocError>
     ensures { IfOk result (λ header. core_view.header_of header
-        ≡ m.core_header (names_seen known.now) (map view.header_param_of params.now)) }
+        ≡ m.core_header (names_seen known.now) (map view.header_key_of params.now)) }
 {
     let mut header = Items::new(alloc);
     for param in params {
@@ -85,13 +85,13 @@ fn set_named(file: &File<'_>, set: &Option<Name>) -> Result<Option<SetId>, Alloc
 fn core_field(
     alloc: Heap,
     file: &File<'_>,
-    params: &[HeaderParam],
+    params: &[HeaderKey],
     known: &StateNames<'_>,
     field: &Field,
 ) -> Result<FieldDecl, AllocError>
     requires { length params.now ≤ 32 }
     ensures { IfOk result (λ decl. core_view.field_of decl ≡ m.core_field (file_seen file.now)
-        (map view.header_param_of params.now) (states_seen known.now) (view.field_of field.now)) }
+        (map view.header_key_of params.now) (states_seen known.now) (view.field_of field.now)) }
 {
     let name = Items::from_slice(alloc, field.name.text.as_slice())?;
     let numbers = HeaderNumbers { params };
@@ -103,13 +103,13 @@ fn core_field(
 fn core_fields(
     alloc: Heap,
     file: &File<'_>,
-    params: &[HeaderParam],
+    params: &[HeaderKey],
     known: &StateNames<'_>,
     fields: &[Field],
 ) -> Result<Items<FieldDecl>, AllocError>
     requires { length params.now ≤ 32 }
     ensures { IfOk result (λ decls. map core_view.field_of decls
-        ≡ map (m.core_field (file_seen file.now) (map view.header_param_of params.now)
+        ≡ map (m.core_field (file_seen file.now) (map view.header_key_of params.now)
         (states_seen known.now)) (map view.field_of fields.now)) }
 {
     let mut decls = Items::new(alloc);
@@ -124,7 +124,7 @@ fn core_struct(
     alloc: Heap,
     file: &File<'_>,
     name: &Name,
-    params: &[HeaderParam],
+    params: &[HeaderKey],
     set: &Option<Name>,
     fields: &[Field],
     release: &Option<States>,
@@ -132,7 +132,7 @@ fn core_struct(
     requires { length params.now ≤ 32 }
     ensures decl { IfOk result (λ decl. core_view.type_of decl
         ≡ core.a_struct (m.core_struct (file_seen file.now) (view.name_of name.now)
-        (map view.header_param_of params.now) (option_map view.name_of set.now)
+        (map view.header_key_of params.now) (option_map view.name_of set.now)
         (map view.field_of fields.now) (option_map view.states_of release.now))) }
     ensures known { IfOk result (HasKnownSet (length file.now.sets)) }
 {
@@ -164,12 +164,12 @@ fn object_states<'a>(file: &'a File<'_>, wanted: Option<Wanted>) -> StateNames<'
 fn core_case_key(
     alloc: Heap,
     file: &File<'_>,
-    params: &[HeaderParam],
+    params: &[HeaderKey],
     key: &KeyStates,
 ) -> Result<(u32, StateSet), AllocError>
     requires { length params.now ≤ 32 }
     ensures { IfOk result (λ made. core_view.case_key_of made
-        ≡ m.core_case_key (file_seen file.now) (map view.header_param_of params.now)
+        ≡ m.core_case_key (file_seen file.now) (map view.header_key_of params.now)
         (view.key_states_of key.now)) }
 {
     let numbers = HeaderNumbers { params };
@@ -182,12 +182,12 @@ fn core_case_key(
 fn core_case_keys(
     alloc: Heap,
     file: &File<'_>,
-    params: &[HeaderParam],
+    params: &[HeaderKey],
     keys: &[KeyStates],
 ) -> Result<Items<(u32, StateSet)>, AllocError>
     requires { length params.now ≤ 32 }
     ensures { IfOk result (λ made. map core_view.case_key_of made
-        ≡ map (m.core_case_key (file_seen file.now) (map view.header_param_of params.now))
+        ≡ map (m.core_case_key (file_seen file.now) (map view.header_key_of params.now))
         (map view.key_states_of keys.now)) }
 {
     let mut made = Items::new(alloc);
@@ -200,12 +200,12 @@ fn core_case_keys(
 fn core_payload(
     alloc: Heap,
     file: &File<'_>,
-    params: &[HeaderParam],
+    params: &[HeaderKey],
     payload: &[vlt_syntax::Ty],
 ) -> Result<Items<Ty>, AllocError>
     requires { length params.now ≤ 32 }
     ensures { IfOk result (λ made. map core_view.ty_of made ≡ map (t.core_ty (file_seen file.now)
-        (m.header_number (map view.header_param_of params.now))) (map view.ty_of payload.now)) }
+        (m.header_number (map view.header_key_of params.now))) (map view.ty_of payload.now)) }
 {
     let numbers = HeaderNumbers { params };
     let mut made = Items::new(alloc);
@@ -228,12 +228,12 @@ fn without_tick(text: &[u8]) -> &[u8]
 fn core_case(
     alloc: Heap,
     file: &File<'_>,
-    params: &[HeaderParam],
+    params: &[HeaderKey],
     case: &Case,
 ) -> Result<CaseDecl, AllocError>
     requires { length params.now ≤ 32 }
     ensures { IfOk result (λ decl. core_view.case_of decl ≡ m.core_case (file_seen file.now)
-        (map view.header_param_of params.now) (view.case_of case.now)) }
+        (map view.header_key_of params.now) (view.case_of case.now)) }
 {
     let name = Items::from_slice(alloc, without_tick(case.name.text.as_slice()))?;
     let payload = core_payload(alloc, file, params, case.payload.as_slice())?;
@@ -248,12 +248,12 @@ fn core_case(
 fn core_cases(
     alloc: Heap,
     file: &File<'_>,
-    params: &[HeaderParam],
+    params: &[HeaderKey],
     cases: &[Case],
 ) -> Result<Items<CaseDecl>, AllocError>
     requires { length params.now ≤ 32 }
     ensures { IfOk result (λ decls. map core_view.case_of decls
-        ≡ map (m.core_case (file_seen file.now) (map view.header_param_of params.now))
+        ≡ map (m.core_case (file_seen file.now) (map view.header_key_of params.now))
         (map view.case_of cases.now)) }
 {
     let mut decls = Items::new(alloc);
@@ -268,13 +268,13 @@ fn core_variant(
     alloc: Heap,
     file: &File<'_>,
     name: &Name,
-    params: &[HeaderParam],
+    params: &[HeaderKey],
     cases: &[Case],
 ) -> Result<TypeDecl, AllocError>
     requires { length params.now ≤ 32 }
     ensures decl { IfOk result (λ decl. core_view.type_of decl
         ≡ core.a_variant (m.core_variant (file_seen file.now) (view.name_of name.now)
-        (map view.header_param_of params.now) (map view.case_of cases.now))) }
+        (map view.header_key_of params.now) (map view.case_of cases.now))) }
     ensures known { IfOk result (HasKnownSet (length file.now.sets)) }
 {
     let name = Items::from_slice(alloc, name.text.as_slice())?;

@@ -2,7 +2,7 @@
 use Rattle.std.specs.Prelude.{ℕ, suc, Bool, true, false, not, ◌&&◌, ◌||◌, ◌==◌, if◌then◌else◌, List, [], ◌∷◌, ◌++◌, length, map, Option, Some, None, slice_get}
 use Rattle.std.specs.List.{list_any, list_all}
 use Rattle.vlt_syntax.specs.Tree as s
-use Rattle.vlt_syntax.specs.Tree.{Name, Named, Entry, Outcome, Parameter, Head, Ty}
+use Rattle.vlt_syntax.specs.Tree.{Name, Named, Entry, ResultType, Parameter, Head, Ty}
 use Rattle.vlt_core.specs.Core as core
 use Rattle.vlt_core.specs.Core.{TypeDecl, CaseDecl}
 use Rattle.vlt_core.specs.Lookups.{cases_in}
@@ -22,7 +22,7 @@ use Rattle.vlt_kinds_heads.specs.Keys.{Keys, facts_of}
 -- ---- parameters: no variants
 
 abbrev pub is_wrong_parameter : Ty → Option Sort → Bool
-is_wrong_parameter (s.tracked ss n at) (Some kind) = is_variant kind
+is_wrong_parameter (s.owning ss n at) (Some kind) = is_variant kind
 is_wrong_parameter (s.plain n) (Some kind) = is_variant kind
 is_wrong_parameter _ _ = false
 
@@ -67,9 +67,9 @@ is_wrong_variant file types n = not (list_all (has_host_payload types) (cases_na
 abbrev pub is_wrong_result : File → List TypeDecl → Keys → Ty → Bool
 is_wrong_result file types keys (s.int at) = false
 is_wrong_result file types keys (s.bool at) = false
-is_wrong_result file types keys (s.keyed k n at) =
+is_wrong_result file types keys (s.tracked k n at) =
     not (facts_of keys k.text).is_fresh || is_no_abstract (sort_in (shape_named file n.name))
-is_wrong_result file types keys (s.tracked ss n at) =
+is_wrong_result file types keys (s.owning ss n at) =
     is_struct (sort_in (shape_named file n.name)) || is_wrong_variant file types n
 is_wrong_result file types keys (s.guarded k n) = true
 is_wrong_result file types keys (s.plain n) = is_wrong_variant file types n
@@ -100,7 +100,7 @@ arguments_refused file types keys n =
     if length n.keys == length (header_in (shape_named file n.name)) then fitting_refused file types keys n else []
 
 abbrev pub result_arguments_refused : File → List TypeDecl → Keys → Ty → List Refusal
-result_arguments_refused file types keys (s.tracked ss n at) = arguments_refused file types keys n
+result_arguments_refused file types keys (s.owning ss n at) = arguments_refused file types keys n
 result_arguments_refused file types keys (s.plain n) = arguments_refused file types keys n
 result_arguments_refused file types keys _ = []
 
@@ -109,7 +109,7 @@ host_ty_refused file types keys t =
     refuse_if (is_wrong_result file types keys t) rule.EXTERN_HEAD (ty_place t)
     ++ result_arguments_refused file types keys t
 
-abbrev pub host_result_refused : File → List TypeDecl → Keys → Outcome → List Refusal
+abbrev pub host_result_refused : File → List TypeDecl → Keys → ResultType → List Refusal
 host_result_refused file types keys (s.void at) = []
 host_result_refused file types keys (s.value t) = host_ty_refused file types keys t
 
@@ -124,5 +124,5 @@ host_entry_refused keys e =
 unfoldable pub external_refused : File → List TypeDecl → Head → Keys → List Refusal
 external_refused file types h keys =
     of_each (host_parameter_refused file) h.parameters
-    ++ (host_result_refused file types keys h.outcome
+    ++ (host_result_refused file types keys h.result_type
     ++ of_each (host_entry_refused keys) (clause_in h.clause))

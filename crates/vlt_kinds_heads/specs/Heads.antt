@@ -4,7 +4,7 @@ use Rattle.std.specs.Map.{lookup}
 use Rattle.std.specs.Str.{bytes_eq}
 use Rattle.indexmap.specs.IndexMap.{insert_entry}
 use Rattle.vlt_syntax.specs.Tree as s
-use Rattle.vlt_syntax.specs.Tree.{Name, States, Entry, Outcome, Parameter, Head}
+use Rattle.vlt_syntax.specs.Tree.{Name, States, Entry, ResultType, Parameter, Head}
 use Rattle.vlt_core.specs.declared.rules.TheConstants as rule
 use Rattle.vlt_kinds_names.specs.declared.found.Refusal.{Refusal}
 use Rattle.vlt_kinds_names.specs.Refusals.{refusal, refuse_if, of_each, least_from}
@@ -21,9 +21,9 @@ use Rattle.vlt_kinds_heads.specs.declared.facts.Typing.{Typing}
 
 -- ---- 7, 8, 10 to 13 in the types of a head
 
-abbrev pub outcome_refused : File → Outcome → List Refusal
-outcome_refused file (s.void at) = []
-outcome_refused file (s.value t) = ty_refused file t
+abbrev pub result_type_refused : File → ResultType → List Refusal
+result_type_refused file (s.void at) = []
+result_type_refused file (s.value t) = ty_refused file t
 
 abbrev pub parameter_refused : File → Parameter → List Refusal
 parameter_refused file p = ty_refused file p.ty
@@ -135,16 +135,16 @@ entry_refused file keys e =
 
 -- ---- 26: the head of `main`
 
-abbrev pub is_void : Outcome → Bool
+abbrev pub is_void : ResultType → Bool
 is_void (s.void at) = true
 is_void (s.value t) = false
 
-abbrev pub is_tracked_result : Outcome → Name → Bool
-is_tracked_result (s.value (s.keyed k n at)) j = bytes_eq j.text k.text
+abbrev pub is_tracked_result : ResultType → Name → Bool
+is_tracked_result (s.value (s.tracked k n at)) j = bytes_eq j.text k.text
 is_tracked_result _ j = false
 
 -- neither a result nor a clause, or `tracked(K) T` with just `new K`
-abbrev pub is_main_clause : Outcome → List Entry → Bool
+abbrev pub is_main_clause : ResultType → List Entry → Bool
 is_main_clause out [] = is_void out
 is_main_clause out (s.fresh k at ∷ []) = is_tracked_result out k.key
 is_main_clause out _ = false
@@ -157,13 +157,13 @@ unfoldable pub main_refused : Head → List Refusal
 main_refused h =
     refuse_if
     (bytes_eq h.name.text (codes "main")
-    && not (has_none h.parameters && is_main_clause h.outcome (clause_in h.clause)))
+    && not (has_none h.parameters && is_main_clause h.result_type (clause_in h.clause)))
     rule.MAIN_HEAD h.name.at.from
 
 -- ---- a head
 
 unfoldable pub types_refused : File → Head → List Refusal
-types_refused file h = outcome_refused file h.outcome ++ of_each (parameter_refused file) h.parameters
+types_refused file h = result_type_refused file h.result_type ++ of_each (parameter_refused file) h.parameters
 
 unfoldable pub clause_again : (results parameters : List KeyUse) → List Entry → List Refusal
 clause_again rs ps es = entries_again (behind_parameters (behind_result [] rs) ps) es
@@ -187,4 +187,4 @@ head_refused_by file h rs ps =
 
 -- what the rules on heads refuse in one, the rule on externals aside
 abbrev pub head_refused : File → Head → List Refusal
-head_refused file h = head_refused_by file h (result_uses file h.outcome) (parameter_uses file h.parameters)
+head_refused file h = head_refused_by file h (result_uses file h.result_type) (parameter_uses file h.parameters)

@@ -132,4 +132,4 @@ keys_behind rs ps es = typed_keys (places_behind rs ps es) rs ps
 
 -- the keys of a head: where each stands, and the type of its object
 abbrev pub keys_of : File → Head → Keys
-keys_of file h = keys_behind (result_uses file h.outcome) (parameter_uses file h.parameters) (clause_in h.clause)
+keys_of file h = keys_behind (result_uses file h.result_type) (parameter_uses file h.parameters) (clause_in h.clause)

@@ -4,7 +4,7 @@ use Rattle.std.specs.Option.{option_map}
 use Rattle.std.specs.Map.{lookup}
 use Rattle.std.specs.Str.{bytes_eq}
 use Rattle.vlt_syntax.specs.Tree as s
-use Rattle.vlt_syntax.specs.Tree.{States, Entry, Outcome, Parameter, Head, Decl}
+use Rattle.vlt_syntax.specs.Tree.{States, Entry, ResultType, Parameter, Head, Decl}
 use Rattle.vlt_core.specs.Core as core
 use Rattle.vlt_core.specs.Core.{TypeDecl}
 use Rattle.vlt_kinds_names.specs.declared.found.Refusal.{Refusal}
@@ -86,7 +86,7 @@ core_entry_in keys known (s.fresh k at) = record {
 unfoldable pub core_entry : File → Keys → Entry → core.Entry
 core_entry file keys e = core_entry_in keys (typed_states file (facts_of keys (entry_key e).text).typing) e
 
-abbrev pub core_result : File → Keys → Outcome → Option core.Ty
+abbrev pub core_result : File → Keys → ResultType → Option core.Ty
 core_result file keys (s.void at) = None
 core_result file keys (s.value t) = Some (core_ty file (key_number keys) t)
 
@@ -98,7 +98,7 @@ unfoldable pub core_head : File → (external : Bool) → Head → Keys → core
 core_head file external h keys = record {
   name = h.name.text;
   external = external;
-  result = core_result file keys h.outcome;
+  result = core_result file keys h.result_type;
   params = length h.parameters;
   clause = map (core_entry file keys) (clause_in h.clause);
   keys = map key_decl keys;

@@ -1,12 +1,12 @@
 -- The places of a head: the types in it, the keys in them, and the names that it binds.
 use Rattle.std.specs.Prelude.{ℕ, Bool, true, false, List, [], ◌∷◌, ◌++◌, map, Option, Some, None}
 use Rattle.vlt_syntax.specs.Tree as s
-use Rattle.vlt_syntax.specs.Tree.{Name, States, Entry, Outcome, Parameter, Head}
+use Rattle.vlt_syntax.specs.Tree.{Name, States, Entry, ResultType, Parameter, Head}
 use Rattle.vlt_kinds_types.specs.Files.{File}
 use Rattle.vlt_kinds_types.specs.Types.{KeyUse, ty_uses}
 
 -- the keys in a result's type, and in the types of parameters, in the order of the text
-abbrev pub result_uses : File → Outcome → List KeyUse
+abbrev pub result_uses : File → ResultType → List KeyUse
 result_uses file (s.void at) = []
 result_uses file (s.value t) = ty_uses file t
 
@@ -65,5 +65,5 @@ parameter_names file (p ∷ ps) = map used_name (ty_uses file p.ty) ++ (paramete
 -- all of them in the order of the text
 unfoldable pub head_names : File → Head → List HeadName
 head_names file h =
-    map used_name (result_uses file h.outcome)
+    map used_name (result_uses file h.result_type)
     ++ (parameter_names file h.parameters ++ map entry_name (clause_in h.clause))

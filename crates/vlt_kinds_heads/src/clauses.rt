@@ -15,7 +15,7 @@ use std::alloc::{AllocError, Global as Heap};
 use vlt_core::rules;
 use vlt_kinds_names::Found;
 use vlt_kinds_types::File;
-use vlt_syntax::{Entry, Head, Name, Outcome, States, Ty};
+use vlt_syntax::{Entry, Head, Name, ResultType, States, Ty};
 
 /// The name of the function that a program begins with.
 const MAIN: &[u8] = b"main";
@@ -130,29 +130,30 @@ pub fn check_entries(
 
 // ---- main
 
-fn is_void(outcome: &Outcome) -> bool
-    ensures { result ≡ h.is_void (view.outcome_of outcome.now) }
+fn is_void(result_type: &ResultType) -> bool
+    ensures { result ≡ h.is_void (view.result_type_of result_type.now) }
 {
-    matches!(outcome, Outcome::Void(_))
+    matches!(result_type, ResultType::Void(_))
 }
 
-fn is_tracked_result(outcome: &Outcome, key: &Name) -> bool
-    ensures { result ≡ h.is_tracked_result (view.outcome_of outcome.now) (view.name_of key.now) }
+fn is_tracked_result(result_type: &ResultType, key: &Name) -> bool
+    ensures { result ≡ h.is_tracked_result (view.result_type_of result_type.now)
+        (view.name_of key.now) }
 {
-    match outcome {
-        Outcome::Value(Ty::Keyed { key: other, .. }) => key.text.as_slice()
+    match result_type {
+        ResultType::Value(Ty::Tracked { key: other, .. }) => key.text.as_slice()
             == other.text.as_slice(),
         _ => false,
     }
 }
 
-fn is_main_clause(outcome: &Outcome, clause: &[Entry]) -> bool
-    ensures { result ≡ h.is_main_clause (view.outcome_of outcome.now)
+fn is_main_clause(result_type: &ResultType, clause: &[Entry]) -> bool
+    ensures { result ≡ h.is_main_clause (view.result_type_of result_type.now)
         (map view.entry_of clause.now) }
 {
     match clause {
-        [] => is_void(outcome),
-        [Entry::Fresh(states, _)] => is_tracked_result(outcome, &states.key),
+        [] => is_void(result_type),
+        [Entry::Fresh(states, _)] => is_tracked_result(result_type, &states.key),
         _ => false,
     }
 }
@@ -165,7 +166,7 @@ pub fn check_main(head: &Head, found: &mut Found)
 {
     let name = &head.name;
     let fits = head.parameters.as_slice().is_empty()
-        && is_main_clause(&head.outcome, clause_in(&head.clause));
+        && is_main_clause(&head.result_type, clause_in(&head.clause));
     found.add_if(
         name.text.as_slice() == MAIN && !fits,
         rules::MAIN_HEAD,

@@ -20,13 +20,13 @@ use vlt_base::StateSet;
 use vlt_core::{CaseDecl, Ty, TypeDecl, rules};
 use vlt_kinds_names::Found;
 use vlt_kinds_types::{File, Shape, Sort, sort_in, ty_place};
-use vlt_syntax::{Entry, Head, Name, Named, Outcome, Parameter};
+use vlt_syntax::{Entry, Head, Name, Named, Parameter, ResultType};
 
 fn is_wrong_parameter(ty: &vlt_syntax::Ty, sort: Option<Sort>) -> bool
     ensures { result ≡ e.is_wrong_parameter (view.ty_of ty.now) sort }
 {
     match (ty, sort) {
-        (vlt_syntax::Ty::Tracked { .. }, Some(sort)) => sort.is_variant(),
+        (vlt_syntax::Ty::Owning { .. }, Some(sort)) => sort.is_variant(),
         (vlt_syntax::Ty::Plain(_), Some(sort)) => sort.is_variant(),
         _ => false,
     }
@@ -150,11 +150,11 @@ fn is_wrong_result(
 {
     match ty {
         vlt_syntax::Ty::Int(_) | vlt_syntax::Ty::Bool(_) => Ok(false),
-        vlt_syntax::Ty::Keyed { key, named, .. } => {
+        vlt_syntax::Ty::Tracked { key, named, .. } => {
             let facts = keys.facts_of(key.text.as_slice())?;
             Ok(!facts.is_fresh || is_no_abstract(sort_in(file.shape_named(&named.name))))
         }
-        vlt_syntax::Ty::Tracked { named, .. } => {
+        vlt_syntax::Ty::Owning { named, .. } => {
             let sort = sort_in(file.shape_named(&named.name));
             Ok(is_struct(sort) || is_wrong_variant(file, types, named))
         }
@@ -307,7 +307,7 @@ fn check_result_arguments(
         (keys_seen keys.now) (view.ty_of ty.now))) }
 {
     match ty {
-        vlt_syntax::Ty::Tracked { named, .. } => check_arguments(file, types, keys, named, found),
+        vlt_syntax::Ty::Owning { named, .. } => check_arguments(file, types, keys, named, found),
         vlt_syntax::Ty::Plain(named) => check_arguments(file, types, keys, named, found),
         _ => Ok(()),
     }
@@ -335,16 +335,16 @@ fn check_host_result(
     file: &File<'_>,
     types: &[TypeDecl],
     keys: &HeadKeys<'_>,
-    outcome: &Outcome,
+    result_type: &ResultType,
     found: &mut Found,
 ) -> Result<(), AllocError>
     ensures { OnOk result (found.new.least ≡ least_from found.old.least
         (e.host_result_refused (file_seen file.now) (map core_view.type_of types.now)
-        (keys_seen keys.now) (view.outcome_of outcome.now))) }
+        (keys_seen keys.now) (view.result_type_of result_type.now))) }
 {
-    match outcome {
-        Outcome::Void(_) => Ok(()),
-        Outcome::Value(ty) => check_host_type(file, types, keys, ty, found),
+    match result_type {
+        ResultType::Void(_) => Ok(()),
+        ResultType::Value(ty) => check_host_type(file, types, keys, ty, found),
     }
 }
 
@@ -362,7 +362,7 @@ pub fn check_external(
         (view.head_of head.now) (keys_seen keys.now))) }
 {
     check_parameters(file, head.parameters.as_slice(), found);
-    check_host_result(file, types, keys, &head.outcome, found)?;
+    check_host_result(file, types, keys, &head.result_type, found)?;
     keys.check_host_entries(clause_in(&head.clause), found)?;
     Ok(())
 }

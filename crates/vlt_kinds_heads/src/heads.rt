@@ -24,20 +24,20 @@ use vlt_base::Items;
 use vlt_core::{Func, TypeDecl};
 use vlt_kinds_names::Found;
 use vlt_kinds_types::{File, KeyUse};
-use vlt_syntax::{Decl, Entry, Head, Outcome, Parameter};
+use vlt_syntax::{Decl, Entry, Head, Parameter, ResultType};
 
-fn check_outcome(
+fn check_result_type(
     alloc: Heap,
     file: &File<'_>,
-    outcome: &Outcome,
+    result_type: &ResultType,
     found: &mut Found,
 ) -> Result<(), AllocError>
     ensures { OnOk result (found.new.least ≡ least_from found.old.least
-        (h.outcome_refused (file_seen file.now) (view.outcome_of outcome.now))) }
+        (h.result_type_refused (file_seen file.now) (view.result_type_of result_type.now))) }
 {
-    match outcome {
-        Outcome::Void(_) => Ok(()),
-        Outcome::Value(ty) => file.check_type(alloc, ty, found),
+    match result_type {
+        ResultType::Void(_) => Ok(()),
+        ResultType::Value(ty) => file.check_type(alloc, ty, found),
     }
 }
 
@@ -66,7 +66,7 @@ fn check_types(
     ensures { OnOk result (found.new.least ≡ least_from found.old.least
         (h.types_refused (file_seen file.now) (view.head_of head.now))) }
 {
-    check_outcome(alloc, file, &head.outcome, found)?;
+    check_result_type(alloc, file, &head.result_type, found)?;
     check_parameter_types(alloc, file, head.parameters.as_slice(), found)?;
     Ok(())
 }
@@ -176,7 +176,7 @@ fn check_head<'a>(
     ensures refused { OnOk result (found.new.least ≡ least_from found.old.least
         (h.head_refused (file_seen file.now) (view.head_of head.now))) }
 {
-    let results = result_uses(alloc, file, &head.outcome)?;
+    let results = result_uses(alloc, file, &head.result_type)?;
     let parameters = parameter_uses(alloc, file, head.parameters.as_slice())?;
     check_head_by(
         alloc,

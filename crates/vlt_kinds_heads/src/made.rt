@@ -16,7 +16,7 @@ use std::alloc::{AllocError, Global as Heap};
 use vlt_base::{Items, KeyId, StateSet, TypeId};
 use vlt_core::{Entry, Func, KeyDecl, Mode, Ty, VarDecl};
 use vlt_kinds_types::{File, KeyNumbers, StateNames, some_states_listed};
-use vlt_syntax::{self, Head, Name, Outcome, Parameter, States};
+use vlt_syntax::{self, Head, Name, Parameter, ResultType, States};
 
 fn number_in(facts: Option<Facts>) -> u32
     ensures { result ≡ q.number_in facts }
@@ -184,14 +184,14 @@ impl HeadKeys<'_> {
         &self,
         alloc: Heap,
         file: &File<'_>,
-        outcome: &Outcome,
+        result_type: &ResultType,
     ) -> Result<Option<Ty>, AllocError>
         ensures { IfOk result (λ made. option_map core_view.ty_of made
-            ≡ q.core_result (file_seen file.now) (keys_seen self.now) (view.outcome_of outcome.now)) }
+            ≡ q.core_result (file_seen file.now) (keys_seen self.now) (view.result_type_of result_type.now)) }
     {
-        match outcome {
-            Outcome::Void(_) => Ok(None),
-            Outcome::Value(ty) => Ok(Some(file.core_type(alloc, self, ty)?)),
+        match result_type {
+            ResultType::Void(_) => Ok(None),
+            ResultType::Value(ty) => Ok(Some(file.core_type(alloc, self, ty)?)),
         }
     }
 
@@ -240,7 +240,7 @@ impl HeadKeys<'_> {
             ≡ q.core_head (file_seen file.now) external (view.head_of head.now) (keys_seen self.now)) }
     {
         let name = Items::from_slice(alloc, head.name.text.as_slice())?;
-        let result = self.core_result(alloc, file, &head.outcome)?;
+        let result = self.core_result(alloc, file, &head.result_type)?;
         let clause = self.core_clause(alloc, file, clause_in(&head.clause))?;
         let keys = key_decls(alloc, self)?;
         let vars = self.core_parameters(alloc, file, head.parameters.as_slice())?;

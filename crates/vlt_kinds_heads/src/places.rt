@@ -10,19 +10,19 @@ use crate::names::HeadName;
 use std::alloc::{AllocError, Global as Heap};
 use vlt_base::Items;
 use vlt_kinds_types::{File, KeyUse};
-use vlt_syntax::{Entry, Head, Name, Outcome, Parameter, States};
+use vlt_syntax::{Entry, Head, Name, Parameter, ResultType, States};
 
 /// The keys in a result's type, in the order of the text.
 pub fn result_uses<'a>(
     alloc: Heap,
     file: &File<'_>,
-    outcome: &'a Outcome,
+    result_type: &'a ResultType,
 ) -> Result<Items<KeyUse<'a>>, AllocError>
     ensures { IfOk result (λ uses. map use_seen uses
-        ≡ p.result_uses (file_seen file.now) (view.outcome_of outcome.now)) }
+        ≡ p.result_uses (file_seen file.now) (view.result_type_of result_type.now)) }
 {
     let mut uses = Items::new(alloc);
-    if let Outcome::Value(ty) = outcome {
+    if let ResultType::Value(ty) = result_type {
         file.add_uses(ty, &mut uses)?;
     }
     Ok(uses)
@@ -179,13 +179,13 @@ fn add_clause<'a>(clause: &'a [Entry], names: &mut Items<HeadName<'a>>) -> Resul
 fn add_result<'a>(
     alloc: Heap,
     file: &File<'_>,
-    outcome: &'a Outcome,
+    result_type: &'a ResultType,
     names: &mut Items<HeadName<'a>>,
 ) -> Result<(), AllocError>
     ensures { OnOk result (map name_seen names.new ≡ map name_seen names.old
-        ++ map p.used_name (p.result_uses (file_seen file.now) (view.outcome_of outcome.now))) }
+        ++ map p.used_name (p.result_uses (file_seen file.now) (view.result_type_of result_type.now))) }
 {
-    let uses = result_uses(alloc, file, outcome)?;
+    let uses = result_uses(alloc, file, result_type)?;
     add_used(uses.as_slice(), names)
 }
 
@@ -200,7 +200,7 @@ pub fn head_names<'a>(
         ≡ p.head_names (file_seen file.now) (view.head_of head.now)) }
 {
     let mut names = Items::new(alloc);
-    add_result(alloc, file, &head.outcome, &mut names)?;
+    add_result(alloc, file, &head.result_type, &mut names)?;
     add_parameters(alloc, file, head.parameters.as_slice(), &mut names)?;
     add_clause(clause_in(&head.clause), &mut names)?;
     Ok(names)

@@ -4,8 +4,8 @@ use Rattle.std.specs.List.{flat_map, enumerate_from}
 use Rattle.std.proofs.lemmas.Bool.{lt-ltb}
 use Rattle.std.proofs.lemmas.Option.{none-some, same_Some}
 use Rattle.vlt_syntax.specs.Tree as s
-use Rattle.vlt_syntax.specs.Tree.{Name, HeaderParam, Field, Case, States, Decl}
-use Rattle.vlt_syntax.specs.Lists.{Each, IsSome}
+use Rattle.vlt_syntax.specs.Tree.{Name, HeaderKey, Field, Case, States, Decl}
+use Rattle.vlt_syntax.specs.Lists.{Each, IsFilled}
 use Rattle.vlt_syntax.specs.Grammar.{IsDecl, language}
 use Rattle.vlt_core.specs.Core as core
 use Rattle.vlt_core.specs.Core.{SetDecl, TypeDecl, Program}
@@ -66,7 +66,7 @@ known_sets ds (s.variant n ps cs at) = (λ i e. absurd (none-some i e), tt)
 known_sets ds (s.extern h at) = tt
 known_sets ds (s.function h b at) = tt
 
-some_filled : (ns : List Name) → IsSome ns → 1 ≤ length (texts ns)
+some_filled : (ns : List Name) → IsFilled ns → 1 ≤ length (texts ns)
 some_filled [] some = absurd some
 some_filled (n ∷ ns) some = omega arith
 
@@ -109,7 +109,7 @@ module _ (file : File) (p : Program) (described : Describes file p) where
   unfolding shape_named
   named_shape n t d named there = ap (λ o. then_with (as_type o) (shape_at file)) named ∙ (shape_is file p described t ∙ ap (option_map core_shape) there)
 
-  struct_unbroken : (n : Name) (ps : List HeaderParam) (ss : Option Name) (fs : List Field) (r : Option States) (t : ℕ)
+  struct_unbroken : (n : Name) (ps : List HeaderKey) (ss : Option Name) (fs : List Field) (r : Option States) (t : ℕ)
       → global_in file.globals n.text ≡ Some (AType t) → decl_of p t ≡ Some (core.a_struct (core_struct file n ps ss fs r)) → struct_refused file n ps fs r ≡ []
       → BreakNothing (type_rows p t (core.a_struct (core_struct file n ps ss fs r)))
   unfolding struct_refused core_struct
@@ -136,7 +136,7 @@ module _ (file : File) (p : Program) (described : Describes file p) where
       each_fields d clear there [] each = tt
       each_fields d clear there (x ∷ xs) each = (field_unbroken file p described ps clear t d there x each.0, each_fields d clear there xs each.1)
 
-  variant_unbroken : (n : Name) (ps : List HeaderParam) (cs : List Case) (t : ℕ) → variant_refused file ps cs ≡ []
+  variant_unbroken : (n : Name) (ps : List HeaderKey) (cs : List Case) (t : ℕ) → variant_refused file ps cs ≡ []
       → BreakNothing (type_rows p t (core.a_variant (core_variant file n ps cs)))
   unfolding variant_refused core_variant
   variant_unbroken n ps cs t none =

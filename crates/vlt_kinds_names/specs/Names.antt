@@ -4,7 +4,7 @@ use Rattle.std.specs.Char.{is_ascii}
 use Rattle.std.specs.List.{list_any, list_all}
 use Rattle.std.specs.Str.{bytes_eq}
 use Rattle.vlt_syntax.specs.Tree as s
-use Rattle.vlt_syntax.specs.Tree.{Name, Field, Case, HeaderParam, Head, Decl}
+use Rattle.vlt_syntax.specs.Tree.{Name, Field, Case, HeaderKey, Head, Decl}
 use Rattle.vlt_kinds_names.specs.declared.found.Refusal.{Refusal}
 use Rattle.vlt_kinds_names.specs.declared.globals.Global.{Global}
 use Rattle.vlt_kinds_names.specs.declared.globals.Global.TheVariants.{ASet}
@@ -45,7 +45,7 @@ name_beyond_ascii h = refuse_if (not (list_all is_ascii h.name.text)) rule.EXTER
 
 -- ---- 5: a header key has a global name
 
-abbrev pub header_keys : List HeaderParam → List Name
+abbrev pub header_keys : List HeaderKey → List Name
 header_keys = map (λ p. p.key)
 
 unfoldable pub header_keys_taken : Globals → List Name → List Refusal
@@ -63,14 +63,14 @@ set_refused known (Some n) = refuse_if (not (is_set (global_in known n.text))) r
 
 -- ---- a declaration, in a file that knows these names
 
-unfoldable pub header_refused : Globals → List HeaderParam → List Refusal
+unfoldable pub header_refused : Globals → List HeaderKey → List Refusal
 header_refused known ps = repeated_parts (header_keys ps) ++ header_keys_taken known (header_keys ps)
 
-unfoldable pub struct_refused : Globals → List HeaderParam → Option Name → List Field → List Refusal
+unfoldable pub struct_refused : Globals → List HeaderKey → Option Name → List Field → List Refusal
 struct_refused known ps ss fs =
     header_refused known ps ++ (set_refused known ss ++ repeated_parts (map (λ f. f.name) fs))
 
-unfoldable pub variant_refused : Globals → List HeaderParam → List Case → List Refusal
+unfoldable pub variant_refused : Globals → List HeaderKey → List Case → List Refusal
 variant_refused known ps cs = header_refused known ps ++ repeated_parts (map (λ c. c.name) cs)
 
 abbrev pub decl_refused : Globals → Decl → List Refusal

@@ -13,7 +13,7 @@ use crate::found::Found;
 use crate::globals::{self, Global, Globals};
 use std::alloc::{AllocError, Global as Heap};
 use vlt_core::rules;
-use vlt_syntax::{Case, Decl, Field, Head, HeaderParam, Name};
+use vlt_syntax::{Case, Decl, Field, Head, HeaderKey, Name};
 
 /// The name of the function that a program begins with.
 const MAIN: &[u8] = b"main";
@@ -50,8 +50,8 @@ impl HasName for Case {
     }
 }
 
-impl HasName for HeaderParam {
-    ghost name = { λ p. (view.header_param_of p).key };
+impl HasName for HeaderKey {
+    ghost name = { λ p. (view.header_key_of p).key };
 
     fn name(&self) -> &Name {
         &self.key
@@ -84,9 +84,9 @@ pub fn refuse_repeated<T: HasName>(rule: u8, named: &[T], found: &mut Found)
 }
 
 #[tactic(auto, unfolding(crate::specs::Names::header_keys_taken))]
-fn check_taken(params: &[HeaderParam], known: &Globals<'_>, found: &mut Found)
+fn check_taken(params: &[HeaderKey], known: &Globals<'_>, found: &mut Found)
     ensures { found.new.least ≡ least_from found.old.least
-        (n.header_keys_taken (names_seen known.now) (map (λ p. (view.header_param_of p).key) params.now)) }
+        (n.header_keys_taken (names_seen known.now) (map (λ p. (view.header_key_of p).key) params.now)) }
 {
     for param in params {
         if known.has(param.key.text.as_slice()) {
@@ -96,9 +96,9 @@ fn check_taken(params: &[HeaderParam], known: &Globals<'_>, found: &mut Found)
 }
 
 #[tactic(auto, using(crate::proofs::Least::least_of_both, crate::proofs::Least::mapped_twice), unfolding(crate::specs::Names::header_refused))]
-fn check_header(params: &[HeaderParam], known: &Globals<'_>, found: &mut Found)
+fn check_header(params: &[HeaderKey], known: &Globals<'_>, found: &mut Found)
     ensures { found.new.least ≡ least_from found.old.least
-        (n.header_refused (names_seen known.now) (map view.header_param_of params.now)) }
+        (n.header_refused (names_seen known.now) (map view.header_key_of params.now)) }
 {
     refuse_repeated(rules::REPEATED_PART, params, found);
     check_taken(params, known, found);
@@ -130,14 +130,14 @@ fn is_all_ascii(text: &[u8]) -> bool
 
 #[tactic(auto, using(crate::proofs::Least::least_of_both, crate::proofs::Least::mapped_twice), unfolding(crate::specs::Names::struct_refused))]
 fn check_struct(
-    params: &[HeaderParam],
+    params: &[HeaderKey],
     set: &Option<Name>,
     fields: &[Field],
     known: &Globals<'_>,
     found: &mut Found,
 )
     ensures { found.new.least ≡ least_from found.old.least
-        (n.struct_refused (names_seen known.now) (map view.header_param_of params.now)
+        (n.struct_refused (names_seen known.now) (map view.header_key_of params.now)
         (option_map view.name_of set.now) (map view.field_of fields.now)) }
 {
     check_header(params, known, found);
@@ -146,9 +146,9 @@ fn check_struct(
 }
 
 #[tactic(auto, using(crate::proofs::Least::least_of_both, crate::proofs::Least::mapped_twice), unfolding(crate::specs::Names::variant_refused))]
-fn check_variant(params: &[HeaderParam], cases: &[Case], known: &Globals<'_>, found: &mut Found)
+fn check_variant(params: &[HeaderKey], cases: &[Case], known: &Globals<'_>, found: &mut Found)
     ensures { found.new.least ≡ least_from found.old.least
-        (n.variant_refused (names_seen known.now) (map view.header_param_of params.now)
+        (n.variant_refused (names_seen known.now) (map view.header_key_of params.now)
         (map view.case_of cases.now)) }
 {
     check_header(params, known, found);

@@ -4,7 +4,7 @@ use Rattle.std.specs.Option.{option_map}
 use Rattle.std.specs.List.{list_any, position}
 use Rattle.std.specs.Str.{bytes_eq}
 use Rattle.vlt_syntax.specs.Tree as s
-use Rattle.vlt_syntax.specs.Tree.{Name, Ty, HeaderParam, Case, Decl}
+use Rattle.vlt_syntax.specs.Tree.{Name, Ty, HeaderKey, Case, Decl}
 use Rattle.vlt_core.specs.Core.{States, SetDecl}
 use Rattle.vlt_kinds_names.specs.Refusals.{of_each}
 use Rattle.vlt_kinds_names.specs.Globals.{Globals, global_in, globals_of}
@@ -48,7 +48,7 @@ abbrev pub wanted_in : Globals → Option Name → Wanted
 wanted_in known None = wanted.Any
 wanted_in known (Some n) = wanted_type (type_in known n)
 
-abbrev pub header_in : Globals → List HeaderParam → List Wanted
+abbrev pub header_in : Globals → List HeaderKey → List Wanted
 header_in known = map (λ p. wanted_in known p.key_type)
 
 abbrev pub is_filled : {A : Type 0} → List A → Bool
@@ -65,11 +65,11 @@ is_known_type None = false
 is_known_type (Some t) = true
 
 abbrev pub owns_payload : Globals → Ty → Bool
-owns_payload known (s.tracked ss n at) = is_known_type (type_in known n.name)
+owns_payload known (s.owning ss n at) = is_known_type (type_in known n.name)
 owns_payload known _ = false
 
 abbrev pub leaves_payload_open : Globals → Ty → Bool
-leaves_payload_open known (s.tracked ss n at) = not (is_known_type (type_in known n.name))
+leaves_payload_open known (s.owning ss n at) = not (is_known_type (type_in known n.name))
 leaves_payload_open known _ = false
 
 -- A variant is keyed where a case lists a key, and owning where it is keyed or has a payload that is written `tracked`. An

@@ -43,15 +43,15 @@ name_refused (Some shape) n =
 
 -- `tracked(K)` or `tracked@S` before a variant, or `K:` before anything but a struct
 abbrev pub has_wrong_prefix : Ty → Option Sort → Bool
-has_wrong_prefix (s.keyed k n at) (Some kind) = is_variant kind
-has_wrong_prefix (s.tracked (Some ss) n at) (Some kind) = is_variant kind
+has_wrong_prefix (s.tracked k n at) (Some kind) = is_variant kind
+has_wrong_prefix (s.owning (Some ss) n at) (Some kind) = is_variant kind
 has_wrong_prefix (s.guarded k n) (Some sort.Struct) = false
 has_wrong_prefix (s.guarded k n) (Some kind) = true
 has_wrong_prefix _ _ = false
 
 -- an owning variant without `tracked`, or another variant with it
 abbrev pub has_wrong_ownership : Ty → Option Sort → Bool
-has_wrong_ownership (s.tracked None n at) (Some sort.CopiedVariant) = true
+has_wrong_ownership (s.owning None n at) (Some sort.CopiedVariant) = true
 has_wrong_ownership (s.plain n) (Some sort.OwningVariant) = true
 has_wrong_ownership (s.plain n) (Some sort.KeyedVariant) = true
 has_wrong_ownership _ _ = false
@@ -116,8 +116,8 @@ owned_states_refused file shape ss =
 abbrev pub ty_place : Ty → ℕ
 ty_place (s.int at) = at.from
 ty_place (s.bool at) = at.from
-ty_place (s.keyed k n at) = at.from
-ty_place (s.tracked ss n at) = at.from
+ty_place (s.tracked k n at) = at.from
+ty_place (s.owning ss n at) = at.from
 ty_place (s.guarded k n) = k.at.from
 ty_place (s.plain n) = n.name.at.from
 
@@ -125,8 +125,8 @@ ty_place (s.plain n) = n.name.at.from
 unfoldable pub shape_in : File → Ty → Option Shape
 shape_in file (s.int at) = None
 shape_in file (s.bool at) = None
-shape_in file (s.keyed k n at) = shape_named file n.name
-shape_in file (s.tracked ss n at) = shape_named file n.name
+shape_in file (s.tracked k n at) = shape_named file n.name
+shape_in file (s.owning ss n at) = shape_named file n.name
 shape_in file (s.guarded k n) = shape_named file n.name
 shape_in file (s.plain n) = shape_named file n.name
 
@@ -140,8 +140,8 @@ owned_refused file shape t ss n = named_refused shape t n ++ owned_states_refuse
 abbrev pub ty_refused : File → Ty → List Refusal
 ty_refused file (s.int at) = []
 ty_refused file (s.bool at) = []
-ty_refused file (s.keyed k n at) = named_refused (shape_named file n.name) (s.keyed k n at) n
-ty_refused file (s.tracked ss n at) = owned_refused file (shape_named file n.name) (s.tracked ss n at) ss n
+ty_refused file (s.tracked k n at) = named_refused (shape_named file n.name) (s.tracked k n at) n
+ty_refused file (s.owning ss n at) = owned_refused file (shape_named file n.name) (s.owning ss n at) ss n
 ty_refused file (s.guarded k n) = named_refused (shape_named file n.name) (s.guarded k n) n
 ty_refused file (s.plain n) = named_refused (shape_named file n.name) (s.plain n) n
 
@@ -177,8 +177,8 @@ named_uses file n = header_uses (shape_named file n.name) n.keys
 abbrev pub ty_uses : File → Ty → List KeyUse
 ty_uses file (s.int at) = []
 ty_uses file (s.bool at) = []
-ty_uses file (s.keyed k n at) = tracked_use (wanted_type (type_named file n.name)) k ∷ named_uses file n
-ty_uses file (s.tracked ss n at) = named_uses file n
+ty_uses file (s.tracked k n at) = tracked_use (wanted_type (type_named file n.name)) k ∷ named_uses file n
+ty_uses file (s.owning ss n at) = named_uses file n
 ty_uses file (s.guarded k n) = key_use wanted.Any k ∷ named_uses file n
 ty_uses file (s.plain n) = named_uses file n
 
@@ -230,9 +230,9 @@ owned_ty file number ss n =
 abbrev pub core_ty : File → (number : List ℕ → ℕ) → Ty → core.Ty
 core_ty file number (s.int at) = core.int
 core_ty file number (s.bool at) = core.bool
-core_ty file number (s.keyed k n at) =
+core_ty file number (s.tracked k n at) =
     core.tracked (number k.text) (type_number file n.name) (key_numbers number n.keys)
-core_ty file number (s.tracked ss n at) = owned_ty file number ss n
+core_ty file number (s.owning ss n at) = owned_ty file number ss n
 core_ty file number (s.guarded k n) =
     core.guarded (number k.text) (type_number file n.name) (key_numbers number n.keys)
 core_ty file number (s.plain n) = core.variant (type_number file n.name) (key_numbers number n.keys)

@@ -100,7 +100,7 @@ impl File<'_> {
     {
         match ty {
             Ty::Int(_) | Ty::Bool(_) => Ok(()),
-            Ty::Keyed { key, named, .. } => {
+            Ty::Tracked { key, named, .. } => {
                 let wanted = self.wanted_named(&named.name);
                 uses.push(KeyUse {
                     key: key.text.as_slice(),
@@ -114,7 +114,7 @@ impl File<'_> {
                 uses.push(key_use(Wanted::Any, key))?;
                 self.add_named(named, uses)
             }
-            Ty::Tracked { named, .. } => self.add_named(named, uses),
+            Ty::Owning { named, .. } => self.add_named(named, uses),
             Ty::Plain(named) => self.add_named(named, uses),
         }
     }

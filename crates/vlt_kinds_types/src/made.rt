@@ -81,10 +81,10 @@ impl File<'_> {
         match ty {
             vlt_syntax::Ty::Int(_) => Ok(Ty::Int),
             vlt_syntax::Ty::Bool(_) => Ok(Ty::Bool),
-            vlt_syntax::Ty::Tracked { states, named, .. } => self.owned_type(
+            vlt_syntax::Ty::Owning { states, named, .. } => self.owned_type(
                 alloc, numbers, states, named,
             ),
-            vlt_syntax::Ty::Keyed { key, named, .. } => {
+            vlt_syntax::Ty::Tracked { key, named, .. } => {
                 let keys = key_numbers(alloc, numbers, named.keys.as_slice())?;
                 let key = KeyId(numbers.number(key.text.as_slice()));
                 Ok(Ty::Key(key, self.type_number(&named.name), keys))

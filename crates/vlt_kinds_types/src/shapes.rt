@@ -10,7 +10,7 @@ ghost use Rattle.vlt_kinds_types.specs.Files as f;
 use std::alloc::{AllocError, Global as Heap};
 use vlt_base::Items;
 use vlt_kinds_names::{Global, Globals};
-use vlt_syntax::{Case, Decl, HeaderParam, Name, Ty};
+use vlt_syntax::{Case, Decl, HeaderKey, Name, Ty};
 
 /// Of which sort a declared type is.
 #[derive(Clone, Copy, Debug, PartialEq, Eq)]
@@ -85,10 +85,10 @@ pub fn wanted_in(known: &Globals<'_>, name: &Option<Name>) -> Wanted
 pub fn header_in(
     alloc: Heap,
     known: &Globals<'_>,
-    params: &[HeaderParam],
+    params: &[HeaderKey],
 ) -> Result<Items<Wanted>, AllocError>
     ensures { IfOk result (λ header. header ≡ f.header_in (names_seen known.now)
-        (map view.header_param_of params.now)) }
+        (map view.header_key_of params.now)) }
 {
     let mut header = Items::new(alloc);
     for param in params {
@@ -101,7 +101,7 @@ fn owns_payload(known: &Globals<'_>, ty: &Ty) -> bool
     ensures { result ≡ f.owns_payload (names_seen known.now) (view.ty_of ty.now) }
 {
     match ty {
-        Ty::Tracked { named, .. } => type_in(known, &named.name).is_some(),
+        Ty::Owning { named, .. } => type_in(known, &named.name).is_some(),
         _ => false,
     }
 }
@@ -110,7 +110,7 @@ fn leaves_payload_open(known: &Globals<'_>, ty: &Ty) -> bool
     ensures { result ≡ f.leaves_payload_open (names_seen known.now) (view.ty_of ty.now) }
 {
     match ty {
-        Ty::Tracked { named, .. } => type_in(known, &named.name).is_none(),
+        Ty::Owning { named, .. } => type_in(known, &named.name).is_none(),
         _ => false,
     }
 }

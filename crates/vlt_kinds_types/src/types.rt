@@ -37,9 +37,9 @@ fn has_wrong_prefix(ty: &Ty, sort: Option<Sort>) -> bool
     ensures { result ≡ t.has_wrong_prefix (view.ty_of ty.now) sort }
 {
     match (ty, sort) {
-        (Ty::Keyed { .. }, Some(sort)) => sort.is_variant(),
+        (Ty::Tracked { .. }, Some(sort)) => sort.is_variant(),
         (
-            Ty::Tracked {
+            Ty::Owning {
                 states: Some(_),
                 ..
             },
@@ -54,7 +54,7 @@ fn has_wrong_ownership(ty: &Ty, sort: Option<Sort>) -> bool
     ensures { result ≡ t.has_wrong_ownership (view.ty_of ty.now) sort }
 {
     match (ty, sort) {
-        (Ty::Tracked { states: None, .. }, Some(Sort::CopiedVariant)) => true,
+        (Ty::Owning { states: None, .. }, Some(Sort::CopiedVariant)) => true,
         (Ty::Plain(_), Some(Sort::OwningVariant)) => true,
         (Ty::Plain(_), Some(Sort::KeyedVariant)) => true,
         _ => false,
@@ -77,7 +77,7 @@ pub fn ty_place(ty: &Ty) -> u32
 {
     match ty {
         Ty::Int(at) | Ty::Bool(at) => at.from,
-        Ty::Keyed { at, .. } | Ty::Tracked { at, .. } => at.from,
+        Ty::Tracked { at, .. } | Ty::Owning { at, .. } => at.from,
         Ty::Guarded { key, .. } => key.at.from,
         Ty::Plain(named) => named.name.at.from,
     }
@@ -132,8 +132,8 @@ impl File<'_> {
     {
         match ty {
             Ty::Int(_) | Ty::Bool(_) => None,
-            Ty::Keyed { named, .. } => self.shape_named(&named.name),
             Ty::Tracked { named, .. } => self.shape_named(&named.name),
+            Ty::Owning { named, .. } => self.shape_named(&named.name),
             Ty::Guarded { named, .. } => self.shape_named(&named.name),
             Ty::Plain(named) => self.shape_named(&named.name),
         }
@@ -207,8 +207,8 @@ impl File<'_> {
     {
         match ty {
             Ty::Int(_) | Ty::Bool(_) => Ok(()),
-            Ty::Tracked { states, named, .. } => self.check_owned(alloc, ty, states, named, found),
-            Ty::Keyed { named, .. } => {
+            Ty::Owning { states, named, .. } => self.check_owned(alloc, ty, states, named, found),
+            Ty::Tracked { named, .. } => {
                 check_named(self.shape_named(&named.name), ty, named, found);
                 Ok(())
             }

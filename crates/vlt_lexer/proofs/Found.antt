@@ -7,7 +7,7 @@ use mir.Syntax.{w64}
 use Rattle.vlt_lexer.specs.declared.token.Mark.{Mark}
 use Rattle.vlt_lexer.specs.declared.token.TokenKind.{TokenKind}
 use Rattle.vlt_lexer.specs.declared.token.TokenKind.TheVariants as kind
-use Rattle.vlt_lexer.specs.declared.scan.Fault.TheVariants as fault
+use Rattle.vlt_lexer.specs.declared.scan.Stuck.TheVariants as stuck
 use Rattle.vlt_lexer.specs.declared.token.TheConstants.Mark as signs
 use Rattle.vlt_lexer.specs.Spelling.{sign_text}
 use Rattle.vlt_lexer.specs.Characters.{is_blank, is_digit, is_name_start, is_name_more, IsName, IsDigits, value_of, behind, after_line, after_close}
@@ -42,7 +42,7 @@ number_stands text c cs z e is held =
     let stand = digits_stand text c cs e is in
     (run is_digit text, run_splits is_digit text, stand.1, (stand.0, held.0, held.1))
 
-pub number_stuck : (text : List ℕ) (c : ℕ) (cs : List ℕ) → text ≡ c ∷ cs → is_digit c ≡ true → Holds None (value_of (run is_digit text)) → IsStuck fault.NumberTooLarge text
+pub number_stuck : (text : List ℕ) (c : ℕ) (cs : List ℕ) → text ≡ c ∷ cs → is_digit c ≡ true → Holds None (value_of (run is_digit text)) → IsStuck stuck.NumberTooLarge text
 number_stuck text c cs e is held =
     let stand = digits_stand text c cs e is in
     (run is_digit text, past_run is_digit text, run_splits is_digit text, stand.0, stand.1, held)
@@ -91,7 +91,7 @@ pub sign_stands : (cs : List ℕ) (m : Mark) (after : List ℕ) → sign_of cs �
 unfolding sign_of
 sign_stands cs m after e plain = (sign_text m, begun_splits sign_text signs.ALL cs m after e, longest_sign cs m after e plain, refl)
 
-pub bad_stuck : (cs : List ℕ) (c : ℕ) (ds : List ℕ) → cs ≡ c ∷ ds → is_blank c ≡ false → past_name cs ≡ None → is_digit c ≡ false → (c ≡ 39 → past_name ds ≡ None) → sign_of cs ≡ None → IsStuck fault.BadByte cs
+pub bad_stuck : (cs : List ℕ) (c : ℕ) (ds : List ℕ) → cs ≡ c ∷ ds → is_blank c ≡ false → past_name cs ≡ None → is_digit c ≡ false → (c ≡ 39 → past_name ds ≡ None) → sign_of cs ≡ None → IsStuck stuck.BadByte cs
 unfolding sign_of
 bad_stuck cs c ds same no_blank no_name no_digit no_tick no_sign =
     let starts : is_name_start c ≡ false = starts_none c ds (sym (ap past_name same) ∙ no_name) in
@@ -112,7 +112,7 @@ no_sign_ticks c ds ticks = at (begun sign_text signs.ALL (c ∷ ds)) refl
     at None e = refl
     at (Some (m, after)) e = absurd ((sign_head c (sign_at m c ds after (begun_splits sign_text signs.ALL (c ∷ ds) m after e))).1 ticks)
 
-pub tick_stuck : (cs : List ℕ) (c : ℕ) (ds : List ℕ) → cs ≡ c ∷ ds → is_blank c ≡ false → past_name cs ≡ None → is_digit c ≡ false → c ≡ 39 → past_name ds ≡ None → IsStuck fault.BadByte cs
+pub tick_stuck : (cs : List ℕ) (c : ℕ) (ds : List ℕ) → cs ≡ c ∷ ds → is_blank c ≡ false → past_name cs ≡ None → is_digit c ≡ false → c ≡ 39 → past_name ds ≡ None → IsStuck stuck.BadByte cs
 unfolding sign_of
 tick_stuck cs c ds same no_blank no_name no_digit ticks no_tick =
     bad_stuck cs c ds same no_blank no_name no_digit (λ t. no_tick) (ap (begun sign_text signs.ALL) same ∙ no_sign_ticks c ds ticks)

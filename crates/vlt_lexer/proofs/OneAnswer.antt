@@ -4,8 +4,8 @@ use Rattle.std.specs.Prelude.{Result, Ok, Err, IfOk, IfErr, MatchResult}
 use Rattle.std.specs.Str.{chars, IsUtf8, IsValidUpTo}
 use Rattle.std.proofs.lemmas.Str.{utf8_valid_len-IsValidUpTo}
 use Rattle.vlt_base.specs.Limits.{limit_of}
-use Rattle.vlt_lexer.specs.declared.scan.Fault.{Fault}
-use Rattle.vlt_lexer.specs.declared.scan.Fault.TheVariants as fault
+use Rattle.vlt_lexer.specs.declared.scan.Stuck.{Stuck}
+use Rattle.vlt_lexer.specs.declared.scan.Stuck.TheVariants as stuck
 use Rattle.vlt_lexer.specs.declared.lexer.LexError.{LexError}
 use Rattle.vlt_lexer.specs.declared.lexer.LexError.TheVariants as error
 use Rattle.vlt_lexer.specs.Characters.{width}
@@ -21,14 +21,14 @@ one_list text ls ms (u, p) (v, q) = (one_reading (length text) (chars text) ls [
 -- why a text is refused, by three kinds of causes
 pub data Cause (text : List ℕ) : LexError → Type 0 where
   no_text : (e : LexError) (at : ℕ) → e ≡ error.NotUtf8 at → (IsUtf8 text → ⊥) → IsValidUpTo text at → Cause text e
-  a_stop : (e : LexError) (f : Fault) (at : ℕ) → e ≡ placed f at → IsUtf8 text → StopsAt f at text → Cause text e
+  a_stop : (e : LexError) (f : Stuck) (at : ℕ) → e ≡ placed f at → IsUtf8 text → StopsAt f at text → Cause text e
   too_many : (e : LexError) → e ≡ error.Limit 3 → IsUtf8 text → HasTooMany text → Cause text e
 
 pub cause : (text : List ℕ) (e : LexError) → IsRefused text e → Cause text e
 cause text (error.NotUtf8 at) (never, valid) = no_text (error.NotUtf8 at) at refl never valid
-cause text (error.BadByte at) (u, s) = a_stop (error.BadByte at) fault.BadByte at refl u s
-cause text (error.NumberTooLarge at) (u, s) = a_stop (error.NumberTooLarge at) fault.NumberTooLarge at refl u s
-cause text (error.OpenComment at) (u, s) = a_stop (error.OpenComment at) fault.OpenComment at refl u s
+cause text (error.BadByte at) (u, s) = a_stop (error.BadByte at) stuck.BadByte at refl u s
+cause text (error.NumberTooLarge at) (u, s) = a_stop (error.NumberTooLarge at) stuck.NumberTooLarge at refl u s
+cause text (error.OpenComment at) (u, s) = a_stop (error.OpenComment at) stuck.OpenComment at refl u s
 cause text (error.Limit n) (u, three, many) = too_many (error.Limit n) (ap (λ x. error.Limit x) three) u many
 cause text error.Memory none = absurd none
 

@@ -2,8 +2,8 @@
 use Rattle.std.proofs.Common.{◌≡◌, ℕ, ◌≤◌, true, List, [], ◌∷◌, ◌++◌, length, ◌⊎◌, inl, inr, refl, sym, ap, subst, ◌∙◌, arith}
 use Rattle.std.specs.Prelude.{codes, encode_utf8_all}
 use Rattle.std.proofs.lemmas.List.{length-append, append-nil}
-use Rattle.vlt_lexer.specs.declared.scan.Fault.{Fault}
-use Rattle.vlt_lexer.specs.declared.scan.Fault.TheVariants as fault
+use Rattle.vlt_lexer.specs.declared.scan.Stuck.{Stuck}
+use Rattle.vlt_lexer.specs.declared.scan.Stuck.TheVariants as stuck
 use Rattle.vlt_lexer.specs.Characters.{is_blank, is_digit, IsDigits, value_of, after_line, after_close, width}
 use Rattle.vlt_lexer.specs.Lexemes.{IsPiece, line_opens, block_opens, digits, IsLongest, IsOf, max_number}
 use Rattle.vlt_lexer.specs.Reading.{Lexeme, IsGap, blank, line, block, IsToken, Reads, nothing, gap, token, IsStuck}
@@ -53,7 +53,7 @@ same_tokens total cs a b l m s t =
 -- where reading ends
 
 abbrev pub IsEnd : List ℕ → Type 0
-IsEnd cs = (cs ≡ []) ⊎ ((f : Fault) × IsStuck f cs)
+IsEnd cs = (cs ≡ []) ⊎ ((f : Stuck) × IsStuck f cs)
 
 digits_first : (piece after cs : List ℕ) → cs ≡ piece ++ after → IsDigits piece → (c : ℕ) × (x : List ℕ) × (cs ≡ c ∷ x) × (is_digit c ≡ true)
 digits_first [] after cs e is = absurd is
@@ -69,22 +69,22 @@ digit_no_gap c x cs a e is (blank _ d _ p it) = true_false (sym it ∙ ap is_bla
 digit_no_gap c x cs a e is (line _ i _ p it) = true_false (sym is ∙ ap is_digit (head_is (sym e ∙ p)))
 digit_no_gap c x cs a e is (block _ i _ p it) = true_false (sym is ∙ ap is_digit (head_is (sym e ∙ p)))
 
-stuck_no_gap : (f : Fault) (cs a : List ℕ) → IsStuck f cs → IsGap cs a → ⊥
-stuck_no_gap fault.BadByte cs a (d, ds, e, none, no_piece) (blank _ c _ p is) = true_false (sym is ∙ ap is_blank (head_is (sym p ∙ e)) ∙ none)
-stuck_no_gap fault.BadByte cs a (d, ds, e, none, no_piece) (line _ i _ p is) = no_piece (codes "//") i p line_opens
-stuck_no_gap fault.BadByte cs a (d, ds, e, none, no_piece) (block _ i _ p is) = no_piece (codes "/*") i p block_opens
-stuck_no_gap fault.NumberTooLarge cs a (piece, after, e, is, longest, large) g = let f = digits_first piece after cs e is in digit_no_gap f.0 f.1 cs a f.2 f.3 g
-stuck_no_gap fault.OpenComment cs a (inside, e, unclosed) (blank _ c _ p is) = true_false (sym is ∙ ap is_blank (head_is (sym p ∙ e)))
-stuck_no_gap fault.OpenComment cs a (inside, e, unclosed) (line _ i _ p is) = omega (arith, (after_slash p e).0)
-stuck_no_gap fault.OpenComment cs a (inside, e, unclosed) (block _ i _ p is) = none_some (sym unclosed ∙ ap after_close (after_slash e p).1 ∙ is)
+stuck_no_gap : (f : Stuck) (cs a : List ℕ) → IsStuck f cs → IsGap cs a → ⊥
+stuck_no_gap stuck.BadByte cs a (d, ds, e, none, no_piece) (blank _ c _ p is) = true_false (sym is ∙ ap is_blank (head_is (sym p ∙ e)) ∙ none)
+stuck_no_gap stuck.BadByte cs a (d, ds, e, none, no_piece) (line _ i _ p is) = no_piece (codes "//") i p line_opens
+stuck_no_gap stuck.BadByte cs a (d, ds, e, none, no_piece) (block _ i _ p is) = no_piece (codes "/*") i p block_opens
+stuck_no_gap stuck.NumberTooLarge cs a (piece, after, e, is, longest, large) g = let f = digits_first piece after cs e is in digit_no_gap f.0 f.1 cs a f.2 f.3 g
+stuck_no_gap stuck.OpenComment cs a (inside, e, unclosed) (blank _ c _ p is) = true_false (sym is ∙ ap is_blank (head_is (sym p ∙ e)))
+stuck_no_gap stuck.OpenComment cs a (inside, e, unclosed) (line _ i _ p is) = omega (arith, (after_slash p e).0)
+stuck_no_gap stuck.OpenComment cs a (inside, e, unclosed) (block _ i _ p is) = none_some (sym unclosed ∙ ap after_close (after_slash e p).1 ∙ is)
 
-stuck_no_token : (f : Fault) (total : ℕ) (cs a : List ℕ) (l : Lexeme) → IsStuck f cs → IsToken total cs l a → ⊥
-stuck_no_token fault.BadByte total cs a l (d, ds, e, none, no_piece) t = no_piece t.piece a t.begins (piece_of l.kind t.piece t.kind)
-stuck_no_token fault.NumberTooLarge total cs a l (piece, after, e, is, longest, large) t =
+stuck_no_token : (f : Stuck) (total : ℕ) (cs a : List ℕ) (l : Lexeme) → IsStuck f cs → IsToken total cs l a → ⊥
+stuck_no_token stuck.BadByte total cs a l (d, ds, e, none, no_piece) t = no_piece t.piece a t.begins (piece_of l.kind t.piece t.kind)
+stuck_no_token stuck.NumberTooLarge total cs a l (piece, after, e, is, longest, large) t =
     let both : (piece ≡ t.piece) × (after ≡ a) = same_pieces piece t.piece after a cs e t.begins (digits piece is) (piece_of l.kind t.piece t.kind) longest t.longest in
     let small : value_of piece ≤ max_number = (number_only l.kind piece is (subst (IsOf l.kind) (sym both.0) t.kind)).1 in
     omega arith
-stuck_no_token fault.OpenComment total cs a l (inside, e, unclosed) t = opener_no_token 42 l.kind cs inside t.piece a block_opens refl e t.begins t.longest t.kind
+stuck_no_token stuck.OpenComment total cs a l (inside, e, unclosed) t = opener_no_token 42 l.kind cs inside t.piece a block_opens refl e t.begins t.longest t.kind
 
 empty_no_token : (total : ℕ) (cs a : List ℕ) (l : Lexeme) → cs ≡ [] → IsToken total cs l a → ⊥
 empty_no_token total cs a l e t = at t.piece (sym e ∙ t.begins) (piece_of l.kind t.piece t.kind)
@@ -135,20 +135,20 @@ no_more_tokens total cs ls a ms b p ends q =
     let more = goes_on_from total cs ls a ms b p ends q in
     omega (arith, ap length more.1, length-append ms more.0)
 
--- one place, one fault
-pub same_faults : (f g : Fault) (cs : List ℕ) → IsStuck f cs → IsStuck g cs → f ≡ g
-same_faults fault.BadByte fault.BadByte cs s t = refl
-same_faults fault.BadByte fault.NumberTooLarge cs (d, ds, e, none, no_piece) (piece, after, q, is, longest, large) = absurd (no_piece piece after q (digits piece is))
-same_faults fault.BadByte fault.OpenComment cs (d, ds, e, none, no_piece) (inside, q, unclosed) = absurd (no_piece (codes "/*") inside q block_opens)
-same_faults fault.NumberTooLarge fault.BadByte cs (piece, after, q, is, longest, large) (d, ds, e, none, no_piece) = absurd (no_piece piece after q (digits piece is))
-same_faults fault.NumberTooLarge fault.NumberTooLarge cs s t = refl
-same_faults fault.NumberTooLarge fault.OpenComment cs (piece, after, e, is, longest, large) (inside, q, unclosed) = let f = digits_first piece after cs e is in absurd (true_false (sym f.3 ∙ ap is_digit (head_is (sym f.2 ∙ q))))
-same_faults fault.OpenComment fault.BadByte cs (inside, q, unclosed) (d, ds, e, none, no_piece) = absurd (no_piece (codes "/*") inside q block_opens)
-same_faults fault.OpenComment fault.NumberTooLarge cs (inside, q, unclosed) (piece, after, e, is, longest, large) = let f = digits_first piece after cs e is in absurd (true_false (sym f.3 ∙ ap is_digit (head_is (sym f.2 ∙ q))))
-same_faults fault.OpenComment fault.OpenComment cs s t = refl
+-- at one place it is stuck in one way
+pub same_faults : (f g : Stuck) (cs : List ℕ) → IsStuck f cs → IsStuck g cs → f ≡ g
+same_faults stuck.BadByte stuck.BadByte cs s t = refl
+same_faults stuck.BadByte stuck.NumberTooLarge cs (d, ds, e, none, no_piece) (piece, after, q, is, longest, large) = absurd (no_piece piece after q (digits piece is))
+same_faults stuck.BadByte stuck.OpenComment cs (d, ds, e, none, no_piece) (inside, q, unclosed) = absurd (no_piece (codes "/*") inside q block_opens)
+same_faults stuck.NumberTooLarge stuck.BadByte cs (piece, after, q, is, longest, large) (d, ds, e, none, no_piece) = absurd (no_piece piece after q (digits piece is))
+same_faults stuck.NumberTooLarge stuck.NumberTooLarge cs s t = refl
+same_faults stuck.NumberTooLarge stuck.OpenComment cs (piece, after, e, is, longest, large) (inside, q, unclosed) = let f = digits_first piece after cs e is in absurd (true_false (sym f.3 ∙ ap is_digit (head_is (sym f.2 ∙ q))))
+same_faults stuck.OpenComment stuck.BadByte cs (inside, q, unclosed) (d, ds, e, none, no_piece) = absurd (no_piece (codes "/*") inside q block_opens)
+same_faults stuck.OpenComment stuck.NumberTooLarge cs (inside, q, unclosed) (piece, after, e, is, longest, large) = let f = digits_first piece after cs e is in absurd (true_false (sym f.3 ∙ ap is_digit (head_is (sym f.2 ∙ q))))
+same_faults stuck.OpenComment stuck.OpenComment cs s t = refl
 
 -- where nothing can be read, something is left
-pub end_not_empty : (f : Fault) (cs : List ℕ) → IsStuck f cs → cs ≡ [] → ⊥
-end_not_empty fault.BadByte cs (d, ds, e, none, no_piece) same = not_empty (sym same ∙ e)
-end_not_empty fault.NumberTooLarge cs (piece, after, e, is, longest, large) same = let f = digits_first piece after cs e is in not_empty (sym same ∙ f.2)
-end_not_empty fault.OpenComment cs (inside, e, unclosed) same = not_empty (sym same ∙ e)
+pub end_not_empty : (f : Stuck) (cs : List ℕ) → IsStuck f cs → cs ≡ [] → ⊥
+end_not_empty stuck.BadByte cs (d, ds, e, none, no_piece) same = not_empty (sym same ∙ e)
+end_not_empty stuck.NumberTooLarge cs (piece, after, e, is, longest, large) same = let f = digits_first piece after cs e is in not_empty (sym same ∙ f.2)
+end_not_empty stuck.OpenComment cs (inside, e, unclosed) same = not_empty (sym same ∙ e)

@@ -2,8 +2,8 @@
 use Rattle.std.proofs.Common.{◌≡◌, ℕ, ◌+◌, ◌-◌, List, [], ◌∷◌, ◌++◌, length, take, refl, sym, ap, subst, ◌∙◌, arith, append-nil}
 use Rattle.std.specs.Str.{chars, IsUtf8}
 use Rattle.vlt_lexer.specs.declared.token.Token.{Token}
-use Rattle.vlt_lexer.specs.declared.scan.Fault.{Fault}
-use Rattle.vlt_lexer.specs.declared.scan.Fault.TheVariants as fault
+use Rattle.vlt_lexer.specs.declared.scan.Stuck.{Stuck}
+use Rattle.vlt_lexer.specs.declared.scan.Stuck.TheVariants as stuck
 use Rattle.vlt_lexer.specs.Reading.{Lexeme, IsGap, IsToken, Reads, nothing, gap, token}
 use Rattle.vlt_lexer.specs.Text.{lexeme, lexemes, StopsAt, IsRefused}
 use Rattle.vlt_lexer.specs.Places.{placed}
@@ -49,7 +49,7 @@ pub length_lexemes : (found : List Token) → length (lexemes found) ≡ length 
 length_lexemes [] = refl
 length_lexemes (t ∷ found) = omega (arith, length_lexemes found)
 
-pub placed_refused : (f : Fault) (at : ℕ) (text : List ℕ) → IsUtf8 text → StopsAt f at text → IsRefused text (placed f at)
-placed_refused fault.BadByte at text u h = (u, h)
-placed_refused fault.NumberTooLarge at text u h = (u, h)
-placed_refused fault.OpenComment at text u h = (u, h)
+pub placed_refused : (f : Stuck) (at : ℕ) (text : List ℕ) → IsUtf8 text → StopsAt f at text → IsRefused text (placed f at)
+placed_refused stuck.BadByte at text u h = (u, h)
+placed_refused stuck.NumberTooLarge at text u h = (u, h)
+placed_refused stuck.OpenComment at text u h = (u, h)

@@ -1,8 +1,8 @@
 -- A text from left to right, as tokens with blanks and comments between them.
 use Rattle.std.specs.Prelude.{◌≡◌, ◌<◌, ℕ, ◌+◌, true, false, List, [], ◌∷◌, ◌++◌, Some, None, codes, encode_utf8_all}
 use Rattle.vlt_lexer.specs.declared.token.TokenKind.{TokenKind}
-use Rattle.vlt_lexer.specs.declared.scan.Fault.{Fault}
-use Rattle.vlt_lexer.specs.declared.scan.Fault.TheVariants as fault
+use Rattle.vlt_lexer.specs.declared.scan.Stuck.{Stuck}
+use Rattle.vlt_lexer.specs.declared.scan.Stuck.TheVariants as stuck
 use Rattle.vlt_lexer.specs.Characters.{is_blank, IsDigits, value_of, after_line, after_close, width}
 use Rattle.vlt_lexer.specs.Lexemes.{IsPiece, IsLongest, IsOf, max_number}
 
@@ -37,7 +37,7 @@ pub data Reads (total : ℕ) : List ℕ → List Lexeme → List ℕ → Type 0 
 
 -- No token, blank or comment can be read at the front of the text: it begins with no blank and no piece, or with digits of too
 -- large a number, or with a comment that isn't closed.
-abbrev pub IsStuck : Fault → List ℕ → Type 0
-IsStuck fault.BadByte cs = (c : ℕ) × (after : List ℕ) × (cs ≡ c ∷ after) × (is_blank c ≡ false) × ((piece rest : List ℕ) → cs ≡ piece ++ rest → IsPiece piece → ⊥)
-IsStuck fault.NumberTooLarge cs = (piece after : List ℕ) × (cs ≡ piece ++ after) × IsDigits piece × IsLongest piece cs × (max_number < value_of piece)
-IsStuck fault.OpenComment cs = (inside : List ℕ) × (cs ≡ codes "/*" ++ inside) × (after_close inside ≡ None)
+abbrev pub IsStuck : Stuck → List ℕ → Type 0
+IsStuck stuck.BadByte cs = (c : ℕ) × (after : List ℕ) × (cs ≡ c ∷ after) × (is_blank c ≡ false) × ((piece rest : List ℕ) → cs ≡ piece ++ rest → IsPiece piece → ⊥)
+IsStuck stuck.NumberTooLarge cs = (piece after : List ℕ) × (cs ≡ piece ++ after) × IsDigits piece × IsLongest piece cs × (max_number < value_of piece)
+IsStuck stuck.OpenComment cs = (inside : List ℕ) × (cs ≡ codes "/*" ++ inside) × (after_close inside ≡ None)

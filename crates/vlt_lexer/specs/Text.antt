@@ -3,8 +3,8 @@ use Rattle.std.specs.Prelude.{◌≡◌, ◌<◌, ◌≤◌, ℕ, ◌+◌, List,
 use Rattle.std.specs.Str.{chars, IsUtf8, IsValidUpTo}
 use Rattle.vlt_base.specs.Limits.{limit_of}
 use Rattle.vlt_lexer.specs.declared.token.Token.{Token}
-use Rattle.vlt_lexer.specs.declared.scan.Fault.{Fault}
-use Rattle.vlt_lexer.specs.declared.scan.Fault.TheVariants as fault
+use Rattle.vlt_lexer.specs.declared.scan.Stuck.{Stuck}
+use Rattle.vlt_lexer.specs.declared.scan.Stuck.TheVariants as stuck
 use Rattle.vlt_lexer.specs.declared.lexer.LexError.{LexError}
 use Rattle.vlt_lexer.specs.declared.lexer.LexError.TheVariants as error
 use Rattle.vlt_lexer.specs.Characters.{width}
@@ -30,14 +30,14 @@ abbrev pub HasTooMany : List ℕ → Type 0
 HasTooMany text = (ls : List Lexeme) × (left : List ℕ) × Reads (length text) (chars text) ls left × (limit_of 3 < length ls)
 
 -- tokens within the limit can be read up to this place, and behind it nothing can be
-abbrev pub StopsAt : Fault → ℕ → List ℕ → Type 0
+abbrev pub StopsAt : Stuck → ℕ → List ℕ → Type 0
 StopsAt f at text = (ls : List Lexeme) × (left : List ℕ) × Reads (length text) (chars text) ls left × (length ls ≤ limit_of 3) × IsStuck f left × (at + width left ≡ length text)
 
 -- why a text is refused
 abbrev pub IsRefused : List ℕ → LexError → Type 0
 IsRefused text (error.NotUtf8 at) = (IsUtf8 text → ⊥) × IsValidUpTo text at
-IsRefused text (error.BadByte at) = IsUtf8 text × StopsAt fault.BadByte at text
-IsRefused text (error.NumberTooLarge at) = IsUtf8 text × StopsAt fault.NumberTooLarge at text
-IsRefused text (error.OpenComment at) = IsUtf8 text × StopsAt fault.OpenComment at text
+IsRefused text (error.BadByte at) = IsUtf8 text × StopsAt stuck.BadByte at text
+IsRefused text (error.NumberTooLarge at) = IsUtf8 text × StopsAt stuck.NumberTooLarge at text
+IsRefused text (error.OpenComment at) = IsUtf8 text × StopsAt stuck.OpenComment at text
 IsRefused text (error.Limit n) = IsUtf8 text × (n ≡ 3) × HasTooMany text
 IsRefused text error.Memory = ⊥

@@ -8,7 +8,7 @@ ghost use Rattle.vlt_lexer.specs.Places.{placed};
 ghost use Rattle.vlt_lexer.specs.Reading.{Lexeme};
 ghost use Rattle.vlt_lexer.specs.declared.lexer.LexError.{LexError};
 
-use crate::scan::{Fault, Piece, next_piece};
+use crate::scan::{Piece, Stuck, next_piece};
 use crate::token::{Token, TokenKind};
 use std::alloc::{AllocError, AllocFailed, Global};
 use thiserror::Error;
@@ -56,14 +56,14 @@ impl<T: Drop> From<AllocFailed<T>> for LexError {
     }
 }
 
-impl Fault {
+impl Stuck {
     fn at(self, at: u32) -> LexError
         ensures { result ≡ placed self at }
     {
         match self {
-            Fault::BadByte => LexError::BadByte(at),
-            Fault::NumberTooLarge => LexError::NumberTooLarge(at),
-            Fault::OpenComment => LexError::OpenComment(at),
+            Stuck::BadByte => LexError::BadByte(at),
+            Stuck::NumberTooLarge => LexError::NumberTooLarge(at),
+            Stuck::OpenComment => LexError::OpenComment(at),
         }
     }
 }
@@ -108,7 +108,7 @@ fn read_text(alloc: Global, text: &str) -> Result<Vec<Token<'_>>, LexError>
                 found.push(token(kind, text, left, after))?;
                 left = after;
             }
-            Err(fault) => return Err(fault.at((text.len() - left.len()) as u32)),
+            Err(stuck) => return Err(stuck.at((text.len() - left.len()) as u32)),
         }
     }
 }

@@ -20,7 +20,7 @@ pub enum Class {
 
 /// Why nothing can be read.
 #[derive(Clone, Copy, Debug, PartialEq, Eq)]
-pub enum Fault {
+pub enum Stuck {
     BadByte,
     NumberTooLarge,
     OpenComment,
@@ -288,10 +288,10 @@ fn sign(first: char, text: &str) -> Option<(Mark, &str)>
 }
 
 /// The text behind the comment at its front, if it begins with one.
-fn past_comment(text: &str) -> Result<Option<&str>, Fault>
+fn past_comment(text: &str) -> Result<Option<&str>, Stuck>
     ensures gap { IfOk result (λ found. MatchOption found (IsNoComment (chars text.now))
         (λ rest. IsGap (chars text.now) (chars rest.now))) }
-    ensures open { IfErr result (λ fault. IsStuck fault (chars text.now)) }
+    ensures open { IfErr result (λ stuck. IsStuck stuck (chars text.now)) }
     ensures shorter { IfOk result (λ found. IfSome found
         (λ rest. length rest.now < length text.now)) }
 {
@@ -303,28 +303,28 @@ fn past_comment(text: &str) -> Result<Option<&str>, Fault>
     };
     match past_close(inside) {
         Some(rest) => Ok(Some(rest)),
-        None => Err(Fault::OpenComment),
+        None => Err(Stuck::OpenComment),
     }
 }
 
 /// The number at the front of the text, which begins with a digit.
-fn number_token(text: &str) -> Result<Piece<'_>, Fault>
+fn number_token(text: &str) -> Result<Piece<'_>, Stuck>
     requires { (c : ℕ) × (cs : List ℕ) × (chars text.now ≡ c ∷ cs) ×
         (is_digit c ≡ true) }
     ensures found { IfOk result (λ piece. IsFound (chars text.now) (Some piece)) }
-    ensures stuck { IfErr result (λ fault. IsStuck fault (chars text.now)) }
+    ensures stuck { IfErr result (λ stuck. IsStuck stuck (chars text.now)) }
     ensures shorter { IfOk result (λ piece. IsShorter (length text.now) (Some piece)) }
 {
     match number(text) {
         (Some(n), rest) => Ok(Piece::Token(TokenKind::Number(n), rest)),
-        (None, _) => Err(Fault::NumberTooLarge),
+        (None, _) => Err(Stuck::NumberTooLarge),
     }
 }
 
 /// Takes one piece off the front of a text.
-pub fn next_piece(text: &str) -> Result<Option<Piece<'_>>, Fault>
+pub fn next_piece(text: &str) -> Result<Option<Piece<'_>>, Stuck>
     ensures found { IfOk result (λ found. IsFound (chars text.now) found) }
-    ensures stuck { IfErr result (λ fault. IsStuck fault (chars text.now)) }
+    ensures stuck { IfErr result (λ stuck. IsStuck stuck (chars text.now)) }
     ensures shorter { IfOk result (λ found. IsShorter (length text.now) found) }
 {
     let Some((c, after)) = first(text) else {
@@ -348,11 +348,11 @@ pub fn next_piece(text: &str) -> Result<Option<Piece<'_>>, Fault>
     if c == '\'' {
         return match past_name(after) {
             Some(rest) => Ok(Some(Piece::Token(TokenKind::Tick, rest))),
-            None => Err(Fault::BadByte),
+            None => Err(Stuck::BadByte),
         };
     }
     match sign(c, text) {
         Some((mark, rest)) => Ok(Some(Piece::Token(TokenKind::Sign(mark), rest))),
-        None => Err(Fault::BadByte),
+        None => Err(Stuck::BadByte),
     }
 }

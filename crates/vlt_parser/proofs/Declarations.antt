@@ -1,4 +1,4 @@
--- What the stack machine does with declarations.
+-- What the automaton does with declarations.
 use Rattle.std.proofs.Common.{◌≡◌, ◌≤◌, ◌-◌, ◌+◌, ◌==◌, ◌<◌, if◌then◌else◌, length, ℕ, zero, suc, Bool, true, false, List, [], ◌∷◌, ◌++◌, Some, ◌⊎◌, inl, inr, Err, refl, sym, ap, subst, ◌∙◌, arith, append_assoc}
 use Rattle.std.proofs.lemmas.Bool.{true≢false, eq-eqb, ne_eqb}
 use Rattle.vlt_lexer.specs.declared.token.Word.{Word}
@@ -6,15 +6,15 @@ use Rattle.vlt_lexer.specs.declared.token.Word.TheVariants as word
 use Rattle.vlt_lexer.specs.declared.token.Mark.TheVariants as mark
 use Rattle.vlt_syntax.specs.Tokens as t
 use Rattle.vlt_syntax.specs.Tokens.{Token}
-use Rattle.vlt_syntax.specs.Machine as m
+use Rattle.vlt_automaton.specs.Language as m
 use Rattle.vlt_syntax.specs.Grammar.{language}
-use Rattle.vlt_syntax.specs.Machine.{Symbol, Reaction, Thing, Frame, Left, Located, run, followed, settled, gone_on, reaction_behind, may_skip, depth_read, on_sign}
-use Rattle.vlt_syntax.proofs.Sameness.{same_word-refl}
+use Rattle.vlt_automaton.specs.Language.{Symbol, Reaction, Thing, Pending, Left, Located, run, followed, settled, gone_on, reaction_behind, may_skip, depth_read, on_sign}
+use Rattle.vlt_automaton.proofs.Sameness.{same_word-refl}
 use Rattle.vlt_lexer.specs.declared.token.Token.{Token as Placed}
 use Rattle.vlt_parser_exprs.specs.declared.lists.Most.{Most}
 use Rattle.vlt_parser_exprs.specs.declared.error.ParseError.{ParseError}
 use Rattle.vlt_parser_exprs.specs.declared.error.ParseError.TheVariants.{Limit}
-use Rattle.vlt_parser_exprs.proofs.Runs.{fails_with, settled_followed, outcome_takes, skips_followed}
+use Rattle.vlt_parser_exprs.proofs.Runs.{fails_with, settled_followed, result_type_takes, skips_followed}
 use Rattle.vlt_parser_exprs.specs.Ahead.{ahead, Begins, refusal, IsFull, Fails, LacksKeyword}
 use Rattle.vlt_parser.specs.Declarations.{takes, can_begin, fields_left, decls_left}
 
@@ -41,8 +41,8 @@ followed_shape : (r : Reaction) (ys : List Symbol) → IsTakenOrRefused r → Is
 followed_shape r ys (inl e) = inl (rw e refl)
 followed_shape r ys (inr (xs, e)) = inr (xs ++ ys, rw e refl)
 
-outcome_shape : (x : Token) → IsTakenOrRefused (m.start_outcome x)
-outcome_shape x = by_word (m.is_keyword word.Void x)
+result_type_shape : (x : Token) → IsTakenOrRefused (m.start_result_type x)
+result_type_shape x = by_word (m.is_keyword word.Void x)
   where
     by_word : (b : Bool) → IsTakenOrRefused (if b then m.take [] else m.start_ty x)
     by_word true = inr ([], refl)
@@ -54,7 +54,7 @@ decl_shape (t.keyword word.Abstract) = inr (_, refl)
 decl_shape (t.keyword word.Struct) = inr (_, refl)
 decl_shape (t.keyword word.Variant) = inr (_, refl)
 decl_shape (t.keyword word.Extern) = inr (_, refl)
-decl_shape x = followed_shape (m.start_head x) (m.block language.depth ∷ []) (followed_shape (m.start_outcome x) m.head_rest (outcome_shape x))
+decl_shape x = followed_shape (m.start_head x) (m.block language.depth ∷ []) (followed_shape (m.start_result_type x) m.head_rest (result_type_shape x))
 
 can : (start : Token → Reaction) → ((x : Token) → IsTakenOrRefused (start x)) → (ts : List Located) → can_begin start ts ≡ true → CanBegin start ts
 can start shape [] is = absurd cc
@@ -130,7 +130,7 @@ decl_word w xs s ts rest is b = rw b.is (rw is (rw (same_word-refl w) refl))
 pub decl_other : (x : Token) (s : List Symbol) (ts rest : List Located) → m.start_decl x ≡ followed (m.start_head x) (m.block language.depth ∷ []) → Begins x ts rest
     → run (m.thing m.a_decl ∷ s) ts ≡ run (m.head ∷ m.block language.depth ∷ s) ts
 decl_other x s ts rest is b =
-    rw b.is (rw is (ap (gone_on (m.run_over rest) b.at) (settled_followed (m.start_head x) (m.block language.depth ∷ []) s _ _ (skips_followed (m.start_outcome x) m.head_rest ∙ outcome_takes x))))
+    rw b.is (rw is (ap (gone_on (m.run_over rest) b.at) (settled_followed (m.start_head x) (m.block language.depth ∷ []) s _ _ (skips_followed (m.start_result_type x) m.head_rest ∙ result_type_takes x))))
 
 pub decls_one : (n next : ℕ) (s : List Symbol) (ts : List Located) → CanBegin m.start_decl ts → next ≡ n + 1 → next ≤ language.decls
     → run (m.decls (decls_left n) ∷ s) ts ≡ run (m.thing m.a_decl ∷ m.decls (decls_left next) ∷ s) ts

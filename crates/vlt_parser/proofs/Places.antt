@@ -3,7 +3,7 @@ use Rattle.std.proofs.Common.{◌≡◌, List, [], ◌∷◌, refl, ap, map}
 use Rattle.vlt_lexer.specs.declared.token.Token.{Token as Placed}
 use Rattle.vlt_lexer.specs.Text.{lexeme, lexemes}
 use Rattle.vlt_syntax.specs.Tokens.{token_of, tokens_of, tokens_in}
-use Rattle.vlt_syntax.specs.Machine as m
+use Rattle.vlt_automaton.specs.Language as m
 use Rattle.vlt_parser_exprs.specs.declared.error.ParseError.{ParseError}
 use Rattle.vlt_parser_exprs.specs.declared.error.ParseError.TheVariants as error
 use Rattle.vlt_lexer.specs.Reading.{Lexeme}

@@ -8,8 +8,8 @@ ghost use Rattle.vlt_syntax.specs.Lists.{each_then, Each};
 ghost use Rattle.vlt_syntax.specs.Spelling.{field_then, release_then, decl_then};
 ghost use Rattle.vlt_syntax.specs.Grammar.{AtMost, IsStates, IsField, IsDecl, language};
 ghost use Rattle.vlt_syntax.specs.Places.{decl_at, each_at, field_at, release_at};
-ghost use Rattle.vlt_syntax.specs.View.{name_of, states_of, header_param_of, field_of, decl_of};
-ghost use Rattle.vlt_syntax.specs.Machine as machine;
+ghost use Rattle.vlt_syntax.specs.View.{name_of, states_of, header_key_of, field_of, decl_of};
+ghost use Rattle.vlt_automaton.specs.Language as automaton;
 ghost use Rattle.vlt_parser_exprs.specs.Reading.{left, Stands};
 ghost use Rattle.vlt_parser.specs.Declarations.{struct_head_then, struct_head_at};
 ghost use Rattle.vlt_parser_exprs.specs.Ahead.{ahead, Turns};
@@ -27,7 +27,7 @@ use vlt_parser_exprs::lists::{allow_one_more, bound, some_listed};
 use vlt_parser_exprs::tokens::{keyword, kind, name, sign, span, unexpected};
 use vlt_parser_exprs::types::{at_states, marked_name, states, ty};
 use vlt_parser_stmts::block;
-use vlt_syntax::{Decl, Field, HeaderParam, Name, States};
+use vlt_syntax::{Decl, Field, HeaderKey, Name, States};
 
 /// `int x;` or `int x@s;`
 fn field(alloc: Global, tokens: &[Token<'_>], at: usize) -> Result<(Field, usize), ParseError>
@@ -35,8 +35,8 @@ fn field(alloc: Global, tokens: &[Token<'_>], at: usize) -> Result<(Field, usize
     ensures placed { Lies field_of field_at tokens.now at result }
     ensures right { Holds field_of IsField result }
     ensures moves { Advances tokens.now at result }
-    ensures place { Takes (machine.thing machine.a_ty ∷ machine.name ∷ machine.at_states ∷
-        machine.sign Semicolon ∷ []) tokens.now at result }
+    ensures place { Takes (automaton.thing automaton.a_ty ∷ automaton.name ∷
+        automaton.at_states ∷ automaton.sign Semicolon ∷ []) tokens.now at result }
 {
     let (ty, next) = ty(alloc, tokens, at)?;
     let (name, next) = name(alloc, tokens, next)?;
@@ -56,7 +56,7 @@ fn field(alloc: Global, tokens: &[Token<'_>], at: usize) -> Result<(Field, usize
 
 /// Whether a type begins here.
 fn begins_ty(tokens: &[Token<'_>], at: usize) -> bool
-    ensures { result ≡ can_begin machine.start_ty (ahead tokens.now at) }
+    ensures { result ≡ can_begin automaton.start_ty (ahead tokens.now at) }
 {
     matches!(
         kind(tokens, at),
@@ -77,8 +77,8 @@ fn fields(
     ensures right { Holds (map field_of) (Each IsField) result }
     ensures few { Holds (map field_of) (AtMost language.fields) result }
     ensures moves { MayAdvance tokens.now at result }
-    ensures place { Turns (machine.fields (fields_left 0) ∷ []) (λ x. machine.behind_fields ∷
-        []) (λ x. x.1) tokens.now at result }
+    ensures place { Turns (automaton.fields (fields_left 0) ∷
+        []) (λ x. automaton.behind_fields ∷ []) (λ x. x.1) tokens.now at result }
 {
     let most = Some(bound(FIELDS));
     let mut fields = Items::new(alloc);
@@ -104,7 +104,7 @@ fn release(
     ensures placed { Lies (option_map states_of) release_at tokens.now at result }
     ensures right { MayBe (option_map states_of) IsStates result }
     ensures moves { MayAdvance tokens.now at result }
-    ensures place { Turns (machine.behind_fields ∷ []) (λ x. machine.sign CloseBrace ∷
+    ensures place { Turns (automaton.behind_fields ∷ []) (λ x. automaton.sign CloseBrace ∷
         []) (λ x. x.1) tokens.now at result }
 {
     let Ok(next) = keyword(tokens, at, Word::Release) else {
@@ -121,7 +121,7 @@ fn stateset(alloc: Global, tokens: &[Token<'_>], at: usize) -> Result<(Decl, usi
     ensures placed { Lies decl_of decl_at tokens.now at result }
     ensures right { Holds decl_of (IsDecl language) result }
     ensures moves { Advances tokens.now at result }
-    ensures place { Takes (machine.keyword Stateset ∷ machine.behind_stateset)
+    ensures place { Takes (automaton.keyword Stateset ∷ automaton.behind_stateset)
         tokens.now at result }
 {
     let next = keyword(tokens, at, Word::Stateset)?;
@@ -143,7 +143,7 @@ fn abstract_decl(
     ensures placed { Lies decl_of decl_at tokens.now at result }
     ensures right { Holds decl_of (IsDecl language) result }
     ensures moves { Advances tokens.now at result }
-    ensures place { Takes (machine.keyword Abstract ∷ machine.behind_abstract)
+    ensures place { Takes (automaton.keyword Abstract ∷ automaton.behind_abstract)
         tokens.now at result }
 {
     let next = keyword(tokens, at, Word::Abstract)?;
@@ -158,7 +158,7 @@ fn abstract_decl(
 #[derive(Drop)]
 struct StructHead {
     name: Name,
-    params: Items<HeaderParam>,
+    params: Items<HeaderKey>,
     states: Option<Name>,
 }
 
@@ -169,15 +169,15 @@ fn struct_head(
     at: usize,
 ) -> Result<(StructHead, usize), ParseError>
     ensures spelled { IfOk result (λ x. left tokens.now at ≡
-        struct_head_then (name_of x.0.name) (map header_param_of x.0.params)
+        struct_head_then (name_of x.0.name) (map header_key_of x.0.params)
         (option_map name_of x.0.states) (left tokens.now x.1)) }
     ensures placed { IfOk result (λ x. Stands struct_head_at
         tokens.now at
-        (name_of x.0.name, map header_param_of x.0.params, option_map name_of x.0.states) x.1) }
-    ensures few { IfOk result (λ x. AtMost language.parameters (map header_param_of x.0.params)) }
+        (name_of x.0.name, map header_key_of x.0.params, option_map name_of x.0.states) x.1) }
+    ensures few { IfOk result (λ x. AtMost language.parameters (map header_key_of x.0.params)) }
     ensures moves { Advances tokens.now at result }
-    ensures place { Takes (machine.keyword Struct ∷ machine.name ∷ machine.header ∷
-        machine.marked_name At ∷ machine.sign OpenBrace ∷ []) tokens.now at result }
+    ensures place { Takes (automaton.keyword Struct ∷ automaton.name ∷ automaton.header ∷
+        automaton.marked_name At ∷ automaton.sign OpenBrace ∷ []) tokens.now at result }
 {
     let next = keyword(tokens, at, Word::Struct)?;
     let (name, next) = name(alloc, tokens, next)?;
@@ -200,7 +200,8 @@ fn struct_decl(alloc: Global, tokens: &[Token<'_>], at: usize) -> Result<(Decl, 
     ensures placed { Lies decl_of decl_at tokens.now at result }
     ensures right { Holds decl_of (IsDecl language) result }
     ensures moves { Advances tokens.now at result }
-    ensures place { Takes (machine.keyword Struct ∷ machine.behind_struct) tokens.now at result }
+    ensures place { Takes (automaton.keyword Struct ∷ automaton.behind_struct) tokens.now
+        at result }
 {
     let (head, next) = struct_head(alloc, tokens, at)?;
     let (fields, next) = fields(alloc, tokens, next)?;
@@ -226,7 +227,7 @@ fn variant(alloc: Global, tokens: &[Token<'_>], at: usize) -> Result<(Decl, usiz
     ensures placed { Lies decl_of decl_at tokens.now at result }
     ensures right { Holds decl_of (IsDecl language) result }
     ensures moves { Advances tokens.now at result }
-    ensures place { Takes (machine.keyword Variant ∷ machine.behind_variant) tokens.now at
+    ensures place { Takes (automaton.keyword Variant ∷ automaton.behind_variant) tokens.now at
         result }
 {
     let next = keyword(tokens, at, Word::Variant)?;
@@ -253,7 +254,8 @@ fn external(alloc: Global, tokens: &[Token<'_>], at: usize) -> Result<(Decl, usi
     ensures placed { Lies decl_of decl_at tokens.now at result }
     ensures right { Holds decl_of (IsDecl language) result }
     ensures moves { Advances tokens.now at result }
-    ensures place { Takes (machine.keyword Extern ∷ machine.behind_extern) tokens.now at result }
+    ensures place { Takes (automaton.keyword Extern ∷ automaton.behind_extern) tokens.now
+        at result }
 {
     let next = keyword(tokens, at, Word::Extern)?;
     let (head, next) = head(alloc, tokens, next)?;
@@ -268,7 +270,7 @@ fn function(alloc: Global, tokens: &[Token<'_>], at: usize) -> Result<(Decl, usi
     ensures placed { Lies decl_of decl_at tokens.now at result }
     ensures right { Holds decl_of (IsDecl language) result }
     ensures moves { Advances tokens.now at result }
-    ensures place { Takes (machine.head ∷ machine.block language.depth ∷ []) tokens.now at
+    ensures place { Takes (automaton.head ∷ automaton.block language.depth ∷ []) tokens.now at
         result }
 {
     let (head, next) = head(alloc, tokens, at)?;
@@ -280,7 +282,7 @@ fn function(alloc: Global, tokens: &[Token<'_>], at: usize) -> Result<(Decl, usi
 /// Whether a declaration begins here.
 #[tactic(auto, using(crate::proofs::Declarations::other_begins))]
 fn begins_decl(tokens: &[Token<'_>], at: usize) -> bool
-    ensures { result ≡ can_begin machine.start_decl (ahead tokens.now at) }
+    ensures { result ≡ can_begin automaton.start_decl (ahead tokens.now at) }
 {
     match kind(tokens, at) {
         Some(
@@ -303,7 +305,7 @@ fn decl(alloc: Global, tokens: &[Token<'_>], at: usize) -> Result<(Decl, usize),
     ensures placed { Lies decl_of decl_at tokens.now at result }
     ensures right { Holds decl_of (IsDecl language) result }
     ensures moves { Advances tokens.now at result }
-    ensures place { Takes (machine.thing machine.a_decl ∷ []) tokens.now at result }
+    ensures place { Takes (automaton.thing automaton.a_decl ∷ []) tokens.now at result }
 {
     match kind(tokens, at) {
         Some(TokenKind::Keyword(Word::Stateset)) => stateset(alloc, tokens, at),
@@ -324,7 +326,7 @@ pub fn decls(alloc: Global, tokens: &[Token<'_>]) -> Result<Items<Decl>, ParseEr
         (length tokens.now)) }
     ensures right { IfOk result (λ x. Each (IsDecl language) (map decl_of x)) }
     ensures few { IfOk result (λ x. AtMost language.decls (map decl_of x)) }
-    ensures place { Ends (machine.decls (decls_left 0)) tokens.now result }
+    ensures place { Ends (automaton.decls (decls_left 0)) tokens.now result }
 {
     let most = Some(bound(DECLS));
     let mut decls = Items::new(alloc);

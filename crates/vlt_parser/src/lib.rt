@@ -10,8 +10,6 @@ ghost use Rattle.vlt_syntax.specs.View.{tree_of};
 ghost use Rattle.vlt_parser.specs.Refusals.{IsRefusedFor};
 
 mod decls;
-#[cfg(test)]
-mod tests;
 
 use std::alloc::Global;
 use vlt_lexer::Token;

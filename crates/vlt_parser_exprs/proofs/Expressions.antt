@@ -1,4 +1,4 @@
--- What the stack machine does with expressions.
+-- What the automaton does with expressions.
 use Rattle.std.proofs.Common.{◌≡◌, ◌≢◌, ◌≤◌, ◌-◌, ◌+◌, nat_lt, max, ◌<◌, ℕ, suc, false, List, [], ◌∷◌, Option, Some, None, Err, refl, ap, arith}
 use Rattle.std.proofs.lemmas.Bool.{lt-ltb, ltb-true, false_from_ne_true}
 use Rattle.vlt_ops.specs.declared.Op.{Op}
@@ -7,47 +7,47 @@ use Rattle.vlt_syntax.specs.Spelling.{operator_of, prefix_of}
 use Rattle.vlt_lexer.specs.declared.token.Mark.TheVariants as mark
 use Rattle.vlt_syntax.specs.Tokens as t
 use Rattle.vlt_syntax.specs.Tokens.{Token}
-use Rattle.vlt_syntax.specs.Machine as m
+use Rattle.vlt_automaton.specs.Language as m
 use Rattle.vlt_syntax.specs.Grammar.{language, level}
-use Rattle.vlt_syntax.specs.Machine.{Symbol, Reaction, Thing, Frame, Left, Located, run, followed, settled, gone_on, reaction_behind, may_skip, depth_read, on_sign}
+use Rattle.vlt_automaton.specs.Language.{Symbol, Reaction, Thing, Pending, Left, Located, run, followed, settled, gone_on, reaction_behind, may_skip, depth_read, on_sign}
 use Rattle.vlt_parser_exprs.specs.declared.error.ParseError.{ParseError}
 use Rattle.vlt_parser_exprs.specs.declared.error.ParseError.TheVariants.{Limit}
 use Rattle.vlt_parser_exprs.proofs.Runs.{fails_with, begins, operand_takes}
 use Rattle.vlt_parser_exprs.specs.Ahead.{Begins, LacksSign, refusal, Fails, BeginsOperator, next_level, level_of, sign_level, sign_in}
 
-pub operand_named : (text : List ℕ) (room : ℕ) (fs : List Frame) (s : List Symbol) (ts rest : List Located) → Begins (t.name text) ts rest
+pub operand_named : (text : List ℕ) (room : ℕ) (fs : List Pending) (s : List Symbol) (ts rest : List Located) → Begins (t.name text) ts rest
     → run (m.operand room fs ∷ s) ts ≡ run (m.name ∷ m.behind_variable 1 fs ∷ s) ts
 operand_named text room fs s ts rest b = rw b.is refl
 
-pub operand_taken : (x : Token) (room : ℕ) (fs : List Frame) (s : List Symbol) (ts rest : List Located) → m.start_operand room fs x ≡ m.take (m.behind_operand 1 fs ∷ []) → Begins x ts rest
+pub operand_taken : (x : Token) (room : ℕ) (fs : List Pending) (s : List Symbol) (ts rest : List Located) → m.start_operand room fs x ≡ m.take (m.behind_operand 1 fs ∷ []) → Begins x ts rest
     → run (m.operand room fs ∷ s) ts ≡ run (m.behind_operand 1 fs ∷ s) rest
 operand_taken x room fs s ts rest is b = rw b.is (rw is refl)
 
 -- behind a name
-behind_dot : (depth : ℕ) (fs : List Frame) (s : List Symbol) (ts rest : List Located) → Begins (t.sign mark.Dot) ts rest
+behind_dot : (depth : ℕ) (fs : List Pending) (s : List Symbol) (ts rest : List Located) → Begins (t.sign mark.Dot) ts rest
     → run (m.behind_variable depth fs ∷ s) ts ≡ run (m.name ∷ m.behind_operand depth fs ∷ s) rest
 behind_dot depth [] s ts rest b = rw b.is refl
 behind_dot depth (m.prefixed ∷ fs) s ts rest b = behind_dot (suc depth) fs s ts rest b
 behind_dot depth (m.level_from least room ∷ fs) s ts rest b = rw b.is refl
 behind_dot depth (m.right_of least room left ∷ fs) s ts rest b = rw b.is refl
 
-behind_alone : (depth : ℕ) (fs : List Frame) (s : List Symbol) (ts : List Located) → LacksSign mark.Dot ts
+behind_alone : (depth : ℕ) (fs : List Pending) (s : List Symbol) (ts : List Located) → LacksSign mark.Dot ts
     → run (m.behind_name depth fs ∷ s) ts ≡ run (m.operations depth fs ∷ s) ts
 behind_alone depth fs s [] lacks = refl
 behind_alone depth fs s (x ∷ xs) lacks = rw lacks refl
 
-behind_no_dot : (depth : ℕ) (fs : List Frame) (s : List Symbol) (ts : List Located) → LacksSign mark.Dot ts
+behind_no_dot : (depth : ℕ) (fs : List Pending) (s : List Symbol) (ts : List Located) → LacksSign mark.Dot ts
     → run (m.behind_variable depth fs ∷ s) ts ≡ run (m.behind_operand depth fs ∷ s) ts
 behind_no_dot depth [] s ts lacks = behind_alone depth [] s ts lacks
 behind_no_dot depth (m.prefixed ∷ fs) s ts lacks = behind_no_dot (suc depth) fs s ts lacks
 behind_no_dot depth (m.level_from least room ∷ fs) s ts lacks = behind_alone depth (m.level_from least room ∷ fs) s ts lacks
 behind_no_dot depth (m.right_of least room left ∷ fs) s ts lacks = behind_alone depth (m.right_of least room left ∷ fs) s ts lacks
 
-pub variable_dot : (fs : List Frame) (s : List Symbol) (ts rest : List Located) → Begins (t.sign mark.Dot) ts rest
+pub variable_dot : (fs : List Pending) (s : List Symbol) (ts rest : List Located) → Begins (t.sign mark.Dot) ts rest
     → run (m.behind_variable 1 fs ∷ s) ts ≡ run (m.name ∷ m.behind_operand 1 fs ∷ s) rest
 variable_dot = behind_dot 1
 
-pub variable_alone : (fs : List Frame) (s : List Symbol) (ts : List Located) → LacksSign mark.Dot ts
+pub variable_alone : (fs : List Pending) (s : List Symbol) (ts : List Located) → LacksSign mark.Dot ts
     → run (m.behind_variable 1 fs ∷ s) ts ≡ run (m.behind_operand 1 fs ∷ s) ts
 variable_alone = behind_no_dot 1
 
@@ -58,30 +58,30 @@ if_allowed depth room inside xs is fits = rw (lt-ltb depth room (omega (arith, i
 if_full : (depth room : ℕ) (xs : List Symbol) → room ≤ depth → m.if_deeper depth room xs ≡ m.exceed m.depth_limit
 if_full depth room xs full = rw (false_from_ne_true (nat_lt depth room) (λ e. omega (arith, full, ltb-true depth room e))) refl
 
-pub group_opens : (room inside : ℕ) (fs : List Frame) (s : List Symbol) (ts rest : List Located) → room ≡ suc inside → 1 ≤ inside → Begins (t.sign mark.OpenParen) ts rest
+pub group_opens : (room inside : ℕ) (fs : List Pending) (s : List Symbol) (ts rest : List Located) → room ≡ suc inside → 1 ≤ inside → Begins (t.sign mark.OpenParen) ts rest
     → run (m.operand room fs ∷ s) ts ≡ run (m.operand inside (m.level_from m.lowest inside ∷ []) ∷ m.close_group fs ∷ s) rest
 group_opens room inside fs s ts rest is fits b =
     let one_less : room - 1 ≡ inside = omega (arith, is) in
     rw b.is (rw (if_allowed 1 room inside (m.operand (room - 1) (m.level_from m.lowest (room - 1) ∷ []) ∷ m.close_group fs ∷ []) is fits) (rw one_less refl))
 
-pub group_full : (room : ℕ) (fs : List Frame) (e : ParseError) (s : List Symbol) (ts rest : List Located) → (room ≤ 1) × (e ≡ Limit 12) → Begins (t.sign mark.OpenParen) ts rest
+pub group_full : (room : ℕ) (fs : List Pending) (e : ParseError) (s : List Symbol) (ts rest : List Located) → (room ≤ 1) × (e ≡ Limit 12) → Begins (t.sign mark.OpenParen) ts rest
     → Fails (run (m.operand room fs ∷ s) ts) e
 group_full room fs e s ts rest full b =
     rw full.1 (fails_with _ (Limit 12) (m.over_limit 12) refl (rw b.is (rw (if_full 1 room (m.operand (room - 1) (m.level_from m.lowest (room - 1) ∷ []) ∷ m.close_group fs ∷ []) full.0) refl)))
 
-pub prefix_opens : (sg : Mark) (op : Op) (room inside : ℕ) (fs : List Frame) (s : List Symbol) (ts rest : List Located) → prefix_of sg ≡ Some op → room ≡ suc inside → 1 ≤ inside → Begins (t.sign sg) ts rest
+pub prefix_opens : (sg : Mark) (op : Op) (room inside : ℕ) (fs : List Pending) (s : List Symbol) (ts rest : List Located) → prefix_of sg ≡ Some op → room ≡ suc inside → 1 ≤ inside → Begins (t.sign sg) ts rest
     → run (m.operand room fs ∷ s) ts ≡ run (m.operand inside (m.prefixed ∷ fs) ∷ s) rest
 prefix_opens sg op room inside fs s ts rest is_op is fits b =
     let one_less : room - 1 ≡ inside = omega (arith, is) in
     rw b.is (rw (starts_prefix sg op room fs is_op) (rw (if_allowed 1 room inside (m.operand (room - 1) (m.prefixed ∷ fs) ∷ []) is fits) (rw one_less refl)))
   where
-    starts_prefix : (sg : Mark) (op : Op) (room : ℕ) (fs : List Frame) → prefix_of sg ≡ Some op
+    starts_prefix : (sg : Mark) (op : Op) (room : ℕ) (fs : List Pending) → prefix_of sg ≡ Some op
         → m.start_operand room fs (t.sign sg) ≡ m.if_deeper 1 room (m.operand (room - 1) (m.prefixed ∷ fs) ∷ [])
     starts_prefix mark.Minus op room fs is = refl
     starts_prefix mark.Not op room fs is = refl
     starts_prefix _ op room fs is = absurd cc
 
-pub prefix_full : (sg : Mark) (op : Op) (room : ℕ) (fs : List Frame) (e : ParseError) (s : List Symbol) (ts rest : List Located) → prefix_of sg ≡ Some op → (room ≤ 1) × (e ≡ Limit 12) → Begins (t.sign sg) ts rest
+pub prefix_full : (sg : Mark) (op : Op) (room : ℕ) (fs : List Pending) (e : ParseError) (s : List Symbol) (ts rest : List Located) → prefix_of sg ≡ Some op → (room ≤ 1) × (e ≡ Limit 12) → Begins (t.sign sg) ts rest
     → Fails (run (m.operand room fs ∷ s) ts) e
 prefix_full sg op room fs e s ts rest is_op full b = rw full.1 (fails_with _ (Limit 12) (m.over_limit 12) refl (rw b.is (fails sg is_op)))
   where
@@ -90,7 +90,7 @@ prefix_full sg op room fs e s ts rest is_op full b = rw full.1 (fails_with _ (Li
     fails mark.Not is = rw (if_full 1 room (m.operand (room - 1) (m.prefixed ∷ fs) ∷ []) full.0) refl
     fails _ is = absurd cc
 
-pub no_prefix : (sg : Mark) (room : ℕ) (fs : List Frame) (s : List Symbol) (ts rest : List Located) → prefix_of sg ≡ None → sg ≢ mark.OpenParen → Begins (t.sign sg) ts rest
+pub no_prefix : (sg : Mark) (room : ℕ) (fs : List Pending) (s : List Symbol) (ts rest : List Located) → prefix_of sg ≡ None → sg ≢ mark.OpenParen → Begins (t.sign sg) ts rest
     → Fails (run (m.operand room fs ∷ s) ts) (refusal ts)
 no_prefix sg room fs s ts rest none no_group b = rw b.is (fails_with _ (refusal (record { token = t.sign sg; at = b.at } ∷ rest)) (m.unexpected_at b.at) refl (fails sg none no_group))
   where
@@ -101,7 +101,7 @@ no_prefix sg room fs s ts rest none no_group b = rw b.is (fails_with _ (refusal 
     fails _ none no_group = refl
 
 -- an operator that binds at least so tightly
-pub operator_goes_on : (op : Op) (depth least room inside : ℕ) (fs : List Frame) (s : List Symbol) (ts rest : List Located)
+pub operator_goes_on : (op : Op) (depth least room inside : ℕ) (fs : List Pending) (s : List Symbol) (ts rest : List Located)
     → least ≤ level op → room ≡ suc inside → depth ≤ inside → BeginsOperator op ts rest
     → run (m.operations depth (m.level_from least room ∷ fs) ∷ s) ts ≡ run (m.operand inside (m.level_from (level op + 1) inside ∷ m.right_of least room depth ∷ fs) ∷ s) rest
 operator_goes_on op depth least room inside fs s ts rest binds is fits b =
@@ -110,7 +110,7 @@ operator_goes_on op depth least room inside fs s ts rest binds is fits b =
     let above : suc (level op) ≡ level op + 1 = omega arith in
     rw b.begins.is (rw b.of (rw tight (rw (if_allowed depth room inside (m.operand (room - 1) (m.level_from (suc (level op)) (room - 1) ∷ m.right_of least room depth ∷ fs) ∷ []) is fits) (rw one_less (ap (λ l. run (m.operand inside (m.level_from l inside ∷ m.right_of least room depth ∷ fs) ∷ s) rest) above)))))
 
-pub operator_full : (op : Op) (depth least room : ℕ) (fs : List Frame) (e : ParseError) (s : List Symbol) (ts rest : List Located)
+pub operator_full : (op : Op) (depth least room : ℕ) (fs : List Pending) (e : ParseError) (s : List Symbol) (ts rest : List Located)
     → least ≤ level op → (room ≤ depth) × (e ≡ Limit 12) → BeginsOperator op ts rest
     → Fails (run (m.operations depth (m.level_from least room ∷ fs) ∷ s) ts) e
 operator_full op depth least room fs e s ts rest binds full b =
@@ -119,7 +119,7 @@ operator_full op depth least room fs e s ts rest binds full b =
     (rw b.begins.is (rw b.of (rw tight (rw (if_full depth room (m.operand (room - 1) (m.level_from (suc (level op)) (room - 1) ∷ m.right_of least room depth ∷ fs) ∷ []) full.0) refl)))))
 
 -- the right operand has ended, and with its operator it is the left one now
-pub right_ended : (l inside depth right least room : ℕ) (fs : List Frame) (s : List Symbol) (ts : List Located) → next_level ts < l
+pub right_ended : (l inside depth right least room : ℕ) (fs : List Pending) (s : List Symbol) (ts : List Located) → next_level ts < l
     → run (m.operations right (m.level_from l inside ∷ m.right_of least room depth ∷ fs) ∷ s) ts ≡ run (m.operations (suc (max depth right)) (m.level_from least room ∷ fs) ∷ s) ts
 right_ended l inside depth right least room fs s [] ends = refl
 right_ended l inside depth right least room fs s (x ∷ xs) ends = by_token x.token ends
@@ -153,15 +153,15 @@ low_is_none mark.AndAnd low = absurd (omega (arith, low))
 low_is_none mark.OrOr low = absurd (omega (arith, low))
 low_is_none _ low = refl
 
-no_operator : (depth : ℕ) (fs : List Frame) (x : Token) → sign_level (sign_in x) < 2 → m.react_operations depth fs x ≡ m.skip
+no_operator : (depth : ℕ) (fs : List Pending) (x : Token) → sign_level (sign_in x) < 2 → m.react_operations depth fs x ≡ m.skip
 no_operator depth fs (t.sign sg) low = rw (low_is_none sg low) refl
 no_operator depth fs _ low = refl
 
-pub group_closes : (depth inside : ℕ) (fs : List Frame) (s : List Symbol) (ts rest : List Located) → Begins (t.sign mark.CloseParen) ts rest
+pub group_closes : (depth inside : ℕ) (fs : List Pending) (s : List Symbol) (ts rest : List Located) → Begins (t.sign mark.CloseParen) ts rest
     → run (m.operations depth (m.level_from m.lowest inside ∷ []) ∷ m.close_group fs ∷ s) ts ≡ run (m.behind_operand (suc depth) fs ∷ s) rest
 group_closes depth inside fs s ts rest b = rw b.is refl
 
-pub group_stays_open : (depth inside : ℕ) (fs : List Frame) (s : List Symbol) (ts : List Located) → next_level ts < 2 → LacksSign mark.CloseParen ts
+pub group_stays_open : (depth inside : ℕ) (fs : List Pending) (s : List Symbol) (ts : List Located) → next_level ts < 2 → LacksSign mark.CloseParen ts
     → Fails (run (m.operations depth (m.level_from m.lowest inside ∷ []) ∷ m.close_group fs ∷ s) ts) (refusal ts)
 group_stays_open depth inside fs s [] ends lacks = fails_with _ (refusal []) m.ended refl refl
 group_stays_open depth inside fs s (x ∷ xs) ends lacks = fails_with _ (refusal (x ∷ xs)) (m.unexpected_at x.at) refl (rw (no_operator depth (m.level_from m.lowest inside ∷ []) x.token ends) (rw lacks refl))

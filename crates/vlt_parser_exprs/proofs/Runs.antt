@@ -1,4 +1,4 @@
--- What the stack machine does with a symbol, told by what comes.
+-- What the automaton does with a symbol, told by what comes.
 use Rattle.std.proofs.Common.{◌≡◌, ◌-◌, ◌+◌, ◌==◌, nat_lt, if◌then◌else◌, ℕ, zero, suc, Bool, true, false, List, [], ◌∷◌, ◌++◌, Option, Some, None, Result, Ok, Err, refl, sym, ap, ◌∙◌, arith, append_assoc}
 use Rattle.std.proofs.lemmas.Bool.{eq-eqb, ne_eqb}
 use Rattle.vlt_lexer.specs.declared.token.Mark.{Mark}
@@ -7,21 +7,21 @@ use Rattle.vlt_lexer.specs.declared.token.Word.TheVariants as word
 use Rattle.vlt_lexer.specs.declared.token.Mark.TheVariants as mark
 use Rattle.vlt_syntax.specs.Tokens as t
 use Rattle.vlt_syntax.specs.Tokens.{Token}
-use Rattle.vlt_syntax.specs.Machine as m
+use Rattle.vlt_automaton.specs.Language as m
 use Rattle.vlt_syntax.specs.Grammar.{language}
-use Rattle.vlt_syntax.specs.Machine.{Symbol, Reaction, Thing, Frame, Left, Located, run, followed, settled, gone_on, reaction_behind, may_skip, depth_read, on_sign}
-use Rattle.vlt_syntax.proofs.Sameness.{same_mark-refl}
+use Rattle.vlt_automaton.specs.Language.{Symbol, Reaction, Thing, Pending, Left, Located, run, followed, settled, gone_on, reaction_behind, may_skip, depth_read, on_sign}
+use Rattle.vlt_automaton.proofs.Sameness.{same_mark-refl}
 use Rattle.vlt_lexer.specs.declared.token.Token.{Token as Placed}
 use Rattle.vlt_parser_exprs.specs.declared.lists.Most.{Most}
 use Rattle.vlt_parser_exprs.specs.declared.error.ParseError.{ParseError}
 use Rattle.vlt_parser_exprs.specs.declared.error.ParseError.TheVariants.{Limit}
 use Rattle.vlt_parser_exprs.specs.Reading.{IsWithin}
-use Rattle.vlt_parser_exprs.specs.Ahead.{ahead, Begins, LacksSign, refusal, left_of, IsFull, Follows, Fails, fault_of}
+use Rattle.vlt_parser_exprs.specs.Ahead.{ahead, Begins, LacksSign, refusal, left_of, IsFull, Follows, Fails, refusal_of}
 
-pub fails_with : (v : m.Verdict) (e : ParseError) (f : m.Fault) → fault_of e ≡ Some f → v ≡ Err f → Fails v e
+pub fails_with : (v : m.Verdict) (e : ParseError) (f : m.Refusal) → refusal_of e ≡ Some f → v ≡ Err f → Fails v e
 fails_with v e f told is g tells = is ∙ ap Err (some_is f g (sym told ∙ tells))
   where
-    some_is : (f g : m.Fault) → Some f ≡ Some g → f ≡ g
+    some_is : (f g : m.Refusal) → Some f ≡ Some g → f ≡ g
     some_is f g e = cc
 
 -- a stack that leads to another
@@ -131,7 +131,7 @@ deeper_takes depth room xs = by_cases (nat_lt depth room)
     by_cases true = refl
     by_cases false = refl
 
-pub operand_takes : (room : ℕ) (fs : List Frame) (x : Token) → is_skip (m.start_operand room fs x) ≡ false
+pub operand_takes : (room : ℕ) (fs : List Pending) (x : Token) → is_skip (m.start_operand room fs x) ≡ false
 operand_takes room fs (t.number z) = refl
 operand_takes room fs (t.keyword word.True) = refl
 operand_takes room fs (t.keyword word.False) = refl
@@ -146,8 +146,8 @@ if_takes : (b : Bool) (r other : Reaction) → is_skip r ≡ false → is_skip o
 if_takes true r other e f = e
 if_takes false r other e f = f
 
-pub outcome_takes : (x : Token) → is_skip (m.start_outcome x) ≡ false
-outcome_takes x = if_takes (m.is_keyword word.Void x) _ _ refl (ty_takes x)
+pub result_type_takes : (x : Token) → is_skip (m.start_result_type x) ≡ false
+result_type_takes x = if_takes (m.is_keyword word.Void x) _ _ refl (ty_takes x)
 
 enter_takes : (room : ℕ) (xs : List Symbol) → is_skip (m.enter room xs) ≡ false
 enter_takes zero xs = refl
@@ -179,7 +179,7 @@ decl_takes (t.keyword word.Abstract) = refl
 decl_takes (t.keyword word.Struct) = refl
 decl_takes (t.keyword word.Variant) = refl
 decl_takes (t.keyword word.Extern) = refl
-decl_takes x = skips_followed (m.start_head x) (m.block language.depth ∷ []) ∙ skips_followed (m.start_outcome x) m.head_rest ∙ outcome_takes x
+decl_takes x = skips_followed (m.start_head x) (m.block language.depth ∷ []) ∙ skips_followed (m.start_result_type x) m.head_rest ∙ result_type_takes x
 
 pub thing_takes : (k : Thing) (x : Token) → is_skip (m.start_thing k x) ≡ false
 thing_takes m.a_name x = name_takes x
@@ -191,7 +191,7 @@ thing_takes m.a_parameter x = skips_followed (m.start_ty x) _ ∙ ty_takes x
 thing_takes m.an_entry x = entry_takes x
 thing_takes m.an_expr x = skips_followed (m.start_operand language.depth m.whole_expr x) _ ∙ operand_takes language.depth m.whole_expr x
 thing_takes m.an_init x = skips_followed (m.start_name x) _ ∙ name_takes x
-thing_takes m.an_outcome x = outcome_takes x
+thing_takes m.a_result_type x = result_type_takes x
 thing_takes m.a_simple x = simple_takes x
 thing_takes (m.a_stmt room) x = stmt_takes room x
 thing_takes m.a_decl x = decl_takes x

@@ -4,7 +4,7 @@ use Rattle.std.proofs.lemmas.List.{map-append}
 use Rattle.vlt_lexer.specs.declared.token.Mark.{Mark}
 use Rattle.vlt_lexer.specs.declared.token.Mark.TheVariants.{Comma}
 use Rattle.vlt_syntax.specs.Tokens.{Token, sign}
-use Rattle.vlt_syntax.specs.Lists.{further_then, listed_then, Each, IsSome}
+use Rattle.vlt_syntax.specs.Lists.{further_then, listed_then, Each, IsFilled}
 
 -- what is seen of a list that one more thing was put to
 pub pushed : {X Y : Type 0} (view : X → Y) (all items : List X) (item : X) → all ≡ items ++ item ∷ [] → map view all ≡ map view items ++ view item ∷ []
@@ -17,7 +17,7 @@ each-pushed {X = X} P all xs x grown each is = rw grown (each-append xs each)
     each-append [] each = (is, tt)
     each-append (y ∷ ys) each = (each.0, each-append ys each.1)
 
-pub some-pushed : {X : Type 0} (all xs : List X) (x : X) → all ≡ xs ++ x ∷ [] → IsSome all
+pub some-pushed : {X : Type 0} (all xs : List X) (x : X) → all ≡ xs ++ x ∷ [] → IsFilled all
 some-pushed all [] x grown = rw grown tt
 some-pushed all (y ∷ ys) x grown = rw grown tt
 

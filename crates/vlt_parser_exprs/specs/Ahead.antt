@@ -1,4 +1,4 @@
--- What stands ahead of a part of the parser, and how it follows the stack machine.
+-- What stands ahead of a part of the parser, and how it follows the stack automaton.
 use Rattle.std.specs.Prelude.{◌≡◌, ◌≤◌, ◌-◌, ℕ, false, List, [], ◌∷◌, ◌++◌, map, drop, Option, Some, None, Result, Ok, Err}
 use Rattle.vlt_ops.specs.declared.Op.{Op}
 use Rattle.vlt_lexer.specs.declared.token.Word.{Word}
@@ -10,7 +10,7 @@ use Rattle.vlt_syntax.specs.Tokens as t
 use Rattle.vlt_syntax.specs.Tokens.{Token, token_from}
 use Rattle.vlt_syntax.specs.Spelling.{operator_of}
 use Rattle.vlt_syntax.specs.Grammar.{level}
-use Rattle.vlt_syntax.specs.Machine.{Located, Left, located_of, Symbol, Fault, Verdict, unexpected_at, ended, over_limit, run, is_sign, is_keyword}
+use Rattle.vlt_automaton.specs.Language.{Located, Left, located_of, Symbol, Refusal, Verdict, unexpected_at, ended, over_limit, run, is_sign, is_keyword}
 use Rattle.vlt_parser_exprs.specs.declared.lists.Most.{Most}
 use Rattle.vlt_parser_exprs.specs.declared.error.ParseError.{ParseError}
 use Rattle.vlt_parser_exprs.specs.declared.error.ParseError.TheVariants.{Unexpected, EndOfText, Limit, Memory}
@@ -71,18 +71,18 @@ refusal [] = EndOfText
 refusal (x ∷ xs) = Unexpected x.at
 
 -- the fault that an error tells; want of memory is none
-abbrev pub fault_of : ParseError → Option Fault
-fault_of (Unexpected at) = Some (unexpected_at at)
-fault_of EndOfText = Some ended
-fault_of (Limit n) = Some (over_limit n)
-fault_of Memory = None
+abbrev pub refusal_of : ParseError → Option Refusal
+refusal_of (Unexpected at) = Some (unexpected_at at)
+refusal_of EndOfText = Some ended
+refusal_of (Limit n) = Some (over_limit n)
+refusal_of Memory = None
 
--- the machine refuses as the error says
+-- the automaton refuses as the error says
 abbrev pub Fails : Verdict → ParseError → Type 0
-Fails v e = (f : Fault) → fault_of e ≡ Some f → v ≡ Err f
+Fails v e = (f : Refusal) → refusal_of e ≡ Some f → v ≡ Err f
 
--- The part takes just what the machine takes from the first symbols on its stack to the second, whatever lies below them,
--- or refuses as the machine does.
+-- The part takes just what the automaton takes from the first symbols on its stack to the second, whatever lies below them,
+-- or refuses as the automaton does.
 abbrev pub Turns : {A : Type 0} → List Symbol → (A → List Symbol) → (A → ℕ) → List Placed → ℕ → Result A ParseError → Type 0
 Turns before after next tokens at (Ok x) = (s : List Symbol) → run (before ++ s) (ahead tokens at) ≡ run (after x ++ s) (ahead tokens (next x))
 Turns before after next tokens at (Err e) = (s : List Symbol) → Fails (run (before ++ s) (ahead tokens at)) e

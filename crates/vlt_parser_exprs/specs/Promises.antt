@@ -5,7 +5,7 @@ use Rattle.vlt_lexer.specs.declared.token.TokenKind.{TokenKind}
 use Rattle.vlt_lexer.specs.declared.token.Token.{Token as Placed}
 use Rattle.vlt_syntax.specs.Tokens.{Token}
 use Rattle.vlt_syntax.specs.Places.{Placing}
-use Rattle.vlt_syntax.specs.Machine.{Symbol}
+use Rattle.vlt_automaton.specs.Language.{Symbol}
 use Rattle.vlt_parser_exprs.specs.Reading.{left, Stands, Moves, Stays}
 use Rattle.vlt_parser_exprs.specs.Ahead.{ahead, Begins, BeginsWith, BeginsOperator, Follows}
 use Rattle.vlt_parser_exprs.specs.declared.error.ParseError.{ParseError}

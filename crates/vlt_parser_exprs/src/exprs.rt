@@ -10,7 +10,7 @@ ghost use Rattle.vlt_syntax.specs.Grammar.{level, BindsFrom, depth as depth_of, 
 ghost use Rattle.vlt_syntax.specs.Places.{expr_at};
 ghost use Rattle.vlt_syntax.specs.View.{expr_of};
 ghost use Rattle.vlt_parser_exprs.specs.declared.error.ParseError.TheVariants.{Limit};
-ghost use Rattle.vlt_syntax.specs.Machine as machine;
+ghost use Rattle.vlt_automaton.specs.Language as automaton;
 ghost use Rattle.vlt_parser_exprs.specs.Reading.{left, Moves, Stands};
 ghost use Rattle.vlt_parser_exprs.specs.Ahead.{ahead, next_level, Begins, Turns};
 ghost use Rattle.vlt_parser_exprs.specs.Promises.{Advances, Holds, Lies, OperatorComes, Spells, Takes};
@@ -112,8 +112,8 @@ fn variable(alloc: Global, tokens: &[Token<'_>], at: usize) -> Result<(Expr, usi
     ensures binds { IfOk result (λ x. (least : ℕ) → BindsFrom least (expr_of x.0)) }
     ensures depth { IfOk result (λ x. depth_of (expr_of x.0) ≡ 1) }
     ensures moves { Advances tokens.now at result }
-    ensures place { (fs : List machine.Frame) → Turns (machine.name ∷
-        machine.behind_variable 1 fs ∷ []) (λ x. machine.behind_operand 1 fs ∷ []) (λ x. x.1)
+    ensures place { (fs : List automaton.Pending) → Turns (automaton.name ∷
+        automaton.behind_variable 1 fs ∷ []) (λ x. automaton.behind_operand 1 fs ∷ []) (λ x. x.1)
         tokens.now at result }
 {
     let (base, next) = name(alloc, tokens, at)?;
@@ -144,8 +144,8 @@ fn primary(
     ensures depth { IfOk result (λ x. x.0.depth ≡ depth_of (expr_of x.0.expr)) }
     ensures within { IfOk result (λ x. (1 ≤ x.0.depth) × (x.0.depth ≤ room)) }
     ensures moves { Advances tokens.now at result }
-    ensures place { (fs : List machine.Frame) → Turns (machine.operand room fs ∷
-        []) (λ x. machine.behind_operand x.0.depth fs ∷ []) (λ x. x.1) tokens.now at result }
+    ensures place { (fs : List automaton.Pending) → Turns (automaton.operand room fs ∷
+        []) (λ x. automaton.behind_operand x.0.depth fs ∷ []) (λ x. x.1) tokens.now at result }
 {
     let (expr, next) = match kind(tokens, at) {
         Some(TokenKind::Number(value)) => (Expr::Number(value, span(tokens, at, at + 1)), at + 1),
@@ -180,8 +180,8 @@ fn group(
     ensures depth { IfOk result (λ x. x.0.depth ≡ depth_of (expr_of x.0.expr)) }
     ensures within { IfOk result (λ x. (1 ≤ x.0.depth) × (x.0.depth ≤ room)) }
     ensures moves { Advances tokens.now at result }
-    ensures place { (fs : List machine.Frame) → Turns (machine.operand room fs ∷
-        []) (λ x. machine.behind_operand x.0.depth fs ∷ []) (λ x. x.1) tokens.now from result }
+    ensures place { (fs : List automaton.Pending) → Turns (automaton.operand room fs ∷
+        []) (λ x. automaton.behind_operand x.0.depth fs ∷ []) (λ x. x.1) tokens.now from result }
 {
     let inside = deeper(1, room)?;
     let (inner, next) = expression(alloc, tokens, at, LEAST, inside)?;
@@ -214,8 +214,8 @@ fn unary(
     ensures depth { IfOk result (λ x. x.0.depth ≡ depth_of (expr_of x.0.expr)) }
     ensures within { IfOk result (λ x. (1 ≤ x.0.depth) × (x.0.depth ≤ room)) }
     ensures moves { Advances tokens.now at result }
-    ensures place { (fs : List machine.Frame) → Turns (machine.operand room fs ∷
-        []) (λ x. machine.behind_operand x.0.depth fs ∷ []) (λ x. x.1) tokens.now at result }
+    ensures place { (fs : List automaton.Pending) → Turns (automaton.operand room fs ∷
+        []) (λ x. automaton.behind_operand x.0.depth fs ∷ []) (λ x. x.1) tokens.now at result }
 {
     let Some(op) = prefix(mark) else {
         return Err(unexpected(tokens, at));
@@ -251,9 +251,9 @@ fn expression(
     ensures depth { IfOk result (λ x. x.0.depth ≡ depth_of (expr_of x.0.expr)) }
     ensures within { IfOk result (λ x. (1 ≤ x.0.depth) × (x.0.depth ≤ room)) }
     ensures moves { Advances tokens.now at result }
-    ensures place { (fs : List machine.Frame) →
-        Turns (machine.operand room (machine.level_from least room ∷ fs) ∷
-        []) (λ x. machine.operations x.0.depth (machine.level_from least room ∷ fs) ∷
+    ensures place { (fs : List automaton.Pending) →
+        Turns (automaton.operand room (automaton.level_from least room ∷ fs) ∷
+        []) (λ x. automaton.operations x.0.depth (automaton.level_from least room ∷ fs) ∷
         []) (λ x. x.1) tokens.now at result }
 {
     let (mut first, mut here) = primary(alloc, tokens, at, room)?;
@@ -280,7 +280,7 @@ pub fn expr(alloc: Global, tokens: &[Token<'_>], at: usize) -> Result<(Expr, usi
     ensures placed { Lies expr_of expr_at tokens.now at result }
     ensures right { Holds expr_of (IsExpr language) result }
     ensures moves { Advances tokens.now at result }
-    ensures place { Takes (machine.thing machine.an_expr ∷ []) tokens.now at result }
+    ensures place { Takes (automaton.thing automaton.an_expr ∷ []) tokens.now at result }
 {
     let (found, next) = expression(alloc, tokens, at, LEAST, limit(DEPTH) as usize)?;
     Ok((found.expr, next))
@@ -297,7 +297,7 @@ impl Part for Expr {
 
     ghost right = { IsExpr language };
 
-    ghost thing = { machine.an_expr };
+    ghost thing = { automaton.an_expr };
 
     fn part(alloc: Global, tokens: &[Token<'_>], at: usize) -> Result<(Expr, usize), ParseError> {
         expr(alloc, tokens, at)

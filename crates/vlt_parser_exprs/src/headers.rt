@@ -1,12 +1,12 @@
 //! Headers of types, and cases of variants.
 
 ghost use Rattle.std.specs.Prelude.{◌≤◌, ◌∷◌, [], length, map};
-ghost use Rattle.vlt_syntax.specs.Tree.{HeaderParam as SeenHeaderParam, Case as SeenCase};
-ghost use Rattle.vlt_syntax.specs.Spelling.{header_param_then, header_then, case_then};
+ghost use Rattle.vlt_syntax.specs.Tree.{HeaderKey as SeenHeaderKey, Case as SeenCase};
+ghost use Rattle.vlt_syntax.specs.Spelling.{header_key_then, header_then, case_then};
 ghost use Rattle.vlt_syntax.specs.Grammar.{AtMost, IsCase, language};
-ghost use Rattle.vlt_syntax.specs.Places.{case_at, enclosed_at, header_param_at};
-ghost use Rattle.vlt_syntax.specs.View.{header_param_of, case_of};
-ghost use Rattle.vlt_syntax.specs.Machine as machine;
+ghost use Rattle.vlt_syntax.specs.Places.{case_at, enclosed_at, header_key_at};
+ghost use Rattle.vlt_syntax.specs.View.{header_key_of, case_of};
+ghost use Rattle.vlt_automaton.specs.Language as automaton;
 ghost use Rattle.vlt_parser_exprs.specs.Promises.{Advances, Holds, Lies, MayAdvance, Spells, Takes};
 
 use crate::error::ParseError;
@@ -17,30 +17,30 @@ use crate::types::marked_name;
 use std::alloc::Global;
 use vlt_base::Items;
 use vlt_lexer::{Mark, Token};
-use vlt_syntax::{Case, HeaderParam};
+use vlt_syntax::{Case, HeaderKey};
 
-impl Part for HeaderParam {
-    ghost Seen = { SeenHeaderParam };
+impl Part for HeaderKey {
+    ghost Seen = { SeenHeaderKey };
 
-    ghost view = { header_param_of };
+    ghost view = { header_key_of };
 
-    ghost spell = { header_param_then };
+    ghost spell = { header_key_then };
 
-    ghost places = { header_param_at };
+    ghost places = { header_key_at };
 
     ghost right = { λ p. Unit {0} };
 
-    ghost thing = { machine.a_param };
+    ghost thing = { automaton.a_param };
 
     #[tactic(auto, using(crate::proofs::Variants::param_is))]
     fn part(
         alloc: Global,
         tokens: &[Token<'_>],
         at: usize,
-    ) -> Result<(HeaderParam, usize), ParseError> {
+    ) -> Result<(HeaderKey, usize), ParseError> {
         let (key, next) = name(alloc, tokens, at)?;
         let (key_type, next) = marked_name(alloc, tokens, next, Mark::Colon)?;
-        Ok((HeaderParam { key, key_type }, next))
+        Ok((HeaderKey { key, key_type }, next))
     }
 }
 
@@ -49,13 +49,13 @@ pub fn header(
     alloc: Global,
     tokens: &[Token<'_>],
     at: usize,
-) -> Result<(Items<HeaderParam>, usize), ParseError>
+) -> Result<(Items<HeaderKey>, usize), ParseError>
     requires { at ≤ length tokens.now }
-    ensures spelled { Spells (map header_param_of) header_then tokens.now at result }
-    ensures placed { Lies (map header_param_of) (enclosed_at header_param_at) tokens.now at result }
-    ensures few { Holds (map header_param_of) (AtMost language.parameters) result }
+    ensures spelled { Spells (map header_key_of) header_then tokens.now at result }
+    ensures placed { Lies (map header_key_of) (enclosed_at header_key_at) tokens.now at result }
+    ensures few { Holds (map header_key_of) (AtMost language.parameters) result }
     ensures moves { MayAdvance tokens.now at result }
-    ensures place { Takes (machine.header ∷ []) tokens.now at result }
+    ensures place { Takes (automaton.header ∷ []) tokens.now at result }
 {
     let most = Some(bound(PARAMETERS));
     enclosed(alloc, tokens, at, Mark::Less, Mark::Greater, most)
@@ -68,7 +68,7 @@ fn case(alloc: Global, tokens: &[Token<'_>], at: usize) -> Result<(Case, usize),
     ensures placed { Lies case_of case_at tokens.now at result }
     ensures right { Holds case_of (IsCase language) result }
     ensures moves { Advances tokens.now at result }
-    ensures place { Takes (machine.thing machine.a_case ∷ []) tokens.now at result }
+    ensures place { Takes (automaton.thing automaton.a_case ∷ []) tokens.now at result }
 {
     let (name, next) = case_name(alloc, tokens, at)?;
     let most = Some(bound(PAYLOAD));
@@ -97,7 +97,7 @@ impl Part for Case {
 
     ghost right = { IsCase language };
 
-    ghost thing = { machine.a_case };
+    ghost thing = { automaton.a_case };
 
     fn part(alloc: Global, tokens: &[Token<'_>], at: usize) -> Result<(Case, usize), ParseError> {
         case(alloc, tokens, at)

@@ -3,11 +3,11 @@
 ghost use Rattle.std.specs.Prelude.{◌∷◌, [], ◌≤◌, length, map, option_map};
 ghost use Rattle.vlt_syntax.specs.Tree.{Entry as SeenEntry, Parameter as SeenParameter};
 ghost use Rattle.vlt_syntax.specs.Lists.{Each};
-ghost use Rattle.vlt_syntax.specs.Spelling.{entry_then, outcome_then, parameter_then, clause_then, head_then};
-ghost use Rattle.vlt_syntax.specs.Grammar.{IsEntry, IsOutcome, IsParameter, IsHead, language};
-ghost use Rattle.vlt_syntax.specs.Places.{clause_at, entry_at, head_at, outcome_at, parameter_at};
-ghost use Rattle.vlt_syntax.specs.View.{entry_of, outcome_of, parameter_of, head_of};
-ghost use Rattle.vlt_syntax.specs.Machine as machine;
+ghost use Rattle.vlt_syntax.specs.Spelling.{entry_then, result_type_then, parameter_then, clause_then, head_then};
+ghost use Rattle.vlt_syntax.specs.Grammar.{IsEntry, IsResultType, IsParameter, IsHead, language};
+ghost use Rattle.vlt_syntax.specs.Places.{clause_at, entry_at, head_at, result_type_at, parameter_at};
+ghost use Rattle.vlt_syntax.specs.View.{entry_of, result_type_of, parameter_of, head_of};
+ghost use Rattle.vlt_automaton.specs.Language as automaton;
 ghost use Rattle.vlt_parser_exprs.specs.Promises.{Advances, Holds, Lies, MayAdvance, MayBe, Spells, Takes};
 
 use crate::error::ParseError;
@@ -18,7 +18,7 @@ use crate::types::{key_states, states, ty};
 use std::alloc::Global;
 use vlt_base::Items;
 use vlt_lexer::{Mark, Token, TokenKind, Word};
-use vlt_syntax::{Entry, Head, KeyStates, Outcome, Parameter};
+use vlt_syntax::{Entry, Head, KeyStates, Parameter, ResultType};
 
 #[tactic(auto, using(crate::proofs::Functions::parameter_is))]
 fn parameter(
@@ -30,7 +30,7 @@ fn parameter(
     ensures placed { Lies parameter_of parameter_at tokens.now at result }
     ensures right { Holds parameter_of IsParameter result }
     ensures moves { Advances tokens.now at result }
-    ensures place { Takes (machine.thing machine.a_parameter ∷ []) tokens.now at result }
+    ensures place { Takes (automaton.thing automaton.a_parameter ∷ []) tokens.now at result }
 {
     let (ty, next) = ty(alloc, tokens, at)?;
     let (name, next) = name(alloc, tokens, next)?;
@@ -48,7 +48,7 @@ impl Part for Parameter {
 
     ghost right = { IsParameter };
 
-    ghost thing = { machine.a_parameter };
+    ghost thing = { automaton.a_parameter };
 
     fn part(
         alloc: Global,
@@ -66,7 +66,7 @@ fn held_entry(alloc: Global, tokens: &[Token<'_>], at: usize) -> Result<(Entry, 
     ensures placed { Lies entry_of entry_at tokens.now at result }
     ensures right { Holds entry_of IsEntry result }
     ensures moves { Advances tokens.now at result }
-    ensures place { Takes (machine.name ∷ machine.entry_states ∷ []) tokens.now at result }
+    ensures place { Takes (automaton.name ∷ automaton.entry_states ∷ []) tokens.now at result }
 {
     let (key, next) = name(alloc, tokens, at)?;
     let Some(next) = behind_sign(tokens, next, Mark::At) else {
@@ -91,7 +91,7 @@ fn entry(alloc: Global, tokens: &[Token<'_>], at: usize) -> Result<(Entry, usize
     ensures placed { Lies entry_of entry_at tokens.now at result }
     ensures right { Holds entry_of IsEntry result }
     ensures moves { Advances tokens.now at result }
-    ensures place { Takes (machine.thing machine.an_entry ∷ []) tokens.now at result }
+    ensures place { Takes (automaton.thing automaton.an_entry ∷ []) tokens.now at result }
 {
     match kind(tokens, at) {
         Some(TokenKind::Sign(Mark::Minus)) => {
@@ -121,29 +121,33 @@ impl Part for Entry {
 
     ghost right = { IsEntry };
 
-    ghost thing = { machine.an_entry };
+    ghost thing = { automaton.an_entry };
 
     fn part(alloc: Global, tokens: &[Token<'_>], at: usize) -> Result<(Entry, usize), ParseError> {
         entry(alloc, tokens, at)
     }
 }
 
-#[tactic(auto, using(crate::proofs::Functions::outcome_void))]
-fn outcome(alloc: Global, tokens: &[Token<'_>], at: usize) -> Result<(Outcome, usize), ParseError>
-    ensures spelled { Spells outcome_of outcome_then tokens.now at result }
-    ensures placed { Lies outcome_of outcome_at tokens.now at result }
-    ensures right { Holds outcome_of IsOutcome result }
+#[tactic(auto, using(crate::proofs::Functions::result_type_void))]
+fn result_type(
+    alloc: Global,
+    tokens: &[Token<'_>],
+    at: usize,
+) -> Result<(ResultType, usize), ParseError>
+    ensures spelled { Spells result_type_of result_type_then tokens.now at result }
+    ensures placed { Lies result_type_of result_type_at tokens.now at result }
+    ensures right { Holds result_type_of IsResultType result }
     ensures moves { Advances tokens.now at result }
-    ensures place { Takes (machine.thing machine.an_outcome ∷ []) tokens.now at result }
+    ensures place { Takes (automaton.thing automaton.a_result_type ∷ []) tokens.now at result }
 {
     match kind(tokens, at) {
         Some(TokenKind::Keyword(Word::Void)) => Ok((
-            Outcome::Void(span(tokens, at, at + 1)),
+            ResultType::Void(span(tokens, at, at + 1)),
             at + 1,
         )),
         _ => {
             let (value, next) = ty(alloc, tokens, at)?;
-            Ok((Outcome::Value(value), next))
+            Ok((ResultType::Value(value), next))
         }
     }
 }
@@ -160,7 +164,7 @@ fn clause(
     ensures placed { Lies (option_map (map entry_of)) clause_at tokens.now at result }
     ensures right { MayBe (option_map (map entry_of)) (Each IsEntry) result }
     ensures moves { MayAdvance tokens.now at result }
-    ensures place { Takes (machine.clause ∷ []) tokens.now at result }
+    ensures place { Takes (automaton.clause ∷ []) tokens.now at result }
 {
     match behind_sign(tokens, at, Mark::OpenBracket) {
         Some(next) => {
@@ -177,9 +181,9 @@ pub fn head(alloc: Global, tokens: &[Token<'_>], at: usize) -> Result<(Head, usi
     ensures placed { Lies head_of head_at tokens.now at result }
     ensures right { Holds head_of (IsHead language) result }
     ensures moves { Advances tokens.now at result }
-    ensures place { Takes (machine.head ∷ []) tokens.now at result }
+    ensures place { Takes (automaton.head ∷ []) tokens.now at result }
 {
-    let (outcome, next) = outcome(alloc, tokens, at)?;
+    let (result_type, next) = result_type(alloc, tokens, at)?;
     let (name, next) = name(alloc, tokens, next)?;
     let next = sign(tokens, next, Mark::OpenParen)?;
     let most = Some(bound(PARAMETERS));
@@ -188,7 +192,7 @@ pub fn head(alloc: Global, tokens: &[Token<'_>], at: usize) -> Result<(Head, usi
     let at = span(tokens, at, next);
     Ok((
         Head {
-            outcome,
+            result_type,
             name,
             parameters,
             clause,

@@ -2,13 +2,13 @@
 
 ghost use Rattle.std.specs.Prelude.{◌≡◌, ◌<◌, ◌≤◌, ◌+◌, ◌∷◌, [], length, map, IfOk, IfErr, OnOk, List};
 ghost use Rattle.vlt_base.specs.Limits.{limit_of};
-ghost use Rattle.vlt_syntax.specs.Machine as machine;
+ghost use Rattle.vlt_automaton.specs.Language as automaton;
 ghost use Rattle.vlt_syntax.specs.Tokens.{Token as Plain};
 ghost use Rattle.vlt_syntax.specs.Spelling.{name_then};
 ghost use Rattle.vlt_syntax.specs.Tree.{Name as SeenName};
 ghost use Rattle.vlt_syntax.specs.Places.{enclosed_at, listed_at, Placing, name_at};
 ghost use Rattle.vlt_syntax.specs.View.{name_of};
-ghost use Rattle.vlt_syntax.specs.Lists.{listed_then, enclosed_then, Each, IsSome};
+ghost use Rattle.vlt_syntax.specs.Lists.{listed_then, enclosed_then, Each, IsFilled};
 ghost use Rattle.vlt_parser_exprs.specs.Reading.{IsWithin, IsSomeMost};
 ghost use Rattle.vlt_parser_exprs.specs.Ahead.{left_of, IsFull};
 ghost use Rattle.vlt_parser_exprs.specs.Promises.{Advances, Holds, Lies, MayAdvance, Spells, Takes};
@@ -32,7 +32,7 @@ pub trait Part: Sized + Drop {
 
     ghost right: { Seen → Type 0 };
 
-    ghost thing: { machine.Thing };
+    ghost thing: { automaton.Thing };
 
     /// Reads one.
     fn part(alloc: Global, tokens: &[Token<'_>], at: usize) -> Result<(Self, usize), ParseError>
@@ -40,7 +40,7 @@ pub trait Part: Sized + Drop {
         ensures placed { Lies view places tokens.now at result }
         ensures right { IfOk result (λ x. right (view x.0)) }
         ensures moves { Advances tokens.now at result }
-        ensures place { Takes (machine.thing thing ∷ []) tokens.now at result };
+        ensures place { Takes (automaton.thing thing ∷ []) tokens.now at result };
 }
 
 impl Part for Name {
@@ -54,7 +54,7 @@ impl Part for Name {
 
     ghost right = { λ n. Unit {0} };
 
-    ghost thing = { machine.a_name };
+    ghost thing = { automaton.a_name };
 
     fn part(alloc: Global, tokens: &[Token<'_>], at: usize) -> Result<(Name, usize), ParseError> {
         name(alloc, tokens, at)
@@ -105,12 +105,12 @@ pub fn some_listed<T: Part>(
     requires { IsSomeMost most }
     ensures spelled { Spells (map T.view) (listed_then T.spell closing) tokens.now at result }
     ensures placed { Lies (map T.view) (listed_at T.places) tokens.now at result }
-    ensures some { Holds (map T.view) IsSome result }
+    ensures some { Holds (map T.view) IsFilled result }
     ensures right { Holds (map T.view) (Each T.right) result }
     ensures few { IfOk result (λ x. IsWithin most (length (map T.view x.0))) }
     ensures moves { Advances tokens.now at result }
-    ensures place { Takes (machine.thing T.thing ∷
-        machine.further T.thing closing (left_of most 1) ∷ []) tokens.now at result }
+    ensures place { Takes (automaton.thing T.thing ∷
+        automaton.further T.thing closing (left_of most 1) ∷ []) tokens.now at result }
 {
     let mut items = Items::new(alloc);
     let mut here = at;
@@ -141,7 +141,7 @@ pub fn listed<T: Part>(
     ensures right { Holds (map T.view) (Each T.right) result }
     ensures few { IfOk result (λ x. IsWithin most (length (map T.view x.0))) }
     ensures moves { Advances tokens.now at result }
-    ensures place { Takes (machine.listed T.thing closing (left_of most 0) ∷ [])
+    ensures place { Takes (automaton.listed T.thing closing (left_of most 0) ∷ [])
         tokens.now at result }
 {
     if let Some(end) = behind_sign(tokens, at, closing) {
@@ -168,7 +168,7 @@ pub fn enclosed<T: Part>(
     ensures right { Holds (map T.view) (Each T.right) result }
     ensures few { IfOk result (λ x. IsWithin most (length (map T.view x.0))) }
     ensures moves { MayAdvance tokens.now at result }
-    ensures place { Takes (machine.enclosed T.thing opening closing (left_of most 0) ∷ [])
+    ensures place { Takes (automaton.enclosed T.thing opening closing (left_of most 0) ∷ [])
         tokens.now at result }
 {
     match behind_sign(tokens, at, opening) {

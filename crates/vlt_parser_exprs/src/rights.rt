@@ -10,7 +10,7 @@ ghost use Rattle.vlt_syntax.specs.Spelling.{build_then, call_then, init_then, ow
 ghost use Rattle.vlt_syntax.specs.Grammar.{IsBuild, IsCall, IsInit, IsRight, IsReturned, language};
 ghost use Rattle.vlt_syntax.specs.Places.{build_at, call_at, init_at, owner_at, returned_at, right_at};
 ghost use Rattle.vlt_syntax.specs.View.{name_of, build_of, call_of, init_of, right_of, returned_of};
-ghost use Rattle.vlt_syntax.specs.Machine as machine;
+ghost use Rattle.vlt_automaton.specs.Language as automaton;
 ghost use Rattle.vlt_parser_exprs.specs.Reading.{left, Moves};
 ghost use Rattle.vlt_parser_exprs.specs.Ahead.{ahead, Begins, BeginsWith, LacksSign, Follows};
 ghost use Rattle.vlt_parser_exprs.specs.Promises.{Advances, Holds, Lies, MayAdvance, Spells, SpellsBehind, Takes};
@@ -30,8 +30,8 @@ fn build(alloc: Global, tokens: &[Token<'_>], at: usize) -> Result<(Build, usize
     ensures placed { Lies build_of build_at tokens.now at result }
     ensures right { Holds build_of (IsBuild language) result }
     ensures moves { Advances tokens.now at result }
-    ensures place { Takes (machine.tick ∷
-        machine.enclosed machine.an_expr OpenParen CloseParen None ∷ []) tokens.now at result }
+    ensures place { Takes (automaton.tick ∷
+        automaton.enclosed automaton.an_expr OpenParen CloseParen None ∷ []) tokens.now at result }
 {
     let (case, next) = case_name(alloc, tokens, at)?;
     let (payload, next) = enclosed(alloc, tokens, next, Mark::OpenParen, Mark::CloseParen, None)?;
@@ -44,8 +44,8 @@ pub fn call(alloc: Global, tokens: &[Token<'_>], at: usize) -> Result<(Call, usi
     ensures placed { Lies call_of call_at tokens.now at result }
     ensures right { Holds call_of (IsCall language) result }
     ensures moves { Advances tokens.now at result }
-    ensures place { Takes (machine.name ∷ machine.sign OpenParen ∷
-        machine.listed machine.an_expr CloseParen None ∷ []) tokens.now at result }
+    ensures place { Takes (automaton.name ∷ automaton.sign OpenParen ∷
+        automaton.listed automaton.an_expr CloseParen None ∷ []) tokens.now at result }
 {
     let (function, next) = name(alloc, tokens, at)?;
     let next = sign(tokens, next, Mark::OpenParen)?;
@@ -68,7 +68,7 @@ fn init(alloc: Global, tokens: &[Token<'_>], at: usize) -> Result<(Init, usize),
     ensures placed { Lies init_of init_at tokens.now at result }
     ensures right { Holds init_of (IsInit language) result }
     ensures moves { Advances tokens.now at result }
-    ensures place { Takes (machine.thing machine.an_init ∷ []) tokens.now at result }
+    ensures place { Takes (automaton.thing automaton.an_init ∷ []) tokens.now at result }
 {
     let (field, next) = name(alloc, tokens, at)?;
     let next = sign(tokens, next, Mark::Colon)?;
@@ -87,7 +87,7 @@ impl Part for Init {
 
     ghost right = { IsInit language };
 
-    ghost thing = { machine.an_init };
+    ghost thing = { automaton.an_init };
 
     fn part(alloc: Global, tokens: &[Token<'_>], at: usize) -> Result<(Init, usize), ParseError> {
         init(alloc, tokens, at)
@@ -105,7 +105,7 @@ fn owner(
     ensures spelled { Spells (option_map name_of) owner_then tokens.now at result }
     ensures placed { Lies (option_map name_of) owner_at tokens.now at result }
     ensures moves { MayAdvance tokens.now at result }
-    ensures place { Takes (machine.owner ∷ []) tokens.now at result }
+    ensures place { Takes (automaton.owner ∷ []) tokens.now at result }
 {
     match behind_sign(tokens, at, Mark::OpenParen) {
         Some(next) => {
@@ -130,8 +130,8 @@ fn make(
     ensures placed { Lies right_of right_at tokens.now from result }
     ensures right { Holds right_of (IsRight language) result }
     ensures moves { Advances tokens.now at result }
-    ensures place { Takes (machine.owner ∷ machine.named ∷ machine.sign OpenBrace ∷
-        machine.listed machine.an_init CloseBrace None ∷ []) tokens.now at result }
+    ensures place { Takes (automaton.owner ∷ automaton.named ∷ automaton.sign OpenBrace ∷
+        automaton.listed automaton.an_init CloseBrace None ∷ []) tokens.now at result }
 {
     let (owner, next) = owner(alloc, tokens, at)?;
     let (named, next) = named(alloc, tokens, next)?;
@@ -162,7 +162,7 @@ fn adopt(
     ensures placed { Lies right_of right_at tokens.now from result }
     ensures right { Holds right_of (IsRight language) result }
     ensures moves { Advances tokens.now at result }
-    ensures place { Takes (machine.name ∷ machine.keyword Into ∷ machine.name ∷ [])
+    ensures place { Takes (automaton.name ∷ automaton.keyword Into ∷ automaton.name ∷ [])
         tokens.now at result }
 {
     let (variable, next) = name(alloc, tokens, at)?;
@@ -197,8 +197,8 @@ fn no_arguments(tokens: &[Token<'_>], at: usize) -> Result<usize, ParseError>
         a_sign CloseParen ∷ left tokens.now next) }
     ensures two { IfOk result (λ next. next ≡ at + 1 + 1) }
     ensures moves { IfOk result (λ next. Moves tokens.now at next) }
-    ensures place { Follows (machine.sign OpenParen ∷ machine.sign CloseParen ∷ []) (λ x. x)
-        tokens.now at result }
+    ensures place { Follows (automaton.sign OpenParen ∷ automaton.sign CloseParen ∷
+        []) (λ x. x) tokens.now at result }
 {
     let next = sign(tokens, at, Mark::OpenParen)?;
     sign(tokens, next, Mark::CloseParen)
@@ -210,7 +210,7 @@ pub fn right(alloc: Global, tokens: &[Token<'_>], at: usize) -> Result<(Right, u
     ensures placed { Lies right_of right_at tokens.now at result }
     ensures right { Holds right_of (IsRight language) result }
     ensures moves { Advances tokens.now at result }
-    ensures place { Takes (machine.right ∷ []) tokens.now at result }
+    ensures place { Takes (automaton.right ∷ []) tokens.now at result }
 {
     match kind(tokens, at) {
         Some(TokenKind::Tick) => {
@@ -250,7 +250,7 @@ pub fn returned(
     ensures placed { Lies returned_of returned_at tokens.now at result }
     ensures right { Holds returned_of (IsReturned language) result }
     ensures moves { MayAdvance tokens.now at result }
-    ensures place { Takes (machine.returned ∷ []) tokens.now at result }
+    ensures place { Takes (automaton.returned ∷ []) tokens.now at result }
 {
     match kind(tokens, at) {
         Some(TokenKind::Sign(Mark::Semicolon)) => Ok((Returned::Nothing, at)),

@@ -5,7 +5,7 @@ ghost use Rattle.std.specs.Prelude.{◌≡◌, ◌∷◌, [], ◌+◌, ℕ, List
 ghost use Rattle.vlt_syntax.specs.Tokens.{token_from, sign as a_sign, keyword as a_keyword};
 ghost use Rattle.vlt_syntax.specs.Spelling.{name_then, case_name_then};
 ghost use Rattle.vlt_syntax.specs.View.{name_of};
-ghost use Rattle.vlt_syntax.specs.Machine as machine;
+ghost use Rattle.vlt_automaton.specs.Language as automaton;
 ghost use Rattle.vlt_syntax.specs.Places.{name_at};
 ghost use Rattle.vlt_parser_exprs.specs.Reading.{left, spans, Moves};
 ghost use Rattle.vlt_parser_exprs.specs.Ahead.{ahead, first_sign, LacksSign, LacksKeyword, refusal, Follows};
@@ -89,7 +89,7 @@ pub fn sign(tokens: &[Token<'_>], at: usize, mark: Mark) -> Result<usize, ParseE
         left tokens.now at ≡ a_sign mark ∷ left tokens.now next) }
     ensures one { IfOk result (λ next. next ≡ at + 1) }
     ensures moves { IfOk result (λ next. Moves tokens.now at next) }
-    ensures place { Follows (machine.sign mark ∷ []) (λ next. next) tokens.now at result }
+    ensures place { Follows (automaton.sign mark ∷ []) (λ next. next) tokens.now at result }
     ensures takes { IfOk result (λ next. Comes (a_sign mark) tokens.now at next) }
     ensures lacks { IfErr result (λ e.
         (e ≡ refusal (ahead tokens.now at)) × LacksSign mark (ahead tokens.now at)) }
@@ -106,7 +106,7 @@ pub fn keyword(tokens: &[Token<'_>], at: usize, word: Word) -> Result<usize, Par
         left tokens.now at ≡ a_keyword word ∷ left tokens.now next) }
     ensures one { IfOk result (λ next. next ≡ at + 1) }
     ensures moves { IfOk result (λ next. Moves tokens.now at next) }
-    ensures place { Follows (machine.keyword word ∷ []) (λ next. next) tokens.now at result }
+    ensures place { Follows (automaton.keyword word ∷ []) (λ next. next) tokens.now at result }
     ensures takes { IfOk result (λ next. Comes (a_keyword word) tokens.now at next) }
     ensures lacks { IfErr result (λ e.
         (e ≡ refusal (ahead tokens.now at)) × LacksKeyword word (ahead tokens.now at)) }
@@ -126,7 +126,7 @@ pub fn name(alloc: Global, tokens: &[Token<'_>], at: usize) -> Result<(Name, usi
     ensures spelled { Spells name_of name_then tokens.now at result }
     ensures placed { Lies name_of name_at tokens.now at result }
     ensures moves { Advances tokens.now at result }
-    ensures place { Takes (machine.name ∷ []) tokens.now at result }
+    ensures place { Takes (automaton.name ∷ []) tokens.now at result }
 {
     match tokens.get(at) {
         Some(token) if matches!(token.kind, TokenKind::Name) => {
@@ -146,7 +146,7 @@ pub fn case_name(
     ensures spelled { Spells name_of case_name_then tokens.now at result }
     ensures placed { Lies name_of name_at tokens.now at result }
     ensures moves { Advances tokens.now at result }
-    ensures place { Takes (machine.tick ∷ []) tokens.now at result }
+    ensures place { Takes (automaton.tick ∷ []) tokens.now at result }
 {
     match tokens.get(at) {
         Some(token) if matches!(token.kind, TokenKind::Tick) => {

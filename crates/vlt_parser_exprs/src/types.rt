@@ -8,7 +8,7 @@ ghost use Rattle.vlt_syntax.specs.Spelling.{states_then, at_states_then, marked_
 ghost use Rattle.vlt_syntax.specs.Grammar.{IsStates, IsKeyStates, IsTy};
 ghost use Rattle.vlt_syntax.specs.Places.{key_states_at, marked_at, name_at, named_at, states_at, ty_at};
 ghost use Rattle.vlt_syntax.specs.View.{name_of, states_of, key_states_of, named_of, ty_of};
-ghost use Rattle.vlt_syntax.specs.Machine as machine;
+ghost use Rattle.vlt_automaton.specs.Language as automaton;
 ghost use Rattle.vlt_parser_exprs.specs.Reading.{Moves};
 ghost use Rattle.vlt_parser_exprs.specs.Promises.{Advances, Holds, Lies, MayAdvance, MayBe, Spells, SpellsBehind, Takes};
 
@@ -31,7 +31,7 @@ pub fn marked_name(
     ensures spelled { Spells (option_map name_of) (marked_name_then mark) tokens.now at result }
     ensures placed { Lies (option_map name_of) (marked_at name_at) tokens.now at result }
     ensures moves { MayAdvance tokens.now at result }
-    ensures place { Takes (machine.marked_name mark ∷ []) tokens.now at result }
+    ensures place { Takes (automaton.marked_name mark ∷ []) tokens.now at result }
 {
     match behind_sign(tokens, at, mark) {
         Some(next) => {
@@ -49,7 +49,7 @@ pub fn states(alloc: Global, tokens: &[Token<'_>], at: usize) -> Result<(States,
     ensures placed { Lies states_of states_at tokens.now at result }
     ensures right { Holds states_of IsStates result }
     ensures moves { Advances tokens.now at result }
-    ensures place { Takes (machine.states ∷ []) tokens.now at result }
+    ensures place { Takes (automaton.states ∷ []) tokens.now at result }
 {
     match behind_sign(tokens, at, Mark::OpenBrace) {
         Some(inside) => {
@@ -75,7 +75,7 @@ pub fn at_states(
     ensures placed { Lies (option_map states_of) (marked_at states_at) tokens.now at result }
     ensures right { MayBe (option_map states_of) IsStates result }
     ensures moves { MayAdvance tokens.now at result }
-    ensures place { Takes (machine.at_states ∷ []) tokens.now at result }
+    ensures place { Takes (automaton.at_states ∷ []) tokens.now at result }
 {
     match behind_sign(tokens, at, Mark::At) {
         Some(next) => {
@@ -97,7 +97,7 @@ pub fn key_states(
     ensures placed { Lies key_states_of key_states_at tokens.now at result }
     ensures right { Holds key_states_of IsKeyStates result }
     ensures moves { Advances tokens.now at result }
-    ensures place { Takes (machine.thing machine.a_key ∷ []) tokens.now at result }
+    ensures place { Takes (automaton.thing automaton.a_key ∷ []) tokens.now at result }
 {
     let (key, next) = name(alloc, tokens, at)?;
     let (states, next) = at_states(alloc, tokens, next)?;
@@ -115,7 +115,7 @@ impl Part for KeyStates {
 
     ghost right = { IsKeyStates };
 
-    ghost thing = { machine.a_key };
+    ghost thing = { automaton.a_key };
 
     fn part(
         alloc: Global,
@@ -132,7 +132,7 @@ pub fn named(alloc: Global, tokens: &[Token<'_>], at: usize) -> Result<(Named, u
     ensures spelled { Spells named_of named_then tokens.now at result }
     ensures placed { Lies named_of named_at tokens.now at result }
     ensures moves { Advances tokens.now at result }
-    ensures place { Takes (machine.named ∷ []) tokens.now at result }
+    ensures place { Takes (automaton.named ∷ []) tokens.now at result }
 {
     let (name, next) = name(alloc, tokens, at)?;
     let (keys, next) = enclosed(alloc, tokens, next, Mark::Less, Mark::Greater, None)?;
@@ -153,19 +153,19 @@ fn tracked(
     ensures placed { Lies ty_of ty_at tokens.now from result }
     ensures right { Holds ty_of IsTy result }
     ensures moves { Advances tokens.now at result }
-    ensures place { Takes (machine.behind_tracked ∷ []) tokens.now at result }
+    ensures place { Takes (automaton.behind_tracked ∷ []) tokens.now at result }
 {
     if let Some(next) = behind_sign(tokens, at, Mark::OpenParen) {
         let (key, next) = name(alloc, tokens, next)?;
         let next = sign(tokens, next, Mark::CloseParen)?;
         let (named, next) = named(alloc, tokens, next)?;
         let at = span(tokens, from, next);
-        return Ok((Ty::Keyed { key, named, at }, next));
+        return Ok((Ty::Tracked { key, named, at }, next));
     }
     let (states, next) = at_states(alloc, tokens, at)?;
     let (named, next) = named(alloc, tokens, next)?;
     let at = span(tokens, from, next);
-    Ok((Ty::Tracked { states, named, at }, next))
+    Ok((Ty::Owning { states, named, at }, next))
 }
 
 /// A type that begins with a name.
@@ -175,7 +175,8 @@ fn named_ty(alloc: Global, tokens: &[Token<'_>], at: usize) -> Result<(Ty, usize
     ensures placed { Lies ty_of ty_at tokens.now at result }
     ensures right { Holds ty_of IsTy result }
     ensures moves { Advances tokens.now at result }
-    ensures place { Takes (machine.name ∷ machine.behind_type_name ∷ []) tokens.now at result }
+    ensures place { Takes (automaton.name ∷ automaton.behind_type_name ∷ [])
+        tokens.now at result }
 {
     let (first, next) = name(alloc, tokens, at)?;
     if let Some(next) = behind_sign(tokens, next, Mark::Colon) {
@@ -192,7 +193,7 @@ pub fn ty(alloc: Global, tokens: &[Token<'_>], at: usize) -> Result<(Ty, usize),
     ensures placed { Lies ty_of ty_at tokens.now at result }
     ensures right { Holds ty_of IsTy result }
     ensures moves { Advances tokens.now at result }
-    ensures place { Takes (machine.thing machine.a_ty ∷ []) tokens.now at result }
+    ensures place { Takes (automaton.thing automaton.a_ty ∷ []) tokens.now at result }
 {
     match kind(tokens, at) {
         Some(TokenKind::Keyword(Word::Int)) => Ok((Ty::Int(span(tokens, at, at + 1)), at + 1)),
@@ -214,7 +215,7 @@ impl Part for Ty {
 
     ghost right = { IsTy };
 
-    ghost thing = { machine.a_ty };
+    ghost thing = { automaton.a_ty };
 
     fn part(alloc: Global, tokens: &[Token<'_>], at: usize) -> Result<(Ty, usize), ParseError> {
         ty(alloc, tokens, at)

@@ -1,12 +1,12 @@
--- What the stack machine does with statements.
+-- What the automaton does with statements.
 use Rattle.std.proofs.Common.{◌≡◌, ℕ, false, List, [], ◌∷◌, ◌++◌, None, refl}
 use Rattle.vlt_lexer.specs.declared.token.Word.{Word}
 use Rattle.vlt_lexer.specs.declared.token.Mark.TheVariants as mark
 use Rattle.vlt_syntax.specs.Tokens as t
 use Rattle.vlt_syntax.specs.Tokens.{Token}
-use Rattle.vlt_syntax.specs.Machine as m
-use Rattle.vlt_syntax.specs.Machine.{Symbol, Reaction, Thing, Frame, Left, Located, run, followed, settled, gone_on, reaction_behind, may_skip, depth_read, on_sign}
-use Rattle.vlt_syntax.proofs.Sameness.{same_word-refl}
+use Rattle.vlt_automaton.specs.Language as m
+use Rattle.vlt_automaton.specs.Language.{Symbol, Reaction, Thing, Pending, Left, Located, run, followed, settled, gone_on, reaction_behind, may_skip, depth_read, on_sign}
+use Rattle.vlt_automaton.proofs.Sameness.{same_word-refl}
 use Rattle.vlt_parser_exprs.specs.Ahead.{Begins, LacksSign}
 
 pub stmt_assigns : (text : List ℕ) (s : List Symbol) (ts rest behind : List Located) → Begins (t.name text) ts rest → Begins (t.sign mark.Assign) rest behind

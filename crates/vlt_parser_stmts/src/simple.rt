@@ -8,7 +8,7 @@ ghost use Rattle.vlt_syntax.specs.Spelling.{condition_then, stmt_then};
 ghost use Rattle.vlt_syntax.specs.Grammar.{IsExpr, language};
 ghost use Rattle.vlt_syntax.specs.Places.{stmt_at};
 ghost use Rattle.vlt_syntax.specs.View.{expr_of, stmt_of};
-ghost use Rattle.vlt_syntax.specs.Machine as machine;
+ghost use Rattle.vlt_automaton.specs.Language as automaton;
 ghost use Rattle.vlt_parser_stmts.specs.Statements.{IsSimple, condition_at};
 ghost use Rattle.vlt_parser_exprs.specs.Ahead.{ahead, BeginsWith};
 ghost use Rattle.vlt_parser_exprs.specs.Promises.{Advances, Holds, Lies, Spells, Takes};
@@ -33,8 +33,8 @@ pub fn condition(
     ensures placed { Lies expr_of condition_at tokens.now at result }
     ensures right { Holds expr_of (IsExpr language) result }
     ensures moves { Advances tokens.now at result }
-    ensures place { Takes (machine.sign OpenParen ∷ machine.thing machine.an_expr ∷
-        machine.sign CloseParen ∷ []) tokens.now at result }
+    ensures place { Takes (automaton.sign OpenParen ∷ automaton.thing automaton.an_expr ∷
+        automaton.sign CloseParen ∷ []) tokens.now at result }
 {
     let next = sign(tokens, at, Mark::OpenParen)?;
     let (found, next) = expr(alloc, tokens, next)?;
@@ -48,8 +48,9 @@ fn declare(alloc: Global, tokens: &[Token<'_>], at: usize) -> Result<(Stmt, usiz
     ensures placed { Lies stmt_of stmt_at tokens.now at result }
     ensures right { Holds stmt_of IsSimple result }
     ensures moves { Advances tokens.now at result }
-    ensures place { Takes (machine.thing machine.a_ty ∷ machine.name ∷ machine.sign Assign ∷
-        machine.right ∷ machine.sign Semicolon ∷ []) tokens.now at result }
+    ensures place { Takes (automaton.thing automaton.a_ty ∷ automaton.name ∷
+        automaton.sign Assign ∷ automaton.right ∷ automaton.sign Semicolon ∷ [])
+        tokens.now at result }
 {
     let (ty, next) = ty(alloc, tokens, at)?;
     let (name, next) = name(alloc, tokens, next)?;
@@ -74,8 +75,8 @@ fn assign(alloc: Global, tokens: &[Token<'_>], at: usize) -> Result<(Stmt, usize
     ensures placed { Lies stmt_of stmt_at tokens.now at result }
     ensures right { Holds stmt_of IsSimple result }
     ensures moves { Advances tokens.now at result }
-    ensures place { Takes (machine.name ∷ machine.sign Assign ∷ machine.right ∷
-        machine.sign Semicolon ∷ []) tokens.now at result }
+    ensures place { Takes (automaton.name ∷ automaton.sign Assign ∷ automaton.right ∷
+        automaton.sign Semicolon ∷ []) tokens.now at result }
 {
     let (name, next) = name(alloc, tokens, at)?;
     let next = sign(tokens, next, Mark::Assign)?;
@@ -91,9 +92,9 @@ fn put(alloc: Global, tokens: &[Token<'_>], at: usize) -> Result<(Stmt, usize), 
     ensures placed { Lies stmt_of stmt_at tokens.now at result }
     ensures right { Holds stmt_of IsSimple result }
     ensures moves { Advances tokens.now at result }
-    ensures place { Takes (machine.name ∷ machine.sign Dot ∷ machine.name ∷ machine.sign
-        Assign ∷ machine.thing machine.an_expr ∷ machine.sign Semicolon ∷ []) tokens.now at
-        result }
+    ensures place { Takes (automaton.name ∷ automaton.sign Dot ∷ automaton.name ∷
+        automaton.sign Assign ∷ automaton.thing automaton.an_expr ∷ automaton.sign Semicolon ∷ [])
+        tokens.now at result }
 {
     let (base, next) = name(alloc, tokens, at)?;
     let next = sign(tokens, next, Mark::Dot)?;
@@ -119,8 +120,8 @@ fn call_stmt(alloc: Global, tokens: &[Token<'_>], at: usize) -> Result<(Stmt, us
     ensures placed { Lies stmt_of stmt_at tokens.now at result }
     ensures right { Holds stmt_of IsSimple result }
     ensures moves { Advances tokens.now at result }
-    ensures place { Takes (machine.name ∷ machine.sign OpenParen ∷
-        machine.listed machine.an_expr CloseParen None ∷ machine.sign Semicolon ∷ [])
+    ensures place { Takes (automaton.name ∷ automaton.sign OpenParen ∷
+        automaton.listed automaton.an_expr CloseParen None ∷ automaton.sign Semicolon ∷ [])
         tokens.now at result }
 {
     let (called, next) = call(alloc, tokens, at)?;
@@ -137,7 +138,8 @@ fn named_stmt(alloc: Global, tokens: &[Token<'_>], at: usize) -> Result<(Stmt, u
     ensures placed { Lies stmt_of stmt_at tokens.now at result }
     ensures right { Holds stmt_of IsSimple result }
     ensures moves { Advances tokens.now at result }
-    ensures place { Takes (machine.name ∷ machine.behind_stmt_name ∷ []) tokens.now at result }
+    ensures place { Takes (automaton.name ∷ automaton.behind_stmt_name ∷ [])
+        tokens.now at result }
 {
     match next_sign(tokens, at + 1) {
         Some(Mark::Assign) => assign(alloc, tokens, at),
@@ -153,8 +155,8 @@ fn print(alloc: Global, tokens: &[Token<'_>], at: usize) -> Result<(Stmt, usize)
     ensures placed { Lies stmt_of stmt_at tokens.now at result }
     ensures right { Holds stmt_of IsSimple result }
     ensures moves { Advances tokens.now at result }
-    ensures place { Takes (machine.keyword Print ∷ machine.sign OpenParen ∷
-        machine.thing machine.an_expr ∷ machine.sign CloseParen ∷ machine.sign Semicolon ∷ [])
+    ensures place { Takes (automaton.keyword Print ∷ automaton.sign OpenParen ∷
+        automaton.thing automaton.an_expr ∷ automaton.sign CloseParen ∷ automaton.sign Semicolon ∷ [])
         tokens.now at result }
 {
     let next = keyword(tokens, at, Word::Print)?;
@@ -170,7 +172,7 @@ fn return_stmt(alloc: Global, tokens: &[Token<'_>], at: usize) -> Result<(Stmt, 
     ensures placed { Lies stmt_of stmt_at tokens.now at result }
     ensures right { Holds stmt_of IsSimple result }
     ensures moves { Advances tokens.now at result }
-    ensures place { Takes (machine.keyword Return ∷ machine.returned ∷ machine.sign
+    ensures place { Takes (automaton.keyword Return ∷ automaton.returned ∷ automaton.sign
         Semicolon ∷ []) tokens.now at result }
 {
     let next = keyword(tokens, at, Word::Return)?;
@@ -186,8 +188,8 @@ fn release(alloc: Global, tokens: &[Token<'_>], at: usize) -> Result<(Stmt, usiz
     ensures placed { Lies stmt_of stmt_at tokens.now at result }
     ensures right { Holds stmt_of IsSimple result }
     ensures moves { Advances tokens.now at result }
-    ensures place { Takes (machine.keyword Release ∷ machine.name ∷ machine.sign Semicolon ∷
-        []) tokens.now at result }
+    ensures place { Takes (automaton.keyword Release ∷ automaton.name ∷
+        automaton.sign Semicolon ∷ []) tokens.now at result }
 {
     let next = keyword(tokens, at, Word::Release)?;
     let (variable, next) = name(alloc, tokens, next)?;
@@ -202,8 +204,8 @@ fn change_state(alloc: Global, tokens: &[Token<'_>], at: usize) -> Result<(Stmt,
     ensures placed { Lies stmt_of stmt_at tokens.now at result }
     ensures right { Holds stmt_of IsSimple result }
     ensures moves { Advances tokens.now at result }
-    ensures place { Takes (machine.keyword Become ∷ machine.name ∷ machine.sign At ∷
-        machine.name ∷ machine.sign Semicolon ∷ []) tokens.now at result }
+    ensures place { Takes (automaton.keyword Become ∷ automaton.name ∷ automaton.sign At ∷
+        automaton.name ∷ automaton.sign Semicolon ∷ []) tokens.now at result }
 {
     let next = keyword(tokens, at, Word::Become)?;
     let (variable, next) = name(alloc, tokens, next)?;
@@ -227,8 +229,8 @@ fn swap(alloc: Global, tokens: &[Token<'_>], at: usize) -> Result<(Stmt, usize),
     ensures placed { Lies stmt_of stmt_at tokens.now at result }
     ensures right { Holds stmt_of IsSimple result }
     ensures moves { Advances tokens.now at result }
-    ensures place { Takes (machine.keyword Swap ∷ machine.name ∷ machine.sign Dot ∷
-        machine.name ∷ machine.sign Comma ∷ machine.name ∷ machine.sign Semicolon ∷ [])
+    ensures place { Takes (automaton.keyword Swap ∷ automaton.name ∷ automaton.sign Dot ∷
+        automaton.name ∷ automaton.sign Comma ∷ automaton.name ∷ automaton.sign Semicolon ∷ [])
         tokens.now at result }
 {
     let next = keyword(tokens, at, Word::Swap)?;
@@ -256,9 +258,9 @@ fn open(alloc: Global, tokens: &[Token<'_>], at: usize) -> Result<(Stmt, usize),
     ensures placed { Lies stmt_of stmt_at tokens.now at result }
     ensures right { Holds stmt_of IsSimple result }
     ensures moves { Advances tokens.now at result }
-    ensures place { Takes (machine.keyword Open ∷ machine.name ∷ machine.keyword Into ∷
-        machine.sign OpenParen ∷ machine.name ∷ machine.further machine.a_name CloseParen None ∷
-        machine.sign Semicolon ∷ []) tokens.now at result }
+    ensures place { Takes (automaton.keyword Open ∷ automaton.name ∷ automaton.keyword Into ∷
+        automaton.sign OpenParen ∷ automaton.name ∷ automaton.further automaton.a_name CloseParen None ∷
+        automaton.sign Semicolon ∷ []) tokens.now at result }
 {
     let next = keyword(tokens, at, Word::Open)?;
     let (variable, next) = name(alloc, tokens, next)?;
@@ -284,7 +286,7 @@ pub fn simple(alloc: Global, tokens: &[Token<'_>], at: usize) -> Result<(Stmt, u
     ensures placed { Lies stmt_of stmt_at tokens.now at result }
     ensures right { Holds stmt_of IsSimple result }
     ensures moves { Advances tokens.now at result }
-    ensures place { Takes (machine.thing machine.a_simple ∷ []) tokens.now at result }
+    ensures place { Takes (automaton.thing automaton.a_simple ∷ []) tokens.now at result }
 {
     match kind(tokens, at) {
         Some(TokenKind::Name) => named_stmt(alloc, tokens, at),

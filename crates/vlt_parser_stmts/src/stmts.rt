@@ -10,7 +10,7 @@ ghost use Rattle.vlt_syntax.specs.Grammar.{IsStmt, IsBlock, IsIf, IsElse, IsSome
 ghost use Rattle.vlt_syntax.specs.Places.{arms_at, block_at, else_at, if_at, stmt_at};
 ghost use Rattle.vlt_syntax.specs.View.{stmt_of, block_of, if_of, else_of, arm_of, arms_of, arms_made, name_of};
 ghost use Rattle.vlt_parser_exprs.specs.declared.error.ParseError.TheVariants.{Limit};
-ghost use Rattle.vlt_syntax.specs.Machine as machine;
+ghost use Rattle.vlt_automaton.specs.Language as automaton;
 ghost use Rattle.vlt_parser_exprs.specs.Reading.{left, Stands};
 ghost use Rattle.vlt_parser_stmts.specs.Statements.{focus_then, focus_at, rows_at};
 ghost use Rattle.vlt_parser_exprs.specs.Promises.{Advances, Holds, KindComes, Lies, MayAdvance, Spells, Takes};
@@ -56,9 +56,10 @@ fn focus_head(
     ensures placed { IfOk result (λ x. Stands focus_at
         tokens.now at (name_of x.0.variable, name_of x.0.key, name_of x.0.alias) x.1) }
     ensures moves { Advances tokens.now at result }
-    ensures place { Takes (machine.keyword words.Focus ∷ machine.name ∷ machine.keyword words.As
-        ∷ machine.keyword words.Tracked ∷ machine.sign OpenParen ∷ machine.name ∷ machine.sign
-        CloseParen ∷ machine.name ∷ []) tokens.now at result }
+    ensures place { Takes (automaton.keyword words.Focus ∷ automaton.name ∷
+        automaton.keyword words.As ∷ automaton.keyword words.Tracked ∷
+        automaton.sign OpenParen ∷ automaton.name ∷ automaton.sign CloseParen ∷
+        automaton.name ∷ []) tokens.now at result }
 {
     let next = keyword(tokens, at, Word::Focus)?;
     let (variable, next) = name(alloc, tokens, next)?;
@@ -92,7 +93,7 @@ pub fn block(
     ensures placed { Lies block_of block_at tokens.now at result }
     ensures right { Holds block_of (IsBlock language room) result }
     ensures moves { Advances tokens.now at result }
-    ensures place { Takes (machine.block room ∷ []) tokens.now at result }
+    ensures place { Takes (automaton.block room ∷ []) tokens.now at result }
 {
     let inside = sign(tokens, at, Mark::OpenBrace)?;
     let mut stmts = Items::new(alloc);
@@ -120,7 +121,7 @@ fn stmt(
     ensures placed { Lies stmt_of stmt_at tokens.now at result }
     ensures right { Holds stmt_of (IsStmt language room) result }
     ensures moves { Advances tokens.now at result }
-    ensures place { Takes (machine.thing (machine.a_stmt room) ∷ []) tokens.now at result }
+    ensures place { Takes (automaton.thing (automaton.a_stmt room) ∷ []) tokens.now at result }
 {
     match kind(tokens, at) {
         Some(TokenKind::Sign(Mark::OpenBrace)) => {
@@ -153,7 +154,7 @@ fn if_stmt(
     ensures placed { Lies if_of if_at tokens.now at result }
     ensures right { Holds if_of (IsIf language room) result }
     ensures moves { Advances tokens.now at result }
-    ensures place { Takes (machine.thing (machine.a_stmt room) ∷ []) tokens.now at result }
+    ensures place { Takes (automaton.thing (automaton.a_stmt room) ∷ []) tokens.now at result }
 {
     let next = keyword(tokens, at, Word::If)?;
     enter(room)?;
@@ -187,7 +188,7 @@ fn otherwise(
     ensures placed { Lies else_of else_at tokens.now at result }
     ensures right { Holds else_of (IsElse language room) result }
     ensures moves { MayAdvance tokens.now at result }
-    ensures place { Takes (machine.otherwise room ∷ []) tokens.now at result }
+    ensures place { Takes (automaton.otherwise room ∷ []) tokens.now at result }
 {
     let Ok(next) = keyword(tokens, at, Word::Else) else {
         return Ok((Else::Nothing, at));
@@ -213,7 +214,7 @@ fn while_stmt(
     ensures placed { Lies stmt_of stmt_at tokens.now at result }
     ensures right { Holds stmt_of (IsStmt language room) result }
     ensures moves { Advances tokens.now at result }
-    ensures place { Takes (machine.thing (machine.a_stmt room) ∷ []) tokens.now at result }
+    ensures place { Takes (automaton.thing (automaton.a_stmt room) ∷ []) tokens.now at result }
 {
     let next = keyword(tokens, at, Word::While)?;
     enter(room)?;
@@ -243,7 +244,7 @@ fn focus(
     ensures placed { Lies stmt_of stmt_at tokens.now at result }
     ensures right { Holds stmt_of (IsStmt language room) result }
     ensures moves { Advances tokens.now at result }
-    ensures place { Takes (machine.thing (machine.a_stmt room) ∷ []) tokens.now at result }
+    ensures place { Takes (automaton.thing (automaton.a_stmt room) ∷ []) tokens.now at result }
 {
     enter(room)?;
     let (head, next) = focus_head(alloc, tokens, at)?;
@@ -274,7 +275,7 @@ fn switch(
     ensures placed { Lies stmt_of stmt_at tokens.now at result }
     ensures right { Holds stmt_of (IsStmt language room) result }
     ensures moves { Advances tokens.now at result }
-    ensures place { Takes (machine.thing (machine.a_stmt room) ∷ []) tokens.now at result }
+    ensures place { Takes (automaton.thing (automaton.a_stmt room) ∷ []) tokens.now at result }
 {
     let next = keyword(tokens, at, Word::Switch)?;
     enter(room)?;
@@ -303,7 +304,7 @@ fn arms(
     ensures some { Holds arms_of IsSomeArm result }
     ensures right { Holds arms_of (AreArms language room) result }
     ensures moves { Advances tokens.now at result }
-    ensures place { Takes (machine.arm room ∷ machine.arms room ∷ []) tokens.now at result }
+    ensures place { Takes (automaton.arm room ∷ automaton.arms room ∷ []) tokens.now at result }
 {
     let mut arms = Items::new(alloc);
     let mut here = at;
@@ -332,7 +333,7 @@ fn arm(
         [])) x.1) }
     ensures right { IfOk result (λ x. AreArms language room (arms_made (arm_of x.0 ∷ []))) }
     ensures moves { Advances tokens.now at result }
-    ensures place { Takes (machine.arm room ∷ []) tokens.now at result }
+    ensures place { Takes (automaton.arm room ∷ []) tokens.now at result }
 {
     let next = keyword(tokens, at, Word::Case)?;
     let (case, next) = case_name(alloc, tokens, next)?;

@@ -179,7 +179,7 @@ module _ (kinds : Kinds) (p : Program) (f : Func) (described : Describes kinds.f
     keyed = with_key scope key.text (type_named kinds.file n.name)
 
     abbrev w : Ty
-    w = declared_ty kinds keyed (s.keyed key n z)
+    w = declared_ty kinds keyed (s.tracked key n z)
 
     abbrev bound : Target
     bound = record { ty = w; binds = true }
@@ -187,7 +187,7 @@ module _ (kinds : Kinds) (p : Program) (f : Func) (described : Describes kinds.f
     key_is : key_number keyed key.text ≡ k
     key_is = ap number_of (key_itself scope key.text (type_named kinds.file n.name))
 
-    bound_declared : (x : Name) (right : Right) → type_refused kinds keyed (s.keyed key n z) ≡ [] → IsRight bounds right → hides right (Some w) ≡ false → new_var_refused kinds keyed x ≡ []
+    bound_declared : (x : Name) (right : Right) → type_refused kinds keyed (s.tracked key n z) ≡ [] → IsRight bounds right → hides right (Some w) ≡ false → new_var_refused kinds keyed x ≡ []
         → right_refused kinds keyed (Some bound) right ≡ [] → IsPartOf (with_var keyed x.text w) f → Kept (right_forms kinds keyed (Some bound) (length keyed.vars) (length keyed.vars) right, with_var keyed x.text w)
     unfolding declared_ty
     bound_declared x right type_none is shown free_name none part =
@@ -195,7 +195,7 @@ module _ (kinds : Kinds) (p : Program) (f : Func) (described : Describes kinds.f
         let key_there = at_part scope.keys (record { name = key.text; key_type = type_named kinds.file n.name }) first.more_keys f.keys first.keys in
         let old = not_new kinds p f scope ids step in
         let one = (key_law kinds p f scope ids step key.text (type_named kinds.file n.name) key_there old).1 in
-        let typed = declared_typed kinds p described keyed (has (k ∷ ids.keys)) one.key_known (s.keyed key n z) type_none in
+        let typed = declared_typed kinds p described keyed (has (k ∷ ids.keys)) one.key_known (s.tracked key n z) type_none in
         let v = length keyed.vars in
         let there = at_part keyed.vars (record { name = x.text; ty = w }) part.more_vars f.vars part.vars in
         let held : var_type f v ≡ Some w = ap (option_map (λ d. d.ty)) there in
@@ -231,16 +231,16 @@ module _ (kinds : Kinds) (p : Program) (f : Func) (described : Describes kinds.f
     never_hidden (s.make None m inits at) none = refl
     never_hidden (s.make (Some r) m inits at) none = absurd (no_adopted kinds (with_hidden kinds keyed (s.make (Some r) m inits at) (Some w)) _ _ _ true r m inits at.from none)
 
-    newly_bound : (x : Name) (right : Right) (place : ℕ) → IsRight bounds right → keyed_refused kinds true keyed (s.keyed key n z) x right place ≡ []
-        → IsPartOf (keyed_became kinds true keyed (s.keyed key n z) x right).1 f → Kept (keyed_became kinds true keyed (s.keyed key n z) x right)
+    newly_bound : (x : Name) (right : Right) (place : ℕ) → IsRight bounds right → keyed_refused kinds true keyed (s.tracked key n z) x right place ≡ []
+        → IsPartOf (keyed_became kinds true keyed (s.tracked key n z) x right).1 f → Kept (keyed_became kinds true keyed (s.tracked key n z) x right)
     unfolding keyed_refused keyed_became declared_refused hidden_became declared_became hidden_right_refused
     newly_bound x right place is none part =
-        let behind = no_right (type_refused kinds keyed (s.keyed key n z)) _ none in
+        let behind = no_right (type_refused kinds keyed (s.tracked key n z)) _ none in
         let rest = no_right (hidden_refused keyed (hides right (Some w)) place) _ behind in
         let shown = never_hidden right (no_right (new_var_refused kinds (with_hidden kinds keyed right (Some w)) x) _ rest) in
         by (with_hidden kinds keyed right (Some w)) (unhidden kinds keyed right (Some w) shown) shown (no_left _ _ none) rest part
       where
-        by : (later : Scope) → later ≡ keyed → hides right (Some w) ≡ false → type_refused kinds keyed (s.keyed key n z) ≡ [] → new_var_refused kinds later x ++ right_refused kinds later (Some bound) right ≡ []
+        by : (later : Scope) → later ≡ keyed → hides right (Some w) ≡ false → type_refused kinds keyed (s.tracked key n z) ≡ [] → new_var_refused kinds later x ++ right_refused kinds later (Some bound) right ≡ []
             → IsPartOf (with_var later x.text w) f → Kept (right_forms kinds later (Some bound) (length later.vars) (length keyed.vars) right, with_var later x.text w)
         by later same shown type_none rest part =
             subst (λ later. new_var_refused kinds later x ++ right_refused kinds later (Some bound) right ≡ [] → IsPartOf (with_var later x.text w) f
@@ -250,17 +250,17 @@ module _ (kinds : Kinds) (p : Program) (f : Func) (described : Describes kinds.f
   pub declare_kept : (ty : s.Ty) (x : Name) (right : Right) (place : ℕ) → IsRight bounds right → declare_refused kinds scope ty x right place ≡ [] → IsPartOf (declare_became kinds scope ty x right).1 f
       → Kept (declare_became kinds scope ty x right)
   unfolding declare_refused declare_became with_bound_key bound_key_refused
-  declare_kept (s.keyed key n z) x right place is none part = by (is_known_key scope key) none part
+  declare_kept (s.tracked key n z) x right place is none part = by (is_known_key scope key) none part
     where
       by : (b : Bool) → (if b then [] else new_key_refused kinds scope key)
-          ++ keyed_refused kinds (not b) (if b then scope else with_key scope key.text (type_named kinds.file n.name)) (s.keyed key n z) x right place ≡ []
-          → IsPartOf (keyed_became kinds (not b) (if b then scope else with_key scope key.text (type_named kinds.file n.name)) (s.keyed key n z) x right).1 f
-          → Kept (keyed_became kinds (not b) (if b then scope else with_key scope key.text (type_named kinds.file n.name)) (s.keyed key n z) x right)
-      by true none part = unbound (s.keyed key n z) x right place is none part
+          ++ keyed_refused kinds (not b) (if b then scope else with_key scope key.text (type_named kinds.file n.name)) (s.tracked key n z) x right place ≡ []
+          → IsPartOf (keyed_became kinds (not b) (if b then scope else with_key scope key.text (type_named kinds.file n.name)) (s.tracked key n z) x right).1 f
+          → Kept (keyed_became kinds (not b) (if b then scope else with_key scope key.text (type_named kinds.file n.name)) (s.tracked key n z) x right)
+      by true none part = unbound (s.tracked key n z) x right place is none part
       by false none part = newly_bound key n z x right place is (no_right (new_key_refused kinds scope key) _ none) part
   declare_kept (s.int z) x right place is none part = unbound (s.int z) x right place is none part
   declare_kept (s.bool z) x right place is none part = unbound (s.bool z) x right place is none part
-  declare_kept (s.tracked ss n z) x right place is none part = unbound (s.tracked ss n z) x right place is none part
+  declare_kept (s.owning ss n z) x right place is none part = unbound (s.owning ss n z) x right place is none part
   declare_kept (s.guarded key n) x right place is none part = unbound (s.guarded key n) x right place is none part
   declare_kept (s.plain n) x right place is none part = unbound (s.plain n) x right place is none part
 
@@ -345,14 +345,14 @@ declare_grows kinds scope ty x right place none =
     (grows_twice keyed later (with_var later x.text t.ty) (hidden_grows kinds keyed right (Some t.ty)) (var_grows later x.text t.ty (var_is_free kinds later x (no_left _ _ rest))))
   where
     key_grown : (ty : s.Ty) → bound_key_refused kinds scope ty ≡ [] → Grows scope (with_bound_key kinds scope ty)
-    key_grown (s.keyed key n z) none = by (is_known_key scope key) none
+    key_grown (s.tracked key n z) none = by (is_known_key scope key) none
       where
         by : (b : Bool) → (if b then [] else new_key_refused kinds scope key) ≡ [] → Grows scope (if b then scope else with_key scope key.text (type_named kinds.file n.name))
         by true none = grows_none scope
         by false none = key_grows scope key.text (type_named kinds.file n.name) (key_is_free kinds scope key none)
     key_grown (s.int z) none = grows_none scope
     key_grown (s.bool z) none = grows_none scope
-    key_grown (s.tracked ss n z) none = grows_none scope
+    key_grown (s.owning ss n z) none = grows_none scope
     key_grown (s.guarded key n) none = grows_none scope
     key_grown (s.plain n) none = grows_none scope
 

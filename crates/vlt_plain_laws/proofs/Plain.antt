@@ -69,7 +69,7 @@ plain_grows kinds around scope (s.return r at) is none = return_grows kinds arou
 plain_grows kinds around scope (s.release x at) is none = grows_none scope
 plain_grows kinds around scope (s.become x n at) is none = grows_none scope
 plain_grows kinds around scope (s.swap x y v at) is none = grows_none scope
-plain_grows kinds around scope (s.unpack x vs at) is none = open_grows kinds scope x vs at.from none
+plain_grows kinds around scope (s.open_into x vs at) is none = open_grows kinds scope x vs at.from none
 plain_grows kinds around scope (s.block b) is none = absurd (true≢false (sym is))
 plain_grows kinds around scope (s.choose i) is none = absurd (true≢false (sym is))
 plain_grows kinds around scope (s.loop e b at) is none = absurd (true≢false (sym is))
@@ -149,7 +149,7 @@ module _ (kinds : Kinds) (p : Program) (f : Func) (described : Describes kinds.f
       bare_form (core_become kinds scope x n) false (become_row x n (become_kinded kinds p f scope ids step.agrees fields described (core_around around) x n none))
   plain_kept b room (s.swap x y v z) g plain none part =
       bare_form (core_swap kinds scope x y v) false (swap_row x y v (swap_kinded kinds p f scope ids step.agrees fields (core_around around) x y v none))
-  plain_kept b room (s.unpack x vs z) g plain none part =
+  plain_kept b room (s.open_into x vs z) g plain none part =
       let y = open_became kinds scope x vs in
       let o = open_row kinds p f scope ids step fields parts (core_around around) x vs z.from none part.more_vars part.vars in
       one_form kinds p f around at ids o.after y.0 o.form y.1 false o.same o.right o.step

@@ -4,7 +4,7 @@ use Rattle.std.specs.Prelude.{ℕ, List, [], ◌∷◌, ◌++◌, Option, Some, 
 use Rattle.std.specs.Fmt.{signed_decimal}
 use Rattle.vlt_ops.specs.Operator.{row_of}
 use Rattle.vlt_syntax.specs.Tree as s
-use Rattle.vlt_syntax.specs.Tree.{Name, States, KeyStates, Named, Ty, Expr, Build, Call, Init, Right, Returned, Stmt, Block, If, Else, Stmts, Arms, HeaderParam, Field, Case, Entry, Outcome, Parameter, Head, Decl, Tree}
+use Rattle.vlt_syntax.specs.Tree.{Name, States, KeyStates, Named, Ty, Expr, Build, Call, Init, Right, Returned, Stmt, Block, If, Else, Stmts, Arms, HeaderKey, Field, Case, Entry, ResultType, Parameter, Head, Decl, Tree}
 use Rattle.vlt_printer.specs.Lists.{each_after, separated_after, listed_after, enclosed_after, braced_after}
 
 abbrev pub name_after : List ℕ → Name → List ℕ
@@ -35,8 +35,8 @@ named_after before n = enclosed_after (codes "<") (codes ">") name_after (name_a
 abbrev pub ty_after : List ℕ → Ty → List ℕ
 ty_after before (s.int at) = before ++ codes "int"
 ty_after before (s.bool at) = before ++ codes "bool"
-ty_after before (s.keyed k n at) = named_after (name_after (before ++ codes "tracked(") k ++ codes ") ") n
-ty_after before (s.tracked ss n at) = named_after (at_states_after (before ++ codes "tracked") ss ++ codes " ") n
+ty_after before (s.tracked k n at) = named_after (name_after (before ++ codes "tracked(") k ++ codes ") ") n
+ty_after before (s.owning ss n at) = named_after (at_states_after (before ++ codes "tracked") ss ++ codes " ") n
 ty_after before (s.guarded k n) = named_after (name_after before k ++ codes ":") n
 ty_after before (s.plain n) = named_after before n
 
@@ -108,7 +108,7 @@ abbrev mutual
   stmt_after indent before (s.release x at) = name_after (before ++ codes "release ") x ++ codes ";"
   stmt_after indent before (s.become x t at) = name_after (name_after (before ++ codes "become ") x ++ codes "@") t ++ codes ";"
   stmt_after indent before (s.swap x f v at) = name_after (name_after (name_after (before ++ codes "swap ") x ++ codes ".") f ++ codes ", ") v ++ codes ";"
-  stmt_after indent before (s.unpack x vs at) = listed_after name_after (name_after (before ++ codes "open ") x ++ codes " into (") vs ++ codes ");"
+  stmt_after indent before (s.open_into x vs at) = listed_after name_after (name_after (before ++ codes "open ") x ++ codes " into (") vs ++ codes ");"
   stmt_after indent before (s.focus x k z b at) = block_after indent (name_after (name_after (name_after (before ++ codes "focus ") x ++ codes " as tracked(") k ++ codes ") ") z ++ codes " ") b
 
   pub block_after : List ℕ → List ℕ → Block → List ℕ
@@ -137,15 +137,15 @@ abbrev mutual
 -- ---- declarations
 
 -- a key, and the type of its object where one is given
-abbrev pub header_param_after : List ℕ → HeaderParam → List ℕ
-header_param_after before p = key_type_after (name_after before p.key) p.key_type
+abbrev pub header_key_after : List ℕ → HeaderKey → List ℕ
+header_key_after before p = key_type_after (name_after before p.key) p.key_type
   where
     key_type_after : List ℕ → Option Name → List ℕ
     key_type_after before None = before
     key_type_after before (Some t) = name_after (before ++ codes ": ") t
 
-abbrev pub header_after : List ℕ → List HeaderParam → List ℕ
-header_after before ps = enclosed_after (codes "<") (codes ">") header_param_after before ps
+abbrev pub header_after : List ℕ → List HeaderKey → List ℕ
+header_after before ps = enclosed_after (codes "<") (codes ">") header_key_after before ps
 
 abbrev pub field_after : List ℕ → Field → List ℕ
 field_after before f = at_states_after (name_after (ty_after before f.ty ++ codes " ") f.name) f.states ++ codes ";"
@@ -178,9 +178,9 @@ entry_after before (s.taken k at) = key_states_after (before ++ codes "-") k
 entry_after before (s.given k at) = key_states_after (before ++ codes "+") k
 entry_after before (s.fresh k at) = key_states_after (before ++ codes "new ") k
 
-abbrev pub outcome_after : List ℕ → Outcome → List ℕ
-outcome_after before (s.void at) = before ++ codes "void"
-outcome_after before (s.value t) = ty_after before t
+abbrev pub result_type_after : List ℕ → ResultType → List ℕ
+result_type_after before (s.void at) = before ++ codes "void"
+result_type_after before (s.value t) = ty_after before t
 
 abbrev pub parameter_after : List ℕ → Parameter → List ℕ
 parameter_after before p = name_after (ty_after before p.ty ++ codes " ") p.name
@@ -191,7 +191,7 @@ clause_after before None = before
 clause_after before (Some es) = listed_after entry_after (before ++ codes " [") es ++ codes "]"
 
 abbrev pub head_after : List ℕ → Head → List ℕ
-head_after before h = clause_after (listed_after parameter_after (name_after (outcome_after before h.outcome ++ codes " ") h.name ++ codes "(") h.parameters ++ codes ")") h.clause
+head_after before h = clause_after (listed_after parameter_after (name_after (result_type_after before h.result_type ++ codes " ") h.name ++ codes "(") h.parameters ++ codes ")") h.clause
 
 abbrev pub decl_after : List ℕ → Decl → List ℕ
 decl_after before (s.stateset n ss at) = braced_after name_after (name_after (before ++ codes "stateset ") n ++ codes " ") ss

@@ -1,10 +1,10 @@
 //! Declarations.
 
 ghost use Rattle.std.specs.Prelude.{◌≡◌, map, OnOk, option_map};
-ghost use Rattle.vlt_syntax.specs.Tree.{HeaderParam as SeenHeaderParam, Field as SeenField, Case as SeenCase};
-ghost use Rattle.vlt_syntax.specs.View.{states_of, header_param_of, field_of, case_of, decl_of};
+ghost use Rattle.vlt_syntax.specs.Tree.{HeaderKey as SeenHeaderKey, Field as SeenField, Case as SeenCase};
+ghost use Rattle.vlt_syntax.specs.View.{states_of, header_key_of, field_of, case_of, decl_of};
 ghost use Rattle.vlt_printer.specs.Lists.{each_after};
-ghost use Rattle.vlt_printer.specs.Layout.{header_param_after, header_after, field_line_after, release_line_after, fields_after, case_after, cases_after, decl_after, decl_line_after};
+ghost use Rattle.vlt_printer.specs.Layout.{header_key_after, header_after, field_line_after, release_line_after, fields_after, case_after, cases_after, decl_after, decl_line_after};
 
 use crate::heads::write_head;
 use crate::lists::{Part, write_braced, write_each, write_enclosed, write_separated, write_text};
@@ -12,14 +12,14 @@ use crate::stmts::write_block;
 use crate::types::{write_at_name, write_at_states, write_name, write_states, write_ty};
 use std::alloc::Global;
 use vlt_base::Memory;
-use vlt_syntax::{Case, Decl, Field, HeaderParam, States};
+use vlt_syntax::{Case, Decl, Field, HeaderKey, States};
 
-impl Part for HeaderParam {
-    ghost Seen = { SeenHeaderParam };
+impl Part for HeaderKey {
+    ghost Seen = { SeenHeaderKey };
 
-    ghost view = { header_param_of };
+    ghost view = { header_key_of };
 
-    ghost after = { header_param_after };
+    ghost after = { header_key_after };
 
     fn write(&self, out: &mut Vec<u8>) -> Result<(), Memory> {
         write_name(out, &self.key)?;
@@ -65,9 +65,9 @@ impl Part for Case {
     }
 }
 
-fn write_header(out: &mut Vec<u8>, params: &[HeaderParam]) -> Result<(), Memory>
+fn write_header(out: &mut Vec<u8>, params: &[HeaderKey]) -> Result<(), Memory>
     ensures { OnOk result (out.new.items ≡ header_after out.old.items
-        (map header_param_of params.now)) }
+        (map header_key_of params.now)) }
 {
     write_enclosed(out, b"<", b">", params)
 }

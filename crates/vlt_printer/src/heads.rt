@@ -2,13 +2,13 @@
 
 ghost use Rattle.std.specs.Prelude.{◌≡◌, map, OnOk, option_map};
 ghost use Rattle.vlt_syntax.specs.Tree.{Entry as SeenEntry, Parameter as SeenParameter};
-ghost use Rattle.vlt_syntax.specs.View.{entry_of, outcome_of, parameter_of, head_of};
-ghost use Rattle.vlt_printer.specs.Layout.{entry_after, outcome_after, parameter_after, clause_after, head_after};
+ghost use Rattle.vlt_syntax.specs.View.{entry_of, result_type_of, parameter_of, head_of};
+ghost use Rattle.vlt_printer.specs.Layout.{entry_after, result_type_after, parameter_after, clause_after, head_after};
 
 use crate::lists::{Part, write_listed, write_text};
 use crate::types::{write_name, write_states, write_ty};
 use vlt_base::{Items, Memory};
-use vlt_syntax::{Entry, Head, Outcome, Parameter};
+use vlt_syntax::{Entry, Head, Parameter, ResultType};
 
 impl Part for Parameter {
     ghost Seen = { SeenParameter };
@@ -57,12 +57,13 @@ impl Part for Entry {
     }
 }
 
-fn write_outcome(out: &mut Vec<u8>, outcome: &Outcome) -> Result<(), Memory>
-    ensures { OnOk result (out.new.items ≡ outcome_after out.old.items (outcome_of outcome.now)) }
+fn write_result_type(out: &mut Vec<u8>, result_type: &ResultType) -> Result<(), Memory>
+    ensures { OnOk result (out.new.items ≡ result_type_after out.old.items
+        (result_type_of result_type.now)) }
 {
-    match outcome {
-        Outcome::Void(_) => write_text(out, b"void"),
-        Outcome::Value(ty) => write_ty(out, ty),
+    match result_type {
+        ResultType::Void(_) => write_text(out, b"void"),
+        ResultType::Value(ty) => write_ty(out, ty),
     }
 }
 
@@ -84,7 +85,7 @@ fn write_clause(out: &mut Vec<u8>, clause: &Option<Items<Entry>>) -> Result<(), 
 pub fn write_head(out: &mut Vec<u8>, head: &Head) -> Result<(), Memory>
     ensures { OnOk result (out.new.items ≡ head_after out.old.items (head_of head.now)) }
 {
-    write_outcome(out, &head.outcome)?;
+    write_result_type(out, &head.result_type)?;
     write_text(out, b" ")?;
     write_name(out, &head.name)?;
     write_text(out, b"(")?;

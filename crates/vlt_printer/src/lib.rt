@@ -14,8 +14,6 @@ mod lists;
 mod rights;
 mod simple;
 mod stmts;
-#[cfg(test)]
-mod tests;
 mod types;
 
 use std::alloc::Global;

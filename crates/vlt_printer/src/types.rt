@@ -102,13 +102,13 @@ pub fn write_ty(out: &mut Vec<u8>, ty: &Ty) -> Result<(), Memory>
     match ty {
         Ty::Int(_) => write_text(out, b"int"),
         Ty::Bool(_) => write_text(out, b"bool"),
-        Ty::Keyed { key, named, .. } => {
+        Ty::Tracked { key, named, .. } => {
             write_text(out, b"tracked(")?;
             write_name(out, key)?;
             write_text(out, b") ")?;
             write_named(out, named)
         }
-        Ty::Tracked { states, named, .. } => {
+        Ty::Owning { states, named, .. } => {
             write_text(out, b"tracked")?;
             write_at_states(out, states)?;
             write_text(out, b" ")?;

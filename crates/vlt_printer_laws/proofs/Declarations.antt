@@ -7,10 +7,10 @@ use Rattle.vlt_syntax.specs.Lists.{each_then, listed_then, Each}
 use Rattle.vlt_syntax.specs.Grammar.{Bounds, IsField, IsCase, IsKeyStates, IsTy, IsEntry, IsParameter, IsHead, IsDecl}
 use Rattle.vlt_syntax.specs.Tokens.{Token, sign}
 use Rattle.vlt_syntax.specs.Tree as s
-use Rattle.vlt_syntax.specs.Tree.{Name, States, HeaderParam, Field, Case, Entry, Outcome, Parameter, Head, Decl}
-use Rattle.vlt_syntax.specs.Spelling.{name_then, key_states_then, ty_then, header_param_then, header_then, field_then, release_then, case_then, entry_then, outcome_then, parameter_then, clause_then, head_then, decl_then}
+use Rattle.vlt_syntax.specs.Tree.{Name, States, HeaderKey, Field, Case, Entry, ResultType, Parameter, Head, Decl}
+use Rattle.vlt_syntax.specs.Spelling.{name_then, key_states_then, ty_then, header_key_then, header_then, field_then, release_then, case_then, entry_then, result_type_then, parameter_then, clause_then, head_then, decl_then}
 use Rattle.vlt_printer.specs.Lists.{each_after}
-use Rattle.vlt_printer.specs.Layout.{name_after, key_states_after, ty_after, header_param_after, header_after, field_after, field_line_after, release_line_after, fields_after, case_after, cases_after, entry_after, outcome_after, parameter_after, clause_after, head_after, decl_after, decl_line_after}
+use Rattle.vlt_printer.specs.Layout.{name_after, key_states_after, ty_after, header_key_after, header_after, field_after, field_line_after, release_line_after, fields_after, case_after, cases_after, entry_after, result_type_after, parameter_after, clause_after, head_after, decl_after, decl_line_after}
 use Rattle.vlt_printer_laws.proofs.Following.{clear, wordy, signed, either}
 use Rattle.vlt_printer_laws.proofs.Steps.{Begins, weaker, text_begins, space, line_end, indented, word, mark}
 use Rattle.vlt_printer_laws.proofs.Sequences.{IsPrinted, each_holds, sign_stands, each_printed, some_printed, listed_printed, enclosed_printed, braced_printed}
@@ -18,19 +18,19 @@ use Rattle.vlt_printer_laws.proofs.Types.{name_printed, case_name_printed, any_n
 use Rattle.vlt_printer_laws.proofs.Statements.{block_printed}
 
 module _ {all : List Token} {before : List ℕ} {rest : List Token} where
-  param_printed : (key : Name) (key_type : Option Name) → Begins all before (header_param_then (record { key = key; key_type = key_type }) rest) signed
-      → Begins all (header_param_after before (record { key = key; key_type = key_type })) rest wordy
+  param_printed : (key : Name) (key_type : Option Name) → Begins all before (header_key_then (record { key = key; key_type = key_type }) rest) signed
+      → Begins all (header_key_after before (record { key = key; key_type = key_type })) rest wordy
   param_printed key None h = name_printed key h
   param_printed key (Some t) h = name_printed t (text_begins (mark marks.Colon ∷ space ∷ []) refl (name_printed key h))
 
-any_param : {all : List Token} → IsPrinted all header_param_then header_param_after (λ p. Unit {0}) signed wordy
+any_param : {all : List Token} → IsPrinted all header_key_then header_key_after (λ p. Unit {0}) signed wordy
 any_param p before rest is h = param_printed p.key p.key_type h
 
 module _ {all : List Token} {before : List ℕ} {rest : List Token} where
   -- behind a name
-  header_printed : (ps : List HeaderParam) → Begins all before (header_then ps rest) wordy → Begins all (header_after before ps) rest either
+  header_printed : (ps : List HeaderKey) → Begins all before (header_then ps rest) wordy → Begins all (header_after before ps) rest either
   header_printed ps h =
-      enclosed_printed header_param_then header_param_after (λ p. Unit {0}) wordy any_param
+      enclosed_printed header_key_then header_key_after (λ p. Unit {0}) wordy any_param
       marks.Less marks.Greater (codes "<") (codes ">") wordy refl (sign_stands wordy marks.Less refl) (sign_stands wordy marks.Greater refl)
       ps before rest (each_holds ps) h
 
@@ -97,9 +97,9 @@ module _ {all : List Token} {before : List ℕ} {rest : List Token} where
   entry_printed (s.given k at) h = key_states_printed k (text_begins (mark marks.Plus ∷ []) refl h)
   entry_printed (s.fresh k at) h = key_states_printed k (text_begins (word words.New ∷ space ∷ []) refl h)
 
-  outcome_printed : (o : Outcome) → Begins all before (outcome_then o rest) signed → Begins all (outcome_after before o) rest either
-  outcome_printed (s.void at) h = text_begins (word words.Void ∷ []) refl h
-  outcome_printed (s.value t) h = ty_printed t h
+  result_type_printed : (o : ResultType) → Begins all before (result_type_then o rest) signed → Begins all (result_type_after before o) rest either
+  result_type_printed (s.void at) h = text_begins (word words.Void ∷ []) refl h
+  result_type_printed (s.value t) h = ty_printed t h
 
 each_entry : {all : List Token} → IsPrinted all entry_then entry_after IsEntry signed either
 each_entry e before rest is h = entry_printed e h
@@ -117,7 +117,7 @@ module _ {all : List Token} {before : List ℕ} {rest : List Token} where
 module _ {all : List Token} {before : List ℕ} {rest : List Token} where
   head_printed : (b : Bounds) (x : Head) → IsHead b x → Begins all before (head_then x rest) signed → Begins all (head_after before x) rest signed
   head_printed b x is h =
-      let named = name_printed x.name (text_begins (space ∷ []) refl (outcome_printed x.outcome h)) in
+      let named = name_printed x.name (text_begins (space ∷ []) refl (result_type_printed x.result_type h)) in
       let opened = text_begins (mark marks.OpenParen ∷ []) refl named in
       let listed = listed_printed parameter_then parameter_after IsParameter wordy each_parameter refl marks.CloseParen x.parameters _ _ is.parameters opened in
       clause_printed x.clause is.clause (text_begins (mark marks.CloseParen ∷ []) refl listed)

@@ -3,10 +3,10 @@ use Rattle.std.proofs.Common.{◌≡◌, ℕ, ◌+◌, List, [], ◌∷◌, ◌+
 use Rattle.std.specs.Prelude.{codes}
 use Rattle.vlt_ops.specs.Operator.{row_of}
 use Rattle.vlt_syntax.specs.Tree as s
-use Rattle.vlt_syntax.specs.Tree.{Name, States, KeyStates, Named, Ty, Expr, Build, Call, Init, Right, Returned, Stmt, Block, If, Else, Stmts, Arms, HeaderParam, Field, Case, Entry, Outcome, Parameter, Head, Decl, Tree}
-use Rattle.vlt_syntax.specs.Places.{Spans, Placing, each_at, further_at, listed_at, enclosed_at, marked_at, name_at, states_at, key_states_at, named_at, ty_at, expr_at, build_at, call_at, init_at, owner_at, right_at, returned_at, stmt_at, block_at, if_at, else_at, stmts_at, arms_at, header_param_at, field_at, release_at, case_at, entry_at, outcome_at, parameter_at, clause_at, head_at, decl_at, tree_at}
+use Rattle.vlt_syntax.specs.Tree.{Name, States, KeyStates, Named, Ty, Expr, Build, Call, Init, Right, Returned, Stmt, Block, If, Else, Stmts, Arms, HeaderKey, Field, Case, Entry, ResultType, Parameter, Head, Decl, Tree}
+use Rattle.vlt_syntax.specs.Places.{Spans, Placing, each_at, further_at, listed_at, enclosed_at, marked_at, name_at, states_at, key_states_at, named_at, ty_at, expr_at, build_at, call_at, init_at, owner_at, right_at, returned_at, stmt_at, block_at, if_at, else_at, stmts_at, arms_at, header_key_at, field_at, release_at, case_at, entry_at, result_type_at, parameter_at, clause_at, head_at, decl_at, tree_at}
 use Rattle.vlt_printer.specs.Lists.{each_after, further_after, separated_after, listed_after, enclosed_after, braced_after}
-use Rattle.vlt_printer.specs.Layout.{name_after, at_name_after, states_after, at_states_after, key_states_after, named_after, ty_after, expr_after, build_after, call_after, init_after, owner_after, right_after, returned_after, deeper, stmt_after, block_after, stmts_after, if_after, else_after, arms_after, header_param_after, header_after, field_line_after, release_line_after, fields_after, case_after, cases_after, entry_after, outcome_after, parameter_after, clause_after, head_after, decl_after, decl_line_after, layout}
+use Rattle.vlt_printer.specs.Layout.{name_after, at_name_after, states_after, at_states_after, key_states_after, named_after, ty_after, expr_after, build_after, call_after, init_after, owner_after, right_after, returned_after, deeper, stmt_after, block_after, stmts_after, if_after, else_after, arms_after, header_key_after, header_after, field_line_after, release_line_after, fields_after, case_after, cases_after, entry_after, result_type_after, parameter_after, clause_after, head_after, decl_after, decl_line_after, layout}
 
 abbrev Lays : {X : Type 0} → (X → Placing X) → (List ℕ → X → List ℕ) → Type 0
 Lays {X} place after = (x : X) (at : Spans) (i : ℕ) (before : List ℕ) → after before (place x at i).0 ≡ after before x
@@ -63,8 +63,8 @@ lays_named n at i before = lays_enclosed name_at (codes "<") (codes ">") name_af
 lays_ty : Lays ty_at ty_after
 lays_ty (s.int a) at i before = refl
 lays_ty (s.bool a) at i before = refl
-lays_ty (s.keyed k n a) at i before = lays_named n at (i + 2 + 1 + 1) _
-lays_ty (s.tracked ss n a) at i before =
+lays_ty (s.tracked k n a) at i before = lays_named n at (i + 2 + 1 + 1) _
+lays_ty (s.owning ss n a) at i before =
     let j = (marked_at states_at ss at (i + 1)).1 in
     ap (λ b. named_after (b ++ codes " ") (named_at n at j).0) (lays_at_states ss at (i + 1) (before ++ codes "tracked")) ∙ lays_named n at j _
 lays_ty (s.guarded k n) at i before = lays_named n at (i + 1 + 1) _
@@ -142,7 +142,7 @@ mutual
   lays_stmt indent (s.release x a) at i before = refl
   lays_stmt indent (s.become x t a) at i before = refl
   lays_stmt indent (s.swap x f v a) at i before = refl
-  lays_stmt indent (s.unpack x vs a) at i before = ap (λ b. b ++ codes ");") (lays_separated name_at (codes ", ") name_after lays_name vs at (i + 1 + 1 + 2) _)
+  lays_stmt indent (s.open_into x vs a) at i before = ap (λ b. b ++ codes ");") (lays_separated name_at (codes ", ") name_after lays_name vs at (i + 1 + 1 + 2) _)
   lays_stmt indent (s.focus x k z b a) at i before = lays_block indent b at (i + 1 + 1 + 3 + 1 + 1 + 1) _
 
   lays_block : (indent : List ℕ) → Lays block_at (block_after indent)
@@ -180,14 +180,14 @@ mutual
 
 -- ---- declarations
 
-lays_header_param : Lays header_param_at header_param_after
-lays_header_param p at i before = by p.key_type where
-  by : (o : Option Name) → header_param_after before (header_param_at (record { key = p.key; key_type = o }) at i).0 ≡ header_param_after before (record { key = p.key; key_type = o })
+lays_header_key : Lays header_key_at header_key_after
+lays_header_key p at i before = by p.key_type where
+  by : (o : Option Name) → header_key_after before (header_key_at (record { key = p.key; key_type = o }) at i).0 ≡ header_key_after before (record { key = p.key; key_type = o })
   by None = refl
   by (Some t) = refl
 
-lays_header : Lays (enclosed_at header_param_at) header_after
-lays_header = lays_enclosed header_param_at (codes "<") (codes ">") header_param_after lays_header_param
+lays_header : Lays (enclosed_at header_key_at) header_after
+lays_header = lays_enclosed header_key_at (codes "<") (codes ">") header_key_after lays_header_key
 
 lays_field_line : Lays field_at field_line_after
 lays_field_line f at i before =
@@ -225,9 +225,9 @@ lays_entry (s.taken k a) at i before = lays_key_states k at (i + 1) (before ++ c
 lays_entry (s.given k a) at i before = lays_key_states k at (i + 1) (before ++ codes "+")
 lays_entry (s.fresh k a) at i before = lays_key_states k at (i + 1) (before ++ codes "new ")
 
-lays_outcome : Lays outcome_at outcome_after
-lays_outcome (s.void a) at i before = refl
-lays_outcome (s.value t) at i before = lays_ty t at i before
+lays_result_type : Lays result_type_at result_type_after
+lays_result_type (s.void a) at i before = refl
+lays_result_type (s.value t) at i before = lays_ty t at i before
 
 lays_parameter : Lays parameter_at parameter_after
 lays_parameter p at i before = ap (λ b. name_after (b ++ codes " ") p.name) (lays_ty p.ty at i before)
@@ -238,17 +238,17 @@ lays_clause (Some es) at i before = ap (λ b. b ++ codes "]") (lays_separated en
 
 lays_head : Lays head_at head_after
 lays_head h at i before =
-    let j = (outcome_at h.outcome at i).1 + 1 + 1 in
+    let j = (result_type_at h.result_type at i).1 + 1 + 1 in
     let k = (listed_at parameter_at h.parameters at j).1 in
-    ap (λ b. clause_after (listed_after parameter_after (name_after (b ++ codes " ") h.name ++ codes "(") (listed_at parameter_at h.parameters at j).0 ++ codes ")") (clause_at h.clause at k).0) (lays_outcome h.outcome at i before)
-    ∙ ap (λ b. clause_after (b ++ codes ")") (clause_at h.clause at k).0) (lays_separated parameter_at (codes ", ") parameter_after lays_parameter h.parameters at j (name_after (outcome_after before h.outcome ++ codes " ") h.name ++ codes "("))
+    ap (λ b. clause_after (listed_after parameter_after (name_after (b ++ codes " ") h.name ++ codes "(") (listed_at parameter_at h.parameters at j).0 ++ codes ")") (clause_at h.clause at k).0) (lays_result_type h.result_type at i before)
+    ∙ ap (λ b. clause_after (b ++ codes ")") (clause_at h.clause at k).0) (lays_separated parameter_at (codes ", ") parameter_after lays_parameter h.parameters at j (name_after (result_type_after before h.result_type ++ codes " ") h.name ++ codes "("))
     ∙ lays_clause h.clause at k _
 
 lays_decl : Lays decl_at decl_after
 lays_decl (s.stateset n ss a) at i before = lays_braced name_at name_after lays_name ss at (i + 1 + 1 + 1) _
 lays_decl (s.abstract n ss a) at i before = ap (λ b. b ++ codes ";") (lays_at_name ss at (i + 1 + 1) (name_after (before ++ codes "abstract ") n))
 lays_decl (s.struct n ps ss fs r a) at i before =
-    let j = (enclosed_at header_param_at ps at (i + 1 + 1)).1 in
+    let j = (enclosed_at header_key_at ps at (i + 1 + 1)).1 in
     let k = (marked_at name_at ss at j).1 + 1 in
     let l = (each_at field_at fs at k).1 in
     let head = name_after (before ++ codes "struct ") n in
@@ -256,7 +256,7 @@ lays_decl (s.struct n ps ss fs r a) at i before =
     ∙ ap (λ b. fields_after (b ++ codes " ") (each_at field_at fs at k).0 (release_at r at l).0) (lays_at_name ss at j (header_after head ps))
     ∙ lays_fields fs r at k l _
 lays_decl (s.variant n ps cs a) at i before =
-    let j = (enclosed_at header_param_at ps at (i + 1 + 1)).1 in
+    let j = (enclosed_at header_key_at ps at (i + 1 + 1)).1 in
     ap (λ b. cases_after (b ++ codes " ") (listed_at case_at cs at (j + 1)).0) (lays_header ps at (i + 1 + 1) (name_after (before ++ codes "variant ") n)) ∙ lays_cases cs at (j + 1) _
 lays_decl (s.extern h a) at i before = ap (λ b. b ++ codes ";") (lays_head h at (i + 1) (before ++ codes "extern "))
 lays_decl (s.function h b a) at i before =

@@ -66,7 +66,7 @@ module _ {all : List Token} (b : Bounds) where
         let named = name_printed x (text_begins (word words.Swap ∷ space ∷ []) refl h) in
         let field = name_printed f (text_begins (mark marks.Dot ∷ []) refl named) in
         text_begins (mark marks.Semicolon ∷ []) refl (name_printed v (text_begins (mark marks.Comma ∷ space ∷ []) refl field))
-    stmt_printed room (s.unpack x vs at) indent is blanks h =
+    stmt_printed room (s.open_into x vs at) indent is blanks h =
         let named = name_printed x (text_begins (word words.Open ∷ space ∷ []) refl h) in
         let opened = text_begins (space ∷ word words.Into ∷ space ∷ mark marks.OpenParen ∷ []) refl named in
         text_begins (mark marks.CloseParen ∷ mark marks.Semicolon ∷ []) refl

@@ -50,10 +50,10 @@ module _ {all : List Token} {before : List ℕ} {rest : List Token} where
   pub ty_printed : (t : Ty) → Begins all before (ty_then t rest) signed → Begins all (ty_after before t) rest either
   ty_printed (s.int at) b = text_begins (word words.Int ∷ []) refl b
   ty_printed (s.bool at) b = text_begins (word words.Bool ∷ []) refl b
-  ty_printed (s.keyed k n at) b =
+  ty_printed (s.tracked k n at) b =
       named_printed n (text_begins (mark marks.CloseParen ∷ space ∷ []) refl
       (name_printed k (text_begins (word words.Tracked ∷ mark marks.OpenParen ∷ []) refl b)))
-  ty_printed (s.tracked ss n at) b = named_printed n (text_begins (space ∷ []) refl (at_states_printed ss (text_begins (word words.Tracked ∷ []) refl b)))
+  ty_printed (s.owning ss n at) b = named_printed n (text_begins (space ∷ []) refl (at_states_printed ss (text_begins (word words.Tracked ∷ []) refl b)))
   ty_printed (s.guarded k n) b = named_printed n (text_begins (mark marks.Colon ∷ []) refl (name_printed k b))
   ty_printed (s.plain n) b = named_printed n b
 

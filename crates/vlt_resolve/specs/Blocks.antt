@@ -19,7 +19,7 @@ stmt_place (s.switch x arms at) = at.from
 stmt_place (s.release x at) = at.from
 stmt_place (s.become x t at) = at.from
 stmt_place (s.swap x f v at) = at.from
-stmt_place (s.unpack x vs at) = at.from
+stmt_place (s.open_into x vs at) = at.from
 stmt_place (s.focus x k z b at) = at.from
 
 -- ---- whether a statement ends

@@ -27,15 +27,15 @@ is_known_key scope k = is_some (key_named scope k.text)
 
 -- a key of `tracked(K)` that isn't in scope is bound here
 abbrev pub binds_key : Scope → s.Ty → Bool
-binds_key scope (s.keyed k n at) = not (is_known_key scope k)
+binds_key scope (s.tracked k n at) = not (is_known_key scope k)
 binds_key scope _ = false
 
 unfoldable pub bound_key_refused : Kinds → Scope → s.Ty → List Refusal
-bound_key_refused kinds scope (s.keyed k n at) = if is_known_key scope k then [] else new_key_refused kinds scope k
+bound_key_refused kinds scope (s.tracked k n at) = if is_known_key scope k then [] else new_key_refused kinds scope k
 bound_key_refused kinds scope _ = []
 
 unfoldable pub with_bound_key : Kinds → Scope → s.Ty → Scope
-with_bound_key kinds scope (s.keyed k n at) =
+with_bound_key kinds scope (s.tracked k n at) =
     if is_known_key scope k then scope else with_key scope k.text (type_named kinds.file n.name)
 with_bound_key kinds scope _ = scope
 

@@ -225,7 +225,7 @@ simple_refused kinds around scope (s.return r at) = return_refused kinds around 
 simple_refused kinds around scope (s.release x at) = release_refused kinds (var_ty scope x.text) x
 simple_refused kinds around scope (s.become x n at) = become_refused kinds (var_ty scope x.text) x n
 simple_refused kinds around scope (s.swap x f v at) = swap_refused kinds scope x f v
-simple_refused kinds around scope (s.unpack x vs at) = open_refused kinds scope x vs at.from
+simple_refused kinds around scope (s.open_into x vs at) = open_refused kinds scope x vs at.from
 simple_refused kinds around scope _ = []
 
 abbrev pub alone : Form → Scope → Became
@@ -243,5 +243,5 @@ simple_became kinds around scope (s.return r at) = return_became kinds around sc
 simple_became kinds around scope (s.release x at) = alone (release_form (var_ty scope x.text) (var_number scope x)) scope
 simple_became kinds around scope (s.become x n at) = alone (core_become kinds scope x n) scope
 simple_became kinds around scope (s.swap x f v at) = alone (core_swap kinds scope x f v) scope
-simple_became kinds around scope (s.unpack x vs at) = open_became kinds scope x vs
+simple_became kinds around scope (s.open_into x vs at) = open_became kinds scope x vs
 simple_became kinds around scope _ = ([], scope)

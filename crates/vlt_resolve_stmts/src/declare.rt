@@ -23,7 +23,7 @@ fn binds_key(scope: &Scope<'_>, ty: &Ty) -> bool
     ensures { result ≡ d.binds_key (scope_seen scope.now) (tree.ty_of ty.now) }
 {
     match ty {
-        Ty::Keyed { key, .. } => scope.key_named(key.text.as_slice()).is_none(),
+        Ty::Tracked { key, .. } => scope.key_named(key.text.as_slice()).is_none(),
         _ => false,
     }
 }
@@ -34,7 +34,7 @@ fn check_bound_key(kinds: &Kinds<'_>, scope: &Scope<'_>, ty: &Ty, found: &mut Fo
         (d.bound_key_refused (kinds_seen kinds.now) (scope_seen scope.now) (tree.ty_of ty.now)) }
 {
     match ty {
-        Ty::Keyed { key, .. } => {
+        Ty::Tracked { key, .. } => {
             if scope.key_named(key.text.as_slice()).is_none() {
                 check_new_key(kinds, scope, key, found);
             }
@@ -63,7 +63,7 @@ fn bind_key<'a>(
         ≡ d.with_bound_key (kinds_seen kinds.now) (scope_seen scope.old) (tree.ty_of ty.now)) }
 {
     match ty {
-        Ty::Keyed { key, named, .. } => {
+        Ty::Tracked { key, named, .. } => {
             if scope.key_named(key.text.as_slice()).is_none() {
                 let t = type_id(kinds.file.type_named(&named.name));
                 scope.add_key(alloc, key.text.as_slice(), t)?;

@@ -6,7 +6,7 @@ use Rattle.std.proofs.lemmas.List.{length-map}
 use Rattle.std.proofs.lemmas.List.Folds.{list_any-append}
 use Rattle.std.proofs.lemmas.Option.{none-some, same_Some, slice_get_within}
 use Rattle.vlt_syntax.specs.Tree as s
-use Rattle.vlt_syntax.specs.Tree.{Head, Parameter, Entry, Outcome}
+use Rattle.vlt_syntax.specs.Tree.{Head, Parameter, Entry, ResultType}
 use Rattle.vlt_syntax.specs.Lists.{Each}
 use Rattle.vlt_core.specs.Core as core
 use Rattle.vlt_core.specs.Core.{Ty, VarDecl, KeyDecl, Func, Program}
@@ -91,13 +91,13 @@ module _ (file : File) (p : Program) (described : Describes file p) (headers : H
   well_all [] none = tt
   well_all (q ∷ qs) none = (ty_well file p described q.ty number (no_left _ _ none), well_all qs (no_right (parameter_refused file q) _ none))
 
-  pub new_own : (k : ℕ) → has (new_keys f) k ≡ true → (t : ℕ) × (args : List ℕ) × (core_result file keys h.outcome ≡ Some (core.tracked k t args)) × (has args k ≡ false)
+  pub new_own : (k : ℕ) → has (new_keys f) k ≡ true → (t : ℕ) × (args : List ℕ) × (core_result file keys h.result_type ≡ Some (core.tracked k t args)) × (has args k ≡ false)
   new_own k new =
       let x = is_new_key file p described headers h pass external f func k new in
       let r = result_key file p described headers h pass external f func x.key x.fresh in (
         type_number file r.type.name,
         key_numbers number r.type.keys,
-        ap (core_result file keys) r.outcome ∙ ap (λ j. Some (core.tracked j (type_number file r.type.name) (key_numbers number r.type.keys))) (ap number (sym r.same) ∙ x.same),
+        ap (core_result file keys) r.result_type ∙ ap (λ j. Some (core.tracked j (type_number file r.type.name) (key_numbers number r.type.keys))) (ap number (sym r.same) ∙ x.same),
         alone file p described headers h pass external f func k x r,
       )
 
@@ -113,7 +113,7 @@ module _ (file : File) (p : Program) (described : Describes file p) (headers : H
       by false is old none =
           ap (has (keys_of_parameters f)) (entry_number file keys e) ∙ in_parameters_has file p described headers h pass external f func (key_of e) (not-false _ (not_broken _ rule.CLAUSE_KEY_UNBOUND (entry_key e).at.from none))
 
-  pub result_known : (out : Outcome) → h.outcome ≡ out → (ty : Ty) → core_result file keys out ≡ Some ty → Each (λ k. has (keys_of_parameters f ++ new_keys f) k ≡ true) (keys_of_ty ty)
+  pub result_known : (out : ResultType) → h.result_type ≡ out → (ty : Ty) → core_result file keys out ≡ Some ty → Each (λ k. has (keys_of_parameters f ++ new_keys f) k ≡ true) (keys_of_ty ty)
   result_known (s.void at) is ty e = absurd (none-some ty e)
   result_known (s.value t) is ty e =
       subst (λ ty. Each (λ k. has (keys_of_parameters f ++ new_keys f) k ≡ true) (keys_of_ty ty)) (same_Some (core_ty file number t) ty e)
@@ -136,7 +136,7 @@ module _ (file : File) (p : Program) (described : Describes file p) (headers : H
     one = leb-true (length (new_keys f)) 1 (few_new file p described headers h pass external f func);
     own = new_own;
     entries = each_mapped _ (core_entry file keys) (entries file h) (each_both _ _ _ entry_met (entries file h) (entries_in (results file h) (parameters file h) (entries file h)) pass.entries_right);
-    known = λ ty e. result_known h.outcome refl ty e;
+    known = λ ty e. result_known h.result_type refl ty e;
   }
 
 pub callee_of_head : (file : File) (p : Program) (h : Head) (external : Bool) (n : ℕ) (f : Func) → Describes file p → HasHeaders p → head_refused file h ≡ [] → slice_get p.fns n ≡ Some f

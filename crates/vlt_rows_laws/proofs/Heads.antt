@@ -2,7 +2,7 @@
 use Rattle.std.proofs.Common.{◌≡◌, ℕ, Bool, true, List, [], ◌++◌, Some, option_map, refl, sym, ap, ◌∙◌, subst}
 use Rattle.std.proofs.lemmas.Option.{none-some, same_Some}
 use Rattle.vlt_syntax.specs.Tree as s
-use Rattle.vlt_syntax.specs.Tree.{Head, Outcome}
+use Rattle.vlt_syntax.specs.Tree.{Head, ResultType}
 use Rattle.vlt_syntax.specs.Lists.{Each}
 use Rattle.vlt_core.specs.Core.{Ty, Func, Program}
 use Rattle.vlt_core.specs.Lookups.{key_type_in}
@@ -14,7 +14,7 @@ use Rattle.vlt_kinds_types.specs.Files.{File}
 use Rattle.vlt_kinds_types.specs.Types.{KeyUse, ty_refused, ty_uses, core_ty}
 use Rattle.vlt_kinds_heads.specs.Places.{result_uses}
 use Rattle.vlt_kinds_heads.specs.Keys.{Keys, keys_of}
-use Rattle.vlt_kinds_heads.specs.Heads.{outcome_refused, head_refused}
+use Rattle.vlt_kinds_heads.specs.Heads.{result_type_refused, head_refused}
 use Rattle.vlt_kinds_heads.specs.Phase.{key_number, core_result, core_head}
 use Rattle.vlt_kinds_laws.specs.Shapes.{Describes, HasHeaders}
 use Rattle.vlt_kinds_laws.proofs.Written.{ty_well}
@@ -63,15 +63,15 @@ module _ (file : File) (p : Program) (described : Describes file p) (headers : H
 
   has_result : HasResult p f
   has_result = record {
-    typed = λ ty is. by h.outcome refl ty (sym func.result ∙ is);
+    typed = λ ty is. by h.result_type refl ty (sym func.result ∙ is);
     own = λ k new. let o = new_own file p described headers h pass external f func k new in (o.0, o.1, func.result ∙ o.2);
   }
     where
-      by : (out : Outcome) → h.outcome ≡ out → (ty : Ty) → core_result file keys out ≡ Some ty → IsTyped p f.keys (has (keys_of_parameters f ++ new_keys f)) ty
+      by : (out : ResultType) → h.result_type ≡ out → (ty : Ty) → core_result file keys out ≡ Some ty → IsTyped p f.keys (has (keys_of_parameters f ++ new_keys f)) ty
       by (s.void at) is ty e = absurd (none-some ty e)
       by (s.value t) is ty e =
           subst (IsTyped p f.keys (has (keys_of_parameters f ++ new_keys f))) (same_Some (core_ty file number t) ty e)
-          (head_typed t (has (keys_of_parameters f ++ new_keys f)) (sym (ap (outcome_refused file) is) ∙ pass.outcome)
+          (head_typed t (has (keys_of_parameters f ++ new_keys f)) (sym (ap (result_type_refused file) is) ∙ pass.result_type)
           (subst (λ out. Each (λ u. IsIn keys u.key) (result_uses file out)) is (results_in (results file h) (parameters file h) (entries file h)))
           (subst (λ out. Each (λ u. IsAsWanted keys u.key u.wanted) (result_uses file out)) is (results_wanted file p described headers h pass))
           (result_known file p described headers h pass external f func (s.value t) is (core_ty file number t) refl))

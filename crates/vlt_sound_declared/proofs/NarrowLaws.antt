@@ -3,7 +3,7 @@ use Rattle.std.proofs.Common.{◌≡◌, ℕ, ◌≤◌, Bool, true, false, if�
 use Rattle.std.proofs.lemmas.Bool.{ltb-true}
 use Rattle.std.proofs.lemmas.Option.{none-some, same_Some}
 use Rattle.vlt_syntax.specs.Tree as s
-use Rattle.vlt_syntax.specs.Tree.{Name, Entry, Head, Outcome, KeyStates, HeaderParam, Case, Decl}
+use Rattle.vlt_syntax.specs.Tree.{Name, Entry, Head, ResultType, KeyStates, HeaderKey, Case, Decl}
 use Rattle.vlt_syntax.specs.Lists.{Each}
 use Rattle.vlt_core.specs.Core as core
 use Rattle.vlt_core.specs.Core.{States, Ty, CaseKey, CaseDecl, SetDecl, TypeDecl, an_abstract, a_struct, a_variant, Func, Program}
@@ -99,10 +99,10 @@ module _ (ds : List Decl) (p : Program) (passed : IsPassed ds) (has : HasDeclare
   unfolding owned_ty
   type_narrow number (s.int at) states e = none_narrow states e
   type_narrow number (s.bool at) states e = none_narrow states e
-  type_narrow number (s.keyed k n at) states e = none_narrow states e
+  type_narrow number (s.tracked k n at) states e = none_narrow states e
   type_narrow number (s.guarded k n) states e = none_narrow states e
   type_narrow number (s.plain n) states e = none_narrow states e
-  type_narrow number (s.tracked ss n at) states e = by (is_variant_in (sort_in (shape_named file n.name))) e
+  type_narrow number (s.owning ss n at) states e = by (is_variant_in (sort_in (shape_named file n.name))) e
     where
       by : (b : Bool) →
           owning_states_in (Some (if b then core.owning_variant (type_number file n.name) (key_numbers number n.keys)
@@ -124,7 +124,7 @@ module _ (ds : List Decl) (p : Program) (passed : IsPassed ds) (has : HasDeclare
   object_few (Some wanted.Unknown) = none_few
   object_few (Some (wanted.OfType t)) = shape_few t
 
-  keys_narrow : (ps : List HeaderParam) (ks : List KeyStates) → Each (λ k. IsNarrow k.states) (map (core_case_key file ps) ks)
+  keys_narrow : (ps : List HeaderKey) (ks : List KeyStates) → Each (λ k. IsNarrow k.states) (map (core_case_key file ps) ks)
   unfolding core_case_key
   keys_narrow ps [] = tt
   keys_narrow ps (k ∷ ks) = (
@@ -132,7 +132,7 @@ module _ (ds : List Decl) (p : Program) (passed : IsPassed ds) (has : HasDeclare
     keys_narrow ps ks,
   )
 
-  cases_narrow : (ps : List HeaderParam) (cs : List Case) → Each IsNarrowCase (map (core_case file ps) cs)
+  cases_narrow : (ps : List HeaderKey) (cs : List Case) → Each IsNarrowCase (map (core_case file ps) cs)
   unfolding core_case
   cases_narrow ps [] = tt
   cases_narrow ps (c ∷ cs) = ((types_narrow (header_number ps) c.payload, keys_narrow ps c.keys), cases_narrow ps cs)
@@ -186,7 +186,7 @@ module _ (ds : List Decl) (p : Program) (passed : IsPassed ds) (has : HasDeclare
   entries_narrow keys [] = tt
   entries_narrow keys (e ∷ es) = (entry_narrow keys e, entries_narrow keys es)
 
-  result_narrow : (keys : Keys) (o : Outcome) (states : States) (t : ℕ) (args : List ℕ) →
+  result_narrow : (keys : Keys) (o : ResultType) (states : States) (t : ℕ) (args : List ℕ) →
       core_result file keys o ≡ Some (core.owning states t args) → IsNarrow states
   result_narrow keys (s.void at) states t args e = absurd (none-some (core.owning states t args) e)
   result_narrow keys (s.value ty) states t args e = type_narrow (key_number keys) ty states (ap owning_states_in e)
@@ -196,7 +196,7 @@ module _ (ds : List Decl) (p : Program) (passed : IsPassed ds) (has : HasDeclare
   head_narrow h keys = record {
     after = λ i e states at is.
         each_at GivesNarrow (map (core_entry file keys) (clause_in h.clause)) i e (entries_narrow keys (clause_in h.clause)) at states is;
-    owned = λ states t args is. result_narrow keys h.outcome states t args is;
+    owned = λ states t args is. result_narrow keys h.result_type states t args is;
     payloads = λ t c i args d states u others of declared at.
         each_at SaysNarrow d.payload i (core.owning states u others) (case_narrow t c d declared).0 at states refl;
     listed = λ t c i args d k of declared at.

@@ -1,3 +1,1 @@
 pub mod Viewing
-pub mod Sameness
-mod Trials

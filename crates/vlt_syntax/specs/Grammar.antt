@@ -6,8 +6,8 @@ use Rattle.vlt_ops.specs.Operator.{row_of}
 use Rattle.vlt_lexer.specs.Reading.{Lexeme}
 use Rattle.vlt_syntax.specs.Tokens.{Token, tokens_in}
 use Rattle.vlt_syntax.specs.Tree as s
-use Rattle.vlt_syntax.specs.Tree.{Name, States, KeyStates, Named, Ty, Expr, Build, Call, Init, Right, Returned, Stmt, Block, If, Else, Stmts, Arms, HeaderParam, Field, Case, Entry, Outcome, Parameter, Head, Decl, Tree}
-use Rattle.vlt_syntax.specs.Lists.{Each, IsSome}
+use Rattle.vlt_syntax.specs.Tree.{Name, States, KeyStates, Named, Ty, Expr, Build, Call, Init, Right, Returned, Stmt, Block, If, Else, Stmts, Arms, HeaderKey, Field, Case, Entry, ResultType, Parameter, Head, Decl, Tree}
+use Rattle.vlt_syntax.specs.Lists.{Each, IsFilled}
 use Rattle.vlt_syntax.specs.Spelling.{spelling}
 use Rattle.vlt_syntax.specs.Places.{StandsIn}
 
@@ -40,16 +40,16 @@ AtMost n xs = length xs ≤ n
 -- one state or more
 abbrev pub IsStates : States → Type 0
 IsStates (s.one n) = Unit {0}
-IsStates (s.several ns at) = IsSome ns
+IsStates (s.several ns at) = IsFilled ns
 
 abbrev pub IsKeyStates : KeyStates → Type 0
 IsKeyStates k = IfSome k.states IsStates
 
 abbrev pub IsTy : Ty → Type 0
-IsTy (s.tracked ss n at) = IfSome ss IsStates
+IsTy (s.owning ss n at) = IfSome ss IsStates
 IsTy (s.int at) = Unit {0}
 IsTy (s.bool at) = Unit {0}
-IsTy (s.keyed k n at) = Unit {0}
+IsTy (s.tracked k n at) = Unit {0}
 IsTy (s.guarded k n) = Unit {0}
 IsTy (s.plain n) = Unit {0}
 
@@ -131,7 +131,7 @@ abbrev mutual
   IsStmt b room (s.release x at) = Unit {0}
   IsStmt b room (s.become x t at) = Unit {0}
   IsStmt b room (s.swap x f v at) = Unit {0}
-  IsStmt b room (s.unpack x vs at) = IsSome vs
+  IsStmt b room (s.open_into x vs at) = IsFilled vs
   IsStmt b room (s.focus x k z body at) = IsBlock b room body
 
   pub IsBlock : Bounds → ℕ → Block → Type 0
@@ -168,25 +168,25 @@ IsEntry (s.taken k at) = IsKeyStates k
 IsEntry (s.given k at) = IsKeyStates k
 IsEntry (s.fresh k at) = IsKeyStates k
 
-abbrev pub IsOutcome : Outcome → Type 0
-IsOutcome (s.void at) = Unit {0}
-IsOutcome (s.value t) = IsTy t
+abbrev pub IsResultType : ResultType → Type 0
+IsResultType (s.void at) = Unit {0}
+IsResultType (s.value t) = IsTy t
 
 abbrev pub IsParameter : Parameter → Type 0
 IsParameter p = IsTy p.ty
 
 -- its parts are right, and there aren't too many parameters
 pub record IsHead (b : Bounds) (h : Head) : Type 0 where
-  pub outcome : IsOutcome h.outcome
+  pub result_type : IsResultType h.result_type
   pub parameters : Each IsParameter h.parameters
   pub few : AtMost b.parameters h.parameters
   pub clause : IfSome h.clause (Each IsEntry)
 
 abbrev pub IsDecl : Bounds → Decl → Type 0
-IsDecl b (s.stateset n ss at) = IsSome ss × AtMost b.states ss
+IsDecl b (s.stateset n ss at) = IsFilled ss × AtMost b.states ss
 IsDecl b (s.abstract n ss at) = Unit {0}
 IsDecl b (s.struct n ps ss fs r at) = AtMost b.parameters ps × Each IsField fs × AtMost b.fields fs × IfSome r IsStates
-IsDecl b (s.variant n ps cs at) = AtMost b.parameters ps × IsSome cs × Each (IsCase b) cs × AtMost b.cases cs
+IsDecl b (s.variant n ps cs at) = AtMost b.parameters ps × IsFilled cs × Each (IsCase b) cs × AtMost b.cases cs
 IsDecl b (s.extern h at) = IsHead b h
 IsDecl b (s.function h body at) = IsHead b h × IsBlock b b.depth body
 

@@ -6,6 +6,3 @@ pub mod Spelling
 pub mod Places
 pub mod Grammar
 pub mod Refusals
-pub mod Kinds
-pub mod Automaton
-pub mod Machine

@@ -30,6 +30,6 @@ Each P [] = Unit {0}
 Each P (x ∷ xs) = P x × Each P xs
 
 -- there is one thing or more
-abbrev pub IsSome : {X : Type 0} → List X → Type 0
-IsSome [] = ⊥
-IsSome (x ∷ xs) = Unit {0}
+abbrev pub IsFilled : {X : Type 0} → List X → Type 0
+IsFilled [] = ⊥
+IsFilled (x ∷ xs) = Unit {0}

@@ -4,7 +4,7 @@ use Rattle.std.specs.Prelude.{◌≡◌, ◌+◌, ◌-◌, ℕ, List, [], ◌∷
 use Rattle.vlt_base.specs.declared.places.Span.{Span}
 use Rattle.vlt_lexer.specs.Reading.{Lexeme}
 use Rattle.vlt_syntax.specs.Tree as s
-use Rattle.vlt_syntax.specs.Tree.{Name, States, KeyStates, Named, Ty, Expr, Build, Call, Init, Right, Returned, Stmt, Block, If, Else, Stmts, Arms, HeaderParam, Field, Case, Entry, Outcome, Parameter, Head, Decl, Tree}
+use Rattle.vlt_syntax.specs.Tree.{Name, States, KeyStates, Named, Ty, Expr, Build, Call, Init, Right, Returned, Stmt, Block, If, Else, Stmts, Arms, HeaderKey, Field, Case, Entry, ResultType, Parameter, Head, Decl, Tree}
 
 -- the span of the tokens from one number up to another
 abbrev pub Spans : Type 0
@@ -76,8 +76,8 @@ named_at n = made (λ name keys. record { name = name; keys = keys }) ⊛ name_a
 abbrev pub ty_at : Ty → Placing Ty
 ty_at (s.int at) = spanned (made s.int ◂ 1)
 ty_at (s.bool at) = spanned (made s.bool ◂ 1)
-ty_at (s.keyed k n at) = spanned (made s.keyed ◂ 2 ⊛ name_at k ◂ 1 ⊛ named_at n)
-ty_at (s.tracked ss n at) = spanned (made s.tracked ◂ 1 ⊛ marked_at states_at ss ⊛ named_at n)
+ty_at (s.tracked k n at) = spanned (made s.tracked ◂ 2 ⊛ name_at k ◂ 1 ⊛ named_at n)
+ty_at (s.owning ss n at) = spanned (made s.owning ◂ 1 ⊛ marked_at states_at ss ⊛ named_at n)
 ty_at (s.guarded k n) = made s.guarded ⊛ name_at k ◂ 1 ⊛ named_at n
 ty_at (s.plain n) = made s.plain ⊛ named_at n
 
@@ -141,7 +141,7 @@ abbrev mutual
   stmt_at (s.release x at) = spanned (made s.release ◂ 1 ⊛ name_at x ◂ 1)
   stmt_at (s.become x t at) = spanned (made s.become ◂ 1 ⊛ name_at x ◂ 1 ⊛ name_at t ◂ 1)
   stmt_at (s.swap x f v at) = spanned (made s.swap ◂ 1 ⊛ name_at x ◂ 1 ⊛ name_at f ◂ 1 ⊛ name_at v ◂ 1)
-  stmt_at (s.unpack x vs at) = spanned (made s.unpack ◂ 1 ⊛ name_at x ◂ 2 ⊛ listed_at name_at vs ◂ 1)
+  stmt_at (s.open_into x vs at) = spanned (made s.open_into ◂ 1 ⊛ name_at x ◂ 2 ⊛ listed_at name_at vs ◂ 1)
   stmt_at (s.focus x k z b at) = spanned (made s.focus ◂ 1 ⊛ name_at x ◂ 3 ⊛ name_at k ◂ 1 ⊛ name_at z ⊛ block_at b)
 
   pub block_at : Block → Placing Block
@@ -166,8 +166,8 @@ abbrev mutual
 
 -- ---- declarations
 
-abbrev pub header_param_at : HeaderParam → Placing HeaderParam
-header_param_at p = made (λ key key_type. record { key = key; key_type = key_type }) ⊛ name_at p.key ⊛ marked_at name_at p.key_type
+abbrev pub header_key_at : HeaderKey → Placing HeaderKey
+header_key_at p = made (λ key key_type. record { key = key; key_type = key_type }) ⊛ name_at p.key ⊛ marked_at name_at p.key_type
 
 abbrev pub field_at : Field → Placing Field
 field_at f = spanned (made (λ ty name states at. record { ty = ty; name = name; states = states; at = at }) ⊛ ty_at f.ty ⊛ name_at f.name ⊛ marked_at states_at f.states ◂ 1)
@@ -188,9 +188,9 @@ entry_at (s.taken k at) = spanned (made s.taken ◂ 1 ⊛ key_states_at k)
 entry_at (s.given k at) = spanned (made s.given ◂ 1 ⊛ key_states_at k)
 entry_at (s.fresh k at) = spanned (made s.fresh ◂ 1 ⊛ key_states_at k)
 
-abbrev pub outcome_at : Outcome → Placing Outcome
-outcome_at (s.void at) = spanned (made s.void ◂ 1)
-outcome_at (s.value t) = made s.value ⊛ ty_at t
+abbrev pub result_type_at : ResultType → Placing ResultType
+result_type_at (s.void at) = spanned (made s.void ◂ 1)
+result_type_at (s.value t) = made s.value ⊛ ty_at t
 
 abbrev pub parameter_at : Parameter → Placing Parameter
 parameter_at p = made (λ ty name. record { ty = ty; name = name }) ⊛ ty_at p.ty ⊛ name_at p.name
@@ -200,15 +200,15 @@ clause_at = marked_at (listed_at entry_at)
 
 abbrev pub head_at : Head → Placing Head
 head_at h =
-    spanned (made (λ outcome name parameters clause at. record { outcome = outcome; name = name; parameters = parameters; clause = clause; at = at })
-    ⊛ outcome_at h.outcome ⊛ name_at h.name ◂ 1 ⊛ listed_at parameter_at h.parameters ⊛ clause_at h.clause)
+    spanned (made (λ result_type name parameters clause at. record { result_type = result_type; name = name; parameters = parameters; clause = clause; at = at })
+    ⊛ result_type_at h.result_type ⊛ name_at h.name ◂ 1 ⊛ listed_at parameter_at h.parameters ⊛ clause_at h.clause)
 
 abbrev pub decl_at : Decl → Placing Decl
 decl_at (s.stateset n ss at) = spanned (made s.stateset ◂ 1 ⊛ name_at n ◂ 1 ⊛ listed_at name_at ss)
 decl_at (s.abstract n ss at) = spanned (made s.abstract ◂ 1 ⊛ name_at n ⊛ marked_at name_at ss ◂ 1)
 decl_at (s.struct n ps ss fs r at) =
-    spanned (made s.struct ◂ 1 ⊛ name_at n ⊛ enclosed_at header_param_at ps ⊛ marked_at name_at ss ◂ 1 ⊛ each_at field_at fs ⊛ release_at r ◂ 1)
-decl_at (s.variant n ps cs at) = spanned (made s.variant ◂ 1 ⊛ name_at n ⊛ enclosed_at header_param_at ps ◂ 1 ⊛ listed_at case_at cs)
+    spanned (made s.struct ◂ 1 ⊛ name_at n ⊛ enclosed_at header_key_at ps ⊛ marked_at name_at ss ◂ 1 ⊛ each_at field_at fs ⊛ release_at r ◂ 1)
+decl_at (s.variant n ps cs at) = spanned (made s.variant ◂ 1 ⊛ name_at n ⊛ enclosed_at header_key_at ps ◂ 1 ⊛ listed_at case_at cs)
 decl_at (s.extern h at) = spanned (made s.extern ◂ 1 ⊛ head_at h ◂ 1)
 decl_at (s.function h b at) = spanned (made s.function ⊛ head_at h ⊛ block_at b)
 

@@ -7,7 +7,7 @@ use Rattle.vlt_lexer.specs.declared.token.Mark.{Mark}
 use Rattle.vlt_lexer.specs.declared.token.Mark.TheVariants as mark
 use Rattle.vlt_syntax.specs.Tokens.{Token, name, tick, number, keyword, sign}
 use Rattle.vlt_syntax.specs.Tree as s
-use Rattle.vlt_syntax.specs.Tree.{Name, States, KeyStates, Named, Ty, Expr, Build, Call, Init, Right, Returned, Stmt, Block, If, Else, Stmts, Arms, HeaderParam, Field, Case, Entry, Outcome, Parameter, Head, Decl, Tree}
+use Rattle.vlt_syntax.specs.Tree.{Name, States, KeyStates, Named, Ty, Expr, Build, Call, Init, Right, Returned, Stmt, Block, If, Else, Stmts, Arms, HeaderKey, Field, Case, Entry, ResultType, Parameter, Head, Decl, Tree}
 use Rattle.vlt_syntax.specs.Lists.{each_then, listed_then, enclosed_then}
 
 abbrev pub name_then : Name → List Token → List Token
@@ -41,8 +41,8 @@ named_then n rest = name_then n.name (enclosed_then name_then mark.Less mark.Gre
 abbrev pub ty_then : Ty → List Token → List Token
 ty_then (s.int at) rest = keyword word.Int ∷ rest
 ty_then (s.bool at) rest = keyword word.Bool ∷ rest
-ty_then (s.keyed k n at) rest = keyword word.Tracked ∷ sign mark.OpenParen ∷ name_then k (sign mark.CloseParen ∷ named_then n rest)
-ty_then (s.tracked ss n at) rest = keyword word.Tracked ∷ at_states_then ss (named_then n rest)
+ty_then (s.tracked k n at) rest = keyword word.Tracked ∷ sign mark.OpenParen ∷ name_then k (sign mark.CloseParen ∷ named_then n rest)
+ty_then (s.owning ss n at) rest = keyword word.Tracked ∷ at_states_then ss (named_then n rest)
 ty_then (s.guarded k n) rest = name_then k (sign mark.Colon ∷ named_then n rest)
 ty_then (s.plain n) rest = named_then n rest
 
@@ -160,7 +160,7 @@ abbrev mutual
   stmt_then (s.release x at) rest = keyword word.Release ∷ name_then x (semicolon_then rest)
   stmt_then (s.become x t at) rest = keyword word.Become ∷ name_then x (sign mark.At ∷ name_then t (semicolon_then rest))
   stmt_then (s.swap x f v at) rest = keyword word.Swap ∷ name_then x (sign mark.Dot ∷ name_then f (sign mark.Comma ∷ name_then v (semicolon_then rest)))
-  stmt_then (s.unpack x vs at) rest = keyword word.Open ∷ name_then x (keyword word.Into ∷ sign mark.OpenParen ∷ listed_then name_then mark.CloseParen vs (semicolon_then rest))
+  stmt_then (s.open_into x vs at) rest = keyword word.Open ∷ name_then x (keyword word.Into ∷ sign mark.OpenParen ∷ listed_then name_then mark.CloseParen vs (semicolon_then rest))
   stmt_then (s.focus x k z b at) rest = keyword word.Focus ∷ name_then x (keyword word.As ∷ keyword word.Tracked ∷ sign mark.OpenParen ∷ name_then k (sign mark.CloseParen ∷ name_then z (block_then b rest)))
 
   pub block_then : Block → List Token → List Token
@@ -184,11 +184,11 @@ abbrev mutual
 
 -- ---- declarations
 
-abbrev pub header_param_then : HeaderParam → List Token → List Token
-header_param_then p rest = name_then p.key (marked_name_then mark.Colon p.key_type rest)
+abbrev pub header_key_then : HeaderKey → List Token → List Token
+header_key_then p rest = name_then p.key (marked_name_then mark.Colon p.key_type rest)
 
-abbrev pub header_then : List HeaderParam → List Token → List Token
-header_then ps rest = enclosed_then header_param_then mark.Less mark.Greater ps rest
+abbrev pub header_then : List HeaderKey → List Token → List Token
+header_then ps rest = enclosed_then header_key_then mark.Less mark.Greater ps rest
 
 abbrev pub field_then : Field → List Token → List Token
 field_then f rest = ty_then f.ty (name_then f.name (at_states_then f.states (semicolon_then rest)))
@@ -208,9 +208,9 @@ entry_then (s.taken k at) rest = sign mark.Minus ∷ key_states_then k rest
 entry_then (s.given k at) rest = sign mark.Plus ∷ key_states_then k rest
 entry_then (s.fresh k at) rest = keyword word.New ∷ key_states_then k rest
 
-abbrev pub outcome_then : Outcome → List Token → List Token
-outcome_then (s.void at) rest = keyword word.Void ∷ rest
-outcome_then (s.value t) rest = ty_then t rest
+abbrev pub result_type_then : ResultType → List Token → List Token
+result_type_then (s.void at) rest = keyword word.Void ∷ rest
+result_type_then (s.value t) rest = ty_then t rest
 
 abbrev pub parameter_then : Parameter → List Token → List Token
 parameter_then p rest = ty_then p.ty (name_then p.name rest)
@@ -221,7 +221,7 @@ clause_then None rest = rest
 clause_then (Some es) rest = sign mark.OpenBracket ∷ listed_then entry_then mark.CloseBracket es rest
 
 abbrev pub head_then : Head → List Token → List Token
-head_then h rest = outcome_then h.outcome (name_then h.name (sign mark.OpenParen ∷ listed_then parameter_then mark.CloseParen h.parameters (clause_then h.clause rest)))
+head_then h rest = result_type_then h.result_type (name_then h.name (sign mark.OpenParen ∷ listed_then parameter_then mark.CloseParen h.parameters (clause_then h.clause rest)))
 
 abbrev pub decl_then : Decl → List Token → List Token
 decl_then (s.stateset n ss at) rest = keyword word.Stateset ∷ name_then n (sign mark.OpenBrace ∷ listed_then name_then mark.CloseBrace ss rest)

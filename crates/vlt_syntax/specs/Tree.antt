@@ -24,8 +24,8 @@ pub record Named : Type 0 where
 pub data Ty : Type 0 where
   int : Span → Ty
   bool : Span → Ty
-  keyed : Name → Named → Span → Ty
-  tracked : Option States → Named → Span → Ty
+  tracked : Name → Named → Span → Ty
+  owning : Option States → Named → Span → Ty
   guarded : Name → Named → Ty
   plain : Named → Ty
 
@@ -88,7 +88,7 @@ mutual
     release : Name → Span → Stmt
     become : Name → Name → Span → Stmt
     swap : Name → Name → Name → Span → Stmt
-    unpack : Name → List Name → Span → Stmt
+    open_into : Name → List Name → Span → Stmt
     focus : Name → Name → Name → Block → Span → Stmt
 
   pub data Block : Type 0 where
@@ -113,7 +113,7 @@ mutual
 
 -- ---- declarations
 
-pub record HeaderParam : Type 0 where
+pub record HeaderKey : Type 0 where
   pub key : Name
   pub key_type : Option Name
 
@@ -136,16 +136,16 @@ pub data Entry : Type 0 where
   given : KeyStates → Span → Entry
   fresh : KeyStates → Span → Entry
 
-pub data Outcome : Type 0 where
-  void : Span → Outcome
-  value : Ty → Outcome
+pub data ResultType : Type 0 where
+  void : Span → ResultType
+  value : Ty → ResultType
 
 pub record Parameter : Type 0 where
   pub ty : Ty
   pub name : Name
 
 pub record Head : Type 0 where
-  pub outcome : Outcome
+  pub result_type : ResultType
   pub name : Name
   pub parameters : List Parameter
   pub clause : Option (List Entry)
@@ -154,8 +154,8 @@ pub record Head : Type 0 where
 pub data Decl : Type 0 where
   stateset : Name → List Name → Span → Decl
   abstract : Name → Option Name → Span → Decl
-  struct : Name → List HeaderParam → Option Name → List Field → Option States → Span → Decl
-  variant : Name → List HeaderParam → List Case → Span → Decl
+  struct : Name → List HeaderKey → Option Name → List Field → Option States → Span → Decl
+  variant : Name → List HeaderKey → List Case → Span → Decl
   extern : Head → Span → Decl
   function : Head → Block → Span → Decl
 

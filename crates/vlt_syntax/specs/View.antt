@@ -26,13 +26,13 @@ use Rattle.vlt_syntax.specs.declared.tree.Block.{Block}
 use Rattle.vlt_syntax.specs.declared.tree.If.{If}
 use Rattle.vlt_syntax.specs.declared.tree.Else.TheOpen.{Else-F, Stmt-F, Arm-F, Block-F, If-F}
 use Rattle.vlt_syntax.specs.declared.tree.Else.TheFolds.{fold-Else, fold-Stmt, fold-Arm, fold-Block, fold-If}
-use Rattle.vlt_syntax.specs.declared.tree.HeaderParam.{HeaderParam}
+use Rattle.vlt_syntax.specs.declared.tree.HeaderKey.{HeaderKey}
 use Rattle.vlt_syntax.specs.declared.tree.Field.{Field}
 use Rattle.vlt_syntax.specs.declared.tree.Case.{Case}
 use Rattle.vlt_syntax.specs.declared.tree.Entry.{Entry}
 use Rattle.vlt_syntax.specs.declared.tree.Entry.TheVariants as entry
-use Rattle.vlt_syntax.specs.declared.tree.Outcome.{Outcome}
-use Rattle.vlt_syntax.specs.declared.tree.Outcome.TheVariants as outcome
+use Rattle.vlt_syntax.specs.declared.tree.ResultType.{ResultType}
+use Rattle.vlt_syntax.specs.declared.tree.ResultType.TheVariants as result_type
 use Rattle.vlt_syntax.specs.declared.tree.Parameter.{Parameter}
 use Rattle.vlt_syntax.specs.declared.tree.Head.{Head}
 use Rattle.vlt_syntax.specs.declared.tree.Decl.{Decl}
@@ -58,8 +58,8 @@ named_of n = record { name = name_of n.name; keys = names_of n.keys }
 abbrev pub ty_of : Ty → s.Ty
 ty_of (ty.Int at) = s.int at
 ty_of (ty.Bool at) = s.bool at
-ty_of (ty.Keyed k n at) = s.keyed (name_of k) (named_of n) at
-ty_of (ty.Tracked ss n at) = s.tracked (option_map states_of ss) (named_of n) at
+ty_of (ty.Tracked k n at) = s.tracked (name_of k) (named_of n) at
+ty_of (ty.Owning ss n at) = s.owning (option_map states_of ss) (named_of n) at
 ty_of (ty.Guarded k n) = s.guarded (name_of k) (named_of n)
 ty_of (ty.Plain n) = s.plain (named_of n)
 
@@ -136,7 +136,7 @@ stmt_step (Stmt-F.Switch x arms at) = s.switch (name_of x) (arms_made arms) at
 stmt_step (Stmt-F.Release x at) = s.release (name_of x) at
 stmt_step (Stmt-F.Become x t at) = s.become (name_of x) (name_of t) at
 stmt_step (Stmt-F.Swap x f v at) = s.swap (name_of x) (name_of f) (name_of v) at
-stmt_step (Stmt-F.Open x vs at) = s.unpack (name_of x) (names_of vs) at
+stmt_step (Stmt-F.Open x vs at) = s.open_into (name_of x) (names_of vs) at
 stmt_step (Stmt-F.Focus x k z b at) = s.focus (name_of x) (name_of k) (name_of z) b at
 
 abbrev pub arm_step : Arm-F s.Else s.Stmt ArmView s.Block s.If → ArmView
@@ -171,8 +171,8 @@ arms_of xs = arms_made (map arm_of xs)
 
 -- ---- declarations
 
-abbrev pub header_param_of : HeaderParam → s.HeaderParam
-header_param_of p = record { key = name_of p.key; key_type = option_map name_of p.key_type }
+abbrev pub header_key_of : HeaderKey → s.HeaderKey
+header_key_of p = record { key = name_of p.key; key_type = option_map name_of p.key_type }
 
 abbrev pub field_of : Field → s.Field
 field_of f = record { ty = ty_of f.ty; name = name_of f.name; states = option_map states_of f.states; at = f.at }
@@ -187,16 +187,16 @@ entry_of (entry.Taken k at) = s.taken (key_states_of k) at
 entry_of (entry.Given k at) = s.given (key_states_of k) at
 entry_of (entry.Fresh k at) = s.fresh (key_states_of k) at
 
-abbrev pub outcome_of : Outcome → s.Outcome
-outcome_of (outcome.Void at) = s.void at
-outcome_of (outcome.Value t) = s.value (ty_of t)
+abbrev pub result_type_of : ResultType → s.ResultType
+result_type_of (result_type.Void at) = s.void at
+result_type_of (result_type.Value t) = s.value (ty_of t)
 
 abbrev pub parameter_of : Parameter → s.Parameter
 parameter_of p = record { ty = ty_of p.ty; name = name_of p.name }
 
 abbrev pub head_of : Head → s.Head
 head_of h = record {
-  outcome = outcome_of h.outcome;
+  result_type = result_type_of h.result_type;
   name = name_of h.name;
   parameters = map parameter_of h.parameters;
   clause = option_map (map entry_of) h.clause;
@@ -206,8 +206,8 @@ head_of h = record {
 abbrev pub decl_of : Decl → s.Decl
 decl_of (decl.StateSet n ss at) = s.stateset (name_of n) (names_of ss) at
 decl_of (decl.Abstract n ss at) = s.abstract (name_of n) (option_map name_of ss) at
-decl_of (decl.Struct n ps ss fs r at) = s.struct (name_of n) (map header_param_of ps) (option_map name_of ss) (map field_of fs) (option_map states_of r) at
-decl_of (decl.Variant n ps cs at) = s.variant (name_of n) (map header_param_of ps) (map case_of cs) at
+decl_of (decl.Struct n ps ss fs r at) = s.struct (name_of n) (map header_key_of ps) (option_map name_of ss) (map field_of fs) (option_map states_of r) at
+decl_of (decl.Variant n ps cs at) = s.variant (name_of n) (map header_key_of ps) (map case_of cs) at
 decl_of (decl.Extern h at) = s.extern (head_of h) at
 decl_of (decl.Function h b at) = s.function (head_of h) (block_of b) at
 

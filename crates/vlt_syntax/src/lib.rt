@@ -6,6 +6,6 @@
 mod tree;
 
 pub use tree::{
-    Arm, Block, Build, Call, Case, Decl, Else, Entry, Expr, Field, Head, HeaderParam, If, Init,
-    KeyStates, Name, Named, Outcome, Parameter, Returned, Right, States, Stmt, Tree, Ty,
+    Arm, Block, Build, Call, Case, Decl, Else, Entry, Expr, Field, Head, HeaderKey, If, Init,
+    KeyStates, Name, Named, Parameter, ResultType, Returned, Right, States, Stmt, Tree, Ty,
 };

@@ -35,7 +35,7 @@ pub enum Decl {
     /// `struct name<K, L: T> @ states { int x; release s; }`
     Struct {
         name: Name,
-        params: Items<HeaderParam>,
+        params: Items<HeaderKey>,
         states: Option<Name>,
         fields: Items<Field>,
         release: Option<States>,
@@ -44,7 +44,7 @@ pub enum Decl {
     /// `variant name<K: T> { 'A, 'B(int) { K@s } }`, with one case or more.
     Variant {
         name: Name,
-        params: Items<HeaderParam>,
+        params: Items<HeaderKey>,
         cases: Items<Case>,
         at: Span,
     },
@@ -63,7 +63,7 @@ pub enum Decl {
 
 /// A key in a type's header, with the type of its object where one is given: `K` or `K: T`.
 #[derive(Drop)]
-pub struct HeaderParam {
+pub struct HeaderKey {
     pub key: Name,
     pub key_type: Option<Name>,
 }
@@ -103,7 +103,7 @@ pub enum States {
 /// The head of a function, which says how it is called. Its clause is the list between `[` and `]`.
 #[derive(Drop)]
 pub struct Head {
-    pub outcome: Outcome,
+    pub result_type: ResultType,
     pub name: Name,
     pub parameters: Items<Parameter>,
     pub clause: Option<Items<Entry>>,
@@ -112,7 +112,7 @@ pub struct Head {
 
 /// What a function gives.
 #[derive(Drop)]
-pub enum Outcome {
+pub enum ResultType {
     Void(Span),
     Value(Ty),
 }
@@ -147,13 +147,13 @@ pub enum Ty {
     Int(Span),
     Bool(Span),
     /// `tracked(K) T`.
-    Keyed {
+    Tracked {
         key: Name,
         named: Named,
         at: Span,
     },
     /// `tracked T` or `tracked@s T`.
-    Tracked {
+    Owning {
         states: Option<States>,
         named: Named,
         at: Span,

@@ -2,7 +2,7 @@
 use Rattle.std.proofs.Common.{◌≡◌, List, [], ◌∷◌, refl}
 use Rattle.vlt_syntax.specs.Tokens.{Token}
 use Rattle.vlt_syntax.specs.Grammar.{Bounds}
-use Rattle.vlt_syntax.specs.Automaton.{Symbol, Next, to, unexpected, over, step}
+use Rattle.vlt_automaton.specs.Automaton.{Symbol, Next, to, unexpected, over, step}
 
 abbrev pub onward : (List Symbol → Next) → Next → Next
 onward rest (to s) = rest s

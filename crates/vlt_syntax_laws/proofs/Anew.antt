@@ -6,11 +6,11 @@ use Rattle.vlt_lexer.specs.declared.token.Mark.TheVariants as mark
 use Rattle.vlt_lexer.specs.Reading.{Lexeme}
 use Rattle.vlt_syntax.specs.Tokens.{Token, keyword, sign, tokens_in}
 use Rattle.vlt_syntax.specs.Tree as s
-use Rattle.vlt_syntax.specs.Tree.{Name, States, KeyStates, Named, Ty, Expr, Build, Call, Init, Right, Returned, Stmt, Block, If, Else, Stmts, Arms, HeaderParam, Field, Case, Entry, Outcome, Parameter, Head, Decl, Tree}
-use Rattle.vlt_syntax.specs.Lists.{each_then, further_then, listed_then, enclosed_then, Each, IsSome}
-use Rattle.vlt_syntax.specs.Spelling.{name_then, case_name_then, marked_name_then, states_then, at_states_then, key_states_then, named_then, ty_then, sign_of, expr_then, build_then, call_then, init_then, owner_then, right_then, returned_then, stmt_then, block_then, if_then, else_then, stmts_then, arms_then, header_param_then, header_then, field_then, release_then, case_then, entry_then, outcome_then, parameter_then, clause_then, head_then, decl_then, spelling}
-use Rattle.vlt_syntax.specs.Grammar.{Bounds, language, level, depth, BindsFrom, IsStates, IsKeyStates, IsTy, IsExpr, IsInit, IsRight, IsReturned, IsSomeArm, IsStmt, IsBlock, IsIf, IsElse, AreStmts, AreArms, IsField, IsCase, IsEntry, IsOutcome, IsParameter, IsHead, IsDecl, IsTree, IsPlacedTreeOf}
-use Rattle.vlt_syntax.specs.Places.{Spans, Placing, each_at, further_at, listed_at, enclosed_at, marked_at, name_at, states_at, key_states_at, named_at, ty_at, expr_at, build_at, call_at, init_at, owner_at, right_at, returned_at, stmt_at, block_at, if_at, else_at, stmts_at, arms_at, header_param_at, field_at, release_at, case_at, entry_at, outcome_at, parameter_at, clause_at, head_at, decl_at, span_in, placed}
+use Rattle.vlt_syntax.specs.Tree.{Name, States, KeyStates, Named, Ty, Expr, Build, Call, Init, Right, Returned, Stmt, Block, If, Else, Stmts, Arms, HeaderKey, Field, Case, Entry, ResultType, Parameter, Head, Decl, Tree}
+use Rattle.vlt_syntax.specs.Lists.{each_then, further_then, listed_then, enclosed_then, Each, IsFilled}
+use Rattle.vlt_syntax.specs.Spelling.{name_then, case_name_then, marked_name_then, states_then, at_states_then, key_states_then, named_then, ty_then, sign_of, expr_then, build_then, call_then, init_then, owner_then, right_then, returned_then, stmt_then, block_then, if_then, else_then, stmts_then, arms_then, header_key_then, header_then, field_then, release_then, case_then, entry_then, result_type_then, parameter_then, clause_then, head_then, decl_then, spelling}
+use Rattle.vlt_syntax.specs.Grammar.{Bounds, language, level, depth, BindsFrom, IsStates, IsKeyStates, IsTy, IsExpr, IsInit, IsRight, IsReturned, IsSomeArm, IsStmt, IsBlock, IsIf, IsElse, AreStmts, AreArms, IsField, IsCase, IsEntry, IsResultType, IsParameter, IsHead, IsDecl, IsTree, IsPlacedTreeOf}
+use Rattle.vlt_syntax.specs.Places.{Spans, Placing, each_at, further_at, listed_at, enclosed_at, marked_at, name_at, states_at, key_states_at, named_at, ty_at, expr_at, build_at, call_at, init_at, owner_at, right_at, returned_at, stmt_at, block_at, if_at, else_at, stmts_at, arms_at, header_key_at, field_at, release_at, case_at, entry_at, result_type_at, parameter_at, clause_at, head_at, decl_at, span_in, placed}
 use Rattle.vlt_syntax_laws.proofs.OneTree.{one_tree}
 
 -- the thing with its places set anew
@@ -73,7 +73,7 @@ enclosed_long : {X : Type 0} (place : X → Placing X) (xs : List X) (at : Spans
 enclosed_long place [] at i = refl
 enclosed_long place (x ∷ xs) at i = ap suc (further_long place xs at (place x at (i + 1)).1)
 
-some_stays : {X : Type 0} (place : X → Placing X) (xs : List X) (at : Spans) (i : ℕ) → IsSome xs → IsSome (listed_at place xs at i).0
+some_stays : {X : Type 0} (place : X → Placing X) (xs : List X) (at : Spans) (i : ℕ) → IsFilled xs → IsFilled (listed_at place xs at i).0
 some_stays place [] at i h = h
 some_stays place (x ∷ xs) at i h = h
 
@@ -110,8 +110,8 @@ spells_named n at i rest = ap (name_then n.name) (spells_enclosed name_at name_t
 spells_ty : Spells_on ty_at ty_then
 spells_ty (s.int a) at i rest = refl
 spells_ty (s.bool a) at i rest = refl
-spells_ty (s.keyed k n a) at i rest = ap (λ ts. keyword word.Tracked ∷ sign mark.OpenParen ∷ name_then k (sign mark.CloseParen ∷ ts)) (spells_named n at (i + 2 + 1 + 1) rest)
-spells_ty (s.tracked ss n a) at i rest =
+spells_ty (s.tracked k n a) at i rest = ap (λ ts. keyword word.Tracked ∷ sign mark.OpenParen ∷ name_then k (sign mark.CloseParen ∷ ts)) (spells_named n at (i + 2 + 1 + 1) rest)
+spells_ty (s.owning ss n a) at i rest =
     ap (λ ts. keyword word.Tracked ∷ ts) (spells_at_states ss at (i + 1) _ ∙ ap (at_states_then ss) (spells_named n at _ rest))
 spells_ty (s.guarded k n) at i rest = ap (λ ts. name_then k (sign mark.Colon ∷ ts)) (spells_named n at (i + 1 + 1) rest)
 spells_ty (s.plain n) at i rest = spells_named n at i rest
@@ -126,8 +126,8 @@ key_states_stay k at i h = marked_stays states_at IsStates states_stay k.states 
 ty_stays : Stays ty_at IsTy
 ty_stays (s.int a) at i h = h
 ty_stays (s.bool a) at i h = h
-ty_stays (s.keyed k n a) at i h = h
-ty_stays (s.tracked ss n a) at i h = marked_stays states_at IsStates states_stay ss at (i + 1) h
+ty_stays (s.tracked k n a) at i h = h
+ty_stays (s.owning ss n a) at i h = marked_stays states_at IsStates states_stay ss at (i + 1) h
 ty_stays (s.guarded k n) at i h = h
 ty_stays (s.plain n) at i h = h
 
@@ -240,7 +240,7 @@ mutual
   spells_stmt (s.release x a) at i rest = refl
   spells_stmt (s.become x t a) at i rest = refl
   spells_stmt (s.swap x f v a) at i rest = refl
-  spells_stmt (s.unpack x vs a) at i rest =
+  spells_stmt (s.open_into x vs a) at i rest =
       ap (λ ts. keyword word.Open ∷ name_then x (keyword word.Into ∷ sign mark.OpenParen ∷ ts)) (spells_names mark.CloseParen vs at (i + 1 + 1 + 2) _)
   spells_stmt (s.focus x k z b a) at i rest =
       ap (λ ts. keyword word.Focus ∷ name_then x (keyword word.As ∷ keyword word.Tracked ∷ sign mark.OpenParen ∷ name_then k (sign mark.CloseParen ∷ name_then z ts))) (spells_block b at (i + 1 + 1 + 3 + 1 + 1 + 1) rest)
@@ -294,7 +294,7 @@ mutual
   stmt_stays b room (s.release x a) at i h = h
   stmt_stays b room (s.become x t a) at i h = h
   stmt_stays b room (s.swap x f v a) at i h = h
-  stmt_stays b room (s.unpack x vs a) at i h = some_stays name_at vs at (i + 1 + 1 + 2) h
+  stmt_stays b room (s.open_into x vs a) at i h = some_stays name_at vs at (i + 1 + 1 + 2) h
   stmt_stays b room (s.focus x k z body a) at i h = block_stays b room body at (i + 1 + 1 + 3 + 1 + 1 + 1) h
 
   block_stays : (b : Bounds) (room : ℕ) → Stays block_at (IsBlock b room)
@@ -322,11 +322,11 @@ mutual
 
 -- ---- declarations
 
-spells_header_param : Spells_on header_param_at header_param_then
-spells_header_param p at i rest = ap (name_then p.key) (spells_marked_name mark.Colon p.key_type at (i + 1) rest)
+spells_header_key : Spells_on header_key_at header_key_then
+spells_header_key p at i rest = ap (name_then p.key) (spells_marked_name mark.Colon p.key_type at (i + 1) rest)
 
-spells_header : Spells_on (enclosed_at header_param_at) header_then
-spells_header = spells_enclosed header_param_at header_param_then mark.Less mark.Greater spells_header_param
+spells_header : Spells_on (enclosed_at header_key_at) header_then
+spells_header = spells_enclosed header_key_at header_key_then mark.Less mark.Greater spells_header_key
 
 spells_field : Spells_on field_at field_then
 spells_field f at i rest = spells_ty f.ty at i _ ∙ ap (λ ts. ty_then f.ty (name_then f.name ts)) (spells_at_states f.states at ((ty_at f.ty at i).1 + 1) _)
@@ -350,9 +350,9 @@ spells_entry (s.taken k a) at i rest = ap (λ ts. sign mark.Minus ∷ ts) (spell
 spells_entry (s.given k a) at i rest = ap (λ ts. sign mark.Plus ∷ ts) (spells_key_states k at (i + 1) rest)
 spells_entry (s.fresh k a) at i rest = ap (λ ts. keyword word.New ∷ ts) (spells_key_states k at (i + 1) rest)
 
-spells_outcome : Spells_on outcome_at outcome_then
-spells_outcome (s.void a) at i rest = refl
-spells_outcome (s.value t) at i rest = spells_ty t at i rest
+spells_result_type : Spells_on result_type_at result_type_then
+spells_result_type (s.void a) at i rest = refl
+spells_result_type (s.value t) at i rest = spells_ty t at i rest
 
 spells_parameter : Spells_on parameter_at parameter_then
 spells_parameter p at i rest = spells_ty p.ty at i _
@@ -363,23 +363,23 @@ spells_clause (Some es) at i rest = ap (λ ts. sign mark.OpenBracket ∷ ts) (sp
 
 spells_head : Spells_on head_at head_then
 spells_head h at i rest =
-    let j = (outcome_at h.outcome at i).1 + 1 + 1 in
-    spells_outcome h.outcome at i _
-    ∙ ap (λ ts. outcome_then h.outcome (name_then h.name (sign mark.OpenParen ∷ ts)))
+    let j = (result_type_at h.result_type at i).1 + 1 + 1 in
+    spells_result_type h.result_type at i _
+    ∙ ap (λ ts. result_type_then h.result_type (name_then h.name (sign mark.OpenParen ∷ ts)))
     (spells_listed parameter_at parameter_then mark.CloseParen spells_parameter h.parameters at j _ ∙ ap (listed_then parameter_then mark.CloseParen h.parameters) (spells_clause h.clause at (listed_at parameter_at h.parameters at j).1 rest))
 
 spells_decl : Spells_on decl_at decl_then
 spells_decl (s.stateset n ss a) at i rest = ap (λ ts. keyword word.Stateset ∷ name_then n (sign mark.OpenBrace ∷ ts)) (spells_names mark.CloseBrace ss at (i + 1 + 1 + 1) rest)
 spells_decl (s.abstract n ss a) at i rest = ap (λ ts. keyword word.Abstract ∷ name_then n ts) (spells_marked_name mark.At ss at (i + 1 + 1) _)
 spells_decl (s.struct n ps ss fs r a) at i rest =
-    let j = (enclosed_at header_param_at ps at (i + 1 + 1)).1 in
+    let j = (enclosed_at header_key_at ps at (i + 1 + 1)).1 in
     let k = (marked_at name_at ss at j).1 + 1 in
     ap (λ ts. keyword word.Struct ∷ name_then n ts) (
     spells_header ps at (i + 1 + 1) _
     ∙ ap (header_then ps) (spells_marked_name mark.At ss at j _ ∙ ap (λ ts. marked_name_then mark.At ss (sign mark.OpenBrace ∷ ts)) (spells_each field_at field_then spells_field fs at k _ ∙ ap (each_then field_then fs) (spells_release r at (each_at field_at fs at k).1 _)))
     )
 spells_decl (s.variant n ps cs a) at i rest =
-    let j = (enclosed_at header_param_at ps at (i + 1 + 1)).1 in
+    let j = (enclosed_at header_key_at ps at (i + 1 + 1)).1 in
     ap (λ ts. keyword word.Variant ∷ name_then n ts) (spells_header ps at (i + 1 + 1) _ ∙ ap (λ ts. header_then ps (sign mark.OpenBrace ∷ ts)) (spells_listed case_at case_then mark.CloseBrace spells_case cs at (j + 1) rest))
 spells_decl (s.extern h a) at i rest = ap (λ ts. keyword word.Extern ∷ ts) (spells_head h at (i + 1) _)
 spells_decl (s.function h b a) at i rest = spells_head h at i _ ∙ ap (head_then h) (spells_block b at (head_at h at i).1 rest)
@@ -405,9 +405,9 @@ entry_stays (s.taken k a) at i h = key_states_stay k at (i + 1) h
 entry_stays (s.given k a) at i h = key_states_stay k at (i + 1) h
 entry_stays (s.fresh k a) at i h = key_states_stay k at (i + 1) h
 
-outcome_stays : Stays outcome_at IsOutcome
-outcome_stays (s.void a) at i h = h
-outcome_stays (s.value t) at i h = ty_stays t at i h
+result_type_stays : Stays result_type_at IsResultType
+result_type_stays (s.void a) at i h = h
+result_type_stays (s.value t) at i h = ty_stays t at i h
 
 parameter_stays : Stays parameter_at IsParameter
 parameter_stays p at i h = ty_stays p.ty at i h
@@ -417,9 +417,9 @@ clause_stays = marked_stays (listed_at entry_at) (Each IsEntry) (listed_stays en
 
 head_stays : (b : Bounds) → Stays head_at (IsHead b)
 head_stays b h at i is =
-    let j = (outcome_at h.outcome at i).1 + 1 + 1 in
+    let j = (result_type_at h.result_type at i).1 + 1 + 1 in
     record {
-      outcome = outcome_stays h.outcome at i is.outcome;
+      result_type = result_type_stays h.result_type at i is.result_type;
       parameters = listed_stays parameter_at IsParameter parameter_stays h.parameters at j is.parameters;
       few = subst (λ n. n ≤ b.parameters) (sym (listed_long parameter_at h.parameters at j)) is.few;
       clause = clause_stays h.clause at (listed_at parameter_at h.parameters at j).1 is.clause;
@@ -429,15 +429,15 @@ decl_stays : (b : Bounds) → Stays decl_at (IsDecl b)
 decl_stays b (s.stateset n ss a) at i h = (some_stays name_at ss at (i + 1 + 1 + 1) h.0, subst (λ n. n ≤ b.states) (sym (listed_long name_at ss at (i + 1 + 1 + 1))) h.1)
 decl_stays b (s.abstract n ss a) at i h = h
 decl_stays b (s.struct n ps ss fs r a) at i h =
-    let k = (marked_at name_at ss at (enclosed_at header_param_at ps at (i + 1 + 1)).1).1 + 1 in (
-      subst (λ n. n ≤ b.parameters) (sym (enclosed_long header_param_at ps at (i + 1 + 1))) h.0,
+    let k = (marked_at name_at ss at (enclosed_at header_key_at ps at (i + 1 + 1)).1).1 + 1 in (
+      subst (λ n. n ≤ b.parameters) (sym (enclosed_long header_key_at ps at (i + 1 + 1))) h.0,
       each_stays field_at IsField field_stays fs at k h.1,
       subst (λ n. n ≤ b.fields) (sym (each_long field_at fs at k)) h.2,
       release_stays r at (each_at field_at fs at k).1 h.3,
     )
 decl_stays b (s.variant n ps cs a) at i h =
-    let j = (enclosed_at header_param_at ps at (i + 1 + 1)).1 + 1 in (
-      subst (λ n. n ≤ b.parameters) (sym (enclosed_long header_param_at ps at (i + 1 + 1))) h.0,
+    let j = (enclosed_at header_key_at ps at (i + 1 + 1)).1 + 1 in (
+      subst (λ n. n ≤ b.parameters) (sym (enclosed_long header_key_at ps at (i + 1 + 1))) h.0,
       some_stays case_at cs at j h.1,
       listed_stays case_at (IsCase b) (case_stays b) cs at j h.2,
       subst (λ n. n ≤ b.cases) (sym (listed_long case_at cs at j)) h.3,

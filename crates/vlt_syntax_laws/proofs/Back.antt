@@ -10,12 +10,12 @@ use Rattle.vlt_lexer.specs.declared.token.Mark.TheVariants as mark
 use Rattle.vlt_syntax.specs.Tokens as t
 use Rattle.vlt_syntax.specs.Tokens.{Token}
 use Rattle.vlt_syntax.specs.Tree as s
-use Rattle.vlt_syntax.specs.Tree.{Name, States, KeyStates, Named, Ty, Expr, Init, Right, Returned, Stmt, Block, Else, Stmts, Arms, HeaderParam, Field, Case, Entry, Outcome, Parameter, Head, Decl}
+use Rattle.vlt_syntax.specs.Tree.{Name, States, KeyStates, Named, Ty, Expr, Init, Right, Returned, Stmt, Block, Else, Stmts, Arms, HeaderKey, Field, Case, Entry, ResultType, Parameter, Head, Decl}
 use Rattle.vlt_syntax.specs.Lists.{Each, each_then, further_then, listed_then, enclosed_then}
 use Rattle.vlt_base.specs.declared.places.Span.{Span}
-use Rattle.vlt_syntax.specs.Spelling.{name_then, case_name_then, marked_name_then, states_then, at_states_then, key_states_then, named_then, ty_then, init_then, owner_then, right_then, returned_then, stmt_then, block_then, else_then, stmts_then, arms_then, header_param_then, field_then, release_then, case_then, entry_then, outcome_then, parameter_then, clause_then, head_then, decl_then, expr_then, sign_of, operator_of}
-use Rattle.vlt_syntax.specs.Grammar.{BindsFrom, depth, level, IsExpr, IsTy, IsStates, IsKeyStates, IsInit, IsRight, IsReturned, IsStmt, IsBlock, IsElse, AreStmts, AreArms, IsField, IsCase, IsEntry, IsOutcome, IsParameter, IsHead, IsDecl, Bounds}
-use Rattle.vlt_syntax.specs.Automaton.{Frame, level_from, right_of, prefixed, Symbol, Thing, operand, operations, behind_name, close_group, end_expr, behind_operand, behind_variable, whole_depth, Left, a_name, a_param, a_ty, a_key, a_case, a_parameter, an_entry, an_expr, an_init, an_outcome, a_simple, a_stmt, a_decl, tick, sign, keyword, thing, further, listed, enclosed, marked_name, states, at_states, named, behind_tracked, behind_type_name, owner, right, behind_right_name, returned, block, stmts, behind_stmt_name, otherwise, behind_else, arm, arms, entry_states, arrow_states, clause, head, fields, behind_fields, decls, Reaction, take, exceed, climb, climb_by, if_deeper, start_operand, react_operations}
+use Rattle.vlt_syntax.specs.Spelling.{name_then, case_name_then, marked_name_then, states_then, at_states_then, key_states_then, named_then, ty_then, init_then, owner_then, right_then, returned_then, stmt_then, block_then, else_then, stmts_then, arms_then, header_key_then, field_then, release_then, case_then, entry_then, result_type_then, parameter_then, clause_then, head_then, decl_then, expr_then, sign_of, operator_of}
+use Rattle.vlt_syntax.specs.Grammar.{BindsFrom, depth, level, IsExpr, IsTy, IsStates, IsKeyStates, IsInit, IsRight, IsReturned, IsStmt, IsBlock, IsElse, AreStmts, AreArms, IsField, IsCase, IsEntry, IsResultType, IsParameter, IsHead, IsDecl, Bounds}
+use Rattle.vlt_automaton.specs.Automaton.{Pending, level_from, right_of, prefixed, Symbol, Thing, operand, operations, behind_name, close_group, end_expr, behind_operand, behind_variable, whole_depth, Left, a_name, a_param, a_ty, a_key, a_case, a_parameter, an_entry, an_expr, an_init, a_result_type, a_simple, a_stmt, a_decl, tick, sign, keyword, thing, further, listed, enclosed, marked_name, states, at_states, named, behind_tracked, behind_type_name, owner, right, behind_right_name, returned, block, stmts, behind_stmt_name, otherwise, behind_else, arm, arms, entry_states, arrow_states, clause, head, fields, behind_fields, decls, Reaction, take, exceed, climb, climb_by, if_deeper, start_operand, react_operations}
 use Rattle.vlt_syntax_laws.proofs.Exprs.{depth_some, binary_low, unary_high}
 use Rattle.vlt_syntax_laws.proofs.Wider.{wider}
 
@@ -25,7 +25,7 @@ pub data Filled : Type 0 where
   right_at : (least room : ℕ) → Op → Expr → Filled
   prefix_at : Op → Filled
 
-abbrev pub frames : List Filled → List Frame
+abbrev pub frames : List Filled → List Pending
 frames [] = []
 frames (level_at least room ∷ gs) = level_from least room ∷ frames gs
 frames (right_at least room o a ∷ gs) = right_of least room (depth a) ∷ frames gs
@@ -53,10 +53,10 @@ abbrev pub Completed : ℕ → List Filled → Rest → List Token → Type 0
 Completed most gs K ts = (e : Expr) × (rest : List Token) × BindsFrom 2 e × (depth e ≤ most) × (front gs ts ≡ expr_then e rest) × K (depth e) rest
 
 -- what comes where an operand is wanted, and behind one of this depth
-abbrev pub Wanted : ℕ → List Frame → Rest → List Token → Type 0
+abbrev pub Wanted : ℕ → List Pending → Rest → List Token → Type 0
 Wanted room fs K ts = (most : ℕ) (gs : List Filled) → frames gs ≡ fs → 1 ≤ room → Fits most 11 room gs → Completed most gs K ts
 
-abbrev pub Behind : ℕ → List Frame → Rest → List Token → Type 0
+abbrev pub Behind : ℕ → List Pending → Rest → List Token → Type 0
 Behind d fs K ts = (most : ℕ) (gs : List Filled) (e : Expr) → frames gs ≡ fs → depth e ≡ d → BindsFrom 11 e → Fits most 11 d gs → Completed most gs K (expr_then e ts)
 
 pub raised : (m n : ℕ) (e : Expr) → n ≤ m → BindsFrom m e → BindsFrom n e
@@ -96,13 +96,13 @@ IsNamed (s.field x f) = ⊥
 IsNamed (s.group e at) = ⊥
 IsNamed (s.binary o l r at) = ⊥
 
-abbrev pub BehindName : ℕ → List Frame → Rest → List Token → Type 0
+abbrev pub BehindName : ℕ → List Pending → Rest → List Token → Type 0
 BehindName d fs K ts = (most : ℕ) (gs : List Filled) (e : Expr) → IsNamed e → frames gs ≡ fs → depth e ≡ d → BindsFrom 11 e → Fits most 11 d gs → Completed most gs K (expr_then e ts)
 
 -- what things are, how they are spelled, and which are of the language
 abbrev pub ThingType : Thing → Type 0
 ThingType a_name = Name
-ThingType a_param = HeaderParam
+ThingType a_param = HeaderKey
 ThingType a_ty = Ty
 ThingType a_key = KeyStates
 ThingType a_case = Case
@@ -110,14 +110,14 @@ ThingType a_parameter = Parameter
 ThingType an_entry = Entry
 ThingType an_expr = Expr
 ThingType an_init = Init
-ThingType an_outcome = Outcome
+ThingType a_result_type = ResultType
 ThingType a_simple = Stmt
 ThingType (a_stmt room) = Stmt
 ThingType a_decl = Decl
 
 abbrev pub spell_of : (k : Thing) → ThingType k → List Token → List Token
 spell_of a_name x = name_then x
-spell_of a_param x = header_param_then x
+spell_of a_param x = header_key_then x
 spell_of a_ty x = ty_then x
 spell_of a_key x = key_states_then x
 spell_of a_case x = case_then x
@@ -125,7 +125,7 @@ spell_of a_parameter x = parameter_then x
 spell_of an_entry x = entry_then x
 spell_of an_expr x = expr_then x
 spell_of an_init x = init_then x
-spell_of an_outcome x = outcome_then x
+spell_of a_result_type x = result_type_then x
 spell_of a_simple x = stmt_then x
 spell_of (a_stmt room) x = stmt_then x
 spell_of a_decl x = decl_then x
@@ -140,7 +140,7 @@ IsThing extra a_parameter x = IsParameter x
 IsThing extra an_entry x = IsEntry x
 IsThing extra an_expr x = IsExpr (wider extra) x
 IsThing extra an_init x = IsInit (wider extra) x
-IsThing extra an_outcome x = IsOutcome x
+IsThing extra a_result_type x = IsResultType x
 IsThing extra a_simple x = IsStmt (wider extra) (wider extra).depth x
 IsThing extra (a_stmt room) x = IsStmt (wider extra) room x
 IsThing extra a_decl x = IsDecl (wider extra) x
@@ -258,7 +258,7 @@ climb_back extra at most m o (prefix_at p ∷ gs) e K xs c two lt binds fits h k
 -- ---- back over the first token of an operand
 
 -- what comes behind an operand and the operators before it is what comes behind the operand
-pub reduce : (extra : Bounds) (at : Span) (d : ℕ) (fs : List Frame) (K : Rest) (c : List Token) → Part extra 0 (behind_operand d fs) K c → Behind d fs K c
+pub reduce : (extra : Bounds) (at : Span) (d : ℕ) (fs : List Pending) (K : Rest) (c : List Token) → Part extra 0 (behind_operand d fs) K c → Behind d fs K c
 reduce extra at d [] K c p = p
 reduce extra at d (level_from least room ∷ fs) K c p = p
 reduce extra at d (right_of least room a ∷ fs) K c p = p
@@ -271,7 +271,7 @@ reduce extra at d (prefixed ∷ fs) K c p = under (reduce extra at (suc d) fs K 
       let l = unary_high o fits.1 in
       r most gs (s.unary o e at) (cc) (ap suc deep) (fits.1, omega arith, raised 11 (level o) e (omega arith) binds) fits.2
 
-pub reduce_name : (extra : Bounds) (at : Span) (d : ℕ) (fs : List Frame) (K : Rest) (c : List Token) → Part extra 0 (behind_variable d fs) K c → BehindName d fs K c
+pub reduce_name : (extra : Bounds) (at : Span) (d : ℕ) (fs : List Pending) (K : Rest) (c : List Token) → Part extra 0 (behind_variable d fs) K c → BehindName d fs K c
 reduce_name extra at d [] K c p = p
 reduce_name extra at d (level_from least room ∷ fs) K c p = p
 reduce_name extra at d (right_of least room a ∷ fs) K c p = p
@@ -287,7 +287,7 @@ reduce_name extra at d (prefixed ∷ fs) K c p = under (reduce_name extra at (su
 pub same_part : (extra : Bounds) (xs ys : List Symbol) (K : Rest) (c : List Token) → take xs ≡ take ys → Spells extra 0 ys K c → Spells extra 0 xs K c
 same_part extra xs ys K c e k = subst (λ zs. Spells extra 0 zs K c) (sym (took xs ys e)) k
 
-pub start_back : (extra : Bounds) (at : Span) (room : ℕ) (fs : List Frame) (x : Token) (K : Rest) (xs : List Symbol) (c : List Token) → start_operand room fs x ≡ take xs → Spells extra 0 xs K c → Wanted room fs K (x ∷ c)
+pub start_back : (extra : Bounds) (at : Span) (room : ℕ) (fs : List Pending) (x : Token) (K : Rest) (xs : List Symbol) (c : List Token) → start_operand room fs x ≡ take xs → Spells extra 0 xs K c → Wanted room fs K (x ∷ c)
 start_back extra at room fs (t.number z) K xs c h k = λ most gs is some fits.
     reduce extra at 1 fs K c (same_part extra _ xs K c h k) most gs (s.number z at) is refl tt (lower most 11 room 1 gs some fits)
 start_back extra at room fs (t.keyword word.True) K xs c h k = λ most gs is some fits.
@@ -341,7 +341,7 @@ operator_is mark.AndAnd o e = pick mark.AndAnd op.And o (refl, refl) e
 operator_is mark.OrOr o e = pick mark.OrOr op.Or o (refl, refl) e
 operator_is _ o e = absurd cc
 
-climbs_back : (extra : Bounds) (at : Span) (d : ℕ) (fs : List Frame) (m : Mark) (p : Option Op) (K : Rest) (xs : List Symbol) (c : List Token) → operator_of m ≡ p → climb_by p d fs ≡ take xs → Spells extra 0 xs K c → Behind d fs K (t.sign m ∷ c)
+climbs_back : (extra : Bounds) (at : Span) (d : ℕ) (fs : List Pending) (m : Mark) (p : Option Op) (K : Rest) (xs : List Symbol) (c : List Token) → operator_of m ≡ p → climb_by p d fs ≡ take xs → Spells extra 0 xs K c → Behind d fs K (t.sign m ∷ c)
 climbs_back extra at d fs m None K xs c i h k = absurd cc
 climbs_back extra at d fs m (Some o) K xs c i h k = λ most gs e is deep binds fits.
     let two = operator_is m o i in
@@ -350,12 +350,12 @@ climbs_back extra at d fs m (Some o) K xs c i h k = λ most gs e is deep binds f
     let done : Completed most gs K (expr_then e (t.sign (sign_of o) ∷ c)) = climb_back extra at most 11 o gs e K xs c two.1 l.1 binds (lower most 11 d (depth e) gs (omega arith) fits) climbs k in
     subst (λ x. Completed most gs K (expr_then e (x ∷ c))) two.0 done
 
-pub operations_back : (extra : Bounds) (at : Span) (d : ℕ) (fs : List Frame) (x : Token) (K : Rest) (xs : List Symbol) (c : List Token) → react_operations d fs x ≡ take xs → Spells extra 0 xs K c → Behind d fs K (x ∷ c)
+pub operations_back : (extra : Bounds) (at : Span) (d : ℕ) (fs : List Pending) (x : Token) (K : Rest) (xs : List Symbol) (c : List Token) → react_operations d fs x ≡ take xs → Spells extra 0 xs K c → Behind d fs K (x ∷ c)
 operations_back extra at d fs (t.sign m) K xs c h k = climbs_back extra at d fs m (operator_of m) K xs c refl h k
 operations_back extra at d fs _ K xs c h k = absurd cc
 
 -- where nothing of it comes
-pub operations_end : (at : Span) (d : ℕ) (fs : List Frame) (K : Rest) (ts : List Token) → K (whole_depth d fs) ts → Behind d fs K ts
+pub operations_end : (at : Span) (d : ℕ) (fs : List Pending) (K : Rest) (ts : List Token) → K (whole_depth d fs) ts → Behind d fs K ts
 operations_end at d fs K ts k = λ most gs e is deep binds fits.
     ended at most 11 d gs e K ts binds (omega arith) fits (subst (λ n. K n ts) (ap (λ f. whole_depth d f) (sym is) ∙ ap (λ n. whole_depth n (frames gs)) (sym deep)) k)
 
@@ -364,5 +364,5 @@ operations_end at d fs K ts k = λ most gs e is deep binds fits.
 abbrev Some_rest : Rest → Type 0
 Some_rest K = (d : ℕ) → (c : List Token) × K d c
 
-some_operations : (at : Span) (d : ℕ) (fs : List Frame) (K : Rest) → Some_rest K → (c : List Token) × Behind d fs K c
+some_operations : (at : Span) (d : ℕ) (fs : List Pending) (K : Rest) → Some_rest K → (c : List Token) × Behind d fs K c
 some_operations at d fs K k = let r = k (whole_depth d fs) in (r.0, operations_end at d fs K r.0 r.1)

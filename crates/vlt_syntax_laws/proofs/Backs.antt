@@ -7,13 +7,13 @@ use Rattle.vlt_lexer.specs.declared.token.Mark.TheVariants as mark
 use Rattle.vlt_base.specs.declared.places.Span.{Span}
 use Rattle.vlt_syntax.specs.Tokens as t
 use Rattle.vlt_syntax.specs.Tokens.{Token}
-use Rattle.vlt_syntax.specs.Kinds.{word_number, same_word}
+use Rattle.vlt_automaton.specs.Words.{word_number, same_word}
 use Rattle.vlt_syntax.specs.Tree as s
-use Rattle.vlt_syntax.specs.Tree.{If, Name, States, KeyStates, Named, Ty, Expr, HeaderParam, Case, Parameter, Entry, Init, Outcome, Stmt, Decl, Head, Block}
+use Rattle.vlt_syntax.specs.Tree.{If, Name, States, KeyStates, Named, Ty, Expr, HeaderKey, Case, Parameter, Entry, Init, ResultType, Stmt, Decl, Head, Block}
 use Rattle.vlt_syntax.specs.Lists.{further_then, listed_then, enclosed_then}
-use Rattle.vlt_syntax.specs.Spelling.{sign_of, at_states_then, case_then, header_then, marked_name_then, owner_then, case_name_then, outcome_then, parameter_then, head_then, decl_then, stmt_then, returned_then, block_then, if_then, named_then, name_then, states_then, ty_then, right_then, expr_then}
-use Rattle.vlt_syntax.specs.Automaton.{reaction_behind, counted, or_else, react_behind_fields, start_head, start_decl, whole_expr, start_operand, start_expr, react_operations, head_rest, start_ty, start_states, start_entry, start_right, react_right_name, react_tracked, react_type_name, react_stmt_name, start_simple, declared, enter, behind_if, on_tick, on_keyword, start_tick, Left, Thing, Frame, a_name, a_param, a_ty, a_key, a_case, a_parameter, an_entry, an_expr, an_init, an_outcome, a_simple, a_stmt, a_decl, Symbol, tick, sign, keyword, thing, further, listed, enclosed, marked_name, states, at_states, named, behind_tracked, behind_type_name, operand, operations, behind_name, close_group, end_expr, owner, right, behind_right_name, returned, block, stmts, behind_stmt_name, otherwise, behind_else, arm, arms, entry_states, arrow_states, clause, head, fields, behind_fields, decls, Reaction, take, skip, refuse, exceed, followed, start_thing, start_name, less, reaction}
-use Rattle.vlt_syntax.specs.Grammar.{level, BindsFrom, depth, IsExpr, IsTy, IsIf, IsBlock, IsHead, IsOutcome, Bounds}
+use Rattle.vlt_syntax.specs.Spelling.{sign_of, at_states_then, case_then, header_then, marked_name_then, owner_then, case_name_then, result_type_then, parameter_then, head_then, decl_then, stmt_then, returned_then, block_then, if_then, named_then, name_then, states_then, ty_then, right_then, expr_then}
+use Rattle.vlt_automaton.specs.Automaton.{reaction_behind, counted, or_else, react_behind_fields, start_head, start_decl, whole_expr, start_operand, start_expr, react_operations, head_rest, start_ty, start_states, start_entry, start_right, react_right_name, react_tracked, react_type_name, react_stmt_name, start_simple, declared, enter, behind_if, on_tick, on_keyword, start_tick, Left, Thing, Pending, a_name, a_param, a_ty, a_key, a_case, a_parameter, an_entry, an_expr, an_init, a_result_type, a_simple, a_stmt, a_decl, Symbol, tick, sign, keyword, thing, further, listed, enclosed, marked_name, states, at_states, named, behind_tracked, behind_type_name, operand, operations, behind_name, close_group, end_expr, owner, right, behind_right_name, returned, block, stmts, behind_stmt_name, otherwise, behind_else, arm, arms, entry_states, arrow_states, clause, head, fields, behind_fields, decls, Reaction, take, skip, refuse, exceed, followed, start_thing, start_name, less, reaction}
+use Rattle.vlt_syntax.specs.Grammar.{level, BindsFrom, depth, IsExpr, IsTy, IsIf, IsBlock, IsHead, IsResultType, Bounds}
 use Rattle.vlt_syntax_laws.proofs.Takes.{IsNoSkip}
 use Rattle.vlt_syntax_laws.proofs.Exprs.{operand_kept, unary_high}
 use Rattle.vlt_syntax_laws.proofs.Back.{reduce, front, IsNamed, start_back, operations_back, raised, level_at, IsSmall, Rest, Part, Spells, Spelled, Wanted, Behind, operations_end}
@@ -48,11 +48,11 @@ back_named extra at d K c x =
 back_tracked : (extra : Bounds) (at : Span) (d : ℕ) (K : Rest) (c : List Token) (x : Token) → Backs extra d behind_tracked K x c (react_tracked x)
 back_tracked extra at d K c x =
     by_sign (λ x r. Backs extra d behind_tracked K x c r) mark.OpenParen x _ _
-    (λ k. let p = k.4 in let n = p.2 in (s.keyed k.0 n.0 at, n.1, tt, ap (λ r. t.keyword word.Tracked ∷ t.sign mark.OpenParen ∷ r) (k.3 ∙ ap (name_then k.0) (p.1 ∙ ap (λ r. t.sign mark.CloseParen ∷ r) n.3)), n.4))
+    (λ k. let p = k.4 in let n = p.2 in (s.tracked k.0 n.0 at, n.1, tt, ap (λ r. t.keyword word.Tracked ∷ t.sign mark.OpenParen ∷ r) (k.3 ∙ ap (name_then k.0) (p.1 ∙ ap (λ r. t.sign mark.CloseParen ∷ r) n.3)), n.4))
     (by_sign (λ x r. Backs extra d behind_tracked K x c r) mark.At x _ _
-    (λ k. (s.tracked (Some k.0) k.4.0 at, k.4.1, k.2, ap (λ r. t.keyword word.Tracked ∷ t.sign mark.At ∷ r) (k.3 ∙ ap (states_then k.0) k.4.3), k.4.4))
+    (λ k. (s.owning (Some k.0) k.4.0 at, k.4.1, k.2, ap (λ r. t.keyword word.Tracked ∷ t.sign mark.At ∷ r) (k.3 ∙ ap (states_then k.0) k.4.3), k.4.4))
     (by_name (λ x r. Backs extra d behind_tracked K x c (followed r (enclosed a_name mark.Less mark.Greater None ∷ []))) x _ _
-    (λ n k. let q = k tt in (s.tracked None (record { name = the_name at n; keys = q.0 }) at, q.1, tt, ap (λ r. t.keyword word.Tracked ∷ t.name n ∷ r) q.3, q.4)) tt))
+    (λ n k. let q = k tt in (s.owning None (record { name = the_name at n; keys = q.0 }) at, q.1, tt, ap (λ r. t.keyword word.Tracked ∷ t.name n ∷ r) q.3, q.4)) tt))
 
 back_type_name : (extra : Bounds) (at : Span) (d : ℕ) (K : Rest) (c : List Token) (x : Token) → Backs extra d behind_type_name K x c (react_type_name x)
 back_type_name extra at d K c x =
@@ -142,7 +142,7 @@ back_simple extra at room d K c (t.keyword word.Swap) = λ k.
     )
 back_simple extra at room d K c (t.keyword word.Open) = λ k.
     let a = k.4 in let p = a.2 in let n = p.2 in let f = n.4 in let z = f.4 in (
-      s.unpack k.0 (n.0 ∷ f.0) at,
+      s.open_into k.0 (n.0 ∷ f.0) at,
       z.0,
       tt,
       ap (λ r. t.keyword word.Open ∷ r) (k.3 ∙ ap (name_then k.0) (a.1 ∙ ap (λ r. t.keyword word.Into ∷ r) (p.1 ∙ ap (λ r. t.sign mark.OpenParen ∷ r) (n.3 ∙ ap (name_then n.0) (f.3 ∙ ap (further_then name_then mark.CloseParen f.0) z.1))))),
@@ -248,14 +248,14 @@ back_behind_fields extra d K c (t.keyword w) = tt
 back_behind_fields extra d K c (t.sign w) = tt
 back_behind_fields extra d K c _ = tt
 
--- a head, behind its outcome
-head_after : (extra : Bounds) (at : Span) (x : Outcome) (K : Rest) (c : List Token) → IsOutcome x → Spells extra 0 (head_rest (wider extra)) K c → (h : Head) × (rest : List Token) × IsHead (wider extra) h × (outcome_then x c ≡ head_then h rest) × K 0 rest
+-- a head, behind its result_type
+head_after : (extra : Bounds) (at : Span) (x : ResultType) (K : Rest) (c : List Token) → IsResultType x → Spells extra 0 (head_rest (wider extra)) K c → (h : Head) × (rest : List Token) × IsHead (wider extra) h × (result_type_then x c ≡ head_then h rest) × K 0 rest
 head_after extra at x K c i k =
     let p = k.4 in let l = p.2 (omega arith) in let z = l.4 in (
-      record { outcome = x; name = k.0; parameters = l.0; clause = z.0; at = at },
+      record { result_type = x; name = k.0; parameters = l.0; clause = z.0; at = at },
       z.1,
-      record { outcome = i; parameters = l.2.0; few = l.2.1; clause = z.2 },
-      ap (outcome_then x) (k.3 ∙ ap (name_then k.0) (p.1 ∙ ap (λ r. t.sign mark.OpenParen ∷ r) (l.3 ∙ ap (listed_then parameter_then mark.CloseParen l.0) z.3))),
+      record { result_type = i; parameters = l.2.0; few = l.2.1; clause = z.2 },
+      ap (result_type_then x) (k.3 ∙ ap (name_then k.0) (p.1 ∙ ap (λ r. t.sign mark.OpenParen ∷ r) (l.3 ∙ ap (listed_then parameter_then mark.CloseParen l.0) z.3))),
       z.4,
     )
 
@@ -363,26 +363,26 @@ back_case extra at d K c (t.tick n) = λ k.
     (record { name = the_name at n; payload = p.0; keys = q.0; at = at }, q.1, (p.2.0, p.2.1, q.2.0), ap (λ r. t.tick n ∷ r) (p.3 ∙ ap (enclosed_then ty_then mark.OpenParen mark.CloseParen p.0) q.3), q.4)
 back_case extra at d K c _ = tt
 
-back_outcome : (extra : Bounds) (at : Span) (d : ℕ) (K : Rest) (c : List Token) (x : Token) → Backs extra d (thing an_outcome) K x c (start_thing (wider extra) an_outcome x)
-back_outcome extra at d K c (t.keyword word.Void) = λ k. (s.void at, c, tt, refl, k)
-back_outcome extra at d K c (t.keyword word.Int) = λ k. (s.value (s.int at), c, tt, refl, k)
-back_outcome extra at d K c (t.keyword word.Bool) = λ k. (s.value (s.bool at), c, tt, refl, k)
-back_outcome extra at d K c (t.keyword word.Tracked) = λ k. (s.value k.0, k.1, k.2, k.3, k.4)
-back_outcome extra at d K c (t.name n) = λ k. let q = k n in (s.value q.0, q.1, q.2, q.3, q.4)
-back_outcome extra at d K c (t.keyword w) = tt
-back_outcome extra at d K c _ = tt
+back_result_type : (extra : Bounds) (at : Span) (d : ℕ) (K : Rest) (c : List Token) (x : Token) → Backs extra d (thing a_result_type) K x c (start_thing (wider extra) a_result_type x)
+back_result_type extra at d K c (t.keyword word.Void) = λ k. (s.void at, c, tt, refl, k)
+back_result_type extra at d K c (t.keyword word.Int) = λ k. (s.value (s.int at), c, tt, refl, k)
+back_result_type extra at d K c (t.keyword word.Bool) = λ k. (s.value (s.bool at), c, tt, refl, k)
+back_result_type extra at d K c (t.keyword word.Tracked) = λ k. (s.value k.0, k.1, k.2, k.3, k.4)
+back_result_type extra at d K c (t.name n) = λ k. let q = k n in (s.value q.0, q.1, q.2, q.3, q.4)
+back_result_type extra at d K c (t.keyword w) = tt
+back_result_type extra at d K c _ = tt
 
-outcome_kept : (extra : Bounds) (x : Token) (ys : List Symbol) → NoSkip (followed (start_thing (wider extra) an_outcome x) ys)
-outcome_kept extra (t.keyword word.Void) ys = tt
-outcome_kept extra (t.keyword word.Int) ys = tt
-outcome_kept extra (t.keyword word.Bool) ys = tt
-outcome_kept extra (t.keyword word.Tracked) ys = tt
-outcome_kept extra (t.keyword w) ys = tt
-outcome_kept extra (t.name n) ys = tt
-outcome_kept extra _ ys = tt
+result_type_kept : (extra : Bounds) (x : Token) (ys : List Symbol) → NoSkip (followed (start_thing (wider extra) a_result_type x) ys)
+result_type_kept extra (t.keyword word.Void) ys = tt
+result_type_kept extra (t.keyword word.Int) ys = tt
+result_type_kept extra (t.keyword word.Bool) ys = tt
+result_type_kept extra (t.keyword word.Tracked) ys = tt
+result_type_kept extra (t.keyword w) ys = tt
+result_type_kept extra (t.name n) ys = tt
+result_type_kept extra _ ys = tt
 
 back_head : (extra : Bounds) (at : Span) (d : ℕ) (K : Rest) (c : List Token) (x : Token) → Backs extra d head K x c (reaction (wider extra) head x)
-back_head extra at d K c x = through extra d head (λ L ts. Part extra 0 (thing an_outcome) L ts) (head_rest (wider extra)) K x c _ (outcome_kept extra x _) (followed_back extra an_outcome x c (head_rest (wider extra)) K _ (back_outcome extra at 0 (λ n q. Spells extra n (head_rest (wider extra)) K q) c x))
+back_head extra at d K c x = through extra d head (λ L ts. Part extra 0 (thing a_result_type) L ts) (head_rest (wider extra)) K x c _ (result_type_kept extra x _) (followed_back extra a_result_type x c (head_rest (wider extra)) K _ (back_result_type extra at 0 (λ n q. Spells extra n (head_rest (wider extra)) K q) c x))
     (λ q. let h = head_after extra at q.0 K q.1 q.2 q.4 in (h.0, h.1, h.2, q.3 ∙ h.3, h.4))
 
 followed_kept : (r : Reaction) (ys : List Symbol) → NoSkip r → NoSkip (followed r ys)
@@ -398,7 +398,7 @@ then_block extra x c ys K refuse b = tt
 then_block extra x c ys K (exceed n) b = tt
 
 back_function : (extra : Bounds) (at : Span) (d : ℕ) (K : Rest) (c : List Token) (x : Token) → Backs extra d (thing a_decl) K x c (followed (start_head (wider extra) x) (block (wider extra).depth ∷ []))
-back_function extra at d K c x = through extra d (thing a_decl) (λ L ts. Part extra 0 head L ts) (block (wider extra).depth ∷ []) K x c _ (followed_kept (start_head (wider extra) x) (block (wider extra).depth ∷ []) (outcome_kept extra x (head_rest (wider extra))))
+back_function extra at d K c x = through extra d (thing a_decl) (λ L ts. Part extra 0 head L ts) (block (wider extra).depth ∷ []) K x c _ (followed_kept (start_head (wider extra) x) (block (wider extra).depth ∷ []) (result_type_kept extra x (head_rest (wider extra))))
     (then_block extra x c (block (wider extra).depth ∷ []) K (start_head (wider extra) x) (back_head extra at 0 (λ n q. Spells extra n (block (wider extra).depth ∷ []) K q) c x))
     (λ q. let b = q.4 (omega arith) in (s.function q.0 b.0 at, b.1, (q.2, b.2), q.3 ∙ ap (head_then q.0) b.3, b.4))
 
@@ -485,7 +485,7 @@ back_fields extra at left d K c x = on (start_ty x) (ty_only x) (back_ty extra a
 
 -- ---- operands
 
-back_operand : (extra : Bounds) (at : Span) (room : ℕ) (fs : List Frame) (d : ℕ) (K : Rest) (c : List Token) (x : Token) → Backs extra d (operand room fs) K x c (start_operand room fs x)
+back_operand : (extra : Bounds) (at : Span) (room : ℕ) (fs : List Pending) (d : ℕ) (K : Rest) (c : List Token) (x : Token) → Backs extra d (operand room fs) K x c (start_operand room fs x)
 back_operand extra at room fs d K c x = on (start_operand room fs x) refl (operand_kept room fs x) where
   on : (r : Reaction) → start_operand room fs x ≡ r → IsNoSkip r → Backs extra d (operand room fs) K x c r
   on (take ys) e kept = λ h. start_back extra at room fs x K ys c e h
@@ -493,7 +493,7 @@ back_operand extra at room fs d K c x = on (start_operand room fs x) refl (opera
   on refuse e kept = tt
   on (exceed n) e kept = tt
 
-back_operations : (extra : Bounds) (at : Span) (n : ℕ) (fs : List Frame) (d : ℕ) (K : Rest) (c : List Token) (x : Token) → Backs extra d (operations n fs) K x c (react_operations n fs x)
+back_operations : (extra : Bounds) (at : Span) (n : ℕ) (fs : List Pending) (d : ℕ) (K : Rest) (c : List Token) (x : Token) → Backs extra d (operations n fs) K x c (react_operations n fs x)
 back_operations extra at n fs d K c x = on (react_operations n fs x) refl where
   on : (r : Reaction) → react_operations n fs x ≡ r → Backs extra d (operations n fs) K x c r
   on (take ys) e = λ h. operations_back extra at n fs x K ys c e h
@@ -501,7 +501,7 @@ back_operations extra at n fs d K c x = on (react_operations n fs x) refl where
   on refuse e = tt
   on (exceed m) e = tt
 
-as_name : (extra : Bounds) (n : ℕ) (fs : List Frame) (d : ℕ) (K : Rest) (c : List Token) (x : Token) (r : Reaction) → Backs extra d (operations n fs) K x c r → Backs extra d (behind_name n fs) K x c r
+as_name : (extra : Bounds) (n : ℕ) (fs : List Pending) (d : ℕ) (K : Rest) (c : List Token) (x : Token) (r : Reaction) → Backs extra d (operations n fs) K x c r → Backs extra d (behind_name n fs) K x c r
 as_name extra n fs d K c x (take xs) b = λ h most gs e so is deep binds fits. b h most gs e is deep binds fits
 as_name extra n fs d K c x skip b = λ h most gs e so is deep binds fits. b h most gs e is deep binds fits
 as_name extra n fs d K c x refuse b = tt
@@ -521,7 +521,7 @@ fielded at (s.field x g) f so b = absurd so
 fielded at (s.group e p) f so b = absurd so
 fielded at (s.binary o l r p) f so b = absurd so
 
-back_behind_name : (extra : Bounds) (at : Span) (n : ℕ) (fs : List Frame) (d : ℕ) (K : Rest) (c : List Token) (x : Token) → Backs extra d (behind_name n fs) K x c (reaction (wider extra) (behind_name n fs) x)
+back_behind_name : (extra : Bounds) (at : Span) (n : ℕ) (fs : List Pending) (d : ℕ) (K : Rest) (c : List Token) (x : Token) → Backs extra d (behind_name n fs) K x c (reaction (wider extra) (behind_name n fs) x)
 back_behind_name extra at n fs d K c x =
     by_sign (λ x r. Backs extra d (behind_name n fs) K x c r) mark.Dot x _ _
     (λ k most gs e so is deep binds fits.
@@ -530,7 +530,7 @@ back_behind_name extra at n fs d K c x =
     (q.0, q.1, q.2, q.3, ap (λ r. front gs (expr_then e (t.sign mark.Dot ∷ r))) k.3 ∙ ap (front gs) (g.3 k.1) ∙ q.4, q.5))
     (as_name extra n fs d K c x (react_operations n fs x) (back_operations extra at n fs d K c x))
 
-back_close : (extra : Bounds) (at : Span) (fs : List Frame) (d : ℕ) (K : Rest) (c : List Token) (x : Token) → Backs extra d (close_group fs) K x c (reaction_behind (wider extra) d (close_group fs) x)
+back_close : (extra : Bounds) (at : Span) (fs : List Pending) (d : ℕ) (K : Rest) (c : List Token) (x : Token) → Backs extra d (close_group fs) K x c (reaction_behind (wider extra) d (close_group fs) x)
 back_close extra at fs d K c x = by_sign (λ x r. Backs extra d (close_group fs) K x c r) mark.CloseParen x _ _ (λ k. (c, refl, reduce extra at (suc d) fs K c k)) tt
 
 -- ---- all of them
@@ -545,7 +545,7 @@ back_thing extra at a_parameter d K c x = back_parameter extra at d K c x
 back_thing extra at an_entry d K c x = back_entry extra at d K c x
 back_thing extra at an_expr d K c x = back_expr extra at d K c x
 back_thing extra at an_init d K c x = back_init extra at d K c x
-back_thing extra at an_outcome d K c x = back_outcome extra at d K c x
+back_thing extra at a_result_type d K c x = back_result_type extra at d K c x
 back_thing extra at a_simple d K c x = back_simple extra at (wider extra).depth d K c x
 back_thing extra at (a_stmt room) d K c x = back_stmt extra at room d K c x
 back_thing extra at a_decl d K c x = back_decl extra at d K c x
@@ -587,13 +587,13 @@ thing_kept extra an_entry _ = tt
 thing_kept extra an_expr x = followed_kept (start_operand (wider extra).depth (whole_expr (wider extra)) x) (end_expr ∷ []) (no_skip _ (operand_kept (wider extra).depth (whole_expr (wider extra)) x))
 thing_kept extra an_init (t.name n) = tt
 thing_kept extra an_init _ = tt
-thing_kept extra an_outcome (t.keyword word.Void) = tt
-thing_kept extra an_outcome (t.keyword word.Int) = tt
-thing_kept extra an_outcome (t.keyword word.Bool) = tt
-thing_kept extra an_outcome (t.keyword word.Tracked) = tt
-thing_kept extra an_outcome (t.keyword w) = tt
-thing_kept extra an_outcome (t.name n) = tt
-thing_kept extra an_outcome _ = tt
+thing_kept extra a_result_type (t.keyword word.Void) = tt
+thing_kept extra a_result_type (t.keyword word.Int) = tt
+thing_kept extra a_result_type (t.keyword word.Bool) = tt
+thing_kept extra a_result_type (t.keyword word.Tracked) = tt
+thing_kept extra a_result_type (t.keyword w) = tt
+thing_kept extra a_result_type (t.name n) = tt
+thing_kept extra a_result_type _ = tt
 thing_kept extra a_simple x = simple_kept x
 thing_kept extra (a_stmt room) (t.sign mark.OpenBrace) = enter_kept room _
 thing_kept extra (a_stmt room) (t.keyword word.If) = enter_kept room _
@@ -606,7 +606,7 @@ thing_kept extra a_decl (t.keyword word.Abstract) = tt
 thing_kept extra a_decl (t.keyword word.Struct) = tt
 thing_kept extra a_decl (t.keyword word.Variant) = tt
 thing_kept extra a_decl (t.keyword word.Extern) = tt
-thing_kept extra a_decl x = followed_kept (start_head (wider extra) x) (block (wider extra).depth ∷ []) (outcome_kept extra x (head_rest (wider extra)))
+thing_kept extra a_decl x = followed_kept (start_head (wider extra) x) (block (wider extra).depth ∷ []) (result_type_kept extra x (head_rest (wider extra)))
 
 abbrev word_at : ℕ → Word
 word_at n = if n == 0 then word.Abstract else if n == 1 then word.Adopt else if n == 2 then word.As else if n == 3 then word.Become else if n == 4 then word.Bool else if n == 5 then word.Break else if n == 6 then word.Case else if n == 7 then word.Continue else if n == 8 then word.Else else if n == 9 then word.Extern else if n == 10 then word.False else if n == 11 then word.Focus else if n == 12 then word.If else if n == 13 then word.Input else if n == 14 then word.Int else if n == 15 then word.Into else if n == 16 then word.More else if n == 17 then word.New else if n == 18 then word.Open else if n == 19 then word.Print else if n == 20 then word.Release else if n == 21 then word.Return else if n == 22 then word.Stateset else if n == 23 then word.Struct else if n == 24 then word.Swap else if n == 25 then word.Switch else if n == 26 then word.Tracked else if n == 27 then word.True else if n == 28 then word.Variant else if n == 29 then word.Void else word.While

@@ -3,9 +3,9 @@ use Rattle.std.proofs.Common.{◌≡◌, ℕ, Bool, true, false, if◌then◌els
 use Rattle.vlt_lexer.specs.declared.token.Mark.{Mark}
 use Rattle.vlt_syntax.specs.Tokens as t
 use Rattle.vlt_syntax.specs.Tokens.{Token}
-use Rattle.vlt_syntax.specs.Kinds.{same_mark}
-use Rattle.vlt_syntax.proofs.Sameness.{same_mark-true}
-use Rattle.vlt_syntax.specs.Automaton.{Reaction, on_sign, on_name}
+use Rattle.vlt_automaton.specs.Words.{same_mark}
+use Rattle.vlt_automaton.proofs.Sameness.{same_mark-true}
+use Rattle.vlt_automaton.specs.Automaton.{Reaction, on_sign, on_name}
 
 pub if_back : (P : Reaction → Type 0) (b : Bool) (x y : Reaction) → (b ≡ true → P x) → P y → P (if b then x else y)
 if_back P true x y p q = p refl

@@ -11,7 +11,7 @@ use Rattle.vlt_syntax.specs.Spelling.{spelling, decl_then}
 use Rattle.vlt_syntax.specs.Grammar.{Bounds, language, IsTree, IsPlacedTreeOf}
 use Rattle.vlt_syntax.specs.Places.{placed}
 use Rattle.vlt_syntax.specs.Refusals.{Refusal, IsRefusal}
-use Rattle.vlt_syntax.specs.Automaton.{Symbol, Next, to, unexpected, over, step, may_skip, may_end, depth_read, start, run, Verdict, located_of, enclosed, marked_name, at_states, behind_type_name, operations, behind_name, end_expr, owner, behind_right_name, otherwise, entry_states, arrow_states, clause, decls}
+use Rattle.vlt_automaton.specs.Automaton.{Symbol, Next, to, unexpected, over, step, may_skip, may_end, depth_read, start, run, Verdict, located_of, enclosed, marked_name, at_states, behind_type_name, operations, behind_name, end_expr, owner, behind_right_name, otherwise, entry_states, arrow_states, clause, decls}
 use Rattle.vlt_syntax_laws.proofs.After.{after, onward}
 use Rattle.vlt_syntax_laws.proofs.Anew.{placed_tree}
 use Rattle.vlt_syntax_laws.proofs.Back.{Rest, Part, Spells, operations_end}

@@ -1,17 +1,17 @@
--- The machine takes declarations and whole trees.
+-- The automaton takes declarations and whole trees.
 use Rattle.std.proofs.Common.{◌≡◌, ℕ, suc, ◌-◌, ◌≤◌, true, false, ◌==◌, List, [], ◌∷◌, Option, Some, None, refl, ◌∙◌, arith, length, IfSome}
 use Rattle.std.proofs.lemmas.Bool.Decides.{nat_tests}
 use Rattle.vlt_lexer.specs.declared.token.Mark.{Mark}
 use Rattle.vlt_lexer.specs.declared.token.Mark.TheVariants as mark
 use Rattle.vlt_syntax.specs.Tokens as t
 use Rattle.vlt_syntax.specs.Tokens.{Token}
-use Rattle.vlt_syntax.specs.Kinds.{same_mark}
+use Rattle.vlt_automaton.specs.Words.{same_mark}
 use Rattle.vlt_syntax.specs.Tree as s
-use Rattle.vlt_syntax.specs.Tree.{Name, Named, Ty, States, KeyStates, HeaderParam, Field, Case, Entry, Outcome, Parameter, Head, Decl, Tree, Expr, Returned}
+use Rattle.vlt_syntax.specs.Tree.{Name, Named, Ty, States, KeyStates, HeaderKey, Field, Case, Entry, ResultType, Parameter, Head, Decl, Tree, Expr, Returned}
 use Rattle.vlt_syntax.specs.Lists.{Each, listed_then, enclosed_then, further_then, each_then}
-use Rattle.vlt_syntax.specs.Spelling.{name_then, at_states_then, ty_then, field_then, release_then, case_then, entry_then, key_states_then, parameter_then, header_param_then, outcome_then, clause_then, decl_then, marked_name_then, spelling}
-use Rattle.vlt_syntax.specs.Grammar.{IsTy, IsStates, IsKeyStates, IsField, IsCase, IsEntry, IsOutcome, IsParameter, IsHead, IsDecl, IsTree, Bounds}
-use Rattle.vlt_syntax.specs.Automaton.{to, Left, Symbol, Thing, a_name, a_param, a_ty, a_key, a_case, a_parameter, an_entry, thing, further, listed, enclosed, marked_name, sign, name, at_states, named, clause, head, block, fields, decls, less, arrow_states, entry_states, parameters_left}
+use Rattle.vlt_syntax.specs.Spelling.{name_then, at_states_then, ty_then, field_then, release_then, case_then, entry_then, key_states_then, parameter_then, header_key_then, result_type_then, clause_then, decl_then, marked_name_then, spelling}
+use Rattle.vlt_syntax.specs.Grammar.{IsTy, IsStates, IsKeyStates, IsField, IsCase, IsEntry, IsResultType, IsParameter, IsHead, IsDecl, IsTree, Bounds}
+use Rattle.vlt_automaton.specs.Automaton.{to, Left, Symbol, Thing, a_name, a_param, a_ty, a_key, a_case, a_parameter, an_entry, thing, further, listed, enclosed, marked_name, sign, name, at_states, named, clause, head, block, fields, decls, less, arrow_states, entry_states, parameters_left}
 use Rattle.vlt_syntax_laws.proofs.After.{after}
 use Rattle.vlt_syntax_laws.proofs.Takes.{Any, any, name_before, same, Takes, take_some, take_ty, take_named, keys_there, plain_keys, take_states, ends_type}
 use Rattle.vlt_syntax_laws.proofs.Stmts.{take_block, take_right, take_returned}
@@ -48,20 +48,20 @@ counted_some extra spell k P closing e one last x (y ∷ ys) left s rest r h = o
 
 -- ---- parts of declarations
 
-abbrev AnyParam : HeaderParam → Type 0
+abbrev AnyParam : HeaderKey → Type 0
 AnyParam p = Unit {0}
 
-each_param : (ps : List HeaderParam) → Each AnyParam ps
+each_param : (ps : List HeaderKey) → Each AnyParam ps
 each_param [] = tt
 each_param (p ∷ ps) = (tt, each_param ps)
 
-param_comma : (extra : Bounds) → Takes extra header_param_then a_param AnyParam mark.Comma
+param_comma : (extra : Bounds) → Takes extra header_key_then a_param AnyParam mark.Comma
 param_comma extra p s rest h = on p.key_type where
   on : (o : Option Name) → after (wider extra) (t.name p.key.text ∷ marked_name_then mark.Colon o (t.sign mark.Comma ∷ rest)) (thing a_param ∷ s) ≡ after (wider extra) (t.sign mark.Comma ∷ rest) s
   on None = refl
   on (Some n) = refl
 
-param_greater : (extra : Bounds) → Takes extra header_param_then a_param AnyParam mark.Greater
+param_greater : (extra : Bounds) → Takes extra header_key_then a_param AnyParam mark.Greater
 param_greater extra p s rest h = on p.key_type where
   on : (o : Option Name) → after (wider extra) (t.name p.key.text ∷ marked_name_then mark.Colon o (t.sign mark.Greater ∷ rest)) (thing a_param ∷ s) ≡ after (wider extra) (t.sign mark.Greater ∷ rest) s
   on None = refl
@@ -71,9 +71,9 @@ param_greater extra p s rest h = on p.key_type where
 typed : (extra : Bounds) (x : Ty) (n : Name) (rest : List Token) (s : List Symbol) → IsTy x → after (wider extra) (ty_then x (name_then n rest)) (thing a_parameter ∷ s) ≡ after (wider extra) rest s
 typed extra (s.int at) n rest s h = refl
 typed extra (s.bool at) n rest s h = refl
-typed extra (s.keyed k m at) n rest s h = keys_there extra m.keys (name ∷ s) _ refl
-typed extra (s.tracked None m at) n rest s h = keys_there extra m.keys (name ∷ s) _ refl
-typed extra (s.tracked (Some ss) m at) n rest s h = take_states extra ss (named ∷ name ∷ s) _ h ∙ take_named extra m (name ∷ s) _ refl
+typed extra (s.tracked k m at) n rest s h = keys_there extra m.keys (name ∷ s) _ refl
+typed extra (s.owning None m at) n rest s h = keys_there extra m.keys (name ∷ s) _ refl
+typed extra (s.owning (Some ss) m at) n rest s h = take_states extra ss (named ∷ name ∷ s) _ h ∙ take_named extra m (name ∷ s) _ refl
 typed extra (s.guarded k m) n rest s h = take_named extra m (name ∷ s) _ refl
 typed extra (s.plain m) n rest s h = plain_keys extra m.keys (name ∷ s) _ refl
 
@@ -103,9 +103,9 @@ field_tail extra f s rest h = on f.states h where
 field_on : (extra : Bounds) (x : Ty) (ts : List Token) (l : Left) (s : List Symbol) → IsTy x → ends_type ts ≡ true → 1 ≤ l.more → after (wider extra) (ty_then x ts) (fields l ∷ s) ≡ after (wider extra) ts (name ∷ at_states ∷ sign mark.Semicolon ∷ fields (one_less l) ∷ s)
 field_on extra (s.int at) ts l s h e some = rw (some_left l some) refl
 field_on extra (s.bool at) ts l s h e some = rw (some_left l some) refl
-field_on extra (s.keyed k n at) ts l s h e some = rw (some_left l some) (keys_there extra n.keys _ ts e)
-field_on extra (s.tracked None n at) ts l s h e some = rw (some_left l some) (keys_there extra n.keys _ ts e)
-field_on extra (s.tracked (Some ss) n at) ts l s h e some = rw (some_left l some) (take_states extra ss (named ∷ name ∷ at_states ∷ sign mark.Semicolon ∷ fields (one_less l) ∷ s) _ h ∙ take_named extra n _ ts e)
+field_on extra (s.tracked k n at) ts l s h e some = rw (some_left l some) (keys_there extra n.keys _ ts e)
+field_on extra (s.owning None n at) ts l s h e some = rw (some_left l some) (keys_there extra n.keys _ ts e)
+field_on extra (s.owning (Some ss) n at) ts l s h e some = rw (some_left l some) (take_states extra ss (named ∷ name ∷ at_states ∷ sign mark.Semicolon ∷ fields (one_less l) ∷ s) _ h ∙ take_named extra n _ ts e)
 field_on extra (s.guarded k n) ts l s h e some = rw (some_left l some) (take_named extra n _ ts e)
 field_on extra (s.plain n) ts l s h e some = rw (some_left l some) (plain_keys extra n.keys _ ts e)
 
@@ -142,35 +142,35 @@ entry_comma extra e s rest h = entry_before extra e mark.Comma s rest h (λ q. r
 entry_bracket : (extra : Bounds) → Takes extra entry_then an_entry IsEntry mark.CloseBracket
 entry_bracket extra e s rest h = entry_before extra e mark.CloseBracket s rest h (λ q. refl) (λ q. refl) refl
 
-abbrev behind_outcome : (extra : Bounds) → List Symbol → List Symbol
-behind_outcome extra s = name ∷ sign mark.OpenParen ∷ listed a_parameter mark.CloseParen (parameters_left (wider extra)) ∷ clause ∷ s
+abbrev behind_result_type : (extra : Bounds) → List Symbol → List Symbol
+behind_result_type extra s = name ∷ sign mark.OpenParen ∷ listed a_parameter mark.CloseParen (parameters_left (wider extra)) ∷ clause ∷ s
 
-outcome_head : (extra : Bounds) (x : Outcome) (ts : List Token) (s : List Symbol) → IsOutcome x → ends_type ts ≡ true → after (wider extra) (outcome_then x ts) (head ∷ s) ≡ after (wider extra) ts (behind_outcome extra s)
-outcome_head extra (s.void at) ts s h e = refl
-outcome_head extra (s.value (s.int at)) ts s h e = refl
-outcome_head extra (s.value (s.bool at)) ts s h e = refl
-outcome_head extra (s.value (s.keyed k n at)) ts s h e = keys_there extra n.keys _ ts e
-outcome_head extra (s.value (s.tracked None n at)) ts s h e = keys_there extra n.keys _ ts e
-outcome_head extra (s.value (s.tracked (Some ss) n at)) ts s h e = take_states extra ss (named ∷ behind_outcome extra s) _ h ∙ take_named extra n _ ts e
-outcome_head extra (s.value (s.guarded k n)) ts s h e = take_named extra n _ ts e
-outcome_head extra (s.value (s.plain n)) ts s h e = plain_keys extra n.keys _ ts e
+result_type_head : (extra : Bounds) (x : ResultType) (ts : List Token) (s : List Symbol) → IsResultType x → ends_type ts ≡ true → after (wider extra) (result_type_then x ts) (head ∷ s) ≡ after (wider extra) ts (behind_result_type extra s)
+result_type_head extra (s.void at) ts s h e = refl
+result_type_head extra (s.value (s.int at)) ts s h e = refl
+result_type_head extra (s.value (s.bool at)) ts s h e = refl
+result_type_head extra (s.value (s.tracked k n at)) ts s h e = keys_there extra n.keys _ ts e
+result_type_head extra (s.value (s.owning None n at)) ts s h e = keys_there extra n.keys _ ts e
+result_type_head extra (s.value (s.owning (Some ss) n at)) ts s h e = take_states extra ss (named ∷ behind_result_type extra s) _ h ∙ take_named extra n _ ts e
+result_type_head extra (s.value (s.guarded k n)) ts s h e = take_named extra n _ ts e
+result_type_head extra (s.value (s.plain n)) ts s h e = plain_keys extra n.keys _ ts e
 
-outcome_decl : (extra : Bounds) (x : Outcome) (ts : List Token) (l : Left) (s : List Symbol) → IsOutcome x → ends_type ts ≡ true → 1 ≤ l.more → after (wider extra) (outcome_then x ts) (decls l ∷ s) ≡ after (wider extra) ts (behind_outcome extra (block (wider extra).depth ∷ decls (one_less l) ∷ s))
-outcome_decl extra (s.void at) ts l s h e some = rw (some_left l some) refl
-outcome_decl extra (s.value (s.int at)) ts l s h e some = rw (some_left l some) refl
-outcome_decl extra (s.value (s.bool at)) ts l s h e some = rw (some_left l some) refl
-outcome_decl extra (s.value (s.keyed k n at)) ts l s h e some = rw (some_left l some) (keys_there extra n.keys _ ts e)
-outcome_decl extra (s.value (s.tracked None n at)) ts l s h e some = rw (some_left l some) (keys_there extra n.keys _ ts e)
-outcome_decl extra (s.value (s.tracked (Some ss) n at)) ts l s h e some = rw (some_left l some) (take_states extra ss (named ∷ behind_outcome extra (block (wider extra).depth ∷ decls (one_less l) ∷ s)) _ h ∙ take_named extra n _ ts e)
-outcome_decl extra (s.value (s.guarded k n)) ts l s h e some = rw (some_left l some) (take_named extra n _ ts e)
-outcome_decl extra (s.value (s.plain n)) ts l s h e some = rw (some_left l some) (plain_keys extra n.keys _ ts e)
+result_type_decl : (extra : Bounds) (x : ResultType) (ts : List Token) (l : Left) (s : List Symbol) → IsResultType x → ends_type ts ≡ true → 1 ≤ l.more → after (wider extra) (result_type_then x ts) (decls l ∷ s) ≡ after (wider extra) ts (behind_result_type extra (block (wider extra).depth ∷ decls (one_less l) ∷ s))
+result_type_decl extra (s.void at) ts l s h e some = rw (some_left l some) refl
+result_type_decl extra (s.value (s.int at)) ts l s h e some = rw (some_left l some) refl
+result_type_decl extra (s.value (s.bool at)) ts l s h e some = rw (some_left l some) refl
+result_type_decl extra (s.value (s.tracked k n at)) ts l s h e some = rw (some_left l some) (keys_there extra n.keys _ ts e)
+result_type_decl extra (s.value (s.owning None n at)) ts l s h e some = rw (some_left l some) (keys_there extra n.keys _ ts e)
+result_type_decl extra (s.value (s.owning (Some ss) n at)) ts l s h e some = rw (some_left l some) (take_states extra ss (named ∷ behind_result_type extra (block (wider extra).depth ∷ decls (one_less l) ∷ s)) _ h ∙ take_named extra n _ ts e)
+result_type_decl extra (s.value (s.guarded k n)) ts l s h e some = rw (some_left l some) (take_named extra n _ ts e)
+result_type_decl extra (s.value (s.plain n)) ts l s h e some = rw (some_left l some) (plain_keys extra n.keys _ ts e)
 
 listed_typed : (extra : Bounds) (x : Ty) (n : Name) (rest : List Token) (s : List Symbol) → IsTy x → after (wider extra) (ty_then x (name_then n rest)) (listed a_parameter mark.CloseParen (parameters_left (wider extra)) ∷ s) ≡ after (wider extra) rest (further a_parameter mark.CloseParen (less (parameters_left (wider extra))) ∷ s)
 listed_typed extra (s.int at) n rest s h = refl
 listed_typed extra (s.bool at) n rest s h = refl
-listed_typed extra (s.keyed k m at) n rest s h = keys_there extra m.keys _ _ refl
-listed_typed extra (s.tracked None m at) n rest s h = keys_there extra m.keys _ _ refl
-listed_typed extra (s.tracked (Some ss) m at) n rest s h = take_states extra ss (named ∷ name ∷ further a_parameter mark.CloseParen (less (parameters_left (wider extra))) ∷ s) _ h ∙ take_named extra m _ _ refl
+listed_typed extra (s.tracked k m at) n rest s h = keys_there extra m.keys _ _ refl
+listed_typed extra (s.owning None m at) n rest s h = keys_there extra m.keys _ _ refl
+listed_typed extra (s.owning (Some ss) m at) n rest s h = take_states extra ss (named ∷ name ∷ further a_parameter mark.CloseParen (less (parameters_left (wider extra))) ∷ s) _ h ∙ take_named extra m _ _ refl
 listed_typed extra (s.guarded k m) n rest s h = take_named extra m _ _ refl
 listed_typed extra (s.plain m) n rest s h = plain_keys extra m.keys _ _ refl
 
@@ -195,7 +195,7 @@ take_clause extra (Some (x ∷ xs)) m s rest h e =
     listed_entry extra x (further_then entry_then mark.CloseBracket xs (t.sign m ∷ rest)) s ∙ take_some extra entry_then an_entry IsEntry mark.CloseBracket refl (entry_comma extra) (entry_bracket extra) (x ∷ xs) s (t.sign m ∷ rest) tt h
 
 head_tail : (extra : Bounds) (h : Head) (m : Mark) (s : List Symbol) (rest : List Token) → IsHead (wider extra) h → after (wider extra) (t.sign m ∷ rest) (clause ∷ s) ≡ after (wider extra) (t.sign m ∷ rest) s
-    → after (wider extra) (name_then h.name (t.sign mark.OpenParen ∷ listed_then parameter_then mark.CloseParen h.parameters (clause_then h.clause (t.sign m ∷ rest)))) (behind_outcome extra s) ≡ after (wider extra) (t.sign m ∷ rest) s
+    → after (wider extra) (name_then h.name (t.sign mark.OpenParen ∷ listed_then parameter_then mark.CloseParen h.parameters (clause_then h.clause (t.sign m ∷ rest)))) (behind_result_type extra s) ≡ after (wider extra) (t.sign m ∷ rest) s
 head_tail extra h m s rest i e = take_parameters extra h.parameters (clause ∷ s) _ i.parameters i.few ∙ take_clause extra h.clause m s rest i.clause e
 
 -- ---- cases
@@ -236,10 +236,10 @@ take_case extra m a b c s rest h = paid c.payload h.0 h.1 ∙ take_keys extra c.
   paid [] i n = no_payload extra c.keys m (enclosed a_key mark.OpenBrace mark.CloseBrace None ∷ s) rest (b (enclosed a_key mark.OpenBrace mark.CloseBrace None ∷ s) rest)
   paid (p ∷ ps) i n = counted_some extra ty_then a_ty IsTy mark.CloseParen refl (ty_before extra mark.Comma (λ ts. refl)) (ty_before extra mark.CloseParen (λ ts. refl)) p ps (less (payload_left extra)) _ _ (omega arith) i
 
-take_header : (extra : Bounds) (ps : List HeaderParam) (m : Mark) (s : List Symbol) (rest : List Token) → length ps ≤ (wider extra).parameters → after (wider extra) (t.sign m ∷ rest) (enclosed a_param mark.Less mark.Greater (parameters_left (wider extra)) ∷ s) ≡ after (wider extra) (t.sign m ∷ rest) s
-    → after (wider extra) (enclosed_then header_param_then mark.Less mark.Greater ps (t.sign m ∷ rest)) (enclosed a_param mark.Less mark.Greater (parameters_left (wider extra)) ∷ s) ≡ after (wider extra) (t.sign m ∷ rest) s
+take_header : (extra : Bounds) (ps : List HeaderKey) (m : Mark) (s : List Symbol) (rest : List Token) → length ps ≤ (wider extra).parameters → after (wider extra) (t.sign m ∷ rest) (enclosed a_param mark.Less mark.Greater (parameters_left (wider extra)) ∷ s) ≡ after (wider extra) (t.sign m ∷ rest) s
+    → after (wider extra) (enclosed_then header_key_then mark.Less mark.Greater ps (t.sign m ∷ rest)) (enclosed a_param mark.Less mark.Greater (parameters_left (wider extra)) ∷ s) ≡ after (wider extra) (t.sign m ∷ rest) s
 take_header extra [] m s rest n e = e
-take_header extra (p ∷ ps) m s rest n e = counted_some extra header_param_then a_param AnyParam mark.Greater refl (param_comma extra) (param_greater extra) p ps (less (parameters_left (wider extra))) s _ (omega arith) (each_param (p ∷ ps))
+take_header extra (p ∷ ps) m s rest n e = counted_some extra header_key_then a_param AnyParam mark.Greater refl (param_comma extra) (param_greater extra) p ps (less (parameters_left (wider extra))) s _ (omega arith) (each_param (p ∷ ps))
 
 take_decl : (extra : Bounds) (d : Decl) (l : Left) (s : List Symbol) (rest : List Token) → IsDecl (wider extra) d → 1 ≤ l.more → after (wider extra) (decl_then d rest) (decls l ∷ s) ≡ after (wider extra) rest (decls (one_less l) ∷ s)
 take_decl extra (s.stateset n [] at) l q rest h some = absurd h.0
@@ -256,9 +256,9 @@ take_decl extra (s.variant n ps (c ∷ cs) at) l q rest h some =
     rw (some_left l some) (take_header extra ps mark.OpenBrace (sign mark.OpenBrace ∷ thing a_case ∷ further a_case mark.CloseBrace (Some (record { limit = 7; more = (wider extra).cases - 1 })) ∷ decls (one_less l) ∷ q) _ h.0 refl
     ∙ counted_some extra case_then a_case (IsCase (wider extra)) mark.CloseBrace refl (take_case extra mark.Comma (λ z y. refl) (λ z y. refl)) (take_case extra mark.CloseBrace (λ z y. refl) (λ z y. refl)) c cs (Some (record { limit = 7; more = (wider extra).cases - 1 })) (decls (one_less l) ∷ q) rest (omega arith) h.2)
 take_decl extra (s.extern x at) l q rest h some =
-    rw (some_left l some) (outcome_head extra x.outcome _ (sign mark.Semicolon ∷ decls (one_less l) ∷ q) h.outcome refl ∙ head_tail extra x mark.Semicolon (sign mark.Semicolon ∷ decls (one_less l) ∷ q) rest h refl)
+    rw (some_left l some) (result_type_head extra x.result_type _ (sign mark.Semicolon ∷ decls (one_less l) ∷ q) h.result_type refl ∙ head_tail extra x mark.Semicolon (sign mark.Semicolon ∷ decls (one_less l) ∷ q) rest h refl)
 take_decl extra (s.function x (s.braced ss at) bt) l q rest h some =
-    outcome_decl extra x.outcome _ l q h.0.outcome refl some
+    result_type_decl extra x.result_type _ l q h.0.result_type refl some
     ∙ head_tail extra x mark.OpenBrace (block (wider extra).depth ∷ decls (one_less l) ∷ q) _ h.0 refl
     ∙ take_block extra (take_right extra) (take_returned extra) (s.braced ss at) (wider extra).depth (decls (one_less l) ∷ q) rest h.1
 
@@ -266,6 +266,6 @@ take_decls : (extra : Bounds) (ds : List Decl) (l : Left) → Each (IsDecl (wide
 take_decls extra [] l h n = (l, refl)
 take_decls extra (d ∷ ds) l h n = let r = take_decls extra ds (one_less l) h.1 (omega arith) in (r.0, take_decl extra d l [] _ h.0 (omega arith) ∙ r.1)
 
--- the machine takes the spelling of each tree of the language
+-- The automaton takes the spelling of each tree of the language
 pub take_tree : (extra : Bounds) (x : Tree) → IsTree (wider extra) x → (m : Left) × (after (wider extra) (spelling x) (decls (record { limit = 4; more = (wider extra).decls }) ∷ []) ≡ to (decls m ∷ []))
 take_tree extra x h = take_decls extra x.decls _ h.0 h.1

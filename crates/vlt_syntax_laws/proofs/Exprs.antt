@@ -1,4 +1,4 @@
--- The machine takes the spelling of an expression that isn't too deep.
+-- The automaton takes the spelling of an expression that isn't too deep.
 use Rattle.std.proofs.Common.{◌≡◌, ℕ, suc, ◌-◌, ◌≤◌, ◌<◌, max, Bool, true, false, nat_lt, List, [], ◌∷◌, Option, Some, None, refl, sym, ap, subst, ◌∙◌, arith}
 use Rattle.std.proofs.lemmas.Bool.Decides.{nat_tests}
 use Rattle.vlt_ops.specs.declared.Op.{Op}
@@ -13,7 +13,7 @@ use Rattle.vlt_syntax.specs.Tree as s
 use Rattle.vlt_syntax.specs.Tree.{Expr}
 use Rattle.vlt_syntax.specs.Spelling.{expr_then, sign_of, operator_of}
 use Rattle.vlt_syntax.specs.Grammar.{BindsFrom, depth, level, IsExpr, Bounds}
-use Rattle.vlt_syntax.specs.Automaton.{Frame, level_from, right_of, prefixed, Symbol, an_expr, thing, listed, further, operand, operations, behind_name, close_group, end_expr, behind_operand, behind_variable, whole_depth, whole_expr, start_operand, Reaction, settled, step_behind, climb, climb_by, if_deeper}
+use Rattle.vlt_automaton.specs.Automaton.{Pending, level_from, right_of, prefixed, Symbol, an_expr, thing, listed, further, operand, operations, behind_name, close_group, end_expr, behind_operand, behind_variable, whole_depth, whole_expr, start_operand, Reaction, settled, step_behind, climb, climb_by, if_deeper}
 use Rattle.vlt_syntax_laws.proofs.After.{after, onward}
 use Rattle.vlt_syntax_laws.proofs.Takes.{followed_settled, IsNoSkip, kept}
 use Rattle.vlt_syntax_laws.proofs.Wider.{wider}
@@ -33,7 +33,7 @@ ends m [] = false
 ends m (x ∷ xs) = is_end m x
 
 -- a name with no dot behind it is an operand as any other
-no_dot : (extra : Bounds) (m d : ℕ) (fs : List Frame) (s : List Symbol) (rest : List Token) → ends m rest ≡ true → after (wider extra) rest (behind_name d fs ∷ s) ≡ after (wider extra) rest (operations d fs ∷ s)
+no_dot : (extra : Bounds) (m d : ℕ) (fs : List Pending) (s : List Symbol) (rest : List Token) → ends m rest ≡ true → after (wider extra) rest (behind_name d fs ∷ s) ≡ after (wider extra) rest (operations d fs ∷ s)
 no_dot extra m d fs s [] e = absurd cc
 no_dot extra m d fs s (t.name n ∷ rest) e = refl
 no_dot extra m d fs s (t.tick n ∷ rest) e = refl
@@ -42,20 +42,20 @@ no_dot extra m d fs s (t.keyword n ∷ rest) e = refl
 no_dot extra m d fs s (t.sign mark.Dot ∷ rest) e = absurd cc
 no_dot extra m d fs s (t.sign k ∷ rest) e = refl
 
-variable_ends : (extra : Bounds) (m d : ℕ) (fs : List Frame) (s : List Symbol) (rest : List Token) → ends m rest ≡ true → after (wider extra) rest (behind_variable d fs ∷ s) ≡ after (wider extra) rest (behind_operand d fs ∷ s)
+variable_ends : (extra : Bounds) (m d : ℕ) (fs : List Pending) (s : List Symbol) (rest : List Token) → ends m rest ≡ true → after (wider extra) rest (behind_variable d fs ∷ s) ≡ after (wider extra) rest (behind_operand d fs ∷ s)
 variable_ends extra m d [] s rest e = no_dot extra m d [] s rest e
 variable_ends extra m d (prefixed ∷ fs) s rest e = variable_ends extra m (suc d) fs s rest e
 variable_ends extra m d (level_from l r ∷ fs) s rest e = no_dot extra m d _ s rest e
 variable_ends extra m d (right_of l r a ∷ fs) s rest e = no_dot extra m d _ s rest e
 
 -- behind the right operand of an operator, where no operator comes that binds more tightly, both are one operand
-climbs : (m h l least room left d : ℕ) (fs : List Frame) → nat_lt h (suc m) ≡ true → m ≤ l
+climbs : (m h l least room left d : ℕ) (fs : List Pending) → nat_lt h (suc m) ≡ true → m ≤ l
     → climb h d (level_from (suc l) (room - 1) ∷ right_of least room left ∷ fs) ≡ climb h (suc (max left d)) (level_from least room ∷ fs)
 climbs m h l least room left d fs e le =
     let low : nat_lt h (suc l) ≡ true = grind (arith, nat_tests) in
     rw low refl
 
-climbs_by : (m l least room left d : ℕ) (fs : List Frame) (o : Option Op) → weaker m o ≡ true → m ≤ l
+climbs_by : (m l least room left d : ℕ) (fs : List Pending) (o : Option Op) → weaker m o ≡ true → m ≤ l
     → climb_by o d (level_from (suc l) (room - 1) ∷ right_of least room left ∷ fs) ≡ climb_by o (suc (max left d)) (level_from least room ∷ fs)
 climbs_by m l least room left d fs None e le = refl
 climbs_by m l least room left d fs (Some o) e le = climbs m (level o) l least room left d fs e le
@@ -64,7 +64,7 @@ pub end_weaker : (m : ℕ) (k : Mark) → is_end m (t.sign k) ≡ true → weake
 end_weaker m mark.Dot e = absurd cc
 end_weaker m k e = e
 
-joined : (extra : Bounds) (m l least room left d : ℕ) (fs : List Frame) (s : List Symbol) (rest : List Token) → ends m rest ≡ true → m ≤ l
+joined : (extra : Bounds) (m l least room left d : ℕ) (fs : List Pending) (s : List Symbol) (rest : List Token) → ends m rest ≡ true → m ≤ l
     → after (wider extra) rest (operations d (level_from (suc l) (room - 1) ∷ right_of least room left ∷ fs) ∷ s) ≡ after (wider extra) rest (operations (suc (max left d)) (level_from least room ∷ fs) ∷ s)
 joined extra m l least room left d fs s [] e le = absurd cc
 joined extra m l least room left d fs s (t.name n ∷ rest) e le = refl
@@ -124,21 +124,21 @@ raised (s.binary o l r at) h = (h.0, (binary_low o h.0).0, h.2, h.3)
 
 -- ---- operands and expressions
 
-dotted : (extra : Bounds) (d : ℕ) (fs : List Frame) (s : List Symbol) (f : List ℕ) (rest : List Token) → after (wider extra) (t.sign mark.Dot ∷ t.name f ∷ rest) (behind_variable d fs ∷ s) ≡ after (wider extra) rest (behind_operand d fs ∷ s)
+dotted : (extra : Bounds) (d : ℕ) (fs : List Pending) (s : List Symbol) (f : List ℕ) (rest : List Token) → after (wider extra) (t.sign mark.Dot ∷ t.name f ∷ rest) (behind_variable d fs ∷ s) ≡ after (wider extra) rest (behind_operand d fs ∷ s)
 dotted extra d [] s f rest = refl
 dotted extra d (prefixed ∷ fs) s f rest = dotted extra (suc d) fs s f rest
 dotted extra d (level_from l r ∷ fs) s f rest = refl
 dotted extra d (right_of l r a ∷ fs) s f rest = refl
 
-prefix_step : (extra : Bounds) (o : Op) (room : ℕ) (fs : List Frame) (s : List Symbol) (rest : List Token) → (row_of o).arity ≡ 1 → 1 < room → after (wider extra) (t.sign (sign_of o) ∷ rest) (operand room fs ∷ s) ≡ after (wider extra) rest (operand (room - 1) (prefixed ∷ fs) ∷ s)
+prefix_step : (extra : Bounds) (o : Op) (room : ℕ) (fs : List Pending) (s : List Symbol) (rest : List Token) → (row_of o).arity ≡ 1 → 1 < room → after (wider extra) (t.sign (sign_of o) ∷ rest) (operand room fs ∷ s) ≡ after (wider extra) rest (operand (room - 1) (prefixed ∷ fs) ∷ s)
 prefix_step extra op.Negate room fs s rest h deep = let e : nat_lt 1 room ≡ true = grind (arith, nat_tests) in rw e refl
 prefix_step extra op.Not room fs s rest h deep = let e : nat_lt 1 room ≡ true = grind (arith, nat_tests) in rw e refl
 prefix_step extra o room fs s rest h deep = absurd (omega arith)
 
-open_step : (extra : Bounds) (room : ℕ) (fs : List Frame) (s : List Symbol) (rest : List Token) → 1 < room → after (wider extra) (t.sign mark.OpenParen ∷ rest) (operand room fs ∷ s) ≡ after (wider extra) rest (operand (room - 1) (level_from 2 (room - 1) ∷ []) ∷ close_group fs ∷ s)
+open_step : (extra : Bounds) (room : ℕ) (fs : List Pending) (s : List Symbol) (rest : List Token) → 1 < room → after (wider extra) (t.sign mark.OpenParen ∷ rest) (operand room fs ∷ s) ≡ after (wider extra) rest (operand (room - 1) (level_from 2 (room - 1) ∷ []) ∷ close_group fs ∷ s)
 open_step extra room fs s rest deep = let e : nat_lt 1 room ≡ true = grind (arith, nat_tests) in rw e refl
 
-binary_step : (extra : Bounds) (o : Op) (d least room : ℕ) (fs : List Frame) (s : List Symbol) (rest : List Token) → (row_of o).arity ≡ 2 → least ≤ level o → d < room
+binary_step : (extra : Bounds) (o : Op) (d least room : ℕ) (fs : List Pending) (s : List Symbol) (rest : List Token) → (row_of o).arity ≡ 2 → least ≤ level o → d < room
     → after (wider extra) (t.sign (sign_of o) ∷ rest) (operations d (level_from least room ∷ fs) ∷ s) ≡ after (wider extra) rest (operand (room - 1) (level_from (suc (level o)) (room - 1) ∷ right_of least room d ∷ fs) ∷ s)
 binary_step extra o d least room fs s rest h le deep =
     let e : nat_lt d room ≡ true = grind (arith, nat_tests) in
@@ -156,10 +156,10 @@ depth_some (s.unary o e at) = omega arith
 depth_some (s.binary o l r at) = omega arith
 
 abbrev Operand : (extra : Bounds) → Expr → Type 0
-Operand extra e = (m room : ℕ) (fs : List Frame) (s : List Symbol) (rest : List Token) → BindsFrom 11 e → depth e ≤ room → ends m rest ≡ true → after (wider extra) (expr_then e rest) (operand room fs ∷ s) ≡ after (wider extra) rest (behind_operand (depth e) fs ∷ s)
+Operand extra e = (m room : ℕ) (fs : List Pending) (s : List Symbol) (rest : List Token) → BindsFrom 11 e → depth e ≤ room → ends m rest ≡ true → after (wider extra) (expr_then e rest) (operand room fs ∷ s) ≡ after (wider extra) rest (behind_operand (depth e) fs ∷ s)
 
 abbrev Whole : (extra : Bounds) → Expr → Type 0
-Whole extra e = (m least room : ℕ) (fs : List Frame) (s : List Symbol) (rest : List Token) → BindsFrom m e → least ≤ m → depth e ≤ room → ends m rest ≡ true
+Whole extra e = (m least room : ℕ) (fs : List Pending) (s : List Symbol) (rest : List Token) → BindsFrom m e → least ≤ m → depth e ≤ room → ends m rest ≡ true
     → after (wider extra) (expr_then e rest) (operand room (level_from least room ∷ fs) ∷ s) ≡ after (wider extra) rest (operations (depth e) (level_from least room ∷ fs) ∷ s)
 
 pub taken : (extra : Bounds) (e : Expr) → Operand extra e × (Whole extra) e
@@ -191,7 +191,7 @@ taken extra (s.binary o l r at) = (
 deeper_kept : (d room : ℕ) (xs : List Symbol) → IsNoSkip (if_deeper d room xs)
 deeper_kept d room xs = kept (nat_lt d room) _ _ tt tt
 
-pub operand_kept : (room : ℕ) (fs : List Frame) (x : Token) → IsNoSkip (start_operand room fs x)
+pub operand_kept : (room : ℕ) (fs : List Pending) (x : Token) → IsNoSkip (start_operand room fs x)
 operand_kept room fs (t.sign mark.OpenParen) = deeper_kept 1 room _
 operand_kept room fs (t.sign mark.Minus) = deeper_kept 1 room _
 operand_kept room fs (t.sign mark.Not) = deeper_kept 1 room _

@@ -1,4 +1,4 @@
--- Where the machine is alive, some tree of the language goes on.
+-- Where the automaton is alive, some tree of the language goes on.
 use Rattle.std.proofs.Common.{◌≡◌, ℕ, false, List, [], ◌∷◌, ◌++◌, sym, ap, subst, ◌∙◌}
 use Rattle.vlt_base.specs.declared.places.Span.{Span}
 use Rattle.vlt_syntax.specs.Tokens.{Token}
@@ -6,7 +6,7 @@ use Rattle.vlt_syntax.specs.Tree.{Tree}
 use Rattle.vlt_syntax.specs.Lists.{each_then}
 use Rattle.vlt_syntax.specs.Spelling.{spelling, decl_then}
 use Rattle.vlt_syntax.specs.Grammar.{IsTree, Bounds}
-use Rattle.vlt_syntax.specs.Automaton.{Left, Symbol, may_end, decls, Reaction, take, skip, refuse, exceed, Next, to, settled, step, step_behind, depth_read, reaction_behind}
+use Rattle.vlt_automaton.specs.Automaton.{Left, Symbol, may_end, decls, Reaction, take, skip, refuse, exceed, Next, to, settled, step, step_behind, depth_read, reaction_behind}
 use Rattle.vlt_syntax_laws.proofs.After.{after}
 use Rattle.vlt_syntax_laws.proofs.Back.{Rest, Spells}
 use Rattle.vlt_syntax_laws.proofs.Whole.{Backs, parted, some_spelling}
@@ -39,7 +39,7 @@ alive extra at (x ∷ xs) s h =
     on_alive ((c : List Token) × (Spells extra) 0 s End (x ∷ xs ++ c)) (after (wider extra) xs) (step (wider extra) s x)
     (λ z e k. let r = alive extra at xs z k in (r.0, step_back extra at 0 s z End x (xs ++ r.0) e r.1)) h
 
--- law B: the machine goes on only where some tree of the language does
+-- law B: the automaton goes on only where some tree of the language does
 pub goes_on : (extra : Bounds) (at : Span) (ts : List Token) → IsTo (after (wider extra) ts (decls (record { limit = 4; more = (wider extra).decls }) ∷ [])) → (x : Tree) × (more : List Token) × IsTree (wider extra) x × (spelling x ≡ ts ++ more)
 goes_on extra at ts h =
     let a = alive extra at ts (decls (record { limit = 4; more = (wider extra).decls }) ∷ []) h in
@@ -53,7 +53,7 @@ front_alive extra (x ∷ xs) ys s h = on_front (after (wider extra) (xs ++ ys)) 
 to_is : (n : Next) (m : Left) → n ≡ to (decls m ∷ []) → IsTo n
 to_is n m e = subst IsTo (sym e) tt
 
--- law A with B: the machine goes on exactly where some tree of the language does
+-- law A with B: the automaton goes on exactly where some tree of the language does
 pub goes_back : (extra : Bounds) (ts : List Token) → (x : Tree) × (more : List Token) × IsTree (wider extra) x × (spelling x ≡ ts ++ more) → IsTo (after (wider extra) ts (decls (record { limit = 4; more = (wider extra).decls }) ∷ []))
 goes_back extra ts (x, more, is, e) =
     let t = take_tree extra x is in

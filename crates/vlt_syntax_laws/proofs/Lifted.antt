@@ -13,7 +13,7 @@ use Rattle.vlt_syntax.specs.Tokens.{Token}
 use Rattle.vlt_syntax.specs.Spelling.{operator_of}
 use Rattle.vlt_syntax.specs.Grammar.{Bounds, level, language}
 use Rattle.vlt_syntax.specs.Refusals.{bound_of}
-use Rattle.vlt_syntax.specs.Automaton.{behind_fields, or_else, start_simple, start_outcome, react_behind_fields, Left, Thing, a_name, a_param, a_ty, a_key, a_case, a_parameter, an_entry, an_expr, an_init, an_outcome, a_simple, a_stmt, a_decl, Frame, level_from, right_of, prefixed, Symbol, tick, sign, keyword, thing, further, listed, enclosed, marked_name, states, at_states, named, behind_tracked, behind_type_name, operand, behind_name, operations, close_group, end_expr, owner, right, behind_right_name, returned, block, stmts, behind_stmt_name, otherwise, behind_else, arm, arms, entry_states, arrow_states, clause, head, fields, decls, Reaction, take, skip, refuse, exceed, followed, is_sign, is_keyword, is_name, is_tick, start_name, start_tick, start_states, start_key, start_ty, react_tracked, react_type_name, behind_operand, behind_variable, whole_depth, if_deeper, start_operand, climb, climb_by, react_operations, whole_expr, start_expr, start_build, start_right, react_right_name, react_returned, enter, declared, start_stmt, react_stmt_name, start_block, start_arm, start_head, head_rest, start_entry, start_decl, counted, start_thing, less, one_more, reaction, Next, to, unexpected, over, depth_read, reaction_behind, settled, step_behind, behind_if, parameters_left, lowest}
+use Rattle.vlt_automaton.specs.Automaton.{behind_fields, or_else, start_simple, start_result_type, react_behind_fields, Left, Thing, a_name, a_param, a_ty, a_key, a_case, a_parameter, an_entry, an_expr, an_init, a_result_type, a_simple, a_stmt, a_decl, Pending, level_from, right_of, prefixed, Symbol, tick, sign, keyword, thing, further, listed, enclosed, marked_name, states, at_states, named, behind_tracked, behind_type_name, operand, behind_name, operations, close_group, end_expr, owner, right, behind_right_name, returned, block, stmts, behind_stmt_name, otherwise, behind_else, arm, arms, entry_states, arrow_states, clause, head, fields, decls, Reaction, take, skip, refuse, exceed, followed, is_sign, is_keyword, is_name, is_tick, start_name, start_tick, start_states, start_key, start_ty, react_tracked, react_type_name, behind_operand, behind_variable, whole_depth, if_deeper, start_operand, climb, climb_by, react_operations, whole_expr, start_expr, start_build, start_right, react_right_name, react_returned, enter, declared, start_stmt, react_stmt_name, start_block, start_arm, start_head, head_rest, start_entry, start_decl, counted, start_thing, less, one_more, reaction, Next, to, unexpected, over, depth_read, reaction_behind, settled, step_behind, behind_if, parameters_left, lowest}
 use Rattle.vlt_syntax_laws.proofs.Wider.{wider}
 use Rattle.vlt_syntax_laws.proofs.After.{IsTo}
 
@@ -30,11 +30,11 @@ abbrev on_left : (Left → Left) → Option Left → Option Left
 on_left f None = None
 on_left f (Some l) = Some (f l)
 
-abbrev lift_frames : Bounds → List Frame → List Frame
-lift_frames e [] = []
-lift_frames e (level_from least room ∷ fs) = level_from least (room + e.depth) ∷ lift_frames e fs
-lift_frames e (right_of least room depth ∷ fs) = right_of least (room + e.depth) depth ∷ lift_frames e fs
-lift_frames e (prefixed ∷ fs) = prefixed ∷ lift_frames e fs
+abbrev lift_pending : Bounds → List Pending → List Pending
+lift_pending e [] = []
+lift_pending e (level_from least room ∷ fs) = level_from least (room + e.depth) ∷ lift_pending e fs
+lift_pending e (right_of least room depth ∷ fs) = right_of least (room + e.depth) depth ∷ lift_pending e fs
+lift_pending e (prefixed ∷ fs) = prefixed ∷ lift_pending e fs
 
 abbrev lift_thing : Bounds → Thing → Thing
 lift_thing e (a_stmt room) = a_stmt (room + e.depth)
@@ -47,7 +47,7 @@ lift_thing e a_parameter = a_parameter
 lift_thing e an_entry = an_entry
 lift_thing e an_expr = an_expr
 lift_thing e an_init = an_init
-lift_thing e an_outcome = an_outcome
+lift_thing e a_result_type = a_result_type
 lift_thing e a_simple = a_simple
 lift_thing e a_decl = a_decl
 
@@ -59,10 +59,10 @@ lift e (thing k) = thing (lift_thing e k)
 lift e (further k m left) = further (lift_thing e k) m (on_left (lift_left e) left)
 lift e (listed k m left) = listed (lift_thing e k) m (on_left (lift_first e) left)
 lift e (enclosed k o m left) = enclosed (lift_thing e k) o m (on_left (lift_first e) left)
-lift e (operand room fs) = operand (room + e.depth) (lift_frames e fs)
-lift e (behind_name d fs) = behind_name d (lift_frames e fs)
-lift e (operations d fs) = operations d (lift_frames e fs)
-lift e (close_group fs) = close_group (lift_frames e fs)
+lift e (operand room fs) = operand (room + e.depth) (lift_pending e fs)
+lift e (behind_name d fs) = behind_name d (lift_pending e fs)
+lift e (operations d fs) = operations d (lift_pending e fs)
+lift e (close_group fs) = close_group (lift_pending e fs)
 lift e (block room) = block (lift_room e room)
 lift e (stmts room) = stmts (room + e.depth)
 lift e (otherwise room) = otherwise (lift_room e room)
@@ -270,37 +270,37 @@ type_name_lifted n e x = either n e (is_sign mark.Colon x) _ _ _ _ (refl, refl) 
 
 -- ---- expressions
 
-pub whole_lifted : (e : Bounds) (d : ℕ) (fs : List Frame) → whole_depth d (lift_frames e fs) ≡ whole_depth d fs
+pub whole_lifted : (e : Bounds) (d : ℕ) (fs : List Pending) → whole_depth d (lift_pending e fs) ≡ whole_depth d fs
 whole_lifted e d [] = refl
 whole_lifted e d (prefixed ∷ fs) = whole_lifted e (suc d) fs
 whole_lifted e d (level_from least room ∷ fs) = whole_lifted e d fs
 whole_lifted e d (right_of least room left ∷ fs) = whole_lifted e (suc (max left d)) fs
 
-whole_more : (d : ℕ) (fs : List Frame) → d ≤ whole_depth d fs
+whole_more : (d : ℕ) (fs : List Pending) → d ≤ whole_depth d fs
 whole_more d [] = omega arith
 whole_more d (prefixed ∷ fs) = let more = whole_more (suc d) fs in omega arith
 whole_more d (level_from least room ∷ fs) = whole_more d fs
 whole_more d (right_of least room left ∷ fs) = let more = whole_more (suc (max left d)) fs in omega arith
 
-operand_lifted : (e : Bounds) (d : ℕ) (fs : List Frame) → behind_operand d (lift_frames e fs) ≡ lift e (behind_operand d fs)
+operand_lifted : (e : Bounds) (d : ℕ) (fs : List Pending) → behind_operand d (lift_pending e fs) ≡ lift e (behind_operand d fs)
 operand_lifted e d [] = refl
 operand_lifted e d (prefixed ∷ fs) = operand_lifted e (suc d) fs
 operand_lifted e d (level_from least room ∷ fs) = refl
 operand_lifted e d (right_of least room left ∷ fs) = refl
 
-operand_good : (d : ℕ) (fs : List Frame) → is_good (behind_operand d fs) ≡ true
+operand_good : (d : ℕ) (fs : List Pending) → is_good (behind_operand d fs) ≡ true
 operand_good d [] = refl
 operand_good d (prefixed ∷ fs) = operand_good (suc d) fs
 operand_good d (level_from least room ∷ fs) = refl
 operand_good d (right_of least room left ∷ fs) = refl
 
-variable_lifted : (e : Bounds) (d : ℕ) (fs : List Frame) → behind_variable d (lift_frames e fs) ≡ lift e (behind_variable d fs)
+variable_lifted : (e : Bounds) (d : ℕ) (fs : List Pending) → behind_variable d (lift_pending e fs) ≡ lift e (behind_variable d fs)
 variable_lifted e d [] = refl
 variable_lifted e d (prefixed ∷ fs) = variable_lifted e (suc d) fs
 variable_lifted e d (level_from least room ∷ fs) = refl
 variable_lifted e d (right_of least room left ∷ fs) = refl
 
-variable_good : (d : ℕ) (fs : List Frame) → is_good (behind_variable d fs) ≡ true
+variable_good : (d : ℕ) (fs : List Pending) → is_good (behind_variable d fs) ≡ true
 variable_good d [] = refl
 variable_good d (prefixed ∷ fs) = variable_good (suc d) fs
 variable_good d (level_from least room ∷ fs) = refl
@@ -309,34 +309,34 @@ variable_good d (right_of least room left ∷ fs) = refl
 one_symbol : (e : Bounds) (y z : Symbol) → z ≡ lift e y → is_good y ≡ true → (take (z ∷ []) ≡ take (lifts e (y ∷ []))) × (list_all is_good (y ∷ []) ≡ true)
 one_symbol e y z same good = (ap (λ x. take (x ∷ [])) same, both _ true good refl)
 
-start_lifted : (n room : ℕ) (e : Bounds) (fs : List Frame) (x : Token) → 1 ≤ n → Lifted n e (start_operand room fs x) (start_operand (room + e.depth) (lift_frames e fs) x)
+start_lifted : (n room : ℕ) (e : Bounds) (fs : List Pending) (x : Token) → 1 ≤ n → Lifted n e (start_operand room fs x) (start_operand (room + e.depth) (lift_pending e fs) x)
 start_lifted n room e fs (t.number z) h = one_symbol e _ _ (operand_lifted e 1 fs) (operand_good 1 fs)
 start_lifted n room e fs (t.keyword word.True) h = one_symbol e _ _ (operand_lifted e 1 fs) (operand_good 1 fs)
 start_lifted n room e fs (t.keyword word.False) h = one_symbol e _ _ (operand_lifted e 1 fs) (operand_good 1 fs)
 start_lifted n room e fs (t.name text) h = one_symbol e _ _ (variable_lifted e 1 fs) (variable_good 1 fs)
 start_lifted n room e fs (t.sign mark.OpenParen) h =
-    deeper_lifted n e 1 room _ _ h (λ less. ap (λ q. operand q (level_from lowest q ∷ []) ∷ close_group (lift_frames e fs) ∷ []) less) refl
-start_lifted n room e fs (t.sign mark.Minus) h = deeper_lifted n e 1 room _ _ h (λ less. ap (λ q. operand q (prefixed ∷ lift_frames e fs) ∷ []) less) refl
-start_lifted n room e fs (t.sign mark.Not) h = deeper_lifted n e 1 room _ _ h (λ less. ap (λ q. operand q (prefixed ∷ lift_frames e fs) ∷ []) less) refl
+    deeper_lifted n e 1 room _ _ h (λ less. ap (λ q. operand q (level_from lowest q ∷ []) ∷ close_group (lift_pending e fs) ∷ []) less) refl
+start_lifted n room e fs (t.sign mark.Minus) h = deeper_lifted n e 1 room _ _ h (λ less. ap (λ q. operand q (prefixed ∷ lift_pending e fs) ∷ []) less) refl
+start_lifted n room e fs (t.sign mark.Not) h = deeper_lifted n e 1 room _ _ h (λ less. ap (λ q. operand q (prefixed ∷ lift_pending e fs) ∷ []) less) refl
 start_lifted n room e fs _ h = refl
 
-climb_lifted : (n l d : ℕ) (e : Bounds) (fs : List Frame) → whole_depth d fs ≤ n → Lifted n e (climb l d fs) (climb l d (lift_frames e fs))
+climb_lifted : (n l d : ℕ) (e : Bounds) (fs : List Pending) → whole_depth d fs ≤ n → Lifted n e (climb l d fs) (climb l d (lift_pending e fs))
 climb_lifted n l d e [] h = refl
 climb_lifted n l d e (prefixed ∷ fs) h = climb_lifted n l (suc d) e fs h
 climb_lifted n l d e (level_from least room ∷ fs) h =
     either n e (nat_lt l least) _ _ _ _ (climb_lifted n l d e fs h)
     (deeper_lifted n e d room _ _ (let more = whole_more d fs in omega arith)
-    (λ less. ap (λ q. operand q (level_from (suc l) q ∷ right_of least (room + e.depth) d ∷ lift_frames e fs) ∷ []) less) refl)
+    (λ less. ap (λ q. operand q (level_from (suc l) q ∷ right_of least (room + e.depth) d ∷ lift_pending e fs) ∷ []) less) refl)
 climb_lifted n l d e (right_of least room left ∷ fs) h =
     either n e (nat_lt l least) _ _ _ _ (climb_lifted n l (suc (max left d)) e fs h)
     (deeper_lifted n e (suc (max left d)) room _ _ (let more = whole_more (suc (max left d)) fs in omega arith)
-    (λ less. ap (λ q. operand q (level_from (suc l) q ∷ right_of least (room + e.depth) (suc (max left d)) ∷ lift_frames e fs) ∷ []) less) refl)
+    (λ less. ap (λ q. operand q (level_from (suc l) q ∷ right_of least (room + e.depth) (suc (max left d)) ∷ lift_pending e fs) ∷ []) less) refl)
 
-climb_by_lifted : (n d : ℕ) (e : Bounds) (o : Option Op) (fs : List Frame) → whole_depth d fs ≤ n → Lifted n e (climb_by o d fs) (climb_by o d (lift_frames e fs))
+climb_by_lifted : (n d : ℕ) (e : Bounds) (o : Option Op) (fs : List Pending) → whole_depth d fs ≤ n → Lifted n e (climb_by o d fs) (climb_by o d (lift_pending e fs))
 climb_by_lifted n d e None fs h = refl
 climb_by_lifted n d e (Some o) fs h = climb_lifted n (level o) d e fs h
 
-operations_lifted : (n d : ℕ) (e : Bounds) (fs : List Frame) (x : Token) → whole_depth d fs ≤ n → Lifted n e (react_operations d fs x) (react_operations d (lift_frames e fs) x)
+operations_lifted : (n d : ℕ) (e : Bounds) (fs : List Pending) (x : Token) → whole_depth d fs ≤ n → Lifted n e (react_operations d fs x) (react_operations d (lift_pending e fs) x)
 operations_lifted n d e fs (t.sign m) h = climb_by_lifted n d e (operator_of m) fs h
 operations_lifted n d e fs (t.name text) h = refl
 operations_lifted n d e fs (t.tick text) h = refl
@@ -424,11 +424,11 @@ arm_lifted n room e x = either n e (is_keyword word.Case x) _ _ _ _ (refl, refl)
 
 -- ---- declarations
 
-outcome_lifted : (n : ℕ) (e : Bounds) (x : Token) → Same n e (start_outcome x)
-outcome_lifted n e x = either n e (is_keyword word.Void x) _ _ _ _ (refl, refl) (ty_lifted n e x)
+result_type_lifted : (n : ℕ) (e : Bounds) (x : Token) → Same n e (start_result_type x)
+result_type_lifted n e x = either n e (is_keyword word.Void x) _ _ _ _ (refl, refl) (ty_lifted n e x)
 
 head_lifted : (n : ℕ) (e : Bounds) (x : Token) → Lifted n e (start_head language x) (start_head (wider e) x)
-head_lifted n e x = then_lifted n e (start_outcome x) _ _ _ (outcome_lifted n e x) refl refl
+head_lifted n e x = then_lifted n e (start_result_type x) _ _ _ (result_type_lifted n e x) refl refl
 
 entry_lifted : (n : ℕ) (e : Bounds) (x : Token) → Same n e (start_entry x)
 entry_lifted n e (t.sign mark.Minus) = (refl, refl)
@@ -465,7 +465,7 @@ thing_lifted n e a_parameter x h = then_lifted n e (start_ty x) _ _ _ (ty_lifted
 thing_lifted n e an_entry x h = entry_lifted n e x
 thing_lifted n e an_expr x h = expr_lifted n e x h
 thing_lifted n e an_init x h = then_lifted n e (start_name x) _ _ _ (name_lifted n e x) refl refl
-thing_lifted n e an_outcome x h = outcome_lifted n e x
+thing_lifted n e a_result_type x h = result_type_lifted n e x
 thing_lifted n e a_simple x h = simple_lifted n e x
 thing_lifted n e (a_stmt room) x h = stmt_lifted n room e x
 thing_lifted n e a_decl x h = decl_lifted n e x
@@ -508,7 +508,7 @@ decl_stays (t.keyword word.Variant) = tt
 decl_stays (t.keyword word.Extern) = tt
 decl_stays x =
     followed_stays (start_head language x) (block language.depth ∷ [])
-    (followed_stays (start_outcome x) (head_rest language) (if_stays (is_keyword word.Void x) (take []) (start_ty x) tt (ty_stays x)))
+    (followed_stays (start_result_type x) (head_rest language) (if_stays (is_keyword word.Void x) (take []) (start_ty x) tt (ty_stays x)))
 
 -- ---- all symbols
 

@@ -75,14 +75,14 @@ index_stmt (s.switch x arms at) = 11
 index_stmt (s.release x at) = 12
 index_stmt (s.become x y at) = 13
 index_stmt (s.swap x f v at) = 14
-index_stmt (s.unpack x vs at) = 15
+index_stmt (s.open_into x vs at) = 15
 index_stmt (s.focus x k z b at) = 16
 
 ty_class : (y : Ty) (n : List ℕ) (r : List Token) → class_stmt (ty_then y (t.name n ∷ r)) ≡ 0
 ty_class (s.int at) n r = refl
 ty_class (s.bool at) n r = refl
-ty_class (s.keyed k m at) n r = refl
-ty_class (s.tracked ss m at) n r = refl
+ty_class (s.tracked k m at) n r = refl
+ty_class (s.owning ss m at) n r = refl
 ty_class (s.guarded k m) n r = refl
 ty_class (s.plain m) n r = on m.keys where
   on : (ks : List Name) → class_stmt (t.name m.name.text ∷ enclosed_then name_then mark.Less mark.Greater ks (t.name n ∷ r)) ≡ 0
@@ -105,7 +105,7 @@ stmt_class (s.switch x arms at) r = refl
 stmt_class (s.release x at) r = refl
 stmt_class (s.become x y at) r = refl
 stmt_class (s.swap x f v at) r = refl
-stmt_class (s.unpack x vs at) r = refl
+stmt_class (s.open_into x vs at) r = refl
 stmt_class (s.focus x k z b at) r = refl
 
 -- a statement doesn't begin with a closing brace
@@ -117,8 +117,8 @@ no_brace (s.declare y x v at) r c e = no_ty y e where
   no_ty : (y : Ty) → ty_then y (name_then x (t.sign mark.Assign ∷ right_then v (t.sign mark.Semicolon ∷ r))) ≡ t.sign mark.CloseBrace ∷ c → ⊥
   no_ty (s.int bt) e = cc
   no_ty (s.bool bt) e = cc
-  no_ty (s.keyed k m bt) e = cc
-  no_ty (s.tracked ss m bt) e = cc
+  no_ty (s.tracked k m bt) e = cc
+  no_ty (s.owning ss m bt) e = cc
   no_ty (s.guarded k m) e = cc
   no_ty (s.plain m) e = cc
 no_brace x r c e = let i = closed_class x r c e in absurd cc
@@ -178,10 +178,10 @@ mutual
       let m = one_name f g (t.sign mark.Comma ∷ name_then v (t.sign mark.Semicolon ∷ r)) (t.sign mark.Comma ∷ name_then u (t.sign mark.Semicolon ∷ q)) tt tt tt tt cc in
       let k = one_name v u (t.sign mark.Semicolon ∷ r) (t.sign mark.Semicolon ∷ q) tt tt tt tt cc in
       (three (λ g h k. spanned (made s.swap ◂ 1 ⊛ g ◂ 1 ⊛ h ◂ 1 ⊛ k ◂ 1)) n.0 m.0 k.0, cc)
-  one_stmt b room (s.unpack x vs at) (s.unpack w us bt) r q p o h i e =
+  one_stmt b room (s.open_into x vs at) (s.open_into w us bt) r q p o h i e =
       let n = one_name x w (t.keyword word.Into ∷ t.sign mark.OpenParen ∷ listed_then name_then mark.CloseParen vs (t.sign mark.Semicolon ∷ r)) (t.keyword word.Into ∷ t.sign mark.OpenParen ∷ listed_then name_then mark.CloseParen us (t.sign mark.Semicolon ∷ q)) tt tt tt tt cc in
       let k = one_names mark.CloseParen (λ c. cc) vs us (t.sign mark.Semicolon ∷ r) (t.sign mark.Semicolon ∷ q) p o cc in
-      (two (λ g h. spanned (made s.unpack ◂ 1 ⊛ g ◂ 2 ⊛ h ◂ 1)) n.0 k.0, cc)
+      (two (λ g h. spanned (made s.open_into ◂ 1 ⊛ g ◂ 2 ⊛ h ◂ 1)) n.0 k.0, cc)
   one_stmt b room (s.focus x k z v at) (s.focus w l y u bt) r q p o h i e =
       let n = one_name x w (t.keyword word.As ∷ t.keyword word.Tracked ∷ t.sign mark.OpenParen ∷ name_then k (t.sign mark.CloseParen ∷ name_then z (block_then v r))) (t.keyword word.As ∷ t.keyword word.Tracked ∷ t.sign mark.OpenParen ∷ name_then l (t.sign mark.CloseParen ∷ name_then y (block_then u q))) tt tt tt tt cc in
       let m = one_name k l (t.sign mark.CloseParen ∷ name_then z (block_then v r)) (t.sign mark.CloseParen ∷ name_then y (block_then u q)) tt tt tt tt cc in

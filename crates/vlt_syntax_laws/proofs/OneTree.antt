@@ -6,25 +6,25 @@ use Rattle.vlt_lexer.specs.Reading.{Lexeme}
 use Rattle.vlt_syntax.specs.Tokens as t
 use Rattle.vlt_syntax.specs.Tokens.{Token}
 use Rattle.vlt_syntax.specs.Tree as s
-use Rattle.vlt_syntax.specs.Tree.{Name, Ty, States, KeyStates, HeaderParam, Field, Case, Entry, Outcome, Parameter, Head, Decl, Tree}
-use Rattle.vlt_syntax.specs.Lists.{each_then, enclosed_then, listed_then, Each, IsSome}
-use Rattle.vlt_syntax.specs.Spelling.{name_then, marked_name_then, states_then, at_states_then, key_states_then, ty_then, header_param_then, header_then, field_then, release_then, case_then, entry_then, outcome_then, parameter_then, clause_then, head_then, block_then, decl_then, spelling}
-use Rattle.vlt_syntax.specs.Grammar.{Bounds, IsStates, IsKeyStates, IsTy, IsField, IsCase, IsEntry, IsOutcome, IsParameter, IsHead, IsDecl, IsTree, IsPlacedTreeOf, language}
-use Rattle.vlt_syntax.specs.Places.{made, ◌◂◌, ◌⊛◌, spanned, cons, each_at, listed_at, enclosed_at, marked_at, name_at, key_states_at, ty_at, header_param_at, field_at, release_at, case_at, entry_at, outcome_at, parameter_at, clause_at, head_at, decl_at, tree_at, span_in}
+use Rattle.vlt_syntax.specs.Tree.{Name, Ty, States, KeyStates, HeaderKey, Field, Case, Entry, ResultType, Parameter, Head, Decl, Tree}
+use Rattle.vlt_syntax.specs.Lists.{each_then, enclosed_then, listed_then, Each, IsFilled}
+use Rattle.vlt_syntax.specs.Spelling.{name_then, marked_name_then, states_then, at_states_then, key_states_then, ty_then, header_key_then, header_then, field_then, release_then, case_then, entry_then, result_type_then, parameter_then, clause_then, head_then, block_then, decl_then, spelling}
+use Rattle.vlt_syntax.specs.Grammar.{Bounds, IsStates, IsKeyStates, IsTy, IsField, IsCase, IsEntry, IsResultType, IsParameter, IsHead, IsDecl, IsTree, IsPlacedTreeOf, language}
+use Rattle.vlt_syntax.specs.Places.{made, ◌◂◌, ◌⊛◌, spanned, cons, each_at, listed_at, enclosed_at, marked_at, name_at, key_states_at, ty_at, header_key_at, field_at, release_at, case_at, entry_at, result_type_at, parameter_at, clause_at, head_at, decl_at, tree_at, span_in}
 use Rattle.vlt_syntax_laws.proofs.OneType.{two, three, Same, One, NoSign, Anything, all_any, EndsType, one_some, one_listed, one_enclosed, one_name, one_case_name, one_names, one_marked_name, one_states, one_at_states, one_key_states, one_ty}
 use Rattle.vlt_syntax_laws.proofs.OneStmt.{one_block}
 
 -- ---- parts of types' declarations
 
-one_header_param : One header_param_at header_param_then Anything (NoSign mark.Colon)
-one_header_param x y r q p o h i e =
+one_header_key : One header_key_at header_key_then Anything (NoSign mark.Colon)
+one_header_key x y r q p o h i e =
     let a = one_name x.key y.key (marked_name_then mark.Colon x.key_type r) (marked_name_then mark.Colon y.key_type q) tt tt tt tt e in
     let b = one_marked_name mark.Colon x.key_type y.key_type r q h i a.1 in
-    (two (λ f g. made (λ key key_type. let z : HeaderParam = record { key = key; key_type = key_type } in z) ⊛ f ⊛ g) a.0 b.0, b.1)
+    (two (λ f g. made (λ key key_type. let z : HeaderKey = record { key = key; key_type = key_type } in z) ⊛ f ⊛ g) a.0 b.0, b.1)
 
-one_header : (xs ys : List HeaderParam) (r q : List Token) → NoSign mark.Less r → NoSign mark.Less q → header_then xs r ≡ header_then ys q → Same (enclosed_at header_param_at) xs ys r q
+one_header : (xs ys : List HeaderKey) (r q : List Token) → NoSign mark.Less r → NoSign mark.Less q → header_then xs r ≡ header_then ys q → Same (enclosed_at header_key_at) xs ys r q
 one_header xs ys r q h i e =
-    one_enclosed header_param_at header_param_then Anything (NoSign mark.Colon) mark.Less mark.Greater one_header_param (λ c k f. cc) (λ c k f. cc) (λ c. cc) xs ys r q (all_any xs) (all_any ys) h i e
+    one_enclosed header_key_at header_key_then Anything (NoSign mark.Colon) mark.Less mark.Greater one_header_key (λ c k f. cc) (λ c k f. cc) (λ c. cc) xs ys r q (all_any xs) (all_any ys) h i e
 
 one_field : One field_at field_then IsField Anything
 one_field x y r q p o h i e =
@@ -40,16 +40,16 @@ tail x r = release_then x (t.sign mark.CloseBrace ∷ r)
 no_field_release : (y : Ty) (c d : List Token) → ty_then y c ≡ t.keyword word.Release ∷ d → ⊥
 no_field_release (s.int at) c d e = cc
 no_field_release (s.bool at) c d e = cc
-no_field_release (s.keyed k m at) c d e = cc
-no_field_release (s.tracked ss m at) c d e = cc
+no_field_release (s.tracked k m at) c d e = cc
+no_field_release (s.owning ss m at) c d e = cc
 no_field_release (s.guarded k m) c d e = cc
 no_field_release (s.plain m) c d e = cc
 
 no_field_brace : (y : Ty) (c d : List Token) → ty_then y c ≡ t.sign mark.CloseBrace ∷ d → ⊥
 no_field_brace (s.int at) c d e = cc
 no_field_brace (s.bool at) c d e = cc
-no_field_brace (s.keyed k m at) c d e = cc
-no_field_brace (s.tracked ss m at) c d e = cc
+no_field_brace (s.tracked k m at) c d e = cc
+no_field_brace (s.owning ss m at) c d e = cc
 no_field_brace (s.guarded k m) c d e = cc
 no_field_brace (s.plain m) c d e = cc
 
@@ -113,21 +113,21 @@ one_entry (s.held x) (s.changed l c d) r q p o h i e = absurd (held_apart x.stat
 one_entry (s.changed k a b) (s.held y) r q p o h i e = absurd (held_apart y.states a a b q r o p.0 i cc)
 one_entry x y r q p o h i e = absurd cc
 
-one_outcome : One outcome_at outcome_then IsOutcome EndsType
-one_outcome (s.void at) (s.void bt) r q p o h i e = (refl, cc)
-one_outcome (s.value x) (s.value y) r q p o h i e = let a = one_ty x y r q p o h i e in (ap (λ f. made s.value ⊛ f) a.0, a.1)
-one_outcome (s.void at) (s.value (s.int bt)) r q p o h i e = absurd cc
-one_outcome (s.void at) (s.value (s.bool bt)) r q p o h i e = absurd cc
-one_outcome (s.void at) (s.value (s.keyed k n bt)) r q p o h i e = absurd cc
-one_outcome (s.void at) (s.value (s.tracked x n bt)) r q p o h i e = absurd cc
-one_outcome (s.void at) (s.value (s.guarded k n)) r q p o h i e = absurd cc
-one_outcome (s.void at) (s.value (s.plain n)) r q p o h i e = absurd cc
-one_outcome (s.value (s.int bt)) (s.void at) r q p o h i e = absurd cc
-one_outcome (s.value (s.bool bt)) (s.void at) r q p o h i e = absurd cc
-one_outcome (s.value (s.keyed k n bt)) (s.void at) r q p o h i e = absurd cc
-one_outcome (s.value (s.tracked x n bt)) (s.void at) r q p o h i e = absurd cc
-one_outcome (s.value (s.guarded k n)) (s.void at) r q p o h i e = absurd cc
-one_outcome (s.value (s.plain n)) (s.void at) r q p o h i e = absurd cc
+one_result_type : One result_type_at result_type_then IsResultType EndsType
+one_result_type (s.void at) (s.void bt) r q p o h i e = (refl, cc)
+one_result_type (s.value x) (s.value y) r q p o h i e = let a = one_ty x y r q p o h i e in (ap (λ f. made s.value ⊛ f) a.0, a.1)
+one_result_type (s.void at) (s.value (s.int bt)) r q p o h i e = absurd cc
+one_result_type (s.void at) (s.value (s.bool bt)) r q p o h i e = absurd cc
+one_result_type (s.void at) (s.value (s.tracked k n bt)) r q p o h i e = absurd cc
+one_result_type (s.void at) (s.value (s.owning x n bt)) r q p o h i e = absurd cc
+one_result_type (s.void at) (s.value (s.guarded k n)) r q p o h i e = absurd cc
+one_result_type (s.void at) (s.value (s.plain n)) r q p o h i e = absurd cc
+one_result_type (s.value (s.int bt)) (s.void at) r q p o h i e = absurd cc
+one_result_type (s.value (s.bool bt)) (s.void at) r q p o h i e = absurd cc
+one_result_type (s.value (s.tracked k n bt)) (s.void at) r q p o h i e = absurd cc
+one_result_type (s.value (s.owning x n bt)) (s.void at) r q p o h i e = absurd cc
+one_result_type (s.value (s.guarded k n)) (s.void at) r q p o h i e = absurd cc
+one_result_type (s.value (s.plain n)) (s.void at) r q p o h i e = absurd cc
 
 one_parameter : One parameter_at parameter_then IsParameter Anything
 one_parameter x y r q p o h i e =
@@ -138,8 +138,8 @@ one_parameter x y r q p o h i e =
 no_closing : (y : Ty) (c : List Token) → NoSign mark.CloseParen (ty_then y c)
 no_closing (s.int at) c d e = cc
 no_closing (s.bool at) c d e = cc
-no_closing (s.keyed k m at) c d e = cc
-no_closing (s.tracked ss m at) c d e = cc
+no_closing (s.tracked k m at) c d e = cc
+no_closing (s.owning ss m at) c d e = cc
 no_closing (s.guarded k m) c d e = cc
 no_closing (s.plain m) c d e = cc
 
@@ -158,17 +158,17 @@ one_clause (Some x) (Some y) r q p o h i e =
     let a = one_listed entry_at entry_then IsEntry EndsEntry mark.CloseBracket one_entry (λ c. ((λ k f. cc), (λ k f. cc))) (λ c. ((λ k f. cc), (λ k f. cc))) (λ c. cc) (λ x r p. no_bracket x r) x y r q p o cc in
     (ap (λ f. made (λ z. Some z) ◂ 1 ⊛ f) a.0, a.1)
 
-abbrev behind_outcome : Head → List Token → List Token
-behind_outcome h r = name_then h.name (t.sign mark.OpenParen ∷ listed_then parameter_then mark.CloseParen h.parameters (clause_then h.clause r))
+abbrev behind_result_type : Head → List Token → List Token
+behind_result_type h r = name_then h.name (t.sign mark.OpenParen ∷ listed_then parameter_then mark.CloseParen h.parameters (clause_then h.clause r))
 
 one_head : (b : Bounds) (x y : Head) (r q : List Token) → IsHead b x → IsHead b y → NoSign mark.OpenBracket r → NoSign mark.OpenBracket q → head_then x r ≡ head_then y q → Same head_at x y r q
 one_head b x y r q p o h i e =
-    let a = one_outcome x.outcome y.outcome (behind_outcome x r) (behind_outcome y q) p.outcome o.outcome ((λ c f. cc), (λ c f. cc)) ((λ c f. cc), (λ c f. cc)) e in
+    let a = one_result_type x.result_type y.result_type (behind_result_type x r) (behind_result_type y q) p.result_type o.result_type ((λ c f. cc), (λ c f. cc)) ((λ c f. cc), (λ c f. cc)) e in
     let n = one_name x.name y.name (t.sign mark.OpenParen ∷ listed_then parameter_then mark.CloseParen x.parameters (clause_then x.clause r)) (t.sign mark.OpenParen ∷ listed_then parameter_then mark.CloseParen y.parameters (clause_then y.clause q)) tt tt tt tt a.1 in
     let m = one_listed parameter_at parameter_then IsParameter Anything mark.CloseParen one_parameter (λ c. tt) (λ c. tt) (λ c. cc) (λ z u g. no_closing z.ty _) x.parameters y.parameters (clause_then x.clause r) (clause_then y.clause q) p.parameters o.parameters cc in
     let k = one_clause x.clause y.clause r q p.clause o.clause h i m.1 in (
-      three (λ f g h. spanned (made (λ outcome name parameters clause at. let z : Head = record { outcome = outcome; name = name; parameters = parameters; clause = clause; at = at } in z) ⊛ f ⊛ g ◂ 1 ⊛ h ⊛ clause_at x.clause)) a.0 n.0 m.0
-          ∙ ap (λ h. spanned (made (λ outcome name parameters clause at. let z : Head = record { outcome = outcome; name = name; parameters = parameters; clause = clause; at = at } in z) ⊛ outcome_at y.outcome ⊛ name_at y.name ◂ 1 ⊛ listed_at parameter_at y.parameters ⊛ h)) k.0,
+      three (λ f g h. spanned (made (λ result_type name parameters clause at. let z : Head = record { result_type = result_type; name = name; parameters = parameters; clause = clause; at = at } in z) ⊛ f ⊛ g ◂ 1 ⊛ h ⊛ clause_at x.clause)) a.0 n.0 m.0
+          ∙ ap (λ h. spanned (made (λ result_type name parameters clause at. let z : Head = record { result_type = result_type; name = name; parameters = parameters; clause = clause; at = at } in z) ⊛ result_type_at y.result_type ⊛ name_at y.name ◂ 1 ⊛ listed_at parameter_at y.parameters ⊛ h)) k.0,
       k.1,
     )
 
@@ -192,14 +192,14 @@ index_decl (s.variant n ps cs at) = 3
 index_decl (s.extern h at) = 4
 index_decl (s.function h b at) = 5
 
-outcome_class : (x : Outcome) (r : List Token) → class_decl (outcome_then x r) ≡ 5
-outcome_class (s.void at) r = refl
-outcome_class (s.value (s.int at)) r = refl
-outcome_class (s.value (s.bool at)) r = refl
-outcome_class (s.value (s.keyed k m at)) r = refl
-outcome_class (s.value (s.tracked ss m at)) r = refl
-outcome_class (s.value (s.guarded k m)) r = refl
-outcome_class (s.value (s.plain m)) r = refl
+result_type_class : (x : ResultType) (r : List Token) → class_decl (result_type_then x r) ≡ 5
+result_type_class (s.void at) r = refl
+result_type_class (s.value (s.int at)) r = refl
+result_type_class (s.value (s.bool at)) r = refl
+result_type_class (s.value (s.tracked k m at)) r = refl
+result_type_class (s.value (s.owning ss m at)) r = refl
+result_type_class (s.value (s.guarded k m)) r = refl
+result_type_class (s.value (s.plain m)) r = refl
 
 decl_class : (x : Decl) (r : List Token) → class_decl (decl_then x r) ≡ index_decl x
 decl_class (s.stateset n ss at) r = refl
@@ -207,13 +207,13 @@ decl_class (s.abstract n ss at) r = refl
 decl_class (s.struct n ps ss fs k at) r = refl
 decl_class (s.variant n ps cs at) r = refl
 decl_class (s.extern h at) r = refl
-decl_class (s.function h b at) r = outcome_class h.outcome _
+decl_class (s.function h b at) r = result_type_class h.result_type _
 
 no_less : (x : Option Name) (m : List Token) → NoSign mark.Less (marked_name_then mark.At x (t.sign mark.OpenBrace ∷ m))
 no_less None m c e = cc
 no_less (Some x) m c e = cc
 
-one_cases : (b : Bounds) (xs ys : List Case) (r q : List Token) → IsSome xs → IsSome ys → Each (IsCase b) xs → Each (IsCase b) ys → listed_then case_then mark.CloseBrace xs r ≡ listed_then case_then mark.CloseBrace ys q → Same (listed_at case_at) xs ys r q
+one_cases : (b : Bounds) (xs ys : List Case) (r q : List Token) → IsFilled xs → IsFilled ys → Each (IsCase b) xs → Each (IsCase b) ys → listed_then case_then mark.CloseBrace xs r ≡ listed_then case_then mark.CloseBrace ys q → Same (listed_at case_at) xs ys r q
 one_cases b [] ys r q some others p o e = absurd some
 one_cases b (x ∷ xs) [] r q some others p o e = absurd others
 one_cases b (x ∷ xs) (y ∷ ys) r q some others p o e =
@@ -237,7 +237,7 @@ one_decl b (s.struct n ps x fs v at) (s.struct m os y gs u bt) r q p o h i e =
     let l = one_marked_name mark.At x y inside other (λ c f. cc) (λ c f. cc) k.1 in
     let w = one_fields fs gs v u r q p.1 o.1 p.3 o.3 cc in (
       three (λ f g h. spanned (made s.struct ◂ 1 ⊛ f ⊛ g ⊛ h ◂ 1 ⊛ each_at field_at fs ⊛ release_at v ◂ 1)) a.0 k.0 l.0
-          ∙ two (λ f g. spanned (made s.struct ◂ 1 ⊛ name_at m ⊛ enclosed_at header_param_at os ⊛ marked_at name_at y ◂ 1 ⊛ f ⊛ g ◂ 1)) w.0 w.1.0,
+          ∙ two (λ f g. spanned (made s.struct ◂ 1 ⊛ name_at m ⊛ enclosed_at header_key_at os ⊛ marked_at name_at y ◂ 1 ⊛ f ⊛ g ◂ 1)) w.0 w.1.0,
       w.1.1,
     )
 one_decl b (s.variant n ps cs at) (s.variant m os ds bt) r q p o h i e =

@@ -6,7 +6,7 @@ use Rattle.vlt_syntax.specs.Tokens as t
 use Rattle.vlt_syntax.specs.Tokens.{Token}
 use Rattle.vlt_syntax.specs.Tree as s
 use Rattle.vlt_syntax.specs.Tree.{Name, States, KeyStates, Named, Ty}
-use Rattle.vlt_syntax.specs.Lists.{further_then, listed_then, enclosed_then, Each, IsSome}
+use Rattle.vlt_syntax.specs.Lists.{further_then, listed_then, enclosed_then, Each, IsFilled}
 use Rattle.vlt_syntax.specs.Spelling.{name_then, case_name_then, marked_name_then, states_then, at_states_then, key_states_then, named_then, ty_then}
 use Rattle.vlt_syntax.specs.Grammar.{IsStates, IsKeyStates, IsTy}
 use Rattle.vlt_syntax.specs.Places.{Placing, made, ◌◂◌, ◌⊛◌, spanned, cons, further_at, listed_at, enclosed_at, marked_at, name_at, states_at, key_states_at, named_at, ty_at}
@@ -101,7 +101,7 @@ one_name n k r q p o h i e = let texts : n.text ≡ k.text = cc in (same_text n.
 pub one_case_name : One name_at case_name_then Anything Anything
 one_case_name n k r q p o h i e = let texts : n.text ≡ k.text = cc in (same_text n.text k.text texts, cc)
 
-pub one_names : (m : Mark) → NoComma m → (xs ys : List Name) (r q : List Token) → IsSome xs → IsSome ys → listed_then name_then m xs r ≡ listed_then name_then m ys q → Same (listed_at name_at) xs ys r q
+pub one_names : (m : Mark) → NoComma m → (xs ys : List Name) (r q : List Token) → IsFilled xs → IsFilled ys → listed_then name_then m xs r ≡ listed_then name_then m ys q → Same (listed_at name_at) xs ys r q
 one_names m no_comma [] ys r q p o e = absurd p
 one_names m no_comma (x ∷ xs) [] r q p o e = absurd o
 one_names m no_comma (x ∷ xs) (y ∷ ys) r q p o e =
@@ -155,14 +155,14 @@ apart (n ∷ ns) r q h e = cc
 pub one_ty : One ty_at ty_then IsTy EndsType
 one_ty (s.int at) (s.int bt) r q p o h i e = (refl, cc)
 one_ty (s.bool at) (s.bool bt) r q p o h i e = (refl, cc)
-one_ty (s.keyed k n at) (s.keyed l m bt) r q p o h i e =
+one_ty (s.tracked k n at) (s.tracked l m bt) r q p o h i e =
     let a = one_name k l (t.sign mark.CloseParen ∷ named_then n r) (t.sign mark.CloseParen ∷ named_then m q) tt tt tt tt cc in
     let b = one_named n m r q tt tt h.0 i.0 cc in
-    (two (λ f g. spanned (made s.keyed ◂ 2 ⊛ f ◂ 1 ⊛ g)) a.0 b.0, b.1)
-one_ty (s.tracked x n at) (s.tracked y m bt) r q p o h i e =
+    (two (λ f g. spanned (made s.tracked ◂ 2 ⊛ f ◂ 1 ⊛ g)) a.0 b.0, b.1)
+one_ty (s.owning x n at) (s.owning y m bt) r q p o h i e =
     let a = one_at_states x y (named_then n r) (named_then m q) p o (λ c f. cc) (λ c f. cc) cc in
     let b = one_named n m r q tt tt h.0 i.0 a.1 in
-    (two (λ f g. spanned (made s.tracked ◂ 1 ⊛ f ⊛ g)) a.0 b.0, b.1)
+    (two (λ f g. spanned (made s.owning ◂ 1 ⊛ f ⊛ g)) a.0 b.0, b.1)
 one_ty (s.guarded k n) (s.guarded l m) r q p o h i e =
     let a = one_name k l (t.sign mark.Colon ∷ named_then n r) (t.sign mark.Colon ∷ named_then m q) tt tt tt tt e in
     let b = one_named n m r q tt tt h.0 i.0 cc in
@@ -170,8 +170,8 @@ one_ty (s.guarded k n) (s.guarded l m) r q p o h i e =
 one_ty (s.plain n) (s.plain m) r q p o h i e = let b = one_named n m r q tt tt h.0 i.0 e in (ap (λ f. made s.plain ⊛ f) b.0, b.1)
 one_ty (s.guarded k n) (s.plain m) r q p o h i e = absurd (apart m.keys q (named_then n r) i cc)
 one_ty (s.plain m) (s.guarded k n) r q p o h i e = absurd (apart m.keys r (named_then n q) h cc)
-one_ty (s.keyed k n at) (s.tracked None m bt) r q p o h i e = absurd cc
-one_ty (s.keyed k n at) (s.tracked (Some ss) m bt) r q p o h i e = absurd cc
-one_ty (s.tracked None m bt) (s.keyed k n at) r q p o h i e = absurd cc
-one_ty (s.tracked (Some ss) m bt) (s.keyed k n at) r q p o h i e = absurd cc
+one_ty (s.tracked k n at) (s.owning None m bt) r q p o h i e = absurd cc
+one_ty (s.tracked k n at) (s.owning (Some ss) m bt) r q p o h i e = absurd cc
+one_ty (s.owning None m bt) (s.tracked k n at) r q p o h i e = absurd cc
+one_ty (s.owning (Some ss) m bt) (s.tracked k n at) r q p o h i e = absurd cc
 one_ty _ _ r q p o h i e = absurd cc

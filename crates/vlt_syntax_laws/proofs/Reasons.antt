@@ -5,7 +5,7 @@ use Rattle.vlt_lexer.specs.Reading.{Lexeme}
 use Rattle.vlt_syntax.specs.Tokens.{token_from, tokens_in}
 use Rattle.vlt_syntax.specs.Grammar.{language}
 use Rattle.vlt_syntax.specs.Refusals.{unexpected_at, over_limit, ended}
-use Rattle.vlt_syntax.specs.Automaton.{Symbol, Next, to, unexpected, over, step, may_end, Verdict, gone_on, run_over, located_of}
+use Rattle.vlt_automaton.specs.Automaton.{Symbol, Next, to, unexpected, over, step, may_end, Verdict, gone_on, run_over, located_of}
 use Rattle.vlt_syntax_laws.proofs.After.{after, onward}
 
 -- the automaton has taken the tokens before one of this number, and has this stack there

@@ -1,4 +1,4 @@
--- The machine takes statements and blocks.
+-- The automaton takes statements and blocks.
 use Rattle.std.proofs.Common.{◌≡◌, ℕ, zero, suc, ◌-◌, ◌≤◌, Bool, true, false, if◌then◌else◌, nat_lt, List, [], ◌∷◌, Option, Some, None, refl, sym, subst, ◌∙◌, arith}
 use Rattle.vlt_ops.specs.declared.Op.{Op}
 use Rattle.vlt_ops.specs.declared.Op.TheVariants as op
@@ -11,7 +11,7 @@ use Rattle.vlt_syntax.specs.Tree.{Name, Named, Ty, Expr, Init, Right, Returned, 
 use Rattle.vlt_syntax.specs.Lists.{Each, further_then, listed_then, enclosed_then}
 use Rattle.vlt_syntax.specs.Spelling.{operator_of, name_then, expr_then, ty_then, right_then, init_then, sign_of, returned_then, stmt_then, block_then, else_then, stmts_then, arms_then}
 use Rattle.vlt_syntax.specs.Grammar.{IsExpr, IsInit, IsTy, IsRight, IsReturned, IsStmt, IsBlock, IsIf, IsElse, AreStmts, AreArms, IsSomeArm, Bounds, level}
-use Rattle.vlt_syntax.specs.Automaton.{Symbol, an_expr, an_init, a_name, thing, further, listed, enclosed, sign, name, named, right, returned, block, stmts, otherwise, arm, arms, behind_stmt_name, behind_if, keyword, enter, take, Reaction, refuse, followed, settled, operand, level_from, right_of, lowest, climb_by, whole_expr, end_expr, step_behind}
+use Rattle.vlt_automaton.specs.Automaton.{Symbol, an_expr, an_init, a_name, thing, further, listed, enclosed, sign, name, named, right, returned, block, stmts, otherwise, arm, arms, behind_stmt_name, behind_if, keyword, enter, take, Reaction, refuse, followed, settled, operand, level_from, right_of, lowest, climb_by, whole_expr, end_expr, step_behind}
 use Rattle.vlt_syntax_laws.proofs.After.{after, onward}
 use Rattle.vlt_syntax_laws.proofs.Takes.{Takes, take_some, take_names, take_named, keys_there, take_states}
 use Rattle.vlt_syntax_laws.proofs.Exprs.{one_deep, take_expr, begins, as_listed, IsStart}
@@ -39,8 +39,8 @@ no_else (x ∷ xs) = is_no_else x
 no_else_ty : (x : Ty) (rest : List Token) → no_else (ty_then x rest) ≡ true
 no_else_ty (s.int at) rest = refl
 no_else_ty (s.bool at) rest = refl
-no_else_ty (s.keyed k n at) rest = refl
-no_else_ty (s.tracked ss n at) rest = refl
+no_else_ty (s.tracked k n at) rest = refl
+no_else_ty (s.owning ss n at) rest = refl
 no_else_ty (s.guarded k n) rest = refl
 no_else_ty (s.plain n) rest = refl
 
@@ -82,9 +82,9 @@ TakesReturned extra = (v : Returned) (s : List Symbol) (rest : List Token) → I
 declared_ty : (extra : Bounds) (x : Ty) (room : ℕ) (s : List Symbol) (n : List ℕ) (rest : List Token) → IsTy x → after (wider extra) (ty_then x (t.name n ∷ t.sign mark.Assign ∷ rest)) (stmts room ∷ s) ≡ after (wider extra) rest (right ∷ sign mark.Semicolon ∷ stmts room ∷ s)
 declared_ty extra (s.int at) room s n rest h = refl
 declared_ty extra (s.bool at) room s n rest h = refl
-declared_ty extra (s.keyed k m at) room s n rest h = keys_there extra m.keys _ _ refl
-declared_ty extra (s.tracked None m at) room s n rest h = keys_there extra m.keys _ _ refl
-declared_ty extra (s.tracked (Some ss) m at) room s n rest h = take_states extra ss (named ∷ name ∷ sign mark.Assign ∷ right ∷ sign mark.Semicolon ∷ stmts room ∷ s) _ h ∙ take_named extra m _ _ refl
+declared_ty extra (s.tracked k m at) room s n rest h = keys_there extra m.keys _ _ refl
+declared_ty extra (s.owning None m at) room s n rest h = keys_there extra m.keys _ _ refl
+declared_ty extra (s.owning (Some ss) m at) room s n rest h = take_states extra ss (named ∷ name ∷ sign mark.Assign ∷ right ∷ sign mark.Semicolon ∷ stmts room ∷ s) _ h ∙ take_named extra m _ _ refl
 declared_ty extra (s.guarded k m) room s n rest h = take_named extra m _ _ refl
 declared_ty extra (s.plain m) room s n rest h = plain_stmt m.keys where
   plain_stmt : (ks : List Name) → after (wider extra) (enclosed_then name_then mark.Less mark.Greater ks (t.name n ∷ t.sign mark.Assign ∷ rest)) (behind_stmt_name ∷ stmts room ∷ s) ≡ after (wider extra) rest (right ∷ sign mark.Semicolon ∷ stmts room ∷ s)
@@ -144,7 +144,7 @@ mutual
   take_stmt extra a b (s.release x at) room s rest h n = refl
   take_stmt extra a b (s.become x y at) room s rest h n = refl
   take_stmt extra a b (s.swap x f v at) room s rest h n = refl
-  take_stmt extra a b (s.unpack x vs at) room s rest h n = take_names extra mark.CloseParen vs (sign mark.Semicolon ∷ stmts room ∷ s) _ refl h
+  take_stmt extra a b (s.open_into x vs at) room s rest h n = take_names extra mark.CloseParen vs (sign mark.Semicolon ∷ stmts room ∷ s) _ refl h
   take_stmt extra a b (s.focus x k z body at) room s rest h n =
       rw (entered room (name ∷ keyword word.As ∷ keyword word.Tracked ∷ sign mark.OpenParen ∷ name ∷ sign mark.CloseParen ∷ name ∷ block room ∷ []) (has_room extra body room h))
       (take_block extra a b body room (stmts room ∷ s) rest h)

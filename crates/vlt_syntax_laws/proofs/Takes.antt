@@ -1,17 +1,17 @@
--- The machine takes what a tree spells.
+-- The automaton takes what a tree spells.
 use Rattle.std.proofs.Common.{◌≡◌, Bool, true, false, if◌then◌else◌, List, [], ◌∷◌, ◌++◌, Some, None, refl, ap, ◌∙◌, arith, append_assoc}
 use Rattle.std.proofs.lemmas.Bool.Decides.{nat_tests}
 use Rattle.vlt_lexer.specs.declared.token.Mark.{Mark}
 use Rattle.vlt_lexer.specs.declared.token.Mark.TheVariants as mark
 use Rattle.vlt_syntax.specs.Tokens as t
 use Rattle.vlt_syntax.specs.Tokens.{Token}
-use Rattle.vlt_syntax.specs.Kinds.{same_mark}
+use Rattle.vlt_automaton.specs.Words.{same_mark}
 use Rattle.vlt_syntax.specs.Tree as s
 use Rattle.vlt_syntax.specs.Tree.{Name, States, Named, Ty}
-use Rattle.vlt_syntax.specs.Lists.{further_then, listed_then, enclosed_then, Each, IsSome}
+use Rattle.vlt_syntax.specs.Lists.{further_then, listed_then, enclosed_then, Each, IsFilled}
 use Rattle.vlt_syntax.specs.Spelling.{name_then, states_then, named_then, ty_then}
 use Rattle.vlt_syntax.specs.Grammar.{IsTy, IsStates}
-use Rattle.vlt_syntax.specs.Automaton.{Reaction, take, skip, refuse, exceed, followed, settled, Next, to, Thing, a_name, a_ty, Symbol, thing, further, enclosed, states, named, behind_type_name, name}
+use Rattle.vlt_automaton.specs.Automaton.{Reaction, take, skip, refuse, exceed, followed, settled, Next, to, Thing, a_name, a_ty, Symbol, thing, further, enclosed, states, named, behind_type_name, name}
 use Rattle.vlt_syntax_laws.proofs.After.{after}
 use Rattle.vlt_syntax.specs.Grammar.{Bounds}
 use Rattle.vlt_syntax_laws.proofs.Wider.{wider}
@@ -64,7 +64,7 @@ take_further extra spell k P closing e one last (x ∷ []) s rest h = further_on
 take_further extra spell k P closing e one last (x ∷ y ∷ ys) s rest h = further_one extra k closing s _ e ∙ one x _ _ h.0 ∙ take_further extra spell k P closing e one last (y ∷ ys) s rest h.1
 
 pub take_some : (extra : Bounds) {X : Type 0} (spell : X → List Token → List Token) (k : Thing) (P : X → Type 0) (closing : Mark) → same_mark mark.Comma closing ≡ false → Takes extra spell k P mark.Comma → Takes extra spell k P closing
-    → (xs : List X) (s : List Symbol) (rest : List Token) → IsSome xs → Each P xs → after (wider extra) (listed_then spell closing xs rest) (thing k ∷ further k closing None ∷ s) ≡ after (wider extra) rest s
+    → (xs : List X) (s : List Symbol) (rest : List Token) → IsFilled xs → Each P xs → after (wider extra) (listed_then spell closing xs rest) (thing k ∷ further k closing None ∷ s) ≡ after (wider extra) rest s
 take_some extra spell k P closing e one last [] s rest some h = absurd some
 take_some extra spell k P closing e one last (x ∷ []) s rest some h = last x _ rest h.0 ∙ further_end extra k closing s rest
 take_some extra spell k P closing e one last (x ∷ y ∷ ys) s rest some h = one x _ _ h.0 ∙ take_further extra spell k P closing e one last (y ∷ ys) s rest h.1
@@ -81,7 +81,7 @@ any (n ∷ ns) = (tt, any ns)
 pub name_before : (extra : Bounds) (m : Mark) → Takes extra name_then a_name Any m
 name_before extra m n s rest h = refl
 
-pub take_names : (extra : Bounds) (closing : Mark) (ns : List Name) (s : List Symbol) (rest : List Token) → same_mark mark.Comma closing ≡ false → IsSome ns → after (wider extra) (listed_then name_then closing ns rest) (name ∷ further a_name closing None ∷ s) ≡ after (wider extra) rest s
+pub take_names : (extra : Bounds) (closing : Mark) (ns : List Name) (s : List Symbol) (rest : List Token) → same_mark mark.Comma closing ≡ false → IsFilled ns → after (wider extra) (listed_then name_then closing ns rest) (name ∷ further a_name closing None ∷ s) ≡ after (wider extra) rest s
 take_names extra closing ns s rest e some = take_some extra name_then a_name Any closing e (name_before extra mark.Comma) (name_before extra closing) ns s rest some (any ns)
 
 pub take_states : (extra : Bounds) (ss : States) (s : List Symbol) (rest : List Token) → IsStates ss → after (wider extra) (states_then ss rest) (states ∷ s) ≡ after (wider extra) rest s
@@ -126,8 +126,8 @@ plain_keys extra (n ∷ ns) s rest e = take_names extra mark.Greater (n ∷ ns) 
 pub take_ty : (extra : Bounds) (x : Ty) (s : List Symbol) (rest : List Token) → IsTy x → ends_type rest ≡ true → after (wider extra) (ty_then x rest) (thing a_ty ∷ s) ≡ after (wider extra) rest s
 take_ty extra (s.int at) s rest h e = refl
 take_ty extra (s.bool at) s rest h e = refl
-take_ty extra (s.keyed k n at) s rest h e = keys_there extra n.keys s rest e
-take_ty extra (s.tracked None n at) s rest h e = keys_there extra n.keys s rest e
-take_ty extra (s.tracked (Some ss) n at) s rest h e = take_states extra ss (named ∷ s) (named_then n rest) h ∙ take_named extra n s rest e
+take_ty extra (s.tracked k n at) s rest h e = keys_there extra n.keys s rest e
+take_ty extra (s.owning None n at) s rest h e = keys_there extra n.keys s rest e
+take_ty extra (s.owning (Some ss) n at) s rest h e = take_states extra ss (named ∷ s) (named_then n rest) h ∙ take_named extra n s rest e
 take_ty extra (s.guarded k n) s rest h e = keys_there extra n.keys s rest e
 take_ty extra (s.plain n) s rest h e = plain_keys extra n.keys s rest e

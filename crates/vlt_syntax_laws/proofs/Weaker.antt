@@ -80,7 +80,7 @@ mutual
   stmt b c w m n le (s.release x at) h = tt
   stmt b c w m n le (s.become x t at) h = tt
   stmt b c w m n le (s.swap x f v at) h = tt
-  stmt b c w m n le (s.unpack x vs at) h = h
+  stmt b c w m n le (s.open_into x vs at) h = h
   stmt b c w m n le (s.focus x k z body at) h = block b c w m n le body h
 
   block : (b c : Bounds) → AreWider b c → (m n : ℕ) → m ≤ n → (x : Block) → IsBlock b m x → IsBlock c n x
@@ -106,7 +106,7 @@ case : (b c : Bounds) → AreWider b c → (x : Case) → IsCase b x → IsCase 
 case b c w x h = (h.0, (let p = w.payload in omega arith), h.2)
 
 head : (b c : Bounds) → AreWider b c → (x : Head) → IsHead b x → IsHead c x
-head b c w x h = record { outcome = h.outcome; parameters = h.parameters; few = (let p = w.parameters in let q = h.few in omega arith); clause = h.clause }
+head b c w x h = record { result_type = h.result_type; parameters = h.parameters; few = (let p = w.parameters in let q = h.few in omega arith); clause = h.clause }
 
 decl : (b c : Bounds) → AreWider b c → (x : Decl) → IsDecl b x → IsDecl c x
 decl b c w (s.stateset n ss at) h = (h.0, let p = w.states in omega arith)

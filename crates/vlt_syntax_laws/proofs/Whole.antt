@@ -8,10 +8,10 @@ use Rattle.vlt_base.specs.declared.places.Span.{Span}
 use Rattle.vlt_syntax.specs.Tokens as t
 use Rattle.vlt_syntax.specs.Tokens.{Token}
 use Rattle.vlt_syntax.specs.Tree as s
-use Rattle.vlt_syntax.specs.Tree.{Name, States, KeyStates, Named, Ty, Expr, HeaderParam, Case, Parameter, Entry, Init, Outcome, Stmt, Decl, Head, Block}
+use Rattle.vlt_syntax.specs.Tree.{Name, States, KeyStates, Named, Ty, Expr, HeaderKey, Case, Parameter, Entry, Init, ResultType, Stmt, Decl, Head, Block}
 use Rattle.vlt_syntax.specs.Lists.{Each, further_then}
 use Rattle.vlt_syntax.specs.Spelling.{name_then}
-use Rattle.vlt_syntax.specs.Automaton.{Left, Thing, a_name, a_param, a_ty, a_key, a_case, a_parameter, an_entry, an_expr, an_init, an_outcome, a_simple, a_stmt, a_decl, Symbol, tick, sign, keyword, thing, further, listed, enclosed, marked_name, states, at_states, named, behind_tracked, behind_type_name, operand, operations, behind_name, close_group, end_expr, owner, right, behind_right_name, returned, block, stmts, behind_stmt_name, otherwise, behind_else, arm, arms, entry_states, arrow_states, clause, head, fields, behind_fields, decls, Reaction, take, skip, refuse, exceed, followed, start_thing, less, one_more, reaction, react_further, depth_read, whole_depth}
+use Rattle.vlt_automaton.specs.Automaton.{Left, Thing, a_name, a_param, a_ty, a_key, a_case, a_parameter, an_entry, an_expr, an_init, a_result_type, a_simple, a_stmt, a_decl, Symbol, tick, sign, keyword, thing, further, listed, enclosed, marked_name, states, at_states, named, behind_tracked, behind_type_name, operand, operations, behind_name, close_group, end_expr, owner, right, behind_right_name, returned, block, stmts, behind_stmt_name, otherwise, behind_else, arm, arms, entry_states, arrow_states, clause, head, fields, behind_fields, decls, Reaction, take, skip, refuse, exceed, followed, start_thing, less, one_more, reaction, react_further, depth_read, whole_depth}
 use Rattle.vlt_syntax_laws.proofs.Back.{Rest, Part, Spells, Spelled, SpelledBehind, Completed, Filled, ThingType, IsThing, spell_of, RoomFor, ended, operations_end}
 use Rattle.vlt_syntax_laws.proofs.Choices.{by_sign}
 use Rattle.vlt_syntax.specs.Grammar.{Bounds}
@@ -206,7 +206,7 @@ abbrev a_named : Span → Named
 a_named at = record { name = the_name at []; keys = [] }
 
 abbrev a_head : Span → Head
-a_head at = record { outcome = s.void at; name = the_name at []; parameters = []; clause = None; at = at }
+a_head at = record { result_type = s.void at; name = the_name at []; parameters = []; clause = None; at = at }
 
 has_thing : (extra : Bounds) (at : Span) (k : Thing) (K : Rest) (c : List Token) → K 0 c → Has (Part extra 0 (thing k) K)
 has_thing extra at a_name K c h = (_, (the_name at [], c, tt, refl, h))
@@ -218,7 +218,7 @@ has_thing extra at a_parameter K c h = (_, (record { ty = s.int at; name = the_n
 has_thing extra at an_entry K c h = (_, (s.held (record { key = the_name at []; states = None }), c, tt, refl, h))
 has_thing extra at an_expr K c h = (_, (s.true at, c, (tt, omega arith), refl, h))
 has_thing extra at an_init K c h = (_, (record { field = the_name at []; value = s.true at }, c, (tt, omega arith), refl, h))
-has_thing extra at an_outcome K c h = (_, (s.void at, c, tt, refl, h))
+has_thing extra at a_result_type K c h = (_, (s.void at, c, tt, refl, h))
 has_thing extra at a_simple K c h = (_, (s.break at, c, tt, refl, h))
 has_thing extra at (a_stmt room) K c h = (_, (s.break at, c, tt, refl, h))
 has_thing extra at a_decl K c h = (_, (s.abstract (the_name at []) None at, c, tt, refl, h))
@@ -235,7 +235,7 @@ has extra at d (marked_name m) K k = (_, (None, (k 0).0, tt, refl, (k 0).1))
 has extra at d states K k = (_, (s.one (the_name at []), (k 0).0, tt, refl, (k 0).1))
 has extra at d at_states K k = (_, (None, (k 0).0, tt, refl, (k 0).1))
 has extra at d named K k = (_, (a_named at, (k 0).0, tt, refl, (k 0).1))
-has extra at d behind_tracked K k = (t.name [] ∷ (k 0).0, (s.tracked None (a_named at) at, (k 0).0, tt, refl, (k 0).1))
+has extra at d behind_tracked K k = (t.name [] ∷ (k 0).0, (s.owning None (a_named at) at, (k 0).0, tt, refl, (k 0).1))
 has extra at d behind_type_name K k = ((k 0).0, λ n. (s.plain (record { name = the_name at n; keys = [] }), (k 0).0, tt, refl, (k 0).1))
 has extra at d (operand room fs) K k = (
   t.keyword word.True ∷ (k (whole_depth 1 fs)).0,
@@ -260,7 +260,7 @@ has extra at d (arms room) K k = (t.sign mark.CloseBrace ∷ (k 0).0, λ r. (s.n
 has extra at d entry_states K k = ((k 0).0, λ n. (s.held (record { key = the_name at n; states = None }), (k 0).0, tt, refl, (k 0).1))
 has extra at d arrow_states K k = ((k 0).0, λ n ss i. (s.held (record { key = the_name at n; states = Some ss }), (k 0).0, i, refl, (k 0).1))
 has extra at d clause K k = (_, (None, (k 0).0, tt, refl, (k 0).1))
-has extra at d head K k = (_, (a_head at, (k 0).0, record { outcome = tt; parameters = tt; few = omega arith; clause = tt }, refl, (k 0).1))
+has extra at d head K k = (_, (a_head at, (k 0).0, record { result_type = tt; parameters = tt; few = omega arith; clause = tt }, refl, (k 0).1))
 has extra at d (fields left) K k = (_, ([], None, (k 0).0, tt, tt, omega arith, refl, (k 0).1))
 has extra at d behind_fields K k = (_, (None, (k 0).0, tt, refl, (k 0).1))
 has extra at d (decls left) K k = (_, ([], (k 0).0, tt, omega arith, refl, (k 0).1))

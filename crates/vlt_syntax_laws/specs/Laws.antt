@@ -6,7 +6,7 @@ use Rattle.vlt_syntax.specs.Tree.{Tree}
 use Rattle.vlt_syntax.specs.Spelling.{spelling}
 use Rattle.vlt_syntax.specs.Grammar.{IsTree, IsPlacedTreeOf, language}
 use Rattle.vlt_syntax.specs.Refusals.{Refusal, IsRefusal}
-use Rattle.vlt_syntax.specs.Automaton.{Verdict, run, start, located_of}
+use Rattle.vlt_automaton.specs.Automaton.{Verdict, run, start, located_of}
 
 -- a text has at most one tree, places included
 abbrev pub HasOneTree : List Lexeme → Type 0

@@ -5,19 +5,19 @@ use Rattle.vlt_lexer.specs.Reading.{Lexeme}
 use Rattle.vlt_lexer.specs.Text.{IsTokensOf}
 use Rattle.vlt_syntax.specs.Tokens.{Token, tokens_in}
 use Rattle.vlt_syntax.specs.Tree as s
-use Rattle.vlt_syntax.specs.Tree.{States, HeaderParam, Field, Case, Entry, Outcome, Parameter, Head, Decl, Tree}
+use Rattle.vlt_syntax.specs.Tree.{States, HeaderKey, Field, Case, Entry, ResultType, Parameter, Head, Decl, Tree}
 use Rattle.vlt_syntax.specs.Lists.{Each, each_then, further_then, listed_then}
-use Rattle.vlt_syntax.specs.Spelling.{name_then, ty_then, key_states_then, header_param_then, header_then, field_then, release_then, case_then, entry_then, outcome_then, parameter_then, clause_then, head_then, decl_then, spelling}
+use Rattle.vlt_syntax.specs.Spelling.{name_then, ty_then, key_states_then, header_key_then, header_then, field_then, release_then, case_then, entry_then, result_type_then, parameter_then, clause_then, head_then, decl_then, spelling}
 use Rattle.vlt_ticks_laws.specs.Ticks.{IsTick, HasTicks}
 use Rattle.vlt_ticks_laws.proofs.Read.{AreMarked, marked_text}
 use Rattle.vlt_ticks_laws.proofs.Lists.{Leaves, behind_each, behind_listed, behind_enclosed, behind_name, behind_marked_name, behind_states, behind_at_states, behind_key_states, behind_ty}
 use Rattle.vlt_ticks_laws.proofs.Stmts.{behind_block}
 
-behind_header_param : Leaves header_param_then
-behind_header_param p rest h = behind_marked_name _ p.key_type rest h.1
+behind_header_key : Leaves header_key_then
+behind_header_key p rest h = behind_marked_name _ p.key_type rest h.1
 
 behind_header : Leaves header_then
-behind_header ps rest h = behind_enclosed header_param_then behind_header_param _ _ ps rest h
+behind_header ps rest h = behind_enclosed header_key_then behind_header_key _ _ ps rest h
 
 behind_field : Leaves field_then
 behind_field f rest h = (behind_at_states f.states _ (behind_ty f.ty _ h).1).1
@@ -36,9 +36,9 @@ behind_entry (s.taken k at) rest h = behind_key_states k rest h.1
 behind_entry (s.given k at) rest h = behind_key_states k rest h.1
 behind_entry (s.fresh k at) rest h = behind_key_states k rest h.1
 
-behind_outcome : Leaves outcome_then
-behind_outcome (s.void at) rest h = h.1
-behind_outcome (s.value t) rest h = behind_ty t rest h
+behind_result_type : Leaves result_type_then
+behind_result_type (s.void at) rest h = h.1
+behind_result_type (s.value t) rest h = behind_ty t rest h
 
 behind_parameter : Leaves parameter_then
 behind_parameter p rest h = (behind_ty p.ty _ h).1
@@ -49,7 +49,7 @@ behind_clause (Some es) rest h = behind_listed entry_then behind_entry _ es rest
 
 behind_head : Leaves head_then
 behind_head h rest m =
-    behind_clause h.clause rest (behind_listed parameter_then behind_parameter _ h.parameters _ (behind_outcome h.outcome _ m).1.1)
+    behind_clause h.clause rest (behind_listed parameter_then behind_parameter _ h.parameters _ (behind_result_type h.result_type _ m).1.1)
 
 behind_decl : Leaves decl_then
 behind_decl (s.stateset n ss at) rest h = behind_listed name_then behind_name _ ss rest h.1.1.1

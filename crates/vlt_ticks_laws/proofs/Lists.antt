@@ -56,7 +56,7 @@ behind_named n rest h = behind_enclosed name_then behind_name _ _ n.keys rest h.
 pub behind_ty : Leaves ty_then
 behind_ty (s.int at) rest h = h.1
 behind_ty (s.bool at) rest h = h.1
-behind_ty (s.keyed k n at) rest h = behind_named n rest h.1.1.1.1
-behind_ty (s.tracked ss n at) rest h = behind_named n rest (behind_at_states ss _ h.1)
+behind_ty (s.tracked k n at) rest h = behind_named n rest h.1.1.1.1
+behind_ty (s.owning ss n at) rest h = behind_named n rest (behind_at_states ss _ h.1)
 behind_ty (s.guarded k n) rest h = behind_named n rest h.1.1
 behind_ty (s.plain n) rest h = behind_named n rest h

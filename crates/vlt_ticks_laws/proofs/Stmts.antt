@@ -22,7 +22,7 @@ mutual
   behind_stmt (s.release x at) rest h = h.1.1.1
   behind_stmt (s.become x t at) rest h = h.1.1.1.1.1
   behind_stmt (s.swap x f v at) rest h = h.1.1.1.1.1.1.1
-  behind_stmt (s.unpack x vs at) rest h = (behind_listed name_then behind_name _ vs _ h.1.1.1.1).1
+  behind_stmt (s.open_into x vs at) rest h = (behind_listed name_then behind_name _ vs _ h.1.1.1.1).1
   behind_stmt (s.focus x k z b at) rest h = behind_block b rest h.1.1.1.1.1.1.1.1
 
   pub behind_block : Leaves block_then

@@ -140,15 +140,15 @@ module _ (kinds : Kinds) (scope now : Scope) (ty : Ty) (x : Name) (right : Right
 
 declare_binds : (kinds : Kinds) (scope : Scope) (ty : s.Ty) (x : Name) (right : Right) → BindsKeys scope (declare_became kinds scope ty x right).1
 unfolding declare_became keyed_became hidden_became declared_became with_bound_key declared_ty
-declare_binds kinds scope (s.keyed key n at) x right = by (is_known_key scope key)
+declare_binds kinds scope (s.tracked key n at) x right = by (is_known_key scope key)
   where
-    by : (b : Bool) → BindsKeys scope (keyed_became kinds (not b) (if b then scope else with_key scope key.text (type_named kinds.file n.name)) (s.keyed key n at) x right).1
+    by : (b : Bool) → BindsKeys scope (keyed_became kinds (not b) (if b then scope else with_key scope key.text (type_named kinds.file n.name)) (s.tracked key n at) x right).1
     by true = typed_binds kinds scope scope _ x right refl (inl refl)
     by false = typed_binds kinds scope (with_key scope key.text (type_named kinds.file n.name)) _ x right refl
         (inr (length_push scope.keys _, ap (λ o. Some (number_of o)) (key_now scope key.text (type_named kinds.file n.name))))
 declare_binds kinds scope (s.int at) x right = typed_binds kinds scope scope _ x right refl (inl refl)
 declare_binds kinds scope (s.bool at) x right = typed_binds kinds scope scope _ x right refl (inl refl)
-declare_binds kinds scope (s.tracked ss n at) x right = typed_binds kinds scope scope _ x right refl (inl refl)
+declare_binds kinds scope (s.owning ss n at) x right = typed_binds kinds scope scope _ x right refl (inl refl)
 declare_binds kinds scope (s.guarded k n) x right = typed_binds kinds scope scope _ x right refl (inl refl)
 declare_binds kinds scope (s.plain n) x right = typed_binds kinds scope scope _ x right refl (inl refl)
 
@@ -179,7 +179,7 @@ plain_binds kinds around scope (s.return r at) = return_binds kinds around scope
 plain_binds kinds around scope (s.release x at) = same_keys scope scope refl
 plain_binds kinds around scope (s.become x n at) = same_keys scope scope refl
 plain_binds kinds around scope (s.swap x f v at) = same_keys scope scope refl
-plain_binds kinds around scope (s.unpack x vs at) = open_binds kinds scope (opened_parts kinds (var_ty scope x.text)) x vs
+plain_binds kinds around scope (s.open_into x vs at) = open_binds kinds scope (opened_parts kinds (var_ty scope x.text)) x vs
 plain_binds kinds around scope (s.block b) = same_keys scope scope refl
 plain_binds kinds around scope (s.choose i) = same_keys scope scope refl
 plain_binds kinds around scope (s.loop e b at) = same_keys scope scope refl

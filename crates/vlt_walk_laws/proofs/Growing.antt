@@ -107,14 +107,14 @@ hidden_grows kinds scope (s.adopt x r at) ty = grows_none scope
 -- the key of a declared type
 bound_grows : (kinds : Kinds) (scope : Scope) (ty : s.Ty) → bound_key_refused kinds scope ty ≡ [] → Grows scope (with_bound_key kinds scope ty)
 unfolding bound_key_refused with_bound_key
-bound_grows kinds scope (s.keyed k n at) none = by (is_known_key scope k) none
+bound_grows kinds scope (s.tracked k n at) none = by (is_known_key scope k) none
   where
     by : (b : Bool) → (if b then [] else new_key_refused kinds scope k) ≡ [] → Grows scope (if b then scope else with_key scope k.text (type_named kinds.file n.name))
     by true none = grows_none scope
     by false none = key_grows scope k.text (type_named kinds.file n.name) (key_free kinds scope k none)
 bound_grows kinds scope (s.int at) none = grows_none scope
 bound_grows kinds scope (s.bool at) none = grows_none scope
-bound_grows kinds scope (s.tracked ss n at) none = grows_none scope
+bound_grows kinds scope (s.owning ss n at) none = grows_none scope
 bound_grows kinds scope (s.guarded k n) none = grows_none scope
 bound_grows kinds scope (s.plain n) none = grows_none scope
 
@@ -158,7 +158,7 @@ plain_grows kinds around scope (s.return r at) none = return_grows kinds around 
 plain_grows kinds around scope (s.release x at) none = grows_none scope
 plain_grows kinds around scope (s.become x n at) none = grows_none scope
 plain_grows kinds around scope (s.swap x f v at) none = grows_none scope
-plain_grows kinds around scope (s.unpack x vs at) none = open_grows kinds scope (opened_parts kinds (var_ty scope x.text)) (var_ty scope x.text) x vs at.from none
+plain_grows kinds around scope (s.open_into x vs at) none = open_grows kinds scope (opened_parts kinds (var_ty scope x.text)) (var_ty scope x.text) x vs at.from none
 plain_grows kinds around scope (s.block b) none = grows_none scope
 plain_grows kinds around scope (s.choose i) none = grows_none scope
 plain_grows kinds around scope (s.loop e b at) none = grows_none scope

@@ -227,7 +227,7 @@ module _ (kinds : Kinds) (p : Program) (f : Func) where
       stmt_keep around scope ids room at found (s.release v z) r g a step e part = plain_kept around scope ids room at found (s.release v z) r refl g a step e part
       stmt_keep around scope ids room at found (s.become v t z) r g a step e part = plain_kept around scope ids room at found (s.become v t z) r refl g a step e part
       stmt_keep around scope ids room at found (s.swap v i w z) r g a step e part = plain_kept around scope ids room at found (s.swap v i w z) r refl g a step e part
-      stmt_keep around scope ids room at found (s.unpack v ws z) r g a step e part = plain_kept around scope ids room at found (s.unpack v ws z) r refl g a step e part
+      stmt_keep around scope ids room at found (s.open_into v ws z) r g a step e part = plain_kept around scope ids room at found (s.open_into v ws z) r refl g a step e part
       stmt_keep around scope ids room at found (s.block body) r g a step e part =
           let u = unless_ok found _ r e in
           let v = then_ok (walk_block kinds around scope body) _ r u.1 in

@@ -58,7 +58,7 @@ module _ (kinds : Kinds) (R : Scope → Scope → Type 0) (rules : IsKept kinds 
     stmt_kept around scope found (s.release v at) r e = plain_kept around scope found (s.release v at) r e
     stmt_kept around scope found (s.become v t at) r e = plain_kept around scope found (s.become v t at) r e
     stmt_kept around scope found (s.swap v g w at) r e = plain_kept around scope found (s.swap v g w at) r e
-    stmt_kept around scope found (s.unpack v ws at) r e = plain_kept around scope found (s.unpack v ws at) r e
+    stmt_kept around scope found (s.open_into v ws at) r e = plain_kept around scope found (s.open_into v ws at) r e
     stmt_kept around scope found (s.block b) r e =
         let u = unless_ok found _ r e in
         let a = then_ok (walk_block kinds around scope b) _ r u.1 in

@@ -10,7 +10,7 @@ use Rattle.vlt_kinds_decls.proofs.cases.check_case_keys.Goals as goal
 pub loop-key-preserved : goal.loop-key-preserved
 loop-key-preserved c = record {
   refused =
-      along_next (d.with_key (map view.header_param_of c.args.params.now)) (d.next_key_refused (file_seen c.args.file.now) (map view.header_param_of c.args.params.now))
+      along_next (d.with_key (map view.header_key_of c.args.params.now)) (d.next_key_refused (file_seen c.args.file.now) (map view.header_key_of c.args.params.now))
       view.key_states_of _ _ _ _ _ _ _ c.loop-key-test.true c.key-item.is c.in_ok-check_next_key.ensures.seen c.in_ok-check_next_key.ensures.refused
       ∙ c.loop-key.invariant.refused;
   small = c.in_ok-check_next_key.ensures.small;

@@ -17,7 +17,7 @@ use Rattle.vlt_kinds_decls.proofs.cases.check_case_keys.Given as goal
 
 abbrev pub invariant-loop-key : goal.invariant-loop-key
 invariant-loop-key l = record {
-  refused : found_along (d.with_key (map view.header_param_of l.params)) (d.next_key_refused (file_seen l.file) (map view.header_param_of l.params)) l.seen (map view.key_states_of (drop l.key-index l.keys)) l.found.least
-      ≡ found_along (d.with_key (map view.header_param_of l.params)) (d.next_key_refused (file_seen l.file) (map view.header_param_of l.params)) [] (map view.key_states_of l.keys) l.initial.found.least;
+  refused : found_along (d.with_key (map view.header_key_of l.params)) (d.next_key_refused (file_seen l.file) (map view.header_key_of l.params)) l.seen (map view.key_states_of (drop l.key-index l.keys)) l.found.least
+      ≡ found_along (d.with_key (map view.header_key_of l.params)) (d.next_key_refused (file_seen l.file) (map view.header_key_of l.params)) [] (map view.key_states_of l.keys) l.initial.found.least;
   small : All (λ i. i < 32) l.seen;
 }

@@ -9,6 +9,6 @@ use Rattle.vlt_kinds_decls.proofs.cases.check_cases.Goals as goal
 
 pub loop-case-preserved : goal.loop-case-preserved
 loop-case-preserved c =
-    found_next (d.case_refused (file_seen c.args.file.now) (map view.header_param_of c.args.params.now)) view.case_of _ _ _ _ _
+    found_next (d.case_refused (file_seen c.args.file.now) (map view.header_key_of c.args.params.now)) view.case_of _ _ _ _ _
     c.loop-case-test.true c.case-item.is c.in_ok-check_case.ensures
     ∙ c.loop-case.invariant

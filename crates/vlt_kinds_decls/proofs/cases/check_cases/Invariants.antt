@@ -16,5 +16,5 @@ use Rattle.vlt_kinds_decls.proofs.cases.check_cases.Given as goal
 
 abbrev pub invariant-loop-case : goal.invariant-loop-case
 invariant-loop-case l =
-    found_each (d.case_refused (file_seen l.file) (map view.header_param_of l.params)) (map view.case_of (drop l.case-index l.cases)) l.found.least
-    ≡ found_each (d.case_refused (file_seen l.file) (map view.header_param_of l.params)) (map view.case_of l.cases) l.initial.found.least
+    found_each (d.case_refused (file_seen l.file) (map view.header_key_of l.params)) (map view.case_of (drop l.case-index l.cases)) l.found.least
+    ≡ found_each (d.case_refused (file_seen l.file) (map view.header_key_of l.params)) (map view.case_of l.cases) l.initial.found.least

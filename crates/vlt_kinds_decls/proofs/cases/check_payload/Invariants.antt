@@ -16,5 +16,5 @@ use Rattle.vlt_kinds_decls.proofs.cases.check_payload.Given as goal
 
 abbrev pub invariant-loop-ty : goal.invariant-loop-ty
 invariant-loop-ty l =
-    found_each (d.typed_refused (file_seen l.file) (map view.header_param_of l.params) part.Payload) (map view.ty_of (drop l.ty-index l.payload)) l.found.least
-    ≡ found_each (d.typed_refused (file_seen l.file) (map view.header_param_of l.params) part.Payload) (map view.ty_of l.payload) l.initial.found.least
+    found_each (d.typed_refused (file_seen l.file) (map view.header_key_of l.params) part.Payload) (map view.ty_of (drop l.ty-index l.payload)) l.found.least
+    ≡ found_each (d.typed_refused (file_seen l.file) (map view.header_key_of l.params) part.Payload) (map view.ty_of l.payload) l.initial.found.least

@@ -9,6 +9,6 @@ use Rattle.vlt_kinds_decls.proofs.fields.check_fields.Goals as goal
 
 pub loop-field-preserved : goal.loop-field-preserved
 loop-field-preserved c =
-    found_next (d.field_refused (file_seen c.args.file.now) (map view.header_param_of c.args.params.now) (states_seen c.args.known.now)) view.field_of _ _ _ _ _
+    found_next (d.field_refused (file_seen c.args.file.now) (map view.header_key_of c.args.params.now) (states_seen c.args.known.now)) view.field_of _ _ _ _ _
     c.loop-field-test.true c.field-item.is c.in_ok-check_field.ensures
     ∙ c.loop-field.invariant

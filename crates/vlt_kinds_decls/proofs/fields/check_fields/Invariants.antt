@@ -16,5 +16,5 @@ use Rattle.vlt_kinds_decls.proofs.fields.check_fields.Given as goal
 
 abbrev pub invariant-loop-field : goal.invariant-loop-field
 invariant-loop-field l =
-    found_each (d.field_refused (file_seen l.file) (map view.header_param_of l.params) (states_seen l.known)) (map view.field_of (drop l.field-index l.fields)) l.found.least
-    ≡ found_each (d.field_refused (file_seen l.file) (map view.header_param_of l.params) (states_seen l.known)) (map view.field_of l.fields) l.initial.found.least
+    found_each (d.field_refused (file_seen l.file) (map view.header_key_of l.params) (states_seen l.known)) (map view.field_of (drop l.field-index l.fields)) l.found.least
+    ≡ found_each (d.field_refused (file_seen l.file) (map view.header_key_of l.params) (states_seen l.known)) (map view.field_of l.fields) l.initial.found.least

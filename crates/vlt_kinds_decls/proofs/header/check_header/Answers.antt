@@ -9,5 +9,5 @@ use Rattle.vlt_kinds_decls.proofs.header.check_header.Goals as goal
 
 pub loop-param-preserved : goal.loop-param-preserved
 loop-param-preserved c =
-    found_next (d.header_refused (file_seen c.args.file.now)) view.header_param_of _ _ _ _ _ c.loop-param-test.true c.param-item.is c.check_header_key.ensures
+    found_next (d.header_refused (file_seen c.args.file.now)) view.header_key_of _ _ _ _ _ c.loop-param-test.true c.param-item.is c.check_header_key.ensures
     ∙ c.loop-param.invariant

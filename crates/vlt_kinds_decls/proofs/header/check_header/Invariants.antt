@@ -16,5 +16,5 @@ use Rattle.vlt_kinds_decls.proofs.header.check_header.Given as goal
 
 abbrev pub invariant-loop-param : goal.invariant-loop-param
 invariant-loop-param l =
-    found_each (d.header_refused (file_seen l.file)) (map view.header_param_of (drop l.param-index l.params)) l.found.least
-    ≡ found_each (d.header_refused (file_seen l.file)) (map view.header_param_of l.params) l.initial.found.least
+    found_each (d.header_refused (file_seen l.file)) (map view.header_key_of (drop l.param-index l.params)) l.found.least
+    ≡ found_each (d.header_refused (file_seen l.file)) (map view.header_key_of l.params) l.initial.found.least

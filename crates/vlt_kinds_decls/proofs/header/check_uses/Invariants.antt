@@ -16,5 +16,5 @@ use Rattle.vlt_kinds_decls.proofs.header.check_uses.Given as goal
 
 abbrev pub invariant-loop-place : goal.invariant-loop-place
 invariant-loop-place l =
-    found_each (d.use_refused (names_seen l.file.globals) (map view.header_param_of l.params)) (map use_seen (drop l.place-index l.uses)) l.found.least
-    ≡ found_each (d.use_refused (names_seen l.file.globals) (map view.header_param_of l.params)) (map use_seen l.uses) l.initial.found.least
+    found_each (d.use_refused (names_seen l.file.globals) (map view.header_key_of l.params)) (map use_seen (drop l.place-index l.uses)) l.found.least
+    ≡ found_each (d.use_refused (names_seen l.file.globals) (map view.header_key_of l.params)) (map use_seen l.uses) l.initial.found.least

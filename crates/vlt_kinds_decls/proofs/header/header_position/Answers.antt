@@ -5,4 +5,4 @@ use Rattle.vlt_syntax.specs.View as view
 use Rattle.vlt_kinds_decls.proofs.header.header_position.Goals as goal
 
 pub loop-i-init : goal.loop-i-init
-loop-i-init c = position_from-zero (λ p. bytes_eq c.args.key.now p.key.text) (map view.header_param_of c.args.params.now)
+loop-i-init c = position_from-zero (λ p. bytes_eq c.args.key.now p.key.text) (map view.header_key_of c.args.params.now)

@@ -16,5 +16,5 @@ use Rattle.vlt_kinds_decls.proofs.header.header_position.Given as goal
 
 abbrev pub invariant-loop-i : goal.invariant-loop-i
 invariant-loop-i l =
-    d.header_position (map view.header_param_of l.params) l.key
-    ≡ position_from (λ p. bytes_eq l.key p.key.text) l.i (map view.header_param_of (drop l.i l.params))
+    d.header_position (map view.header_key_of l.params) l.key
+    ≡ position_from (λ p. bytes_eq l.key p.key.text) l.i (map view.header_key_of (drop l.i l.params))

@@ -16,5 +16,5 @@ use Rattle.vlt_kinds_decls.proofs.header.wanted_of.Given as goal
 
 abbrev pub invariant-loop-param : goal.invariant-loop-param
 invariant-loop-param l =
-    d.wanted_of (names_seen l.known) (map view.header_param_of l.params) l.key
-    ≡ d.wanted_of (names_seen l.known) (map view.header_param_of (drop l.param-index l.params)) l.key
+    d.wanted_of (names_seen l.known) (map view.header_key_of l.params) l.key
+    ≡ d.wanted_of (names_seen l.known) (map view.header_key_of (drop l.param-index l.params)) l.key

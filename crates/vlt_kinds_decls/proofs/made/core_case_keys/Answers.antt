@@ -9,6 +9,6 @@ use Rattle.vlt_kinds_decls.proofs.made.core_case_keys.Goals as goal
 
 pub loop-key-preserved : goal.loop-key-preserved
 loop-key-preserved c =
-    made_next core_view.case_key_of (m.core_case_key (file_seen c.args.file.now) (map view.header_param_of c.args.params.now)) view.key_states_of _ _ _ _ _ _
+    made_next core_view.case_key_of (m.core_case_key (file_seen c.args.file.now) (map view.header_key_of c.args.params.now)) view.key_states_of _ _ _ _ _ _
     c.loop-key-test.true c.key-item.is c.in_ok-push.ensures.ok c.in_ok-core_case_key.ensures
     ∙ c.loop-key.invariant

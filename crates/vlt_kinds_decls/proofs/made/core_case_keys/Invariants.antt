@@ -16,5 +16,5 @@ use Rattle.vlt_kinds_decls.proofs.made.core_case_keys.Given as goal
 
 abbrev pub invariant-loop-key : goal.invariant-loop-key
 invariant-loop-key l =
-    map core_view.case_key_of l.made ++ map (m.core_case_key (file_seen l.file) (map view.header_param_of l.params)) (map view.key_states_of (drop l.key-index l.keys))
-    ≡ map (m.core_case_key (file_seen l.file) (map view.header_param_of l.params)) (map view.key_states_of l.keys)
+    map core_view.case_key_of l.made ++ map (m.core_case_key (file_seen l.file) (map view.header_key_of l.params)) (map view.key_states_of (drop l.key-index l.keys))
+    ≡ map (m.core_case_key (file_seen l.file) (map view.header_key_of l.params)) (map view.key_states_of l.keys)

@@ -16,5 +16,5 @@ use Rattle.vlt_kinds_decls.proofs.made.core_cases.Given as goal
 
 abbrev pub invariant-loop-case : goal.invariant-loop-case
 invariant-loop-case l =
-    map core_view.case_of l.decls ++ map (m.core_case (file_seen l.file) (map view.header_param_of l.params)) (map view.case_of (drop l.case-index l.cases))
-    ≡ map (m.core_case (file_seen l.file) (map view.header_param_of l.params)) (map view.case_of l.cases)
+    map core_view.case_of l.decls ++ map (m.core_case (file_seen l.file) (map view.header_key_of l.params)) (map view.case_of (drop l.case-index l.cases))
+    ≡ map (m.core_case (file_seen l.file) (map view.header_key_of l.params)) (map view.case_of l.cases)

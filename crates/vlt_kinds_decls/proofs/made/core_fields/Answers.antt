@@ -9,6 +9,6 @@ use Rattle.vlt_kinds_decls.proofs.made.core_fields.Goals as goal
 
 pub loop-field-preserved : goal.loop-field-preserved
 loop-field-preserved c =
-    made_next core_view.field_of (m.core_field (file_seen c.args.file.now) (map view.header_param_of c.args.params.now) (states_seen c.args.known.now)) view.field_of _ _ _ _ _ _
+    made_next core_view.field_of (m.core_field (file_seen c.args.file.now) (map view.header_key_of c.args.params.now) (states_seen c.args.known.now)) view.field_of _ _ _ _ _ _
     c.loop-field-test.true c.field-item.is c.in_ok-push.ensures.ok c.in_ok-core_field.ensures
     ∙ c.loop-field.invariant

@@ -16,5 +16,5 @@ use Rattle.vlt_kinds_decls.proofs.made.core_fields.Given as goal
 
 abbrev pub invariant-loop-field : goal.invariant-loop-field
 invariant-loop-field l =
-    map core_view.field_of l.decls ++ map (m.core_field (file_seen l.file) (map view.header_param_of l.params) (states_seen l.known)) (map view.field_of (drop l.field-index l.fields))
-    ≡ map (m.core_field (file_seen l.file) (map view.header_param_of l.params) (states_seen l.known)) (map view.field_of l.fields)
+    map core_view.field_of l.decls ++ map (m.core_field (file_seen l.file) (map view.header_key_of l.params) (states_seen l.known)) (map view.field_of (drop l.field-index l.fields))
+    ≡ map (m.core_field (file_seen l.file) (map view.header_key_of l.params) (states_seen l.known)) (map view.field_of l.fields)

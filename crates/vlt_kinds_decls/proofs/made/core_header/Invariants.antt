@@ -16,5 +16,5 @@ use Rattle.vlt_kinds_decls.proofs.made.core_header.Given as goal
 
 abbrev pub invariant-loop-param : goal.invariant-loop-param
 invariant-loop-param l =
-    core_view.header_of l.header ++ m.core_header (names_seen l.known) (map view.header_param_of (drop l.param-index l.params))
-    ≡ m.core_header (names_seen l.known) (map view.header_param_of l.params)
+    core_view.header_of l.header ++ m.core_header (names_seen l.known) (map view.header_key_of (drop l.param-index l.params))
+    ≡ m.core_header (names_seen l.known) (map view.header_key_of l.params)

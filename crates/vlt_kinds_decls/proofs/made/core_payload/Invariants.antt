@@ -16,5 +16,5 @@ use Rattle.vlt_kinds_decls.proofs.made.core_payload.Given as goal
 
 abbrev pub invariant-loop-ty : goal.invariant-loop-ty
 invariant-loop-ty l =
-    map core_view.ty_of l.made ++ map (t.core_ty (file_seen l.file) (m.header_number (map view.header_param_of l.params))) (map view.ty_of (drop l.ty-index l.payload))
-    ≡ map (t.core_ty (file_seen l.file) (m.header_number (map view.header_param_of l.params))) (map view.ty_of l.payload)
+    map core_view.ty_of l.made ++ map (t.core_ty (file_seen l.file) (m.header_number (map view.header_key_of l.params))) (map view.ty_of (drop l.ty-index l.payload))
+    ≡ map (t.core_ty (file_seen l.file) (m.header_number (map view.header_key_of l.params))) (map view.ty_of l.payload)

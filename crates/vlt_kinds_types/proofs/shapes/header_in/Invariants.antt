@@ -8,5 +8,5 @@ use Rattle.vlt_kinds_types.proofs.shapes.header_in.Given as goal
 
 abbrev pub invariant-loop-param : goal.invariant-loop-param
 invariant-loop-param l =
-    l.header ++ f.header_in (names_seen l.known) (map view.header_param_of (drop l.param-index l.params))
-    ≡ f.header_in (names_seen l.known) (map view.header_param_of l.params)
+    l.header ++ f.header_in (names_seen l.known) (map view.header_key_of (drop l.param-index l.params))
+    ≡ f.header_in (names_seen l.known) (map view.header_key_of l.params)

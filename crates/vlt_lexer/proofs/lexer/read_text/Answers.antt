@@ -67,10 +67,10 @@ returns-in-Err-clause-refused c =
     let left = c.loop-found.left.now in
     let total = length c.args.text.now in
     let at = total - length left in
-    let stuck : IsStuck c.in-Err.fault (chars left) = first_of (search rules, grind (arith, common_steps)) in
+    let stuck : IsStuck c.in-Err.stuck (chars left) = first_of (search rules, grind (arith, common_steps)) in
     let reads = found_reads total (chars c.args.text.now) c.loop-found.found.items (chars left) c.loop-found.invariant.read in
     let few = c.loop-found.invariant.few in
     let within : length left ≤ total = c.loop-found.invariant.within in
-    let is : c.at.result ≡ placed c.in-Err.fault at = first_of (search rules, grind (arith, common_steps)) in
-    inr (subst (IsRefused c.args.text.now) (sym is) (placed_refused c.in-Err.fault at c.args.text.now c.utf8.text
+    let is : c.at.result ≡ placed c.in-Err.stuck at = first_of (search rules, grind (arith, common_steps)) in
+    inr (subst (IsRefused c.args.text.now) (sym is) (placed_refused c.in-Err.stuck at c.args.text.now c.utf8.text
     (lexemes c.loop-found.found.items, chars left, reads, omega (arith, length_lexemes c.loop-found.found.items, few), stuck, omega (arith, width_chars left c.loop-found.invariant.utf8))))

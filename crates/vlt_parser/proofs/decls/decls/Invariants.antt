@@ -4,8 +4,8 @@ use Rattle.vlt_syntax.specs.Lists.{each_then, Each}
 use Rattle.vlt_syntax.specs.Spelling.{decl_then}
 use Rattle.vlt_syntax.specs.Grammar.{IsDecl, language}
 use Rattle.vlt_syntax.specs.View.{decl_of}
-use Rattle.vlt_syntax.specs.Machine as m
-use Rattle.vlt_syntax.specs.Machine.{run}
+use Rattle.vlt_automaton.specs.Language as m
+use Rattle.vlt_automaton.specs.Language.{run}
 use Rattle.vlt_parser_exprs.specs.Ahead.{ahead}
 use Rattle.vlt_parser.specs.Declarations.{decls_left}
 use Rattle.vlt_syntax.specs.Places.{each_at, decl_at}

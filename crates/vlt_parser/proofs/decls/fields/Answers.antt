@@ -3,8 +3,8 @@ use Rattle.vlt_syntax.specs.Spelling.{field_then}
 use Rattle.vlt_syntax.specs.Grammar.{IsField, language}
 use Rattle.vlt_syntax.specs.View.{field_of}
 use Rattle.std.proofs.lemmas.Grind.{common_steps}
-use Rattle.vlt_syntax.specs.Machine as m
-use Rattle.vlt_syntax.specs.Machine.{Symbol, run}
+use Rattle.vlt_automaton.specs.Language as m
+use Rattle.vlt_automaton.specs.Language.{Symbol, run}
 use Rattle.vlt_parser_exprs.specs.Ahead.{ahead}
 use Rattle.vlt_parser.specs.Declarations.{fields_left}
 use Rattle.vlt_parser.proofs.Declarations.{fields_one, ty_can}

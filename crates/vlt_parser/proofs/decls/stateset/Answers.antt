@@ -2,8 +2,8 @@ use Rattle.std.proofs.Common.{◌≡◌, ◌-◌, Err, Some, ◌∷◌, ◌∙�
 use Rattle.std.proofs.lemmas.Grind.{common_steps}
 use Rattle.vlt_lexer.specs.declared.token.Mark.TheVariants as mark
 use Rattle.vlt_syntax.specs.Grammar.{language}
-use Rattle.vlt_syntax.specs.Machine as m
-use Rattle.vlt_syntax.specs.Machine.{Symbol, Left, run}
+use Rattle.vlt_automaton.specs.Language as m
+use Rattle.vlt_automaton.specs.Language.{Symbol, Left, run}
 use Rattle.vlt_parser_exprs.specs.Ahead.{ahead, left_of}
 use Rattle.vlt_parser_exprs.proofs.Runs.{bounded_below}
 use Rattle.vlt_parser.proofs.decls.stateset.Goals as goal

@@ -1,6 +1,6 @@
 use Rattle.std.proofs.Common.{◌≡◌, Err, ◌∷◌, ◌∙◌, rules, arith}
 use Rattle.std.proofs.lemmas.Grind.{common_steps}
-use Rattle.vlt_syntax.specs.Machine as m
+use Rattle.vlt_automaton.specs.Language as m
 use Rattle.vlt_parser.specs.Declarations.{fields_left}
 use Rattle.vlt_parser.proofs.decls.struct_decl.Goals as goal
 

@@ -4,8 +4,8 @@ use Rattle.vlt_lexer.specs.declared.token.TokenKind.TheVariants.{Name}
 use Rattle.vlt_syntax.specs.declared.tree.Expr.TheVariants.{Binary}
 use Rattle.vlt_syntax.specs.Tree as s
 use Rattle.vlt_syntax.specs.View.{expr_of}
-use Rattle.vlt_syntax.specs.Machine as m
-use Rattle.vlt_syntax.specs.Machine.{run}
+use Rattle.vlt_automaton.specs.Language as m
+use Rattle.vlt_automaton.specs.Language.{run}
 use Rattle.vlt_parser_exprs.specs.Ahead.{ahead, refusal, BeginsWith}
 use Rattle.vlt_parser_exprs.proofs.Expressions.{operator_goes_on, right_ended, group_opens, group_stays_open, operand_named}
 use Rattle.vlt_syntax.specs.Grammar.{level}

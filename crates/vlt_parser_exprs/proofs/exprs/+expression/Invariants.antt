@@ -1,8 +1,8 @@
 use Rattle.std.proofs.Common.{◌≡◌, ◌≤◌, ◌<◌, ◌+◌, ◌-◌, ◌*◌, List, ◌∷◌, length}
 use Rattle.vlt_syntax.specs.Spelling.{expr_then}
 use Rattle.vlt_syntax.specs.Grammar.{BindsFrom, depth}
-use Rattle.vlt_syntax.specs.Machine as m
-use Rattle.vlt_syntax.specs.Machine.{Symbol, Frame, run}
+use Rattle.vlt_automaton.specs.Language as m
+use Rattle.vlt_automaton.specs.Language.{Symbol, Pending, run}
 use Rattle.vlt_syntax.specs.View.{expr_of}
 use Rattle.vlt_syntax.specs.Places.{expr_at}
 use Rattle.vlt_parser_exprs.specs.Reading.{left, Stands}
@@ -32,7 +32,7 @@ invariant-expression-loop-op l = record {
   fits : l.first.depth ≤ l.room;
   later : l.at < l.here;
   within : l.here ≤ length l.tokens;
-  place : (fs : List Frame) (s : List Symbol) → run (m.operand l.room (m.level_from l.least l.room ∷ fs) ∷ s) (ahead l.tokens l.at)
+  place : (fs : List Pending) (s : List Symbol) → run (m.operand l.room (m.level_from l.least l.room ∷ fs) ∷ s) (ahead l.tokens l.at)
       ≡ run (m.operations l.first.depth (m.level_from l.least l.room ∷ fs) ∷ s) (ahead l.tokens l.here);
 }
 

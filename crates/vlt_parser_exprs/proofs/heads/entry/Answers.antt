@@ -1,7 +1,7 @@
 use Rattle.std.proofs.Common.{◌≡◌, List, [], ◌∷◌, rules, arith}
 use Rattle.std.proofs.lemmas.Grind.{common_steps}
-use Rattle.vlt_syntax.specs.Machine as m
-use Rattle.vlt_syntax.specs.Machine.{Symbol, Left, run}
+use Rattle.vlt_automaton.specs.Language as m
+use Rattle.vlt_automaton.specs.Language.{Symbol, Left, run}
 use Rattle.vlt_parser_exprs.specs.Ahead.{ahead}
 use Rattle.vlt_parser_exprs.proofs.Runs.{instead}
 use Rattle.vlt_parser_exprs.proofs.heads.entry.Goals as goal

@@ -1,5 +1,5 @@
 use Rattle.std.proofs.Common.{[], ◌∷◌}
-use Rattle.vlt_syntax.specs.Machine as m
+use Rattle.vlt_automaton.specs.Language as m
 use Rattle.vlt_parser_exprs.specs.Ahead.{ahead, left_of}
 use Rattle.vlt_parser_exprs.proofs.Runs.{instead, enclosed_some}
 use Rattle.vlt_parser_exprs.proofs.lists.enclosed.Goals as goal

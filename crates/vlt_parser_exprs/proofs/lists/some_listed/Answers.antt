@@ -1,7 +1,7 @@
 use Rattle.std.proofs.Common.{◌≡◌, refl, ap, ◌∙◌, length, ◌+◌, [], ◌∷◌, ◌++◌, map, subst, arith, length-append}
 use Rattle.std.proofs.lemmas.List.{length-map}
 use Rattle.vlt_parser_exprs.specs.Reading.{left, IsWithin}
-use Rattle.vlt_syntax.specs.Machine as m
+use Rattle.vlt_automaton.specs.Language as m
 use Rattle.vlt_parser_exprs.specs.Ahead.{ahead, left_of}
 use Rattle.vlt_parser_exprs.proofs.Runs.{further_one}
 use Rattle.vlt_parser_exprs.proofs.Placings.{stands_on, stands_whole}

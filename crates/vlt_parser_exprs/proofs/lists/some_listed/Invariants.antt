@@ -1,7 +1,7 @@
 use Rattle.std.proofs.Common.{◌≡◌, ◌≤◌, ◌∷◌, List, ◌+◌, ◌-◌, length, map}
 use Rattle.vlt_syntax.specs.Lists.{Each}
-use Rattle.vlt_syntax.specs.Machine as m
-use Rattle.vlt_syntax.specs.Machine.{Symbol, run}
+use Rattle.vlt_automaton.specs.Language as m
+use Rattle.vlt_automaton.specs.Language.{Symbol, run}
 use Rattle.vlt_parser_exprs.specs.Ahead.{ahead, left_of}
 use Rattle.vlt_parser_exprs.specs.Reading.{left, IsWithin}
 use Rattle.vlt_parser_exprs.proofs.Separated.{GoesOn}

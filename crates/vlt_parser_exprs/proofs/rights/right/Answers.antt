@@ -1,8 +1,8 @@
 use Rattle.std.proofs.Common.{◌≡◌, ◌+◌, Err, List, ◌∷◌, ◌∙◌, subst, rules, arith}
 use Rattle.std.proofs.lemmas.Grind.{common_steps}
 use Rattle.vlt_lexer.specs.declared.token.TokenKind.TheVariants.{Tick, Name}
-use Rattle.vlt_syntax.specs.Machine as m
-use Rattle.vlt_syntax.specs.Machine.{Symbol, run}
+use Rattle.vlt_automaton.specs.Language as m
+use Rattle.vlt_automaton.specs.Language.{Symbol, run}
 use Rattle.vlt_parser_exprs.specs.Ahead.{ahead, BeginsWith}
 use Rattle.vlt_parser_exprs.proofs.Sides.{right_build, right_call, right_variable}
 use Rattle.vlt_parser_exprs.proofs.rights.right.Goals as goal

@@ -1,6 +1,6 @@
 use Rattle.std.proofs.Common.{◌≡◌, Err, ◌∷◌, ◌∙◌, rules, arith}
 use Rattle.std.proofs.lemmas.Grind.{common_steps}
-use Rattle.vlt_syntax.specs.Machine as m
+use Rattle.vlt_automaton.specs.Language as m
 use Rattle.vlt_parser_exprs.specs.Ahead.{ahead}
 use Rattle.vlt_parser_exprs.proofs.Runs.{type_name_plain}
 use Rattle.vlt_parser_exprs.proofs.types.named_ty.Goals as goal

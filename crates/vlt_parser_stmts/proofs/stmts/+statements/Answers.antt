@@ -9,8 +9,8 @@ use Rattle.vlt_syntax.specs.View.{expr_of, block_of, else_of, stmt_of, stmts_mad
 use Rattle.std.proofs.lemmas.Grind.{common_steps}
 use Rattle.vlt_lexer.specs.declared.token.Word.TheVariants as word
 use Rattle.vlt_lexer.specs.declared.token.Mark.TheVariants as mark
-use Rattle.vlt_syntax.specs.Machine as m
-use Rattle.vlt_syntax.specs.Machine.{Symbol, run}
+use Rattle.vlt_automaton.specs.Language as m
+use Rattle.vlt_automaton.specs.Language.{Symbol, run}
 use Rattle.vlt_parser_exprs.specs.Ahead.{ahead, BeginsWith}
 use Rattle.vlt_parser_stmts.proofs.Blocks.{arm_is, stmts_one, arms_one, block_is, focus_is, otherwise_some, else_if, else_block, stmt_block, stmt_enters}
 use Rattle.vlt_lexer.specs.declared.token.Token.{Token as Placed}

@@ -2,8 +2,8 @@ use Rattle.std.proofs.Common.{◌≡◌, ◌≤◌, ◌+◌, ◌-◌, ◌*◌, L
 use Rattle.vlt_syntax.specs.Spelling.{stmts_then, arms_then}
 use Rattle.vlt_syntax.specs.Grammar.{AreStmts, AreArms, language}
 use Rattle.vlt_syntax.specs.View.{stmts_of, arms_of}
-use Rattle.vlt_syntax.specs.Machine as m
-use Rattle.vlt_syntax.specs.Machine.{Symbol, run}
+use Rattle.vlt_automaton.specs.Language as m
+use Rattle.vlt_automaton.specs.Language.{Symbol, run}
 use Rattle.vlt_parser_exprs.specs.Ahead.{ahead}
 use Rattle.vlt_syntax.specs.Places.{stmts_at, arms_at}
 use Rattle.vlt_parser_exprs.specs.Reading.{left, Stands}

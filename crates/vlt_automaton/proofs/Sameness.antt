@@ -5,7 +5,7 @@ use Rattle.vlt_lexer.specs.declared.token.Word.{Word}
 use Rattle.vlt_lexer.specs.declared.token.Word.TheVariants as word
 use Rattle.vlt_lexer.specs.declared.token.Mark.{Mark}
 use Rattle.vlt_lexer.specs.declared.token.Mark.TheVariants as mark
-use Rattle.vlt_syntax.specs.Kinds.{word_number, mark_number, same_word, same_mark}
+use Rattle.vlt_automaton.specs.Words.{word_number, mark_number, same_word, same_mark}
 
 -- in the order of their numbers
 abbrev words : List Word

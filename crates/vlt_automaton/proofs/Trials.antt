@@ -6,7 +6,7 @@ use Rattle.vlt_lexer.specs.declared.token.Mark.TheVariants as mark
 use Rattle.vlt_syntax.specs.Tokens as t
 use Rattle.vlt_syntax.specs.Tokens.{Token}
 use Rattle.vlt_syntax.specs.Grammar.{language}
-use Rattle.vlt_syntax.specs.Machine.{Located, Verdict, run, decls, unexpected_at, over_limit, ended}
+use Rattle.vlt_automaton.specs.Language.{Located, Verdict, run, decls, unexpected_at, over_limit, ended}
 
 abbrev located : Token → ℕ → Located
 located x at = record { token = x; at = at }

@@ -9,7 +9,7 @@ use Rattle.vlt_lexer.specs.declared.token.Mark.TheVariants as mark
 use Rattle.vlt_lexer.specs.Reading.{Lexeme}
 use Rattle.vlt_syntax.specs.Tokens as t
 use Rattle.vlt_syntax.specs.Tokens.{Token, token_from}
-use Rattle.vlt_syntax.specs.Kinds.{same_word, same_mark}
+use Rattle.vlt_automaton.specs.Words.{same_word, same_mark}
 use Rattle.vlt_syntax.specs.Spelling.{operator_of}
 use Rattle.vlt_syntax.specs.Grammar.{Bounds, level}
 use Rattle.vlt_syntax.specs.Refusals.{Refusal, unexpected_at, over_limit, ended}
@@ -38,20 +38,20 @@ pub data Thing : Type 0 where
   an_entry : Thing
   an_expr : Thing
   an_init : Thing
-  an_outcome : Thing
+  a_result_type : Thing
   -- a statement without blocks, and one with so much room for blocks
   a_simple : Thing
   a_stmt : ℕ → Thing
   a_decl : Thing
 
 -- What an operand that is being read stands in, the innermost first.
-pub data Frame : Type 0 where
+pub data Pending : Type 0 where
   -- an expression whose operators bind at least so tightly, and which may be no deeper than this
-  level_from : (least room : ℕ) → Frame
+  level_from : (least room : ℕ) → Pending
   -- such an expression with a left operand of that depth, of whose operator this is the right one
-  right_of : (least room depth : ℕ) → Frame
+  right_of : (least room depth : ℕ) → Pending
   -- an operator before an operand
-  prefixed : Frame
+  prefixed : Pending
 
 pub data Symbol : Type 0 where
   tick : Symbol
@@ -73,12 +73,12 @@ pub data Symbol : Type 0 where
   behind_tracked : Symbol
   behind_type_name : Symbol
   -- an operand that may be no deeper than this, and then operators
-  operand : ℕ → List Frame → Symbol
+  operand : ℕ → List Pending → Symbol
   -- the same, behind a name, and behind an operand of this depth
-  behind_name : ℕ → List Frame → Symbol
-  operations : ℕ → List Frame → Symbol
+  behind_name : ℕ → List Pending → Symbol
+  operations : ℕ → List Pending → Symbol
   -- the parenthesis that closes such an operand
-  close_group : List Frame → Symbol
+  close_group : List Pending → Symbol
   -- the end of an expression
   end_expr : Symbol
   owner : Symbol
@@ -196,14 +196,14 @@ abbrev pub depth_limit : ℕ
 depth_limit = 12
 
 -- behind an operand of this depth, those before it taken to it
-abbrev pub behind_operand : ℕ → List Frame → Symbol
+abbrev pub behind_operand : ℕ → List Pending → Symbol
 behind_operand depth [] = operations depth []
 behind_operand depth (prefixed ∷ fs) = behind_operand (suc depth) fs
 behind_operand depth (level_from least room ∷ fs) = operations depth (level_from least room ∷ fs)
 behind_operand depth (right_of least room left ∷ fs) = operations depth (right_of least room left ∷ fs)
 
 -- the same behind a name
-abbrev pub behind_variable : ℕ → List Frame → Symbol
+abbrev pub behind_variable : ℕ → List Pending → Symbol
 behind_variable depth [] = behind_name depth []
 behind_variable depth (prefixed ∷ fs) = behind_variable (suc depth) fs
 behind_variable depth (level_from least room ∷ fs) = behind_name depth (level_from least room ∷ fs)
@@ -217,7 +217,7 @@ if_deeper depth room xs = if nat_lt depth room then take xs else exceed depth_li
 abbrev pub lowest : ℕ
 lowest = 2
 
-abbrev pub start_operand : ℕ → List Frame → Token → Reaction
+abbrev pub start_operand : ℕ → List Pending → Token → Reaction
 start_operand room fs (t.number z) = take (behind_operand 1 fs ∷ [])
 start_operand room fs (t.keyword word.True) = take (behind_operand 1 fs ∷ [])
 start_operand room fs (t.keyword word.False) = take (behind_operand 1 fs ∷ [])
@@ -228,7 +228,7 @@ start_operand room fs (t.sign mark.Not) = if_deeper 1 room (operand (room - 1) (
 start_operand room fs _ = refuse
 
 -- the depth of all that the frames enclose, where the innermost operand has this one
-abbrev pub whole_depth : ℕ → List Frame → ℕ
+abbrev pub whole_depth : ℕ → List Pending → ℕ
 whole_depth depth [] = depth
 whole_depth depth (level_from least room ∷ fs) = whole_depth depth fs
 whole_depth depth (right_of least room left ∷ fs) = whole_depth (suc (max left depth)) fs
@@ -236,7 +236,7 @@ whole_depth depth (prefixed ∷ fs) = whole_depth (suc depth) fs
 
 -- An operator of this level comes behind an operand of that depth. Where it binds less tightly than the expression
 -- at hand must, that one has ended, and what it was the right operand of is the left one now.
-abbrev pub climb : (l depth : ℕ) → List Frame → Reaction
+abbrev pub climb : (l depth : ℕ) → List Pending → Reaction
 climb l depth [] = refuse
 climb l depth (prefixed ∷ fs) = climb l (suc depth) fs
 climb l depth (level_from least room ∷ fs) =
@@ -246,15 +246,15 @@ climb l depth (right_of least room left ∷ fs) =
     if nat_lt l least then climb l (suc (max left depth)) fs
     else if_deeper (suc (max left depth)) room (operand (room - 1) (level_from (suc l) (room - 1) ∷ right_of least room (suc (max left depth)) ∷ fs) ∷ [])
 
-abbrev pub climb_by : Option Op → ℕ → List Frame → Reaction
+abbrev pub climb_by : Option Op → ℕ → List Pending → Reaction
 climb_by None depth fs = skip
 climb_by (Some o) depth fs = climb (level o) depth fs
 
-abbrev pub react_operations : ℕ → List Frame → Token → Reaction
+abbrev pub react_operations : ℕ → List Pending → Token → Reaction
 react_operations depth fs (t.sign m) = climb_by (operator_of m) depth fs
 react_operations depth fs _ = skip
 
-abbrev pub whole_expr : Bounds → List Frame
+abbrev pub whole_expr : Bounds → List Pending
 whole_expr b = level_from lowest b.depth ∷ []
 
 -- an expression of its own
@@ -342,11 +342,11 @@ parameters_left b = Some (record { limit = 9; more = b.parameters })
 abbrev pub head_rest : Bounds → List Symbol
 head_rest b = name ∷ sign mark.OpenParen ∷ listed a_parameter mark.CloseParen (parameters_left b) ∷ clause ∷ []
 
-abbrev pub start_outcome : Token → Reaction
-start_outcome x = on_keyword word.Void x (take []) (start_ty x)
+abbrev pub start_result_type : Token → Reaction
+start_result_type x = on_keyword word.Void x (take []) (start_ty x)
 
 abbrev pub start_head : Bounds → Token → Reaction
-start_head b x = followed (start_outcome x) (head_rest b)
+start_head b x = followed (start_result_type x) (head_rest b)
 
 abbrev pub start_entry : Token → Reaction
 start_entry (t.sign mark.Minus) = take (thing a_key ∷ [])
@@ -406,7 +406,7 @@ start_thing b a_parameter x = followed (start_ty x) (name ∷ [])
 start_thing b an_entry x = start_entry x
 start_thing b an_expr x = start_expr b x
 start_thing b an_init x = followed (start_name x) (sign mark.Colon ∷ thing an_expr ∷ [])
-start_thing b an_outcome x = start_outcome x
+start_thing b a_result_type x = start_result_type x
 start_thing b a_simple x = start_simple x
 start_thing b (a_stmt room) x = start_stmt room x
 start_thing b a_decl x = start_decl b x
@@ -424,7 +424,7 @@ one_more k closing (Some left) = if left.more == 0 then exceed left.limit else t
 abbrev pub react_further : Thing → Mark → Option Left → Token → Reaction
 react_further k closing left x = on_sign closing x (take []) (on_sign mark.Comma x (one_more k closing left) refuse)
 
--- ---- the machine
+-- ---- the automaton
 
 abbrev pub reaction : Bounds → Symbol → Token → Reaction
 reaction b tick x = start_tick x
