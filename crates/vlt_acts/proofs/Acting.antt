@@ -1,5 +1,5 @@
 -- What the statements come to.
-use Rattle.std.proofs.Common.{◌≡◌, ◌≢◌, ℕ, ℤ, ◌<◌, ◌≤◌, ◌==◌, not, Bool, true, false, List, Option, Some, None, Result, Ok, Err, refl, sym, ap, ◌∙◌, subst, arith, slice_get}
+use Rattle.std.proofs.Common.{◌≡◌, ◌≢◌, ℕ, ◌<◌, ◌≤◌, ◌==◌, not, Bool, true, false, List, Option, Some, None, Result, Ok, Err, refl, sym, ap, ◌∙◌, subst, arith, slice_get}
 use Rattle.std.proofs.lemmas.Bool.{false≢true}
 use Rattle.std.proofs.lemmas.Bool.Decides.{nat_tests}
 use Rattle.vlt_ops.specs.declared.TrapKind.{TrapKind}
@@ -8,7 +8,7 @@ use Rattle.vlt_core.specs.Lookups.{Reference, release_set}
 use Rattle.vlt_rings.specs.Things.{IsLiveAt}
 use Rattle.vlt_heap.specs.declared.slots.Obj.{Obj}
 use Rattle.vlt_heap.specs.declared.slots.Slot.{Slot}
-use Rattle.vlt_heap.specs.declared.slots.Slot.TheVariants.{Number, Object}
+use Rattle.vlt_heap.specs.declared.slots.Slot.TheVariants.{Object, Owned}
 use Rattle.vlt_heap.specs.declared.heap.Heap.{Heap}
 use Rattle.vlt_heap.specs.Items.{Item, Items, IsAt, with_item, with_state, with_parent, without}
 use Rattle.vlt_heap.specs.Shown.{Holds, IsLive, IsRoot as IsLone, IsHere, Changes, Releases, Hangs}
@@ -25,13 +25,14 @@ use Rattle.vlt_meaning.specs.Operands.{with_operand}
 use Rattle.vlt_meaning.specs.Run.{does_simple, any_state}
 use Rattle.vlt_values.specs.declared.values.Values.{Values}
 use Rattle.vlt_values.specs.Parts.{HaveValue}
+use Rattle.vlt_values.specs.Filled.{IsFilled, IsSingleSlot}
 use Rattle.vlt_values.specs.Shown.{ShowsObject, ShowObjects, ShowsFrame, var_at, Seen, IsKept, IsCopied, IsWritten}
 use Rattle.vlt_values.proofs.Touching.{OrFault, Packed, object_of_fault, object_of_is}
-use Rattle.vlt_values.proofs.Fronts.{IsSlotAt, behind, no_object, referred}
+use Rattle.vlt_values.proofs.Fronts.{IsSlotAt, IsNoObject, packed_object, behind, referred}
 use Rattle.vlt_values.proofs.Fronts as fronts
 use Rattle.vlt_values.proofs.Pushing.{emptied_shown, owner_shown}
 use Rattle.vlt_acts.specs.Acts.{setup, HasDone, Does, IsRight}
-use Rattle.vlt_acts.proofs.Keeping.{frame_kept, assigned}
+use Rattle.vlt_acts.proofs.Keeping.{frame_kept, single_at, assigned}
 use Rattle.vlt_acts.proofs.Showing.{one_shown, release_shown}
 
 -- ---- the object of a tracked variable
@@ -94,9 +95,9 @@ found_does f states x frame w go items h v r is = by (object_of f states x frame
     by (Err (bad_answer n)) e bad = bad
     by (Err (fault s n)) e bad = bad
 
--- no object is there where the slot has a number
-pub no_number : (h : Heap) (v : Values) (c : Seen h v) (x : ℕ) (a : Slot) → IsSlotAt v.slots.items (var_at v x) a → (m : Named) → Packed x c.frame c.objects m → (z : ℤ) → a ≡ Number z → ⊥
-no_number h v c x a is m p z e = no_object (sym e ∙ (referred h v c x a is m p.touched).is)
+-- no object is there where the slot refers to none
+pub nowhere : (h : Heap) (v : Values) (c : Seen h v) (x : ℕ) (a : Slot) → IsSlotAt v.slots.items (var_at v x) a → (m : Named) → Packed x c.frame c.objects m → IsNoObject a → ⊥
+nowhere h v c x a is m p none = let ref = referred h v c x a is m p.touched in none ref.object m.number ref.is
 
 -- ---- the statements
 
@@ -118,10 +119,10 @@ become_does old new v c w n d x s a o k same is e changes =
       };
     })
 
-pub number_becomes : (h : Heap) (v : Values) (c : Seen h v) (w : World) (n d x s : ℕ) (a : Slot) (z : ℤ) → w.objects ≡ c.objects → IsSlotAt v.slots.items (var_at v x) a → a ≡ Number z
+pub nothing_becomes : (h : Heap) (v : Values) (c : Seen h v) (w : World) (n d x s : ℕ) (a : Slot) → w.objects ≡ c.objects → IsSlotAt v.slots.items (var_at v x) a → IsNoObject a
     → Does c.items h v (Ok tt) (does_simple (setup c.program n d) c.func (become x s) c.frame w)
-number_becomes h v c w n d x s a z same is e =
-    found_does c.func any_state x c.frame w (λ m. goes c.frame (with_changed w m.number (model.with_state s))) c.items h v (Ok tt) (λ m p. absurd (no_number h v c x a is m (subst (λ os. Packed x c.frame os m) same p) z e))
+nothing_becomes h v c w n d x s a same is none =
+    found_does c.func any_state x c.frame w (λ m. goes c.frame (with_changed w m.number (model.with_state s))) c.items h v (Ok tt) (λ m p. absurd (nowhere h v c x a is m (subst (λ os. Packed x c.frame os m) same p) none))
 
 pub release_does : (old new : Heap) (v : Values) (c : Seen old v) (w : World) (n d x : ℕ) (a : Slot) (o : Obj) (k : ℕ) → w.objects ≡ c.objects → IsSlotAt v.slots.items (var_at v x) a → a ≡ Object o k → Releases o old new
     → Does c.items new v (Ok tt) (does_simple (setup c.program n d) c.func (release x) c.frame w)
@@ -146,10 +147,10 @@ release_does old new v c w n d x a o k same is e releases =
     by m true has = has
     by m false has = refl
 
-pub number_releases : (h : Heap) (v : Values) (c : Seen h v) (w : World) (n d x : ℕ) (a : Slot) (z : ℤ) → w.objects ≡ c.objects → IsSlotAt v.slots.items (var_at v x) a → a ≡ Number z
+pub nothing_releases : (h : Heap) (v : Values) (c : Seen h v) (w : World) (n d x : ℕ) (a : Slot) → w.objects ≡ c.objects → IsSlotAt v.slots.items (var_at v x) a → IsNoObject a
     → Does c.items h v (Ok tt) (does_simple (setup c.program n d) c.func (release x) c.frame w)
-number_releases h v c w n d x a z same is e =
-    found_does c.func any_state x c.frame w (λ m. with_released c.program m.number w (goes c.frame)) c.items h v (Ok tt) (λ m p. absurd (no_number h v c x a is m (subst (λ os. Packed x c.frame os m) same p) z e))
+nothing_releases h v c w n d x a same is none =
+    found_does c.func any_state x c.frame w (λ m. with_released c.program m.number w (goes c.frame)) c.items h v (Ok tt) (λ m p. absurd (nowhere h v c x a is m (subst (λ os. Packed x c.frame os m) same p) none))
 
 pub set_does : (h : Heap) (old new : Values) (c : Seen h old) (w : World) (n d x to : ℕ) (e : Expr) (r : Result (Unit {0}) TrapKind) → w.objects ≡ c.objects → x < old.vars → to ≡ var_at old x → IsKept to old new
     → IsWritten c.items new to r (value_of c.program c.func e c.frame c.objects) → Does c.items h new r (does_simple (setup c.program n d) c.func (set x e) c.frame w)
@@ -231,9 +232,9 @@ pub met_apart : (h : Heap) (v : Values) (c : Seen h v) (m k : Named) (o q : Obj)
 met_apart h v c m k o q a b other same = places_apart h c.items c.holds k.number m.number b.item a.item b.at a.at other (a.place ∙ same ∙ sym b.place)
 
 pub adopt_does : (old new : Heap) (v u : Values) (c : Seen old v) (w : World) (n d y x r to : ℕ) (a b : Slot) (o q : Obj) (k l : ℕ) → w.objects ≡ c.objects → IsSlotAt v.slots.items (var_at v x) a → a ≡ Object o k → IsSlotAt v.slots.items (var_at v r) b → b ≡ Object q l
-    → y < v.vars → 1 ≤ v.width → to ≡ var_at v y → IsKept to v u → slice_get u.slots.items to ≡ Some (Object o k) → Hangs o q old new → Does c.items new u (Ok tt) (does_simple (setup c.program n d) c.func (adopt y x r) c.frame w)
+    → y < v.vars → 1 ≤ v.width → to ≡ var_at v y → IsKept to v u → IsFilled (IsSingleSlot (Object o k)) u.slots.items to v.width → Hangs o q old new → Does c.items new u (Ok tt) (does_simple (setup c.program n d) c.func (adopt y x r) c.frame w)
 unfolding where_so
-adopt_does old new v u c w n d y x r to a b o q k l same is e is_b e_b within wide is_to kept at hangs =
+adopt_does old new v u c w n d y x r to a b o q k l same is e is_b e_b within wide is_to kept filled hangs =
     found_does c.func release_states x c.frame w (λ m. with_found (object_of c.func any_state r c.frame w.objects) w (λ p. where_so (not (m.number == p.number)) same_object (Some m.number) w (done_with m p))) c.items new u (Ok tt) (λ m pm.
     found_does c.func any_state r c.frame w (λ p. where_so (not (m.number == p.number)) same_object (Some m.number) w (done_with m p)) c.items new u (Ok tt) (λ p pp.
     by m p (not (m.number == p.number)) (adopted m p pm pp)))
@@ -268,20 +269,20 @@ adopt_does old new v u c w n d y x r to a b o q k l same is e is_b e_b within wi
                 (one_shown c.items v.width m.number w.objects s.item (with_parent (Some p.number) s.item) m.object (with_owner (adopted_by p.number)) keep (subst (ShowObjects c.items v.width) (sym same) c.shown) s.at pm.touched.at
                 (record { live = refl; type = s.shown.type; state = s.shown.state; parent = refl; is_out = s.shown.is_out ∙ pm.root.here; cells = s.shown.cells }));
             frame_shown = assigned items v u c.frame y (one (reference m.number)) within (subst (λ z. IsKept z v u) is_to kept)
-                (record { narrow = subst (λ z. 1 ≤ z) (sym kept.width) wide; parts = (record { slot = Object o k; at = ap (slice_get u.slots.items) (sym is_to) ∙ at; part = record { object = ref.object; is = number; made = keep ref.object.0 m.number ref.made } }, tt) })
+                (single_at items u.slots.items to (var_at v y) v.width u.width (Object o k) (reference m.number) is_to kept.width wide (record { object = ref.object; is = number; made = keep ref.object.0 m.number ref.made }) filled)
                 (frame_kept c.items items v c.frame keep c.fits);
             kept = keep;
           };
         }
 
-pub no_child : (h : Heap) (v : Values) (c : Seen h v) (w : World) (n d y x r : ℕ) (a : Slot) (z : ℤ) → w.objects ≡ c.objects → IsSlotAt v.slots.items (var_at v x) a → a ≡ Number z → Does c.items h v (Ok tt) (does_simple (setup c.program n d) c.func (adopt y x r) c.frame w)
-no_child h v c w n d y x r a z same is e =
-    found_does c.func (λ t. release_set c.program t.type) x c.frame w _ c.items h v (Ok tt) (λ m p. absurd (no_number h v c x a is m (subst (λ os. Packed x c.frame os m) same p) z e))
+pub no_child : (h : Heap) (v : Values) (c : Seen h v) (w : World) (n d y x r : ℕ) (a : Slot) → w.objects ≡ c.objects → IsSlotAt v.slots.items (var_at v x) a → IsNoObject a → Does c.items h v (Ok tt) (does_simple (setup c.program n d) c.func (adopt y x r) c.frame w)
+no_child h v c w n d y x r a same is none =
+    found_does c.func (λ t. release_set c.program t.type) x c.frame w _ c.items h v (Ok tt) (λ m p. absurd (nowhere h v c x a is m (subst (λ os. Packed x c.frame os m) same p) none))
 
-pub no_parent : (h : Heap) (v : Values) (c : Seen h v) (w : World) (n d y x r : ℕ) (a : Slot) (z : ℤ) → w.objects ≡ c.objects → IsSlotAt v.slots.items (var_at v r) a → a ≡ Number z → Does c.items h v (Ok tt) (does_simple (setup c.program n d) c.func (adopt y x r) c.frame w)
-no_parent h v c w n d y x r a z same is e =
+pub no_parent : (h : Heap) (v : Values) (c : Seen h v) (w : World) (n d y x r : ℕ) (a : Slot) → w.objects ≡ c.objects → IsSlotAt v.slots.items (var_at v r) a → IsNoObject a → Does c.items h v (Ok tt) (does_simple (setup c.program n d) c.func (adopt y x r) c.frame w)
+no_parent h v c w n d y x r a same is none =
     found_does c.func (λ t. release_set c.program t.type) x c.frame w _ c.items h v (Ok tt) (λ m p.
-    found_does c.func any_state r c.frame w _ c.items h v (Ok tt) (λ k pk. absurd (no_number h v c r a is k (subst (λ os. Packed r c.frame os k) same pk) z e)))
+    found_does c.func any_state r c.frame w _ c.items h v (Ok tt) (λ k pk. absurd (nowhere h v c r a is k (subst (λ os. Packed r c.frame os k) same pk) none)))
 
 -- what `own` asks of the child and of the parent
 pub record Needs (h : Heap) (o q : Obj) : Type 0 where
@@ -354,12 +355,12 @@ fill_move h old new c w n d x u to same within is kept copied = by (c.frame.vars
     by None k = refl
     by (Some a) k = fill_does c.items h old new (with_var u None c.frame) w c.func x to a c.holds within is kept (subst (ShowObjects c.items old.width) (sym same) c.shown) (emptied_shown c.items old c.frame u c.fits) k
 
-pub fill_pack : (h : Heap) (old new : Values) (c : Seen h old) (w : World) (n d x y to : ℕ) (states : States) (a : Slot) → w.objects ≡ c.objects → x < old.vars → 1 ≤ old.width → to ≡ var_at old x → IsKept to old new → IsSlotAt old.slots.items (var_at old y) a → slice_get new.slots.items to ≡ Some a
+pub fill_pack : (h : Heap) (old new : Values) (c : Seen h old) (w : World) (n d x y to : ℕ) (states : States) (a b : Slot) → w.objects ≡ c.objects → x < old.vars → 1 ≤ old.width → to ≡ var_at old x → IsKept to old new → IsSlotAt old.slots.items (var_at old y) a → ((o : Obj) (i : ℕ) → a ≡ Object o i → b ≡ Owned o i) → IsFilled (IsSingleSlot b) new.slots.items to old.width
     → Does c.items h new (Ok tt) (does_simple (setup c.program n d) c.func (own x (pack y states)) c.frame w)
 unfolding with_operand
-fill_pack h old new c w n d x y to states a same within wide is kept front at =
+fill_pack h old new c w n d x y to states a b same within wide is kept front packed filled =
     found_does c.func (λ r. states) y c.frame w (λ m. fill c.func x (one (owned m.number)) c.frame (with_changed w m.number (with_owner loose))) c.items h new (Ok tt) (λ m p.
     let ref = referred h old c y a front m (subst (λ os. Packed y c.frame os m) same p).touched in
     fill_does c.items h old new c.frame (with_changed w m.number (with_owner loose)) c.func x to (one (owned m.number)) c.holds within is kept
     (owner_shown c.items old.width m.number w.objects m.object loose (subst (ShowObjects c.items old.width) (sym same) c.shown) p.touched.at (sym p.root.live) (sym p.root.above) (sym p.root.here)) c.fits
-    (record { narrow = subst (λ z. 1 ≤ z) (sym kept.width) wide; parts = (record { slot = a; at = at; part = ref }, tt) }))
+    (single_at c.items new.slots.items to to old.width new.width b (owned m.number) refl kept.width wide (packed_object c.items m.number a b packed ref) filled))

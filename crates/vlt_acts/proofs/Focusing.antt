@@ -1,5 +1,5 @@
 -- What a focus comes to.
-use Rattle.std.proofs.Common.{◌≡◌, ◌≢◌, ℕ, ℤ, ◌<◌, ◌≤◌, ◌==◌, true, List, Some, None, Ok, Err, refl, sym, ap, ◌∙◌, subst, arith, slice_get}
+use Rattle.std.proofs.Common.{◌≡◌, ◌≢◌, ℕ, ◌<◌, ◌≤◌, ◌==◌, true, List, Some, None, Ok, Err, refl, sym, ap, ◌∙◌, subst, arith, slice_get}
 use Rattle.std.proofs.lemmas.Bool.{false≢true}
 use Rattle.std.proofs.lemmas.Bool.Decides.{nat_tests}
 use Rattle.std.proofs.lemmas.Option.{none-some, same_Some}
@@ -7,7 +7,7 @@ use Rattle.vlt_core.specs.Lookups.{Reference}
 use Rattle.vlt_rings.specs.Things.{IsLiveAt}
 use Rattle.vlt_heap.specs.declared.slots.Obj.{Obj}
 use Rattle.vlt_heap.specs.declared.slots.Slot.{Slot}
-use Rattle.vlt_heap.specs.declared.slots.Slot.TheVariants.{Number, Object}
+use Rattle.vlt_heap.specs.declared.slots.Slot.TheVariants.{Object}
 use Rattle.vlt_heap.specs.declared.heap.Heap.{Heap}
 use Rattle.vlt_heap.specs.Items.{Item, Items, IsAt, IsMadeAt, with_item, with_parent}
 use Rattle.vlt_heap.specs.Shown.{IsLive, IsChild, IsRoot as IsLone, IsHere, IsParentAt, ForObject, Changes, Hangs}
@@ -22,13 +22,14 @@ use Rattle.vlt_meaning.specs.Step.{with_key}
 use Rattle.vlt_meaning_laws.proofs.Keeping.{bound, change_elsewhere}
 use Rattle.vlt_values.specs.declared.values.Values.{Values}
 use Rattle.vlt_values.specs.Parts.{IsObject}
+use Rattle.vlt_values.specs.Filled.{IsFilled, IsSingleSlot}
 use Rattle.vlt_values.specs.Shown.{ShowsObject, ShowObjects, ShowsFrame, var_at, Seen, IsKept, IsKeySet}
 use Rattle.vlt_values.proofs.Touching.{Touched, IsHeld, IsRoot, guarded_is, held_is, so_is, object_is}
-use Rattle.vlt_values.proofs.Fronts.{IsSlotAt, behind, no_object, referred}
+use Rattle.vlt_values.proofs.Fronts.{IsSlotAt, IsNoObject, behind, referred}
 use Rattle.vlt_values.proofs.Fronts as fronts
 use Rattle.vlt_values.proofs.Pushing.{owner_shown}
 use Rattle.vlt_acts.specs.Focus.{FindsFocus, CanFocus, HasFocused, focused_frame, focused_world, FindsEnd, CanEnd, HasEnded}
-use Rattle.vlt_acts.proofs.Keeping.{frame_kept, assigned}
+use Rattle.vlt_acts.proofs.Keeping.{frame_kept, single_at, assigned}
 use Rattle.vlt_acts.proofs.Showing.{one_shown}
 use Rattle.vlt_acts.proofs.Naming.{named_shown}
 
@@ -107,18 +108,19 @@ met_live h v c w a n o m = subst (IsLiveAt h.places) m.place (live_at h c.items 
 pub met_child : (h : Heap) (v : Values) (c : Seen h v) (w : World) (a n : Named) (o : Obj) → Met h v c w a n o → IsChild h o
 met_child h v c w a n o m = child_at h c.items c.holds n.number a.number m.item o m.at m.place m.parent
 
-pub no_focus : (h : Heap) (v : Values) (y z : ℕ) → CanFocus h v y z → (s : Slot) → IsSlotAt v.slots.items (var_at v y) s → (k : ℤ) → s ≡ Number k → ⊥
-no_focus h v y z q s is k e =
+pub no_focus : (h : Heap) (v : Values) (y z : ℕ) → CanFocus h v y z → (s : Slot) → IsSlotAt v.slots.items (var_at v y) s → IsNoObject s → ⊥
+no_focus h v y z q s is none =
     let t = subst (λ os. Touched y q.seen.frame os q.finds.object) q.objects (guarded_is q.finds.guard y q.seen.frame q.world.objects q.finds.object q.finds.is_object) in
-    no_object (sym e ∙ (referred h v q.seen y s is q.finds.object t).is)
+    let ref = referred h v q.seen y s is q.finds.object t in
+    none ref.object q.finds.object.number ref.is
 
 -- ---- where the block begins
 
 pub focus_does : (old new : Heap) (v mid u : Values) (c : Seen old v) (w : World) (y z to : ℕ) (same : w.objects ≡ c.objects) (f : FindsFocus old v c w y z) (s : Slot) (o p : Obj) (k : ℕ) → IsSlotAt v.slots.items (var_at v y) s → s ≡ Object o k
-    → z < v.vars → 1 ≤ v.width → (key : ℕ) → key ≡ f.key.key → IsKeySet key (Object o k) v mid → to ≡ var_at mid z → IsKept to mid u → slice_get u.slots.items to ≡ Some (Object o k)
+    → z < v.vars → 1 ≤ v.width → (key : ℕ) → key ≡ f.key.key → IsKeySet key (Object o k) v mid → to ≡ var_at mid z → IsKept to mid u → IsFilled (IsSingleSlot (Object o k)) u.slots.items to mid.width
     → ForObject old o (λ items n x. IsParentAt items x p.0) → Changes o (with_parent None) old new
     → HasFocused c.items new u (focused_frame f.key.key f.object.number z c.frame) (focused_world c.frame.depth f.guard.key f.key.key f.adopter.number f.object.number w) o p f.object.number f.adopter.number
-focus_does old new v mid u c w y z to same f s o p k is e within wide key is_key set is_to kept at parent changes = record {
+focus_does old new v mid u c w y z to same f s o p k is e within wide key is_key set is_to kept filled parent changes = record {
   shows = record {
     items = items;
     holds = changes c.items f.object.number m.item c.holds m.at m.place;
@@ -128,7 +130,7 @@ focus_does old new v mid u c w y z to same f s o p k is e within wide key is_key
         m.at (change_elsewhere w.objects f.adopter.number (with_owner (lent c.frame.depth f.guard.key)) f.object.number apart ∙ m.object)
         (record { live = refl; type = m.shown.type; state = m.shown.state; parent = refl; is_out = m.shown.is_out ∙ ap is_out m.owner; cells = m.shown.cells }));
     frame_shown = assigned items mid u _ z (one (reference f.object.number)) (subst (λ q. z < q) (sym set.vars) within) (subst (λ q. IsKept q mid u) is_to kept)
-        (record { narrow = subst (λ q. 1 ≤ q) (sym width) wide; parts = (record { slot = Object o k; at = ap (slice_get u.slots.items) (sym is_to) ∙ at; part = ref }, tt) })
+        (single_at items u.slots.items to (var_at mid z) mid.width u.width (Object o k) (reference f.object.number) is_to kept.width (subst (λ q. 1 ≤ q) (sym set.width) wide) ref filled)
         (subst (λ q. named_frame q) is_key (named_shown items v mid c.frame key f.object.number (Object o k) set ref (frame_kept c.items items v c.frame keep c.fits)));
     kept = keep;
   };

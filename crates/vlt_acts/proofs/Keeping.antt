@@ -6,21 +6,23 @@ use Rattle.vlt_rings.proofs.Rows.{below_or_above, row_fits}
 use Rattle.vlt_heap.specs.declared.slots.Slot.{Slot}
 use Rattle.vlt_heap.specs.Items.{Items}
 use Rattle.vlt_heap.proofs.Listed.{KeepMade}
-use Rattle.vlt_meaning.specs.World.{Part, number, reference, owned, Value, Frame}
+use Rattle.vlt_meaning.specs.World.{Part, number, reference, owned, Value, one, Frame}
 use Rattle.vlt_meaning.specs.Step.{with_var}
 use Rattle.vlt_values.specs.declared.values.Values.{Values}
-use Rattle.vlt_values.specs.Parts.{flat, IsObject, HasPart, HasPartAt, HaveParts, HaveValue}
+use Rattle.vlt_values.specs.Parts.{padded, IsObject, HasPart, HasPartAt, HaveParts, HaveValue}
+use Rattle.vlt_values.specs.Filled.{IsFilled, IsSingleSlot}
 use Rattle.vlt_values.specs.Shown.{var_at, key_at, HasVar, ShowsFrame, IsKept}
+use Rattle.vlt_values.proofs.Padding.{length_padded, single_value}
 
 -- ---- objects are known still
 
 object_kept : (old new : Items) (n : ℕ) (a : Slot) → KeepMade old new → IsObject old n a → IsObject new n a
 object_kept old new n a keep h = record { object = h.object; is = h.is; made = keep h.object.0 n h.made }
 
-part_kept : (old new : Items) (p : Part) (a : Slot) → KeepMade old new → HasPart old p a → HasPart new p a
+pub part_kept : (old new : Items) (p : Part) (a : Slot) → KeepMade old new → HasPart old p a → HasPart new p a
 part_kept old new (number z) a keep h = h
 part_kept old new (reference n) a keep h = object_kept old new n a keep h
-part_kept old new (owned n) a keep h = object_kept old new n a keep h
+part_kept old new (owned n) a keep h = record { object = h.object; is = h.is; made = keep h.object.0 n h.made }
 
 part_at_kept : (old new : Items) (slots : List Slot) (k : ℕ) (p : Part) → KeepMade old new → HasPartAt old slots k p → HasPartAt new slots k p
 part_at_kept old new slots k p keep h = record { slot = h.slot; at = h.at; part = part_kept old new p h.slot keep h.part }
@@ -30,7 +32,7 @@ parts_kept old new slots k [] keep h = tt
 parts_kept old new slots k (p ∷ ps) keep h = (part_at_kept old new slots k p keep h.0, parts_kept old new slots (suc k) ps keep h.1)
 
 pub value_kept : (old new : Items) (slots : List Slot) (k w : ℕ) (a : Value) → KeepMade old new → HaveValue old slots k w a → HaveValue new slots k w a
-value_kept old new slots k w a keep h = record { narrow = h.narrow; parts = parts_kept old new slots k (flat a) keep h.parts }
+value_kept old new slots k w a keep h = record { narrow = h.narrow; parts = parts_kept old new slots k (padded w a) keep h.parts }
 
 pub frame_kept : (old new : Items) (values : Values) (frame : Frame) → KeepMade old new → ShowsFrame old values frame → ShowsFrame new values frame
 frame_kept old new values frame keep h = record {
@@ -51,10 +53,14 @@ parts_same items slots news from k w (p ∷ ps) low high same h =
 pub value_same : (items : Items) (slots news : List Slot) (from w : ℕ) (a : Value) → ((j : ℕ) → from ≤ j → j < from + w → slice_get news j ≡ slice_get slots j) → HaveValue items slots from w a → HaveValue items news from w a
 value_same items slots news from w a same h = record {
   narrow = h.narrow;
-  parts = parts_same items slots news from from w (flat a) (omega arith) (let n = h.narrow in omega (arith, n)) same h.parts;
+  parts = parts_same items slots news from from w (padded w a) (omega arith) (let n = length_padded w a h.narrow in omega (arith, n)) same h.parts;
 }
 
 -- ---- a variable gets a value
+
+pub single_at : (items : Items) (slots : List Slot) (to place width wide : ℕ) (a : Slot) (p : Part) → to ≡ place → wide ≡ width → 1 ≤ width → HasPart items p a → IsFilled (IsSingleSlot a) slots to width → HaveValue items slots place wide (one p)
+single_at items slots to place width wide a p is same enough part filled =
+    subst (λ w. HaveValue items slots place w (one p)) (sym same) (subst (λ k. HaveValue items slots k width (one p)) is (single_value items slots to width a p enough part filled))
 
 equal_is : (x v : ℕ) → (x == v) ≡ true → x ≡ v
 equal_is x v e = grind (arith, nat_tests)

@@ -6,7 +6,9 @@ use Rattle.std.proofs.lemmas.Option.{same_Some}
 use Rattle.vlt_core.specs.Core.{States, unpack}
 use Rattle.vlt_core.specs.Lookups.{Reference, reference_of, owning_states}
 use Rattle.vlt_rings.proofs.Rows.{row_fits}
+use Rattle.vlt_heap.specs.declared.slots.Obj.{Obj}
 use Rattle.vlt_heap.specs.declared.slots.Slot.{Slot}
+use Rattle.vlt_heap.specs.declared.slots.Slot.TheVariants.{Object as Referred, Owned}
 use Rattle.vlt_heap.specs.declared.heap.Heap.{Heap}
 use Rattle.vlt_heap.specs.Items.{Items}
 use Rattle.vlt_meaning.specs.World.{Value, one, of_case, number, reference, owned, Owner, held, lent, loose, inside, adopted_by, out, gone, is_loose, is_gone, is_out, above, Object, World, Frame, trap, fault, done, fuel_end, heap_end, depth_end, input_end, answers_end, bad_answer, missing}
@@ -18,13 +20,14 @@ use Rattle.vlt_meaning.specs.Step.{Step, goes, with_found, with_changed, with_va
 use Rattle.vlt_meaning.specs.Run.{does_simple}
 use Rattle.vlt_meaning_laws.proofs.Keeping.{bound}
 use Rattle.vlt_values.specs.declared.values.Values.{Values}
-use Rattle.vlt_values.specs.Parts.{IsObject, HasPartAt}
+use Rattle.vlt_values.specs.Parts.{IsObject, IsOwned, HasPartAt}
+use Rattle.vlt_values.specs.Filled.{IsFilled, IsSingleSlot}
 use Rattle.vlt_values.specs.Shown.{ShowObjects, var_at, key_at, ShowsFrame, Seen, IsKept, IsKeySet}
 use Rattle.vlt_values.proofs.Touching.{OrFault, then_fault, object_fault, so_fault, so_is, object_is}
 use Rattle.vlt_values.proofs.Fronts.{IsSlotAt, has_part}
 use Rattle.vlt_values.proofs.Pushing.{emptied_shown, owner_shown}
 use Rattle.vlt_acts.specs.Acts.{setup, Does}
-use Rattle.vlt_acts.proofs.Keeping.{value_same, assigned}
+use Rattle.vlt_acts.proofs.Keeping.{value_same, single_at, assigned}
 
 -- ---- a key names an object
 
@@ -71,10 +74,10 @@ loose_fault : (states : States) (objects : List Object) (n : ℕ) → OrFault (o
 loose_fault states objects n =
     then_fault (owned_at is_loose objects n) _ (then_fault _ _ (object_fault objects n) (λ m. so_fault _ _ m)) (λ m. so_fault _ _ m)
 
-pub unpack_does : (h : Heap) (old mid new : Values) (c : Seen h old) (w : World) (n d x v to : ℕ) (q : Reference) (a : Slot) → w.objects ≡ c.objects → reference_of c.func x ≡ Some q → x < old.vars → 1 ≤ old.width → IsSlotAt old.slots.items (var_at old v) a
-    → IsKeySet q.key a old mid → to ≡ var_at mid x → IsKept to mid new → slice_get new.slots.items to ≡ Some a → Does c.items h new (Ok tt) (does_simple (setup c.program n d) c.func (unpack x v) c.frame w)
+pub unpack_does : (h : Heap) (old mid new : Values) (c : Seen h old) (w : World) (n d x v to : ℕ) (q : Reference) (a b : Slot) → w.objects ≡ c.objects → reference_of c.func x ≡ Some q → x < old.vars → 1 ≤ old.width → IsSlotAt old.slots.items (var_at old v) a → ((o : Obj) (i : ℕ) → a ≡ Owned o i → b ≡ Referred o i)
+    → IsKeySet q.key b old mid → to ≡ var_at mid x → IsKept to mid new → IsFilled (IsSingleSlot b) new.slots.items to mid.width → Does c.items h new (Ok tt) (does_simple (setup c.program n d) c.func (unpack x v) c.frame w)
 unfolding with_found
-unpack_does h old mid new c w n d x v to q a same is within wide front set is_to kept at =
+unpack_does h old mid new c w n d x v to q a b same is within wide front unpacked set is_to kept filled =
     subst (λ z. Does c.items h new (Ok tt) (with_found (or_fault missing z) w start)) (sym is) (first (owning_states c.func v))
   where
     last : ℕ → Step
@@ -86,7 +89,8 @@ unpack_does h old mid new c w n d x v to q a same is within wide front set is_to
 
     done_it : (m : ℕ) (o : Object) → c.frame.vars v ≡ Some (one (owned m)) → slice_get w.objects m ≡ Some o → is_loose o.owner ≡ true → Does c.items h new (Ok tt) (last m)
     done_it m o has at_o free =
-        let ref : IsObject c.items m a = has_part c.items old.slots.items (var_at old v) (owned m) a front (c.fits.vars v (one (owned m)) has).value.parts.0 in
+        let part : IsOwned c.items m a = has_part c.items old.slots.items (var_at old v) (owned m) a front (c.fits.vars v (one (owned m)) has).value.parts.0 in
+        let ref : IsObject c.items m b = record { object = part.object; is = unpacked part.object m part.is; made = part.made } in
         let root = loose_root o.owner free in
         let width : new.width ≡ old.width = kept.width ∙ set.width in
         record {
@@ -97,8 +101,8 @@ unpack_does h old mid new c w n d x v to q a same is within wide front set is_to
             objects_shown = subst (λ z. ShowObjects c.items z (changed m (with_owner (held c.frame.depth q.key)) w.objects)) (sym width)
                 (owner_shown c.items old.width m w.objects o (held c.frame.depth q.key) (subst (ShowObjects c.items old.width) (sym same) c.shown) at_o (sym root.0) (sym root.1) (sym root.2));
             frame_shown = assigned c.items mid new (with_key q.key m (with_var v None c.frame)) x (one (reference m)) (subst (λ z. x < z) (sym set.vars) within) (subst (λ z. IsKept z mid new) is_to kept)
-                (record { narrow = subst (λ z. 1 ≤ z) (sym width) wide; parts = (record { slot = a; at = ap (slice_get new.slots.items) (sym is_to) ∙ at; part = ref }, tt) })
-                (named_shown c.items old mid (with_var v None c.frame) q.key m a set ref (emptied_shown c.items old c.frame v c.fits));
+                (single_at c.items new.slots.items to (var_at mid x) mid.width new.width b (reference m) is_to kept.width (subst (λ z. 1 ≤ z) (sym set.width) wide) ref filled)
+                (named_shown c.items old mid (with_var v None c.frame) q.key m b set ref (emptied_shown c.items old c.frame v c.fits));
             kept = λ b k made. made;
           };
         }

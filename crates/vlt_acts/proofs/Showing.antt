@@ -19,7 +19,7 @@ use Rattle.vlt_acts.proofs.Keeping.{value_kept}
 
 -- ---- objects are known still
 
-object_kept : (old new : Items) (w : ℕ) (x : Item) (o : Object) → KeepMade old new → ShowsObject old w x o → ShowsObject new w x o
+pub object_kept : (old new : Items) (w : ℕ) (x : Item) (o : Object) → KeepMade old new → ShowsObject old w x o → ShowsObject new w x o
 object_kept old new w x o keep h = record {
   live = h.live;
   type = h.type;
@@ -29,13 +29,13 @@ object_kept old new w x o keep h = record {
   cells = λ i a at. value_kept old new x.slots (i * w) w a keep (h.cells i a at);
 }
 
-it_kept : (old new : Items) (w : ℕ) (x : Option Item) (o : Object) → KeepMade old new → ShowsIt old w x o → ShowsIt new w x o
+pub it_kept : (old new : Items) (w : ℕ) (x : Option Item) (o : Object) → KeepMade old new → ShowsIt old w x o → ShowsIt new w x o
 it_kept old new w None o keep h = h
 it_kept old new w (Some x) o keep h = object_kept old new w x o keep h
 
 -- ---- one object changes
 
-length_changed : (os : List Object) (n : ℕ) (change : Object → Object) → length (changed n change os) ≡ length os
+pub length_changed : (os : List Object) (n : ℕ) (change : Object → Object) → length (changed n change os) ≡ length os
 length_changed os n change = by (slice_get os n)
   where
     by : (x : Option Object) → length (changed_in n change os x) ≡ length os

@@ -1,5 +1,5 @@
 -- What a statement without blocks comes to in the tables.
-use Rattle.std.specs.Prelude.{◌≡◌, ◌<◌, ℕ, true, false, List, length, Result, Ok, Err, slice_get, IfSome}
+use Rattle.std.specs.Prelude.{◌≡◌, ◌<◌, ◌≤◌, ℕ, true, false, List, length, Result, Ok, Err, slice_get, vec_capacity, IfSome}
 use Rattle.vlt_ops.specs.declared.TrapKind.{TrapKind}
 use Rattle.vlt_core.specs.Lookups.{reference_of}
 use Rattle.vlt_core.specs.Core.{Simple, Func, Program}
@@ -62,10 +62,11 @@ pub record IsRight (heap : Heap) (values : Values) (s : Simple) : Type 0 where
   pub depth : ℕ
   pub right : (o : Outcome) (w : World) → does_simple (setup seen.program heap_budget depth) seen.func s seen.frame world ≡ ends o w → is_fault o ≡ false
 
--- the frame stands where it stood, and all below it is as it was
+-- the frame stands where it stood, all below it is as it was, and there is as much room
 pub record IsSameFrame (old new : Values) : Type 0 where
   pub below : (k : ℕ) → k < old.base → slice_get new.slots.items k ≡ slice_get old.slots.items k
   pub long : length new.slots.items ≡ length old.slots.items
+  pub room : vec_capacity old.slots ≤ vec_capacity new.slots
   pub base : new.base ≡ old.base
   pub vars : new.vars ≡ old.vars
   pub width : new.width ≡ old.width

@@ -40,11 +40,12 @@ pub fn begin_focus(values: &mut Values, heap: &mut Heap, func: &Func, y: VarId, 
                 let a = Slot::Object(object, number);
                 values.put_key(r.key, a);
                 let to = values.place(z);
-                values.put_front(to, a);
+                values.put_single(to, a);
             }
             Focus { object, adopter }
         }
         Slot::Number(_) => unreachable!(),
+        Slot::Owned(..) => unreachable!(),
     }
 }
 

@@ -21,10 +21,10 @@ pub fn unpack(values: &mut Values, func: &Func, x: VarId, v: VarId)
 {
     match func.reference(x) {
         Some(r) => {
-            let a = values.front(v);
+            let a = values.front(v).unpacked();
             values.put_key(r.key, a);
             let to = values.place(x);
-            values.put_front(to, a);
+            values.put_single(to, a);
         }
         None => {}
     }

@@ -22,6 +22,7 @@ pub fn become_state(values: &Values, heap: &mut Heap, x: VarId, state: u8)
     match values.front(x) {
         Slot::Object(o, _) => heap.become_state(o, state),
         Slot::Number(_) => {}
+        Slot::Owned(..) => {}
     }
 }
 
@@ -37,6 +38,7 @@ pub fn release(values: &Values, heap: &mut Heap, x: VarId)
     match values.front(x) {
         Slot::Object(o, _) => heap.release(o),
         Slot::Number(_) => {}
+        Slot::Owned(..) => {}
     }
 }
 
@@ -57,10 +59,12 @@ pub fn adopt(values: &mut Values, heap: &mut Heap, y: VarId, x: VarId, r: VarId)
             Slot::Object(parent, _) => {
                 heap.own(child, parent);
                 let to = values.place(y);
-                values.put_front(to, Slot::Object(child, number));
+                values.put_single(to, Slot::Object(child, number));
             }
             Slot::Number(_) => {}
+            Slot::Owned(..) => {}
         },
         Slot::Number(_) => {}
+        Slot::Owned(..) => {}
     }
 }

@@ -45,8 +45,8 @@ pub fn fill(values: &mut Values, heap: &Heap, v: VarId, o: &Operand) -> Result<(
             Ok(())
         }
         Operand::Pack(x, _) => {
-            let a = values.front(*x);
-            values.put_front(to, a);
+            let a = values.front(*x).packed();
+            values.put_single(to, a);
             Ok(())
         }
     }

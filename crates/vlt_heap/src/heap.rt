@@ -289,7 +289,7 @@ impl Heap {
     }
 
     /// Sends an object out that has no parent and isn't out.
-    pub fn out(&mut self, o: Obj)
+    pub fn send_out(&mut self, o: Obj)
         requires sound { IsSound self.old }
         requires live { IsLive self.old o }
         requires root { IsRoot self.old o }

@@ -13,7 +13,32 @@ pub struct Obj(pub u32);
 #[derive(Clone, Copy, Debug, PartialEq, Eq)]
 pub enum Slot {
     Number(i64),
+    /// An object that is referred to.
     Object(Obj, u64),
+    /// An object that the value owns.
+    Owned(Obj, u64),
+}
+
+impl Slot {
+    /// The object that is referred to, as one that the value owns.
+    pub fn packed(self) -> Slot
+        ensures { (o : Obj) (n : ℕ) → self ≡ Slot.Object o n → result ≡ Slot.Owned o n }
+    {
+        match self {
+            Slot::Object(o, n) => Slot::Owned(o, n),
+            other => other,
+        }
+    }
+
+    /// The object that the value owns, as one that is referred to.
+    pub fn unpacked(self) -> Slot
+        ensures { (o : Obj) (n : ℕ) → self ≡ Slot.Owned o n → result ≡ Slot.Object o n }
+    {
+        match self {
+            Slot::Owned(o, n) => Slot::Object(o, n),
+            other => other,
+        }
+    }
 }
 
 /// The type and the state of an object, and whether it is with the host.

@@ -81,7 +81,7 @@ fn send(heap: &mut Heap, o: Made) -> bool
     ensures slots { slots_of heap.new ≡ 2 }
 {
     if is_free(heap, o) {
-        heap.out(o.object);
+        heap.send_out(o.object);
         true
     } else {
         false

@@ -26,7 +26,7 @@ unfolding then_step
 same_step (got a frame w) f g h = h a frame w
 same_step (stopped o w) f g h = refl
 
-operand_step : (p : Program) (f : Func) (o : Operand) (frame : Frame) (w : World) (go : Value → Frame → World → Step) → with_operand p f o frame w go ≡ then_step (operand_got p f o frame w) go
+pub operand_step : (p : Program) (f : Func) (o : Operand) (frame : Frame) (w : World) (go : Value → Frame → World → Step) → with_operand p f o frame w go ≡ then_step (operand_got p f o frame w) go
 unfolding with_operand then_step then_got
 operand_step p f (pure e) frame w go = found_step (value_of p f e frame w.objects) frame w go
 operand_step p f (move v) frame w go =

@@ -8,7 +8,7 @@ use Rattle.vlt_heap.specs.declared.heap.Heap.{Heap}
 use Rattle.vlt_heap.specs.Shown.{Finds}
 use Rattle.vlt_values.specs.declared.values.Values.{Values}
 use Rattle.vlt_values.specs.Filled.{IsFilled, IsCellSlot}
-use Rattle.vlt_values.specs.Shown.{var_at, AreApart, IsVarSlot}
+use Rattle.vlt_values.specs.Shown.{var_at, AreApart, IsVarSlot, IsSlotFrom, IsFrontOf}
 
 pub filled_none : (source : ℕ → Slot → Type 0) (slots : List Slot) (to : ℕ) → IsFilled source slots to 0
 filled_none source slots to j a l from = absurd (omega (arith, l))
@@ -31,18 +31,26 @@ outside_more first slots to n a same k out = by out
     by (inl l) = get_other slots (to + n) k a (λ e. absurd (omega (arith, l, e))) ∙ same k (inl l)
     by (inr l) = get_other slots (to + n) k a (λ e. absurd (omega (arith, l, e))) ∙ same k (inr (omega (arith, l)))
 
+-- a slot that wasn't written yet
+pub apart_outside : (from to width n : ℕ) → n < width → AreApart from to width → (from + n < to) ⊎ (to + n ≤ from + n)
+apart_outside from to width n l (inl e) = inr (omega (arith, e))
+apart_outside from to width n l (inr (inl m)) = inl (omega (arith, m, l))
+apart_outside from to width n l (inr (inr m)) = inr (omega (arith, m))
+
 -- a slot of the source that wasn't written yet
 pub var_source : (first now : Values) (v to n : ℕ) (a : Slot) → now.base ≡ first.base → now.width ≡ first.width → n < first.width → IsOutside first.slots.items now.slots.items to n → AreApart (var_at first v) to first.width
     → ((b : Slot) → slice_get now.slots.items (var_at now v + n) ≡ Some b → a ≡ b) → (b : Slot) → IsVarSlot first v n b → a ≡ b
-var_source first now v to n a base width l same apart is b from = is b (ap (λ k. slice_get now.slots.items (k + n)) at ∙ same (var_at first v + n) (by apart) ∙ from)
+var_source first now v to n a base width l same apart is b from = is b (ap (λ k. slice_get now.slots.items (k + n)) at ∙ same (var_at first v + n) (apart_outside (var_at first v) to first.width n l apart) ∙ from)
   where
     at : var_at now v ≡ var_at first v
     at = ap (λ k. k + v * now.width) base ∙ ap (λ w. first.base + v * w) width
 
-    by : AreApart (var_at first v) to first.width → (var_at first v + n < to) ⊎ (to + n ≤ var_at first v + n)
-    by (inl e) = inr (omega (arith, e))
-    by (inr (inl m)) = inl (omega (arith, m, l))
-    by (inr (inr m)) = inr (omega (arith, m, l))
+pub slot_source : (first now : Values) (from to n : ℕ) (a : Slot) → n < first.width → IsOutside first.slots.items now.slots.items to n → AreApart from to first.width → slice_get now.slots.items (from + n) ≡ Some a → (b : Slot) → IsSlotFrom first from n b → a ≡ b
+slot_source first now from to n a l same apart at b is = same_Some a b (sym at ∙ same (from + n) (apart_outside from to first.width n l apart) ∙ is)
+
+pub front_source : (first now : Values) (from to n : ℕ) (a : Slot) → now.width ≡ first.width → IsOutside first.slots.items now.slots.items to n → to + n ≤ from → slice_get now.slots.items (from + n * now.width) ≡ Some a → (b : Slot) → IsFrontOf first from n b → a ≡ b
+front_source first now from to n a width same before at b is =
+    same_Some a b (sym at ∙ same (from + n * now.width) (inr (omega (arith, before))) ∙ ap (λ w. slice_get first.slots.items (from + n * w)) width ∙ is)
 
 -- ---- what is found in the heap
 

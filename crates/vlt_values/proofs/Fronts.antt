@@ -5,7 +5,7 @@ use Rattle.std.proofs.lemmas.Option.{none-some, same_Some, slice_get_within}
 use Rattle.vlt_core.specs.Core.{field}
 use Rattle.vlt_heap.specs.declared.slots.Obj.{Obj}
 use Rattle.vlt_heap.specs.declared.slots.Slot.{Slot}
-use Rattle.vlt_heap.specs.declared.slots.Slot.TheVariants.{Number, Object}
+use Rattle.vlt_heap.specs.declared.slots.Slot.TheVariants.{Number, Object, Owned}
 use Rattle.vlt_heap.specs.declared.heap.Heap.{Heap}
 use Rattle.vlt_heap.specs.Items.{Item, Items, IsAt, IsMadeAt}
 use Rattle.vlt_heap.specs.Shown.{Finds}
@@ -14,14 +14,14 @@ use Rattle.vlt_meaning.specs.World.{Part, reference, Value, one, of_case, Object
 use Rattle.vlt_meaning.specs.Found.{Found, ◌>>=◌, or_fault, Named}
 use Rattle.vlt_meaning.specs.Values.{touchable, value_of}
 use Rattle.vlt_values.specs.declared.values.Values.{Values}
-use Rattle.vlt_values.specs.Parts.{flat, head_of, IsObject, HasPart, HasPartAt, HaveParts}
+use Rattle.vlt_values.specs.Parts.{padded, head_of, IsObject, IsOwned, HasPart, HasPartAt, HaveParts}
 use Rattle.vlt_values.specs.Shown.{ShowsObject, ShowsIt, ShowObjects, var_at, Seen, IsFront}
 use Rattle.vlt_values.proofs.Touching.{OrFault, Touched, touched, touch_fault}
 
 -- the first part of a value
-pub front_part : (items : Items) (slots : List Slot) (k : ℕ) (w : Value) → HaveParts items slots k (flat w) → HasPartAt items slots k (head_of w)
-front_part items slots k (one a) parts = parts.0
-front_part items slots k (of_case c ps keys) parts = parts.0
+pub front_part : (items : Items) (slots : List Slot) (k n : ℕ) (w : Value) → HaveParts items slots k (padded n w) → HasPartAt items slots k (head_of w)
+front_part items slots k n (one a) parts = parts.0
+front_part items slots k n (of_case c ps keys) parts = parts.0
 
 -- whatever slot is there, it is this one
 abbrev pub IsSlotAt : List Slot → ℕ → Slot → Type 0
@@ -35,7 +35,7 @@ var_front h v c x a is = by (c.frame.vars x) refl
   where
     by : (w : Option Value) → c.frame.vars x ≡ w → IsFront c.items a (or_fault no_value w)
     by None e = refl
-    by (Some w) e = has_part c.items v.slots.items (var_at v x) (head_of w) a is (front_part c.items v.slots.items (var_at v x) w (c.fits.vars x w e).value.parts)
+    by (Some w) e = has_part c.items v.slots.items (var_at v x) (head_of w) a is (front_part c.items v.slots.items (var_at v x) v.width w (c.fits.vars x w e).value.parts)
 
 -- ---- fields
 
@@ -57,12 +57,24 @@ behind items width n objects o shown at live =
 abbrev object_in : Slot → Option (Obj × ℕ)
 object_in (Number z) = None
 object_in (Object o n) = Some (o, n)
+object_in (Owned o n) = None
 
 pub same_object : {o q : Obj} {n m : ℕ} → Object o n ≡ Object q m → (o ≡ q) × (n ≡ m)
 same_object e = let s = same_Some _ _ (ap object_in e) in (ap (λ x. x.0) s, ap (λ x. x.1) s)
 
-pub no_object : {q : Obj} {m : ℕ} {z : ℤ} → Number z ≡ Object q m → ⊥
-no_object e = none-some _ (ap object_in e)
+-- a slot that refers to no object
+abbrev pub IsNoObject : Slot → Type 0
+IsNoObject a = (q : Obj) (m : ℕ) → a ≡ Object q m → ⊥
+
+pub number_object : (a : Slot) (z : ℤ) → a ≡ Number z → IsNoObject a
+number_object a z is q m e = none-some _ (ap object_in (sym is ∙ e))
+
+pub owned_object : (a : Slot) (o : Obj) (n : ℕ) → a ≡ Owned o n → IsNoObject a
+owned_object a o n is q m e = none-some _ (ap object_in (sym is ∙ e))
+
+-- a reference that is packed owns its object
+pub packed_object : (items : Items) (n : ℕ) (a b : Slot) → ((o : Obj) (m : ℕ) → a ≡ Object o m → b ≡ Owned o m) → IsObject items n a → IsOwned items n b
+packed_object items n a b packed ref = record { object = ref.object; is = packed ref.object n ref.is; made = ref.made }
 
 -- where the field is there, the slot has to have its front
 pub field_front : (h : Heap) (v : Values) (c : Seen h v) (x i : ℕ) (r : Slot) → ((m : Named) (w : Value) → Touched x c.frame c.objects m → slice_get m.object.cells i ≡ Some w → HasPart c.items (head_of w) r)
@@ -90,7 +102,7 @@ module _ (h : Heap) (v : Values) (c : Seen h v) (x : ℕ) (a : Slot) (is : IsSlo
       let f = finds c.items c.holds (subst (λ q. IsMadeAt c.items q.0 n) (sym s.0) (subst (IsMadeAt c.items ref.object.0) (sym s.1) ref.made)) in
       let item : f.item ≡ b.item = same_Some _ _ (same_Some _ _ (sym f.at ∙ ap (slice_get c.items) s.1 ∙ b.at)) in
       has_part c.items b.item.slots (i * v.width) (head_of w) r (λ q at_q. same_Some r q (sym f.slot ∙ ap (λ z. slice_get z.slots (i * v.width)) item ∙ at_q))
-      (front_part c.items b.item.slots (i * v.width) w (b.shown.cells i w at).parts))
+      (front_part c.items b.item.slots (i * v.width) v.width w (b.shown.cells i w at).parts))
 
   pub field_none : (i : ℕ) (o : Obj) (n : ℕ) (r : Slot) → a ≡ Object o n → Finds None o n (i * v.width) h → IsFront c.items r (value_of c.program c.func (field x i) c.frame c.objects)
   field_none i o n r e finds = field_front h v c x i r (λ m w t at.
@@ -98,8 +110,8 @@ module _ (h : Heap) (v : Values) (c : Seen h v) (x : ℕ) (a : Slot) (is : IsSlo
       let s = same_object (sym e ∙ ref.is) in
       let b = behind c.items v.width m.number c.objects m.object c.shown t.at t.live in
       let f = finds c.items c.holds (subst (λ q. IsMadeAt c.items q.0 n) (sym s.0) (subst (IsMadeAt c.items ref.object.0) (sym s.1) ref.made)) in
-      let part = front_part c.items b.item.slots (i * v.width) w (b.shown.cells i w at).parts in
+      let part = front_part c.items b.item.slots (i * v.width) v.width w (b.shown.cells i w at).parts in
       absurd (none-some part.slot (sym (f b.item (ap (slice_get c.items) s.1 ∙ b.at)) ∙ part.at)))
 
-  pub field_number : (i : ℕ) (z : ℤ) (r : Slot) → a ≡ Number z → IsFront c.items r (value_of c.program c.func (field x i) c.frame c.objects)
-  field_number i z r e = field_front h v c x i r (λ m w t at. absurd (no_object (sym e ∙ (referred m t).is)))
+  pub field_nowhere : (i : ℕ) (r : Slot) → IsNoObject a → IsFront c.items r (value_of c.program c.func (field x i) c.frame c.objects)
+  field_nowhere i r none = field_front h v c x i r (λ m w t at. let ref = referred m t in absurd (none ref.object m.number ref.is))

@@ -1,5 +1,6 @@
 pub mod Forms
 pub mod Touching
+pub mod Padding
 pub mod Fronts
 pub mod Numbers
 pub mod Copies

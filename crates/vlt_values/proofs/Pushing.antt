@@ -17,10 +17,12 @@ use Rattle.vlt_meaning.specs.Step.{with_var, with_changed}
 use Rattle.vlt_meaning_laws.proofs.Keeping.{change_here, change_elsewhere}
 use Rattle.vlt_machine.specs.Got.{Got, got, stopped, then_got, found_in, operand_got, operands_got}
 use Rattle.vlt_values.specs.declared.values.Values.{Values}
-use Rattle.vlt_values.specs.Parts.{flat, IsObject, HasPartAt, HaveParts, HaveValue}
+use Rattle.vlt_values.specs.Parts.{padded, IsOwned, HasPartAt, HaveParts, HaveValue}
+use Rattle.vlt_values.specs.Filled.{IsFilled, IsSingleSlot}
 use Rattle.vlt_values.specs.Shown.{ShowsIt, ShowObjects, var_at, key_at, ShowsFrame, Seen, IsKept, IsGrown, IsCopied, IsWritten}
 use Rattle.vlt_values.specs.Pushed.{HaveValues, Shows, HasPushed, IsPushed, ArePushed}
 use Rattle.vlt_values.proofs.Touching.{OrFault, Packed, object_of_fault, object_of_is}
+use Rattle.vlt_values.proofs.Padding.{single_value}
 
 -- ---- more at the end
 
@@ -32,7 +34,7 @@ parts_grown items old new k [] g h = tt
 parts_grown items old new k (p ∷ ps) g h = (part_grown items old new k p g h.0, parts_grown items old new (suc k) ps g h.1)
 
 pub value_grown : (items : Items) (old new : Values) (k w : ℕ) (a : Value) → IsGrown old new → HaveValue items old.slots.items k w a → HaveValue items new.slots.items k w a
-value_grown items old new k w a g h = record { narrow = h.narrow; parts = parts_grown items old new k (flat a) g h.parts }
+value_grown items old new k w a g h = record { narrow = h.narrow; parts = parts_grown items old new k (padded w a) g h.parts }
 
 pub values_grown : (items : Items) (old new : Values) (k w : ℕ) (xs : List Value) → IsGrown old new → HaveValues items old.slots.items k w xs → HaveValues items new.slots.items k w xs
 values_grown items old new k w [] g h = tt
@@ -151,10 +153,10 @@ owner_shown items width n objects o owner h at gone up out = record {
         same (Some y) s = record { live = gone ∙ s.live; type = s.type; state = s.state; parent = s.parent ∙ sym up; is_out = s.is_out ∙ sym out; cells = s.cells }
     by m x q at_x at_q (inr d) = h.each m x q at_x (sym (change_elsewhere objects n (with_owner owner) m d) ∙ at_q)
 
-pub pack_pushed : (h : Heap) (old new : Values) (g : IsGrown old new) (c : Seen h old) (w : World) (same : w.objects ≡ c.objects) (x : ℕ) (states : States) (to : ℕ) (a : Slot) → to ≡ length old.slots.items → 1 ≤ old.width → slice_get new.slots.items to ≡ Some a
-    → ((m : Named) → Packed x c.frame c.objects m → IsObject c.items m.number a) → IsPushed c.items old new (Ok tt) (operand_got c.program c.func (pack x states) c.frame w)
+pub pack_pushed : (h : Heap) (old new : Values) (g : IsGrown old new) (c : Seen h old) (w : World) (same : w.objects ≡ c.objects) (x : ℕ) (states : States) (to : ℕ) (a : Slot) → to ≡ length old.slots.items → 1 ≤ old.width → IsFilled (IsSingleSlot a) new.slots.items to old.width
+    → ((m : Named) → Packed x c.frame c.objects m → IsOwned c.items m.number a) → IsPushed c.items old new (Ok tt) (operand_got c.program c.func (pack x states) c.frame w)
 unfolding found_in then_got
-pack_pushed h old new g c w same x states to a is wide at ref = by (object_of c.func (λ r. states) x c.frame w.objects) refl (object_of_fault c.func (λ r. states) x c.frame w.objects)
+pack_pushed h old new g c w same x states to a is wide filled ref = by (object_of c.func (λ r. states) x c.frame w.objects) refl (object_of_fault c.func (λ r. states) x c.frame w.objects)
   where
     by : (q : Found Named) → object_of c.func (λ r. states) x c.frame w.objects ≡ q → OrFault q
         → IsPushed c.items old new (Ok tt) (then_got (found_in q c.frame w) (λ n frame w. got (one (owned n.number)) frame (with_changed w n.number (with_owner loose))))
@@ -163,7 +165,7 @@ pack_pushed h old new g c w same x states to a is wide at ref = by (object_of c.
         let s = shows_grown h old new g c w.objects same in
         record {
           is = refl;
-          value = subst (λ n. HaveValue c.items new.slots.items n old.width (one (owned m.number))) is (record { narrow = wide; parts = (record { slot = a; at = at; part = ref m p }, tt) });
+          value = subst (λ n. HaveValue c.items new.slots.items n old.width (one (owned m.number))) is (single_value c.items new.slots.items to old.width a (owned m.number) wide (ref m p) filled);
           shows = record {
             objects_shown = owner_shown c.items new.width m.number w.objects m.object loose s.objects_shown (ap (λ os. slice_get os m.number) same ∙ p.touched.at) (sym p.root.live) (sym p.root.above) (sym p.root.here);
             frame_shown = s.frame_shown;

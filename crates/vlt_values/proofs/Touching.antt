@@ -35,7 +35,7 @@ object_fault objects n = by (slice_get objects n)
     by None = refl
     by (Some o) = tt
 
-held_fault : (k : ℕ) (frame : Frame) (objects : List Object) → OrFault (held_object k frame objects)
+pub held_fault : (k : ℕ) (frame : Frame) (objects : List Object) → OrFault (held_object k frame objects)
 held_fault k frame objects =
     then_fault (or_fault no_value (frame.keys k)) _ (some_fault no_value (frame.keys k)) (λ n.
     then_fault (object_at objects n) _ (object_fault objects n) (λ m. so_fault (is_held_under frame.depth k m.object.owner) not_held m))
@@ -113,11 +113,11 @@ abbrev found_or : {A : Type 0} → A → Found A → A
 found_or b (Ok c) = c
 found_or b (Err o) = b
 
-some_is : {A : Type 0} (r : Reason) (x : Option A) (a : A) → or_fault r x ≡ Ok a → x ≡ Some a
+pub some_is : {A : Type 0} (r : Reason) (x : Option A) (a : A) → or_fault r x ≡ Ok a → x ≡ Some a
 some_is r (Some b) a e = ap (λ z. Some z) (ap (found_or b) e)
 some_is r None a e = absurd (err-ok e)
 
-held_root : (d k : ℕ) (o : Owner) → is_held_under d k o ≡ true → IsRoot o
+pub held_root : (d k : ℕ) (o : Owner) → is_held_under d k o ≡ true → IsRoot o
 held_root d k (held e j) h = record { live = refl; above = refl; here = refl }
 held_root d k (lent e j) h = record { live = refl; above = refl; here = refl }
 held_root d k loose h = record { live = refl; above = refl; here = refl }
@@ -158,7 +158,7 @@ reference_is (Some (one (owned m))) n e = absurd (err-ok e)
 reference_is (Some (of_case c parts keys)) n e = absurd (err-ok e)
 reference_is None n e = absurd (err-ok e)
 
-equal_is : (n m : ℕ) → (n == m) ≡ true → n ≡ m
+pub equal_is : (n m : ℕ) → (n == m) ≡ true → n ≡ m
 equal_is n m e = grind (arith, nat_tests)
 
 pub tracked_is : (r : Reference) (x : ℕ) (frame : Frame) (objects : List Object) (m : Named) → tracked_object r x frame objects ≡ Ok m → Touched x frame objects m

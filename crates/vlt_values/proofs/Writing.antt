@@ -18,12 +18,13 @@ use Rattle.vlt_meaning.specs.Values.{number_in, or_trap, value_of, number_of, to
 use Rattle.vlt_meaning_laws.proofs.Keeping.{err-ok}
 use Rattle.vlt_values.specs.declared.exprs.Sides.{Sides}
 use Rattle.vlt_values.specs.declared.values.Values.{Values}
-use Rattle.vlt_values.specs.Parts.{flat, HaveParts, HaveValue}
-use Rattle.vlt_values.specs.Filled.{IsFilled, IsCellSlot}
+use Rattle.vlt_values.specs.Parts.{padded, HaveParts, HaveValue}
+use Rattle.vlt_values.specs.Filled.{IsFilled, IsCellSlot, IsSingleSlot}
 use Rattle.vlt_values.specs.Asked.{of_both, given_by, IsAsked}
 use Rattle.vlt_values.specs.Shown.{var_at, AreApart, IsPlace, IsVarSlot, Seen, IsNumber, IsNumeric, IsCopied, IsWritten}
 use Rattle.vlt_values.proofs.Touching.{OrFault, Touched, touched, touch_fault}
-use Rattle.vlt_values.proofs.Fronts.{IsSlotAt, behind, same_object, no_object, referred}
+use Rattle.vlt_values.proofs.Fronts.{IsSlotAt, behind, same_object, IsNoObject, referred}
+use Rattle.vlt_values.proofs.Padding.{length_padded, single_value}
 use Rattle.vlt_values.proofs.Numbers.{Faulty, number_is, trap_is, ok-err}
 
 -- ---- values that are copied
@@ -41,8 +42,8 @@ have_moved items slots news from to w d (p ∷ ps) l same parts =
 pub value_moved : (items : Items) (slots news : List Slot) (from to w : ℕ) (a : Value) → ((j : ℕ) (b : Slot) → j < w → slice_get slots (from + j) ≡ Some b → slice_get news (to + j) ≡ Some b) → HaveValue items slots from w a → HaveValue items news to w a
 value_moved items slots news from to w a same has = record {
   narrow = has.narrow;
-  parts = subst (λ k. HaveParts items news k (flat a)) (omega arith)
-      (have_moved items slots news from to w 0 (flat a) (let n = has.narrow in omega (arith, n)) same (subst (λ k. HaveParts items slots k (flat a)) (omega arith) has.parts));
+  parts = subst (λ k. HaveParts items news k (padded w a)) (omega arith)
+      (have_moved items slots news from to w 0 (padded w a) (let n = length_padded w a has.narrow in omega (arith, n)) same (subst (λ k. HaveParts items slots k (padded w a)) (omega arith) has.parts));
 }
 
 pub apart_from : (values : Values) (x to : ℕ) → x < values.vars → IsPlace values to → AreApart (var_at values x) to values.width
@@ -94,8 +95,8 @@ cell_copied h old new c x i to a o n is e width filled = field_copied h old new 
       slot = at_q;
     })) (b.shown.cells i w at))
 
-pub number_copied : (h : Heap) (old new : Values) (c : Seen h old) (x i to : ℕ) (a : Slot) (z : ℤ) → IsSlotAt old.slots.items (var_at old x) a → a ≡ Number z → new.width ≡ old.width → IsCopied c.items new to (value_of c.program c.func (field x i) c.frame c.objects)
-number_copied h old new c x i to a z is e width = field_copied h old new c x i to width (λ m w t at. absurd (no_object (sym e ∙ (referred h old c x a is m t).is)))
+pub nowhere_copied : (h : Heap) (old new : Values) (c : Seen h old) (x i to : ℕ) (a : Slot) → IsSlotAt old.slots.items (var_at old x) a → IsNoObject a → new.width ≡ old.width → IsCopied c.items new to (value_of c.program c.func (field x i) c.frame c.objects)
+nowhere_copied h old new c x i to a is none width = field_copied h old new c x i to width (λ m w t at. let ref = referred h old c x a is m t in absurd (none ref.object m.number ref.is))
 
 -- what was copied was written
 pub copied_written : (items : Items) (values : Values) (to : ℕ) (x : Found Value) → IsCopied items values to x → IsWritten items values to (Ok tt) x
@@ -127,19 +128,19 @@ any_written items values to r x f = subst (IsWritten items values to r) (sym f.i
 -- ---- numbers that are written
 
 -- a number was written, or there was none
-pub number_put : (items : Items) (values : Values) (to : ℕ) (x : Found Value) (z : ℤ) → IsNumeric x → IsNumber (Ok z) (x >>= number_in) → 1 ≤ values.width → slice_get values.slots.items to ≡ Some (Number z) → IsWritten items values to (Ok tt) x
-number_put items values to (Ok (one (number y))) z numeric is wide at = record {
+pub number_put : (items : Items) (values : Values) (to : ℕ) (x : Found Value) (z : ℤ) → IsNumeric x → IsNumber (Ok z) (x >>= number_in) → 1 ≤ values.width → IsFilled (IsSingleSlot (Number z)) values.slots.items to values.width → IsWritten items values to (Ok tt) x
+number_put items values to (Ok (one (number y))) z numeric is wide filled = record {
   is = refl;
-  value = record { narrow = wide; parts = (record { slot = Number z; at = at; part = ap (λ q. Number (value q)) is }, tt) };
+  value = single_value items values.slots.items to values.width (Number z) (number y) wide (ap (λ q. Number (value q)) is) filled;
 }
   where
     value : Result ℤ TrapKind → ℤ
     value (Ok q) = q
     value (Err t) = y
-number_put items values to (Ok (one (reference n))) z numeric is wide at = absurd numeric
-number_put items values to (Ok (one (owned n))) z numeric is wide at = absurd numeric
-number_put items values to (Ok (of_case d parts keys)) z numeric is wide at = absurd numeric
-number_put items values to (Err o) z numeric is wide at = by (number_is (Ok z) (Err o) z is refl)
+number_put items values to (Ok (one (reference n))) z numeric is wide filled = absurd numeric
+number_put items values to (Ok (one (owned n))) z numeric is wide filled = absurd numeric
+number_put items values to (Ok (of_case d parts keys)) z numeric is wide filled = absurd numeric
+number_put items values to (Err o) z numeric is wide filled = by (number_is (Ok z) (Err o) z is refl)
   where
     by : (◌≡◌ {A = Found ℤ} (Err o) (Ok z)) ⊎ Faulty {A = ℤ} (Err o) → IsWritten items values to (Ok tt) (Err o)
     by (inl e) = absurd (err-ok e)

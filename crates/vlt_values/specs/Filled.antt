@@ -1,7 +1,8 @@
 -- Slots that were copied.
-use Rattle.std.specs.Prelude.{◌≡◌, ◌<◌, ◌+◌, ℕ, List, Some, slice_get}
+use Rattle.std.specs.Prelude.{◌≡◌, ◌<◌, ◌==◌, ◌+◌, ℕ, pos, if◌then◌else◌, List, Some, slice_get}
 use Rattle.vlt_heap.specs.declared.slots.Obj.{Obj}
 use Rattle.vlt_heap.specs.declared.slots.Slot.{Slot}
+use Rattle.vlt_heap.specs.declared.slots.Slot.TheVariants.{Number}
 use Rattle.vlt_heap.specs.declared.heap.Heap.{Heap}
 use Rattle.vlt_heap.specs.Items.{Item, Items, IsAt, IsMadeAt}
 use Rattle.vlt_heap.specs.Shown.{Holds}
@@ -18,3 +19,7 @@ pub record IsCellSlot (h : Heap) (o : Obj) (n k : ℕ) (a : Slot) : Type 0 where
   pub item : Item
   pub at : IsAt items n item
   pub slot : slice_get item.slots k ≡ Some a
+
+-- the slot j of a value of one part
+abbrev pub IsSingleSlot : (front : Slot) → (j : ℕ) → Slot → Type 0
+IsSingleSlot a j b = (if j == 0 then a else Number (pos 0)) ≡ b

@@ -38,6 +38,10 @@ pub record ShowObjects (items : Items) (width : ℕ) (objects : List Object) : T
 abbrev pub IsTable : Values → Type 0
 IsTable values = values.base + values.vars * values.width ≤ length values.slots.items
 
+-- the table with the frame that begins there, of so many variables, as the running one
+abbrev pub framed : Values → (base vars : ℕ) → Values
+framed values b n = record values { base = b; vars = n }
+
 -- the position of a variable's first slot, and of a key's
 abbrev pub var_at : Values → (v : ℕ) → ℕ
 var_at values v = values.base + v * values.width
@@ -71,6 +75,23 @@ pub record Seen (heap : Heap) (values : Values) : Type 0 where
 abbrev pub IsVarSlot : Values → (v j : ℕ) → Slot → Type 0
 IsVarSlot values v j a = slice_get values.slots.items (var_at values v + j) ≡ Some a
 
+-- the slot j from a position on
+abbrev pub IsSlotFrom : Values → (from j : ℕ) → Slot → Type 0
+IsSlotFrom values k j a = slice_get values.slots.items (k + j) ≡ Some a
+
+-- the front of the value j of those from a position on
+abbrev pub IsFrontOf : Values → (from j : ℕ) → Slot → Type 0
+IsFrontOf values k j a = slice_get values.slots.items (k + j * values.width) ≡ Some a
+
+-- so many slots from a position on were set, and nothing else
+pub record IsRowSet (to count : ℕ) (old new : Values) : Type 0 where
+  pub outside : (k : ℕ) → (k < to) ⊎ (to + count ≤ k) → slice_get new.slots.items k ≡ slice_get old.slots.items k
+  pub long : length new.slots.items ≡ length old.slots.items
+  pub room : vec_capacity new.slots ≡ vec_capacity old.slots
+  pub base : new.base ≡ old.base
+  pub vars : new.vars ≡ old.vars
+  pub width : new.width ≡ old.width
+
 -- slots from one position on and from another are the same or have none in common
 abbrev pub AreApart : (from to width : ℕ) → Type 0
 AreApart a b w = (a ≡ b) ⊎ ((a + w ≤ b) ⊎ (b + w ≤ a))
@@ -84,19 +105,30 @@ pub record IsKept (to : ℕ) (old new : Values) : Type 0 where
   pub vars : new.vars ≡ old.vars
   pub width : new.width ≡ old.width
 
--- the slot of a key is set, and nothing else
-pub record IsKeySet (k : ℕ) (a : Slot) (old new : Values) : Type 0 where
-  pub here : slice_get new.slots.items (key_at old k) ≡ Some a
-  pub others : (j : ℕ) → j ≢ key_at old k → slice_get new.slots.items j ≡ slice_get old.slots.items j
+-- a slot is set, and nothing else
+pub record IsSlotSet (k : ℕ) (a : Slot) (old new : Values) : Type 0 where
+  pub here : slice_get new.slots.items k ≡ Some a
+  pub others : (j : ℕ) → j ≢ k → slice_get new.slots.items j ≡ slice_get old.slots.items j
   pub long : length new.slots.items ≡ length old.slots.items
   pub room : vec_capacity new.slots ≡ vec_capacity old.slots
   pub base : new.base ≡ old.base
   pub vars : new.vars ≡ old.vars
   pub width : new.width ≡ old.width
 
+abbrev pub IsKeySet : (k : ℕ) → Slot → (old new : Values) → Type 0
+IsKeySet k a old new = IsSlotSet (key_at old k) a old new
+
 -- there is more at the end
 pub record IsGrown (old new : Values) : Type 0 where
   pub same : (k : ℕ) → k < length old.slots.items → slice_get new.slots.items k ≡ slice_get old.slots.items k
+  pub base : new.base ≡ old.base
+  pub vars : new.vars ≡ old.vars
+  pub width : new.width ≡ old.width
+
+-- only so many slots are left
+pub record IsCut (n : ℕ) (old new : Values) : Type 0 where
+  pub same : (k : ℕ) → k < n → slice_get new.slots.items k ≡ slice_get old.slots.items k
+  pub long : length new.slots.items ≡ n
   pub base : new.base ≡ old.base
   pub vars : new.vars ≡ old.vars
   pub width : new.width ≡ old.width

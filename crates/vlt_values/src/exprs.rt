@@ -22,6 +22,7 @@ fn number_in(a: Slot) -> i64
     match a {
         Slot::Number(z) => z,
         Slot::Object(..) => 0,
+        Slot::Owned(..) => 0,
     }
 }
 
@@ -38,6 +39,7 @@ pub fn front_of_field(x: VarId, i: u32, values: &Values, heap: &Heap) -> Slot
             None => Slot::Number(0),
         },
         Slot::Number(_) => Slot::Number(0),
+        Slot::Owned(..) => Slot::Number(0),
     }
 }
 

@@ -38,8 +38,8 @@ pub fn push_operand(values: &mut Values, o: &Operand, heap: &Heap) -> Result<(),
             Ok(())
         }
         Operand::Pack(x, _) => {
-            let a = values.front(*x);
-            values.put_front(to, a);
+            let a = values.front(*x).packed();
+            values.put_single(to, a);
             Ok(())
         }
     }

@@ -1,8 +1,8 @@
 //! The values of all frames in one table.
 
-ghost use Rattle.std.specs.Prelude.{◌≡◌, ◌≤◌, ◌<◌, ◌+◌, ◌*◌, ◌++◌, ◌∷◌, [], pos, drop, length, Some, IfOk, slice_get, slice_set, vec_capacity};
+ghost use Rattle.std.specs.Prelude.{◌≡◌, ◌≤◌, ◌<◌, ◌+◌, ◌*◌, ◌^◌, ◌++◌, ◌∷◌, [], pos, take, drop, length, Some, IfOk, slice_get, slice_set, vec_capacity, max};
 ghost use Rattle.vlt_heap.specs.Shown.{IsSound};
-ghost use Rattle.vlt_values.specs.Filled.{IsFilled, IsCellSlot};
+ghost use Rattle.vlt_values.specs.Filled.{IsFilled, IsCellSlot, IsSingleSlot};
 
 use std::alloc::Global;
 use vlt_base::{KeyId, Memory, VarId};
@@ -48,13 +48,13 @@ fn put(slots: &mut Vec<Slot>, k: usize, a: Slot)
     slots[k] = a;
 }
 
-/// One slot more, with 0, for which there is room.
-fn push(slots: &mut Vec<Slot>)
+/// One slot more, for which there is room.
+fn push(slots: &mut Vec<Slot>, a: Slot)
     requires { length slots.old.items < vec_capacity slots.old }
-    ensures items { slots.new.items ≡ slots.old.items ++ Slot.Number (pos 0) ∷ [] }
+    ensures items { slots.new.items ≡ slots.old.items ++ a ∷ [] }
     ensures room { vec_capacity slots.old ≤ vec_capacity slots.new }
 {
-    match slots.push(Slot::Number(0)) {
+    match slots.push(a) {
         Ok(()) => {}
         Err(_) => unreachable!(),
     }
@@ -71,8 +71,15 @@ fn find(heap: &Heap, object: Obj, number: u64, k: u64) -> Slot
     }
 }
 
+/// The slot j of a value of one part: its slot in front, then 0.
+fn single(front: Slot, j: u32) -> Slot
+    ensures { (a : Slot) → IsSingleSlot front j a → result ≡ a }
+{
+    if j == 0 { front } else { Slot::Number(0) }
+}
+
 impl Values {
-    ghost use Rattle.vlt_values.specs.Shown.{IsTable, var_at, key_at, AreApart, IsKept, IsKeySet, IsGrown, IsVarSlot};
+    ghost use Rattle.vlt_values.specs.Shown.{IsTable, var_at, key_at, AreApart, IsKept, IsSlotSet, IsKeySet, IsGrown, IsCut, IsRowSet, IsVarSlot, IsSlotFrom, IsFrontOf, framed};
 
     /// No frame, and room for so many slots, where each value takes `width`.
     pub fn open(alloc: Global, room: usize, width: u32) -> Result<Values, Memory>
@@ -109,18 +116,35 @@ impl Values {
         at(behind(&self.slots, self.base), k)
     }
 
+    /// The slot at a position.
+    pub fn slot_at(&self, k: usize) -> Slot
+        requires { k < length self.now.slots.items }
+        ensures { slice_get self.now.slots.items k ≡ Some result }
+    {
+        self.slots[k]
+    }
+
+    /// The slots of so many values from a position on.
+    pub fn values_from(&self, from: usize, count: usize) -> &[Slot]
+        requires { from + count * self.now.width ≤ length self.now.slots.items }
+        ensures { result.now ≡ take (count * self.now.width) (drop from self.now.slots.items) }
+    {
+        &self.slots[from..from + count * self.width as usize]
+    }
+
     /// The first slot of a variable.
     pub fn front(&self, v: VarId) -> Slot
         requires { IsTable self.now }
-        ensures { (a : Slot) → slice_get self.now.slots.items (var_at self.now v.0) ≡ Some a →
-            result ≡ a }
+        ensures { (a : Slot) → slice_get self.now.slots.items (var_at self.now v.0) ≡
+            Some a → result ≡ a }
     {
         self.slot(v, 0)
     }
 
     /// Where the slots of an object's cell begin.
     pub fn cell(&self, i: u32) -> u64
-        ensures { result ≡ i * self.now.width }
+        ensures is { result ≡ i * self.now.width }
+        ensures short { result + self.now.width < 2 ^ 64 }
     {
         u64::from(i) * u64::from(self.width)
     }
@@ -136,13 +160,32 @@ impl Values {
     pub fn grow(&mut self)
         requires { length self.old.slots.items + self.old.width ≤ vec_capacity self.old.slots }
         ensures grown { IsGrown self.old self.new }
-        ensures long { length self.new.slots.items ≡ length self.old.slots.items + self.old.width }
+        ensures long { length self.new.slots.items
+            ≡ length self.old.slots.items + self.old.width }
         ensures room { vec_capacity self.old.slots ≤ vec_capacity self.new.slots }
     {
         for done in 0..self.width {
             let _ = done;
-            push(&mut self.slots);
+            push(&mut self.slots, Slot::Number(0));
         }
+    }
+
+    /// The slot of a key, or 0 where there is none.
+    pub fn key_slot(&self, k: KeyId) -> Slot
+        requires { IsTable self.now }
+        ensures { (a : Slot) → slice_get self.now.slots.items (key_at self.now k.0) ≡
+            Some a → result ≡ a }
+    {
+        let i = u64::from(self.vars) * u64::from(self.width) + u64::from(k.0);
+        at(behind(&self.slots, self.base), i)
+    }
+
+    /// Sets the slot at a position.
+    pub fn set_slot(&mut self, k: usize, a: Slot)
+        requires { k < length self.old.slots.items }
+        ensures { IsSlotSet k a self.old self.new }
+    {
+        put(&mut self.slots, k, a);
     }
 
     /// Sets the slot of a key.
@@ -154,14 +197,52 @@ impl Values {
         put(&mut self.slots, at, a);
     }
 
-    /// Sets the first slot from a position on.
-    pub fn put_front(&mut self, to: usize, a: Slot)
+    /// Sets the slots of a value of one part.
+    pub fn put_single(&mut self, to: usize, front: Slot)
         requires within { to + self.old.width ≤ length self.old.slots.items }
-        requires wide { 1 ≤ self.old.width }
         ensures kept { IsKept to self.old self.new }
-        ensures front { slice_get self.new.slots.items to ≡ Some a }
+        ensures filled { IsFilled (IsSingleSlot front) self.new.slots.items to self.old.width }
     {
-        put(&mut self.slots, to, a);
+        for j in 0..self.width {
+            put(&mut self.slots, to + j as usize, single(front, j));
+        }
+    }
+
+    /// Copies the slots of a value.
+    pub fn copy(&mut self, from: usize, to: usize)
+        requires within { from + self.old.width ≤ length self.old.slots.items }
+        requires to_within { to + self.old.width ≤ length self.old.slots.items }
+        ensures kept { IsKept to self.old self.new }
+        ensures filled { AreApart from to self.old.width →
+            IsFilled (IsSlotFrom self.old from) self.new.slots.items to self.old.width }
+    {
+        for j in 0..self.width {
+            let a = self.slot_at(from + j as usize);
+            put(&mut self.slots, to + j as usize, a);
+        }
+    }
+
+    /// Puts the fronts of so many values into slots that stand one after another before them.
+    pub fn gather(&mut self, from: usize, count: usize, to: usize)
+        requires within { from + count * self.old.width ≤ length self.old.slots.items }
+        requires before { to + count ≤ from }
+        requires wide { 1 ≤ self.old.width }
+        ensures set { IsRowSet to count self.old self.new }
+        ensures filled { IsFilled (IsFrontOf self.old from) self.new.slots.items to count }
+    {
+        for j in 0..count {
+            let a = self.slot_at(from + j * self.width as usize);
+            put(&mut self.slots, to + j, a);
+        }
+    }
+
+    /// Leaves the first slots only.
+    pub fn truncate(&mut self, n: usize)
+        requires within { n ≤ length self.old.slots.items }
+        ensures cut { IsCut n self.old self.new }
+        ensures room { vec_capacity self.new.slots ≡ vec_capacity self.old.slots }
+    {
+        self.slots.truncate(n);
     }
 
     /// Copies the slots of a variable.
@@ -190,6 +271,73 @@ impl Values {
         for j in 0..self.width {
             let a = find(heap, object, number, from + u64::from(j));
             put(&mut self.slots, to + j as usize, a);
+        }
+    }
+
+    /// The slot at a position, or 0 where there is none.
+    pub fn read(&self, k: usize) -> Slot
+        ensures { (a : Slot) → slice_get self.now.slots.items k ≡ Some a → result ≡ a }
+    {
+        at(&self.slots, k as u64)
+    }
+
+    /// Where the slots of the running frame's keys begin.
+    pub fn keys(&self) -> usize
+        requires { IsTable self.now }
+        ensures { result ≡ key_at self.now 0 }
+    {
+        self.base + self.vars as usize * self.width as usize
+    }
+
+    /// How many variables the running frame has.
+    pub fn vars(&self) -> u32
+        ensures { result ≡ self.now.vars }
+    {
+        self.vars
+    }
+
+    /// Where the running frame begins.
+    pub fn base(&self) -> usize
+        ensures { result ≡ self.now.base }
+    {
+        self.base
+    }
+
+    /// How many slots a value takes.
+    pub fn width(&self) -> u32
+        ensures { result ≡ self.now.width }
+    {
+        self.width
+    }
+
+    /// Makes the frame that begins there the running one.
+    pub fn run(&mut self, base: usize, vars: u32)
+        ensures { self.new ≡ framed self.old base vars }
+    {
+        self.base = base;
+        self.vars = vars;
+    }
+
+    /// One slot more, for which there is room.
+    pub fn push_slot(&mut self, a: Slot)
+        requires { length self.old.slots.items < vec_capacity self.old.slots }
+        ensures grown { IsGrown self.old self.new }
+        ensures last { slice_get self.new.slots.items (length self.old.slots.items) ≡ Some a }
+        ensures long { length self.new.slots.items ≡ length self.old.slots.items + 1 }
+        ensures room { vec_capacity self.old.slots ≤ vec_capacity self.new.slots }
+    {
+        push(&mut self.slots, a);
+    }
+
+    /// Slots with 0 at the end, up to this length, for which there is room.
+    pub fn grow_to(&mut self, end: usize)
+        requires { end ≤ vec_capacity self.old.slots }
+        ensures grown { IsGrown self.old self.new }
+        ensures long { length self.new.slots.items ≡ max (length self.old.slots.items) end }
+        ensures room { vec_capacity self.old.slots ≤ vec_capacity self.new.slots }
+    {
+        while self.slots.len() < end {
+            push(&mut self.slots, Slot::Number(0));
         }
     }
 }

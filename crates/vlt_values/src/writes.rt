@@ -27,7 +27,7 @@ fn write_number(values: &mut Values, to: usize, r: Result<i64, TrapKind>) -> Res
 {
     match r {
         Ok(z) => {
-            values.put_front(to, Slot::Number(z));
+            values.put_single(to, Slot::Number(z));
             Ok(())
         }
         Err(t) => Err(t),
@@ -47,6 +47,7 @@ fn write_field(values: &mut Values, to: usize, x: VarId, i: u32, heap: &Heap)
     match values.front(x) {
         Slot::Object(object, number) => values.copy_cell(object, number, i, to, heap),
         Slot::Number(_) => {}
+        Slot::Owned(..) => {}
     }
 }
 

@@ -7,8 +7,8 @@ use Rattle.vlt_acts.proofs.keys.unpack.Goals as goal
 
 pub returns-in-Some-clause-does : goal.returns-in-Some-clause-does
 returns-in-Some-clause-does k = λ h c w n d func same.
-    unpack_does h k.args.values.now k.put_key.new.self k.put_front.new.self c w n d k.args.x.0 k.args.v.0 k.place-to.result (reference_view k.in-Some.r) k.front-a.result same
-    (ap (λ f. reference_of f k.args.x.0) func ∙ sym k.reference.ensures ∙ ap (option_map reference_view) k.in-Some.is) k.requires.within k.requires.wide k.front-a.ensures k.put_key.ensures k.place-to.ensures.is k.put_front.ensures.kept k.put_front.ensures.front
+    unpack_does h k.args.values.now k.put_key.new.self k.put_single.new.self c w n d k.args.x.0 k.args.v.0 k.place-to.result (reference_view k.in-Some.r) k.front.result k.unpacked-a.result same
+    (ap (λ f. reference_of f k.args.x.0) func ∙ sym k.reference.ensures ∙ ap (option_map reference_view) k.in-Some.is) k.requires.within k.requires.wide k.front.ensures k.unpacked-a.ensures k.put_key.ensures k.place-to.ensures.is k.put_single.ensures.kept k.put_single.ensures.filled
 
 pub returns-in-None-clause-does : goal.returns-in-None-clause-does
 returns-in-None-clause-does k = λ h c w n d func same.

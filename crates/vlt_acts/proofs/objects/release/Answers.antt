@@ -1,5 +1,6 @@
 use Rattle.vlt_meaning.specs.Run.{any_state}
-use Rattle.vlt_acts.proofs.Acting.{met, met_live, met_root, met_here, right_found, release_does, number_releases}
+use Rattle.vlt_values.proofs.Fronts.{number_object, owned_object}
+use Rattle.vlt_acts.proofs.Acting.{met, met_live, met_root, met_here, right_found, release_does, nothing_releases}
 use Rattle.vlt_acts.proofs.objects.release.Goals as goal
 
 pub release-requires-clause-live : goal.release-requires-clause-live
@@ -24,4 +25,7 @@ pub returns-in-Object-clause-does : goal.returns-in-Object-clause-does
 returns-in-Object-clause-does k = λ c w h d same. release_does k.args.heap.now _ k.args.values.now c w h d k.args.x.0 k.front.result k.in-Object.o _ same k.front.ensures k.in-Object.is k.release.ensures.items
 
 pub returns-in-Number-clause-does : goal.returns-in-Number-clause-does
-returns-in-Number-clause-does k = λ c w h d same. number_releases k.args.heap.now k.args.values.now c w h d k.args.x.0 k.front.result _ same k.front.ensures k.in-Number.is
+returns-in-Number-clause-does k = λ c w h d same. nothing_releases k.args.heap.now k.args.values.now c w h d k.args.x.0 k.front.result same k.front.ensures (number_object k.front.result _ k.in-Number.is)
+
+pub returns-in-Owned-clause-does : goal.returns-in-Owned-clause-does
+returns-in-Owned-clause-does k = λ c w h d same. nothing_releases k.args.heap.now k.args.values.now c w h d k.args.x.0 k.front.result same k.front.ensures (owned_object k.front.result _ _ k.in-Owned.is)

@@ -24,5 +24,5 @@ returns-in-Move-clause-does k = λ c w h d same.
 
 pub returns-in-Pack-clause-does : goal.returns-in-Pack-clause-does
 returns-in-Pack-clause-does k = λ c w h d same.
-    subst (λ o. Does c.items k.args.heap.now k.put_front.new.self (Ok tt) (does_simple (setup c.program h d) c.func (own k.args.v.0 o) c.frame w)) (sym (ap operand_of k.in-Pack.is))
-    (fill_pack k.args.heap.now k.args.values.now k.put_front.new.self c w h d k.args.v.0 k.in-Pack.x.0 k.place-to.result (has_state k.in-Pack.field-1) k.front-a.result same k.requires.within k.requires.wide k.place-to.ensures.is k.put_front.ensures.kept k.front-a.ensures k.put_front.ensures.front)
+    subst (λ o. Does c.items k.args.heap.now k.put_single.new.self (Ok tt) (does_simple (setup c.program h d) c.func (own k.args.v.0 o) c.frame w)) (sym (ap operand_of k.in-Pack.is))
+    (fill_pack k.args.heap.now k.args.values.now k.put_single.new.self c w h d k.args.v.0 k.in-Pack.x.0 k.place-to.result (has_state k.in-Pack.field-1) k.front.result k.packed-a.result same k.requires.within k.requires.wide k.place-to.ensures.is k.put_single.ensures.kept k.front.ensures k.packed-a.ensures k.put_single.ensures.filled)

@@ -2,9 +2,10 @@ use Rattle.std.proofs.Common.{sym, ap, subst, inr, Ok}
 use Rattle.vlt_base.specs.States.{has_state}
 use Rattle.vlt_core.specs.View.{expr_of, operand_of}
 use Rattle.vlt_machine.specs.Got.{operand_got}
+use Rattle.vlt_values.specs.Filled.{IsFilled, IsSingleSlot}
 use Rattle.vlt_values.specs.Shown.{IsPlace}
 use Rattle.vlt_values.specs.Pushed.{IsPushed}
-use Rattle.vlt_values.proofs.Fronts.{referred}
+use Rattle.vlt_values.proofs.Fronts.{referred, packed_object}
 use Rattle.vlt_values.proofs.Writing.{var_copied}
 use Rattle.vlt_values.proofs.Pushing.{grown_kept, seen_grown, pure_pushed, move_pushed, pack_pushed}
 use Rattle.vlt_values.proofs.operands.push_operand.Goals as goal
@@ -27,7 +28,8 @@ returns-in-Move-clause-value k = λ c w same.
 
 pub returns-in-Pack-clause-value : goal.returns-in-Pack-clause-value
 returns-in-Pack-clause-value k = λ c w same.
-    let g = grown_kept k.args.values.now k.grow.new.self k.put_front.new.self k.len-to.result k.grow.ensures.grown k.len-to.ensures k.put_front.ensures.kept in
-    subst (λ o. IsPushed c.items k.args.values.now k.put_front.new.self (Ok tt) (operand_got c.program c.func o c.frame w)) (sym (ap operand_of k.in-Pack.is))
-    (pack_pushed k.args.heap.now k.args.values.now k.put_front.new.self g c w same k.in-Pack.x.0 (has_state k.in-Pack.field-1) k.len-to.result k.front-a.result k.len-to.ensures k.requires.wide k.put_front.ensures.front
-    (λ m p. referred k.args.heap.now k.grow.new.self (seen_grown k.args.heap.now k.args.values.now k.grow.new.self k.grow.ensures.grown c) k.in-Pack.x.0 k.front-a.result k.front-a.ensures m p.touched))
+    let g = grown_kept k.args.values.now k.grow.new.self k.put_single.new.self k.len-to.result k.grow.ensures.grown k.len-to.ensures k.put_single.ensures.kept in
+    subst (λ o. IsPushed c.items k.args.values.now k.put_single.new.self (Ok tt) (operand_got c.program c.func o c.frame w)) (sym (ap operand_of k.in-Pack.is))
+    (pack_pushed k.args.heap.now k.args.values.now k.put_single.new.self g c w same k.in-Pack.x.0 (has_state k.in-Pack.field-1) k.len-to.result k.packed-a.result k.len-to.ensures k.requires.wide (subst (IsFilled (IsSingleSlot k.packed-a.result) k.put_single.new.self.slots.items k.len-to.result) k.grow.ensures.grown.width k.put_single.ensures.filled)
+    (λ m p. packed_object c.items m.number k.front.result k.packed-a.result k.packed-a.ensures
+    (referred k.args.heap.now k.grow.new.self (seen_grown k.args.heap.now k.args.values.now k.grow.new.self k.grow.ensures.grown c) k.in-Pack.x.0 k.front.result k.front.ensures m p.touched)))

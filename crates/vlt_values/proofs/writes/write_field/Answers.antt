@@ -1,4 +1,5 @@
-use Rattle.vlt_values.proofs.Writing.{cell_copied, number_copied}
+use Rattle.vlt_values.proofs.Fronts.{number_object, owned_object}
+use Rattle.vlt_values.proofs.Writing.{cell_copied, nowhere_copied}
 use Rattle.std.proofs.Common.{refl}
 use Rattle.vlt_values.proofs.writes.write_field.Goals as goal
 
@@ -7,4 +8,7 @@ returns-in-Object-clause-value c = λ s.
     cell_copied c.args.heap.now c.args.values.now c.copy_cell.new.self s c.args.x.0 c.args.i c.args.to c.front.result c.in-Object.object c.in-Object.number c.front.ensures c.in-Object.is c.copy_cell.ensures.kept.width c.copy_cell.ensures.filled
 
 pub returns-in-Number-clause-value : goal.returns-in-Number-clause-value
-returns-in-Number-clause-value c = λ s. number_copied c.args.heap.now c.args.values.now c.args.values.now s c.args.x.0 c.args.i c.args.to c.front.result _ c.front.ensures c.in-Number.is refl
+returns-in-Number-clause-value c = λ s. nowhere_copied c.args.heap.now c.args.values.now c.args.values.now s c.args.x.0 c.args.i c.args.to c.front.result c.front.ensures (number_object c.front.result _ c.in-Number.is) refl
+
+pub returns-in-Owned-clause-value : goal.returns-in-Owned-clause-value
+returns-in-Owned-clause-value c = λ s. nowhere_copied c.args.heap.now c.args.values.now c.args.values.now s c.args.x.0 c.args.i c.args.to c.front.result c.front.ensures (owned_object c.front.result _ _ c.in-Owned.is) refl

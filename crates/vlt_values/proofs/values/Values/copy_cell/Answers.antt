@@ -10,7 +10,7 @@ loop-j-preserved c = record {
   filled = subst (λ l. IsFilled (λ j. IsCellSlot c.args.heap.now c.args.object c.args.number (c.args.i * c.args.self.now.width + j)) l c.args.to (c.loop-j.j + 1)) (sym c.put.ensures.items)
       (filled_more (λ j. IsCellSlot c.args.heap.now c.args.object c.args.number (c.args.i * c.args.self.now.width + j)) c.loop-j.self.slots.items c.args.to c.loop-j.j c.find-a.result
       (omega (arith, c.requires.within, c.loop-j.invariant.long, c.loop-j-test.true)) c.loop-j.invariant.filled
-      (λ b cell. c.find-a.ensures b (subst (λ k. IsCellSlot c.args.heap.now c.args.object c.args.number k b) (omega (arith, c.cell-from.ensures, c.from.ensures)) cell)));
+      (λ b cell. c.find-a.ensures b (subst (λ k. IsCellSlot c.args.heap.now c.args.object c.args.number k b) (omega (arith, c.cell-from.ensures.is, c.from.ensures)) cell)));
   long = ap length c.put.ensures.items ∙ length-set c.loop-j.self.slots.items (c.args.to + c.loop-j.j) c.find-a.result ∙ c.loop-j.invariant.long;
   room = c.put.ensures.room ∙ c.loop-j.invariant.room;
   base = c.loop-j.invariant.base;

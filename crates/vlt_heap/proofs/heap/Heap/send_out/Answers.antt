@@ -1,6 +1,6 @@
 use Rattle.std.proofs.Common.{refl}
 use Rattle.vlt_heap.proofs.Calls.{kind_set}
-use Rattle.vlt_heap.proofs.heap.Heap.out.Goals as goal
+use Rattle.vlt_heap.proofs.heap.Heap.send_out.Goals as goal
 
 pub returns-clause-items : goal.returns-clause-items
 returns-clause-items c = λ items n x holds at place.

@@ -1,0 +1,5 @@
+pub mod Members
+pub mod Fronts
+pub mod Reading
+pub mod Entries
+pub mod Finishing

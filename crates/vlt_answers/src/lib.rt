@@ -1,0 +1,12 @@
+//! The numbers of an answer in; whether it fits the external's clause and result, and what it says, out.
+//! Read `vlt_meaning/specs/HostAnswers.antt` first, then `specs/Read.antt` and `specs/Whole.antt`.
+//! Rests on it: `vlt_interp::Machine::go`.
+#![tactic(auto)]
+
+mod numbers;
+mod pieces;
+mod whole;
+
+pub use numbers::{below, number, state};
+pub use pieces::{Piece, behind_entries, behind_keys, entry_state, is_held_after, read_piece};
+pub use whole::{CaseRead, fitting, read_case};

@@ -1,0 +1,4 @@
+pub mod Telling
+pub mod Going
+pub mod Handing
+pub mod Coming

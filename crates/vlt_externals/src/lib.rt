@@ -1,0 +1,14 @@
+//! Calls of externals: arguments that stand at the end of the table in; an event out, and what its answer says.
+//! Read `vlt_meaning/specs/Externals.antt` and `HostAnswers.antt` first, then `specs/Told.antt`, `Sent` and `Back`.
+//! Rests on it: `vlt_interp::Machine::go`.
+#![tactic(auto)]
+
+mod backs;
+mod events;
+mod keys;
+mod sending;
+
+pub use backs::{set_state, take_back};
+pub use events::{call_line, take_answer};
+pub use keys::caller_key;
+pub use sending::{send_owned, send_taken};

@@ -1,0 +1,4 @@
+pub mod Standing
+pub mod Callees
+pub mod Naming
+pub mod Callers

@@ -1,0 +1,12 @@
+//! Calls in the table of values: arguments behind the caller's frame in, the callee's frame out; at a return, back.
+//! Read `vlt_meaning/specs/Calls.antt` first, then `specs/Frames.antt`, `specs/Entered.antt` and `specs/Left.antt`.
+//! Rests on it: `vlt_interp::Machine::go`.
+#![tactic(auto)]
+
+mod entering;
+mod leaving;
+mod waiting;
+
+pub use entering::{enter, start};
+pub use leaving::{give, leave};
+pub use waiting::Waiting;

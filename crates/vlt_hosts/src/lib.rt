@@ -1,0 +1,12 @@
+//! Statements that speak with the host of a run: printing and input; events out, numbers in.
+//! Read `vlt_meaning/specs/Run.antt` (does_simple) first, then `specs/Hosts.antt`: what such a statement comes to.
+//! Rests on it: `vlt_interp::Machine::go`.
+#![tactic(auto)]
+
+mod halt;
+mod host;
+mod numbers;
+
+pub use halt::Halt;
+pub use host::Host;
+pub use numbers::{input, print};
