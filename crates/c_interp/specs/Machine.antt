@@ -8,7 +8,8 @@ use Rattle.c_meaning.specs.World.{Ran}
 use Rattle.c_interp.specs.declared.stop.CStop.{CStop}
 use Rattle.c_interp.specs.declared.start.Start.{Start}
 use Rattle.c_interp.specs.declared.machine.CMachine.{CMachine}
-use Rattle.c_interp.specs.Start.{IsRunnable, IsStart, run_within}
+use Rattle.c_machine.specs.Machine.{IsRunnable}
+use Rattle.c_interp.specs.Start.{IsStart, run_within}
 
 -- the program that the machine runs
 abbrev pub program_in : CMachine → Program

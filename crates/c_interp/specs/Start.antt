@@ -4,10 +4,8 @@ use Rattle.vlt_base.specs.declared.Budgets.{Budgets}
 use Rattle.vlt_io.specs.Outside.{Rose, Grew, GrewByPart}
 use Rattle.c_syntax.specs.declared.program.CProgram.{CProgram}
 use Rattle.c_syntax.specs.View.{program_of}
-use Rattle.c_syntax.specs.C.{Program}
 use Rattle.c_meaning.specs.World.{Ran, event_text}
-use Rattle.c_meaning.specs.Run.{Numbered, main_of, c_run}
-use Rattle.c_machine.specs.Machine.{IsDeclared}
+use Rattle.c_meaning.specs.Run.{c_run}
 use Rattle.c_machine.specs.Bounds.{tall_of, value_slots, block_cells}
 use Rattle.c_machine.specs.Within.{longest_name}
 use Rattle.c_memory.specs.Shown.{cells_of}
@@ -18,11 +16,6 @@ use Rattle.c_interp.specs.declared.start.Start.{Start}
 use Rattle.c_interp.specs.declared.start.Ended.{Ended}
 use Rattle.c_interp.specs.Halting.{outcome_of}
 use Rattle.c_interp.specs.Finding.{AreRules}
-
--- a program as the kinds accept it: it assigns variables that are declared, and begins with a function without parameters
-pub record IsRunnable (p : Program) : Type 0 where
-  pub declared : IsDeclared p
-  pub no_params : (g : Numbered) → main_of p ≡ Some g → length g.func.params ≡ 0
 
 -- the run of a program within budgets
 abbrev pub run_within : CProgram → Budgets → (input : List ℤ) → (answers : List (List ℤ)) → Ran

@@ -8,7 +8,7 @@ ghost use Rattle.c_syntax.specs.View.{program_of};
 ghost use Rattle.c_meaning.specs.World.{event_text};
 ghost use Rattle.c_machine.specs.Bounds.{slots_needed};
 ghost use Rattle.c_interp.specs.Halting.{outcome_of, IsTold};
-ghost use Rattle.c_interp.specs.Start.{IsRunnable};
+ghost use Rattle.c_machine.specs.Machine.{IsRunnable};
 
 use crate::start::{Ended, Start, prepare, run_program};
 use crate::stop::{CStop, OpenError};

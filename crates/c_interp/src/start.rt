@@ -6,7 +6,8 @@ ghost use Rattle.c_syntax.specs.View.{program_of};
 ghost use Rattle.c_meaning.specs.Run.{c_run};
 ghost use Rattle.c_machine.specs.Bounds as bounds;
 ghost use Rattle.c_machine.specs.Bounds.{tall_of};
-ghost use Rattle.c_interp.specs.Start.{IsRunnable, IsStart, IsSet, IsEnded};
+ghost use Rattle.c_machine.specs.Machine.{IsRunnable};
+ghost use Rattle.c_interp.specs.Start.{IsStart, IsSet, IsEnded};
 
 use crate::rules::{Rules, rules_of};
 use crate::run::run;

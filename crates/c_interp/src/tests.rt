@@ -3,7 +3,7 @@
 ghost use Rattle.std.specs.Prelude.{◌≡◌, [], ◌∷◌, pos, IfOk};
 ghost use Rattle.c_syntax.specs.C as c;
 ghost use Rattle.c_syntax.specs.View.{stmts_of, program_of};
-ghost use Rattle.c_interp.specs.Start.{IsRunnable};
+ghost use Rattle.c_machine.specs.Machine.{IsRunnable};
 
 use crate::{CMachine, CStop};
 use c_syntax::{CArg, CCall, CFunc, CPrim, CProgram, CResult, CStmt};

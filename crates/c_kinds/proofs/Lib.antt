@@ -1,2 +1,4 @@
+mod Before
+mod Turns
 mod Places
 mod Seen

@@ -65,7 +65,8 @@ fn fits(scope: &Scope<'_>, wanted: Wanted, arg: &CArg) -> bool
 
 /// Whether the arguments of a primitive are what is wanted, one by one.
 fn all_fit(scope: &Scope<'_>, wanted: &[Wanted], args: &[CArg]) -> bool
-    ensures { result ≡ k.all_fit (scope_of scope.now) (map wanted_of wanted.now) (map arg_of args.now) }
+    ensures { result ≡ k.all_fit (scope_of scope.now) (map wanted_of wanted.now)
+        (map arg_of args.now) }
 {
     let mut left = args;
     for &want in wanted {
@@ -82,7 +83,8 @@ fn all_fit(scope: &Scope<'_>, wanted: &[Wanted], args: &[CArg]) -> bool
 
 /// Whether the arguments of a function are of its parameters' types, one by one.
 fn all_params_fit(scope: &Scope<'_>, params: &[Declaration], args: &[CArg]) -> bool
-    ensures { result ≡ k.all_fit (scope_of scope.now) (map k.param_wanted (map declaration_of params.now)) (map arg_of args.now) }
+    ensures { result ≡ k.all_fit (scope_of scope.now)
+        (map k.param_wanted (map declaration_of params.now)) (map arg_of args.now) }
 {
     let mut left = args;
     for param in params {
@@ -99,7 +101,8 @@ fn all_params_fit(scope: &Scope<'_>, params: &[Declaration], args: &[CArg]) -> b
 
 /// The first head of that name.
 fn head_of<'a>(name: CName, heads: &'a [Head]) -> Option<&'a Head>
-    ensures { MatchOption result (k.head_of name (map head_of heads.now) ≡ None) (λ h. k.head_of name (map head_of heads.now) ≡ Some (head_of h.now)) }
+    ensures { MatchOption result (k.head_of name (map head_of heads.now) ≡ None)
+        (λ h. k.head_of name (map head_of heads.now) ≡ Some (head_of h.now)) }
 {
     for head in heads {
         if same_name(name, head.name) {
@@ -111,7 +114,8 @@ fn head_of<'a>(name: CName, heads: &'a [Head]) -> Option<&'a Head>
 
 /// Whether the arguments of a call of a function are right. Glue calls no glue; those of an unknown function are right.
 fn known_fits(scope: &Scope<'_>, name: CName, args: &[CArg]) -> bool
-    ensures { result ≡ k.known_fits (scope_of scope.now) name (map arg_of args.now) (k.head_of name (scope_of scope.now).heads) }
+    ensures { result ≡ k.known_fits (scope_of scope.now) name (map arg_of args.now)
+        (k.head_of name (scope_of scope.now).heads) }
 {
     match head_of(name, scope.heads) {
         None => true,
@@ -142,7 +146,8 @@ pub fn call_type(scope: &Scope<'_>, call: &CCall) -> Option<CResult>
 
 impl Walk<'_> {
     fn arg(&mut self, scope: &Scope<'_>, arg: &CArg)
-        ensures { walk_of self.new ≡ k.arg_judged (scope_of scope.now) (arg_of arg.now) (walk_of self.old) }
+        ensures { walk_of self.new ≡ k.arg_judged (scope_of scope.now) (arg_of arg.now)
+            (walk_of self.old) }
     {
         match arg {
             CArg::Var(variable) => self.variable(scope, *variable),
@@ -151,7 +156,8 @@ impl Walk<'_> {
     }
 
     fn each_arg(&mut self, scope: &Scope<'_>, args: &[CArg])
-        ensures { walk_of self.new ≡ k.each_arg_judged (scope_of scope.now) (map arg_of args.now) (walk_of self.old) }
+        ensures { walk_of self.new ≡ k.each_arg_judged (scope_of scope.now) (map arg_of args.now)
+            (walk_of self.old) }
     {
         for arg in args {
             self.arg(scope, arg);
@@ -160,7 +166,8 @@ impl Walk<'_> {
     }
 
     fn args(&mut self, scope: &Scope<'_>, args: &[CArg])
-        ensures { walk_of self.new ≡ k.args_judged (scope_of scope.now) (map arg_of args.now) (walk_of self.old) }
+        ensures { walk_of self.new ≡ k.args_judged (scope_of scope.now) (map arg_of args.now)
+            (walk_of self.old) }
     {
         match args {
             [] => self.skip(1),
@@ -170,7 +177,8 @@ impl Walk<'_> {
 
     /// A call in a statement that begins at `own`.
     pub fn call(&mut self, scope: &Scope<'_>, own: u32, call: &CCall)
-        ensures { walk_of self.new ≡ k.call_judged (scope_of scope.now) own (call_of call.now) (walk_of self.old) }
+        ensures { walk_of self.new ≡ k.call_judged (scope_of scope.now) own (call_of call.now)
+            (walk_of self.old) }
     {
         match call {
             CCall::Function(name, args) => {

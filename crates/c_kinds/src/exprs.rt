@@ -12,7 +12,8 @@ use c_syntax::{CCell, CExpr, CResult, CVar};
 
 impl Walk<'_> {
     pub fn variable(&mut self, scope: &Scope<'_>, variable: CVar)
-        ensures { walk_of self.new ≡ k.variable_judged (scope_of scope.now) variable (walk_of self.old) }
+        ensures { walk_of self.new ≡ k.variable_judged (scope_of scope.now) variable
+            (walk_of self.old) }
     {
         self.unless_here(is_one_of(variable, scope.declared), 1);
         self.skip(1);
@@ -28,7 +29,9 @@ impl Walk<'_> {
     /// An operand, which has to be a number, in a statement that begins at `own`.
     #[cycle(expressions)]
     fn operand(&mut self, scope: &Scope<'_>, own: u32, expr: &CExpr)
-        ensures { walk_of self.new ≡ k.unless (k.may_be Number (k.expr_type (scope_of scope.now) (expr_of expr.now))) own 2 (k.expr_judged (scope_of scope.now) own (expr_of expr.now) (walk_of self.old)) }
+        ensures { walk_of self.new ≡ k.unless
+            (k.may_be Number (k.expr_type (scope_of scope.now) (expr_of expr.now))) own 2
+            (k.expr_judged (scope_of scope.now) own (expr_of expr.now) (walk_of self.old)) }
     {
         self.expr(scope, own, expr);
         self.unless(may_be(CResult::Number, scope.expr_type(expr)), own, 2);
@@ -37,7 +40,8 @@ impl Walk<'_> {
     /// An expression in a statement that begins at `own`.
     #[cycle(expressions)]
     pub fn expr(&mut self, scope: &Scope<'_>, own: u32, expr: &CExpr)
-        ensures { walk_of self.new ≡ k.expr_judged (scope_of scope.now) own (expr_of expr.now) (walk_of self.old) }
+        ensures { walk_of self.new ≡ k.expr_judged (scope_of scope.now) own (expr_of expr.now)
+            (walk_of self.old) }
     {
         match expr {
             CExpr::Number(_) | CExpr::Null => self.skip(1),

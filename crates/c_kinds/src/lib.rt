@@ -1,13 +1,37 @@
-//! A walk over the statements of a C text in, the least refusal of their names and types out.
-//! Read `c_syntax/specs/Kinds.antt` first.
-//! Rests on it: what judges heads and bodies, and so which texts stand for programs.
+//! A C text as it is written in, the least refusal of its names and types out.
+//! Read `c_syntax/specs/Kinds.antt` (refused) first.
+//! Rests on it: which texts stand for programs, and `c_kinds_laws`.
 #![tactic(auto)]
+
+ghost use Rattle.std.specs.Prelude.{◌≡◌, option_map, IfOk};
+ghost use Rattle.c_syntax.specs.Kinds.{refused};
+ghost use Rattle.c_syntax.specs.Reading.{places_in};
+ghost use Rattle.c_parser.specs.View.{lexemes_of, unit_of};
+ghost use Rattle.c_kinds.specs.View.{refusal_of};
 
 mod calls;
 mod exprs;
+mod functions;
+mod heads;
 mod stmts;
 mod types;
 mod walk;
 
-pub use types::Scope;
-pub use walk::{Refusal, Walk};
+use c_parser::Written;
+use std::alloc::Global;
+use vlt_base::Memory;
+pub use walk::Refusal;
+use walk::Walk;
+
+/// The least refusal of the names and types of a text: the least place, and there the least number.
+pub fn least_refusal(alloc: Global, written: &Written<'_>) -> Result<Option<Refusal>, Memory>
+    ensures { IfOk result (λ r.
+        option_map refusal_of r ≡ refused (places_in (lexemes_of written.now.lexemes.items)) (unit_of written.now.unit)) }
+{
+    let mut walk = Walk {
+        rest: &written.lexemes,
+        least: None,
+    };
+    walk.unit(alloc, &written.unit)?;
+    Ok(walk.least)
+}

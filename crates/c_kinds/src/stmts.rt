@@ -34,7 +34,8 @@ fn can_return(want: CResult, got: Option<CResult>) -> bool
 
 impl Walk<'_> {
     fn condition(&mut self, scope: &Scope<'_>, own: u32, expr: &CExpr)
-        ensures { walk_of self.new ≡ k.condition_judged (scope_of scope.now) own (expr_of expr.now) (walk_of self.old) }
+        ensures { walk_of self.new ≡ k.condition_judged (scope_of scope.now) own
+            (expr_of expr.now) (walk_of self.old) }
     {
         self.skip(2);
         self.expr(scope, own, expr);
@@ -44,7 +45,8 @@ impl Walk<'_> {
 
     /// A value with the semicolon behind it, and whether the rule of the statement is kept.
     fn value(&mut self, scope: &Scope<'_>, own: u32, expr: &CExpr, kept: bool, rule: u8)
-        ensures { walk_of self.new ≡ k.skip 1 (k.unless kept own rule (k.expr_judged (scope_of scope.now) own (expr_of expr.now) (walk_of self.old))) }
+        ensures { walk_of self.new ≡ k.skip 1 (k.unless kept own rule
+            (k.expr_judged (scope_of scope.now) own (expr_of expr.now) (walk_of self.old))) }
     {
         self.expr(scope, own, expr);
         self.unless(kept, own, rule);
@@ -53,7 +55,9 @@ impl Walk<'_> {
 
     /// What a `return` gives, the word included.
     fn returned(&mut self, scope: &Scope<'_>, own: u32, value: &Option<CExpr>)
-        ensures { (in_loop : Bool) → walk_of self.new ≡ k.stmt_judged (scope_of scope.now) in_loop own (return (option_map expr_of value.now)) (walk_of self.old) }
+        ensures { (in_loop : Bool) → walk_of self.new
+            ≡ k.stmt_judged (scope_of scope.now) in_loop own
+            (return (option_map expr_of value.now)) (walk_of self.old) }
     {
         match value {
             None => {
@@ -71,7 +75,8 @@ impl Walk<'_> {
     /// A statement that begins at `own`.
     #[cycle(statements)]
     fn stmt(&mut self, scope: &Scope<'_>, in_loop: bool, own: u32, stmt: &CStmt)
-        ensures { walk_of self.new ≡ k.stmt_judged (scope_of scope.now) in_loop own (stmt_of stmt.now) (walk_of self.old) }
+        ensures { walk_of self.new ≡ k.stmt_judged (scope_of scope.now) in_loop own
+            (stmt_of stmt.now) (walk_of self.old) }
     {
         match stmt {
             CStmt::Set(variable, value) => {
@@ -125,7 +130,8 @@ impl Walk<'_> {
 
     #[cycle(statements)]
     pub fn stmts(&mut self, scope: &Scope<'_>, in_loop: bool, stmts: &[CStmt])
-        ensures { walk_of self.new ≡ k.stmts_judged (scope_of scope.now) in_loop (stmts_of stmts.now) (walk_of self.old) }
+        ensures { walk_of self.new ≡ k.stmts_judged (scope_of scope.now) in_loop
+            (stmts_of stmts.now) (walk_of self.old) }
     {
         for stmt in stmts {
             let own = self.place();

@@ -1,4 +1,3 @@
-pub mod Declared
 pub mod Measure
 pub mod Names
 pub mod Keeping

@@ -1,5 +1,5 @@
 -- A machine over a flat table of values and a stack of tasks. It is a tool of the proof of `c_interp`.
-use Rattle.std.specs.Prelude.{ℕ, zero, suc, ◌+◌, ◌-◌, ◌==◌, Bool, true, false, IsTrue, if◌then◌else◌, List, [], ◌∷◌, ◌++◌, map, length, take, drop, replicate, Option, Some, None, Result, Ok, Err}
+use Rattle.std.specs.Prelude.{◌≡◌, ℕ, zero, suc, ◌+◌, ◌-◌, ◌==◌, Bool, true, false, IsTrue, if◌then◌else◌, List, [], ◌∷◌, ◌++◌, map, length, take, drop, replicate, Option, Some, None, Result, Ok, Err}
 use Rattle.vlt_ops.specs.Operator.{is_true}
 use Rattle.c_syntax.specs.declared.program.CResult.{CResult}
 use Rattle.c_syntax.specs.declared.program.CResult.TheVariants as result
@@ -10,7 +10,7 @@ use Rattle.c_syntax.specs.Kinds.{same_variable, is_one_of}
 use Rattle.c_meaning.specs.World.{Value, World, Vars, Outcome, done, fuel_end, depth_end, undefined}
 use Rattle.c_meaning.specs.Values.{value_of, arg_values}
 use Rattle.c_meaning.specs.Primitives.{Effect, gives, breaks_rule, ends, set_does, put_does, primitive_does}
-use Rattle.c_meaning.specs.Run.{count_in_stmt, count_in, count_of, Numbered, function_of, Frame, Setup, has_room, depth_in, can_call, condition}
+use Rattle.c_meaning.specs.Run.{count_in_stmt, count_in, count_of, Numbered, function_of, main_of, Frame, Setup, has_room, depth_in, can_call, condition}
 
 -- ---- the values of a frame, one for each name
 
@@ -256,3 +256,8 @@ AllDeclare (f ∷ fs) = Declares (names_of f) f.body × AllDeclare fs
 pub record IsDeclared (p : Program) : Type 0 where
   pub glue : AllDeclare p.glue
   pub fns : AllDeclare p.fns
+
+-- a program as the kinds accept it: it assigns variables that are declared, and begins with a function without parameters
+pub record IsRunnable (p : Program) : Type 0 where
+  pub declared : IsDeclared p
+  pub no_params : (g : Numbered) → main_of p ≡ Some g → length g.func.params ≡ 0

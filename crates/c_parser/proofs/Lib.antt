@@ -1,5 +1,6 @@
 mod Arguments
 mod Heads
 mod Lexing
+mod Naming
 mod Runs
 mod Statements

@@ -1,23 +1,25 @@
 //! Calls.
 
-ghost use Rattle.std.specs.Prelude.{◌≡◌, ◌+◌, [], ◌∷◌, false, map, IfOk};
+ghost use Rattle.std.specs.Prelude.{◌≡◌, ◌+◌, [], ◌∷◌, false, map, IfErr, IfOk};
 ghost use Rattle.c_syntax.specs.Spelling.{arg_token, args_then, call_then, more_args_then};
 ghost use Rattle.c_syntax.specs.Grammar.{HasNoText, IsCall};
 ghost use Rattle.c_syntax.specs.View.{arg_of, call_of};
+ghost use Rattle.c_parser.specs.Refusals.{Names};
 ghost use Rattle.c_parser.specs.Parsing.{Reads, ReadsBehind};
 
 use crate::cursor::{is_sign, refuse, sign, token};
-use crate::error::CError;
+use crate::error::ParseError;
 use crate::token::{Lexeme, Token};
 use c_syntax::{CArg, CCall, CPrim, CSign, CWord};
 use std::alloc::Global;
 use vlt_base::Items;
 
 /// An argument. Where it may not, it is no string.
-fn arg(alloc: Global, lexemes: &[Lexeme<'_>], at: usize, texts: bool) -> Result<CArg, CError>
+fn arg(alloc: Global, lexemes: &[Lexeme<'_>], at: usize, texts: bool) -> Result<CArg, ParseError>
     ensures reads { IfOk result (λ x. Reads lexemes.now at (at + 1)
         (λ rest. arg_token (arg_of x) ∷ rest)) }
     ensures is { IfOk result (λ x. texts ≡ false → HasNoText (arg_of x ∷ [])) }
+    ensures refused { IfErr result (Names lexemes.now) }
 {
     match token(lexemes, at) {
         Some(Token::Number(value)) => Ok(CArg::Number(value)),
@@ -35,11 +37,12 @@ fn more_args(
     at: usize,
     texts: bool,
     first: CArg,
-) -> Result<(Items<CArg>, usize), CError>
+) -> Result<(Items<CArg>, usize), ParseError>
     requires { texts ≡ false → HasNoText (arg_of first ∷ []) }
     ensures reads { IfOk result (λ x. ReadsBehind (arg_token (arg_of first)) lexemes.now at x.1
         (args_then (map arg_of x.0))) }
     ensures is { IfOk result (λ x. texts ≡ false → HasNoText (map arg_of x.0)) }
+    ensures refused { IfErr result (Names lexemes.now) }
 {
     let mut args = Items::new(alloc);
     args.push(first)?;
@@ -58,9 +61,10 @@ fn args(
     lexemes: &[Lexeme<'_>],
     at: usize,
     texts: bool,
-) -> Result<(Items<CArg>, usize), CError>
+) -> Result<(Items<CArg>, usize), ParseError>
     ensures reads { IfOk result (λ x. Reads lexemes.now at x.1 (args_then (map arg_of x.0))) }
     ensures is { IfOk result (λ x. texts ≡ false → HasNoText (map arg_of x.0)) }
+    ensures refused { IfErr result (Names lexemes.now) }
 {
     if is_sign(lexemes, at, CSign::CloseParen) {
         return Ok((Items::new(alloc), at + 1));
@@ -70,9 +74,10 @@ fn args(
 }
 
 /// A call.
-pub fn call(alloc: Global, lexemes: &[Lexeme<'_>], at: usize) -> Result<(CCall, usize), CError>
+pub fn call(alloc: Global, lexemes: &[Lexeme<'_>], at: usize) -> Result<(CCall, usize), ParseError>
     ensures reads { IfOk result (λ x. Reads lexemes.now at x.1 (call_then (call_of x.0))) }
     ensures is { IfOk result (λ x. IsCall (call_of x.0)) }
+    ensures refused { IfErr result (Names lexemes.now) }
 {
     match token(lexemes, at) {
         Some(Token::Name(name)) => {

@@ -1,11 +1,12 @@
 //! One token at a time.
 
-ghost use Rattle.std.specs.Prelude.{◌≡◌, ◌∷◌, [], ◌+◌, ◌≤◌, length, MatchOption, IfOk, IsTrue};
+ghost use Rattle.std.specs.Prelude.{◌≡◌, ◌∷◌, [], ◌+◌, ◌≤◌, length, MatchOption, IfErr, IfOk, IsTrue};
 ghost use Rattle.c_syntax.specs.Tokens as t;
 ghost use Rattle.c_parser.specs.View.{token_of, tokens_from};
+ghost use Rattle.c_parser.specs.Refusals.{Names};
 ghost use Rattle.c_parser.specs.Parsing.{Reads};
 
-use crate::error::CError;
+use crate::error::ParseError;
 use crate::token::{Lexeme, Token};
 use c_syntax::{CSign, CWord};
 
@@ -19,16 +20,20 @@ pub fn token<'a>(lexemes: &[Lexeme<'a>], at: usize) -> Option<Token<'a>>
 }
 
 /// Nothing goes on with the token at a position.
-pub fn refuse(lexemes: &[Lexeme<'_>], at: usize) -> CError {
+pub fn refuse(lexemes: &[Lexeme<'_>], at: usize) -> ParseError
+    ensures { Names lexemes.now result }
+{
     match lexemes.get(at) {
-        Some(lexeme) => CError::Unexpected(lexeme.at),
-        None => CError::EndOfText,
+        Some(lexeme) => ParseError::Unexpected(lexeme.at),
+        None => ParseError::EndOfText,
     }
 }
 
 /// Reads a sign.
-pub fn sign(lexemes: &[Lexeme<'_>], at: usize, wanted: CSign) -> Result<usize, CError>
-    ensures { IfOk result (λ next. Reads lexemes.now at next (λ rest. t.sign wanted ∷ rest)) }
+pub fn sign(lexemes: &[Lexeme<'_>], at: usize, wanted: CSign) -> Result<usize, ParseError>
+    ensures reads { IfOk result (λ next. Reads lexemes.now at next
+        (λ rest. t.sign wanted ∷ rest)) }
+    ensures refused { IfErr result (Names lexemes.now) }
 {
     match token(lexemes, at) {
         Some(Token::Sign(found)) if found == wanted => Ok(at + 1),
@@ -37,8 +42,10 @@ pub fn sign(lexemes: &[Lexeme<'_>], at: usize, wanted: CSign) -> Result<usize, C
 }
 
 /// Reads a word.
-pub fn word(lexemes: &[Lexeme<'_>], at: usize, wanted: CWord) -> Result<usize, CError>
-    ensures { IfOk result (λ next. Reads lexemes.now at next (λ rest. t.word wanted ∷ rest)) }
+pub fn word(lexemes: &[Lexeme<'_>], at: usize, wanted: CWord) -> Result<usize, ParseError>
+    ensures reads { IfOk result (λ next. Reads lexemes.now at next
+        (λ rest. t.word wanted ∷ rest)) }
+    ensures refused { IfErr result (Names lexemes.now) }
 {
     match token(lexemes, at) {
         Some(Token::Word(found)) if found == wanted => Ok(at + 1),

@@ -1,50 +1,48 @@
-//! Why a text stands for no program.
+//! Why a text isn't of the grammar.
 
 ghost use Rattle.std.specs.Prelude.{◌≡◌};
 
 use std::alloc::{AllocError, AllocFailed};
 use vlt_base::Memory as NoMemory;
 
-/// Why a text stands for no program. A place is the number of bytes before it.
+/// Why a text isn't of the grammar, within its limits. A place is the number of bytes before it.
 #[derive(Clone, Copy, Debug, PartialEq, Eq)]
-pub enum CError {
+pub enum ParseError {
     /// The first token, or what is none, behind which no program goes on.
     Unexpected(u32),
     /// Every token is that of a program, and the text ends before one does.
     EndOfText,
-    /// A text of the grammar breaks a rule on its names and types: the least place, and there the least number.
-    Kind { rule: u8, at: u32 },
     /// The limit that each program exceeds which goes on with the text so far: 14 or 15.
     Limit(u8),
     Memory,
 }
 
-impl From<AllocError> for CError {
-    ghost use Rattle.c_parser.specs.declared.error.CError.TheVariants.{Memory};
+impl From<AllocError> for ParseError {
+    ghost use Rattle.c_parser.specs.declared.error.ParseError.TheVariants.{Memory};
 
     ghost from_gives = { λ _ e. e ≡ Memory };
 
-    fn from(_: AllocError) -> CError {
-        CError::Memory
+    fn from(_: AllocError) -> ParseError {
+        ParseError::Memory
     }
 }
 
-impl<T: Drop> From<AllocFailed<T>> for CError {
-    ghost use Rattle.c_parser.specs.declared.error.CError.TheVariants.{Memory};
+impl<T: Drop> From<AllocFailed<T>> for ParseError {
+    ghost use Rattle.c_parser.specs.declared.error.ParseError.TheVariants.{Memory};
 
     ghost from_gives = { λ _ e. e ≡ Memory };
 
-    fn from(_: AllocFailed<T>) -> CError {
-        CError::Memory
+    fn from(_: AllocFailed<T>) -> ParseError {
+        ParseError::Memory
     }
 }
 
-impl From<NoMemory> for CError {
-    ghost use Rattle.c_parser.specs.declared.error.CError.TheVariants.{Memory};
+impl From<NoMemory> for ParseError {
+    ghost use Rattle.c_parser.specs.declared.error.ParseError.TheVariants.{Memory};
 
     ghost from_gives = { λ _ e. e ≡ Memory };
 
-    fn from(_: NoMemory) -> CError {
-        CError::Memory
+    fn from(_: NoMemory) -> ParseError {
+        ParseError::Memory
     }
 }

@@ -1,16 +1,17 @@
 //! Cells, expressions and calls.
 
-ghost use Rattle.std.specs.Prelude.{◌≡◌, ◌+◌, ◌≤◌, ◌∷◌, List, true, map, IfOk};
+ghost use Rattle.std.specs.Prelude.{◌≡◌, ◌+◌, ◌≤◌, ◌∷◌, List, true, map, IfErr, IfOk};
 ghost use Rattle.vlt_ops.specs.Operator.{row_of};
 ghost use Rattle.c_syntax.specs.Tokens as t;
 ghost use Rattle.c_syntax.specs.declared.token.CSign.TheVariants.{OpenParen};
 ghost use Rattle.c_syntax.specs.Spelling.{arg_token, args_then, call_then, cell_then, expr_then, more_args_then};
 ghost use Rattle.c_syntax.specs.Grammar.{HasNoText, IsCall, IsExpr};
 ghost use Rattle.c_syntax.specs.View.{arg_of, call_of, expr_of};
+ghost use Rattle.c_parser.specs.Refusals.{Names};
 ghost use Rattle.c_parser.specs.Parsing.{Reads, ReadsBehind};
 
 use crate::cursor::{is_sign, refuse, sign, token};
-use crate::error::CError;
+use crate::error::ParseError;
 use crate::token::{Lexeme, Token};
 use c_syntax::{CArg, CCall, CCell, CExpr, CPrim, CSign, CWord};
 use std::alloc::Global;
@@ -18,9 +19,15 @@ use vlt_base::{Boxed, C_EXPRESSION_DEPTH, Items};
 use vlt_ops::{Op, row};
 
 /// The rest of a cell, behind the variable of this number.
-pub fn cell_behind(lexemes: &[Lexeme<'_>], at: usize, base: u64) -> Result<(CCell, usize), CError>
-    ensures { IfOk result (λ x. ReadsBehind (t.variable
-        (record { reference = true; number = base })) lexemes.now at x.1 (cell_then x.0)) }
+pub fn cell_behind(
+    lexemes: &[Lexeme<'_>],
+    at: usize,
+    base: u64,
+) -> Result<(CCell, usize), ParseError>
+    ensures reads { IfOk result (λ x.
+        ReadsBehind (t.variable (record { reference = true; number = base })) lexemes.now at x.1
+        (cell_then x.0)) }
+    ensures refused { IfErr result (Names lexemes.now) }
 {
     let kind = sign(lexemes, at, CSign::Arrow)?;
     let reference = match token(lexemes, kind) {
@@ -48,11 +55,12 @@ fn behind_paren(
     lexemes: &[Lexeme<'_>],
     at: usize,
     depth: u8,
-) -> Result<(CExpr, usize), CError>
+) -> Result<(CExpr, usize), ParseError>
     requires { 1 ≤ depth }
     ensures reads { IfOk result (λ x. ReadsBehind (t.sign OpenParen) lexemes.now at x.1
         (expr_then (expr_of x.0))) }
     ensures is { IfOk result (λ x. IsExpr (depth + 1) (expr_of x.0)) }
+    ensures refused { IfErr result (Names lexemes.now) }
 {
     match token(lexemes, at) {
         Some(Token::Operator(Op::Subtract)) => {
@@ -78,10 +86,11 @@ fn behind_paren(
 }
 
 /// The operator between two operands.
-fn operator(lexemes: &[Lexeme<'_>], at: usize) -> Result<Op, CError>
+fn operator(lexemes: &[Lexeme<'_>], at: usize) -> Result<Op, ParseError>
     ensures reads { IfOk result (λ op. Reads lexemes.now at (at + 1)
         (λ rest. t.operator op ∷ rest)) }
     ensures arity { IfOk result (λ op. (row_of op).arity ≡ 2) }
+    ensures refused { IfErr result (Names lexemes.now) }
 {
     match token(lexemes, at) {
         Some(Token::Operator(op)) if row(op).arity == 2 => Ok(op),
@@ -96,10 +105,11 @@ pub fn expr(
     lexemes: &[Lexeme<'_>],
     at: usize,
     depth: u8,
-) -> Result<(CExpr, usize), CError>
+) -> Result<(CExpr, usize), ParseError>
     requires { 1 ≤ depth }
     ensures reads { IfOk result (λ x. Reads lexemes.now at x.1 (expr_then (expr_of x.0))) }
     ensures is { IfOk result (λ x. IsExpr depth (expr_of x.0)) }
+    ensures refused { IfErr result (Names lexemes.now) }
 {
     match token(lexemes, at) {
         Some(Token::Number(value)) => Ok((CExpr::Number(value), at + 1)),
@@ -113,7 +123,7 @@ pub fn expr(
         }
         Some(Token::Sign(CSign::OpenParen)) => {
             if depth == 1 {
-                return Err(CError::Limit(C_EXPRESSION_DEPTH));
+                return Err(ParseError::Limit(C_EXPRESSION_DEPTH));
             }
             behind_paren(alloc, lexemes, at + 1, depth - 1)
         }

@@ -1,14 +1,15 @@
 //! Heads, functions with their bodies, and the whole.
 
-ghost use Rattle.std.specs.Prelude.{◌≡◌, ◌+◌, ◌≤◌, [], ◌∷◌, pos, length, map, IfOk};
+ghost use Rattle.std.specs.Prelude.{◌≡◌, ◌+◌, ◌≤◌, [], ◌∷◌, pos, length, map, IfErr, IfOk};
 ghost use Rattle.c_syntax.specs.Tokens as t;
 ghost use Rattle.c_syntax.specs.Spelling.{declaration_then, head_then, params_then, result_then, spelling, type_then, vars_then};
 ghost use Rattle.c_syntax.specs.Grammar.{AreStmts, IsUnit, language};
 ghost use Rattle.c_parser.specs.View.{body_of, declaration_of, head_of, tokens_from, unit_of};
+ghost use Rattle.c_parser.specs.Refusals.{Names};
 ghost use Rattle.c_parser.specs.Parsing.{Reads, ReadsBody, ReadsParams, ReadsSome};
 
 use crate::cursor::{is_sign, is_word, refuse, sign, token, word};
-use crate::error::CError;
+use crate::error::ParseError;
 use crate::stmts::stmts;
 use crate::token::{Lexeme, Token};
 use crate::unit::{Body, Declaration, Head, Unit};
@@ -20,8 +21,9 @@ use vlt_base::Items;
 const ROOM: u8 = 191;
 
 /// A type, and whether it is `vr_ref`.
-fn type_at(lexemes: &[Lexeme<'_>], at: usize) -> Result<(bool, usize), CError>
-    ensures { IfOk result (λ x. Reads lexemes.now at x.1 (type_then x.0)) }
+fn type_at(lexemes: &[Lexeme<'_>], at: usize) -> Result<(bool, usize), ParseError>
+    ensures reads { IfOk result (λ x. Reads lexemes.now at x.1 (type_then x.0)) }
+    ensures refused { IfErr result (Names lexemes.now) }
 {
     if is_word(lexemes, at, CWord::Ref) {
         return Ok((true, at + 1));
@@ -32,8 +34,9 @@ fn type_at(lexemes: &[Lexeme<'_>], at: usize) -> Result<(bool, usize), CError>
 }
 
 /// What a function gives.
-fn result_at(lexemes: &[Lexeme<'_>], at: usize) -> Result<(CResult, usize), CError>
-    ensures { IfOk result (λ x. Reads lexemes.now at x.1 (result_then x.0)) }
+fn result_at(lexemes: &[Lexeme<'_>], at: usize) -> Result<(CResult, usize), ParseError>
+    ensures reads { IfOk result (λ x. Reads lexemes.now at x.1 (result_then x.0)) }
+    ensures refused { IfErr result (Names lexemes.now) }
 {
     if is_word(lexemes, at, CWord::Void) {
         return Ok((CResult::Nothing, at + 1));
@@ -47,8 +50,10 @@ fn result_at(lexemes: &[Lexeme<'_>], at: usize) -> Result<(CResult, usize), CErr
 }
 
 /// A name with its type.
-fn declaration(lexemes: &[Lexeme<'_>], at: usize) -> Result<(Declaration, usize), CError>
-    ensures { IfOk result (λ x. Reads lexemes.now at x.1 (declaration_then (declaration_of x.0))) }
+fn declaration(lexemes: &[Lexeme<'_>], at: usize) -> Result<(Declaration, usize), ParseError>
+    ensures reads { IfOk result (λ x. Reads lexemes.now at x.1
+        (declaration_then (declaration_of x.0))) }
+    ensures refused { IfErr result (Names lexemes.now) }
 {
     let (reference, next) = type_at(lexemes, at)?;
     match token(lexemes, next) {
@@ -69,9 +74,10 @@ fn more_params(
     lexemes: &[Lexeme<'_>],
     at: usize,
     first: Declaration,
-) -> Result<(Items<Declaration>, usize), CError>
-    ensures { IfOk result (λ x. ReadsParams lexemes.now at x.1 (declaration_of first)
+) -> Result<(Items<Declaration>, usize), ParseError>
+    ensures reads { IfOk result (λ x. ReadsParams lexemes.now at x.1 (declaration_of first)
         (map declaration_of x.0)) }
+    ensures refused { IfErr result (Names lexemes.now) }
 {
     let mut params = Items::new(alloc);
     params.push(first)?;
@@ -90,8 +96,10 @@ fn params(
     alloc: Global,
     lexemes: &[Lexeme<'_>],
     at: usize,
-) -> Result<(Items<Declaration>, usize), CError>
-    ensures { IfOk result (λ x. Reads lexemes.now at x.1 (params_then (map declaration_of x.0))) }
+) -> Result<(Items<Declaration>, usize), ParseError>
+    ensures reads { IfOk result (λ x. Reads lexemes.now at x.1
+        (params_then (map declaration_of x.0))) }
+    ensures refused { IfErr result (Names lexemes.now) }
 {
     if is_word(lexemes, at, CWord::Void) {
         let next = sign(lexemes, at + 1, CSign::CloseParen)?;
@@ -102,8 +110,9 @@ fn params(
 }
 
 /// The name of a function.
-fn name(lexemes: &[Lexeme<'_>], at: usize) -> Result<CName, CError>
-    ensures { IfOk result (λ f. Reads lexemes.now at (at + 1) (λ rest. t.name f ∷ rest)) }
+fn name(lexemes: &[Lexeme<'_>], at: usize) -> Result<CName, ParseError>
+    ensures reads { IfOk result (λ f. Reads lexemes.now at (at + 1) (λ rest. t.name f ∷ rest)) }
+    ensures refused { IfErr result (Names lexemes.now) }
 {
     match token(lexemes, at) {
         Some(Token::Name(name)) => Ok(name),
@@ -112,8 +121,9 @@ fn name(lexemes: &[Lexeme<'_>], at: usize) -> Result<CName, CError>
 }
 
 /// The head of a function.
-fn head(alloc: Global, lexemes: &[Lexeme<'_>], at: usize) -> Result<(Head, usize), CError>
-    ensures { IfOk result (λ x. Reads lexemes.now at x.1 (head_then (head_of x.0))) }
+fn head(alloc: Global, lexemes: &[Lexeme<'_>], at: usize) -> Result<(Head, usize), ParseError>
+    ensures reads { IfOk result (λ x. Reads lexemes.now at x.1 (head_then (head_of x.0))) }
+    ensures refused { IfErr result (Names lexemes.now) }
 {
     let (given, next) = result_at(lexemes, at)?;
     let name = name(lexemes, next)?;
@@ -139,10 +149,11 @@ fn vars(
     alloc: Global,
     lexemes: &[Lexeme<'_>],
     at: usize,
-) -> Result<(Items<Declaration>, usize), CError>
+) -> Result<(Items<Declaration>, usize), ParseError>
     requires { at ≤ length lexemes.now }
-    ensures { IfOk result (λ x. ReadsSome lexemes.now at x.1
+    ensures reads { IfOk result (λ x. ReadsSome lexemes.now at x.1
         (vars_then (map declaration_of x.0))) }
+    ensures refused { IfErr result (Names lexemes.now) }
 {
     let mut vars = Items::new(alloc);
     let mut here = at;
@@ -160,9 +171,10 @@ fn body(
     lexemes: &[Lexeme<'_>],
     at: usize,
     head: Head,
-) -> Result<(Body, usize), CError>
+) -> Result<(Body, usize), ParseError>
     ensures reads { IfOk result (λ x. ReadsBody lexemes.now at x.1 (head_of head) (body_of x.0)) }
     ensures are { IfOk result (λ x. AreStmts language.expressions 191 (body_of x.0).stmts) }
+    ensures refused { IfErr result (Names lexemes.now) }
 {
     let open = sign(lexemes, at, CSign::OpenBrace)?;
     let (vars, next) = vars(alloc, lexemes, open)?;
@@ -171,11 +183,11 @@ fn body(
 }
 
 /// The number in the second line.
-fn first_lines(lexemes: &[Lexeme<'_>]) -> Result<u64, CError>
-    ensures reads { IfOk result (λ main. tokens_from lexemes.now 0
-        ≡ t.include ∷ t.line_end ∷ t.define ∷ t.number
-        (pos main) ∷ t.line_end ∷ tokens_from lexemes.now 5) }
+fn first_lines(lexemes: &[Lexeme<'_>]) -> Result<u64, ParseError>
+    ensures reads { IfOk result (λ main. tokens_from lexemes.now 0 ≡ t.include ∷ t.line_end
+        ∷ t.define ∷ t.number (pos main) ∷ t.line_end ∷ tokens_from lexemes.now 5) }
     ensures within { IfOk result (λ main. 5 ≤ length lexemes.now) }
+    ensures refused { IfErr result (Names lexemes.now) }
 {
     match token(lexemes, 0) {
         Some(Token::Include) => {}
@@ -200,9 +212,10 @@ fn first_lines(lexemes: &[Lexeme<'_>]) -> Result<u64, CError>
 }
 
 /// All tokens of a text.
-pub fn unit(alloc: Global, lexemes: &[Lexeme<'_>]) -> Result<Unit, CError>
+pub fn unit(alloc: Global, lexemes: &[Lexeme<'_>]) -> Result<Unit, ParseError>
     ensures spelled { IfOk result (λ u. tokens_from lexemes.now 0 ≡ spelling (unit_of u)) }
     ensures within { IfOk result (λ u. IsUnit language (unit_of u)) }
+    ensures refused { IfErr result (Names lexemes.now) }
 {
     let main = first_lines(lexemes)?;
     let mut heads = Vec::new(alloc);

@@ -3,9 +3,10 @@
 //! Rests on it: what is judged of the names and types of a C text.
 #![tactic(auto)]
 
-ghost use Rattle.std.specs.Prelude.{◌≡◌, ◌<◌, ◌-◌, ◌^◌, length, IfOk};
+ghost use Rattle.std.specs.Prelude.{◌≡◌, ◌<◌, ◌-◌, ◌^◌, length, IfErr, IfOk};
 ghost use Rattle.c_syntax.specs.Reading.{IsUnitOf};
 ghost use Rattle.c_parser.specs.View.{lexemes_of, unit_of};
+ghost use Rattle.c_parser.specs.Refusals.{NamesOf};
 
 mod calls;
 mod cursor;
@@ -19,7 +20,8 @@ mod tests;
 mod token;
 mod unit;
 
-pub use error::CError;
+pub use error::ParseError;
+pub use lex::before_mark;
 use std::alloc::Global;
 pub use token::{Lexeme, Token};
 pub use unit::{Body, Declaration, Head, Unit};
@@ -34,11 +36,13 @@ pub struct Written<'a> {
 /// Reads a C text up to the first mark of a certificate, by the grammar and within its limits.
 ///
 /// Names and types aren't judged here. `Unexpected`, `EndOfText` and `Limit` say where reading stopped.
-pub fn read_unit(alloc: Global, text: &[u8]) -> Result<Written<'_>, CError>
+pub fn read_unit(alloc: Global, text: &[u8]) -> Result<Written<'_>, ParseError>
     requires size { length text.now < 2 ^ 32 - 1 }
-    ensures { IfOk result (λ x. IsUnitOf text.now (lexemes_of x.lexemes.items) (unit_of x.unit)) }
+    ensures reads { IfOk result (λ x. IsUnitOf text.now (lexemes_of x.lexemes.items)
+        (unit_of x.unit)) }
+    ensures refused { IfErr result (NamesOf text.now) }
 {
-    let lexemes = lex::lex(alloc, lex::before_mark(text))?;
+    let lexemes = lex::lex(alloc, before_mark(text))?;
     let unit = functions::unit(alloc, &lexemes)?;
     Ok(Written { lexemes, unit })
 }

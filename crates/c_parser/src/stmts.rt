@@ -1,17 +1,18 @@
 //! Statements.
 
-ghost use Rattle.std.specs.Prelude.{◌≡◌, ◌+◌, ◌≤◌, ◌∷◌, ℕ, IfOk};
+ghost use Rattle.std.specs.Prelude.{◌≡◌, ◌+◌, ◌≤◌, ◌∷◌, ℕ, IfErr, IfOk};
 ghost use Rattle.c_syntax.specs.Tokens as t;
 ghost use Rattle.c_syntax.specs.declared.token.CSign.TheVariants.{Assign, CloseBrace, OpenBrace};
 ghost use Rattle.c_syntax.specs.declared.token.CWord.TheVariants.{If, Return, While};
 ghost use Rattle.c_syntax.specs.Spelling.{stmt_then, stmts_then};
 ghost use Rattle.c_syntax.specs.Grammar.{AreStmts, IsStmt, language};
 ghost use Rattle.c_syntax.specs.View.{stmt_of, stmts_of};
+ghost use Rattle.c_parser.specs.Refusals.{Names};
 ghost use Rattle.c_parser.specs.Parsing.{Reads, ReadsBehind, ReadsBehindTwo};
 
 use crate::calls::call;
 use crate::cursor::{is_sign, is_word, refuse, sign, token, word};
-use crate::error::CError;
+use crate::error::ParseError;
 use crate::exprs::{cell_behind, expr};
 use crate::token::{Lexeme, Token};
 use c_syntax::{CSign, CStmt, CVar, CWord};
@@ -27,11 +28,12 @@ fn set(
     lexemes: &[Lexeme<'_>],
     at: usize,
     variable: CVar,
-) -> Result<(CStmt, usize), CError>
+) -> Result<(CStmt, usize), ParseError>
     ensures reads { IfOk result (λ x. ReadsBehindTwo (t.variable variable)
         (t.sign Assign) lexemes.now at x.1 (stmt_then (stmt_of x.0))) }
     ensures is { (room : ℕ) → IfOk result (λ x.
         IsStmt language.expressions room (stmt_of x.0)) }
+    ensures refused { IfErr result (Names lexemes.now) }
 {
     match token(lexemes, at) {
         Some(Token::Name(_) | Token::Primitive(_)) => {
@@ -53,11 +55,12 @@ fn behind_variable(
     lexemes: &[Lexeme<'_>],
     at: usize,
     variable: CVar,
-) -> Result<(CStmt, usize), CError>
+) -> Result<(CStmt, usize), ParseError>
     ensures reads { IfOk result (λ x. ReadsBehind (t.variable variable) lexemes.now at x.1
         (stmt_then (stmt_of x.0))) }
     ensures is { (room : ℕ) → IfOk result (λ x.
         IsStmt language.expressions room (stmt_of x.0)) }
+    ensures refused { IfErr result (Names lexemes.now) }
 {
     if variable.reference && is_sign(lexemes, at, CSign::Arrow) {
         let (cell, next) = cell_behind(lexemes, at, variable.number)?;
@@ -71,11 +74,16 @@ fn behind_variable(
 }
 
 /// What stands behind `return`.
-fn behind_return(alloc: Global, lexemes: &[Lexeme<'_>], at: usize) -> Result<(CStmt, usize), CError>
+fn behind_return(
+    alloc: Global,
+    lexemes: &[Lexeme<'_>],
+    at: usize,
+) -> Result<(CStmt, usize), ParseError>
     ensures reads { IfOk result (λ x. ReadsBehind (t.word Return) lexemes.now at x.1
         (stmt_then (stmt_of x.0))) }
     ensures is { (room : ℕ) → IfOk result (λ x.
         IsStmt language.expressions room (stmt_of x.0)) }
+    ensures refused { IfErr result (Names lexemes.now) }
 {
     if is_sign(lexemes, at, CSign::Semicolon) {
         return Ok((CStmt::Return(None), at + 1));
@@ -92,10 +100,11 @@ fn block(
     lexemes: &[Lexeme<'_>],
     at: usize,
     room: u8,
-) -> Result<(Items<CStmt>, usize), CError>
+) -> Result<(Items<CStmt>, usize), ParseError>
     ensures reads { IfOk result (λ x. Reads lexemes.now at x.1
         (λ rest. t.sign OpenBrace ∷ stmts_then (stmts_of x.0) (t.sign CloseBrace ∷ rest))) }
     ensures are { IfOk result (λ x. AreStmts language.expressions room (stmts_of x.0)) }
+    ensures refused { IfErr result (Names lexemes.now) }
 {
     let open = sign(lexemes, at, CSign::OpenBrace)?;
     stmts(alloc, lexemes, open, room)
@@ -108,10 +117,11 @@ pub fn stmts(
     lexemes: &[Lexeme<'_>],
     at: usize,
     room: u8,
-) -> Result<(Items<CStmt>, usize), CError>
+) -> Result<(Items<CStmt>, usize), ParseError>
     ensures reads { IfOk result (λ x. Reads lexemes.now at x.1
         (λ rest. stmts_then (stmts_of x.0) (t.sign CloseBrace ∷ rest))) }
     ensures are { IfOk result (λ x. AreStmts language.expressions room (stmts_of x.0)) }
+    ensures refused { IfErr result (Names lexemes.now) }
 {
     let mut found = Items::new(alloc);
     let mut here = at;
@@ -130,9 +140,10 @@ fn stmt(
     lexemes: &[Lexeme<'_>],
     at: usize,
     room: u8,
-) -> Result<(CStmt, usize), CError>
+) -> Result<(CStmt, usize), ParseError>
     ensures reads { IfOk result (λ x. Reads lexemes.now at x.1 (stmt_then (stmt_of x.0))) }
     ensures is { IfOk result (λ x. IsStmt language.expressions room (stmt_of x.0)) }
+    ensures refused { IfErr result (Names lexemes.now) }
 {
     match token(lexemes, at) {
         Some(Token::Var(variable)) => behind_variable(alloc, lexemes, at + 1, variable),
@@ -152,13 +163,13 @@ fn stmt(
         }
         Some(Token::Word(CWord::If)) => {
             if room == 0 {
-                return Err(CError::Limit(C_BLOCK_DEPTH));
+                return Err(ParseError::Limit(C_BLOCK_DEPTH));
             }
             behind_if(alloc, lexemes, at + 1, room - 1)
         }
         Some(Token::Word(CWord::While)) => {
             if room == 0 {
-                return Err(CError::Limit(C_BLOCK_DEPTH));
+                return Err(ParseError::Limit(C_BLOCK_DEPTH));
             }
             behind_while(alloc, lexemes, at + 1, room - 1)
         }
@@ -173,10 +184,11 @@ fn behind_if(
     lexemes: &[Lexeme<'_>],
     at: usize,
     room: u8,
-) -> Result<(CStmt, usize), CError>
+) -> Result<(CStmt, usize), ParseError>
     ensures reads { IfOk result (λ x. ReadsBehind (t.word If) lexemes.now at x.1
         (stmt_then (stmt_of x.0))) }
     ensures is { IfOk result (λ x. IsStmt language.expressions (room + 1) (stmt_of x.0)) }
+    ensures refused { IfErr result (Names lexemes.now) }
 {
     let open = sign(lexemes, at, CSign::OpenParen)?;
     let (condition, next) = expr(alloc, lexemes, open, DEPTH)?;
@@ -196,10 +208,11 @@ fn behind_while(
     lexemes: &[Lexeme<'_>],
     at: usize,
     room: u8,
-) -> Result<(CStmt, usize), CError>
+) -> Result<(CStmt, usize), ParseError>
     ensures reads { IfOk result (λ x. ReadsBehind (t.word While) lexemes.now at x.1
         (stmt_then (stmt_of x.0))) }
     ensures is { IfOk result (λ x. IsStmt language.expressions (room + 1) (stmt_of x.0)) }
+    ensures refused { IfErr result (Names lexemes.now) }
 {
     let open = sign(lexemes, at, CSign::OpenParen)?;
     match token(lexemes, open) {

@@ -1,11 +1,11 @@
 ghost use Rattle.std.specs.Prelude.{◌<◌, ◌-◌, ◌^◌, length};
 
-use crate::{CError, read_unit};
+use crate::{ParseError, read_unit};
 use std::alloc::{AllocError, Global};
 use std::test::Fail;
 
 /// What is read of a text: how many heads and bodies, or why nothing is.
-fn told(alloc: Global, text: &[u8]) -> Result<(usize, usize), CError>
+fn told(alloc: Global, text: &[u8]) -> Result<(usize, usize), ParseError>
     requires { length text.now < 2 ^ 32 - 1 }
 {
     let written = read_unit(alloc, text)?;
@@ -14,12 +14,12 @@ fn told(alloc: Global, text: &[u8]) -> Result<(usize, usize), CError>
 
 #[test]
 fn reads(rt: HostRuntime) -> Result<(), Fail> {
-    let cases: [(&[u8], Result<(usize, usize), CError>); 12] = [
-        (b"", Err(CError::EndOfText)),
-        (b"#include \"vault\"\n", Err(CError::Unexpected(0))),
+    let cases: [(&[u8], Result<(usize, usize), ParseError>); 12] = [
+        (b"", Err(ParseError::EndOfText)),
+        (b"#include \"vault\"\n", Err(ParseError::Unexpected(0))),
         (
             b"#include \"vault_rt.h\"\n#define VR_MAIN f01\n",
-            Err(CError::Unexpected(39)),
+            Err(ParseError::Unexpected(39)),
         ),
         (b"#include \"vault_rt.h\"\n#define VR_MAIN f0\n", Ok((0, 0))),
         (
@@ -32,11 +32,11 @@ fn reads(rt: HostRuntime) -> Result<(), Fail> {
         ),
         (
             b"#include \"vault_rt.h\"\n#define VR_MAIN f0\nvoid f0(void){n0=01;}",
-            Err(CError::Unexpected(58)),
+            Err(ParseError::Unexpected(58)),
         ),
         (
             b"#include \"vault_rt.h\"\n#define VR_MAIN f0\nvoid f0(void){n0=(1/0);",
-            Err(CError::EndOfText),
+            Err(ParseError::EndOfText),
         ),
         (
             b"#include \"vault_rt.h\"\n#define VR_MAIN f0\nvoid f0(void){if(n0){p0=vr_new(1,0);}else{}}/*VAULT-CERT\n[",
@@ -44,7 +44,7 @@ fn reads(rt: HostRuntime) -> Result<(), Fail> {
         ),
         (
             b"#include \"vault_rt.h\"\n#define VR_MAIN f0\nvoid f0(void){vr_call(\"a\");vr_own(\"a\");}",
-            Err(CError::Unexpected(75)),
+            Err(ParseError::Unexpected(75)),
         ),
         (
             b"#include \"vault_rt.h\"\n#define VR_MAIN f0\nvoid f0(void){n0=(-(-(-(-(-(-(-(-(-(-(-(-(-(-(-1)))))))))))))));}",
@@ -52,7 +52,7 @@ fn reads(rt: HostRuntime) -> Result<(), Fail> {
         ),
         (
             b"#include \"vault_rt.h\"\n#define VR_MAIN f0\nvoid f0(void){n0=(-(-(-(-(-(-(-(-(-(-(-(-(-(-(-(",
-            Err(CError::Limit(15)),
+            Err(ParseError::Limit(15)),
         ),
     ];
     for (text, want) in cases {
@@ -77,7 +77,7 @@ fn loops(alloc: Global, depth: usize) -> Result<Vec<u8>, AllocError> {
 
 #[test]
 fn nests(rt: HostRuntime) -> Result<(), Fail> {
-    let cases = [(191, Ok((0, 1))), (192, Err(CError::Limit(14)))];
+    let cases = [(191, Ok((0, 1))), (192, Err(ParseError::Limit(14)))];
     for (depth, want) in cases {
         let text = loops(rt.alloc(), depth)?;
         assert!(rt; text.len() < 4000);

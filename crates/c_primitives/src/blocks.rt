@@ -116,7 +116,7 @@ impl World<'_> {
     }
 
     /// Sends a block out.
-    pub fn out(&mut self, args: &[CArg], vars: Vars) -> Result<Option<Value>, Halt>
+    pub fn send_out(&mut self, args: &[CArg], vars: Vars) -> Result<Option<Value>, Halt>
         requires ready { IsReady self.old }
         ensures { DoesSilently self.old self.new vars.entry result
             (primitive_does self.old.heap CPrim.Out (map arg_of args.now)) }

@@ -48,7 +48,7 @@ impl World<'_> {
             CPrim::Ask => self.ask(args, vars, sink),
             CPrim::Int => self.int(args, vars),
             CPrim::Pick => self.pick(args, vars),
-            CPrim::Out => self.out(args, vars),
+            CPrim::Out => self.send_out(args, vars),
             CPrim::Back => self.back(args, vars),
             CPrim::End => self.end(args, vars),
         }

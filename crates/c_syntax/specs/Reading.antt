@@ -84,7 +84,7 @@ pub record IsOverLimitAt (kept : Bounds → Type 0) (ts : List Token) (i : ℕ) 
   pub some : Continues any_size (take (suc i) ts)
   pub none : Continues kept (take (suc i) ts) → ⊥
 
--- a text goes on behind all tokens, and they are none
+-- a text within the limits goes on behind all tokens, and they are none of any size
 pub record IsCutShort (ts : List Token) : Type 0 where
   pub some : Continues within_limits ts
-  pub none : (u : TranslationUnit) → spelling u ≡ ts → ⊥
+  pub none : (b : Bounds) (u : TranslationUnit) → IsUnit b u → spelling u ≡ ts → ⊥

@@ -28,7 +28,7 @@ returns-clause-reads c =
     let tokens = tokens_from c.args.lexemes.now in
     record {
       spells = all_read c.args.first c.loop-alloc.invariant.begun.0 c.loop-alloc.args (tokens c.args.at) (tokens c.loop-alloc.here) (tokens c.in_ok-next.next)
-          c.loop-alloc.invariant.begun.1 c.loop-alloc.invariant.begun.2 c.in_ok-next.ensures.spells;
-      later = omega (arith, c.loop-alloc.invariant.later, c.in_ok-next.ensures.later);
-      within = c.in_ok-next.ensures.within;
+          c.loop-alloc.invariant.begun.1 c.loop-alloc.invariant.begun.2 c.in_ok-next.ensures.reads.spells;
+      later = omega (arith, c.loop-alloc.invariant.later, c.in_ok-next.ensures.reads.later);
+      within = c.in_ok-next.ensures.reads.within;
     }

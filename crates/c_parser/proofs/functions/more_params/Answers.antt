@@ -13,17 +13,17 @@ loop-params-preserved c =
       begun = (
         ds ++ e ∷ [],
         c.in_ok-push-2.ensures.ok ∙ ap (λ x. x ++ e ∷ []) c.loop-params.invariant.begun.1,
-        param_read ds e (tokens c.args.at) (tokens here) (tokens (here + 1)) (tokens c.in_ok-param.next) c.loop-params.invariant.begun.2 (c.loop-params-test.ensures refl).spells c.in_ok-param.ensures.spells,
+        param_read ds e (tokens c.args.at) (tokens here) (tokens (here + 1)) (tokens c.in_ok-param.next) c.loop-params.invariant.begun.2 (c.loop-params-test.ensures refl).spells c.in_ok-param.ensures.reads.spells,
       );
-      later = omega (arith, c.loop-params.invariant.later, c.in_ok-param.ensures.later);
+      later = omega (arith, c.loop-params.invariant.later, c.in_ok-param.ensures.reads.later);
     }
 
-pub returns : goal.returns
-returns c =
+pub returns-clause-reads : goal.returns-clause-reads
+returns-clause-reads c =
     let tokens = tokens_from c.args.lexemes.now in
     record {
       spells = params_read c.args.first c.loop-params.invariant.begun.0 c.loop-params.params (tokens c.args.at) (tokens c.loop-params.here) (tokens c.in_ok-next.next)
-          c.loop-params.invariant.begun.1 c.loop-params.invariant.begun.2 c.in_ok-next.ensures.spells;
-      later = omega (arith, c.loop-params.invariant.later, c.in_ok-next.ensures.later);
-      within = c.in_ok-next.ensures.within;
+          c.loop-params.invariant.begun.1 c.loop-params.invariant.begun.2 c.in_ok-next.ensures.reads.spells;
+      later = omega (arith, c.loop-params.invariant.later, c.in_ok-next.ensures.reads.later);
+      within = c.in_ok-next.ensures.reads.within;
     }

@@ -3,7 +3,7 @@ use Rattle.c_parser.proofs.stmts.behind_return.Goals as goal
 
 pub returns-clause-reads : goal.returns-clause-reads
 returns-clause-reads c =
-    return_reads c.args.lexemes.now c.args.at c.in_ok-value.next c.in_ok-next.next c.in_ok-value.value c.in_ok-value.ensures.reads c.in_ok-next.ensures
+    return_reads c.args.lexemes.now c.args.at c.in_ok-value.next c.in_ok-next.next c.in_ok-value.value c.in_ok-value.ensures.reads c.in_ok-next.ensures.reads
 
 pub returns-clause-is : goal.returns-clause-is
 returns-clause-is c = return_is c.in_ok-value.value c.in_ok-value.ensures.is

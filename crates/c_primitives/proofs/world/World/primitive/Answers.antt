@@ -56,7 +56,7 @@ pub returns-in-Pick : goal.returns-in-Pick
 returns-in-Pick g c = subst (λ p. Does c.args.self.now c.pick.new.self c.args.vars (record { written = g.K.Sink.written c.args.sink.now; faults = g.K.Sink.faults c.args.sink.now }) (record { written = g.K.Sink.written c.args.sink.now; faults = g.K.Sink.faults c.args.sink.now }) c.pick.result (primitive_does c.args.self.now.heap p (map arg_of c.args.args.now))) (sym c.in-Pick.is) (c.pick.ensures (record { written = g.K.Sink.written c.args.sink.now; faults = g.K.Sink.faults c.args.sink.now }))
 
 pub returns-in-Out : goal.returns-in-Out
-returns-in-Out g c = subst (λ p. Does c.args.self.now c.out.new.self c.args.vars (record { written = g.K.Sink.written c.args.sink.now; faults = g.K.Sink.faults c.args.sink.now }) (record { written = g.K.Sink.written c.args.sink.now; faults = g.K.Sink.faults c.args.sink.now }) c.out.result (primitive_does c.args.self.now.heap p (map arg_of c.args.args.now))) (sym c.in-Out.is) (c.out.ensures (record { written = g.K.Sink.written c.args.sink.now; faults = g.K.Sink.faults c.args.sink.now }))
+returns-in-Out g c = subst (λ p. Does c.args.self.now c.send_out.new.self c.args.vars (record { written = g.K.Sink.written c.args.sink.now; faults = g.K.Sink.faults c.args.sink.now }) (record { written = g.K.Sink.written c.args.sink.now; faults = g.K.Sink.faults c.args.sink.now }) c.send_out.result (primitive_does c.args.self.now.heap p (map arg_of c.args.args.now))) (sym c.in-Out.is) (c.send_out.ensures (record { written = g.K.Sink.written c.args.sink.now; faults = g.K.Sink.faults c.args.sink.now }))
 
 pub returns-in-Back : goal.returns-in-Back
 returns-in-Back g c = subst (λ p. Does c.args.self.now c.back.new.self c.args.vars (record { written = g.K.Sink.written c.args.sink.now; faults = g.K.Sink.faults c.args.sink.now }) (record { written = g.K.Sink.written c.args.sink.now; faults = g.K.Sink.faults c.args.sink.now }) c.back.result (primitive_does c.args.self.now.heap p (map arg_of c.args.args.now))) (sym c.in-Back.is) (c.back.ensures (record { written = g.K.Sink.written c.args.sink.now; faults = g.K.Sink.faults c.args.sink.now }))

@@ -26,11 +26,11 @@ lesser_some (Some f) r e = by (k.is_less r f) e
     by true e = none-some r (sym e)
     by false e = none-some f (sym e)
 
-quiet : (t : Bool) (at rule : ℕ) (w : Walk) → (k.unless t at rule w).least ≡ None → w.least ≡ None
+pub quiet : (t : Bool) (at rule : ℕ) (w : Walk) → (k.unless t at rule w).least ≡ None → w.least ≡ None
 quiet true at rule w h = h
 quiet false at rule w h = absurd (lesser_some w.least (record { at = at; rule = rule }) h)
 
-kept : (t : Bool) (at rule : ℕ) (w : Walk) → (k.unless t at rule w).least ≡ None → IsTrue t
+pub kept : (t : Bool) (at rule : ℕ) (w : Walk) → (k.unless t at rule w).least ≡ None → IsTrue t
 kept true at rule w h = refl
 kept false at rule w h = absurd (lesser_some w.least (record { at = at; rule = rule }) h)
 
@@ -77,9 +77,9 @@ condition_quiet scope own e w h = expr_quiet scope own e (k.skip 2 w) (quiet (k.
 
 -- ---- statements
 
-record Good (A : Type 0) (w : Walk) : Type 0 where
-  declares : A
-  before : w.least ≡ None
+pub record Good (A : Type 0) (w : Walk) : Type 0 where
+  pub declares : A
+  pub before : w.least ≡ None
 
 mutual
   stmt_good : (scope : Scope) (in_loop : Bool) (own : ℕ) (x : Stmt) (w : Walk) → (k.stmt_judged scope in_loop own x w).least ≡ None → Good (DeclaresStmt scope.declared x) w
@@ -112,7 +112,7 @@ mutual
   stmt_good scope in_loop own (c.return (Some e)) w h =
       record { declares = tt; before = expr_quiet scope own e (k.skip 1 w) (quiet (k.can_return scope.result (k.expr_type scope e)) own 5 (k.expr_judged scope own e (k.skip 1 w)) h) }
 
-  stmts_good : (scope : Scope) (in_loop : Bool) (xs : Stmts) (w : Walk) → (k.stmts_judged scope in_loop xs w).least ≡ None → Good (Declares scope.declared xs) w
+  pub stmts_good : (scope : Scope) (in_loop : Bool) (xs : Stmts) (w : Walk) → (k.stmts_judged scope in_loop xs w).least ≡ None → Good (Declares scope.declared xs) w
   stmts_good scope in_loop c.done w h = record { declares = tt; before = h }
   stmts_good scope in_loop (c.next x xs) w h =
       let rest = stmts_good scope in_loop xs (k.stmt_judged scope in_loop (k.place w) x w) h in
@@ -171,7 +171,7 @@ func_declares heads b f inside is =
     (λ v one. same_names v (f.params ++ k.names_of b.vars) (names_of f) order (subst (λ ps. IsTrue (is_one_of v (ps ++ k.names_of b.vars))) (sym is.params) one)) inside in
     subst (Declares (names_of f)) (sym is.body) moved
 
-declarations_quiet : (before : List CVar) (ds : List Declaration) (w : Walk) → (k.declarations_judged before ds w).least ≡ None → w.least ≡ None
+pub declarations_quiet : (before : List CVar) (ds : List Declaration) (w : Walk) → (k.declarations_judged before ds w).least ≡ None → w.least ≡ None
 declarations_quiet before [] w h = h
 declarations_quiet before (d ∷ ds) w h =
     let first : Walk = k.skip (k.type_width d.reference) w in
@@ -179,7 +179,7 @@ declarations_quiet before (d ∷ ds) w h =
     let third : Walk = k.unless (same_bool d.reference d.variable.reference) (k.place second) 2 second in
     quiet (not (is_one_of d.variable before)) (k.place first) 1 first (quiet (same_bool d.reference d.variable.reference) (k.place second) 2 second (declarations_quiet (d.variable ∷ before) ds (k.skip 2 third) h))
 
-params_quiet : (ds : List Declaration) (w : Walk) → (k.params_judged ds w).least ≡ None → w.least ≡ None
+pub params_quiet : (ds : List Declaration) (w : Walk) → (k.params_judged ds w).least ≡ None → w.least ≡ None
 params_quiet [] w h = h
 params_quiet (d ∷ ds) w h = declarations_quiet [] (d ∷ ds) w h
 
@@ -188,7 +188,7 @@ abbrev AllGood : List Head → List Body → Type 0
 AllGood heads [] = Unit {0}
 AllGood heads (b ∷ bs) = Declares (scope_of heads b).declared b.stmts × AllGood heads bs
 
-body_good : (heads before : List Head) (b : Body) (w : Walk) → (k.body_judged heads before b w).least ≡ None → Good (Declares (scope_of heads b).declared b.stmts) w
+pub body_good : (heads before : List Head) (b : Body) (w : Walk) → (k.body_judged heads before b w).least ≡ None → Good (Declares (scope_of heads b).declared b.stmts) w
 body_good heads before b w h =
     let first : Walk = k.skip (k.result_width b.head.result) w in
     let second : Walk = k.unless (not (k.has_name b.head.name before)) (k.place first) 6 first in
@@ -202,7 +202,7 @@ body_good heads before b w h =
       before = quiet (not (k.has_name b.head.name before)) (k.place first) 6 first (quiet (k.has_head b.head heads) (k.place second) 6 second quiet_third);
     }
 
-bodies_good : (heads before : List Head) (bs : List Body) (w : Walk) → (k.bodies_judged heads before bs w).least ≡ None → Good (AllGood heads bs) w
+pub bodies_good : (heads before : List Head) (bs : List Body) (w : Walk) → (k.bodies_judged heads before bs w).least ≡ None → Good (AllGood heads bs) w
 bodies_good heads before [] w h = record { declares = tt; before = h }
 bodies_good heads before (b ∷ bs) w h =
     let rest = bodies_good heads (b.head ∷ before) bs (k.body_judged heads before b w) h in

@@ -5,7 +5,7 @@ use Rattle.c_memory.specs.Shown.{number_of}
 use Rattle.c_meaning.specs.Blocks.{gone_out}
 use Rattle.c_primitives.specs.declared.halt.Halt.TheVariants.{Broken}
 use Rattle.c_primitives.proofs.Coming.{ready_blocks, room_blocks, same_room, reference_come, reference_breaks, while_come, while_breaks, blocks_come}
-use Rattle.c_primitives.proofs.world.World.out.Goals as goal
+use Rattle.c_primitives.proofs.world.World.send_out.Goals as goal
 
 pub returns-then-not-is_reading : goal.returns-then-not-is_reading
 returns-then-not-is_reading c = λ b. record {

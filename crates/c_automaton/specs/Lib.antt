@@ -1,0 +1,4 @@
+pub mod Refusals
+pub mod Automaton
+pub mod Ahead
+pub mod Laws

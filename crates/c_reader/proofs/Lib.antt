@@ -1,0 +1,2 @@
+mod Funcs
+mod Within

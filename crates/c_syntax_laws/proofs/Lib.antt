@@ -1,0 +1,4 @@
+mod Lexemes
+mod Exprs
+mod Stmts
+mod Units

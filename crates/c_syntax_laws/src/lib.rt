@@ -1,0 +1,11 @@
+//! Laws of C texts: nothing goes in and nothing comes out.
+//! Read `specs/Laws.antt` first.
+//! Rests on it: that `crun` has one reply.
+#![tactic(auto)]
+
+ghost use Rattle.c_syntax_laws.specs.Laws.{OneUnitIsRead};
+
+/// A text is read in at most one way.
+pub fn one_unit_is_read()
+    ensures { OneUnitIsRead }
+{}
