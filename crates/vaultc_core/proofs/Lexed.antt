@@ -8,8 +8,8 @@ use Rattle.std.specs.Str.{chars, IsUtf8, is_utf8, IsValidUpTo}
 use Rattle.vlt_base.specs.Limits.{limit_of}
 use Rattle.vlt_lexer.specs.declared.token.TokenKind.{TokenKind}
 use Rattle.vlt_lexer.specs.declared.token.TokenKind.TheVariants as kind
-use Rattle.vlt_lexer.specs.declared.scan.Fault.{Fault}
-use Rattle.vlt_lexer.specs.declared.scan.Fault.TheVariants as fault
+use Rattle.vlt_lexer.specs.declared.scan.Stuck.{Stuck}
+use Rattle.vlt_lexer.specs.declared.scan.Stuck.TheVariants as stuck
 use Rattle.vlt_lexer.specs.declared.lexer.LexError.{LexError}
 use Rattle.vlt_lexer.specs.declared.lexer.LexError.TheVariants as error
 use Rattle.vlt_lexer.specs.Characters.{is_blank, is_digit, value_of, behind, or_else, after_line, after_close, width}
@@ -57,16 +57,16 @@ data Step (cs : List ℕ) : Type 0 where
   done : cs ≡ [] → Step cs
   passed : (first : ℕ) (front after : List ℕ) → cs ≡ first ∷ (front ++ after) → IsGap cs after → Step cs
   found : (k : TokenKind) (after : List ℕ) → Stands k cs after → Step cs
-  stuck : (f : Fault) → IsStuck f cs → Step cs
+  halted : (f : Stuck) → IsStuck f cs → Step cs
 
 signs_at : (c : ℕ) (ds : List ℕ) → is_blank c ≡ false → past_name (c ∷ ds) ≡ None → is_digit c ≡ false → IsNoComment (c ∷ ds) → Step (c ∷ ds)
 signs_at c ds no_blank no_name no_digit plain = elim (eqb_tells c 39) [
   | inl ticks ↦ elim (option_cases (past_name ds)) [
-    | inl none ↦ stuck fault.BadByte (tick_stuck (c ∷ ds) c ds refl no_blank no_name no_digit ticks.1 none)
+    | inl none ↦ halted stuck.BadByte (tick_stuck (c ∷ ds) c ds refl no_blank no_name no_digit ticks.1 none)
     | inr some ↦ found kind.Tick some.0 (tick_stands (c ∷ ds) c ds some.0 refl ticks.1 some.1)
   ]
   | inr no_tick ↦ elim (option_cases (sign_of (c ∷ ds))) [
-    | inl none ↦ stuck fault.BadByte (bad_stuck (c ∷ ds) c ds refl no_blank no_name no_digit (λ t. absurd (no_tick.1 t)) none)
+    | inl none ↦ halted stuck.BadByte (bad_stuck (c ∷ ds) c ds refl no_blank no_name no_digit (λ t. absurd (no_tick.1 t)) none)
     | inr some ↦ found (kind.Sign some.0.0) some.0.1 (sign_stands (c ∷ ds) some.0.0 some.0.1 some.1 plain)
   ]
 ]
@@ -74,7 +74,7 @@ signs_at c ds no_blank no_name no_digit plain = elim (eqb_tells c 39) [
 number_at : (c : ℕ) (ds : List ℕ) → is_digit c ≡ true → Step (c ∷ ds)
 number_at c ds is = elim (leb_tells (value_of (run is_digit (c ∷ ds))) max_number) [
   | inl small ↦ found (kind.Number (pos (value_of (run is_digit (c ∷ ds))))) (past_run is_digit (c ∷ ds)) (number_stands (c ∷ ds) c ds (pos (value_of (run is_digit (c ∷ ds)))) refl is (refl, small.1))
-  | inr large ↦ stuck fault.NumberTooLarge (number_stuck (c ∷ ds) c ds refl is large.1)
+  | inr large ↦ halted stuck.NumberTooLarge (number_stuck (c ∷ ds) c ds refl is large.1)
 ]
 
 plain_at : (c : ℕ) (ds : List ℕ) → is_blank c ≡ false → IsNoComment (c ∷ ds) → Step (c ∷ ds)
@@ -99,7 +99,7 @@ step_at c ds no_blank = elim (option_cases (behind (codes "//") (c ∷ ds))) [
   | inl no_line ↦ elim (option_cases (behind (codes "/*") (c ∷ ds))) [
     | inl no_block ↦ plain_at c ds no_blank (no_line, no_block)
     | inr some ↦ elim (option_cases (after_close some.0)) [
-      | inl none ↦ stuck fault.OpenComment (some.0, behind_splits (codes "/*") (c ∷ ds) some.0 some.1, none)
+      | inl none ↦ halted stuck.OpenComment (some.0, behind_splits (codes "/*") (c ∷ ds) some.0 some.1, none)
       | inr closed ↦
           let rest = close_rest some.0 closed.0 closed.1 in
           comment_at c ds some.0 rest.0 closed.0 42 (behind_splits (codes "/*") (c ∷ ds) some.0 some.1) rest.1 (block_gap (c ∷ ds) some.0 closed.0 some.1 closed.1)
@@ -118,7 +118,7 @@ step (c ∷ ds) = elim (bool_cases (is_blank c)) [
 
 -- tokens are read up to the text's end, or up to where nothing can be read
 abbrev Ended : ℕ → List ℕ → Type 0
-Ended total cs = (ls : List Lexeme) × (left : List ℕ) × Reads total cs ls left × (width left ≤ total) × ((left ≡ []) ⊎ ((f : Fault) × IsStuck f left))
+Ended total cs = (ls : List Lexeme) × (left : List ℕ) × Reads total cs ls left × (width left ≤ total) × ((left ≡ []) ⊎ ((f : Stuck) × IsStuck f left))
 
 width_behind : (front after : List ℕ) → width after ≤ width (front ++ after)
 width_behind front after = omega (arith, ap length (encodes-append front after), length-append (encode_utf8_all front) (encode_utf8_all after))
@@ -141,7 +141,7 @@ token_at total k cs after wide narrow stands = record {
 
 ended_at : (n total : ℕ) (cs : List ℕ) → length cs ≤ suc n → width cs ≤ total → ((after : List ℕ) → length after ≤ n → width after ≤ total → Ended total after) → Step cs → Ended total cs
 ended_at n total cs fits wide more (done e) = ([], cs, nothing cs, wide, inl e)
-ended_at n total cs fits wide more (stuck f is) = ([], cs, nothing cs, wide, inr (f, is))
+ended_at n total cs fits wide more (halted f is) = ([], cs, nothing cs, wide, inr (f, is))
 ended_at n total cs fits wide more (passed first front after begins g) =
     let narrow : width after ≤ total = omega (arith, wide, width_behind (first ∷ front) after, ap width begins) in
     let shorter : length after ≤ n = omega (arith, fits, ap length begins, length-append front after) in
@@ -188,13 +188,13 @@ not_valid (b ∷ bs) never =
 abbrev pub Lexed : List ℕ → Type 0
 Lexed bytes = ((ls : List Lexeme) × IsTokensOf bytes ls × (length ls ≤ limit_of 3)) ⊎ ((e : LexError) × IsRefused bytes e)
 
-stuck_at : (bytes : List ℕ) (f : Fault) (at : ℕ) → IsUtf8 bytes → StopsAt f at bytes → (e : LexError) × IsRefused bytes e
-stuck_at bytes fault.BadByte at u stops = (error.BadByte at, (u, stops))
-stuck_at bytes fault.NumberTooLarge at u stops = (error.NumberTooLarge at, (u, stops))
-stuck_at bytes fault.OpenComment at u stops = (error.OpenComment at, (u, stops))
+stuck_at : (bytes : List ℕ) (f : Stuck) (at : ℕ) → IsUtf8 bytes → StopsAt f at bytes → (e : LexError) × IsRefused bytes e
+stuck_at bytes stuck.BadByte at u stops = (error.BadByte at, (u, stops))
+stuck_at bytes stuck.NumberTooLarge at u stops = (error.NumberTooLarge at, (u, stops))
+stuck_at bytes stuck.OpenComment at u stops = (error.OpenComment at, (u, stops))
 
 lexed_few : (bytes : List ℕ) (ls : List Lexeme) (left : List ℕ) → IsUtf8 bytes → Reads (length bytes) (chars bytes) ls left → width left ≤ length bytes → length ls ≤ limit_of 3
-    → (left ≡ []) ⊎ ((f : Fault) × IsStuck f left) → Lexed bytes
+    → (left ≡ []) ⊎ ((f : Stuck) × IsStuck f left) → Lexed bytes
 lexed_few bytes ls left u reads narrow few (inl end) = inl (ls, (u, subst (λ l. Reads (length bytes) (chars bytes) ls l) end reads), few)
 lexed_few bytes ls left u reads narrow few (inr (f, is)) =
     inr (stuck_at bytes f (length bytes - width left) u (ls, left, reads, few, is, omega (arith, narrow)))

@@ -3,6 +3,7 @@ pub mod Settings
 pub mod Finished
 pub mod Ended
 pub mod Said
+pub mod Explained
 pub mod Lexed
 pub mod Read
 pub mod Single

@@ -1,23 +1,24 @@
 -- What a command replies for the parts of its file.
-use Rattle.std.proofs.Common.{◌≡◌, inl, inr, ℕ, List, Option, Some, None, refl, sym, subst}
+use Rattle.std.proofs.Common.{◌≡◌, inl, inr, ℕ, true, false, List, Option, Some, None, sym, subst}
 use Rattle.std.specs.Prelude.{Result, Ok, Err, IfOk, IfSome, option_map}
 use Rattle.std.specs.declared.alloc.AllocError.{AllocError}
 use Rattle.vlt_base.specs.declared.Budgets.{Budgets}
-use Rattle.first_core.specs.View.{program_of}
-use Rattle.first_core.specs.declared.program.Program.{Program}
+use Rattle.vlt_core.specs.View.{program_of}
 use Rattle.vlt_printer.specs.Layout.{layout}
 use Rattle.vlt_syntax.specs.Tree.{Tree}
 use Rattle.vaultc_core.specs.declared.reply.Reply.{Reply}
 use Rattle.vaultc_core.specs.declared.status.TheConstants.{DONE}
-use Rattle.vaultc_core.specs.declared.verdict.Verdict as shown
-use Rattle.vaultc_core.specs.declared.verdict.Verdict.TheVariants.{Unresolved, Refused, Accepted}
-use Rattle.vaultc_core.specs.Commands.{Command, check, fmt}
+use Rattle.vlt_verdict.specs.declared.verdict.Verdict as shown
+use Rattle.vlt_verdict.specs.declared.verdict.Verdict.TheVariants.{Broken, Exceeded, Faulty, Accepted}
+use Rattle.vlt_verdict.specs.Verdicts.{Verdict, refused, faulty, accepted, IsVerdictOf}
+use Rattle.vlt_verdict.specs.Seen.{IsSeenAs}
+use Rattle.vaultc_core.specs.Commands.{Command, check, explain, run, fmt}
 use Rattle.vaultc_core.specs.Lines as lines
 use Rattle.vaultc_core.specs.Texts.{Refusal, AreRefused, IsTextOf, refusal_reply}
-use Rattle.vaultc_core.specs.Verdicts.{Verdict, unresolved, refused, accepted, IsVerdictOf, check_reply}
-use Rattle.vaultc_core.specs.Runs.{IsReplyToProgram}
-use Rattle.vaultc_core.specs.Replies.{IsReplyToVerdict, IsReplyToText}
-use Rattle.vaultc_core.specs.Shown.{Shows, IsNotAccepted, shown_reply}
+use Rattle.vaultc_core.specs.Verdicts.{check_reply, IsExplained}
+use Rattle.vaultc_core.specs.Parts.{IsReplyToRunOf}
+use Rattle.vaultc_core.specs.Replies.{IsReplyToVerdict, IsReplyToRun, IsReplyToText}
+use Rattle.vaultc_core.specs.Shown.{shown_reply, is_accepted, IsJudged}
 
 -- ---- texts that are refused
 
@@ -43,10 +44,17 @@ refused_each command bytes o (Err e) is same = tt
 
 -- ---- trees
 
-pub checked_said : (bytes : List ℕ) (t : Tree) (v : shown.Verdict) (r : Result Reply AllocError) → IsTextOf t bytes → (s : Verdict) × IsVerdictOf t s × Shows v s
-    → IfOk r (λ x. (s : Verdict) → Shows v s → shown_reply x ≡ check_reply s) → IfOk r (λ x. (file : List ℕ) → IsReplyToText (check file) bytes (shown_reply x))
-checked_said bytes t v (Ok x) reads (s, is, shows) said = λ file. inr (t, reads, (s, is, said s shows))
+pub checked_said : (bytes : List ℕ) (t : Tree) (v : shown.Verdict) (r : Result Reply AllocError) → IsTextOf t bytes →
+    (s : Verdict) × IsVerdictOf t s × IsSeenAs v s → IfOk r (λ x. (s : Verdict) → IsSeenAs v s → shown_reply x ≡ check_reply bytes s) →
+    IfOk r (λ x. (file : List ℕ) → IsReplyToText (check file) bytes (shown_reply x))
+checked_said bytes t v (Ok x) reads (s, is, seen) said = λ file. inr (t, reads, (s, is, said s seen))
 checked_said bytes t v (Err e) reads is said = tt
+
+pub explained_said : (bytes : List ℕ) (t : Tree) (v : shown.Verdict) (r : Result Reply AllocError) → IsTextOf t bytes →
+    (s : Verdict) × IsVerdictOf t s × IsSeenAs v s → IfOk r (λ x. (s : Verdict) → IsSeenAs v s → IsExplained bytes s (shown_reply x)) →
+    IfOk r (λ x. (file : List ℕ) → IsReplyToText (explain file) bytes (shown_reply x))
+explained_said bytes t v (Ok x) reads (s, is, seen) said = λ file. inr (t, reads, (s, is, said s seen))
+explained_said bytes t v (Err e) reads is said = tt
 
 pub laid_said : (bytes : List ℕ) (t : Tree) (r : Result Reply AllocError) → IsTextOf t bytes → IfOk r (λ x. shown_reply x ≡ lines.reply DONE (layout t))
     → IfOk r (λ x. (file : List ℕ) → IsReplyToText (fmt file) bytes (shown_reply x))
@@ -55,26 +63,32 @@ laid_said bytes t (Err e) reads is = tt
 
 -- ---- verdicts
 
-pub not_accepted : (v : shown.Verdict) → ((q : Program) → v ≡ Accepted q → ⊥) → IsNotAccepted v
-not_accepted (Accepted q) never = never q refl
-not_accepted Unresolved never = tt
-not_accepted Refused never = tt
-
 -- `run` says of a verdict that isn't accepted what `check` says of it
-check_is_run : (b : Budgets) (v : shown.Verdict) (s : Verdict) (r : lines.Reply) → IsNotAccepted v → Shows v s → r ≡ check_reply s → IsReplyToVerdict b s r
-check_is_run b v unresolved r none shows e = e
-check_is_run b v (refused p) r none shows e = e
-check_is_run b (Accepted q) (accepted p) r none shows e = absurd none
-check_is_run b Unresolved (accepted p) r none shows e = absurd shows
-check_is_run b Refused (accepted p) r none shows e = absurd shows
+check_is_run : (text : List ℕ) (b : Budgets) (t : Tree) (v : shown.Verdict) (s : Verdict) (r : lines.Reply) → is_accepted v ≡ false →
+    IsSeenAs v s → r ≡ check_reply text s → IsReplyToVerdict text b t s r
+check_is_run text b t v (refused x) r other seen e = e
+check_is_run text b t v (faulty p f x) r other seen e = e
+check_is_run text b t (Accepted q) (accepted p) r other seen e = absurd cc
+check_is_run text b t (Broken rule at) (accepted p) r other seen e = absurd cc
+check_is_run text b t (Exceeded n) (accepted p) r other seen e = absurd cc
+check_is_run text b t (Faulty q x) (accepted p) r other (f, there, same) e = absurd cc
 
-pub accepted_run : (b : Budgets) (q : Program) (s : Verdict) (r : lines.Reply) → Shows (Accepted q) s → IsReplyToProgram (program_of q) b r → IsReplyToVerdict b s r
-accepted_run b q unresolved r shows is = absurd shows
-accepted_run b q (refused p) r shows is = absurd shows
-accepted_run b q (accepted p) r shows is = subst (λ x. IsReplyToProgram x b r) (sym shows) is
+-- what is said of a verdict that isn't accepted is what `run` replies to the text
+pub refused_run : (text file : List ℕ) (b : Budgets) (t : Tree) (v : shown.Verdict) (r : Result Reply AllocError) → IsTextOf t text →
+    is_accepted v ≡ false → IsJudged t v → IfOk r (λ x. (s : Verdict) → IsSeenAs v s → shown_reply x ≡ check_reply text s) →
+    IfOk r (λ x. IsReplyToText (run file b) text (shown_reply x))
+refused_run text file b t v (Ok x) reads other (s, is, seen) said =
+    inr (t, reads, (s, is, check_is_run text b t v s (shown_reply x) other seen (said s seen)))
+refused_run text file b t v (Err e) reads other judged said = tt
 
--- what is said of a verdict is what `run` replies to it
-pub refused_run : (b : Budgets) (v : shown.Verdict) (s : Verdict) (r : Result Reply AllocError) → IsNotAccepted v → Shows v s
-    → IfOk r (λ x. (s : Verdict) → Shows v s → shown_reply x ≡ check_reply s) → IfOk r (λ x. IsReplyToVerdict b s (shown_reply x))
-refused_run b v s (Ok x) none shows said = check_is_run b v s (shown_reply x) none shows (said s shows)
-refused_run b v s (Err e) none shows said = tt
+accepted_judged : (text : List ℕ) (b : Budgets) (t : Tree) (v : shown.Verdict) (r : lines.Reply) → is_accepted v ≡ true → IsJudged t v →
+    IsReplyToRunOf b t r → IsReplyToRun text b t r
+accepted_judged text b t (Accepted q) r so (s, is, same) replies = (accepted (program_of q), subst (IsVerdictOf t) same is, replies)
+accepted_judged text b t (Broken rule at) r so judged replies = absurd cc
+accepted_judged text b t (Exceeded n) r so judged replies = absurd cc
+accepted_judged text b t (Faulty q x) r so judged replies = absurd cc
+
+-- the run of a tree that is accepted is what `run` replies to the text
+pub accepted_run : (text file : List ℕ) (b : Budgets) (t : Tree) (v : shown.Verdict) → IsTextOf t text → is_accepted v ≡ true → IsJudged t v →
+    (r : lines.Reply) → IsReplyToRunOf b t r → IsReplyToText (run file b) text r
+accepted_run text file b t v reads so judged r replies = inr (t, reads, accepted_judged text b t v r so judged replies)

@@ -14,7 +14,7 @@ use Rattle.vaultc_core.specs.Finishes.{WroteReply, WrotePart, Finishes}
 use Rattle.vaultc_core.specs.Lines.{Reply, reply, over_reply}
 use Rattle.vaultc_core.specs.Texts.{IsTooLong}
 use Rattle.vaultc_core.specs.Replies.{IsReplyToText, IsReplyToBytes, IsReplyToNamed, IsReplyToCommand, IsInside, IsOneRead, MayReply}
-use Rattle.vaultc_core.proofs.Single.{one_status}
+use Rattle.vaultc_core.proofs.Single.{Laws, one_status}
 
 -- ---- the first bytes of a file
 
@@ -92,25 +92,25 @@ is_there command files r is none = no_reply (files (file_of command)) is none wh
   no_reply (Some bytes) is none = cc
 
 -- a file that is there is read unless reading fails
-not_unread : {S : Type 0} (g : Ghosts S) (old new : S) (command : Option Command) (files : Files) (r q : Reply) → g.files old ≡ Some files → IsReplyToCommand command files r
+not_unread : Laws → {S : Type 0} (g : Ghosts S) (old new : S) (command : Option Command) (files : Files) (r q : Reply) → g.files old ≡ Some files → IsReplyToCommand command files r
     → (Rose (g.faults old) (g.faults new) → ⊥) → MayReply g old new command q → q.status ≡ r.status
-not_unread g old new None files r q tells is sound may = one_status None files q r may is
-not_unread g old new (Some command) files r q tells is sound (inl (inl rose, same)) = absurd (sound rose)
-not_unread g old new (Some command) files r q tells is sound (inl (inr lacks, same)) =
+not_unread laws g old new None files r q tells is sound may = one_status laws None files q r may is
+not_unread laws g old new (Some command) files r q tells is sound (inl (inl rose, same)) = absurd (sound rose)
+not_unread laws g old new (Some command) files r q tells is sound (inl (inr lacks, same)) =
     let none : files (file_of command) ≡ None = subst (λ o. Lacks o (file_of command)) tells lacks in
     absurd (is_there command files r is none)
-not_unread g old new (Some command) files r q tells is sound (inr (bytes, read, may)) =
-    one_status (Some command) files q r (of_read command (g.files old) files (file_of command) bytes q tells read.told may) is
+not_unread laws g old new (Some command) files r q tells is sound (inr (bytes, read, may)) =
+    one_status laws (Some command) files q r (of_read command (g.files old) files (file_of command) bytes q tells read.told may) is
 
-pub complete : {S K : Type 0} (g : Ghosts S) (k : sink.Ghosts K) (old new : S) (before after : K) (command : Option Command) (status : ℕ) (files : Files) (r : Reply)
+pub complete : Laws → {S K : Type 0} (g : Ghosts S) (k : sink.Ghosts K) (old new : S) (before after : K) (command : Option Command) (status : ℕ) (files : Files) (r : Reply)
     → Finishes k (MayReply g old new command) before after status → g.files old ≡ Some files → IsReplyToCommand command files r
     → (Rose (g.faults old) (g.faults new) → ⊥) → (Rose (k.faults before) (k.faults after) → ⊥) → (status ≡ r.status) ⊎ (status ≡ NO_MEMORY)
-complete g k old new before after command status files r f tells is store_sound sink_sound = elim (eqb_tells status SINK_FAILED) [
+complete laws g k old new before after command status files r f tells is store_sound sink_sound = elim (eqb_tells status SINK_FAILED) [
   | inl three ↦ absurd (sink_sound (f.failed three.1))
   | inr not_three ↦ elim (eqb_tells status NO_MEMORY) [
     | inl four ↦ inr four.1
     | inr not_four ↦
         let x = f.whole not_three.1 not_four.1 in
-        inl (not_unread g old new command files r (reply status x.0) tells is store_sound x.1)
+        inl (not_unread laws g old new command files r (reply status x.0) tells is store_sound x.1)
   ]
 ]

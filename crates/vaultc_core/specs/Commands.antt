@@ -9,9 +9,11 @@ use Rattle.vlt_base.specs.declared.Budgets.{Budgets}
 use Rattle.vaultc_core.specs.declared.words.Setting.{Setting}
 use Rattle.vaultc_core.specs.declared.words.Setting.TheVariants.{Fuel, Heap, Depth}
 use Rattle.vaultc_core.specs.declared.words.Settings.{Settings}
+use Rattle.vaultc_core.specs.declared.words.TheConstants.{MOST_HEAP, MOST_DEPTH, DEFAULT_FUEL, DEFAULT_HEAP, DEFAULT_DEPTH}
 
 pub data Command : Type 0 where
   check : (file : List ℕ) → Command
+  explain : (file : List ℕ) → Command
   run : (file : List ℕ) → Budgets → Command
   fmt : (file : List ℕ) → Command
 
@@ -33,8 +35,8 @@ most_fuel = 2 ^ 63 - 1
 abbrev pub setting_of : (option value : List ℕ) → Option Setting
 setting_of option value =
     if bytes_eq option (codes "--fuel") then option_map (λ n. Fuel n) (number_within 0 most_fuel value)
-    else if bytes_eq option (codes "--heap") then option_map (λ n. Heap n) (number_within 0 16777216 value)
-    else if bytes_eq option (codes "--depth") then option_map (λ n. Depth n) (number_within 1 100000 value)
+    else if bytes_eq option (codes "--heap") then option_map (λ n. Heap n) (number_within 0 MOST_HEAP value)
+    else if bytes_eq option (codes "--depth") then option_map (λ n. Depth n) (number_within 1 MOST_DEPTH value)
     else None
 
 abbrev pub nothing_set : Settings
@@ -60,7 +62,7 @@ settings_of (option ∷ value ∷ rest) s =
 
 -- what isn't set has its default
 abbrev pub budgets_of : Settings → Budgets
-budgets_of s = record { fuel = unwrap_or s.fuel 1000000; heap = unwrap_or s.heap 65536; depth = unwrap_or s.depth 1000 }
+budgets_of s = record { fuel = unwrap_or s.fuel DEFAULT_FUEL; heap = unwrap_or s.heap DEFAULT_HEAP; depth = unwrap_or s.depth DEFAULT_DEPTH }
 
 -- a command that takes no options
 abbrev pub without_options : Command → (options : List (List ℕ)) → Option Command
@@ -72,6 +74,7 @@ abbrev pub command_of : List (List ℕ) → Option Command
 command_of (word ∷ file ∷ options) =
     if not (is_file_word file) then None
     else if bytes_eq word (codes "check") then without_options (check file) options
+    else if bytes_eq word (codes "explain") then without_options (explain file) options
     else if bytes_eq word (codes "fmt") then without_options (fmt file) options
     else if bytes_eq word (codes "run") then option_map (λ s. run file (budgets_of s)) (settings_of options nothing_set)
     else None
@@ -80,5 +83,6 @@ command_of _ = None
 -- the file that a command reads
 abbrev pub file_of : Command → List ℕ
 file_of (check file) = file
+file_of (explain file) = file
 file_of (run file b) = file
 file_of (fmt file) = file

@@ -3,6 +3,7 @@ pub mod Lines
 pub mod Texts
 pub mod Verdicts
 pub mod Runs
+pub mod Parts
 pub mod Replies
 pub mod Promised
 pub mod Finishes

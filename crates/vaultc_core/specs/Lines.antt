@@ -1,9 +1,8 @@
 -- What is written: a status with its text, and the lines of the texts.
-use Rattle.std.specs.Prelude.{ℕ, List, ◌++◌, length, codes}
+use Rattle.std.specs.Prelude.{ℕ, List, ◌++◌, codes}
 use Rattle.std.specs.Fmt.{decimal}
 use Rattle.vlt_base.specs.Limits.{limit_of}
 use Rattle.vlt_base.specs.Place.{line_of, column_of}
-use Rattle.first_core.specs.Core.{Program}
 use Rattle.vlt_ops.specs.declared.TrapKind.{TrapKind}
 use Rattle.vlt_ops.specs.declared.TrapKind.TheVariants.{Overflow, ZeroDivisor}
 use Rattle.vaultc_core.specs.declared.status.TheConstants.{NO_COMMAND, UNREAD, OVER_LIMIT, NO_TEXT}
@@ -31,10 +30,6 @@ limit_line n = codes "limit " ++ decimal n ++ codes " " ++ decimal (limit_of n) 
 -- what is wrong with a text, with the line and the column of the byte before which so many stand
 abbrev pub place_line : (what text : List ℕ) → ℕ → List ℕ
 place_line what text at = codes "text " ++ what ++ codes " " ++ decimal (line_of text at) ++ codes ":" ++ decimal (column_of text at) ++ codes "\n"
-
--- how many functions with a body were accepted
-abbrev pub accepted_line : Program → List ℕ
-accepted_line p = codes "accepted " ++ decimal (length p.fns) ++ codes "\n"
 
 abbrev pub trap_line : TrapKind → List ℕ
 trap_line Overflow = codes "trap 1\n"

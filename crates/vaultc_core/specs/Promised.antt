@@ -1,14 +1,14 @@
 -- What status 0 of `check` promises of the bytes that were read.
 use Rattle.std.specs.Prelude.{◌≡◌, ℕ, List, Option, Some}
-use Rattle.first_core.specs.Core.{Program}
-use Rattle.first_core.specs.Derives.{IsAccepted}
-use Rattle.first_sound.specs.Promise.{NeverGoesWrong, LeavesOnlyItsClause}
+use Rattle.vlt_core.specs.Core.{Program}
+use Rattle.vlt_core.specs.Derives.{IsAccepted}
+use Rattle.vlt_sound.specs.Promise.{NeverGoesWrong, LeavesOnlyItsClause}
 use Rattle.vlt_io.specs.Outside.{Files, Grew}
-use Rattle.vaultc_core.specs.Lines.{accepted_line}
+use Rattle.vlt_reports.specs.Reports.{accepted_line}
 use Rattle.vaultc_core.specs.Verdicts.{IsProgramOf}
 
 -- The bytes are the text of a program that follows the rules. No run of it goes wrong, and one that comes to main's end
--- leaves nothing. Where files are told, the bytes are all of the file's. That the program is accepted was written.
+-- leaves only what main's clause or the host has, and what is below that. Where files are told, the bytes are all of the file's. That the program is accepted was written.
 pub record IsPromised (files : Option Files) (name bytes : List ℕ) (old new : Option (List ℕ)) : Type 0 where
   pub program : Program
   pub reads : IsProgramOf bytes program

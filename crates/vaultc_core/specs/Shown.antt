@@ -1,5 +1,5 @@
--- The plain refusals, verdicts and replies that those of the code stand for.
-use Rattle.std.specs.Prelude.{◌≡◌, ◌⊎◌, ℕ, MatchOption, Option, Some, None, Result, Ok, Err}
+-- The plain refusals, parts and replies that those of the code stand for.
+use Rattle.std.specs.Prelude.{◌≡◌, ◌⊎◌, ℕ, Bool, true, false, MatchOption, Option, Some, None, Result, Ok, Err}
 use Rattle.std.specs.declared.alloc.AllocError.{AllocError}
 use Rattle.first_core.specs.Kinds.{IsKinded}
 use Rattle.first_core.specs.Derives.{IsAccepted}
@@ -11,16 +11,24 @@ use Rattle.first_interp.specs.Stops.{outcome_of}
 use Rattle.first_interp.specs.declared.stop.Stop.{Stop}
 use Rattle.first_interp.specs.declared.stop.Stop.TheVariants.{SinkFault}
 use Rattle.vlt_io.specs.declared.sink.Sink.{Ghosts}
+use Rattle.vlt_syntax.specs.Tree.{Tree}
+use Rattle.vlt_core.specs.Faults.{IsFirstFault}
+use Rattle.vlt_core.specs.View as core
+use Rattle.vlt_check.specs.Checks.{IsWellFormed, fault_of}
+use Rattle.vlt_verdict.specs.Verdicts as verdicts
+use Rattle.vlt_verdict.specs.Seen.{IsSeenAs}
+use Rattle.vlt_verdict.specs.declared.verdict.Verdict.{Verdict}
+use Rattle.vlt_verdict.specs.declared.verdict.Verdict.TheVariants as verdict
 use Rattle.vaultc_core.specs.declared.status.TheConstants.{SINK_FAILED, NO_MEMORY}
 use Rattle.vaultc_core.specs.Finishes.{Finishes}
 use Rattle.vaultc_core.specs.Runs.{EndsWith}
 use Rattle.vaultc_core.specs.Lines as lines
 use Rattle.vaultc_core.specs.Texts.{Refusal, unlexed, unparsed}
-use Rattle.vaultc_core.specs.Verdicts as v
+use Rattle.vaultc_core.specs.Parts as p
 use Rattle.vaultc_core.specs.declared.source.TextError.{TextError}
 use Rattle.vaultc_core.specs.declared.source.TextError.TheVariants as error
-use Rattle.vaultc_core.specs.declared.verdict.Verdict.{Verdict}
-use Rattle.vaultc_core.specs.declared.verdict.Verdict.TheVariants as verdict
+use Rattle.vaultc_core.specs.declared.parts.Part.{Part}
+use Rattle.vaultc_core.specs.declared.parts.Part.TheVariants as part
 use Rattle.vaultc_core.specs.declared.reply.Reply.{Reply}
 
 -- the refusal that an error tells; want of memory is none
@@ -32,12 +40,25 @@ refusal_of (error.Parse parse.EndOfText) = Some (unparsed ended)
 refusal_of (error.Parse (parse.Limit n)) = Some (unparsed (over_limit n))
 refusal_of (error.Parse parse.Memory) = None
 
--- the code keeps the program of an accepted verdict alone
-abbrev pub Shows : Verdict → v.Verdict → Type 0
-Shows verdict.Unresolved v.unresolved = Unit {0}
-Shows verdict.Refused (v.refused p) = Unit {0}
-Shows (verdict.Accepted q) (v.accepted p) = p ≡ program_of q
+-- the code keeps the program of an accepted part alone
+abbrev pub Shows : Part → p.Part → Type 0
+Shows part.Outside p.outside = Unit {0}
+Shows part.Refused (p.refused x) = Unit {0}
+Shows (part.Accepted q) (p.accepted x) = x ≡ program_of q
 Shows _ _ = ⊥
+
+-- the code's verdict stands for one of the tree
+abbrev pub IsJudged : Tree → Verdict → Type 0
+IsJudged t v = (s : verdicts.Verdict) × verdicts.IsVerdictOf t s × IsSeenAs v s
+
+abbrev pub is_accepted : Verdict → Bool
+is_accepted (verdict.Accepted p) = true
+is_accepted _ = false
+
+-- the fault is the first one of a program that breaks no rule on names and types
+abbrev pub IsShowable : Verdict → Type 0
+IsShowable (verdict.Faulty p x) = IsWellFormed (core.program_of p) × IsFirstFault (core.program_of p) (fault_of x)
+IsShowable _ = Unit {0}
 
 abbrev pub shown_reply : Reply → lines.Reply
 shown_reply r = lines.reply r.status r.text.items
@@ -47,14 +68,9 @@ abbrev pub IsReplyOf : Result Reply AllocError → lines.Reply → Type 0
 IsReplyOf (Ok r) q = q ≡ shown_reply r
 IsReplyOf (Err e) q = ⊥
 
--- the verdict has no accepted program
-abbrev pub IsNotAccepted : Verdict → Type 0
-IsNotAccepted (verdict.Accepted q) = ⊥
-IsNotAccepted _ = Unit {0}
-
 -- a program that is accepted has numbers that fit, and follows the rules
-abbrev pub IsRunnable : Verdict → Type 0
-IsRunnable (verdict.Accepted q) = IsKinded (program_of q) × IsAccepted (program_of q)
+abbrev pub IsRunnable : Part → Type 0
+IsRunnable (part.Accepted q) = IsKinded (program_of q) × IsAccepted (program_of q)
 IsRunnable _ = Unit {0}
 
 -- How the last line of a run is written, by how the run stopped: where it has an outcome, one that ends with the line; else

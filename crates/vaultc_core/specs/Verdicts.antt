@@ -1,32 +1,35 @@
--- What a tree is as a program.
-use Rattle.std.specs.Prelude.{◌≡◌, ℕ, List, Some, None, codes}
-use Rattle.first_core.specs.Core.{Program}
-use Rattle.first_core.specs.Derives.{IsAccepted}
+-- What `check` and `explain` say of a tree as a program, and which bytes are the text of a program.
+use Rattle.std.specs.Prelude.{◌≡◌, ℕ, List, ◌++◌, Option, Ok}
 use Rattle.vlt_syntax.specs.Tree.{Tree}
-use Rattle.first_resolve.specs.Files.{resolved}
+use Rattle.vlt_core.specs.Core.{Program}
+use Rattle.vlt_core.specs.Witness.{Choice, IsWitness}
+use Rattle.vlt_resolve.specs.Elaboration.{Told, broken, exceeded}
+use Rattle.vlt_verdict.specs.Verdicts.{Verdict, refused, faulty, accepted, program_told}
+use Rattle.vlt_reports.specs.Reports.{kind_line, fault_line, accepted_line, paths_text}
 use Rattle.vaultc_core.specs.declared.status.TheConstants.{DONE, NO_PROGRAM, NOT_ACCEPTED}
-use Rattle.vaultc_core.specs.Lines.{Reply, reply, accepted_line}
+use Rattle.vaultc_core.specs.Lines.{Reply, reply, over_reply}
 use Rattle.vaultc_core.specs.Texts.{IsTooLong, IsTextOf}
 
--- no program, by a rule on names and kinds; or one that breaks the rules on keys, or follows them
-pub data Verdict : Type 0 where
-  unresolved : Verdict
-  refused : Program → Verdict
-  accepted : Program → Verdict
+-- a rule on names and types at its place in the text, or a limit
+abbrev pub told_reply : (text : List ℕ) → Told → Reply
+told_reply text (broken rule at) = reply NO_PROGRAM (kind_line text rule at)
+told_reply text (exceeded n) = over_reply n
 
-abbrev pub IsVerdictOf : Tree → Verdict → Type 0
-IsVerdictOf t unresolved = resolved t ≡ None
-IsVerdictOf t (refused p) = (resolved t ≡ Some p) × (IsAccepted p → ⊥)
-IsVerdictOf t (accepted p) = (resolved t ≡ Some p) × IsAccepted p
+abbrev pub check_reply : (text : List ℕ) → Verdict → Reply
+check_reply text (refused r) = told_reply text r
+check_reply text (faulty p f x) = reply NOT_ACCEPTED (fault_line text p f x.at x.tok x.kind)
+check_reply text (accepted p) = reply DONE (accepted_line p)
 
-abbrev pub check_reply : Verdict → Reply
-check_reply unresolved = reply NO_PROGRAM (codes "kind\n")
-check_reply (refused p) = reply NOT_ACCEPTED (codes "protocol\n")
-check_reply (accepted p) = reply DONE (accepted_line p)
+-- `explain` says the same, and behind the line of a fault the paths of one of its witnesses.
+abbrev pub IsExplained : (text : List ℕ) → Verdict → Reply → Type 0
+IsExplained text (faulty p f x) r =
+    (first : List Choice) × (second : Option (List Choice)) × IsWitness p x first second ×
+    (r ≡ reply NOT_ACCEPTED (fault_line text p f x.at x.tok x.kind ++ paths_text text p f first second))
+IsExplained text v r = r ≡ check_reply text v
 
--- the bytes are the text of a tree, whose program this is
+-- the bytes are the text of a tree, whose core program this is
 pub record IsProgramOf (bytes : List ℕ) (p : Program) : Type 0 where
   pub short : IsTooLong bytes → ⊥
   pub tree : Tree
   pub reads : IsTextOf tree bytes
-  pub resolves : resolved tree ≡ Some p
+  pub elaborates : program_told tree ≡ Ok p

@@ -1,26 +1,34 @@
 //! Carries out the commands.
 
-ghost use Rattle.std.specs.Prelude.{◌≡◌, ◌≢◌, ℕ, List, map, None, Some, IfOk, string_bytes};
+ghost use Rattle.std.specs.Prelude.{◌≡◌, ◌≢◌, ◌<◌, ◌-◌, ◌^◌, ℕ, List, length, map, None, Some, IfOk, string_bytes};
 ghost use Rattle.vaultc_core.specs.Commands.{command_of};
-ghost use Rattle.vaultc_core.specs.Texts.{IsTooLong};
-ghost use Rattle.vaultc_core.specs.Replies.{IsReplyToText, IsReplyToVerdict, MayReply};
-ghost use Rattle.vaultc_core.specs.Verdicts as v;
+ghost use Rattle.vlt_verdict.specs.Seen.{IsTellable};
+ghost use Rattle.vaultc_core.specs.Texts.{IsTooLong, IsTextOf};
+ghost use Rattle.vaultc_core.specs.Replies.{IsReplyToText, MayReply};
+ghost use Rattle.vaultc_core.specs.Parts as p;
+ghost use Rattle.vaultc_core.specs.Parts.{IsReplyToPart, IsReplyToRunOf};
 ghost use Rattle.vaultc_core.specs.Commands as c;
 ghost use Rattle.vaultc_core.specs.Finishes.{Finishes};
-ghost use Rattle.vaultc_core.specs.Shown.{IsRunnable, Shows, shown_reply};
+ghost use Rattle.vaultc_core.specs.Shown.{IsJudged, IsRunnable, Shows, is_accepted, shown_reply};
+ghost use Rattle.vlt_syntax.specs.Spelling.{spelling};
+ghost use Rattle.vlt_syntax.specs.View.{tree_of};
 ghost use Rattle.vaultc_core.specs.View.{seen_command};
 
+use crate::explain::explained;
 use crate::lines::{USAGE, laid_out, over_limit, refusal, unread, verdict};
+use crate::parts::{Part, part_of};
 use crate::reply::Reply;
 use crate::runs::run_program;
 use crate::source::{FileError, read_file, read_tree};
-use crate::status::{NO_COMMAND, NO_MEMORY};
-use crate::verdict::{Verdict, judge};
+use crate::status::{NO_COMMAND, NO_MEMORY, NO_PROGRAM, NOT_ACCEPTED};
 use crate::words::{Command, read_command};
 use crate::write::{finish, finish_reply};
 use std::alloc::{AllocError, Global};
 use vlt_base::{Budgets, SOURCE_BYTES};
+use vlt_fit_laws::programs_are_fit;
 use vlt_io::{Sink, Store};
+use vlt_syntax::Tree;
+use vlt_verdict::{Verdict, judge};
 
 /// What `check` says of a text.
 fn reply_to_check(alloc: Global, bytes: &[u8]) -> Result<Reply, AllocError>
@@ -31,7 +39,23 @@ fn reply_to_check(alloc: Global, bytes: &[u8]) -> Result<Reply, AllocError>
     match read_tree(alloc, bytes) {
         Ok(tree) => {
             let judged = judge(alloc, &tree)?;
-            verdict(alloc, &judged)
+            verdict(alloc, bytes, &judged)
+        }
+        Err(error) => refusal(alloc, bytes, error),
+    }
+}
+
+/// What `explain` says of a text.
+fn reply_to_explain(alloc: Global, bytes: &[u8]) -> Result<Reply, AllocError>
+    requires { ¬ (IsTooLong bytes.now) }
+    ensures { IfOk result (λ r. (file : List ℕ) →
+        IsReplyToText (c.explain file) bytes.now (shown_reply r)) }
+{
+    programs_are_fit();
+    match read_tree(alloc, bytes) {
+        Ok(tree) => {
+            let judged = judge(alloc, &tree)?;
+            explained(alloc, bytes, &judged)
         }
         Err(error) => refusal(alloc, bytes, error),
     }
@@ -49,16 +73,58 @@ fn reply_to_fmt(alloc: Global, bytes: &[u8]) -> Result<Reply, AllocError>
     }
 }
 
-/// Runs an accepted program, or says of another verdict what `check` says.
-fn run_verdict<K: Sink>(alloc: Global, judged: &Verdict, budgets: Budgets, out: &mut K) -> u8
-    requires { IsRunnable judged.now }
-    ensures { (t : v.Verdict) → Shows judged.now t →
-        Finishes K.Sink (IsReplyToVerdict budgets t) out.old out.new result }
+/// Whether the verdict is that the program follows all rules.
+fn is_accepted(judged: &Verdict) -> bool
+    ensures { result ≡ is_accepted judged.now }
 {
-    match judged {
-        Verdict::Accepted(program) => run_program(alloc, program, budgets, out),
-        _ => finish_reply(out, verdict(alloc, judged)),
+    matches!(judged, Verdict::Accepted(_))
+}
+
+/// Runs a program of the part of the language that runs, or says that it is none.
+fn run_part<K: Sink>(alloc: Global, part: &Part, budgets: Budgets, out: &mut K) -> u8
+    requires { IsRunnable part.now }
+    ensures { (t : p.Part) → Shows part.now t →
+        Finishes K.Sink (IsReplyToPart budgets t) out.old out.new result }
+{
+    match part {
+        Part::Accepted(program) => run_program(alloc, program, budgets, out),
+        Part::Outside => finish(out, NO_PROGRAM, b"kind\n"),
+        Part::Refused => finish(out, NOT_ACCEPTED, b"protocol\n"),
     }
+}
+
+/// Runs an accepted tree, where it is of the part of the language that runs.
+fn run_tree<K: Sink>(alloc: Global, tree: &Tree, budgets: Budgets, out: &mut K) -> u8
+    requires { length (spelling (tree_of tree.now)) < 2 ^ 32 }
+    ensures { Finishes K.Sink (IsReplyToRunOf budgets (tree_of tree.now)) out.old out.new result }
+{
+    match part_of(alloc, tree) {
+        Ok(part) => run_part(alloc, &part, budgets, out),
+        Err(AllocError) => NO_MEMORY,
+    }
+}
+
+/// Runs a tree that is accepted, or says of it what `check` says.
+fn run_judged<K: Sink>(
+    alloc: Global,
+    bytes: &[u8],
+    tree: &Tree,
+    judged: &Verdict,
+    budgets: Budgets,
+    out: &mut K,
+) -> u8
+    requires size { length bytes.now < 2 ^ 32 - 1 }
+    requires reads { IsTextOf (tree_of tree.now) bytes.now }
+    requires few { length (spelling (tree_of tree.now)) < 2 ^ 32 }
+    requires is { IsJudged (tree_of tree.now) judged.now }
+    requires tellable { IsTellable judged.now }
+    ensures { (file : List ℕ) →
+        Finishes K.Sink (IsReplyToText (c.run file budgets) bytes.now) out.old out.new result }
+{
+    if is_accepted(judged) {
+        return run_tree(alloc, tree, budgets, out);
+    }
+    finish_reply(out, verdict(alloc, bytes, judged))
 }
 
 /// Runs the program of a text, or says of it what `check` says.
@@ -72,7 +138,7 @@ fn run<K: Sink>(alloc: Global, bytes: &[u8], budgets: Budgets, out: &mut K) -> u
         Err(error) => return finish_reply(out, refusal(alloc, bytes, error)),
     };
     match judge(alloc, &tree) {
-        Ok(judged) => run_verdict(alloc, &judged, budgets, out),
+        Ok(judged) => run_judged(alloc, bytes, &tree, &judged, budgets, out),
         Err(AllocError) => NO_MEMORY,
     }
 }
@@ -85,6 +151,7 @@ fn reply_to_text<K: Sink>(alloc: Global, command: Command<'_>, bytes: &[u8], out
 {
     match command {
         Command::Check(_) => finish_reply(out, reply_to_check(alloc, bytes)),
+        Command::Explain(_) => finish_reply(out, reply_to_explain(alloc, bytes)),
         Command::Run(_, budgets) => run(alloc, bytes, budgets, out),
         Command::Fmt(_) => finish_reply(out, reply_to_fmt(alloc, bytes)),
     }

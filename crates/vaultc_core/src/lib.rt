@@ -1,11 +1,11 @@
 //! The program's commands: words and files go in, a status comes out, and lines go to a sink.
 //! Read `specs/Replies.antt` (IsReplyTo) first.
-//! Rests on it: the clauses of `vaultc`, above all `promised`, which rests on `first_sound::accepted_never_goes_wrong`.
+//! Rests on it: the clauses of `vaultc`, above all `promised`, which rests on `vlt_sound::accepted_programs_go_right`.
 #![tactic(auto)]
 
 ghost use Rattle.std.specs.Prelude.{◌≡◌, ◌⊎◌, ℕ, List, Option, None, Some, [], map, string_bytes};
-ghost use Rattle.first_core.specs.Core.{Program as CoreProgram};
-ghost use Rattle.first_core.specs.Derives.{IsAccepted};
+ghost use Rattle.vlt_core.specs.Core.{Program};
+ghost use Rattle.vlt_core.specs.Derives.{IsAccepted};
 ghost use Rattle.vlt_io.specs.Outside.{Files, Rose, Grew, GrewByPart};
 ghost use Rattle.vaultc_core.specs.Commands as commands;
 ghost use Rattle.vaultc_core.specs.Commands.{command_of};
@@ -18,18 +18,22 @@ ghost use Rattle.vaultc_core.specs.Finishes.{Finishes, WrotePart, WroteReply};
 ghost use Rattle.vaultc_core.specs.Promised.{IsPromised};
 
 mod commands;
+mod explain;
 mod lines;
+mod parts;
 mod reply;
 mod runs;
 mod source;
 pub mod status;
-mod verdict;
 mod words;
 mod write;
 
-use first_sound::accepted_never_goes_wrong;
 use std::alloc::Global;
+use vlt_fit_laws::programs_are_fit;
 use vlt_io::{Sink, Store};
+use vlt_sound::accepted_programs_go_right;
+use vlt_ticks_laws::texts_have_ticks;
+use vlt_verdict::a_tree_has_one_verdict;
 
 /// Carries out the command that the words are, and gives its status.
 ///
@@ -49,7 +53,7 @@ pub fn vaultc<S: Store, K: Sink>(alloc: Global, words: &[String], store: &mut S,
         (bytes : List ℕ) × IsOneRead S.Store store.old store.new file bytes
         × IsPromised (S.files store.old) file bytes (K.written out.old) (K.written out.new) }
     // With the file there, its bytes those of an accepted program, and no fault, `check` gives 0 unless memory is wanting.
-    ensures accepts { (files : Files) (file bytes : List ℕ) (p : CoreProgram) →
+    ensures accepts { (files : Files) (file bytes : List ℕ) (p : Program) →
         S.files store.old ≡ Some files →
         command_of (map string_bytes words.now) ≡ Some (commands.check file) → files file ≡ Some bytes →
         IsProgramOf bytes p → IsAccepted p →
@@ -73,18 +77,25 @@ pub fn vaultc<S: Store, K: Sink>(alloc: Global, words: &[String], store: &mut S,
     // The sink failed.
     ensures failed { result ≡ SINK_FAILED → Rose (K.faults out.old) (K.faults out.new) }
     // Memory was wanting: nothing was written, or a part of a reply to the store's files.
-    ensures memory { (files : Files) → S.files store.old ≡ Some files → result ≡ NO_MEMORY →
-        Grew (K.written out.old) (K.written out.new) []
-        ⊎ WrotePart K.Sink (IsReplyTo (map string_bytes words.now) files) out.old out.new }
+    ensures memory { (files : Files) → S.files store.old ≡ Some files →
+        result ≡ NO_MEMORY → Grew (K.written out.old) (K.written out.new) [] ⊎
+        WrotePart K.Sink (IsReplyTo (map string_bytes words.now) files) out.old
+        out.new }
 {
-    accepted_never_goes_wrong();
+    programs_are_fit();
+    accepted_programs_go_right();
+    a_tree_has_one_verdict();
+    texts_have_ticks();
     commands::carry_out(alloc, words, store, out)
 }
 
-/// A command has one reply to the bytes of its file.
+/// A command has one reply to the bytes of its file, but that `explain` may tell one path or another.
 pub fn a_command_has_one_reply()
     ensures { HasOneReply }
-{}
+{
+    a_tree_has_one_verdict();
+    texts_have_ticks();
+}
 
 /// All bytes are a text of one tree, or they are refused for one reason.
 pub fn bytes_are_read_in_one_way()

@@ -6,20 +6,26 @@ ghost use Rattle.vlt_printer.specs.Layout.{layout};
 ghost use Rattle.vaultc_core.specs.Lines as l;
 ghost use Rattle.vaultc_core.specs.Lines.{unread_reply, over_reply, place_reply};
 ghost use Rattle.vaultc_core.specs.Texts.{AreRefused, IsTooLong, refusal_reply};
-ghost use Rattle.vaultc_core.specs.Verdicts as v;
+ghost use Rattle.vlt_core.specs.Core.{Func};
+ghost use Rattle.vlt_core.specs.View.{program_of};
+ghost use Rattle.vlt_check.specs.Checks.{fault_of};
+ghost use Rattle.vlt_verdict.specs.Verdicts as v;
+ghost use Rattle.vlt_verdict.specs.Seen.{IsFaultyFunction, IsSeenAs, IsTellable};
 ghost use Rattle.vaultc_core.specs.Verdicts.{check_reply};
-ghost use Rattle.vaultc_core.specs.Shown.{Shows, refusal_of, shown_reply};
+ghost use Rattle.vaultc_core.specs.Shown.{refusal_of, shown_reply};
 
 use crate::reply::Reply;
 use crate::source::TextError;
 use crate::status::{DONE, NO_PROGRAM, NO_TEXT, NOT_ACCEPTED, OVER_LIMIT, UNREAD};
-use crate::verdict::Verdict;
 use std::alloc::{AllocError, Global};
 use vlt_base::{Memory, limit, place};
+use vlt_core::{FlowFault, Program};
 use vlt_lexer::LexError;
 use vlt_parser::ParseError;
 use vlt_printer::print;
+use vlt_reports as reports;
 use vlt_syntax::Tree;
+use vlt_verdict::Verdict;
 
 /// What is written where the words are no command.
 pub const USAGE: &str =
@@ -84,29 +90,47 @@ pub fn refusal(alloc: Global, bytes: &[u8], error: TextError) -> Result<Reply, A
     }
 }
 
-/// What `check` says of a verdict.
-pub fn verdict(alloc: Global, verdict: &Verdict) -> Result<Reply, AllocError>
-    ensures { IfOk result (λ r.
-        (t : v.Verdict) → Shows verdict.now t → shown_reply r ≡ check_reply t) }
+/// The first fault of a program.
+fn faulty(
+    alloc: Global,
+    text: &[u8],
+    program: &Program,
+    fault: FlowFault,
+) -> Result<Reply, AllocError>
+    requires size { length text.now < 2 ^ 32 - 1 }
+    requires there { (f : Func) × IsFaultyFunction program.now fault f }
+    ensures { IfOk result (λ r. (f : Func) → IsFaultyFunction program.now fault f →
+        shown_reply r
+        ≡ check_reply text.now (v.faulty (program_of program.now) f (fault_of fault))) }
 {
-    let reply = match verdict {
-        Verdict::Unresolved => Reply {
-            status: NO_PROGRAM,
-            text: String::from_str(alloc, "kind\n")?.into_bytes(),
-        },
-        Verdict::Refused => Reply {
+    match program.fns.as_slice().get(fault.fn_id.0 as usize) {
+        Some(f) => Ok(Reply {
             status: NOT_ACCEPTED,
-            text: String::from_str(alloc, "protocol\n")?.into_bytes(),
-        },
-        Verdict::Accepted(program) => {
-            let count = program.fns.len();
-            Reply {
-                status: DONE,
-                text: format!(in alloc; "accepted {count}\n")?.into_bytes(),
-            }
-        }
-    };
-    Ok(reply)
+            text: reports::fault(alloc, text, program, f, fault.at, fault.tok, fault.kind)?,
+        }),
+        None => unreachable!(),
+    }
+}
+
+/// What `check` says of a verdict on a text.
+pub fn verdict(alloc: Global, text: &[u8], verdict: &Verdict) -> Result<Reply, AllocError>
+    requires size { length text.now < 2 ^ 32 - 1 }
+    requires tellable { IsTellable verdict.now }
+    ensures { IfOk result (λ r. (t : v.Verdict) →
+        IsSeenAs verdict.now t → shown_reply r ≡ check_reply text.now t) }
+{
+    match verdict {
+        Verdict::Broken { rule, at } => Ok(Reply {
+            status: NO_PROGRAM,
+            text: reports::kind(alloc, text, *rule, *at)?,
+        }),
+        Verdict::Exceeded(number) => over_limit(alloc, *number),
+        Verdict::Faulty(program, fault) => faulty(alloc, text, program, *fault),
+        Verdict::Accepted(program) => Ok(Reply {
+            status: DONE,
+            text: reports::accepted(alloc, program)?,
+        }),
+    }
 }
 
 /// The layout of a tree.

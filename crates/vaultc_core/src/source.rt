@@ -3,6 +3,7 @@
 ghost use Rattle.std.specs.Prelude.{◌≡◌, ℕ, List, Err, IfOk, IfErr, IfSome};
 ghost use Rattle.vlt_io.specs.Outside.{MayFail};
 ghost use Rattle.vlt_syntax.specs.View.{tree_of};
+ghost use Rattle.vlt_fit_laws.specs.Fit.{IsTextTree};
 ghost use Rattle.vaultc_core.specs.Texts.{IsTooLong, IsTextOf, AreRefused};
 ghost use Rattle.vaultc_core.specs.Replies.{IsOneRead};
 ghost use Rattle.vaultc_core.specs.Shown.{refusal_of};
@@ -16,6 +17,7 @@ use vlt_io::{Store, StoreError};
 use vlt_lexer::{LexError, lex};
 use vlt_parser::{ParseError, parse};
 use vlt_syntax::Tree;
+use vlt_ticks_laws::texts_have_ticks;
 
 /// Why the bytes of a file aren't had.
 #[derive(Clone, Copy, Debug, PartialEq, Eq, Error)]
@@ -32,7 +34,8 @@ pub enum FileError {
 
 /// Reads a file, once.
 pub fn read_file<S: Store>(alloc: Global, store: &mut S, name: &str) -> Result<Vec<u8>, FileError>
-    ensures ok { IfOk result (λ bytes. IsOneRead S.Store store.old store.new name.now bytes.items) }
+    ensures ok { IfOk result (λ bytes. IsOneRead S.Store store.old store.new name.now
+        bytes.items) }
     ensures short { IfOk result (λ bytes. ¬ (IsTooLong bytes.items)) }
     ensures too_long { result ≡ Err TooLong →
         (bytes : List ℕ) × IsOneRead S.Store store.old store.new name.now bytes × IsTooLong bytes }
@@ -83,8 +86,10 @@ impl From<ParseError> for TextError {
 pub fn read_tree(alloc: Global, bytes: &[u8]) -> Result<Tree, TextError>
     requires { ¬ (IsTooLong bytes.now) }
     ensures ok { IfOk result (λ t. IsTextOf (tree_of t) bytes.now) }
+    ensures tree { IfOk result (λ t. IsTextTree (tree_of t)) }
     ensures refused { IfErr result (λ e. IfSome (refusal_of e) (AreRefused bytes.now)) }
 {
+    texts_have_ticks();
     let tokens = lex(alloc, bytes)?;
     let tree = parse(alloc, tokens.as_slice())?;
     Ok(tree)

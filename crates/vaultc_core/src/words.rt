@@ -8,10 +8,22 @@ ghost use Rattle.vaultc_core.specs.View.{seen_command};
 
 use vlt_base::Budgets;
 
+/// The most objects that a run's heap may be given room for.
+pub const MOST_HEAP: u32 = 16_777_216;
+/// The most calls that a run may be allowed in one another.
+pub const MOST_DEPTH: u32 = 100_000;
+/// The budgets of a run where no option sets them.
+pub const DEFAULT_FUEL: u64 = 1_000_000;
+
+pub const DEFAULT_HEAP: u32 = 65_536;
+
+pub const DEFAULT_DEPTH: u32 = 1_000;
+
 /// A command with its file.
 #[derive(Clone, Copy, Debug)]
 pub enum Command<'a> {
     Check(&'a str),
+    Explain(&'a str),
     Run(&'a str, Budgets),
     Fmt(&'a str),
 }
@@ -23,6 +35,7 @@ impl<'a> Command<'a> {
     {
         match self {
             Command::Check(file) => file,
+            Command::Explain(file) => file,
             Command::Run(file, _) => file,
             Command::Fmt(file) => file,
         }
@@ -86,11 +99,11 @@ fn read_setting(option: &str, value: &str) -> Option<Setting>
             Some(Setting::Fuel(fuel))
         }
         "--heap" => {
-            let heap = read_number(value, 0, 16_777_216)?;
+            let heap = read_number(value, 0, u64::from(MOST_HEAP))?;
             Some(Setting::Heap(heap as u32))
         }
         "--depth" => {
-            let depth = read_number(value, 1, 100_000)?;
+            let depth = read_number(value, 1, u64::from(MOST_DEPTH))?;
             Some(Setting::Depth(depth as u32))
         }
         _ => None,
@@ -124,9 +137,9 @@ impl Settings {
         ensures { result ≡ budgets_of self }
     {
         Budgets {
-            fuel: self.fuel.unwrap_or(1_000_000),
-            heap: self.heap.unwrap_or(65_536),
-            depth: self.depth.unwrap_or(1_000),
+            fuel: self.fuel.unwrap_or(DEFAULT_FUEL),
+            heap: self.heap.unwrap_or(DEFAULT_HEAP),
+            depth: self.depth.unwrap_or(DEFAULT_DEPTH),
         }
     }
 }
@@ -135,8 +148,10 @@ impl Settings {
 fn option_at(words: &[String], at: usize) -> Option<(&str, &str)>
     requires { at < length words.now }
     ensures none { IfNone result (length words.now ≤ at + 1) }
-    ensures option { IfSome result (λ x. slice_get (map string_bytes words.now) at ≡ Some x.0.now) }
-    ensures value { IfSome result (λ x. slice_get (map string_bytes words.now) (at + 1) ≡ Some x.1.now) }
+    ensures option { IfSome result (λ x. slice_get (map string_bytes words.now) at
+        ≡ Some x.0.now) }
+    ensures value { IfSome result (λ x. slice_get (map string_bytes words.now) (at + 1)
+        ≡ Some x.1.now) }
 {
     if at + 1 < words.len() {
         Some((words[at].as_str(), words[at + 1].as_str()))
@@ -188,6 +203,7 @@ pub fn read_command(words: &[String]) -> Option<Command<'_>>
     }
     match command.as_str() {
         "check" => without_options(Command::Check(file.as_str()), options),
+        "explain" => without_options(Command::Explain(file.as_str()), options),
         "fmt" => without_options(Command::Fmt(file.as_str()), options),
         "run" => {
             let settings = read_settings(options)?;

@@ -70,17 +70,29 @@ void main() {
 /// Files with the status and the line that `check` gives them.
 const FILES: [(&str, u8, &str); 21] = [
     (POINT, 0, "accepted 1\n"),
-    (KEPT, 8, "protocol\n"),
-    (RELEASED_TWICE, 8, "protocol\n"),
-    ("", 7, "kind\n"),
+    (KEPT, 8, "protocol 5:1 K found held wanted absent\n"),
+    (
+        RELEASED_TWICE,
+        8,
+        "protocol 6:5 K found absent wanted held\n",
+    ),
+    ("", 7, "kind 1 1:1\n"),
     ("void main() {}", 0, "accepted 1\n"),
     ("void main() {}\nvoid", 6, "text end\n"),
     ("void main() {}\n void ()", 6, "text token 2:7\n"),
-    ("void main(){}\n struct a{}", 7, "kind\n"),
-    ("struct a {} struct a {} void main() {}", 7, "kind\n"),
-    ("struct main {} void main() {}", 7, "kind\n"),
-    ("struct a { int x; int x; } void main() {}", 7, "kind\n"),
-    ("struct a\u{e9} { int x; } void main() {}", 7, "kind\n"),
+    ("void main(){}\n struct a{}", 0, "accepted 1\n"),
+    ("struct a {} struct a {} void main() {}", 7, "kind 2 1:20\n"),
+    ("struct main {} void main() {}", 7, "kind 2 1:21\n"),
+    (
+        "struct a { int x; int x; } void main() {}",
+        7,
+        "kind 3 1:23\n",
+    ),
+    (
+        "struct a\u{e9} { int x; } void main() {}",
+        0,
+        "accepted 1\n",
+    ),
     (
         "void main() { print(9223372036854775807 + 1); }",
         0,
@@ -96,26 +108,26 @@ const FILES: [(&str, u8, &str); 21] = [
         0,
         "accepted 1\n",
     ),
-    ("void main() { print(1 + 2 + 3); }", 7, "kind\n"),
+    ("void main() { print(1 + 2 + 3); }", 0, "accepted 1\n"),
     (
         "struct a { int x; } void main() { tracked(K) a p = new a { x: p.x }; release p; }",
         7,
-        "kind\n",
+        "kind 27 1:63\n",
     ),
     (
         "struct a { int x; } void main() { tracked(p) a p = new a { x: 0 }; release p; }",
         7,
-        "kind\n",
+        "kind 28 1:48\n",
     ),
     (
         "struct a { int x; int y; } void main() { tracked(K) a p = new a { y: 0, x: 0 }; release p; }",
         7,
-        "kind\n",
+        "kind 30 1:63\n",
     ),
     (
         "struct a { int x; } void main() { tracked(K) a p = new a { x: 1 }; release p; p.x = 2; }",
         8,
-        "protocol\n",
+        "protocol 1:79 K found absent wanted held\n",
     ),
     (
         "struct a { int x; } void main() { tracked(K) a p = new a { x: 007 }; p.x = p.x + 1; release p; }",
@@ -151,7 +163,7 @@ fn a_file_may_be_of_full_size(rt: HostRuntime) -> Result<(), Fail> {
 
 #[test]
 fn other_words_are_refused(rt: HostRuntime) -> Result<(), Fail> {
-    let cases: [&[&str]; 24] = [
+    let cases: [&[&str]; 27] = [
         &["run"],
         &["run", "-a.v"],
         &["run", "a.v", "--heap"],
@@ -171,6 +183,9 @@ fn other_words_are_refused(rt: HostRuntime) -> Result<(), Fail> {
         &["check", "-a.v"],
         &["check", "a.v", "a.v"],
         &["Check", "a.v"],
+        &["explain"],
+        &["explain", "-a.v"],
+        &["explain", "a.v", "--fuel", "1"],
         &["fmt"],
         &["fmt", "-a.v"],
         &["fmt", "a.v", "a.v"],
@@ -289,7 +304,7 @@ fn the_outside_may_fail(rt: HostRuntime) -> Result<(), Fail> {
 }
 
 /// Files with the words of a run of them, its status and what is written.
-const RUNS: [(&str, &[&str], u8, &str); 19] = [
+const RUNS: [(&str, &[&str], u8, &str); 20] = [
     (POINT, RUN, 0, "6\n"),
     (COUNTS, RUN, 0, "40\n41\n82\n7\n"),
     (OVERFLOW, RUN, 9, "1\ntrap 1\n"),
@@ -342,11 +357,22 @@ const RUNS: [(&str, &[&str], u8, &str); 19] = [
         9,
         "9223372036854775807\ntrap 1\n",
     ),
-    (KEPT, RUN, 8, "protocol\n"),
-    (RELEASED_TWICE, RUN, 8, "protocol\n"),
-    ("", RUN, 7, "kind\n"),
+    (KEPT, RUN, 8, "protocol 5:1 K found held wanted absent\n"),
+    (
+        RELEASED_TWICE,
+        RUN,
+        8,
+        "protocol 6:5 K found absent wanted held\n",
+    ),
+    ("", RUN, 7, "kind 1 1:1\n"),
+    ("void main() { print(1 + 2 + 3); }", RUN, 7, "kind\n"),
     ("void", RUN, 6, "text end\n"),
-    (KEPT, &["run", "a.v", "--heap", "16777216"], 8, "protocol\n"),
+    (
+        KEPT,
+        &["run", "a.v", "--heap", "16777216"],
+        8,
+        "protocol 5:1 K found held wanted absent\n",
+    ),
     (
         "void main() {}",
         &["run", "a.v", "--depth", "100000"],

@@ -8,6 +8,8 @@ mod commands;
 #[cfg(test)]
 mod examples;
 #[cfg(test)]
+mod explains;
+#[cfg(test)]
 mod layouts;
 #[cfg(test)]
 mod limits;
@@ -15,5 +17,7 @@ mod limits;
 mod outside;
 #[cfg(test)]
 mod refusals;
+#[cfg(test)]
+mod rules;
 #[cfg(test)]
 mod sizes;

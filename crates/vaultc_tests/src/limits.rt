@@ -1,4 +1,4 @@
-//! Texts one below each limit, at it and one above. Within the limits they are none of the forms that are built.
+//! Texts one below each limit, at it and one above. Those of the grammar have no `main` where they are within it.
 
 use crate::outside::{SOUND, reply};
 use std::alloc::{AllocError, Global};
@@ -33,7 +33,7 @@ const LIMITED: [Limited; 13] = [
         counts: [4095, 4096, 4097],
         line: "limit 4 4096\n",
         decides: "stateset",
-        before: "kind\n",
+        before: "kind 1 1:1\n",
     },
     Limited {
         front: "stateset s { a",
@@ -171,8 +171,8 @@ const LIMITED: [Limited; 13] = [
 
 /// Fronts of functions, with how many `break;` make a text of 262,143 tokens, of 262,144 and of 262,145.
 const TOKENS: [(&str, usize, &str); 3] = [
-    ("void f() { x = -1;", 131066, "kind\n"),
-    ("void f() {", 131069, "kind\n"),
+    ("void f() { x = -1;", 131066, "kind 1 1:1\n"),
+    ("void f() {", 131069, "kind 1 1:1\n"),
     ("void f() { x = -1;", 131067, "limit 3 262144\n"),
 ];
 
@@ -205,7 +205,11 @@ fn checked(alloc: Global, row: &Limited, count: usize) -> Result<Vec<u8>, Fail> 
 fn limits_are_kept(rt: HostRuntime) -> Result<(), Fail> {
     for row in &LIMITED {
         let [below, most, above] = row.counts;
-        for (count, line) in [(below, "kind\n"), (most, "kind\n"), (above, row.line)] {
+        for (count, line) in [
+            (below, "kind 1 1:1\n"),
+            (most, "kind 1 1:1\n"),
+            (above, row.line),
+        ] {
             let found = checked(rt.alloc(), row, count)?;
             assert_eq!(rt; found.as_slice(), line.as_bytes(), "{count}");
         }
@@ -237,6 +241,53 @@ fn tokens_are_limited(rt: HostRuntime) -> Result<(), Fail> {
         text.push(b'}')?;
         let (_, found) = reply(rt.alloc(), SOUND, text.as_slice(), CHECK)?;
         assert_eq!(rt; found.as_slice(), line.as_bytes(), "{front}");
+    }
+    Ok(())
+}
+
+/// A function with a statement for each number, behind its front.
+fn numbered(
+    alloc: Global,
+    front: &str,
+    forms: [&str; 3],
+    count: usize,
+) -> Result<Vec<u8>, AllocError> {
+    let mut text = Vec::from_slice(alloc, front.as_bytes())?;
+    for number in 0..count {
+        for form in forms {
+            let stmt = format!(in alloc; "{form}{number}")?;
+            text.extend_from_slice(stmt.as_bytes())?;
+        }
+        text.extend_from_slice(b";")?;
+    }
+    text.push(b'}')?;
+    Ok(text)
+}
+
+/// Fronts of functions, three forms of which each has a number behind it, how many there are, and what is said.
+const NUMBERED: [(&str, [&str; 3], usize, &str); 4] = [
+    ("void main() {", ["int x", " = ", ""], 256, "accepted 1\n"),
+    ("void main() {", ["int x", " = ", ""], 257, "limit 10 256\n"),
+    (
+        "struct t {} void main() {",
+        ["tracked(K", ") t x", " = new t {}; release x"],
+        256,
+        "accepted 1\n",
+    ),
+    (
+        "struct t {} void main() {",
+        ["tracked(K", ") t x", " = new t {}; release x"],
+        257,
+        "limit 11 256\n",
+    ),
+];
+
+#[test]
+fn variables_and_keys_are_limited(rt: HostRuntime) -> Result<(), Fail> {
+    for (front, forms, count, line) in NUMBERED {
+        let text = numbered(rt.alloc(), front, forms, count)?;
+        let (_, found) = reply(rt.alloc(), SOUND, text.as_slice(), CHECK)?;
+        assert_eq!(rt; found.as_slice(), line.as_bytes(), "{count}");
     }
     Ok(())
 }

@@ -45,11 +45,14 @@ const KEPT_MAIN: &str =
 
 const CHECK: &[&str] = &["check", "a.v"];
 
+const EXPLAIN: &[&str] = &["explain", "a.v"];
+
 const RUN: &[&str] = &["run", "a.v"];
 
 /// What follows 130 structures, with words, a status and what is written.
-const LARGE: [(&str, &[&str], u8, &str); 13] = [
+const LARGE: [(&str, &[&str], u8, &str); 16] = [
     (SOUND_MAIN, CHECK, 0, "accepted 1\n"),
+    (SOUND_MAIN, EXPLAIN, 0, "accepted 1\n"),
     (SOUND_MAIN, RUN, 0, "40\n"),
     (SOUND_MAIN, &["check", "none.v"], 2, "read none.v\n"),
     (SOUND_MAIN, &["check", "a.v", "b.v", "--heap"], 1, USAGE),
@@ -62,9 +65,31 @@ const LARGE: [(&str, &[&str], u8, &str); 13] = [
     ("}", CHECK, 6, "text token 4421:1\n"),
     ("void", CHECK, 6, "text end\n"),
     ("#", RUN, 6, "text byte 4421:1\n"),
-    ("struct s129 {} void main() {}", CHECK, 7, "kind\n"),
-    (KEPT_MAIN, CHECK, 8, "protocol\n"),
-    (KEPT_MAIN, RUN, 8, "protocol\n"),
+    ("struct s129 {} void main() {}", CHECK, 7, "kind 2 4421:8\n"),
+    (
+        "struct s129 {} void main() {}",
+        EXPLAIN,
+        7,
+        "kind 2 4421:8\n",
+    ),
+    (
+        KEPT_MAIN,
+        CHECK,
+        8,
+        "protocol 4427:1 K found held wanted absent\n",
+    ),
+    (
+        KEPT_MAIN,
+        EXPLAIN,
+        8,
+        "protocol 4427:1 K found held wanted absent\npath\n",
+    ),
+    (
+        KEPT_MAIN,
+        RUN,
+        8,
+        "protocol 4427:1 K found held wanted absent\n",
+    ),
     (COUNTS, RUN, 9, "40\ntrap 1\n"),
     (
         COUNTS,
@@ -120,25 +145,55 @@ fn push_times(text: &mut Vec<u8>, piece: &str, count: usize) -> Result<(), Alloc
     Ok(())
 }
 
-/// How many blocks are opened in each other, how many are closed, and words with a status and what is written.
-const DEEP: [(usize, usize, &[&str], u8, &str); 6] = [
-    (60, 60, CHECK, 7, "kind\n"),
-    (60, 60, RUN, 7, "kind\n"),
-    (60, 59, CHECK, 6, "text end\n"),
-    (60, 61, CHECK, 6, "text token 1:130\n"),
-    (65, 65, CHECK, 5, "limit 12 64\n"),
-    (65, 65, &["fmt", "a.v"], 5, "limit 12 64\n"),
+/// How many blocks are opened in each other, what stands in the last, how many are closed, and words with a status and what is
+/// written.
+const DEEP: [(usize, &str, usize, &[&str], u8, &str); 13] = [
+    (60, "", 60, CHECK, 0, "accepted 1\n"),
+    (60, "", 60, RUN, 7, "kind\n"),
+    (60, "x = 1;", 60, CHECK, 7, "kind 27 1:85\n"),
+    (60, "x = 1;", 60, RUN, 7, "kind 27 1:85\n"),
+    (60, "", 60, EXPLAIN, 0, "accepted 1\n"),
+    (60, "x = 1;", 60, EXPLAIN, 7, "kind 27 1:85\n"),
+    (
+        60,
+        "tracked(K) s x = new s {};",
+        60,
+        EXPLAIN,
+        8,
+        "protocol 1:111 K found held wanted absent\npath\n",
+    ),
+    (
+        60,
+        "tracked(K) s x = new s {};",
+        60,
+        CHECK,
+        8,
+        "protocol 1:111 K found held wanted absent\n",
+    ),
+    (
+        60,
+        "tracked(K) s x = new s {};",
+        60,
+        RUN,
+        8,
+        "protocol 1:111 K found held wanted absent\n",
+    ),
+    (60, "", 59, CHECK, 6, "text end\n"),
+    (60, "", 61, CHECK, 6, "text token 1:145\n"),
+    (65, "", 65, CHECK, 5, "limit 12 64\n"),
+    (65, "", 65, &["fmt", "a.v"], 5, "limit 12 64\n"),
 ];
 
 #[test]
 fn deep_texts_have_their_status(rt: HostRuntime) -> Result<(), Fail> {
-    for (opened, closed, words, status, line) in DEEP {
-        let mut file = Vec::from_slice(rt.alloc(), b"void f() ")?;
+    for (opened, inside, closed, words, status, line) in DEEP {
+        let mut file = Vec::from_slice(rt.alloc(), b"struct s {} void main() ")?;
         push_times(&mut file, "{", opened)?;
+        file.extend_from_slice(inside.as_bytes())?;
         push_times(&mut file, "}", closed)?;
         let (found, written) = reply(rt.alloc(), SOUND, file.as_slice(), words)?;
-        assert_eq!(rt; found, status, "{opened}");
-        assert_eq!(rt; written.as_slice(), line.as_bytes(), "{opened}");
+        assert_eq!(rt; found, status, "{inside}");
+        assert_eq!(rt; written.as_slice(), line.as_bytes(), "{inside}");
     }
     Ok(())
 }

@@ -1,12 +1,14 @@
--- The lines that tell which rule a program breaks, where it breaks the rules on keys, and that it is accepted.
-use Rattle.std.specs.Prelude.{ℕ, ◌+◌, not, if◌then◌else◌, List, [], ◌∷◌, ◌++◌, length, filter, Option, Some, None, slice_get, codes}
+-- The lines that tell which rule a program breaks, where it breaks the rules on keys and on which paths, and that it is
+-- accepted.
+use Rattle.std.specs.Prelude.{ℕ, zero, suc, ◌+◌, ◌==◌, not, if◌then◌else◌, List, [], ◌∷◌, ◌++◌, length, filter, Option, Some, None, slice_get, codes}
 use Rattle.std.specs.List.{flat_map}
 use Rattle.std.specs.Fmt.{decimal}
 use Rattle.vlt_base.specs.Place.{line_of, column_of}
-use Rattle.vlt_core.specs.Core.{Name, States, Tok, a_key, a_var, SetDecl, KeyDecl, VarDecl, Func, Program}
-use Rattle.vlt_core.specs.Lookups.{set_in, key_type}
+use Rattle.vlt_core.specs.Core.{Name, States, Tok, a_key, a_var, SetDecl, CaseDecl, KeyDecl, VarDecl, Form, choose, loop, switch, focus, scope, Block, block, Stmts, done, next, Arms, no_arms, arm, Func, Program}
+use Rattle.vlt_core.specs.Lookups.{set_in, key_type, case_at, VariantOf, variant_of}
 use Rattle.vlt_core.specs.Maps.{Status, absent, held, lent, full, Wanted, wants_absent, wants_held, wants_in, wants_lent, wants_full}
 use Rattle.vlt_core.specs.Faults.{FaultKind, at_row, at_join}
+use Rattle.vlt_core.specs.Witness.{Pick, then_arm, else_arm, turn, exit, case_arm, Choice}
 
 -- the line and the column of a byte, from 1
 abbrev pub place_text : (text : List ℕ) → (at : ℕ) → List ℕ
@@ -100,3 +102,71 @@ fault_line text p f at t kind =
 -- how many functions with a body were accepted
 abbrev pub accepted_line : Program → List ℕ
 accepted_line p = codes "accepted " ++ decimal (length (filter (λ f. not f.external) p.fns)) ++ codes "\n"
+
+-- ---- paths
+
+-- an arm of a switch: the variable that is taken apart, and the case
+pub record Tick : Type 0 where
+  pub var : ℕ
+  pub case : ℕ
+
+abbrev pub first_tick : Option Tick → Option Tick → Option Tick
+first_tick (Some x) y = Some x
+first_tick None y = y
+
+abbrev pub tick_at : (var i : ℕ) → Arms → Option Tick
+tick_at v i no_arms = None
+tick_at v zero (arm c vs b rest) = Some (record { var = v; case = c })
+tick_at v (suc i) (arm c vs b rest) = tick_at v i rest
+
+-- the arm of the position i of the switch at a place
+abbrev mutual
+  pub tick_in : (at i here : ℕ) → Form → Option Tick
+  tick_in at i here (choose e a b) = first_tick (tick_in_block at i a) (tick_in_block at i b)
+  tick_in at i here (loop e b) = tick_in_block at i b
+  tick_in at i here (switch v arms end) = if here == at then tick_at v i arms else tick_in_arms at i arms
+  tick_in at i here (focus y z b) = tick_in_block at i b
+  tick_in at i here (scope b) = tick_in_block at i b
+  tick_in at i here _ = None
+
+  pub tick_in_block : (at i : ℕ) → Block → Option Tick
+  tick_in_block at i (block ss bound end) = tick_in_stmts at i ss
+
+  pub tick_in_stmts : (at i : ℕ) → Stmts → Option Tick
+  tick_in_stmts at i done = None
+  tick_in_stmts at i (next here s rest) = first_tick (tick_in at i here s) (tick_in_stmts at i rest)
+
+  pub tick_in_arms : (at i : ℕ) → Arms → Option Tick
+  tick_in_arms at i no_arms = None
+  tick_in_arms at i (arm c vs b rest) = first_tick (tick_in_block at i b) (tick_in_arms at i rest)
+
+abbrev pub case_text : Option CaseDecl → List ℕ
+case_text None = []
+case_text (Some d) = codes "'" ++ d.name
+
+abbrev pub case_in : Program → Option VariantOf → (case : ℕ) → Option CaseDecl
+case_in p None c = None
+case_in p (Some v) c = case_at p v.type c
+
+abbrev pub tick_text : Program → Func → Option Tick → List ℕ
+tick_text p f None = []
+tick_text p f (Some t) = case_text (case_in p (variant_of f t.var) t.case)
+
+-- which way a path takes at a place
+abbrev pub pick_text : Program → Func → (at : ℕ) → Pick → List ℕ
+pick_text p f at then_arm = codes "then"
+pick_text p f at else_arm = codes "else"
+pick_text p f at turn = codes "turn"
+pick_text p f at exit = codes "exit"
+pick_text p f at (case_arm i) = tick_text p f (tick_in_stmts at i f.body)
+
+abbrev pub choice_text : (text : List ℕ) → Program → Func → Choice → List ℕ
+choice_text text p f c = codes " " ++ place_text text c.at ++ codes "=" ++ pick_text p f c.at c.pick
+
+abbrev pub path_line : (text : List ℕ) → Program → Func → List Choice → List ℕ
+path_line text p f cs = codes "path" ++ flat_map (choice_text text p f) cs ++ codes "\n"
+
+-- one path, or the two to a join
+abbrev pub paths_text : (text : List ℕ) → Program → Func → (first : List Choice) → (second : Option (List Choice)) → List ℕ
+paths_text text p f first None = path_line text p f first
+paths_text text p f first (Some second) = path_line text p f first ++ path_line text p f second

@@ -1,10 +1,13 @@
-//! The lines of the check: a refused rule, a fault or an accepted program goes in, a line comes out.
+//! The lines of the check: a refused rule, a fault, a path or an accepted program goes in, a line comes out.
 //! Read `specs/Reports.antt` first.
-//! The replies of `check` rest on it.
+//! The replies of `check` and `explain` rest on it.
 #![tactic(auto)]
 
 mod lines;
 mod names;
+mod paths;
 mod statuses;
+mod ticks;
 
 pub use lines::{accepted, fault, kind};
+pub use paths::path_lines;

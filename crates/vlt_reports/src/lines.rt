@@ -14,7 +14,7 @@ use vlt_base::{Items, place};
 use vlt_core::{FaultKind, Func, Program, Tok};
 
 /// The line and the column of a byte; of one behind the text those of its end.
-fn place_within(text: &[u8], at: u32) -> (u32, u32)
+pub fn place_within(text: &[u8], at: u32) -> (u32, u32)
     requires { length text.now < 2 ^ 32 - 1 }
     ensures line { result.0 ≡ line_of text.now at }
     ensures column { result.1 ≡ column_of text.now at }
@@ -67,7 +67,8 @@ pub fn fault(
 ) -> Result<Vec<u8>, AllocError>
     requires { length text.now < 2 ^ 32 - 1 }
     ensures { IfOk result (λ v. v.items
-        ≡ fault_line text.now (program_of p.now) (func_of f.now) at (tok_of token) (kind_seen kind)) }
+        ≡ fault_line text.now (program_of p.now) (func_of f.now) at (tok_of token)
+        (kind_seen kind)) }
 {
     let (line, column) = place_within(text, at);
     let mut out = format!(in alloc; "protocol {line}:{column} ")?.into_bytes();

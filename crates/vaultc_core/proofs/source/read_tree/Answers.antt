@@ -3,6 +3,8 @@ use Rattle.std.proofs.lemmas.Grind.{common_steps}
 use Rattle.vlt_base.specs.Limits.{limit_of}
 use Rattle.vlt_base.specs.declared.limits.TheConstants.{TOKENS}
 use Rattle.vlt_lexer.specs.Text.{IsTokensOf, lexemes}
+use Rattle.vlt_syntax.specs.Grammar.{IsPlacedTreeOf}
+use Rattle.vlt_syntax.specs.View.{tree_of}
 use Rattle.vlt_parser.specs.Refusals.{IsRefusedFor}
 use Rattle.vaultc_core.specs.declared.source.TextError.TheVariants.{Parse}
 use Rattle.vaultc_core.proofs.Read.{refused_tokens}
@@ -18,3 +20,10 @@ returns-in_err-tree-clause-refused c =
     let few : length ls ≤ limit_of TOKENS = c.in_ok-tokens.ensures.few in
     let refused : IsRefusedFor ls e = subst (λ ts. IsRefusedFor (lexemes ts) e) c.as_slice.ensures.value c.in_err-tree.ensures.refused in
     rw is (refused_tokens bytes ls e tokens few refused)
+
+pub returns-clause-tree : goal.returns-clause-tree
+returns-clause-tree c =
+    let ls = lexemes c.in_ok-tokens.tokens.items in
+    let t = tree_of c.in_ok-tree.tree in
+    let placed : IsPlacedTreeOf ls t = subst (λ ts. IsPlacedTreeOf (lexemes ts) t) c.as_slice.ensures.value c.in_ok-tree.ensures.ok in
+    record { tree = placed.0; ticks = c.texts_have_ticks.ensures c.args.bytes.now ls t c.in_ok-tokens.ensures.tokens placed.1 }

@@ -1,0 +1,103 @@
+-- What `explain` says, from what it has of a fault.
+use Rattle.std.proofs.Common.{◌≡◌, ◌<◌, ℕ, zero, suc, List, [], ◌∷◌, ◌++◌, map, length, get_or, arith, Option, Some, None, refl, sym, ap, ap₂, ◌∙◌, subst}
+use Rattle.std.specs.Prelude.{slice_get}
+use Rattle.std.specs.Option.{option_map}
+use Rattle.vlt_core.specs.Core.{Func, Program}
+use Rattle.vlt_core.specs.Faults.{FlowFault}
+use Rattle.vlt_core.specs.View.{program_of, func_of}
+use Rattle.vlt_core.specs.Witness as w
+use Rattle.vlt_core.specs.Witness.{IsWitness}
+use Rattle.vlt_core.specs.declared.held.FaultKind as kinds
+use Rattle.vlt_core.specs.declared.held.FaultKind.TheVariants as variant
+use Rattle.vlt_core.specs.declared.held.FlowFault as code
+use Rattle.vlt_core.specs.declared.program.Program as core
+use Rattle.vlt_core.specs.declared.program.Func as funcs
+use Rattle.vlt_core.specs.declared.notes.Choice.{Choice}
+use Rattle.vlt_core.specs.declared.notes.Pick.{Pick}
+use Rattle.vlt_core.specs.declared.notes.Pick.TheVariants as pick
+use Rattle.vlt_check.specs.Checks.{fault_of}
+use Rattle.vlt_fit_laws.specs.Fit.{IsTextTree, ProgramsAreFit}
+use Rattle.vlt_reports.specs.Reports.{fault_line, paths_text}
+use Rattle.vlt_reports.specs.Seen.{kind_seen, pick_seen, choices_seen}
+use Rattle.vlt_witness.specs.Ways.{pick_of, choices_of}
+use Rattle.vlt_syntax.specs.Tree.{Tree}
+use Rattle.vlt_verdict.proofs.Single.{fit_program}
+use Rattle.vlt_verdict.specs.declared.verdict.Verdict as shown
+use Rattle.vlt_verdict.specs.declared.verdict.Verdict.TheVariants.{Broken, Exceeded, Faulty, Accepted}
+use Rattle.vlt_verdict.specs.Seen.{IsSeenAs}
+use Rattle.vlt_verdict.specs.Verdicts.{Verdict, faulty, IsVerdictOf}
+use Rattle.vaultc_core.specs.declared.status.TheConstants.{NOT_ACCEPTED}
+use Rattle.vaultc_core.specs.Lines.{Reply, reply}
+use Rattle.vaultc_core.specs.Shown.{IsShowable}
+use Rattle.vaultc_core.specs.Verdicts.{check_reply, IsExplained}
+
+-- ---- choices, as those who find them and those who tell them see them
+
+pick_same : (x : Pick) → pick_of x ≡ pick_seen x
+pick_same pick.Then = refl
+pick_same pick.Else = refl
+pick_same pick.Turn = refl
+pick_same pick.Exit = refl
+pick_same (pick.Case position) = refl
+
+choices_same : (cs : List Choice) → choices_of cs ≡ choices_seen cs
+choices_same [] = refl
+choices_same (c ∷ cs) = ap₂ (λ p rest. w.choice c.at p ∷ rest) (pick_same c.pick) (choices_same cs)
+
+second_same : (o : Option (List Choice)) → option_map choices_of o ≡ option_map choices_seen o
+second_same None = refl
+second_same (Some cs) = ap (λ x. Some x) (choices_same cs)
+
+pub witness_seen : (p : Program) (x : FlowFault) (first : List Choice) (second : Option (List Choice)) →
+    IsWitness p x (choices_of first) (option_map choices_of second) → IsWitness p x (choices_seen first) (option_map choices_seen second)
+witness_seen p x first second is =
+    subst (λ o. IsWitness p x (choices_seen first) o) (second_same second)
+    (subst (λ cs. IsWitness p x cs (option_map choices_of second)) (choices_same first) is)
+
+-- ---- faults
+
+-- a fault of this kind is told as it is seen
+pub kind_same : (x : code.FlowFault) (k : kinds.FaultKind) → kind_seen k ≡ (fault_of (record x { kind = k })).kind
+kind_same x (variant.Row found wanted) = refl
+kind_same x (variant.Join present) = refl
+
+-- the function that the code looks up is the one of that number
+pub func_there : (fs : List funcs.Func) (i : ℕ) (x d : funcs.Func) → i < length fs → x ≡ get_or fs i d → slice_get (map func_of fs) i ≡ Some (func_of x)
+func_there [] i x d lt is = absurd (omega (arith, lt))
+func_there (f ∷ fs) zero x d lt is = ap (λ y. Some (func_of y)) (sym is)
+func_there (f ∷ fs) (suc i) x d lt is = func_there fs i x d (omega (arith, lt)) is
+
+same_func : (p : Program) (n : ℕ) (f g : Func) → slice_get p.fns n ≡ Some f → slice_get p.fns n ≡ Some g → f ≡ g
+same_func p n f g a b = cc
+
+-- the line of the fault and its paths are what `explain` says of it
+pub fault_explained : (text : List ℕ) (p : Program) (f g : Func) (x : FlowFault) (first : List w.Choice) (second : Option (List w.Choice)) (line paths out : List ℕ) →
+    slice_get p.fns x.function ≡ Some f → slice_get p.fns x.function ≡ Some g → IsWitness p x first second →
+    line ≡ fault_line text p f x.at x.tok x.kind → paths ≡ paths_text text p f first second → out ≡ line ++ paths →
+    IsExplained text (faulty p g x) (reply NOT_ACCEPTED out)
+fault_explained text p f g x first second line paths out there also shows is_line is_paths is_out =
+    let same : f ≡ g = same_func p x.function f g there also in
+    let whole : out ≡ fault_line text p f x.at x.tok x.kind ++ paths_text text p f first second = is_out ∙ ap₂ (λ a b. a ++ b) is_line is_paths in
+    (first, second, shows, ap (reply NOT_ACCEPTED) (subst (λ h. out ≡ fault_line text p h x.at x.tok x.kind ++ paths_text text p h first second) same whole))
+
+-- ---- verdicts
+
+no_fault : (text : List ℕ) (v s : Verdict) (r : Reply) → s ≡ v → IsExplained text v r → IsExplained text s r
+no_fault text v s r same is = subst (λ v. IsExplained text v r) (sym same) is
+
+-- what is said of a verdict without a fault is what `check` says
+pub check_explains : (text : List ℕ) (v : shown.Verdict) (s : Verdict) (r : Reply) → ((p : core.Program) (x : code.FlowFault) → v ≡ Faulty p x → ⊥) → IsSeenAs v s →
+    r ≡ check_reply text s → IsExplained text s r
+check_explains text (Broken rule at) s r no_faulty seen e = no_fault text _ s r seen (e ∙ ap (check_reply text) seen)
+check_explains text (Exceeded n) s r no_faulty seen e = no_fault text _ s r seen (e ∙ ap (check_reply text) seen)
+check_explains text (Faulty p x) s r no_faulty seen e = absurd (no_faulty p x refl)
+check_explains text (Accepted p) s r no_faulty seen e = no_fault text _ s r seen (e ∙ ap (check_reply text) seen)
+
+-- the fault of a verdict on a text's tree can be shown
+pub showable : ProgramsAreFit → (t : Tree) (v : shown.Verdict) → IsTextTree t → (s : Verdict) × IsVerdictOf t s × IsSeenAs v s → IsShowable v
+showable law t (Broken rule at) tree judged = tt
+showable law t (Exceeded n) tree judged = tt
+showable law t (Accepted p) tree judged = tt
+showable law t (Faulty p x) tree (s, is, (f, there, same)) =
+    let of_faulty : IsVerdictOf t (faulty (program_of p) f (fault_of x)) = subst (IsVerdictOf t) same is in
+    ((fit_program law t (program_of p) tree of_faulty.0).well_formed, of_faulty.1.first)

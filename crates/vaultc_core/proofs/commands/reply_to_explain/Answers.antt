@@ -1,0 +1,16 @@
+use Rattle.vlt_syntax.specs.View.{tree_of}
+use Rattle.vaultc_core.specs.Commands.{explain}
+use Rattle.vaultc_core.specs.Shown.{refusal_of}
+use Rattle.vaultc_core.proofs.Explained.{showable}
+use Rattle.vaultc_core.proofs.Said.{refused_each, explained_said}
+use Rattle.vaultc_core.proofs.commands.reply_to_explain.Goals as goal
+
+pub explained-requires-clause-showable : goal.explained-requires-clause-showable
+explained-requires-clause-showable c =
+    showable c.programs_are_fit.ensures (tree_of c.in-Ok.tree) c.in_ok-judged-in-Ok.judged c.in-Ok.ensures.tree c.in_ok-judged-in-Ok.ensures.is
+
+pub returns-in_ok-judged-in-Ok : goal.returns-in_ok-judged-in-Ok
+returns-in_ok-judged-in-Ok c = explained_said c.args.bytes.now (tree_of c.in-Ok.tree) c.in_ok-judged-in-Ok.judged c.explained.result c.in-Ok.ensures.ok c.in_ok-judged-in-Ok.ensures.is c.explained.ensures
+
+pub returns-in-Err : goal.returns-in-Err
+returns-in-Err c = refused_each (λ file. explain file) c.args.bytes.now (refusal_of c.in-Err.error) c.refusal.result c.in-Err.ensures.refused c.refusal.ensures

@@ -1,0 +1,25 @@
+use Rattle.std.proofs.Common.{◌≡◌, ◌∙◌, ◌++◌, map, Some, ap, subst}
+use Rattle.std.specs.Option.{option_map}
+use Rattle.std.specs.Prelude.{slice_get}
+use Rattle.vlt_core.specs.View.{program_of, func_of, tok_of}
+use Rattle.vlt_check.specs.Checks.{fault_of}
+use Rattle.vlt_reports.specs.Reports.{fault_line}
+use Rattle.vlt_reports.specs.Seen.{choices_seen}
+use Rattle.vaultc_core.proofs.Explained.{kind_same, func_there, fault_explained}
+use Rattle.vaultc_core.proofs.explain.shown_fault.Goals as goal
+
+pub returns : goal.returns
+returns c = λ g there.
+    let text = c.args.text.now in
+    let p = program_of c.args.program.now in
+    let fault = c.args.fault in
+    let f = func_of c.in-Some.f.now in
+    let found = c.in_ok-found.found in
+    let line = c.in_ok-lines-in-Some.lines.items in
+    let paths = c.in_ok-paths-in-Some.paths.items in
+    let looked = c.in-Some.ensures.lookup in
+    let here : slice_get p.fns fault.fn_id.0 ≡ Some f =
+    subst (λ fs. slice_get (map func_of fs) fault.fn_id.0 ≡ Some f) c.as_slice.ensures (func_there c.as_slice.result.now fault.fn_id.0 c.in-Some.f.now c.in-Some.f.now looked.3.0 looked.1) in
+    fault_explained text p f g (fault_of fault) (choices_seen found.first) (option_map choices_seen found.second) line paths c.extend_from_slice.new.self.items here there
+    c.in_ok-found.ensures (c.in_ok-lines-in-Some.ensures ∙ ap (fault_line text p f fault.at (tok_of fault.tok)) (kind_same fault fault.kind)) c.in_ok-paths-in-Some.ensures
+    (c.in_ok-extend_from_slice-in-Some.ensures.items ∙ ap (λ l. line ++ l) c.as_slice-in-Some.ensures.value)

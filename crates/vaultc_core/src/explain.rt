@@ -1,0 +1,83 @@
+//! From a verdict to what `explain` says of it.
+
+ghost use Rattle.std.specs.Prelude.{◌<◌, ◌-◌, ◌^◌, length, IfOk};
+ghost use Rattle.std.specs.Option.{option_map};
+ghost use Rattle.vlt_core.specs.Core.{Func};
+ghost use Rattle.vlt_core.specs.Faults.{IsFirstFault};
+ghost use Rattle.vlt_core.specs.View.{program_of};
+ghost use Rattle.vlt_core.specs.Witness.{IsWitness};
+ghost use Rattle.vlt_check.specs.Checks.{IsWellFormed, fault_of};
+ghost use Rattle.vlt_reports.specs.Seen.{choices_seen};
+ghost use Rattle.vlt_verdict.specs.Verdicts as v;
+ghost use Rattle.vlt_verdict.specs.Seen.{IsFaultyFunction, IsSeenAs, IsTellable};
+ghost use Rattle.vaultc_core.specs.Verdicts.{IsExplained};
+ghost use Rattle.vaultc_core.specs.Shown.{IsShowable, shown_reply};
+
+use crate::lines::verdict;
+use crate::reply::Reply;
+use crate::status::NOT_ACCEPTED;
+use std::alloc::{AllocError, Global};
+use vlt_core::{FlowFault, Program, Witness};
+use vlt_reports as reports;
+use vlt_verdict::Verdict;
+use vlt_witness::witness;
+
+/// The paths of the first fault. A number of the program that stands for nothing counts as want of memory, as in the check.
+fn paths_of(alloc: Global, program: &Program, fault: &FlowFault) -> Result<Witness, AllocError>
+    requires well_formed { IsWellFormed (program_of program.now) }
+    requires first { IsFirstFault (program_of program.now) (fault_of fault.now) }
+    ensures { IfOk result (λ x. IsWitness (program_of program.now) (fault_of fault.now)
+        (choices_seen x.first) (option_map choices_seen x.second)) }
+{
+    match witness(alloc, program, fault) {
+        Ok(Some(found)) => Ok(found),
+        Ok(None) => unreachable!(),
+        Err(_) => Err(AllocError),
+    }
+}
+
+/// The line of the first fault, with the paths that show it behind it.
+fn shown_fault(
+    alloc: Global,
+    text: &[u8],
+    program: &Program,
+    fault: FlowFault,
+) -> Result<Reply, AllocError>
+    requires size { length text.now < 2 ^ 32 - 1 }
+    requires there { (f : Func) × IsFaultyFunction program.now fault f }
+    requires well_formed { IsWellFormed (program_of program.now) }
+    requires first { IsFirstFault (program_of program.now) (fault_of fault) }
+    ensures { IfOk result (λ r. (f : Func) → IsFaultyFunction program.now fault f →
+        IsExplained text.now (v.faulty (program_of program.now) f (fault_of fault))
+        (shown_reply r)) }
+{
+    let found = paths_of(alloc, program, &fault)?;
+    match program.fns.as_slice().get(fault.fn_id.0 as usize) {
+        Some(f) => {
+            let mut lines = reports::fault(
+                alloc, text, program, f, fault.at, fault.tok, fault.kind,
+            )?;
+            let paths = reports::path_lines(alloc, text, program, f, &found)?;
+            lines.extend_from_slice(paths.as_slice())?;
+            Ok(Reply {
+                status: NOT_ACCEPTED,
+                text: lines,
+            })
+        }
+        None => unreachable!(),
+    }
+}
+
+/// What `explain` says of a verdict on a text.
+pub fn explained(alloc: Global, text: &[u8], judged: &Verdict) -> Result<Reply, AllocError>
+    requires size { length text.now < 2 ^ 32 - 1 }
+    requires tellable { IsTellable judged.now }
+    requires showable { IsShowable judged.now }
+    ensures { IfOk result (λ r. (t : v.Verdict) →
+        IsSeenAs judged.now t → IsExplained text.now t (shown_reply r)) }
+{
+    match judged {
+        Verdict::Faulty(program, fault) => shown_fault(alloc, text, program, *fault),
+        _ => verdict(alloc, text, judged),
+    }
+}

@@ -1,0 +1,325 @@
+//! The paths that show a fault.
+
+ghost use Rattle.std.specs.Prelude.{◌≡◌, ◌↔◌, false, List, Option, Some, None, IfOk, IfSome, slice_get};
+ghost use Rattle.std.specs.Option.{option_map, option_copied};
+ghost use Rattle.vlt_core.specs.Found.{One, Has};
+ghost use Rattle.vlt_core.specs.Faults.{IsFirstFault};
+ghost use Rattle.vlt_core.specs.Witness as w;
+ghost use Rattle.vlt_core.specs.Witness.{IsWitness, IsWitnessIn};
+ghost use Rattle.vlt_core.specs.HeldView.{wanted_of};
+ghost use Rattle.vlt_core.specs.View.{program_of, func_of, tok_of};
+ghost use Rattle.vlt_flow_laws.specs.Sweep.{In};
+ghost use Rattle.vlt_found.specs.Ones.{many_of};
+ghost use Rattle.vlt_keyset.specs.Held.{map_of};
+ghost use Rattle.vlt_rows.specs.FlowView.{block_view};
+ghost use Rattle.vlt_check.specs.Checks.{IsWellFormed, fault_of};
+ghost use Rattle.vlt_witness_laws.specs.Shown.{HasWitness};
+ghost use Rattle.vlt_witness.specs.Ways.{choices_of, end_of_join, IsSeen, OnSeen};
+ghost use Rattle.vlt_witness.specs.Shows.{ArePaths, IsPair, HasNoPair, IsShownRow, IsShownJoin, IsShownBy};
+
+use crate::aim::{Aim, Goal};
+use crate::search::{no_jumps, search_block};
+use crate::seen::{JoinName, Seen, is_same_join};
+use crate::single::Single;
+use crate::ways::Way;
+use std::alloc::{AllocError, Global};
+use vlt_base::{FnId, Items};
+use vlt_core::{Choice, FaultKind, FlowFault, Func, Program, Status, Tok, Wanted, Witness};
+use vlt_flow::start_map_of;
+use vlt_found::{Ones, made};
+use vlt_keyset::Held;
+use vlt_rows::{FlowBlock, RowError, body_flow};
+
+/// The paths of a witness.
+#[derive(Drop)]
+pub struct Paths {
+    pub first: Items<Choice>,
+    pub second: Option<Items<Choice>>,
+}
+
+/// The single statuses that a token begins with.
+fn start_ones(start: &Held, tok: Tok) -> Ones
+    ensures { (o : One) → In (many_of result) o ↔ Has (map_of start.now (tok_of tok)) o }
+{
+    if !start.has(tok) {
+        return made(true, false, 0, 0);
+    }
+    match start.status(tok) {
+        Status::Absent => made(true, false, 0, 0),
+        Status::Held(states) => made(false, false, states.mask(), 0),
+        Status::Lent(states) => made(false, false, 0, states.mask()),
+        Status::Full => made(false, true, 0, 0),
+    }
+}
+
+/// All that meets the aim in a body, from each of these statuses.
+fn all_paths(alloc: Global, aim: Aim, body: &FlowBlock, ones: Ones) -> Result<Items<Seen>, RowError>
+    ensures { IfOk result (ArePaths aim (block_view body.now) (In (many_of ones))) }
+{
+    let mut ways = Items::new(alloc);
+    ways.push(Way {
+        from: Single::Absent,
+        ones,
+        path: Items::new(alloc),
+    })?;
+    let mut met = Items::new(alloc);
+    let mut jumps = no_jumps(alloc);
+    let _end = search_block(alloc, aim, body, 0, ways, &mut jumps, &mut met)?;
+    Ok(met)
+}
+
+/// The path to a row or to this join, if one is among those.
+fn find(
+    alloc: Global,
+    list: &[Seen],
+    join: Option<JoinName>,
+) -> Result<Option<Items<Choice>>, AllocError>
+    ensures some { IfOk result (λ r.
+        IfSome r (λ cs. (f : One) × OnSeen list.now f (end_of_join join) (choices_of cs))) }
+    ensures none { IfOk result (λ r. r ≡ None →
+        (f : One) (cs : List w.Choice) →
+        OnSeen list.now f (end_of_join join) cs → ⊥) }
+{
+    for seen in list {
+        if is_same_join(seen.join, join) {
+            let path = Items::from_slice(alloc, seen.path.as_slice())?;
+            return Ok(Some(path));
+        }
+    }
+    Ok(None)
+}
+
+/// A path to a row that refuses.
+fn row_paths(
+    alloc: Global,
+    tok: Tok,
+    at: u32,
+    wanted: Wanted,
+    body: &FlowBlock,
+    ones: Ones,
+) -> Result<Option<Paths>, RowError>
+    ensures some { IfOk result (λ r.
+        IfSome r (λ x. IsShownRow (block_view body.now) (In (many_of ones)) (tok_of tok) at
+        (wanted_of wanted) (choices_of x.first) (option_map choices_of x.second))) }
+    ensures none { IfOk result (λ r. r ≡ None →
+        (first : List w.Choice) (second : Option (List w.Choice)) →
+        IsShownRow (block_view body.now) (In (many_of ones)) (tok_of tok) at (wanted_of wanted)
+        first second → ⊥) }
+{
+    let aim = Aim {
+        tok,
+        at,
+        goal: Goal::Refusal(wanted),
+    };
+    let list = all_paths(alloc, aim, body, ones)?;
+    match find(alloc, list.as_slice(), None)? {
+        None => Ok(None),
+        Some(first) => Ok(Some(Paths {
+            first,
+            second: None,
+        })),
+    }
+}
+
+/// The path to this join, and another one to it.
+fn second_of(
+    alloc: Global,
+    seen: &Seen,
+    join: JoinName,
+    present: &[Seen],
+) -> Result<Option<Paths>, AllocError>
+    requires { seen.now.join ≡ Some join }
+    ensures some { IfOk result (λ r.
+        IfSome r (λ x. IsPair (IsSeen seen.now) (OnSeen present.now) (choices_of x.first)
+        (option_map choices_of x.second))) }
+    ensures none { IfOk result (λ r. r ≡ None →
+        HasNoPair (IsSeen seen.now) (OnSeen present.now)) }
+{
+    match find(alloc, present, Some(join))? {
+        None => Ok(None),
+        Some(second) => {
+            let first = Items::from_slice(alloc, seen.path.as_slice())?;
+            Ok(Some(Paths {
+                first,
+                second: Some(second),
+            }))
+        }
+    }
+}
+
+/// A path, and another one to its join.
+fn other(alloc: Global, seen: &Seen, present: &[Seen]) -> Result<Option<Paths>, AllocError>
+    ensures some { IfOk result (λ r.
+        IfSome r (λ x. IsPair (IsSeen seen.now) (OnSeen present.now) (choices_of x.first)
+        (option_map choices_of x.second))) }
+    ensures none { IfOk result (λ r. r ≡ None →
+        HasNoPair (IsSeen seen.now) (OnSeen present.now)) }
+{
+    match seen.join {
+        None => Ok(None),
+        Some(join) => second_of(alloc, seen, join, present),
+    }
+}
+
+/// Two paths to one join.
+fn pair(alloc: Global, absent: &[Seen], present: &[Seen]) -> Result<Option<Paths>, AllocError>
+    ensures some { IfOk result (λ r.
+        IfSome r (λ x. IsPair (OnSeen absent.now) (OnSeen present.now) (choices_of x.first)
+        (option_map choices_of x.second))) }
+    ensures none { IfOk result (λ r. r ≡ None →
+        HasNoPair (OnSeen absent.now) (OnSeen present.now)) }
+{
+    for seen in absent {
+        match other(alloc, seen, present)? {
+            None => {}
+            Some(found) => return Ok(Some(found)),
+        }
+    }
+    Ok(None)
+}
+
+/// Two paths to one join, the first without the token and the second with it.
+fn join_paths(
+    alloc: Global,
+    tok: Tok,
+    at: u32,
+    body: &FlowBlock,
+    ones: Ones,
+) -> Result<Option<Paths>, RowError>
+    ensures some { IfOk result (λ r.
+        IfSome r (λ x. IsShownJoin (block_view body.now) (In (many_of ones)) (tok_of tok) at
+        (choices_of x.first) (option_map choices_of x.second))) }
+    ensures none { IfOk result (λ r. r ≡ None →
+        (first : List w.Choice) (second : Option (List w.Choice)) →
+        IsShownJoin (block_view body.now) (In (many_of ones)) (tok_of tok) at first second →
+        ⊥) }
+{
+    let absent = Aim {
+        tok,
+        at,
+        goal: Goal::Absent,
+    };
+    let present = Aim {
+        tok,
+        at,
+        goal: Goal::Present,
+    };
+    let first = all_paths(alloc, absent, body, ones)?;
+    let second = all_paths(alloc, present, body, ones)?;
+    match pair(alloc, first.as_slice(), second.as_slice())? {
+        None => Ok(None),
+        Some(found) => Ok(Some(found)),
+    }
+}
+
+fn paths_of(
+    alloc: Global,
+    fault: &FlowFault,
+    body: &FlowBlock,
+    ones: Ones,
+) -> Result<Option<Paths>, RowError>
+    ensures some { IfOk result (λ r.
+        IfSome r (λ x. IsShownBy (block_view body.now) (In (many_of ones)) (fault_of fault.now)
+        (choices_of x.first) (option_map choices_of x.second))) }
+    ensures none { IfOk result (λ r. r ≡ None →
+        (first : List w.Choice) (second : Option (List w.Choice)) →
+        IsShownBy (block_view body.now) (In (many_of ones)) (fault_of fault.now) first second →
+        ⊥) }
+{
+    match fault.kind {
+        FaultKind::Row { wanted, .. } => row_paths(alloc, fault.tok, fault.at, wanted, body, ones),
+        FaultKind::Join { .. } => join_paths(alloc, fault.tok, fault.at, body, ones),
+    }
+}
+
+/// The paths in a function's body.
+fn paths_in(
+    alloc: Global,
+    p: &Program,
+    f: &Func,
+    fault: &FlowFault,
+) -> Result<Option<Paths>, RowError>
+    ensures some { IfOk result (λ r.
+        IfSome r (λ x. IsWitnessIn (program_of p.now) (func_of f.now) (fault_of fault.now)
+        (choices_of x.first) (option_map choices_of x.second))) }
+    ensures none { IfOk result (λ r. r ≡ None →
+        (first : List w.Choice) (second : Option (List w.Choice)) →
+        IsWitnessIn (program_of p.now) (func_of f.now) (fault_of fault.now) first second → ⊥) }
+{
+    let flow = body_flow(alloc, p, f)?;
+    let Ok(start) = start_map_of(alloc, p, f) else {
+        return Err(RowError::Memory);
+    };
+    let ones = start_ones(&start, fault.tok);
+    match paths_of(alloc, fault, &flow, ones)? {
+        None => Ok(None),
+        Some(found) => Ok(Some(found)),
+    }
+}
+
+fn func_at(p: &Program, fn_id: FnId) -> Option<&Func>
+    ensures { option_map func_of (option_copied result)
+        ≡ slice_get (program_of p.now).fns fn_id.0 }
+{
+    p.fns.get(fn_id.0 as usize)
+}
+
+/// The paths in a function, if it has a body.
+fn paths_at(
+    alloc: Global,
+    p: &Program,
+    f: &Func,
+    fault: &FlowFault,
+) -> Result<Option<Paths>, RowError>
+    ensures some { IfOk result (λ r.
+        IfSome r (λ x. ((func_of f.now).external ≡ false) ×
+        IsWitnessIn (program_of p.now) (func_of f.now) (fault_of fault.now) (choices_of x.first)
+        (option_map choices_of x.second))) }
+    ensures none { IfOk result (λ r. r ≡ None →
+        (func_of f.now).external ≡ false → (first : List w.Choice) (second : Option (List w.Choice)) →
+        IsWitnessIn (program_of p.now) (func_of f.now) (fault_of fault.now) first second → ⊥) }
+{
+    if f.external {
+        return Ok(None);
+    }
+    match paths_in(alloc, p, f, fault)? {
+        None => Ok(None),
+        Some(found) => Ok(Some(found)),
+    }
+}
+
+/// The paths of a witness of the fault, if it has one.
+fn paths_for(alloc: Global, p: &Program, fault: &FlowFault) -> Result<Option<Paths>, RowError>
+    ensures shows { IfOk result (λ r.
+        IfSome r (λ x. IsWitness (program_of p.now) (fault_of fault.now) (choices_of x.first)
+        (option_map choices_of x.second))) }
+    ensures none { IfOk result (λ r. r ≡ None →
+        HasWitness (program_of p.now) (fault_of fault.now) → ⊥) }
+{
+    match func_at(p, fault.fn_id) {
+        None => Ok(None),
+        Some(f) => paths_at(alloc, p, f, fault),
+    }
+}
+
+/// A witness of a fault, if it has one; the first fault of a program has one. `Unfit` where a number of the program
+/// stands for nothing, or a switch has more than 256 arms.
+pub fn witness(alloc: Global, p: &Program, fault: &FlowFault) -> Result<Option<Witness>, RowError>
+    ensures shows { IfOk result (λ r.
+        IfSome r (λ x. IsWitness (program_of p.now) (fault_of fault.now) (choices_of x.first)
+        (option_map choices_of x.second))) }
+    ensures fault { IfOk result (λ r. IfSome r (λ x. x.fault ≡ fault.now)) }
+    ensures none { IfOk result (λ r. r ≡ None →
+        HasWitness (program_of p.now) (fault_of fault.now) → ⊥) }
+    ensures first { IfOk result (λ r. r ≡ None → IsWellFormed (program_of p.now) →
+        IsFirstFault (program_of p.now) (fault_of fault.now) → ⊥) }
+{
+    match paths_for(alloc, p, fault)? {
+        None => Ok(None),
+        Some(found) => Ok(Some(Witness {
+            fault: *fault,
+            first: found.first,
+            second: found.second,
+        })),
+    }
+}

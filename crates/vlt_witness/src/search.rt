@@ -1,0 +1,530 @@
+//! The search: through each part of a body once, from every status at the head of a loop.
+
+ghost use Rattle.std.specs.Prelude.{◌≡◌, ◌+◌, [], IfOk, OnOk};
+ghost use Rattle.vlt_core.specs.Flow.{step, choose, loop, switch, scope, focus, return, jump};
+ghost use Rattle.vlt_witness.specs.declared.search.Jumps.{Jumps as JumpsSpec};
+ghost use Rattle.vlt_core.specs.HeldView.{toks_of};
+ghost use Rattle.vlt_rows.specs.FlowView.{flow_view, block_view, stmts_view, arm_view, arms_view, rows_view};
+ghost use Rattle.vlt_witness.specs.Parts.{SearchedForm, SearchedBlock, SearchedStmts, SearchedArm, SearchedArms, SearchedWay, IsLanded, IsTurned};
+
+use crate::aim::Aim;
+use crate::rows::{gone_rows, pass};
+use crate::seen::{JoinName, Seen, compose_seen, see_join};
+use crate::ways::{Way, chosen, close, compose, every, join};
+use std::alloc::Global;
+use vlt_base::Items;
+use vlt_core::{Pick, Row, Tok};
+use vlt_rows::{Flow, FlowArm, FlowBlock, FlowStmt, RowError};
+
+/// Ways that jump out of a part.
+#[derive(Drop)]
+pub struct Jumps {
+    pub breaks: Items<Way>,
+    pub continues: Items<Way>,
+}
+
+/// Ways that go on behind a part, and the number of the next row or join.
+#[derive(Drop)]
+pub struct Went {
+    pub next: Items<Way>,
+    pub number: usize,
+}
+
+/// The number behind so many rows and joins.
+fn behind(number: usize, count: usize) -> Result<usize, RowError>
+    ensures { IfOk result (λ n. n ≡ number + count) }
+{
+    match number.checked_add(count) {
+        Some(next) => Ok(next),
+        None => Err(RowError::Unfit),
+    }
+}
+
+pub fn no_jumps(alloc: Global) -> Jumps
+    ensures breaks { result.breaks ≡ [] }
+    ensures continues { result.continues ≡ [] }
+{
+    Jumps {
+        breaks: Items::new(alloc),
+        continues: Items::new(alloc),
+    }
+}
+
+#[cycle(search)]
+fn search_form(
+    alloc: Global,
+    aim: Aim,
+    form: &Flow,
+    at: u32,
+    number: usize,
+    ways: Items<Way>,
+    jumps: &mut Jumps,
+    met: &mut Items<Seen>,
+) -> Result<Went, RowError>
+    ensures { IfOk result (SearchedForm aim at number (flow_view form.now) ways jumps.old
+        jumps.new met.old met.new) }
+{
+    match form {
+        Flow::Step { rows } => search_step(alloc, aim, rows.as_slice(), at, number, ways, met),
+        Flow::If {
+            rows,
+            then_block,
+            else_block,
+        } => search_if(
+            alloc,
+            aim,
+            rows.as_slice(),
+            then_block,
+            else_block,
+            at,
+            number,
+            ways,
+            jumps,
+            met,
+        ),
+        Flow::While { rows, body } => {
+            search_while(alloc, aim, rows.as_slice(), body, at, number, ways, met)
+        }
+        Flow::Switch { rows, arms, end } => search_switch(
+            alloc,
+            aim,
+            rows.as_slice(),
+            arms.as_slice(),
+            *end,
+            at,
+            number,
+            ways,
+            jumps,
+            met,
+        ),
+        Flow::Scope { body } => search_block(alloc, aim, body, number, ways, jumps, met),
+        Flow::Focus { rows, body, after } => search_focus(
+            alloc,
+            aim,
+            rows.as_slice(),
+            body,
+            after.as_slice(),
+            at,
+            number,
+            ways,
+            met,
+        ),
+        Flow::Return { rows } => search_return(alloc, aim, rows.as_slice(), at, number, ways, met),
+        Flow::Jump { continues, left } => search_jump(
+            alloc,
+            aim,
+            *continues,
+            left.as_slice(),
+            at,
+            number,
+            ways,
+            jumps,
+            met,
+        ),
+    }
+}
+
+fn search_step(
+    alloc: Global,
+    aim: Aim,
+    rows: &[Row],
+    at: u32,
+    number: usize,
+    ways: Items<Way>,
+    met: &mut Items<Seen>,
+) -> Result<Went, RowError>
+    ensures { IfOk result (λ r. (j : JumpsSpec) →
+        SearchedForm aim at number (step (rows_view rows.now)) ways j j met.old met.new r) }
+{
+    let next = pass(alloc, aim, at, rows, ways, met)?;
+    Ok(Went {
+        next,
+        number: behind(number, rows.len())?,
+    })
+}
+
+/// Nothing comes behind a return.
+fn search_return(
+    alloc: Global,
+    aim: Aim,
+    rows: &[Row],
+    at: u32,
+    number: usize,
+    ways: Items<Way>,
+    met: &mut Items<Seen>,
+) -> Result<Went, RowError>
+    ensures { IfOk result (λ r. (j : JumpsSpec) →
+        SearchedForm aim at number (return (rows_view rows.now)) ways j j met.old met.new r) }
+{
+    let _ended = pass(alloc, aim, at, rows, ways, met)?;
+    Ok(Went {
+        next: Items::new(alloc),
+        number: behind(number, rows.len())?,
+    })
+}
+
+/// Puts ways to those of a jump.
+fn land(alloc: Global, jumps: &mut Jumps, continues: bool, ways: &[Way]) -> Result<(), RowError>
+    ensures { OnOk result (IsLanded continues ways.now jumps.old jumps.new) }
+{
+    if continues {
+        join(alloc, &mut jumps.continues, ways)?;
+        return Ok(());
+    }
+    join(alloc, &mut jumps.breaks, ways)?;
+    Ok(())
+}
+
+/// A jump, with the tokens of the scopes that it leaves.
+fn search_jump(
+    alloc: Global,
+    aim: Aim,
+    continues: bool,
+    left: &[Tok],
+    at: u32,
+    number: usize,
+    ways: Items<Way>,
+    jumps: &mut Jumps,
+    met: &mut Items<Seen>,
+) -> Result<Went, RowError>
+    ensures { IfOk result (SearchedForm aim at number (jump continues (toks_of left.now)) ways
+        jumps.old jumps.new met.old met.new) }
+{
+    let rows = gone_rows(alloc, left)?;
+    let gone = pass(alloc, aim, at, rows.as_slice(), ways, met)?;
+    land(alloc, jumps, continues, gone.as_slice())?;
+    Ok(Went {
+        next: Items::new(alloc),
+        number: behind(number, left.len())?,
+    })
+}
+
+/// An arm of an `if`, by its choice.
+#[cycle(search)]
+fn search_way(
+    alloc: Global,
+    aim: Aim,
+    pick: Pick,
+    block: &FlowBlock,
+    at: u32,
+    number: usize,
+    ways: &[Way],
+    jumps: &mut Jumps,
+    met: &mut Items<Seen>,
+) -> Result<Went, RowError>
+    ensures { IfOk result (SearchedWay aim at pick number (block_view block.now) ways.now
+        jumps.old jumps.new met.old met.new) }
+{
+    let picked = chosen(alloc, ways, at, pick)?;
+    search_block(alloc, aim, block, number, picked, jumps, met)
+}
+
+#[cycle(search)]
+fn search_if(
+    alloc: Global,
+    aim: Aim,
+    rows: &[Row],
+    then_block: &FlowBlock,
+    else_block: &FlowBlock,
+    at: u32,
+    number: usize,
+    ways: Items<Way>,
+    jumps: &mut Jumps,
+    met: &mut Items<Seen>,
+) -> Result<Went, RowError>
+    ensures { IfOk result (SearchedForm aim at number
+        (choose (rows_view rows.now) (block_view then_block.now) (block_view else_block.now)) ways
+        jumps.old jumps.new met.old met.new) }
+{
+    let passed = pass(alloc, aim, at, rows, ways, met)?;
+    let inside = behind(number, rows.len())?;
+    let a = search_way(
+        alloc,
+        aim,
+        Pick::Then,
+        then_block,
+        at,
+        inside,
+        passed.as_slice(),
+        jumps,
+        met,
+    )?;
+    let b = search_way(
+        alloc,
+        aim,
+        Pick::Else,
+        else_block,
+        at,
+        a.number,
+        passed.as_slice(),
+        jumps,
+        met,
+    )?;
+    let mut next = a.next;
+    join(alloc, &mut next, b.next.as_slice())?;
+    let here = JoinName {
+        is_head: false,
+        number: b.number,
+    };
+    see_join(alloc, aim, here, else_block.end, next.as_slice(), met)?;
+    Ok(Went {
+        next,
+        number: behind(b.number, 1)?,
+    })
+}
+
+/// What a turn of a loop leads to from each status at its head.
+#[derive(Drop)]
+pub struct Turned {
+    /// At the head again.
+    pub turn: Items<Way>,
+    /// Out of the loop.
+    pub leave: Items<Way>,
+    pub met: Items<Seen>,
+    pub number: usize,
+}
+
+#[cycle(search)]
+fn search_turn(
+    alloc: Global,
+    aim: Aim,
+    rows: &[Row],
+    body: &FlowBlock,
+    at: u32,
+    number: usize,
+) -> Result<Turned, RowError>
+    ensures { IfOk result (IsTurned aim at number (rows_view rows.now) (block_view body.now)) }
+{
+    let mut met = Items::new(alloc);
+    let heads = every(alloc)?;
+    let here = JoinName {
+        is_head: true,
+        number,
+    };
+    see_join(alloc, aim, here, at, heads.as_slice(), &mut met)?;
+    let passed = pass(alloc, aim, at, rows, heads, &mut met)?;
+    let mut inside = Jumps {
+        breaks: chosen(alloc, passed.as_slice(), at, Pick::Exit)?,
+        continues: Items::new(alloc),
+    };
+    let first = behind(behind(number, 1)?, rows.len())?;
+    let end = search_way(
+        alloc,
+        aim,
+        Pick::Turn,
+        body,
+        at,
+        first,
+        passed.as_slice(),
+        &mut inside,
+        &mut met,
+    )?;
+    let mut turn = end.next;
+    join(alloc, &mut turn, inside.continues.as_slice())?;
+    Ok(Turned {
+        turn,
+        leave: inside.breaks,
+        met,
+        number: end.number,
+    })
+}
+
+#[cycle(search)]
+fn search_while(
+    alloc: Global,
+    aim: Aim,
+    rows: &[Row],
+    body: &FlowBlock,
+    at: u32,
+    number: usize,
+    ways: Items<Way>,
+    met: &mut Items<Seen>,
+) -> Result<Went, RowError>
+    ensures { IfOk result (λ r. (j : JumpsSpec) →
+        SearchedForm aim at number (loop (rows_view rows.now) (block_view body.now)) ways j j
+        met.old met.new r) }
+{
+    let turned = search_turn(alloc, aim, rows, body, at, number)?;
+    let heads = close(alloc, ways.as_slice(), turned.turn.as_slice())?;
+    compose_seen(alloc, heads.as_slice(), turned.met.as_slice(), met)?;
+    let next = compose(alloc, heads.as_slice(), turned.leave.as_slice())?;
+    let here = JoinName {
+        is_head: false,
+        number: turned.number,
+    };
+    see_join(alloc, aim, here, body.end, next.as_slice(), met)?;
+    Ok(Went {
+        next,
+        number: behind(turned.number, 1)?,
+    })
+}
+
+#[cycle(search)]
+fn search_switch(
+    alloc: Global,
+    aim: Aim,
+    rows: &[Row],
+    arms: &[FlowArm],
+    end: u32,
+    at: u32,
+    number: usize,
+    ways: Items<Way>,
+    jumps: &mut Jumps,
+    met: &mut Items<Seen>,
+) -> Result<Went, RowError>
+    ensures { IfOk result (SearchedForm aim at number
+        (switch (rows_view rows.now) (arms_view arms.now) end) ways jumps.old jumps.new met.old
+        met.new) }
+{
+    let passed = pass(alloc, aim, at, rows, ways, met)?;
+    let inside = behind(number, rows.len())?;
+    let went = search_arms(alloc, aim, arms, at, inside, passed.as_slice(), jumps, met)?;
+    let here = JoinName {
+        is_head: false,
+        number: went.number,
+    };
+    see_join(alloc, aim, here, end, went.next.as_slice(), met)?;
+    Ok(Went {
+        next: went.next,
+        number: behind(went.number, 1)?,
+    })
+}
+
+/// The position of an arm in a choice.
+fn case_number(position: usize) -> Result<u8, RowError>
+    ensures { IfOk result (λ n. n ≡ position) }
+{
+    match u8::try_from(position) {
+        Ok(number) => Ok(number),
+        Err(_) => Err(RowError::Unfit),
+    }
+}
+
+/// The arm of this position.
+#[cycle(search)]
+fn search_arm(
+    alloc: Global,
+    aim: Aim,
+    position: u8,
+    arm: &FlowArm,
+    at: u32,
+    number: usize,
+    ways: &[Way],
+    jumps: &mut Jumps,
+    met: &mut Items<Seen>,
+) -> Result<Went, RowError>
+    ensures { IfOk result (SearchedArm aim at number position (arm_view arm.now).0
+        (arm_view arm.now).1 ways.now jumps.old jumps.new met.old met.new) }
+{
+    let picked = chosen(alloc, ways, at, Pick::Case(position))?;
+    let passed = pass(alloc, aim, at, arm.rows.as_slice(), picked, met)?;
+    let inside = behind(number, arm.rows.len())?;
+    search_block(alloc, aim, &arm.body, inside, passed, jumps, met)
+}
+
+#[cycle(search)]
+fn search_arms(
+    alloc: Global,
+    aim: Aim,
+    arms: &[FlowArm],
+    at: u32,
+    number: usize,
+    ways: &[Way],
+    jumps: &mut Jumps,
+    met: &mut Items<Seen>,
+) -> Result<Went, RowError>
+    ensures { IfOk result (SearchedArms aim at number 0 (arms_view arms.now) ways.now jumps.old
+        jumps.new met.old met.new) }
+{
+    let mut next = Items::new(alloc);
+    let mut spot = number;
+    for position in 0..arms.len() {
+        let case = case_number(position)?;
+        let end = search_arm(
+            alloc,
+            aim,
+            case,
+            &arms[position],
+            at,
+            spot,
+            ways,
+            jumps,
+            met,
+        )?;
+        join(alloc, &mut next, end.next.as_slice())?;
+        spot = end.number;
+    }
+    Ok(Went { next, number: spot })
+}
+
+#[cycle(search)]
+fn search_focus(
+    alloc: Global,
+    aim: Aim,
+    rows: &[Row],
+    body: &FlowBlock,
+    after: &[Row],
+    at: u32,
+    number: usize,
+    ways: Items<Way>,
+    met: &mut Items<Seen>,
+) -> Result<Went, RowError>
+    ensures { IfOk result (λ r. (j : JumpsSpec) →
+        SearchedForm aim at number (focus (rows_view rows.now) (block_view body.now)
+        (rows_view after.now)) ways j j met.old met.new r) }
+{
+    let passed = pass(alloc, aim, at, rows, ways, met)?;
+    let mut out = no_jumps(alloc);
+    let inside = behind(number, rows.len())?;
+    let end = search_block(alloc, aim, body, inside, passed, &mut out, met)?;
+    let next = pass(alloc, aim, body.end, after, end.next, met)?;
+    Ok(Went {
+        next,
+        number: behind(end.number, after.len())?,
+    })
+}
+
+#[cycle(search)]
+pub fn search_block(
+    alloc: Global,
+    aim: Aim,
+    block: &FlowBlock,
+    number: usize,
+    ways: Items<Way>,
+    jumps: &mut Jumps,
+    met: &mut Items<Seen>,
+) -> Result<Went, RowError>
+    ensures { IfOk result (SearchedBlock aim number (block_view block.now) ways jumps.old
+        jumps.new met.old met.new) }
+{
+    let end = search_list(alloc, aim, block.stmts.as_slice(), number, ways, jumps, met)?;
+    let rows = gone_rows(alloc, block.bound.as_slice())?;
+    let next = pass(alloc, aim, block.end, rows.as_slice(), end.next, met)?;
+    Ok(Went {
+        next,
+        number: behind(end.number, block.bound.len())?,
+    })
+}
+
+#[cycle(search)]
+fn search_list(
+    alloc: Global,
+    aim: Aim,
+    stmts: &[FlowStmt],
+    number: usize,
+    ways: Items<Way>,
+    jumps: &mut Jumps,
+    met: &mut Items<Seen>,
+) -> Result<Went, RowError>
+    ensures { IfOk result (SearchedStmts aim number (stmts_view stmts.now) ways jumps.old
+        jumps.new met.old met.new) }
+{
+    let mut next = ways;
+    let mut spot = number;
+    for s in stmts {
+        let went = search_form(alloc, aim, &s.flow, s.at, spot, next, jumps, met)?;
+        next = went.next;
+        spot = went.number;
+    }
+    Ok(Went { next, number: spot })
+}
