@@ -1,6 +1,6 @@
 //! What an answer says is done: objects of a case come back, states are set, new objects are made.
 //! Read `vlt_meaning/specs/Externals.antt` first, then `specs/Stated.antt`.
-//! Rests on it: `vlt_interp::Machine::go`.
+//! The machine of runs, `vlt_interp`, is going to rest on it.
 #![tactic(auto)]
 
 mod keys;
