@@ -13,13 +13,10 @@ use Rattle.vlt_core.specs.declared.held.FlowFault as code
 use Rattle.vlt_core.specs.declared.program.Program as core
 use Rattle.vlt_core.specs.declared.program.Func as funcs
 use Rattle.vlt_core.specs.declared.notes.Choice.{Choice}
-use Rattle.vlt_core.specs.declared.notes.Pick.{Pick}
-use Rattle.vlt_core.specs.declared.notes.Pick.TheVariants as pick
+use Rattle.vlt_core.specs.FaultView.{kind_of}
 use Rattle.vlt_check.specs.Checks.{fault_of}
 use Rattle.vlt_fit_laws.specs.Fit.{IsTextTree, ProgramsAreFit}
 use Rattle.vlt_reports.specs.Reports.{fault_line, paths_text}
-use Rattle.vlt_reports.specs.Seen.{kind_seen, pick_seen, choices_seen}
-use Rattle.vlt_witness.specs.Ways.{pick_of, choices_of}
 use Rattle.vlt_syntax.specs.Tree.{Tree}
 use Rattle.vlt_verdict.proofs.Single.{fit_program}
 use Rattle.vlt_verdict.specs.declared.verdict.Verdict as shown
@@ -31,33 +28,10 @@ use Rattle.vaultc_core.specs.Lines.{Reply, reply}
 use Rattle.vaultc_core.specs.Shown.{IsShowable}
 use Rattle.vaultc_core.specs.Verdicts.{check_reply, IsExplained}
 
--- ---- choices, as those who find them and those who tell them see them
-
-pick_same : (x : Pick) → pick_of x ≡ pick_seen x
-pick_same pick.Then = refl
-pick_same pick.Else = refl
-pick_same pick.Turn = refl
-pick_same pick.Exit = refl
-pick_same (pick.Case position) = refl
-
-choices_same : (cs : List Choice) → choices_of cs ≡ choices_seen cs
-choices_same [] = refl
-choices_same (c ∷ cs) = ap₂ (λ p rest. w.choice c.at p ∷ rest) (pick_same c.pick) (choices_same cs)
-
-second_same : (o : Option (List Choice)) → option_map choices_of o ≡ option_map choices_seen o
-second_same None = refl
-second_same (Some cs) = ap (λ x. Some x) (choices_same cs)
-
-pub witness_seen : (p : Program) (x : FlowFault) (first : List Choice) (second : Option (List Choice)) →
-    IsWitness p x (choices_of first) (option_map choices_of second) → IsWitness p x (choices_seen first) (option_map choices_seen second)
-witness_seen p x first second is =
-    subst (λ o. IsWitness p x (choices_seen first) o) (second_same second)
-    (subst (λ cs. IsWitness p x cs (option_map choices_of second)) (choices_same first) is)
-
 -- ---- faults
 
 -- a fault of this kind is told as it is seen
-pub kind_same : (x : code.FlowFault) (k : kinds.FaultKind) → kind_seen k ≡ (fault_of (record x { kind = k })).kind
+pub kind_same : (x : code.FlowFault) (k : kinds.FaultKind) → kind_of k ≡ (fault_of (record x { kind = k })).kind
 kind_same x (variant.Row found wanted) = refl
 kind_same x (variant.Join present) = refl
 

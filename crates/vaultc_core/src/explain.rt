@@ -6,8 +6,8 @@ ghost use Rattle.vlt_core.specs.Core.{Func};
 ghost use Rattle.vlt_core.specs.Faults.{IsFirstFault};
 ghost use Rattle.vlt_core.specs.View.{program_of};
 ghost use Rattle.vlt_core.specs.Witness.{IsWitness};
+ghost use Rattle.vlt_core.specs.FaultView.{choices_of};
 ghost use Rattle.vlt_check.specs.Checks.{IsWellFormed, fault_of};
-ghost use Rattle.vlt_reports.specs.Seen.{choices_seen};
 ghost use Rattle.vlt_verdict.specs.Verdicts as v;
 ghost use Rattle.vlt_verdict.specs.Seen.{IsFaultyFunction, IsSeenAs, IsTellable};
 ghost use Rattle.vaultc_core.specs.Verdicts.{IsExplained};
@@ -27,7 +27,7 @@ fn paths_of(alloc: Global, program: &Program, fault: &FlowFault) -> Result<Witne
     requires well_formed { IsWellFormed (program_of program.now) }
     requires first { IsFirstFault (program_of program.now) (fault_of fault.now) }
     ensures { IfOk result (λ x. IsWitness (program_of program.now) (fault_of fault.now)
-        (choices_seen x.first) (option_map choices_seen x.second)) }
+        (choices_of x.first) (option_map choices_of x.second)) }
 {
     match witness(alloc, program, fault) {
         Ok(Some(found)) => Ok(found),

@@ -9,7 +9,7 @@ use Rattle.vlt_core_laws.specs.Arms.{HasArmsStmts}
 use Rattle.vlt_core.specs.Faults as faults
 use Rattle.vlt_core.specs.View.{tok_of}
 use Rattle.vlt_core.specs.declared.held.FlowFault.{FlowFault}
-use Rattle.vlt_judge.specs.Blames.{kind_of}
+use Rattle.vlt_core.specs.FaultView.{kind_of}
 use Rattle.vlt_check.specs.declared.program.CheckError.{CheckError}
 use Rattle.vlt_check.specs.declared.program.CheckError.TheVariants.{Refused}
 

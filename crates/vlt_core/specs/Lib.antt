@@ -21,4 +21,5 @@ pub mod Faults
 pub mod Witness
 pub mod Widths
 pub mod HeldView
+pub mod FaultView
 pub mod LookupViews

@@ -3,8 +3,9 @@ use Rattle.std.proofs.Common.{◌≡◌, ◌<◌, ℕ, Option, Some, None, IfSom
 use Rattle.vlt_core.specs.Core.{Tok, a_key, a_var}
 use Rattle.vlt_core.specs.Faults.{Spot, IsNoLater, IsNoLaterTok, FaultKind}
 use Rattle.vlt_core.specs.View.{tok_of}
+use Rattle.vlt_core.specs.FaultView.{kind_of}
 use Rattle.vlt_judge.specs.declared.blame.Blame.{Blame}
-use Rattle.vlt_judge.specs.Blames.{kind_of, spot_of, NoLaterThan, IsEarlier, IsFirstOf}
+use Rattle.vlt_judge.specs.Blames.{spot_of, NoLaterThan, IsEarlier, IsFirstOf}
 
 -- ---- the order of spots and tokens
 

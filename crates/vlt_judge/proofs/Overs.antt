@@ -17,10 +17,11 @@ use Rattle.vlt_found.specs.Ones.{many_of}
 use Rattle.vlt_found.specs.Marks.{Marks, stock_of, at as table}
 use Rattle.vlt_core.specs.HeldView.{status_of}
 use Rattle.vlt_core.specs.declared.held.Status.TheVariants.{Absent}
+use Rattle.vlt_core.specs.FaultView.{kind_of}
 use Rattle.vlt_keyset.specs.Held.{Statuses, map_of, HasPlace}
 use Rattle.vlt_judge.specs.declared.blame.Blame.{Blame}
 use Rattle.vlt_judge.specs.declared.extent.Extent.{Extent}
-use Rattle.vlt_judge.specs.Blames.{kind_of, spot_of, NoLaterThan, IsEarlier, TellsUnwanted, TellsMixed, FirstOfBlock}
+use Rattle.vlt_judge.specs.Blames.{spot_of, NoLaterThan, IsEarlier, TellsUnwanted, TellsMixed, FirstOfBlock}
 use Rattle.vlt_judge.specs.Extents.{IsBeyond, AvoidsBlock, IsExtent}
 use Rattle.vlt_judge.specs.Judging.{HasRoom, FittingBlock}
 use Rattle.vlt_judge.specs.Overs.{IsTabled, IsFaulty, IsFirstOver, IsKeyBelow, IsVarBelow, IsWhole}

@@ -14,6 +14,7 @@ use Rattle.vlt_core.specs.Local.{Notes, IsLocalBlock, IsLocalIn}
 use Rattle.vlt_core.specs.Found.{One, one_absent, one_held, one_lent, one_full, Has}
 use Rattle.vlt_core.specs.Faults.{IsMixed, IsUnwanted, TellsRow, TellsJoin, HasFault, IsFirstIn, StandsFor}
 use Rattle.vlt_core.specs.View.{tok_of}
+use Rattle.vlt_core.specs.FaultView.{kind_of}
 use Rattle.vlt_flow_laws.specs.Faulted.{HasFaultBlock}
 use Rattle.vlt_flow_laws.specs.Shown.{IsFit, IsStart, IsOneKind, IsJust, IsReadOf}
 use Rattle.vlt_flow_laws.specs.Sweep.{In, Stock}
@@ -24,7 +25,7 @@ use Rattle.vlt_found.specs.Ones.{many_of}
 use Rattle.vlt_found.specs.Marks.{slot, stock_of}
 use Rattle.vlt_found.proofs.Bits.{no_bits}
 use Rattle.vlt_judge.specs.declared.blame.Blame.{Blame}
-use Rattle.vlt_judge.specs.Blames.{kind_of, spot_of, TellsUnwanted, TellsMixed}
+use Rattle.vlt_judge.specs.Blames.{spot_of, TellsUnwanted, TellsMixed}
 use Rattle.vlt_judge.specs.Faulty.{IsFitIn}
 use Rattle.vlt_judge.specs.Overs.{IsFirstOver}
 use Rattle.vlt_judge.proofs.Clean.{clean_unmixed, clean_block}

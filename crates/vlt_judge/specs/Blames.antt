@@ -4,21 +4,15 @@ use Rattle.vlt_core.specs.Core.{Tok}
 use Rattle.vlt_core.specs.Maps.{Row, Wanted, is_tok}
 use Rattle.vlt_core.specs.Flow.{Flow, Block, Stmts, Arms}
 use Rattle.vlt_core.specs.Found.{One, Ones, WantsOne}
-use Rattle.vlt_core.specs.Faults.{Spot, row_spot, If, RowAt, SpotAt, SpotAtBlock, SpotAtStmts, SpotAtArms, IsMixed, IsUnwanted, IsNoLater, FaultKind, at_row, at_join, present_of, TellsRow, TellsJoin}
+use Rattle.vlt_core.specs.Faults.{Spot, row_spot, If, RowAt, SpotAt, SpotAtBlock, SpotAtStmts, SpotAtArms, IsMixed, IsUnwanted, IsNoLater, FaultKind, present_of, TellsRow, TellsJoin}
 use Rattle.vlt_core.specs.View.{tok_of}
-use Rattle.vlt_core.specs.HeldView.{status_of, wanted_of}
-use Rattle.vlt_core.specs.declared.held.FaultKind.TheVariants as V
-use Rattle.vlt_core.specs.declared.held.FaultKind as D
+use Rattle.vlt_core.specs.FaultView.{kind_of}
 use Rattle.vlt_flow_laws.specs.Shown.{IsOneKind}
 use Rattle.vlt_judge.specs.declared.blame.Class.{Class}
 use Rattle.vlt_judge.specs.declared.blame.Class.TheVariants as class
 use Rattle.vlt_judge.specs.declared.blame.Blame.{Blame}
 
 -- ---- the code's blames as plain ones
-
-abbrev pub kind_of : D.FaultKind → FaultKind
-kind_of (V.Row found wanted) = at_row (status_of found) (wanted_of wanted)
-kind_of (V.Join present) = at_join (status_of present)
 
 abbrev pub class_of : Class → ℕ
 class_of class.Head = 0

@@ -7,12 +7,13 @@ use Rattle.vlt_core.specs.Flow.{Block, size_block}
 use Rattle.vlt_core.specs.Found.{Has}
 use Rattle.vlt_core.specs.Faults.{Spot, SpotAtBlock, IsMixed, IsUnwanted, spots_block}
 use Rattle.vlt_core.specs.View.{tok_of}
+use Rattle.vlt_core.specs.FaultView.{kind_of}
 use Rattle.vlt_flow_laws.specs.Sweep.{IsFoundIn}
 use Rattle.vlt_found.specs.Marks.{Marks, stock_of}
 use Rattle.vlt_keyset.specs.Held.{Statuses}
 use Rattle.vlt_judge.specs.declared.blame.Blame.{Blame}
 use Rattle.vlt_judge.specs.declared.extent.Extent.{Extent}
-use Rattle.vlt_judge.specs.Blames.{kind_of, spot_of, NoLaterThan, TellsUnwanted, TellsMixed}
+use Rattle.vlt_judge.specs.Blames.{spot_of, NoLaterThan, TellsUnwanted, TellsMixed}
 use Rattle.vlt_judge.specs.Extents.{IsBeyond, AvoidsBlock}
 
 -- tables of what is found of the token in the body

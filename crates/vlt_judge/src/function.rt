@@ -4,7 +4,7 @@ ghost use Rattle.std.specs.Prelude.{◌≡◌, IfOk, IfSome, IsNone};
 ghost use Rattle.vlt_core.specs.Faults.{HasFault, IsFirstIn};
 ghost use Rattle.vlt_core.specs.Local.{Notes, IsLocalIn};
 ghost use Rattle.vlt_core.specs.View.{program_of, func_of, tok_of};
-ghost use Rattle.vlt_judge.specs.Blames.{kind_of};
+ghost use Rattle.vlt_core.specs.FaultView.{kind_of};
 ghost use Rattle.vlt_judge.specs.Faulty.{IsFitIn};
 
 use crate::blame::Blame;

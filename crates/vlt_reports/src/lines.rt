@@ -3,8 +3,9 @@
 ghost use Rattle.std.specs.Prelude.{◌≡◌, ◌<◌, ◌^◌, ◌-◌, not, length, map, filter, IfOk};
 ghost use Rattle.vlt_base.specs.Place.{line_of, column_of};
 ghost use Rattle.vlt_core.specs.View.{program_of, func_of, tok_of};
+ghost use Rattle.vlt_core.specs.FaultView.{kind_of};
 ghost use Rattle.vlt_reports.specs.Reports.{place_text, kind_line, fault_text, fault_line, accepted_line};
-ghost use Rattle.vlt_reports.specs.Seen.{kind_seen, names_known};
+ghost use Rattle.vlt_reports.specs.Seen.{names_known};
 ghost use Rattle.vlt_reports.specs.Writing.{Adds};
 
 use crate::names::{state_names, token_name};
@@ -39,7 +40,7 @@ fn add_kind(
     kind: FaultKind,
 ) -> Result<(), AllocError>
     ensures { Adds result out.old.items out.new.items
-        (fault_text (names_known names.entry) (kind_seen kind)) }
+        (fault_text (names_known names.entry) (kind_of kind)) }
 {
     match kind {
         FaultKind::Row { found, wanted } => {
@@ -68,7 +69,7 @@ pub fn fault(
     requires { length text.now < 2 ^ 32 - 1 }
     ensures { IfOk result (λ v. v.items
         ≡ fault_line text.now (program_of p.now) (func_of f.now) at (tok_of token)
-        (kind_seen kind)) }
+        (kind_of kind)) }
 {
     let (line, column) = place_within(text, at);
     let mut out = format!(in alloc; "protocol {line}:{column} ")?.into_bytes();

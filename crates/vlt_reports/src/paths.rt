@@ -5,8 +5,9 @@ ghost use Rattle.std.specs.List.{flat_map};
 ghost use Rattle.std.specs.Option.{option_map, option_copied};
 ghost use Rattle.vlt_core.specs.Lookups.{variant_of};
 ghost use Rattle.vlt_core.specs.View.{program_of, func_of, case_of};
+ghost use Rattle.vlt_core.specs.FaultView.{pick_of, choice_of, choices_of};
 ghost use Rattle.vlt_reports.specs.Reports.{case_in, tick_text, pick_text, choice_text, path_line, paths_text};
-ghost use Rattle.vlt_reports.specs.Seen.{pick_seen, choice_seen, choices_seen, tick_seen};
+ghost use Rattle.vlt_reports.specs.Seen.{tick_seen};
 ghost use Rattle.vlt_reports.specs.Writing.{Adds};
 
 use crate::lines::place_within;
@@ -45,7 +46,7 @@ fn add_tick(out: &mut Vec<u8>, p: &Program, f: &Func, tick: Option<Tick>) -> Res
 /// Adds which way a path takes at a place.
 fn add_pick(out: &mut Vec<u8>, p: &Program, f: &Func, choice: Choice) -> Result<(), AllocError>
     ensures { Adds result out.old.items out.new.items
-        (pick_text (program_of p.now) (func_of f.now) choice.at (pick_seen choice.pick)) }
+        (pick_text (program_of p.now) (func_of f.now) choice.at (pick_of choice.pick)) }
 {
     match choice.pick {
         Pick::Then => add(out, b"then"),
@@ -72,7 +73,7 @@ fn add_choice(
 ) -> Result<(), AllocError>
     requires { length text.now < 2 ^ 32 - 1 }
     ensures { Adds result out.old.items out.new.items
-        (choice_text text.now (program_of p.now) (func_of f.now) (choice_seen choice)) }
+        (choice_text text.now (program_of p.now) (func_of f.now) (choice_of choice)) }
 {
     let (line, column) = place_within(text, choice.at);
     let place = format!(in alloc; " {line}:{column}=")?.into_bytes();
@@ -90,7 +91,7 @@ fn path(
 ) -> Result<Vec<u8>, AllocError>
     requires { length text.now < 2 ^ 32 - 1 }
     ensures { IfOk result (λ v. v.items
-        ≡ path_line text.now (program_of p.now) (func_of f.now) (choices_seen choices.now)) }
+        ≡ path_line text.now (program_of p.now) (func_of f.now) (choices_of choices.now)) }
 {
     let mut out = Vec::new(alloc);
     add(&mut out, b"path")?;
@@ -111,7 +112,7 @@ pub fn path_lines(
 ) -> Result<Vec<u8>, AllocError>
     requires { length text.now < 2 ^ 32 - 1 }
     ensures { IfOk result (λ v. v.items ≡ paths_text text.now (program_of p.now) (func_of f.now)
-        (choices_seen witness.now.first) (option_map choices_seen witness.now.second)) }
+        (choices_of witness.now.first) (option_map choices_of witness.now.second)) }
 {
     let mut out = path(alloc, text, p, f, witness.first.as_slice())?;
     if let Some(choices) = &witness.second {

@@ -8,6 +8,7 @@ use Rattle.vlt_core.specs.Faults.{Spot}
 use Rattle.vlt_core.specs.Witness.{Choice, only, RowMet, NoRow}
 use Rattle.vlt_core.specs.HeldView.{row_of}
 use Rattle.vlt_core.specs.declared.held.Row as D
+use Rattle.vlt_core.specs.FaultView.{choices_of}
 use Rattle.vlt_flow_laws.specs.Sweep.{Many, In, IsImage}
 use Rattle.vlt_flow_laws.proofs.Smooth.{smooth_image, smooth_images}
 use Rattle.vlt_found.specs.Ones.{many_of}
@@ -19,7 +20,7 @@ use Rattle.vlt_witness.specs.declared.aim.Goal.TheVariants as goal
 use Rattle.vlt_witness.specs.declared.seen.JoinName.{JoinName}
 use Rattle.vlt_witness.specs.declared.seen.Seen.{Seen}
 use Rattle.vlt_witness.specs.declared.ways.Way.{Way}
-use Rattle.vlt_witness.specs.Ways.{one_of, choices_of, Finds, nothing_found, IsWay, IsSeen, End, row_end, join_end, class_of, end_of_join}
+use Rattle.vlt_witness.specs.Ways.{one_of, Finds, nothing_found, IsWay, IsSeen, End, row_end, join_end, class_of, end_of_join}
 use Rattle.vlt_witness.specs.Search.{Led, Joined, Leads, Walks, Meets, Sees, Passes}
 use Rattle.vlt_witness.specs.Aims.{aim_tok, spot_of, row_aimed, join_aimed, rows_aimed, joins_aimed, JoinHere, RowsHere, HasNoRow}
 

@@ -14,6 +14,7 @@ use Rattle.vlt_core.specs.View.{tok_of}
 use Rattle.vlt_core.specs.HeldView.{wanted_of}
 use Rattle.vlt_core.specs.declared.held.Tok as D
 use Rattle.vlt_core.specs.declared.held.Wanted as DW
+use Rattle.vlt_core.specs.FaultView.{choices_of}
 use Rattle.vlt_flow_laws.specs.Sweep.{In}
 use Rattle.vlt_found.specs.declared.ones.Ones as DO
 use Rattle.vlt_found.specs.Ones.{many_of}
@@ -24,7 +25,7 @@ use Rattle.vlt_witness.specs.declared.aim.Goal.TheVariants as goal
 use Rattle.vlt_witness.specs.declared.seen.JoinName.{JoinName}
 use Rattle.vlt_witness.specs.declared.seen.Seen.{Seen}
 use Rattle.vlt_witness.specs.declared.ways.Way.{Way}
-use Rattle.vlt_witness.specs.Ways.{one_of, choices_of, Finds, IsWay, On, IsSeen, OnSeen, End, row_end, join_end, class_of, end_of_join}
+use Rattle.vlt_witness.specs.Ways.{one_of, Finds, IsWay, On, IsSeen, OnSeen, End, row_end, join_end, class_of, end_of_join}
 use Rattle.vlt_witness.specs.Search.{Led, Meets, Sees}
 use Rattle.vlt_witness.specs.Aims.{spot_of}
 use Rattle.vlt_witness.specs.Parts.{SeenInBlock}

@@ -2,11 +2,12 @@
 use Rattle.std.proofs.Common.{◌≡◌, ◌∙◌, ◌↔◌, ◌⊎◌, ◌++◌, ◌+◌, ◌<◌, ◌≤◌, ℕ, Bool, true, false, IsTrue, List, [], ◌∷◌, refl, sym, ap, subst, inl, inr, ⊎_elim, arith, rules}
 use Rattle.vlt_core.specs.Found.{One, one_absent, one_held, one_lent, one_full}
 use Rattle.vlt_core.specs.Witness.{Choice}
+use Rattle.vlt_core.specs.FaultView.{choices_of}
 use Rattle.vlt_flow_laws.specs.Sweep.{In}
 use Rattle.vlt_found.specs.Ones.{many_of}
 use Rattle.vlt_witness.specs.declared.seen.Seen.{Seen}
 use Rattle.vlt_witness.specs.declared.ways.Way.{Way}
-use Rattle.vlt_witness.specs.Ways.{one_of, choices_of, Finds, nothing_found, IsWay, IsSeen, End, end_of_join, IsSmall}
+use Rattle.vlt_witness.specs.Ways.{one_of, Finds, nothing_found, IsWay, IsSeen, End, end_of_join, IsSmall}
 use Rattle.vlt_witness.specs.Search.{Led, Spreads, Joined, Walks, Takes, By, CanBy, IsEvery}
 
 same_in : (x : Way) (m n : One) → In (many_of x.ones) m → m ≡ n → In (many_of x.ones) n

@@ -8,13 +8,14 @@ use Rattle.vlt_core.specs.Faults.{head_spot, spots, spots_block, spots_stmts, sp
 use Rattle.vlt_core.specs.Witness as w
 use Rattle.vlt_core.specs.Witness.{Choice, choice, case_arm, turn, exit, LeadsOn, Through, ThroughBlock, ThroughStmts, Met, MetHere, MetBlock, MetStmts}
 use Rattle.vlt_core.specs.declared.notes.Pick.{Pick}
+use Rattle.vlt_core.specs.FaultView.{pick_of}
 use Rattle.vlt_witness.specs.declared.aim.Aim.{Aim}
 use Rattle.vlt_witness.specs.declared.seen.Seen.{Seen}
 use Rattle.vlt_witness.specs.declared.ways.Way.{Way}
 use Rattle.vlt_witness.specs.declared.search.Jumps.{Jumps}
 use Rattle.vlt_witness.specs.declared.search.Went.{Went}
 use Rattle.vlt_witness.specs.declared.search.Turned.{Turned}
-use Rattle.vlt_witness.specs.Ways.{pick_of, On, OnSeen}
+use Rattle.vlt_witness.specs.Ways.{On, OnSeen}
 use Rattle.vlt_witness.specs.Search.{Joined, Leg, Leads, CanLead, Sight, Meets, CanMeet, IsTable, IsSearched}
 use Rattle.vlt_witness.specs.Aims.{aim_tok, rows_aimed, joins_aimed, JoinHere, RowsHere}
 

@@ -2,9 +2,6 @@
 use Rattle.std.specs.Prelude.{◌≡◌, ◌⊎◌, ◌<◌, ℕ, Bool, true, false, List, [], ◌∷◌, map, Option, None, Some}
 use Rattle.vlt_core.specs.Found.{One, one_absent, one_held, one_lent, one_full}
 use Rattle.vlt_core.specs.Witness as w
-use Rattle.vlt_core.specs.declared.notes.Pick.{Pick}
-use Rattle.vlt_core.specs.declared.notes.Pick.TheVariants as pick
-use Rattle.vlt_core.specs.declared.notes.Choice.{Choice}
 use Rattle.vlt_flow_laws.specs.Sweep.{In}
 use Rattle.vlt_found.specs.Ones.{many_of}
 use Rattle.vlt_witness.specs.declared.single.Single.{Single}
@@ -13,7 +10,7 @@ use Rattle.vlt_witness.specs.declared.ways.Way.{Way}
 use Rattle.vlt_witness.specs.declared.seen.JoinName.{JoinName}
 use Rattle.vlt_witness.specs.declared.seen.Seen.{Seen}
 
--- ---- the code's statuses and choices as plain ones
+-- ---- the code's statuses as plain ones
 
 abbrev pub one_of : Single → One
 one_of single.Absent = one_absent
@@ -26,19 +23,6 @@ abbrev pub IsSmall : One → Type 0
 IsSmall (one_held state) = state < 32
 IsSmall (one_lent state) = state < 32
 IsSmall _ = Unit {0}
-
-abbrev pub pick_of : Pick → w.Pick
-pick_of pick.Then = w.then_arm
-pick_of pick.Else = w.else_arm
-pick_of pick.Turn = w.turn
-pick_of pick.Exit = w.exit
-pick_of (pick.Case position) = w.case_arm position
-
-abbrev pub choice_of : Choice → w.Choice
-choice_of c = w.choice c.at (pick_of c.pick)
-
-abbrev pub choices_of : List Choice → List w.Choice
-choices_of = map choice_of
 
 -- ---- what is found
 

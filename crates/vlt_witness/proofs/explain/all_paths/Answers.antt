@@ -1,8 +1,8 @@
 use Rattle.std.proofs.Common.{◌≡◌, ◌∙◌, ◌++◌, ◌∷◌, [], refl, ap}
+use Rattle.vlt_core.specs.FaultView.{choices_of}
 use Rattle.vlt_rows.specs.FlowView.{block_view}
 use Rattle.vlt_witness.specs.declared.single.Single.TheVariants as single
 use Rattle.vlt_witness.specs.declared.ways.Way.{Way}
-use Rattle.vlt_witness.specs.Ways.{choices_of}
 use Rattle.vlt_witness.proofs.Showing.{paths_are}
 use Rattle.vlt_witness.proofs.explain.all_paths.Goals as goal
 

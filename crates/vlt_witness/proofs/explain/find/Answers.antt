@@ -1,5 +1,6 @@
 use Rattle.std.proofs.Common.{rules, ◌<◌, ◌≤◌, IsTrue, false, length, arith, ap, subst}
-use Rattle.vlt_witness.specs.Ways.{end_of_join, choices_of}
+use Rattle.vlt_core.specs.FaultView.{choices_of}
+use Rattle.vlt_witness.specs.Ways.{end_of_join}
 use Rattle.vlt_witness.proofs.Showing.{none_more, found_at, none_at_all}
 use Rattle.vlt_witness.proofs.explain.find.Goals as goal
 

@@ -1,6 +1,7 @@
 use Rattle.std.proofs.Common.{◌<◌, ◌≤◌, length, arith}
 use Rattle.std.specs.Option.{option_map}
-use Rattle.vlt_witness.specs.Ways.{OnSeen, choices_of}
+use Rattle.vlt_core.specs.FaultView.{choices_of}
+use Rattle.vlt_witness.specs.Ways.{OnSeen}
 use Rattle.vlt_witness.proofs.Showing.{no_pair_first, no_pair_more, no_pair_ends, pair_at}
 use Rattle.vlt_witness.proofs.explain.pair.Goals as goal
 

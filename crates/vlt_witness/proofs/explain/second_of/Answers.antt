@@ -1,5 +1,6 @@
 use Rattle.std.proofs.Common.{ap}
-use Rattle.vlt_witness.specs.Ways.{OnSeen, choices_of}
+use Rattle.vlt_core.specs.FaultView.{choices_of}
+use Rattle.vlt_witness.specs.Ways.{OnSeen}
 use Rattle.vlt_witness.proofs.Showing.{no_second, second_pair}
 use Rattle.vlt_witness.proofs.explain.second_of.Goals as goal
 

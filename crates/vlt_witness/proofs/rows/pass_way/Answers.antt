@@ -1,9 +1,10 @@
 use Rattle.std.proofs.Common.{◌≡◌, refl, ap}
 use Rattle.std.proofs.lemmas.Result.{on_ok_weaker}
 use Rattle.vlt_core.specs.View.{tok_of}
+use Rattle.vlt_core.specs.FaultView.{choices_of}
 use Rattle.vlt_rows.specs.FlowView.{rows_view}
 use Rattle.vlt_witness.specs.declared.ways.Way.{Way}
-use Rattle.vlt_witness.specs.Ways.{On, IsWay, choices_of}
+use Rattle.vlt_witness.specs.Ways.{On, IsWay}
 use Rattle.vlt_witness.specs.Search.{Passes}
 use Rattle.vlt_witness.proofs.Algebra.{walks_joined}
 use Rattle.vlt_witness.proofs.Rowing.{way_passes}

@@ -1,8 +1,9 @@
 use Rattle.std.proofs.Common.{rules, ◌≡◌, IsTrue, false, None, refl, ap, subst}
 use Rattle.std.proofs.lemmas.Result.{on_ok_weaker}
+use Rattle.vlt_core.specs.FaultView.{choices_of}
 use Rattle.vlt_rows.specs.FlowView.{rows_view}
 use Rattle.vlt_witness.specs.declared.seen.Seen.{Seen}
-use Rattle.vlt_witness.specs.Ways.{OnSeen, choices_of}
+use Rattle.vlt_witness.specs.Ways.{OnSeen}
 use Rattle.vlt_witness.proofs.Rowing.{way_met, way_unmet}
 use Rattle.vlt_witness.proofs.rows.see_rows.Goals as goal
 

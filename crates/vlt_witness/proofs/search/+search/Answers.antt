@@ -6,6 +6,7 @@ use Rattle.vlt_core.specs.Faults.{spots_block, spots_stmts, spots_arms}
 use Rattle.vlt_core.specs.Witness.{choice}
 use Rattle.vlt_core.specs.HeldView.{row_of, toks_of}
 use Rattle.vlt_core.specs.View.{tok_of}
+use Rattle.vlt_core.specs.FaultView.{pick_of}
 use Rattle.vlt_rows.specs.FlowView.{block_view, stmts_view, arm_view, arms_view, rows_view}
 use Rattle.vlt_rows.specs.declared.tree.FlowBlock.{out-FlowBlock}
 use Rattle.vlt_rows.specs.declared.tree.FlowArm.{out-FlowArm}
@@ -14,7 +15,7 @@ use Rattle.vlt_found.proofs.Sweeps.{split_at}
 use Rattle.vlt_witness.proofs.search.+search.Goals as goal
 use Rattle.vlt_witness.specs.declared.search.Jumps.{Jumps}
 use Rattle.vlt_witness.specs.declared.search.Went.{Went}
-use Rattle.vlt_witness.specs.Ways.{On, pick_of, nothing_found}
+use Rattle.vlt_witness.specs.Ways.{On, nothing_found}
 use Rattle.vlt_witness.specs.Search.{Joined, Spreads, By, CanBy}
 use Rattle.vlt_witness.specs.Parts.{SearchedForm, SearchedBlock, SearchedWay, SearchedArm}
 use Rattle.vlt_witness.proofs.Forms.{searched_choose, searched_block, searched_scope, searched_focus}

@@ -1,7 +1,8 @@
 use Rattle.std.proofs.Common.{rules, ◌≡◌, ◌++◌, IsTrue, false, refl, subst}
 use Rattle.std.proofs.lemmas.Result.{on_ok_weaker}
+use Rattle.vlt_core.specs.FaultView.{choices_of}
 use Rattle.vlt_witness.specs.declared.seen.Seen.{Seen}
-use Rattle.vlt_witness.specs.Ways.{OnSeen, choices_of}
+use Rattle.vlt_witness.specs.Ways.{OnSeen}
 use Rattle.vlt_witness.proofs.Steps.{extended_seen, skipped_seen}
 use Rattle.vlt_witness.proofs.seen.extend_by.Goals as goal
 

@@ -1,8 +1,9 @@
 use Rattle.std.proofs.Common.{rules, ◌≡◌, IsTrue, false, refl, ap, subst}
 use Rattle.std.proofs.lemmas.Result.{on_ok_weaker}
 use Rattle.vlt_witness.specs.declared.seen.Seen.{Seen}
-use Rattle.vlt_witness.specs.Ways.{OnSeen, choices_of}
+use Rattle.vlt_witness.specs.Ways.{OnSeen}
 use Rattle.std.specs.Prelude.{Some}
+use Rattle.vlt_core.specs.FaultView.{choices_of}
 use Rattle.vlt_witness.proofs.Rowing.{join_met, join_unmet}
 use Rattle.vlt_witness.proofs.seen.see_way.Goals as goal
 

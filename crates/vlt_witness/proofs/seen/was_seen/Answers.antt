@@ -1,5 +1,6 @@
 use Rattle.std.proofs.Common.{rules, ◌<◌, length, arith, ap, refl}
-use Rattle.vlt_witness.specs.Ways.{one_of, end_of_join, choices_of, IsSeen}
+use Rattle.vlt_core.specs.FaultView.{choices_of}
+use Rattle.vlt_witness.specs.Ways.{one_of, end_of_join, IsSeen}
 use Rattle.vlt_witness.proofs.Lists.{among_at}
 use Rattle.vlt_witness.proofs.seen.was_seen.Goals as goal
 

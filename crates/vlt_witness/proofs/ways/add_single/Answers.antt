@@ -1,7 +1,8 @@
 use Rattle.std.proofs.Common.{refl, ap}
 use Rattle.std.proofs.lemmas.Result.{on_ok_weaker}
+use Rattle.vlt_core.specs.FaultView.{choices_of}
 use Rattle.vlt_witness.specs.declared.ways.Way.{Way}
-use Rattle.vlt_witness.specs.Ways.{On, one_of, choices_of}
+use Rattle.vlt_witness.specs.Ways.{On, one_of}
 use Rattle.vlt_witness.proofs.Steps.{alone}
 use Rattle.vlt_witness.proofs.ways.add_single.Goals as goal
 

@@ -1,7 +1,8 @@
 use Rattle.std.proofs.Common.{◌<◌, ◌++◌, ◌∷◌, ◌≡◌, [], arith, length, refl}
 use Rattle.vlt_core.specs.Witness as w
+use Rattle.vlt_core.specs.FaultView.{pick_of, choices_of}
 use Rattle.vlt_witness.specs.declared.ways.Way.{Way}
-use Rattle.vlt_witness.specs.Ways.{On, IsWay, pick_of, choices_of, nothing_found}
+use Rattle.vlt_witness.specs.Ways.{On, IsWay, nothing_found}
 use Rattle.vlt_witness.specs.Search.{Leads, CanLead, Takes}
 use Rattle.vlt_witness.proofs.Algebra.{walks_joined}
 use Rattle.vlt_witness.proofs.Lists.{spreads_more}

@@ -1,6 +1,7 @@
 use Rattle.std.proofs.Common.{take}
 use Rattle.vlt_core.specs.Witness.{choice}
-use Rattle.vlt_witness.specs.Ways.{On, pick_of, nothing_found}
+use Rattle.vlt_core.specs.FaultView.{pick_of}
+use Rattle.vlt_witness.specs.Ways.{On, nothing_found}
 use Rattle.vlt_witness.specs.Search.{Walks, Takes}
 use Rattle.vlt_witness.proofs.ways.chosen.Given as goal
 

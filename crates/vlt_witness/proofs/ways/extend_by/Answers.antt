@@ -1,8 +1,9 @@
 use Rattle.std.proofs.Common.{rules, ◌≡◌, ◌++◌, IsTrue, false, [], refl, sym, subst}
 use Rattle.std.proofs.lemmas.List.{append-nil}
 use Rattle.std.proofs.lemmas.Result.{on_ok_weaker}
+use Rattle.vlt_core.specs.FaultView.{choices_of}
 use Rattle.vlt_witness.specs.declared.ways.Way.{Way}
-use Rattle.vlt_witness.specs.Ways.{On, choices_of}
+use Rattle.vlt_witness.specs.Ways.{On}
 use Rattle.vlt_witness.proofs.Steps.{extended_way, skipped_way}
 use Rattle.vlt_witness.proofs.ways.extend_by.Goals as goal
 

@@ -1,5 +1,6 @@
 use Rattle.std.proofs.Common.{◌<◌, inl, inr, ⊎_elim, arith, length}
-use Rattle.vlt_witness.specs.Ways.{one_of, choices_of, IsWay}
+use Rattle.vlt_core.specs.FaultView.{choices_of}
+use Rattle.vlt_witness.specs.Ways.{one_of, IsWay}
 use Rattle.vlt_witness.proofs.Lists.{among_at}
 use Rattle.vlt_witness.proofs.ways.fresh.Goals as goal
 
