@@ -3,8 +3,36 @@
 //! That a body is derived just where some annotation holds in it is a law of `vlt_flow_laws`.
 #![tactic(auto)]
 
+ghost use Rattle.std.specs.Prelude.{◌≡◌, IfOk, OnOk};
+ghost use Rattle.vlt_core.specs.View.{program_of};
+ghost use Rattle.vlt_core.specs.Derives.{IsAccepted};
+ghost use Rattle.vlt_core.specs.Faults.{IsFirstFault, FlowFault};
+ghost use Rattle.vlt_check.specs.Checks.{OnRefused, IsChecked, HasRefused, IsWellFormed, fault_of};
+
 mod laws;
 mod program;
 
 pub use laws::accepted_has_no_fault;
-pub use program::{CheckError, check};
+pub use program::CheckError;
+use program::check_funcs;
+use std::alloc::Global;
+use vlt_base::Items;
+use vlt_core::Program;
+use vlt_flow::Kept;
+
+/// The least maps of each function with a body, in the order of the text; `Refused` where the rules on keys are broken,
+/// with the first fault.
+pub fn check(alloc: Global, p: &Program) -> Result<Items<Option<Kept>>, CheckError>
+    ensures checked { IfOk result (IsChecked (program_of p.now)) }
+    ensures accepted { OnOk result (IsWellFormed (program_of p.now) →
+        IsAccepted (program_of p.now)) }
+    ensures refused { OnRefused result (λ x. HasRefused (program_of p.now) (fault_of x).function) }
+    ensures first { OnRefused result (λ x.
+        IsWellFormed (program_of p.now) → IsFirstFault (program_of p.now) (fault_of x)) }
+    ensures only { OnRefused result (λ x.
+        IsWellFormed (program_of p.now) → (y : FlowFault) → IsFirstFault (program_of p.now) y → y ≡ fault_of x) }
+    ensures not_accepted { OnRefused result (λ x.
+        IsWellFormed (program_of p.now) → IsAccepted (program_of p.now) → ⊥) }
+{
+    check_funcs(alloc, p)
+}

@@ -1,9 +1,8 @@
 //! Functions, one after another.
 
-ghost use Rattle.std.specs.Prelude.{◌≡◌, IfOk, OnOk};
+ghost use Rattle.std.specs.Prelude.{◌≡◌, IfOk};
 ghost use Rattle.vlt_core.specs.View.{program_of, func_of};
-ghost use Rattle.vlt_core.specs.Derives.{IsAccepted};
-ghost use Rattle.vlt_core.specs.Faults.{IsFirstFault, FlowFault as PlainFault};
+ghost use Rattle.vlt_core.specs.Faults.{IsFirstFault};
 ghost use Rattle.vlt_check.specs.Checks.{OnRefused, IsChecked, IsLeastOf, HasRefused, IsRefusedIn, IsWellFormed, fault_of};
 ghost use Rattle.vlt_check.specs.Tellings.{IsTold};
 ghost use Rattle.vlt_check.specs.declared.program.CheckError.TheVariants.{Memory, Refused};
@@ -70,7 +69,8 @@ fn check_func(alloc: Global, p: &Program, f: &Func, fn_id: FnId) -> Result<Optio
     }
 }
 
-fn check_funcs(alloc: Global, p: &Program) -> Result<Items<Option<Kept>>, CheckError>
+/// The least maps of the functions, one after another.
+pub fn check_funcs(alloc: Global, p: &Program) -> Result<Items<Option<Kept>>, CheckError>
     ensures ok { IfOk result (IsChecked (program_of p.now)) }
     ensures refused { OnRefused result (λ x. HasRefused (program_of p.now) (fault_of x).function) }
     ensures first { OnRefused result (λ x.
@@ -89,21 +89,4 @@ fn check_funcs(alloc: Global, p: &Program) -> Result<Items<Option<Kept>>, CheckE
         }
     }
     Ok(all)
-}
-
-/// The least maps of each function with a body, in the order of the text; `Refused` where the rules on keys are broken,
-/// with the first fault.
-pub fn check(alloc: Global, p: &Program) -> Result<Items<Option<Kept>>, CheckError>
-    ensures checked { IfOk result (IsChecked (program_of p.now)) }
-    ensures accepted { OnOk result (IsWellFormed (program_of p.now) →
-        IsAccepted (program_of p.now)) }
-    ensures refused { OnRefused result (λ x. HasRefused (program_of p.now) (fault_of x).function) }
-    ensures first { OnRefused result (λ x.
-        IsWellFormed (program_of p.now) → IsFirstFault (program_of p.now) (fault_of x)) }
-    ensures only { OnRefused result (λ x.
-        IsWellFormed (program_of p.now) → (y : PlainFault) → IsFirstFault (program_of p.now) y → y ≡ fault_of x) }
-    ensures not_accepted { OnRefused result (λ x.
-        IsWellFormed (program_of p.now) → IsAccepted (program_of p.now) → ⊥) }
-{
-    check_funcs(alloc, p)
 }

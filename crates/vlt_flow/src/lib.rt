@@ -3,9 +3,13 @@
 //! The check rests on it.
 #![tactic(auto)]
 
+ghost use Rattle.std.specs.Prelude.{IfOk};
+ghost use Rattle.vlt_core.specs.View.{program_of, func_of};
+ghost use Rattle.vlt_core.specs.Local.{Notes, IsLocalIn};
+ghost use Rattle.vlt_flow.specs.Walks.{OnRefused, IsLeastIn};
+
 mod count;
 mod errors;
-mod function;
 mod kept;
 mod least;
 mod pass;
@@ -13,7 +17,20 @@ mod start;
 mod walking;
 
 pub use errors::Stop;
-pub use function::walk;
 pub use kept::Kept;
 pub use least::least_maps;
 pub use start::start_map_of;
+use std::alloc::Global;
+use vlt_core::{Func, Program};
+use vlt_rows::body_flow;
+
+/// The least maps of a function's body, by statement; `Refused` where no annotation holds in it.
+pub fn walk(alloc: Global, p: &Program, f: &Func) -> Result<Kept, Stop>
+    ensures ok { IfOk result (IsLeastIn (program_of p.now) (func_of f.now)) }
+    ensures refused { OnRefused result ((a : Notes) →
+        IsLocalIn (program_of p.now) (func_of f.now) a → ⊥) }
+{
+    let flow = body_flow(alloc, p, f)?;
+    let start = start_map_of(alloc, p, f)?;
+    least_maps(alloc, start, &flow)
+}

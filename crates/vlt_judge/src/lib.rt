@@ -3,9 +3,15 @@
 //! The check rests on it: a refusal tells this fault, and a body without one isn't refused.
 #![tactic(auto)]
 
+ghost use Rattle.std.specs.Prelude.{◌≡◌, IfOk, IfSome, IsNone};
+ghost use Rattle.vlt_core.specs.Faults.{HasFault, IsFirstIn};
+ghost use Rattle.vlt_core.specs.Local.{Notes, IsLocalIn};
+ghost use Rattle.vlt_core.specs.View.{program_of, func_of, tok_of};
+ghost use Rattle.vlt_core.specs.FaultView.{kind_of};
+ghost use Rattle.vlt_judge.specs.Faulty.{IsFitIn};
+
 mod blame;
 mod extent;
-mod function;
 mod judging;
 mod rows;
 mod telling;
@@ -13,4 +19,50 @@ mod telling;
 mod tests;
 mod tokens;
 
-pub use function::fault_in;
+use crate::blame::Blame;
+use crate::tokens::judge;
+use std::alloc::Global;
+use vlt_base::{FnId, Memory};
+use vlt_core::{FlowFault, Func, Program};
+use vlt_flow::start_map_of;
+use vlt_rows::body_flow;
+
+fn fault_of(fn_id: FnId, blame: Blame) -> FlowFault
+    ensures function { result.fn_id ≡ fn_id }
+    ensures at { result.at ≡ blame.at }
+    ensures tok { result.tok ≡ blame.tok }
+    ensures kind { result.kind ≡ blame.kind }
+{
+    FlowFault {
+        fn_id,
+        at: blame.at,
+        tok: blame.tok,
+        kind: blame.kind,
+    }
+}
+
+/// The first fault of a function's body, if it has one. It has one where no annotation holds in it.
+pub fn fault_in(
+    alloc: Global,
+    p: &Program,
+    f: &Func,
+    fn_id: FnId,
+) -> Result<Option<FlowFault>, Memory>
+    ensures first { IfOk result (λ x. IfSome x
+        (λ y. IsFitIn (program_of p.now) (func_of f.now) →
+        IsFirstIn (program_of p.now) (func_of f.now) y.at (tok_of y.tok) (kind_of y.kind))) }
+    ensures function { IfOk result (λ x. IfSome x (λ y. y.fn_id ≡ fn_id)) }
+    ensures none { IfOk result (λ x. IsNone x →
+        HasFault (program_of p.now) (func_of f.now) → ⊥) }
+    ensures always { IfOk result (λ x. IsNone x → IsFitIn (program_of p.now) (func_of f.now) →
+        ((a : Notes) → IsLocalIn (program_of p.now) (func_of f.now) a → ⊥) → ⊥) }
+{
+    let Ok(flow) = body_flow(alloc, p, f) else {
+        return Err(Memory);
+    };
+    let start = start_map_of(alloc, p, f)?;
+    match judge(alloc, &flow, &start)? {
+        None => Ok(None),
+        Some(blame) => Ok(Some(fault_of(fn_id, blame))),
+    }
+}

@@ -1,4 +1,4 @@
-use crate::annotation::annotate_block;
+use crate::annotate_block;
 use std::alloc::{AllocError, Global};
 use std::test::Fail;
 use vlt_base::{Items, KeyId, StateSet};

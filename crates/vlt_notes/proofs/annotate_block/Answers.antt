@@ -1,7 +1,7 @@
 use Rattle.std.proofs.Common.{arith, refl}
 use Rattle.vlt_notes.proofs.Noting.{noted_all}
 use Rattle.vlt_notes.proofs.Reading.{refused_on}
-use Rattle.vlt_notes.proofs.annotation.annotate_block.Goals as goal
+use Rattle.vlt_notes.proofs.annotate_block.Goals as goal
 
 pub note_block-requires : goal.note_block-requires
 note_block-requires c =

@@ -2,7 +2,7 @@ use Rattle.vlt_core.specs.View.{program_of}
 use Rattle.vlt_fault_laws.proofs.One.{one_fault}
 use Rattle.vlt_check.specs.Checks.{fault_of}
 use Rattle.vlt_check.proofs.Listed.{on_ok, checked_accepted, refused_rejected}
-use Rattle.vlt_check.proofs.program.check.Goals as goal
+use Rattle.vlt_check.proofs.check.Goals as goal
 
 pub returns-clause-accepted : goal.returns-clause-accepted
 returns-clause-accepted c = on_ok _ (λ all q. checked_accepted (program_of c.args.p.now) all q) c.check_funcs.ensures.ok

@@ -1,6 +1,6 @@
 use Rattle.vlt_core.specs.View.{program_of, func_of}
 use Rattle.vlt_judge.proofs.Whole.{first_in, none_in, always_in}
-use Rattle.vlt_judge.proofs.function.fault_in.Goals as goal
+use Rattle.vlt_judge.proofs.fault_in.Goals as goal
 
 pub returns-clause-first : goal.returns-clause-first
 returns-clause-first c =

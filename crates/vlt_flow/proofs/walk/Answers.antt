@@ -3,7 +3,7 @@ use Rattle.vlt_core.specs.View.{program_of, func_of}
 use Rattle.vlt_flow.specs.declared.errors.Stop.{Stop}
 use Rattle.vlt_flow.proofs.Passing.{refused_through}
 use Rattle.vlt_flow.proofs.Starting.{least_in, none_in}
-use Rattle.vlt_flow.proofs.function.walk.Goals as goal
+use Rattle.vlt_flow.proofs.walk.Goals as goal
 
 pub returns-clause-ok : goal.returns-clause-ok
 returns-clause-ok c = IfOk-weaker {Y = Stop} _ _ _ (λ k q. least_in (program_of c.args.p.now) (func_of c.args.f.now) _ _ k c.in_ok-flow.ensures c.in_ok-start.ensures q) c.least_maps.ensures.ok
