@@ -1,0 +1,94 @@
+-- Where a part of a move comes to, from where its step comes to.
+use Rattle.std.proofs.Common.{◌≡◌, ◌⊎◌, ⊎_elim, inl, inr, ◌≤◌, ℕ, Bool, true, false, List, [], ◌∷◌, ◌++◌, Option, Some, None, Result, Ok, Err, refl, sym, ap, ◌∙◌, subst, arith, reverse, ℤ}
+use Rattle.std.proofs.lemmas.Option.{none-some}
+use Rattle.vlt_core.specs.Core.{Func}
+use Rattle.vlt_ops.specs.declared.TrapKind.{TrapKind}
+use Rattle.vlt_meaning.specs.World.{World, Frame, Outcome, trap, is_fault}
+use Rattle.vlt_meaning.specs.Found.{Found}
+use Rattle.vlt_meaning.specs.Step.{Step, goes, jumps, leaves, ends}
+use Rattle.vlt_machine.specs.Machine as m
+use Rattle.vlt_machine.specs.Machine.{Conf, at, when_found}
+use Rattle.vlt_machine.specs.Bounds.{IsAt}
+use Rattle.vlt_values.specs.Shown.{IsNumber}
+use Rattle.vlt_values.proofs.Numbers.{Faulty, number_is, trap_is}
+use Rattle.vlt_hosts.specs.declared.halt.Halt.{Halt}
+use Rattle.vlt_hosts.specs.declared.halt.Halt.TheVariants as host
+use Rattle.vlt_hosts.specs.Hosts.{Outside, Wrote, Went, Ended, Cut, Comes}
+use Rattle.vlt_hosts.specs.Hosts as hosts
+use Rattle.vlt_hosts.proofs.Writing.{silent}
+use Rattle.vlt_tasks.specs.declared.stop.Stop.{Stop}
+use Rattle.vlt_tasks.specs.declared.stop.Stop.TheVariants.{Trap}
+use Rattle.vlt_tasks.specs.declared.task.Task.{Task}
+use Rattle.vlt_tasks.specs.declared.task.Run.{Run}
+use Rattle.vlt_tasks.specs.Halting.{outcome_of, stop_for, halted}
+use Rattle.vlt_tasks.specs.Shown.{tasks_left, ShowsWith, ShowsConf}
+use Rattle.vlt_tasks.specs.Moves.{world_in, GoneOn, IsCut, HasStopped, CameTo}
+use Rattle.vlt_tasks.proofs.Staying.{IsSameRun, ShowsThen, going, stays}
+
+-- where a configuration is come to
+abbrev pub Came : World → (before after : Outside) → Option Stop → Run → Conf → Type 0
+Came w before after result r c = CameTo w before after result r c c.step
+
+-- where the run goes wrong, any answer will do
+pub wrong_came : (w : World) (before after : Outside) (result : Option Stop) (r : Run) (c : Conf) (o : Outcome) (v : World) → is_fault o ≡ true → CameTo w before after result r c (ends o v)
+wrong_came w before after None r c o v e = e
+wrong_came w before after (Some stop) r c o v e = inl e
+
+-- ---- statements that speak with the host
+
+stop_outcome : (h : Halt) (o : Outcome) → hosts.outcome_of h ≡ Some o → outcome_of (stop_for h) ≡ Some o
+stop_outcome (host.Trapped t) o e = e
+stop_outcome host.HeapEnd o e = e
+stop_outcome host.InputEnd o e = e
+stop_outcome host.AnswersEnd o e = e
+stop_outcome (host.BadAnswer n) o e = e
+stop_outcome host.SinkFault o e = absurd (none-some o e)
+
+pub cut_is : (w v : World) (before after : Outside) (h : Halt) → Cut before after h w v → IsCut w before after (stop_for h) v
+cut_is w v before after h c = record { fault = ap stop_for c.fault; events = c.events; added = c.added; grew = c.grew; rose = c.rose; counted = c.counted }
+
+module _ (old new : Run) (f : Func) (ts : List m.Task) (frame : Frame) (w : World) (before after : Outside) (q : ShowsConf old (at f ts (goes frame w))) (same : IsSameRun old new) where
+  -- it goes on where the tables show it
+  pub went : (next : Frame) (v : World) → ShowsThen q.items new next frame.depth v → Wrote w v before after → GoneOn w before after new (at f ts (goes next v)) v
+  went next v h wrote = record {
+    shown = subst (λ l. ShowsWith l new (at f ts (goes next v))) (sym (ap (λ t. reverse t.items) same.tasks)) (stays old new (tasks_left old) f ts frame w next v same q h);
+    wrote = wrote;
+  }
+
+  -- what the host's part comes to
+  pub spoken_came : (r : Result (Unit {0}) Halt) (a : Step) → w.fuel ≡ new.fuel → IsAt frame.depth a → Comes q.items new.heap new.values new.host before after r w a → CameTo w before after (halted r) new (at f ts a) a
+  spoken_came (Ok u) (goes next v) fuel d c = went next v (record { tables = c.shows; depth = d; hosts = c.hosts; fuel = c.fuel ∙ fuel }) c.wrote
+  spoken_came (Ok u) (ends o v) fuel d c = c
+  spoken_came (Ok u) (jumps b next v) fuel d c = absurd c
+  spoken_came (Ok u) (leaves b kept v) fuel d c = absurd c
+  spoken_came (Err h) (goes next v) fuel d c = cut_is w v before after h c
+  spoken_came (Err h) (ends o v) fuel d c =
+      ⊎_elim (λ e. inl e) (λ c. inr (⊎_elim (λ e. inl (record { outcome = stop_outcome h o e.outcome; fuel = e.fuel ∙ fuel; wrote = e.wrote })) (λ k. inr (cut_is w v before after h k)) c)) c
+  spoken_came (Err h) (jumps b next v) fuel d c = absurd c
+  spoken_came (Err h) (leaves b kept v) fuel d c = absurd c
+
+-- ---- expressions that may trap
+
+module _ (w : World) (b : Outside) (new : Run) (f : Func) (ts : List m.Task) where
+  -- a trap ends the run
+  pub trap_came : (t : TrapKind) (c : Conf) → w.fuel ≡ new.fuel → CameTo w b b (Some (Trap t)) new c (ends (trap t) w)
+  trap_came t c fuel = inr (inl (record { outcome = refl; fuel = fuel; wrote = silent w w b refl }))
+
+  -- where what is wanted isn't found the run goes wrong
+  pub missing_came : {A : Type 0} (result : Option Stop) (x : Found A) (go : A → Conf) → Faulty x → Came w b b result new (when_found x f ts w go)
+  unfolding when_found
+  missing_came result x go k = subst (λ y. Came w b b result new (when_found y f ts w go)) (sym k.is) (wrong_came w b b result new (at f ts (ends k.outcome w)) k.outcome w k.fault)
+
+  pub found_came : {A : Type 0} (result : Option Stop) (x : Found A) (a : A) (go : A → Conf) → x ≡ Ok a → Came w b b result new (go a) → Came w b b result new (when_found x f ts w go)
+  unfolding when_found
+  found_came result x a go e h = subst (λ y. Came w b b result new (when_found y f ts w go)) (sym e) h
+
+  -- a number is found
+  pub number_came : (z : ℤ) (result : Option Stop) (x : Found ℤ) (go : ℤ → Conf) → IsNumber (Ok z) x → Came w b b result new (go z) → Came w b b result new (when_found x f ts w go)
+  number_came z result x go e h = ⊎_elim (λ k. found_came result x z go k h) (λ k. missing_came result x go k) (number_is (Ok z) x z e refl)
+
+  -- the expression traps
+  pub trapped_came : (t : TrapKind) (x : Found ℤ) (go : ℤ → Conf) → w.fuel ≡ new.fuel → IsNumber (Err t) x → Came w b b (Some (Trap t)) new (when_found x f ts w go)
+  unfolding when_found
+  trapped_came t x go fuel e =
+      ⊎_elim (λ k. subst (λ y. Came w b b (Some (Trap t)) new (when_found y f ts w go)) (sym k) (trap_came t (at f ts (ends (trap t) w)) fuel)) (λ k. missing_came (Some (Trap t)) x go k) (trap_is (Err t) x t e refl)

@@ -1,0 +1,5 @@
+pub mod Sizes
+pub mod Own
+pub mod Halting
+pub mod Shown
+pub mod Moves
