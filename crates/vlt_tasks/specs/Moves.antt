@@ -19,7 +19,7 @@ use Rattle.vlt_tasks.specs.declared.task.Task.{Task}
 use Rattle.vlt_tasks.specs.declared.task.Rules.{Rules}
 use Rattle.vlt_tasks.specs.declared.task.Run.{Run}
 use Rattle.vlt_tasks.specs.Sizes.{IsWide, frame_slots, line_length}
-use Rattle.vlt_tasks.specs.Own.{HasOwn, IsOf}
+use Rattle.vlt_tasks.specs.Own.{IsOwn, HasOwn, IsOf}
 use Rattle.vlt_tasks.specs.Halting.{outcome_of}
 use Rattle.vlt_tasks.specs.Shown.{setup_of, tasks_left, ShowsWith, ShowsConf}
 
@@ -43,9 +43,6 @@ pub record IsReady (p : Program) (depth : ℕ) (r : Run) : Type 0 where
   pub func : IsOf p (func_of r.func.now)
   pub tasks : length r.tasks.items ≤ depth * (tall_of p + 1)
   pub values : length r.values.slots.items ≤ depth * frame_slots p r.values.width
-
-abbrev pub IsReadyFor : Rules → Run → Type 0
-IsReadyFor rules r = IsReady (program_of rules.program.now) rules.depth r
 
 -- what each move keeps: the heap's size, the width of values, and room
 pub record Keeps (old new : Run) : Type 0 where
@@ -121,8 +118,16 @@ pub record GoesRight (part : Part) (s : Setup) (r : Run) : Type 0 where
   pub shown : ShowsConf r (at func tasks (goes frame world))
   pub right : IsRight (part s func tasks frame world).step
 
-abbrev pub GoesRightFor : Part → Rules → Run → Type 0
-GoesRightFor part rules r = GoesRight part (setup_of rules (heap_of r.heap)) r
+-- what a statement asks
+pub record CanDo (form : Form) (rules : Rules) (r : Run) : Type 0 where
+  pub ready : IsReady (program_of rules.program.now) rules.depth r
+  pub own : IsOwn (program_of rules.program.now) (func_of r.func.now) form
+  pub right : GoesRight (doing form) (setup_of rules (heap_of r.heap)) r
+
+-- what it asks where it doesn't see the rules
+pub record MayDo (form : Form) (r : Run) : Type 0 where
+  pub rules : Rules
+  pub can : CanDo form rules r
 
 -- the part is done, from whatever configuration the run showed
 pub record Does (part : Part) (s : Setup) (old new : Run) (before after : Outside) (result : Option Stop) : Type 0 where
@@ -137,10 +142,11 @@ DoesFor part rules old new before after result =
 -- ---- tasks that were taken
 
 -- with the task in front some configuration is shown whose move doesn't go wrong
-pub record IsRightTask (t : Task) (s : Setup) (r : Run) : Type 0 where
+pub record IsRightTask (t : Task) (r : Run) : Type 0 where
+  pub setup : Setup
   pub conf : Conf
   pub shown : ShowsWith (t ∷ tasks_left r) r conf
-  pub right : IsRight (moved s conf).step
+  pub right : IsRight (moved setup conf).step
 
 -- the task is done, from whatever configuration the run showed with it in front
 pub record DoesTask (t : Task) (s : Setup) (old new : Run) (before after : Outside) (result : Option Stop) : Type 0 where

@@ -1,7 +1,7 @@
--- Numbers that statements of a function name: variables and keys of the function. Programs that break no rule on names and types
--- have only such statements; asked are those that no test of a run finds.
+-- Statements that fill and name variables and keys of their own function alone, as those of programs that break no rule on names
+-- and types do.
 use Rattle.std.specs.Prelude.{◌≡◌, ◌<◌, ◌≤◌, ◌^◌, ℕ, List, [], ◌∷◌, length, Option, Some, slice_get, IfSome}
-use Rattle.vlt_core.specs.Core.{Simple, set, input, own, open_into, adopt, Form, simple, call, choose, loop, switch, focus, scope, return, jump, Block, block, Stmts, done, next, Arms, no_arms, arm, Func, Program}
+use Rattle.vlt_core.specs.Core.{Simple, set, input, make, drop, own, unpack, build, swap, open_into, adopt, Form, simple, call, choose, loop, switch, focus, scope, return, jump, Block, block, Stmts, done, next, Arms, no_arms, arm, Func, Program}
 use Rattle.vlt_core.specs.Lookups.{Reference, reference_of}
 
 abbrev pub IsVar : Func → (v : ℕ) → Type 0
@@ -14,11 +14,16 @@ AreVars f (v ∷ vs) = IsVar f v × AreVars f vs
 abbrev pub IsKey : Func → (k : ℕ) → Type 0
 IsKey f k = k < length f.keys
 
--- the variables that are set
+-- the variables that it fills or empties
 abbrev pub IsOwnSimple : Func → Simple → Type 0
 IsOwnSimple f (set v e) = IsVar f v
 IsOwnSimple f (input v more) = IsVar f v
+IsOwnSimple f (make x args) = IsVar f x
+IsOwnSimple f (drop v) = IsVar f v
 IsOwnSimple f (own v o) = IsVar f v
+IsOwnSimple f (unpack x v) = IsVar f x
+IsOwnSimple f (build v c args) = IsVar f v
+IsOwnSimple f (swap x i v) = IsVar f v
 IsOwnSimple f (open_into x vs) = AreVars f vs
 IsOwnSimple f (adopt y x r) = IsVar f y
 IsOwnSimple f s = Unit {0}
@@ -34,8 +39,8 @@ abbrev mutual
   IsOwn p f (call g target keys args) = IsOwnCall p f g target keys
   IsOwn p f (choose e a b) = IsOwnBlock p f a × IsOwnBlock p f b
   IsOwn p f (loop e b) = IsOwnBlock p f b
-  IsOwn p f (switch v arms end) = AreOwnArms p f arms
-  IsOwn p f (focus y z b) = IsOwnBlock p f b
+  IsOwn p f (switch v arms end) = IsVar f v × AreOwnArms p f arms
+  IsOwn p f (focus y z b) = IsVar f z × IsOwnBlock p f b
   IsOwn p f (scope b) = IsOwnBlock p f b
   IsOwn p f (return value) = Unit {0}
   IsOwn p f (jump continues) = Unit {0}
