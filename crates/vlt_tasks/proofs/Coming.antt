@@ -1,5 +1,5 @@
 -- Where a part of a move comes to, from where its step comes to.
-use Rattle.std.proofs.Common.{◌≡◌, ◌⊎◌, ⊎_elim, inl, inr, ◌≤◌, ℕ, Bool, true, false, List, [], ◌∷◌, ◌++◌, Option, Some, None, Result, Ok, Err, refl, sym, ap, ◌∙◌, subst, arith, reverse, ℤ}
+use Rattle.std.proofs.Common.{◌≡◌, ◌⊎◌, ⊎_elim, inl, inr, ◌≤◌, ℕ, Bool, true, false, List, [], ◌∷◌, ◌++◌, Option, Some, None, Result, Ok, Err, refl, sym, ap, ◌∙◌, subst, arith, ℤ}
 use Rattle.std.proofs.lemmas.Option.{none-some}
 use Rattle.vlt_core.specs.Core.{Func}
 use Rattle.vlt_ops.specs.declared.TrapKind.{TrapKind}
@@ -21,9 +21,9 @@ use Rattle.vlt_tasks.specs.declared.stop.Stop.TheVariants.{Trap}
 use Rattle.vlt_tasks.specs.declared.task.Task.{Task}
 use Rattle.vlt_tasks.specs.declared.task.Run.{Run}
 use Rattle.vlt_tasks.specs.Halting.{outcome_of, stop_for, halted}
-use Rattle.vlt_tasks.specs.Shown.{tasks_left, ShowsWith, ShowsConf}
+use Rattle.vlt_tasks.specs.Shown.{ShowsConf}
 use Rattle.vlt_tasks.specs.Moves.{world_in, GoneOn, IsCut, HasStopped, CameTo}
-use Rattle.vlt_tasks.proofs.Staying.{IsSameRun, ShowsThen, going, stays}
+use Rattle.vlt_tasks.proofs.Staying.{IsSameRun, ShowsThen, stays_left}
 
 -- where a configuration is come to
 abbrev pub Came : World → (before after : Outside) → Option Stop → Run → Conf → Type 0
@@ -33,6 +33,28 @@ Came w before after result r c = CameTo w before after result r c c.step
 pub wrong_came : (w : World) (before after : Outside) (result : Option Stop) (r : Run) (c : Conf) (o : Outcome) (v : World) → is_fault o ≡ true → CameTo w before after result r c (ends o v)
 wrong_came w before after None r c o v e = e
 wrong_came w before after (Some stop) r c o v e = inl e
+
+-- what comes since a world with the same events
+module _ (w u : World) (before after : Outside) (r : Run) (same : u.events ≡ w.events) where
+  wrote_since : (v : World) → Wrote u v before after → Wrote w v before after
+  wrote_since v h = record { events = h.events; added = h.added ∙ ap (λ l. l ++ h.events) same; grew = h.grew; counted = h.counted }
+
+  cut_since : (stop : Stop) (v : World) → IsCut u before after stop v → IsCut w before after stop v
+  cut_since stop v h = record { fault = h.fault; events = h.events; added = h.added ∙ ap (λ l. l ++ h.events) same; grew = h.grew; rose = h.rose; counted = h.counted }
+
+  gone_since : (c : Conf) (v : World) → GoneOn u before after r c v → GoneOn w before after r c v
+  gone_since c v h = record { shown = h.shown; wrote = wrote_since v h.wrote }
+
+  pub came_since : (result : Option Stop) (c : Conf) (a : Step) → CameTo u before after result r c a → CameTo w before after result r c a
+  came_since None c (ends o v) h = h
+  came_since None c (goes frame v) h = gone_since c v h
+  came_since None c (jumps k frame v) h = gone_since c v h
+  came_since None c (leaves k kept v) h = gone_since c v h
+  came_since (Some stop) c (ends o v) h =
+      ⊎_elim (λ e. inl e) (λ k. inr (⊎_elim (λ s. inl (record { outcome = s.outcome; fuel = s.fuel; wrote = wrote_since v s.wrote })) (λ x. inr (cut_since stop v x)) k)) h
+  came_since (Some stop) c (goes frame v) h = cut_since stop v h
+  came_since (Some stop) c (jumps k frame v) h = cut_since stop v h
+  came_since (Some stop) c (leaves k kept v) h = cut_since stop v h
 
 -- ---- statements that speak with the host
 
@@ -51,7 +73,7 @@ module _ (old new : Run) (f : Func) (ts : List m.Task) (frame : Frame) (w : Worl
   -- it goes on where the tables show it
   pub went : (next : Frame) (v : World) → ShowsThen q.items new next frame.depth v → Wrote w v before after → GoneOn w before after new (at f ts (goes next v)) v
   went next v h wrote = record {
-    shown = subst (λ l. ShowsWith l new (at f ts (goes next v))) (sym (ap (λ t. reverse t.items) same.tasks)) (stays old new (tasks_left old) f ts frame w next v same q h);
+    shown = stays_left old new f ts frame w next v same q h;
     wrote = wrote;
   }
 

@@ -1,3 +1,4 @@
 pub mod Stacks
 pub mod Staying
+pub mod Pushing
 pub mod Coming

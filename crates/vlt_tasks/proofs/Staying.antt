@@ -1,5 +1,5 @@
 -- A run that shows a configuration still, once its tables were changed.
-use Rattle.std.proofs.Common.{◌≡◌, ◌<◌, ◌≤◌, ◌+◌, ◌*◌, ℕ, Bool, List, [], ◌∷◌, length, refl, sym, ap, ◌∙◌, subst, arith}
+use Rattle.std.proofs.Common.{◌≡◌, ◌<◌, ◌≤◌, ◌+◌, ◌*◌, ℕ, Bool, List, [], ◌∷◌, length, refl, sym, ap, ◌∙◌, subst, arith, reverse}
 use Rattle.std.specs.Vec.{vec_capacity}
 use Rattle.vlt_core.specs.View.{func_of}
 use Rattle.vlt_core.specs.Core.{Func, Program}
@@ -73,7 +73,7 @@ pub record ShowsThen (items : Items) (new : Run) (frame : Frame) (d : ℕ) (w : 
   pub fuel : w.fuel ≡ new.fuel
 
 module _ (old new : Run) (ts : List Task) (f : Func) (us : List m.Task) where
-  pub stays : (frame : Frame) (w : World) (after : Frame) (v : World) → IsSameRun old new → (q : ShowsWith ts old (at f us (goes frame w))) → ShowsThen q.items new after frame.depth v → ShowsWith ts new (at f us (goes after v))
+  abbrev pub stays : (frame : Frame) (w : World) (after : Frame) (v : World) → IsSameRun old new → (q : ShowsWith ts old (at f us (goes frame w))) → ShowsThen q.items new after frame.depth v → ShowsWith ts new (at f us (goes after v))
   stays frame w after v s q h =
       let g = going q.items old f old.at frame w q.step in
       let runs = still_runs old new f s.frame g.runs.running in
@@ -94,6 +94,12 @@ module _ (old new : Run) (ts : List Task) (f : Func) (us : List m.Task) where
           fuel = h.fuel;
         });
       }
+
+-- the tasks that it has left are the same
+abbrev pub stays_left : (old new : Run) (f : Func) (us : List m.Task) (frame : Frame) (w : World) (after : Frame) (v : World) → IsSameRun old new → (q : ShowsConf old (at f us (goes frame w))) → ShowsThen q.items new after frame.depth v → ShowsConf new (at f us (goes after v))
+stays_left old new f us frame w after v s q h =
+    let k = stays old new (tasks_left old) f us frame w after v s q h in
+    record { items = k.items; holds = k.holds; func = k.func; shown = subst (λ t. ShowsTasks k.items new.values new.values.base new.depth (reverse t.items) us) (sym s.tasks) k.shown; step = k.step }
 
 -- ---- rooms
 

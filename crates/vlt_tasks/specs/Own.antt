@@ -28,10 +28,11 @@ IsOwnSimple f (open_into x vs) = AreVars f vs
 IsOwnSimple f (adopt y x r) = IsVar f y
 IsOwnSimple f s = Unit {0}
 
-pub record IsOwnCall (p : Program) (f : Func) (g : ℕ) (target : Option ℕ) (keys : List ℕ) : Type 0 where
-  pub target : IfSome target (IsVar f)
-  pub keys : (i k : ℕ) → slice_get keys i ≡ Some k → IsKey f k
-  pub head : IfSome (slice_get p.fns g) (λ callee. length keys ≤ length callee.keys)
+-- a call of the function g for the target v, with keys for those of g's head
+pub record IsOwnCall (p : Program) (f : Func) (g : ℕ) (v : Option ℕ) (ks : List ℕ) : Type 0 where
+  pub target : IfSome v (IsVar f)
+  pub keys : (i k : ℕ) → slice_get ks i ≡ Some k → IsKey f k
+  pub head : IfSome (slice_get p.fns g) (λ callee. length ks ≤ length callee.keys)
 
 abbrev mutual
   pub IsOwn : Program → Func → Form → Type 0

@@ -32,14 +32,14 @@ setup_of r heap = record { program = program_of r.program.now; heap = heap; dept
 -- ---- tasks. The frame that runs where a task is done begins at `base`, and is the one at the depth.
 
 -- the object in focus and its adopter, at their places
-pub record IsFocused (items : Items) (f : Focus) (adopter number : ℕ) : Type 0 where
-  pub object : IsMadeAt items f.object.0 number
-  pub adopter : IsMadeAt items f.adopter.0 adopter
+pub record IsFocused (items : Items) (f : Focus) (a n : ℕ) : Type 0 where
+  pub object : IsMadeAt items f.object.0 n
+  pub adopter : IsMadeAt items f.adopter.0 a
 
 -- the caller of the function at the depth
-pub record IsCaller (items : Items) (values : Values) (base depth : ℕ) (w : Waiting) (k : Caller) : Type 0 where
+pub record IsCaller (items : Items) (values : Values) (base d : ℕ) (w : Waiting) (k : Caller) : Type 0 where
   pub waits : Waits items values w base k
-  pub depth : depth ≡ suc k.frame.depth
+  pub depth : d ≡ suc k.frame.depth
 
 -- a turn of this loop
 pub record IsTurn (e : Expr) (b : Block) (d : core.Expr) (c : core.Block) : Type 0 where

@@ -1,0 +1,10 @@
+//! Statements of a core program that are no calls and no returns; a run under way in, the run behind the statement or its stop out.
+//! Read `vlt_machine/specs/Machine.antt` (act) first, then `vlt_tasks/specs/Moves.antt`: what a statement asks and comes to.
+//! The machine of runs, `vlt_interp`, is going to rest on it.
+#![tactic(auto)]
+
+mod blocks;
+mod simple;
+
+pub use blocks::{choose, enter_block, focus_on, switch_on, turn_on, unfocus};
+pub use simple::do_simple;
