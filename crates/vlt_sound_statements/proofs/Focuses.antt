@@ -2,19 +2,19 @@
 use Rattle.std.proofs.Common.{◌≡◌, ◌⊎◌, inl, inr, ⊎_elim, ℕ, ◌<◌, ◌==◌, nat_lt, Bool, true, false, ◌&&◌, IsTrue, if◌then◌else◌, List, [], ◌∷◌, length, map, Option, None, Some, Ok, refl, sym, ap, ◌∙◌, subst}
 use Rattle.std.proofs.lemmas.Bool.{eq-eqb, or_left}
 use Rattle.std.proofs.lemmas.Option.{same_Some}
-use Rattle.vlt_core.specs.Core.{States, tracked, guarded, a_key, focus, Block, Func, Program}
+use Rattle.vlt_core.specs.Core.{States, Tok, tracked, guarded, a_key, focus, Block, Func, Program}
 use Rattle.vlt_core.specs.Lookups.{var_type, Reference, reference_of, tracked_in, guarded_of, guarded_in, release_set}
 use Rattle.vlt_core.specs.Types.{is_droppable_struct}
 use Rattle.vlt_core.specs.Maps.{absent, held, lent, states_of, HeldMap, IsBelow, wants_absent, wants_held, wants_in, wants_lent, becomes_absent, becomes_held, becomes_lent, comes_back, changed as status_after, Row, row_passed, CanPass, passed}
 use Rattle.vlt_core.specs.Rows.{row, rows_of, focus_end_rows}
-use Rattle.vlt_core.specs.Bodies.{flow_of_block}
-use Rattle.vlt_core.specs.Derives.{DerivesBlock}
+use Rattle.vlt_core.specs.Bodies.{flow_of, flow_of_block}
+use Rattle.vlt_core.specs.Derives.{Derives, DerivesBlock}
 use Rattle.vlt_core.specs.KindedHeads.{has}
 use Rattle.vlt_core.specs.KindedScopes.{Ids, with_key as with_key_bound, own_key, left_behind}
 use Rattle.vlt_core.specs.KindedBodies.{focus_broken, with_focus, in_focus, list_broken, ids_behind_block}
 use Rattle.vlt_meaning.specs.World.{Value, one, reference, adopted_by, above, gone, Object, Frame, World, is_lent_under, fault, missing, other_object, wrong_state, not_held}
 use Rattle.vlt_meaning.specs.World as world
-use Rattle.vlt_meaning.specs.Found.{◌>>=◌, or_fault, if_so}
+use Rattle.vlt_meaning.specs.Found.{◌>>=◌, Named, or_fault, if_so}
 use Rattle.vlt_meaning.specs.Objects.{in_states, with_owner, changed, named_in}
 use Rattle.vlt_meaning.specs.Values.{held_object, guarded_object}
 use Rattle.vlt_meaning.specs.Step.{Step, goes, jumps, leaves, ends, with_changed, with_var, with_key}
@@ -42,7 +42,7 @@ use Rattle.vlt_sound_scopes.proofs.Binding.{first_or_other}
 use Rattle.vlt_sound_scopes.proofs.Scoping.{focus_scoped}
 use Rattle.vlt_sound_scopes.proofs.Fresh.{is_fresh}
 use Rattle.vlt_sound_calls.proofs.Contexts.{entered_with}
-use Rattle.vlt_sound_statements.specs.Kinded.{IsKindedBlock}
+use Rattle.vlt_sound_statements.specs.Kinded.{IsKindedForm, IsKindedBlock}
 use Rattle.vlt_sound_statements.specs.Sites.{Site, comes_to, IsAt}
 use Rattle.vlt_sound_statements.specs.Statements.{IsSafeForm, IsSafeBlock}
 use Rattle.vlt_sound_statements.proofs.Lending.{AreApart, held_apart, foci_stay, agrees_turned}
@@ -61,38 +61,38 @@ ending_safe g g' r k q a n (jumps c frame w) safe on jumped left = absurd (jumpe
 ending_safe g g' r k q a n (leaves v kept w) safe on jumped left = absurd (left v kept w safe)
 ending_safe g g' r k q a n (ends o w) safe on jumped left = safe
 
-abbrev lends : ℕ → Row
+abbrev pub lends : ℕ → Row
 lends k = row (a_key k) wants_held becomes_lent
 
-abbrev takes : States → ℕ → Row
+abbrev pub takes : States → ℕ → Row
 takes states k = row (a_key k) wants_absent (becomes_held states)
 
-abbrev gives : States → ℕ → Row
+abbrev pub gives : States → ℕ → Row
 gives states k = row (a_key k) (wants_in states) becomes_absent
 
-abbrev returns : ℕ → Row
+abbrev pub returns : ℕ → Row
 returns k = row (a_key k) wants_lent comes_back
 
 abbrev focus_of : (depth guard_key guard number : ℕ) → Focus
 focus_of d gk a n = record { depth = d; guard_key = gk; guard = a; number = n }
 
 -- the context of the block
-abbrev inside : Context → (guard_key key guard number : ℕ) → Context
+abbrev pub inside : Context → (guard_key key guard number : ℕ) → Context
 inside c gk k a n =
     with_foci (focus_of c.depth gk a n ∷ c.foci) (record { key = k; number = n } ∷ record { key = gk; number = a } ∷ c.pins) c
 
 -- ---- the beginning
 
 -- what is so where the block of a focus begins
-record Begun (p : Program) (f : Func) (c : Context) (h : HeldMap) (ids : Ids) (frame : Frame) (w : World) (y z gk k t : ℕ)
+pub record Begun (p : Program) (f : Func) (c : Context) (h : HeldMap) (ids : Ids) (frame : Frame) (w : World) (y z gk k t : ℕ)
     (args : List ℕ) : Type 0 where
-  guard : ℕ
-  number : ℕ
-  found_guard : held_object gk frame w.objects ≡ Ok (named guard (look w.objects guard))
-  found : guarded_object (record { key = gk; type = t }) y frame w.objects ≡ Ok (named number (look w.objects number))
-  droppable : is_droppable_struct p t ≡ true
-  apart : AreApart c.foci guard
-  agrees : Agrees p f (inside c gk k guard number) (passed (lends gk ∷ takes (release_set p t) k ∷ []) h) (with_focus f z ids) []
+  pub guard : ℕ
+  pub number : ℕ
+  pub found_guard : held_object gk frame w.objects ≡ Ok (named guard (look w.objects guard))
+  pub found : guarded_object (record { key = gk; type = t }) y frame w.objects ≡ Ok (named number (look w.objects number))
+  pub droppable : is_droppable_struct p t ≡ true
+  pub apart : AreApart c.foci guard
+  pub agrees : Agrees p f (inside c gk k guard number) (passed (lends gk ∷ takes (release_set p t) k ∷ []) h) (with_focus f z ids) []
       (with_var z (Some (one (reference number))) (with_key k number frame))
       (with_changed (with_changed w guard (with_owner (world.lent frame.depth gk))) number
       (with_owner (world.held frame.depth k))).objects
@@ -305,102 +305,199 @@ module _ (r : Setup) (f : Func) {c : Context} {m : HeldMap} {ids : Ids} {frame :
 
 -- ---- a focus
 
-module _ (r : Setup) (rest_of : Meaning) (f : Func) (typed : IsTyped r.program f) (keyed : HasKeys f)
-    (y z : ℕ) (b : Block) (safe : IsSafeBlock r rest_of f b) where
-  -- what is known where the block begins
-  at_inside : (s : Site) (ids : Ids) (gk k t a n : ℕ) (args : List ℕ) → IsAt r.program f s ids →
-      focus_broken r.program f ids y z ≡ [] → var_type f y ≡ Some (guarded gk t args) → InScope ids y →
-      var_type f z ≡ Some (tracked k t args) →
-      IsAt r.program f (record s { context = inside s.context gk k a n; around = in_focus; outer = with_focus f z ids }) (with_focus f z ids)
-  at_inside s ids gk k t a n args here kinded y_is in_scope z_is =
-      let scoped = focus_scoped r.program keyed y z kinded here.scoped in
+abbrev pub begin_rows : Program → {f : Func} {ids : Ids} {y z : ℕ} → IsFocus f ids y z → List Row
+begin_rows p fact = lends fact.guard_key ∷ takes (release_set p fact.type) fact.key ∷ []
+
+abbrev pub end_rows : Program → {f : Func} {ids : Ids} {y z : ℕ} → IsFocus f ids y z → List Row
+end_rows p fact = gives (release_set p fact.type) fact.key ∷ returns fact.guard_key ∷ []
+
+-- what is known where a focus begins
+pub record FocusAt (p : Program) (f : Func) (y z : ℕ) (b : Block) (frame : Frame) (w : World) : Type 0 where
+  pub site : Site
+  pub ids : Ids
+  pub before : HeldMap
+  pub last : HeldMap
+  pub behind : HeldMap
+  pub here : IsAt p f site ids
+  pub agrees : Agrees p f site.context before ids [] frame w.objects
+  pub broken : focus_broken p f ids y z ≡ []
+  pub block : IsKindedBlock p f in_focus [] (with_focus f z ids) b
+  pub fact : IsFocus f ids y z
+  pub pass : CanPass (begin_rows p fact) before
+  pub leads : DerivesBlock site.breaks site.turns (passed (begin_rows p fact) before) (flow_of_block p f site.left b) last
+  pub pass_end : CanPass (end_rows p fact) last
+  pub below : IsBelow (passed (end_rows p fact) last) behind
+
+pub starts_with : (p : Program) (f : Func) (y z : ℕ) (b : Block) (left : List Tok) {ids : Ids} (fact : IsFocus f ids y z) →
+    rows_of p f left (focus y z b) ≡ begin_rows p fact
+starts_with p f y z b left fact = rw (fact.guarded_is, fact.tracked_is) refl
+
+pub ends_with : (p : Program) (f : Func) (y z : ℕ) {ids : Ids} (fact : IsFocus f ids y z) → focus_end_rows p f y z ≡ end_rows p fact
+ends_with p f y z fact = rw (fact.guarded_is, fact.tracked_is) refl
+
+-- of a focus that breaks no rule, and whose map leads through it
+module _ (p : Program) (f : Func) (y z : ℕ) (b : Block) (s : Site) (h k : HeldMap) (ids : Ids) (frame : Frame) (w : World)
+    (here : IsAt p f s ids) (kinded : IsKindedForm p f s.around ids (focus y z b))
+    (leads : Derives s.breaks s.turns h (flow_of p f s.left (focus y z b)) k) (agrees : Agrees p f s.context h ids [] frame w.objects) where
+  pub unbroken : (focus_broken p f ids y z ≡ []) × (list_broken p f [] (with_focus f z ids) b ≡ [])
+  unbroken = both_empty (focus_broken p f ids y z) (list_broken p f [] (with_focus f z ids) b) kinded.row
+
+  pub known : IsFocus f ids y z
+  known = focus_known f p ids y z unbroken.0
+
+  abbrev pub focus_at : FocusAt p f y z b frame w
+  focus_at = record {
+    site = s;
+    ids = ids;
+    before = h;
+    last = leads.1.0;
+    behind = k;
+    here = here;
+    agrees = agrees;
+    broken = unbroken.0;
+    block = record { listed = unbroken.1; rows = kinded.rows };
+    fact = known;
+    pass = subst (λ rs. CanPass rs h) (starts_with p f y z b s.left known) leads.0;
+    leads =
+        subst (λ rs. DerivesBlock s.breaks s.turns (passed rs h) (flow_of_block p f s.left b) leads.1.0)
+        (starts_with p f y z b s.left known) leads.1.1;
+    pass_end = subst (λ rs. CanPass rs leads.1.0) (ends_with p f y z known) leads.1.2;
+    below = subst (λ rs. IsBelow (passed rs leads.1.0) k) (ends_with p f y z known) leads.1.3;
+  }
+
+module _ (r : Setup) (f : Func) (typed : IsTyped r.program f) (keyed : HasKeys f) {y z : ℕ} {b : Block} {frame : Frame} {w : World}
+    (x : FocusAt r.program f y z b frame w) where
+  abbrev pub inner_ids : Ids
+  inner_ids = with_focus f z x.ids
+
+  pub begun : Begun r.program f x.site.context x.before x.ids frame w y z x.fact.guard_key x.fact.key x.fact.type x.fact.args
+  begun =
+      begins r.program f typed keyed w x.agrees x.here.scoped y z x.fact.guard_key x.fact.key x.fact.type x.fact.args
+      x.fact.guarded_is x.fact.tracked_is x.fact.scoped
+      (is_fresh x.here.scoped x.fact.key [] tt (keyed.keys z x.fact.key (tracked x.fact.key x.fact.type x.fact.args) x.fact.tracked_is (inl refl)) x.fact.fresh)
+      x.pass
+
+  -- the references, and the objects that they lead to
+  abbrev pub guard_is : Reference
+  guard_is = record { key = x.fact.guard_key; type = x.fact.type }
+
+  abbrev pub bound_is : Reference
+  bound_is = record { key = x.fact.key; type = x.fact.type }
+
+  pub guarded_known : guarded_of f y ≡ Some guard_is
+  guarded_known = ap guarded_in x.fact.guarded_is
+
+  pub bound_known : reference_of f z ≡ Some bound_is
+  bound_known = ap tracked_in x.fact.tracked_is
+
+  abbrev pub guard_named : Named
+  guard_named = named begun.guard (look w.objects begun.guard)
+
+  abbrev pub object_named : Named
+  object_named = named begun.number (look w.objects begun.number)
+
+  pub guard_found : held_object x.fact.guard_key frame w.objects ≡ Ok guard_named
+  guard_found = begun.found_guard
+
+  pub object_found : guarded_object guard_is y frame w.objects ≡ Ok object_named
+  object_found = begun.found
+
+  -- ---- where the block begins
+
+  abbrev pub focus_frame : Frame
+  focus_frame = with_var z (Some (one (reference begun.number))) (with_key x.fact.key begun.number frame)
+
+  abbrev pub focus_world : World
+  focus_world =
+      with_changed (with_changed w begun.guard (with_owner (world.lent frame.depth x.fact.guard_key))) begun.number
+      (with_owner (world.held frame.depth x.fact.key))
+
+  abbrev pub focus_site : Site
+  focus_site = record x.site {
+    context = inside x.site.context x.fact.guard_key x.fact.key begun.guard begun.number;
+    around = in_focus;
+    outer = inner_ids;
+  }
+
+  pub focus_agrees : Agrees r.program f focus_site.context (passed (begin_rows r.program x.fact) x.before) inner_ids [] focus_frame focus_world.objects
+  focus_agrees = begun.agrees
+
+  z_there : InScope inner_ids z
+  z_there = focus_binds f x.ids z (binding_within r.program f x.ids y z x.broken)
+
+  pub focus_here : IsAt r.program f focus_site inner_ids
+  focus_here =
+      let c = x.site.context in
+      let scoped = focus_scoped r.program keyed y z x.broken x.here.scoped in
       record {
-        entered = entered_with (focus_of s.context.depth gk a n ∷ s.context.foci)
-            (record { key = k; number = n } ∷ record { key = gk; number = a } ∷ s.context.pins) here.entered;
+        entered = entered_with (focus_of c.depth x.fact.guard_key begun.guard begun.number ∷ c.foci)
+            (record { key = x.fact.key; number = begun.number } ∷ record { key = x.fact.guard_key; number = begun.guard } ∷ c.pins) x.here.entered;
         scoped = record {
           vars = scoped.vars;
           keys = scoped.keys;
           ever = scoped.ever;
           head = scoped.head;
-          pins = (bound_ever scoped, ((focus_widens f z ids).keys_ever gk guard_ever, scoped.pins));
+          pins = (bound_ever scoped, ((focus_widens f z x.ids).keys_ever x.fact.guard_key guard_ever, scoped.pins));
           owned = scoped.owned;
         };
         outer = λ v e. e;
       }
     where
       -- the key of a variable's type was bound
-      guard_ever : WasKeyBound ids gk
-      guard_ever = here.scoped.keys gk (here.scoped.vars y gk (guarded gk t args) in_scope y_is (inl refl))
+      guard_ever : WasKeyBound x.ids x.fact.guard_key
+      guard_ever =
+          x.here.scoped.keys x.fact.guard_key
+          (x.here.scoped.vars y x.fact.guard_key (guarded x.fact.guard_key x.fact.type x.fact.args) x.fact.scoped x.fact.guarded_is (inl refl))
 
-      z_there : InScope (with_focus f z ids) z
-      z_there = focus_binds f ids z (binding_within r.program f ids y z kinded)
+      bound_ever : IsScoped f x.site.context inner_ids → WasKeyBound inner_ids x.fact.key
+      bound_ever scoped =
+          scoped.keys x.fact.key
+          (scoped.vars z x.fact.key (tracked x.fact.key x.fact.type x.fact.args) z_there x.fact.tracked_is (inl refl))
 
-      bound_ever : IsScoped f s.context (with_focus f z ids) → WasKeyBound (with_focus f z ids) k
-      bound_ever scoped = scoped.keys k (scoped.vars z k (tracked k t args) z_there z_is (inl refl))
+  -- ---- where it ends
 
-  by_facts : (s : Site) (h m k : HeldMap) (ids : Ids) (frame : Frame) (w : World) (fact : IsFocus f ids y z) →
-      IsAt r.program f s ids → focus_broken r.program f ids y z ≡ [] →
-      IsKindedBlock r.program f in_focus [] (with_focus f z ids) b →
-      CanPass (lends fact.guard_key ∷ takes (release_set r.program fact.type) fact.key ∷ []) h →
-      DerivesBlock s.breaks s.turns (passed (lends fact.guard_key ∷ takes (release_set r.program fact.type) fact.key ∷ []) h) (flow_of_block r.program f s.left b) m →
-      CanPass (gives (release_set r.program fact.type) fact.key ∷ returns fact.guard_key ∷ []) m →
-      IsBelow (passed (gives (release_set r.program fact.type) fact.key ∷ returns fact.guard_key ∷ []) m) k →
-      Agrees r.program f s.context h ids [] frame w.objects →
-      Safe (comes_to r.program f s k (left_behind ids (ids_behind_block r.program f b (with_focus f z ids))))
-      (does_form r rest_of f (focus y z b) frame w)
-  by_facts s h m k ids frame w fact here kinded block pass leads pass_end below agrees =
-      let gk = fact.guard_key in
-      let q : Reference = record { key = fact.key; type = fact.type } in
-      let g : Reference = record { key = gk; type = fact.type } in
-      let G = comes_to r.program f s k (left_behind ids (ids_behind_block r.program f b (with_focus f z ids))) in
-      let fresh = is_fresh here.scoped fact.key [] tt (keyed.keys z fact.key (tracked fact.key fact.type fact.args) fact.tracked_is (inl refl)) fact.fresh in
-      let begun = begins r.program f typed keyed w agrees here.scoped y z gk fact.key fact.type fact.args fact.guarded_is fact.tracked_is fact.scoped fresh pass in
-      let s1 : Site = record s { context = inside s.context gk fact.key begun.guard begun.number; around = in_focus; outer = with_focus f z ids } in
-      let last = ids_behind_block r.program f b (with_focus f z ids) in
-      let z_there = focus_binds f ids z (binding_within r.program f ids y z kinded) in
-      found_safe G (or_fault missing (guarded_of f y)) g w _ (ap (λ t. or_fault missing (guarded_in t)) fact.guarded_is)
-      (found_safe G (or_fault missing (reference_of f z)) q w _ (ap (λ t. or_fault missing (tracked_in t)) fact.tracked_is)
-      (found_safe G (held_object gk frame w.objects) (named begun.guard (look w.objects begun.guard)) w _ begun.found_guard
-      (found_safe G (guarded_object g y frame w.objects) (named begun.number (look w.objects begun.number)) w _ begun.found
-      (ending_safe (comes_to r.program f s1 m last) G r g q begun.guard begun.number
-      (does_block r rest_of f b
-      (with_var z (Some (one (reference begun.number))) (with_key fact.key begun.number frame))
-      (with_changed (with_changed w begun.guard (with_owner (world.lent frame.depth gk))) begun.number (with_owner (world.held frame.depth fact.key))))
-      (safe s1 (passed (lends gk ∷ takes (release_set r.program fact.type) fact.key ∷ []) h) m [] (with_focus f z ids)
-      (with_var z (Some (one (reference begun.number))) (with_key fact.key begun.number frame))
-      (with_changed (with_changed w begun.guard (with_owner (world.lent frame.depth gk))) begun.number (with_owner (world.held frame.depth fact.key)))
-      (at_inside s ids gk fact.key fact.type begun.guard begun.number fact.args here kinded fact.guarded_is fact.scoped fact.tracked_is)
-      block leads begun.agrees)
-      (λ frame w now. ends_well r f w gk fact.key begun.guard begun.number now z fact.type fact.args (left_behind ids last) k G
-      (λ frame w done. done) fact.tracked_is
-      ((block_widens r.program f b (with_focus f z ids)).vars z z_there)
-      (λ v e. (widens_both (focus_widens f z ids) (block_widens r.program f b (with_focus f z ids))).vars v e)
-      begun.apart begun.droppable pass_end below)
+  abbrev last : Ids
+  last = ids_behind_block r.program f b inner_ids
+
+  abbrev G : Goal
+  G = comes_to r.program f x.site x.behind (left_behind x.ids last)
+
+  -- nothing leaves the block by a jump or a return
+  pub focus_ends : (s : Step) → Safe (comes_to r.program f focus_site x.last (ids_behind_block r.program f b inner_ids)) s →
+      Safe (comes_to r.program f x.site x.behind (left_behind x.ids (ids_behind_block r.program f b inner_ids)))
+      (focus_end r guard_is bound_is begun.guard begun.number s)
+  focus_ends s safe =
+      ending_safe (comes_to r.program f focus_site x.last last) G r guard_is bound_is begun.guard begun.number s safe
+      (λ frame w now. ends_well r f w x.fact.guard_key x.fact.key begun.guard begun.number now z x.fact.type x.fact.args (left_behind x.ids last) x.behind G
+      (λ frame w done. done) x.fact.tracked_is
+      ((block_widens r.program f b inner_ids).vars z z_there)
+      (λ v e. (widens_both (focus_widens f z x.ids) (block_widens r.program f b inner_ids)).vars v e)
+      begun.apart begun.droppable x.pass_end x.below)
       (λ c frame w jumped. never jumped.allowed)
-      (λ v kept w left. never left.allowed)))))
+      (λ v kept w left. never left.allowed)
     where
       never : false ≡ true → ⊥
       never e = cc
 
+module _ (r : Setup) (rest_of : Meaning) (f : Func) (typed : IsTyped r.program f) (keyed : HasKeys f)
+    (y z : ℕ) (b : Block) (safe : IsSafeBlock r rest_of f b) where
+  by_facts : {frame : Frame} {w : World} (x : FocusAt r.program f y z b frame w) →
+      Safe (comes_to r.program f x.site x.behind (left_behind x.ids (ids_behind_block r.program f b (with_focus f z x.ids))))
+      (does_form r rest_of f (focus y z b) frame w)
+  by_facts {frame} {w} x =
+      let G = comes_to r.program f x.site x.behind (left_behind x.ids (ids_behind_block r.program f b (with_focus f z x.ids))) in
+      let frame' = focus_frame r f typed keyed x in
+      let w' = focus_world r f typed keyed x in
+      found_safe G (or_fault missing (guarded_of f y)) (guard_is r f typed keyed x) w _
+      (ap (or_fault missing) (guarded_known r f typed keyed x))
+      (found_safe G (or_fault missing (reference_of f z)) (bound_is r f typed keyed x) w _
+      (ap (or_fault missing) (bound_known r f typed keyed x))
+      (found_safe G (held_object x.fact.guard_key frame w.objects) (guard_named r f typed keyed x) w _ (guard_found r f typed keyed x)
+      (found_safe G (guarded_object (guard_is r f typed keyed x) y frame w.objects) (object_named r f typed keyed x) w _ (object_found r f typed keyed x)
+      (focus_ends r f typed keyed x (does_block r rest_of f b frame' w')
+      (safe (focus_site r f typed keyed x) (passed (begin_rows r.program x.fact) x.before) x.last [] (with_focus f z x.ids) frame' w'
+      (focus_here r f typed keyed x) x.block x.leads (focus_agrees r f typed keyed x))))))
+
   pub focus_is_safe : IsSafeForm r rest_of f (focus y z b)
   focus_is_safe s h k ids frame w here kinded leads agrees =
-      let both = both_empty (focus_broken r.program f ids y z) (list_broken r.program f [] (with_focus f z ids) b) kinded.row in
-      let fact = focus_known f r.program ids y z both.0 in
-      let starts : rows_of r.program f s.left (focus y z b) ≡ lends fact.guard_key ∷ takes (release_set r.program fact.type) fact.key ∷ [] =
-      rows_start fact in
-      let ends_rows : focus_end_rows r.program f y z ≡ gives (release_set r.program fact.type) fact.key ∷ returns fact.guard_key ∷ [] =
-      rows_end fact in
-      let m = leads.1.0 in
-      by_facts s h m k ids frame w fact here both.0 (record { listed = both.1; rows = kinded.rows })
-      (subst (λ rs. CanPass rs h) starts leads.0)
-      (subst (λ rs. DerivesBlock s.breaks s.turns (passed rs h) (flow_of_block r.program f s.left b) m) starts leads.1.1)
-      (subst (λ rs. CanPass rs m) ends_rows leads.1.2)
-      (subst (λ rs. IsBelow (passed rs m) k) ends_rows leads.1.3) agrees
-    where
-      rows_start : (fact : IsFocus f ids y z) →
-          rows_of r.program f s.left (focus y z b) ≡ lends fact.guard_key ∷ takes (release_set r.program fact.type) fact.key ∷ []
-      rows_start fact = rw (fact.guarded_is, fact.tracked_is) refl
-
-      rows_end : (fact : IsFocus f ids y z) →
-          focus_end_rows r.program f y z ≡ gives (release_set r.program fact.type) fact.key ∷ returns fact.guard_key ∷ []
-      rows_end fact = rw (fact.guarded_is, fact.tracked_is) refl
+      by_facts (focus_at r.program f y z b s h k ids frame w here kinded leads agrees)

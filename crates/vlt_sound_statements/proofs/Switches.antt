@@ -25,7 +25,7 @@ use Rattle.vlt_meaning.specs.Run.{Setup, Meaning, does_form, does_block, does_ar
 use Rattle.vlt_sound_owners.specs.Look.{look}
 use Rattle.vlt_sound_owners.specs.Scene.{Scene}
 use Rattle.vlt_sound_owners.specs.Fits.{Names, IsCase, header_type, names_of, Fits}
-use Rattle.vlt_sound_frames.specs.Agrees.{HasVar, Handed, values_of, FitHanded, Context, scene, Agrees}
+use Rattle.vlt_sound_frames.specs.Agrees.{InScope, HasVar, Handed, values_of, FitHanded, Context, scene, Agrees}
 use Rattle.vlt_sound_frames.specs.Typed.{IsTyped}
 use Rattle.vlt_sound_frames.specs.Safe.{Goal, Safe}
 use Rattle.vlt_sound_frames.proofs.Empty.{both_empty, both_so, unless_so, when_so}
@@ -51,22 +51,22 @@ use Rattle.vlt_sound_statements.proofs.Covered.{covered}
 use Rattle.vlt_sound_statements.proofs.Filling.{filled_safe}
 use Rattle.vlt_sound_statements.proofs.Parts.{AreKnown, payloads_kept, parts_values, parts_many, parts_handed, keys_opened}
 use Rattle.vlt_sound_statements.proofs.Emptying.{with_full, key_row, with_var_twice, agrees_split, agrees_emptied, opened_safe}
-use Rattle.vlt_sound_statements.proofs.Arms.{arms_vars, ArmAt, arm_at}
+use Rattle.vlt_sound_statements.proofs.Arms.{arms_vars, Arm, arm_is_safe, arm_is_done, ArmAt, arm_at}
 
 -- ---- what a switch says
 
 -- a variable of a variant
-record IsSwitched (ty : Ty) : Type 0 where
-  type : ℕ
-  args : List ℕ
-  is : variant_args (Some ty) ≡ Some (type, args)
-  of : variant_in (Some ty) ≡ Some (record { type = type; args = args })
-  declared : type_in ty ≡ Some type
-  same : args_of ty ≡ args
-  fits : (p : Program) (s : Scene) (names : Names) (a : Value) → Fits p s names ty a →
+pub record IsSwitched (ty : Ty) : Type 0 where
+  pub type : ℕ
+  pub args : List ℕ
+  pub is : variant_args (Some ty) ≡ Some (type, args)
+  pub of : variant_in (Some ty) ≡ Some (record { type = type; args = args })
+  pub declared : type_in ty ≡ Some type
+  pub same : args_of ty ≡ args
+  pub fits : (p : Program) (s : Scene) (names : Names) (a : Value) → Fits p s names ty a →
       IsCase p s (names_of (map names args)) type a
   -- one that is copied is of the type itself
-  copied : is_owning ty ≡ false → ty ≡ variant type args
+  pub copied : is_owning ty ≡ false → ty ≡ variant type args
 
 switched : (ty : Ty) → is_variant_type ty ≡ true → IsSwitched ty
 switched (variant t args) e = record {
@@ -282,101 +282,215 @@ module _ (p : Program) (f : Func) (typed : IsTyped p f) (cased : HasCases p f) {
 
 -- ---- a switch
 
+-- The variable has a value of a variant, which fits its type.
+pub record IsSwitch (p : Program) (f : Func) (s : Scene) (frame : Frame) (v : ℕ) : Type 0 where
+  pub ty : Ty
+  pub known : var_type f v ≡ Some ty
+  pub of : IsSwitched ty
+  pub value : Value
+  pub has : frame.vars v ≡ Some value
+  pub fits : Fits p s frame.keys ty value
+
+-- an owning variable is empty behind it
+abbrev pub emptying : Func → (v : ℕ) → List Row
+emptying f v = if is_owning_var f v then empty_row v ∷ [] else []
+
+pub switch_known : (p : Program) (f : Func) {c : Context} {h : HeldMap} {ids : Ids} {frame : Frame} (w : World)
+    (agrees : Agrees p f c h ids [] frame w.objects) (v : ℕ) (arms : Arms) → switch_broken p f ids v arms ≡ [] →
+    CanPass (emptying f v) h → IsSwitch p f (scene c w.objects agrees.heads) frame v
+switch_known p f {c} {h} {ids} {frame} w agrees v arms broken pass =
+    let s2 = both_empty (use_broken f ids v ++ when_some (var_type f v) (λ ty. unless (is_variant_type ty) rule.WRONG_SWITCH)) _ broken in
+    let s1 = both_empty (use_broken f ids v) (when_some (var_type f v) (λ ty. unless (is_variant_type ty) rule.WRONG_SWITCH)) s2.0 in
+    let u = used f ids v s1.0 in
+    let o = switched u.ty (unless_so (is_variant_type u.ty) rule.WRONG_SWITCH
+    (when_so (var_type f v) u.ty (λ ty. unless (is_variant_type ty) rule.WRONG_SWITCH) u.is s1.1)) in
+    ⊎_elim
+    (λ own.
+    let owner : is_owning_var f v ≡ true = ap owns u.is ∙ own in
+    let before = subst (λ b. CanPass (if b then empty_row v ∷ [] else []) h) owner pass in
+    let there = subst (λ s. HasVar (is_owning_var f v) s (frame.vars v)) (full_is (h (a_var v)) before.0) (agrees.vars.full v) in
+    made u.ty u.is u.scoped o there.0 there.1)
+    (λ plain.
+    let there = agrees.fit.there v u.ty u.scoped u.is plain in
+    made u.ty u.is u.scoped o there.0 there.1)
+    (cases_Bool (is_owning u.ty))
+  where
+    made : (ty : Ty) → var_type f v ≡ Some ty → InScope ids v → IsSwitched ty → (value : Value) → frame.vars v ≡ Some value →
+        IsSwitch p f (scene c w.objects agrees.heads) frame v
+    made ty is scoped o value has = record {
+      ty = ty;
+      known = is;
+      of = o;
+      value = value;
+      has = has;
+      fits = agrees.fit.fit v ty value scoped is has;
+    }
+
+-- what is known where a switch begins
+pub record SwitchAt (p : Program) (f : Func) (v : ℕ) (arms : Arms) (frame : Frame) (w : World) : Type 0 where
+  pub site : Site
+  pub ids : Ids
+  pub before : HeldMap
+  pub behind : HeldMap
+  pub here : IsAt p f site ids
+  pub agrees : Agrees p f site.context before ids [] frame w.objects
+  pub broken : switch_broken p f ids v arms ≡ []
+  pub listed : arms_broken p f ids v arms ≡ []
+  pub rows : BreakNone (arms_rows p f site.around ids arms)
+  pub first : CanPass (emptying f v) before
+  pub leads : DerivesArms site.breaks site.turns (passed (emptying f v) before) (flow_of_arms p f site.left v arms) behind
+
+module _ (p : Program) (f : Func) (typed : IsTyped p f) (keyed : HasKeys f) (cased : HasCases p f) {v : ℕ} {arms : Arms}
+    {frame : Frame} {w : World} (x : SwitchAt p f v arms frame w) where
+  abbrev pub here_scene : Scene
+  here_scene = scene x.site.context w.objects x.agrees.heads
+
+  pub the_switch : IsSwitch p f here_scene frame v
+  the_switch = switch_known p f w x.agrees v arms x.broken x.first
+
+  pub case_fits : IsCase p here_scene (names_of (map frame.keys the_switch.of.args)) the_switch.of.type the_switch.value
+  case_fits = the_switch.of.fits p here_scene frame.keys the_switch.value the_switch.fits
+
+  abbrev pub switched_type : VariantOf
+  switched_type = record { type = the_switch.of.type; args = the_switch.of.args }
+
+  abbrev pub switched_case : Case
+  switched_case = record { number = case_fits.case; parts = case_fits.parts; keys = case_fits.keys }
+
+  pub type_is : variant_of f v ≡ Some switched_type
+  type_is = ap variant_in the_switch.known ∙ the_switch.of.of
+
+  pub case_is : case_in (frame.vars v) ≡ Ok switched_case
+  case_is = ap case_in (the_switch.has ∙ ap Some case_fits.is)
+
+  abbrev pub payload : List Ty
+  payload = map (with_keys the_switch.of.args) case_fits.decl.payload
+
+  abbrev pub switched_keys : List KeyIn
+  switched_keys = case_keys p switched_type case_fits.case
+
+  abbrev pub emptied_map : HeldMap
+  emptied_map = passed (emptying f v) x.before
+
+  -- the case's parts are handed over, and its objects are under its keys
+  abbrev pub IsOpen : World → Type 0
+  IsOpen w' =
+      Agrees p f x.site.context (passed (map key_row switched_keys) emptied_map) x.ids
+      (handed payload (map one case_fits.parts)) (emptied f v frame) w'.objects
+
+  -- ---- the arm of the case
+
+  shape : is_variant (decl_of p the_switch.of.type) ≡ true
+  shape = has_case (decl_of p the_switch.of.type) case_fits.case case_fits.decl case_fits.declared
+
+  pub the_arm : ArmAt p f x.site v emptied_map x.behind case_fits.case arms x.ids
+  the_arm =
+      arm_at p f x.site v emptied_map x.behind case_fits.case arms x.ids x.here x.listed x.rows x.leads
+      (arms_cover p f x.ids v the_switch.of.type the_switch.of.args the_switch.ty arms the_switch.known the_switch.of.is shape x.broken case_fits.case
+      (slice_get_within (cases_of p the_switch.of.type) case_fits.case case_fits.decl case_fits.declared))
+
+  abbrev pub arm_ids : Ids
+  arm_ids = with_vars f the_arm.vs the_arm.scope
+
+  abbrev fills : List Row
+  fills = fill_rows f the_arm.vs
+
+  rows_are : arm_rows p f v case_fits.case the_arm.vs ≡ map key_row switched_keys ++ fills
+  rows_are = ap (λ o. on_option o (λ t. map key_row (case_keys p t case_fits.case)) ++ fills) type_is
+
+  can_pass : CanPass (map key_row switched_keys) emptied_map × CanPass fills (passed (map key_row switched_keys) emptied_map)
+  can_pass =
+      pass_split (map key_row switched_keys) fills emptied_map (subst (λ rs. CanPass rs emptied_map) rows_are the_arm.pass)
+
+  unbroken : (case_broken p case_fits.case (length the_arm.vs) (variant_args (var_type f v)) ≡ []) ×
+      (arm_vars_broken f the_arm.scope (payload_types p (variant_args (var_type f v)) case_fits.case) the_arm.vs ≡ [])
+  unbroken =
+      both_empty (case_broken p case_fits.case (length the_arm.vs) (variant_args (var_type f v)))
+      (arm_vars_broken f the_arm.scope (payload_types p (variant_args (var_type f v)) case_fits.case) the_arm.vs) the_arm.broken
+
+  vars_broken : arm_vars_broken f the_arm.scope payload the_arm.vs ≡ []
+  vars_broken =
+      subst (λ ts. arm_vars_broken f the_arm.scope ts the_arm.vs ≡ [])
+      (ap (λ t. payload_types p t case_fits.case) (ap variant_args the_switch.known ∙ the_switch.of.is) ∙ ap (payload_types_in the_switch.of.args) case_fits.declared)
+      unbroken.1
+
+  many : length the_arm.vs ≡ length case_fits.decl.payload
+  many =
+      arm_count p case_fits.case (length the_arm.vs) the_switch.of.type the_switch.of.args case_fits.decl shape case_fits.declared
+      (subst (λ t. case_broken p case_fits.case (length the_arm.vs) t ≡ []) (ap variant_args the_switch.known ∙ the_switch.of.is) unbroken.0)
+
+  pub arm_here : IsAt p f x.site arm_ids
+  arm_here = record {
+    entered = the_arm.here.entered;
+    scoped = arm_scoped keyed payload the_arm.vs vars_broken the_arm.here.scoped;
+    outer = λ u e. (vars_widen f the_arm.vs the_arm.scope).vars u (the_arm.here.outer u e);
+  }
+
+  -- what is in scope behind the arms is in scope behind the arm's block
+  pub arms_scope : (u : ℕ) → InScope (ids_behind_arms p f arms x.ids) u → InScope (ids_behind_block p f the_arm.body arm_ids) u
+  arms_scope u i =
+      (widens_both (vars_widen f the_arm.vs the_arm.scope) (block_widens p f the_arm.body arm_ids)).vars u
+      (subst (λ vs. heads.has vs u ≡ true) (arms_vars p f arms x.ids ∙ sym the_arm.vars) i)
+
+  -- ---- where the arm's block begins
+
+  pub case_opens : (g : Goal) (go : World → Step) → ((w' : World) → IsOpen w' → Safe g (go w')) →
+      Safe g (with_case_opened switched_keys case_fits.keys frame w go)
+  case_opens g go safe =
+      opens p f typed cased w x.agrees v the_switch.ty the_switch.known the_switch.of the_switch.value the_switch.has case_fits the_switch.fits g go x.first can_pass.0 safe
+
+  pub arm_fills : (w' : World) → IsOpen w' → (g : Goal) (go : Frame → Step) →
+      ((frame' : Frame) → Agrees p f x.site.context (passed (arm_rows p f v case_fits.case the_arm.vs) emptied_map) arm_ids [] frame' w'.objects → Safe g (go frame')) →
+      Safe g (with_filled f the_arm.vs (map one case_fits.parts) (emptied f v frame) w' go)
+  arm_fills w' now g go safe =
+      filled_safe typed.limited g w' go payload the_arm.vs case_fits.parts
+      (agrees_in the_arm.scope (λ u i. subst (λ vs. heads.has vs u ≡ true) the_arm.vars i) now)
+      (payloads_kept the_switch.of.args case_fits.decl.payload (payload_known p f typed cased w x.agrees v the_switch.ty the_switch.known the_switch.of the_switch.value the_switch.has case_fits))
+      vars_broken (many ∙ length_kept the_switch.of.args case_fits.decl.payload)
+      (parts_many p here_scene (names_of (map frame.keys the_switch.of.args)) the_switch.of.args case_fits.decl.payload case_fits.parts case_fits.fit)
+      can_pass.1
+      (λ frame' done. safe frame'
+      (agrees_map (sym (ap (λ rs. passed rs emptied_map) rows_are ∙ passed_split (map key_row switched_keys) fills emptied_map)) done))
+
+-- ---- a switch is safe
+
 module _ (r : Setup) (rest_of : Meaning) (f : Func) (typed : IsTyped r.program f) (keyed : HasKeys f)
     (cased : HasCases r.program f) (v : ℕ) (arms : Arms) (end : ℕ) (safe : AreSafeArms r rest_of f arms) where
-  module _ (s : Site) (h k : HeldMap) (ids : Ids) (frame : Frame) (w : World) (here : IsAt r.program f s ids)
-      (agrees : Agrees r.program f s.context h ids [] frame w.objects)
-      (ty : Ty) (known : var_type f v ≡ Some ty) (o : IsSwitched ty) (value : Value) (has : frame.vars v ≡ Some value)
-      (fits : Fits r.program (scene s.context w.objects agrees.heads) frame.keys ty value) where
-    abbrev rows : List Row
-    rows = if is_owning_var f v then empty_row v ∷ [] else []
-
-    abbrev G : Goal
-    G = comes_to r.program f s k (ids_behind_arms r.program f arms ids)
-
-    fit : IsCase r.program (scene s.context w.objects agrees.heads) (names_of (map frame.keys o.args)) o.type value
-    fit = o.fits r.program (scene s.context w.objects agrees.heads) frame.keys value fits
-
-    abbrev here_keys : List KeyIn
-    here_keys = case_keys r.program (record { type = o.type; args = o.args }) fit.case
-
-    types_are : payload_types r.program (variant_args (var_type f v)) fit.case ≡ map (with_keys o.args) fit.decl.payload
-    types_are = ap (λ q. payload_types r.program q fit.case) (ap variant_args known ∙ o.is) ∙ ap (payload_types_in o.args) fit.declared
-
-    of_is : variant_of f v ≡ Some (record { type = o.type; args = o.args })
-    of_is = ap variant_in known ∙ o.of
-
-    -- the block of the arm
-    arm_safe : (a : ArmAt r rest_of f s v (passed rows h) k fit.case arms ids) → is_variant (decl_of r.program o.type) ≡ true → (w' : World) →
-        Agrees r.program f s.context (passed (map key_row here_keys) (passed rows h)) ids
-        (handed (map (with_keys o.args) fit.decl.payload) (map one fit.parts)) (emptied f v frame) w'.objects →
-        CanPass (fill_rows f a.vs) (passed (map key_row here_keys) (passed rows h)) →
-        arm_rows r.program f v fit.case a.vs ≡ map key_row here_keys ++ fill_rows f a.vs →
-        Safe G (with_filled f a.vs (map one fit.parts) (emptied f v frame) w' (λ frame. does_block r rest_of f a.body frame w'))
-    arm_safe a shape w' now pass rows_are =
-        let both = both_empty (case_broken r.program fit.case (length a.vs) (variant_args (var_type f v)))
-        (arm_vars_broken f a.scope (payload_types r.program (variant_args (var_type f v)) fit.case) a.vs) a.broken in
-        let vars_broken = subst (λ ts. arm_vars_broken f a.scope ts a.vs ≡ []) types_are both.1 in
-        let many = arm_count r.program fit.case (length a.vs) o.type o.args fit.decl shape fit.declared
-        (subst (λ q. case_broken r.program fit.case (length a.vs) q ≡ []) (ap variant_args known ∙ o.is) both.0) in
-        filled_safe typed.limited G w' (λ frame. does_block r rest_of f a.body frame w')
-        (map (with_keys o.args) fit.decl.payload) a.vs fit.parts
-        (agrees_in a.scope (λ u i. subst (λ vs. heads.has vs u ≡ true) a.vars i) now)
-        (payloads_kept o.args fit.decl.payload (payload_known r.program f typed cased w agrees v ty known o value has fit))
-        vars_broken (many ∙ length_kept o.args fit.decl.payload)
-        (parts_many r.program (scene s.context w.objects agrees.heads) (names_of (map frame.keys o.args)) o.args fit.decl.payload fit.parts fit.fit)
-        pass
-        (λ frame' done.
-        weaker (comes_to r.program f s k (ids_behind_block r.program f a.body (with_vars f a.vs a.scope))) G (does_block r rest_of f a.body frame' w')
-        (λ frame w now. agrees_in (ids_behind_arms r.program f arms ids)
-        (λ u i. (widens_both (vars_widen f a.vs a.scope) (block_widens r.program f a.body (with_vars f a.vs a.scope))).vars u
-        (subst (λ vs. heads.has vs u ≡ true) (arms_vars r.program f arms ids ∙ sym a.vars) i)) now)
-        (λ c frame w jumped. jumped) (λ v kept w left. left)
-        (a.safe s (passed (arm_rows r.program f v fit.case a.vs) (passed rows h)) k (owning_toks f a.vs) (with_vars f a.vs a.scope) frame' w'
-        (record {
-          entered = a.here.entered;
-          scoped = arm_scoped keyed (map (with_keys o.args) fit.decl.payload) a.vs vars_broken a.here.scoped;
-          outer = λ u e. (vars_widen f a.vs a.scope).vars u (a.here.outer u e);
-        })
-        a.kinded a.leads
-        (agrees_map (sym (ap (λ rs. passed rs (passed rows h)) rows_are ∙ passed_split (map key_row here_keys) (fill_rows f a.vs) (passed rows h))) done)))
-
-    by_value : CanPass rows h → switch_broken r.program f ids v arms ≡ [] → arms_broken r.program f ids v arms ≡ [] →
-        BreakNone (arms_rows r.program f s.around ids arms) →
-        DerivesArms s.breaks s.turns (passed rows h) (flow_of_arms r.program f s.left v arms) k →
-        Safe G (does_form r rest_of f (switch v arms end) frame w)
-    by_value before broken listed rows_kept leads =
-        let shape = has_case (decl_of r.program o.type) fit.case fit.decl fit.declared in
-        let a = arm_at r rest_of f s v (passed rows h) k fit.case arms ids here listed rows_kept leads safe
-        (arms_cover r.program f ids v o.type o.args ty arms known o.is shape broken fit.case
-        (slice_get_within (cases_of r.program o.type) fit.case fit.decl fit.declared)) in
-        let rows_are : arm_rows r.program f v fit.case a.vs ≡ map key_row here_keys ++ fill_rows f a.vs =
-        ap (λ q. on_option q (λ t. map key_row (case_keys r.program t fit.case)) ++ fill_rows f a.vs) of_is in
-        let pass = pass_split (map key_row here_keys) (fill_rows f a.vs) (passed rows h) (subst (λ rs. CanPass rs (passed rows h)) rows_are a.pass) in
-        let c : Case = record { number = fit.case; parts = fit.parts; keys = fit.keys } in
-        found_safe G (or_fault missing (variant_of f v)) (record { type = o.type; args = o.args }) w _ (ap (or_fault missing) of_is)
-        (found_safe G (case_in (frame.vars v)) c w _ (ap case_in (has ∙ ap Some fit.is))
-        (opens r.program f typed cased w agrees v ty known o value has fit fits G
-        (λ w. does_arm r rest_of f c arms (emptied f v frame) w) before pass.0
-        (λ w' now. subst (Safe G) (sym (a.does c (emptied f v frame) w' refl)) (arm_safe a shape w' now pass.1 rows_are))))
+  by_arm : {frame : Frame} {w : World} (x : SwitchAt r.program f v arms frame w) →
+      Safe (comes_to r.program f x.site x.behind (ids_behind_arms r.program f arms x.ids)) (does_form r rest_of f (switch v arms end) frame w)
+  by_arm {frame} {w} x =
+      let G = comes_to r.program f x.site x.behind (ids_behind_arms r.program f arms x.ids) in
+      let c = switched_case r.program f typed keyed cased x in
+      let a = the_arm r.program f typed keyed cased x in
+      let done : Arm = record { vs = a.vs; body = a.body } in
+      let inner = with_vars f a.vs a.scope in
+      found_safe G (or_fault missing (variant_of f v)) (switched_type r.program f typed keyed cased x) w _
+      (ap (or_fault missing) (type_is r.program f typed keyed cased x))
+      (found_safe G (case_in (frame.vars v)) c w _ (case_is r.program f typed keyed cased x)
+      (case_opens r.program f typed keyed cased x G (λ w. does_arm r rest_of f c arms (emptied f v frame) w)
+      (λ w' now. subst (Safe G) (sym (arm_is_done r rest_of f c arms done (emptied f v frame) w' a.is))
+      (arm_fills r.program f typed keyed cased x w' now G (λ frame. does_block r rest_of f a.body frame w')
+      (λ frame' begun. weaker (comes_to r.program f x.site x.behind (ids_behind_block r.program f a.body inner)) G
+      (does_block r rest_of f a.body frame' w')
+      (λ frame w now. agrees_in (ids_behind_arms r.program f arms x.ids) (arms_scope r.program f typed keyed cased x) now)
+      (λ c frame w jumped. jumped) (λ v kept w left. left)
+      (arm_is_safe r rest_of f c.number arms done safe a.is x.site
+      (passed (arm_rows r.program f v c.number a.vs) (passed (emptying f v) x.before)) x.behind (owning_toks f a.vs) inner frame' w'
+      (arm_here r.program f typed keyed cased x) a.kinded a.leads begun))))))
 
   pub switch_is_safe : IsSafeForm r rest_of f (switch v arms end)
   switch_is_safe s h k ids frame w here kinded leads agrees =
       let both = both_empty (switch_broken r.program f ids v arms) (arms_broken r.program f ids v arms) kinded.row in
-      let s2 = both_empty (use_broken f ids v ++ when_some (var_type f v) (λ ty. unless (is_variant_type ty) rule.WRONG_SWITCH)) _ both.0 in
-      let s1 = both_empty (use_broken f ids v) (when_some (var_type f v) (λ ty. unless (is_variant_type ty) rule.WRONG_SWITCH)) s2.0 in
-      let u = used f ids v s1.0 in
-      let o = switched u.ty (unless_so (is_variant_type u.ty) rule.WRONG_SWITCH
-      (when_so (var_type f v) u.ty (λ ty. unless (is_variant_type ty) rule.WRONG_SWITCH) u.is s1.1)) in
-      ⊎_elim
-      (λ own.
-      let owner : is_owning_var f v ≡ true = ap owns u.is ∙ own in
-      let before = subst (λ b. CanPass (if b then empty_row v ∷ [] else []) h) owner leads.0 in
-      let there = subst (λ s. HasVar (is_owning_var f v) s (frame.vars v)) (full_is (h (a_var v)) before.0) (agrees.vars.full v) in
-      by_value s h k ids frame w here agrees u.ty u.is o there.0 there.1
-      (agrees.fit.fit v u.ty there.0 u.scoped u.is there.1) leads.0 both.0 both.1 kinded.rows leads.1)
-      (λ plain.
-      let there = agrees.fit.there v u.ty u.scoped u.is plain in
-      by_value s h k ids frame w here agrees u.ty u.is o there.0 there.1
-      (agrees.fit.fit v u.ty there.0 u.scoped u.is there.1) leads.0 both.0 both.1 kinded.rows leads.1)
-      (cases_Bool (is_owning u.ty))
+      by_arm (record {
+        site = s;
+        ids = ids;
+        before = h;
+        behind = k;
+        here = here;
+        agrees = agrees;
+        broken = both.0;
+        listed = both.1;
+        rows = kinded.rows;
+        first = leads.0;
+        leads = leads.1;
+      })
