@@ -1,0 +1,11 @@
+pub mod Naming
+pub mod Calls
+pub mod Moves
+pub mod Blocks
+pub mod Simples
+pub mod Ending
+pub mod Parts
+pub mod Enters
+pub mod Focuses
+pub mod Switches
+pub mod Whole
