@@ -85,23 +85,32 @@ fn prefix(mark: Mark) -> Option<Op>
     }
 }
 
+/// An operator between two operands, with its level.
+#[derive(Clone, Copy)]
+struct BinaryOperator {
+    op: Op,
+    level: u8,
+}
+
 /// The operator between two operands that comes next, if it binds at least as tightly as `least`.
-fn operator(tokens: &[Token<'_>], at: usize, least: u8) -> Option<Op>
+fn operator(tokens: &[Token<'_>], at: usize, least: u8) -> Option<BinaryOperator>
     requires { 1 ≤ least }
-    ensures spelled { IfSome result (λ op. left tokens.now at ≡ a_sign (sign_of op) ∷
+    ensures spelled { IfSome result (λ x. left tokens.now at ≡ a_sign (sign_of x.op) ∷
         left tokens.now (at + 1)) }
-    ensures arity { IfSome result (λ op. (row_of op).arity ≡ 2) }
-    ensures level { IfSome result (λ op. (least ≤ level op) ×
-        (next_level (ahead tokens.now at) ≡ level op)) }
+    ensures arity { IfSome result (λ x. (row_of x.op).arity ≡ 2) }
+    ensures level { IfSome result (λ x. x.level ≡ level x.op) }
+    ensures binds { IfSome result (λ x. (least ≤ level x.op) ×
+        (next_level (ahead tokens.now at) ≡ level x.op)) }
     ensures none { IfNone result (next_level (ahead tokens.now at) < least) }
-    ensures moves { IfSome result (λ op. Moves tokens.now at (at + 1)) }
-    ensures begins { IfSome result (λ op. OperatorComes op tokens.now at) }
+    ensures moves { IfSome result (λ x. Moves tokens.now at (at + 1)) }
+    ensures begins { IfSome result (λ x. OperatorComes x.op tokens.now at) }
 {
     let op = infix(next_sign(tokens, at)?)?;
-    if row(op).level < least {
+    let level = row(op).level;
+    if level < least {
         return None;
     }
-    Some(op)
+    Some(BinaryOperator { op, level })
 }
 
 /// A variable, or a field of one.
@@ -257,12 +266,12 @@ fn expression(
         []) (λ x. x.1) tokens.now at result }
 {
     let (mut first, mut here) = primary(alloc, tokens, at, room)?;
-    while let Some(op) = operator(tokens, here, least) {
+    while let Some(next) = operator(tokens, here, least) {
         let inside = deeper(first.depth, room)?;
-        let (second, behind) = expression(alloc, tokens, here + 1, row(op).level + 1, inside)?;
+        let (second, behind) = expression(alloc, tokens, here + 1, next.level + 1, inside)?;
         let depth = first.depth.max(second.depth) + 1;
         let expr = Expr::Binary {
-            op,
+            op: next.op,
             left: Boxed::new(alloc, first.expr)?,
             right: Boxed::new(alloc, second.expr)?,
             at: span(tokens, at, behind),

@@ -19,19 +19,19 @@ unary-returns-clause-binds t c = λ least most.
     rw c.in_ok-new.ensures (rw (unary_seen c.in-Some.op c.in_ok-operand.operand.expr c.span.result)
     (c.in-Some.ensures.arity, within, c.in_ok-operand.ensures.binds (level c.in-Some.op) tight))
 
-pub expression-loop-op-preserved : goal.expression-loop-op-preserved
-expression-loop-op-preserved t c =
+pub expression-loop-next-preserved : goal.expression-loop-next-preserved
+expression-loop-next-preserved t c =
     let tokens = c.args.tokens.now in
-    let op = c.in-Some.op in
-    let first = c.loop-op.first.depth in
+    let op = c.in-Some.next.op in
+    let first = c.loop-next.first.depth in
     let second = c.in_ok-second.second.depth in
     let inside = c.in_ok-inside.inside in
-    let here = ahead tokens c.loop-op.here in
-    let right = ahead tokens (c.loop-op.here + 1) in
+    let here = ahead tokens c.loop-next.here in
+    let right = ahead tokens (c.loop-next.here + 1) in
     let behind = ahead tokens c.in_ok-second.behind in
     let deeper : suc (max first second) ≡ c.max-depth.result + 1 = first_of (search rules, grind (arith, common_steps)) in
-    let seen : expr_of (Binary op c.in_ok-new.field-0 c.in_ok-new-2.field-0 c.span.result) ≡ s.binary op (expr_of c.loop-op.first.expr) (expr_of c.in_ok-second.second.expr) c.span.result =
-    rw (c.in_ok-new.ensures, c.in_ok-new-2.ensures) (binary_seen op c.loop-op.first.expr c.in_ok-second.second.expr c.span.result) in
+    let seen : expr_of (Binary op c.in_ok-new.field-0 c.in_ok-new-2.field-0 c.span.result) ≡ s.binary op (expr_of c.loop-next.first.expr) (expr_of c.in_ok-second.second.expr) c.span.result =
+    rw (c.in_ok-new.ensures, c.in_ok-new-2.ensures) (binary_seen op c.loop-next.first.expr c.in_ok-second.second.expr c.span.result) in
     record {
       spelled = rw seen (first_of (search rules, grind (arith, common_steps)));
       stands = rw seen (first_of (search rules, grind (arith, common_steps)));
@@ -44,11 +44,11 @@ expression-loop-op-preserved t c =
       within = first_of (search rules, grind (arith, common_steps));
       place = λ fs rest.
           let outer = m.right_of c.args.least c.args.room first ∷ fs in
-          c.loop-op.invariant.place fs rest
-          ∙ operator_goes_on op first c.args.least c.args.room inside fs rest here right c.in-Some.ensures.level.0 c.in_ok-inside.ensures.room c.in_ok-inside.ensures.fits c.in-Some.ensures.begins
-          ∙ ap (λ l. run (m.operand inside (m.level_from (l + 1) inside ∷ outer) ∷ rest) right) (sym c.row.ensures.level)
+          c.loop-next.invariant.place fs rest
+          ∙ operator_goes_on op first c.args.least c.args.room inside fs rest here right c.in-Some.ensures.binds.0 c.in_ok-inside.ensures.room c.in_ok-inside.ensures.fits c.in-Some.ensures.begins
+          ∙ ap (λ l. run (m.operand inside (m.level_from (l + 1) inside ∷ outer) ∷ rest) right) (sym c.in-Some.ensures.level)
           ∙ c.in_ok-second.ensures.place outer rest
-          ∙ right_ended (c.row.result.level + 1) inside first second c.args.least c.args.room fs rest behind c.in_ok-second.ensures.stops
+          ∙ right_ended (c.in-Some.next.level + 1) inside first second c.args.least c.args.room fs rest behind c.in_ok-second.ensures.stops
           ∙ ap (λ d. run (m.operations d (m.level_from c.args.least c.args.room ∷ fs) ∷ rest) behind) deeper;
     }
 

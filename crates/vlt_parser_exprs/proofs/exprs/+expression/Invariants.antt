@@ -21,8 +21,8 @@ decreases-unary l = 3 * (length l.tokens.now - l.at)
 abbrev pub decreases-expression : goal.decreases-expression
 decreases-expression l = 3 * (length l.tokens.now - l.at) + 2
 
-abbrev pub invariant-expression-loop-op : goal.invariant-expression-loop-op
-invariant-expression-loop-op l = record {
+abbrev pub invariant-expression-loop-next : goal.invariant-expression-loop-next
+invariant-expression-loop-next l = record {
   spelled : left l.tokens l.at ≡ expr_then (expr_of l.first.expr) (left l.tokens l.here);
   stands : Stands expr_at l.tokens l.at (expr_of l.first.expr) l.here;
   binds : BindsFrom l.least (expr_of l.first.expr);
@@ -36,5 +36,5 @@ invariant-expression-loop-op l = record {
       ≡ run (m.operations l.first.depth (m.level_from l.least l.room ∷ fs) ∷ s) (ahead l.tokens l.here);
 }
 
-abbrev pub decreases-expression-loop-op : goal.decreases-expression-loop-op
-decreases-expression-loop-op l = length l.tokens - l.here
+abbrev pub decreases-expression-loop-next : goal.decreases-expression-loop-next
+decreases-expression-loop-next l = length l.tokens - l.here
