@@ -1,9 +1,11 @@
 //! What an answer says is done: objects of a case come back, states are set, new objects are made.
-//! Read `vlt_meaning/specs/Externals.antt` first, then `specs/Stated.antt`.
+//! Read `vlt_meaning/specs/Externals.antt` first, then `specs/Stated.antt` and `specs/Results.antt`.
 //! The machine of runs, `vlt_interp`, is going to rest on it.
 #![tactic(auto)]
 
 mod keys;
+mod results;
 mod states;
 
+pub use results::put_result;
 pub use states::{set_case, set_entries, take_case};

@@ -1,0 +1,4 @@
+pub mod Keys
+pub mod Answered
+pub mod Leading
+pub mod Calling
