@@ -1,6 +1,6 @@
 //! Printing and input.
 
-ghost use Rattle.std.specs.Prelude.{◌≤◌, ◌<◌};
+ghost use Rattle.std.specs.Prelude.{◌≡◌, ◌≤◌, ◌<◌};
 ghost use Rattle.vlt_core.specs.View.{expr_of};
 ghost use Rattle.vlt_core.specs.Core.{print as a_print, input as an_input};
 ghost use Rattle.vlt_heap.specs.declared.heap.Heap.{Heap as AHeap};
@@ -51,6 +51,7 @@ pub fn input(values: &mut Values, host: &mut Host, v: VarId, more: bool) -> Resu
     requires wide { 1 ≤ values.old.width }
     requires within { v.0 < values.old.vars }
     ensures same { IsSameFrame values.old values.new }
+    ensures line { host.new.line ≡ host.old.line }
     ensures does { (h : AHeap) (b : Outside) →
         DoesOut h values.old values.new host.old host.new b b result (an_input v.0 more) }
 {

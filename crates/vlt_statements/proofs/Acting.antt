@@ -1,27 +1,26 @@
 -- Where a statement without blocks comes to, from what it comes to in the tables.
-use Rattle.std.proofs.Common.{◌≡◌, inl, inr, ◌<◌, ◌≤◌, ℕ, Bool, true, false, List, [], ◌∷◌, Option, Some, None, Result, Ok, Err, refl, sym, ap, ◌∙◌, subst, arith}
+use Rattle.std.proofs.Common.{◌≡◌, inl, inr, ◌≤◌, List, Option, Result, Ok, refl, sym, ap, ◌∙◌, subst, arith}
 use Rattle.std.specs.Vec.{vec_capacity}
 use Rattle.vlt_ops.specs.declared.TrapKind.{TrapKind}
-use Rattle.vlt_core.specs.Core.{Simple, input, print, simple, Func, Program}
+use Rattle.vlt_core.specs.Core.{Simple, Form, simple, Func, Program}
 use Rattle.vlt_core.specs.View.{func_of, program_of}
 use Rattle.vlt_heap.specs.declared.heap.Heap.{Heap}
 use Rattle.vlt_heap.specs.Shown.{IsSound, IsSameSize, heap_of}
-use Rattle.vlt_meaning.specs.World.{World, Frame, Outcome, trap, fault, done, fuel_end, heap_end, depth_end, input_end, answers_end, bad_answer, is_fault}
+use Rattle.vlt_meaning.specs.World.{World, Frame, trap, fault, done, fuel_end, heap_end, depth_end, input_end, answers_end, bad_answer}
 use Rattle.vlt_meaning.specs.Step.{Step, goes, jumps, leaves, ends}
-use Rattle.vlt_meaning.specs.Run.{Setup, does_simple}
+use Rattle.vlt_meaning.specs.Run.{does_simple}
 use Rattle.vlt_machine.specs.Machine as m
 use Rattle.vlt_machine.specs.Machine.{at}
 use Rattle.vlt_machine.specs.Bounds.{IsAt}
 use Rattle.vlt_machine.proofs.Depths.{simple_at}
 use Rattle.vlt_values.specs.declared.values.Values.{Values}
-use Rattle.vlt_values.specs.Shown.{Seen}
-use Rattle.vlt_acts.specs.Acts.{setup, Shows, DoesIt, DoesIn}
+use Rattle.vlt_acts.specs.Acts.{Shows, DoesIt, DoesIn, IsSameFrame}
 use Rattle.vlt_acts.specs.Acts as acts
 use Rattle.vlt_objects.specs.declared.halt.Halt.{Halt}
-use Rattle.vlt_objects.specs.declared.halt.Halt.TheVariants as object
 use Rattle.vlt_objects.specs.Cases.{DoesFor}
 use Rattle.vlt_objects.specs.Made.{Comes, ComesTo}
 use Rattle.vlt_hosts.specs.declared.halt.Halt.{Halt as HostHalt}
+use Rattle.vlt_hosts.specs.declared.host.Host.{Host}
 use Rattle.vlt_hosts.specs.Hosts.{Outside, ShowsHost, DoesOut}
 use Rattle.vlt_hosts.specs.Hosts as hosts_spec
 use Rattle.vlt_hosts.proofs.Writing.{silent}
@@ -113,10 +112,18 @@ module _ (old new : Run) (f : Func) (ts : List m.Task) (frame : Frame) (w : Worl
 
 -- ---- whole statements
 
-module _ (rules : Rules) (old new : Run) (s : Simple) (h : HasChanged old new) where
+pub same_frame : (v : Values) → IsSameFrame v v
+same_frame v = record { below = λ k l. refl; long = refl; room = omega arith; base = refl; vars = refl; width = refl }
+
+pub line_same : (a b : Host) → b.line ≡ a.line → vec_capacity a.line ≤ vec_capacity b.line
+line_same a b e = let k : vec_capacity b.line ≡ vec_capacity a.line = ap (λ v. vec_capacity v) e in omega (arith, k)
+
+-- of the form x, which is the statement s
+module _ (rules : Rules) (old new : Run) (x : Form) (s : Simple) (is : x ≡ simple s) (h : HasChanged old new) where
   -- one that may trap
-  pub trap_does : IsSilent s → new.host ≡ old.host → (r : Result (Unit {0}) TrapKind) → DoesFor (program_of rules.program.now) (func_of old.func.now) old.heap old.values new.heap new.values r s → (b : Outside) → moves.DoesFor (doing (simple s)) rules old new b b (trapped r)
-  trap_does quiet host r does b = record {
+  pub trap_does : IsSilent s → new.host ≡ old.host → (r : Result (Unit {0}) TrapKind) → DoesFor (program_of rules.program.now) (func_of old.func.now) old.heap old.values new.heap new.values r s
+      → (b : Outside) (result : Option Stop) → result ≡ trapped r → moves.DoesFor (doing x) rules old new b b result
+  trap_does quiet host r does b result equal = subst (λ y. moves.DoesFor (doing y) rules old new b b result) (sym is) (subst (moves.DoesFor (doing (simple s)) rules old new b b) (sym equal) (record {
     keeps = changed_keeps old new h;
     comes = λ f ts frame w q.
         let a = does_simple (setup_of rules (heap_of old.heap)) f s frame w in
@@ -124,11 +131,12 @@ module _ (rules : Rules) (old new : Run) (s : Simple) (h : HasChanged old new) w
         (simple_at frame.depth (setup_of rules (heap_of old.heap)) f s frame w refl)
         (simple_inside (setup_of rules (heap_of old.heap)) f s frame w quiet)
         (does (seen_in (program_of rules.program.now) old (tasks_left old) f ts frame w q) w (heap_of old.heap) rules.depth refl (sym q.func) refl);
-  }
+  }))
 
   -- one that makes an object
-  pub make_does : IsSilent s → new.host ≡ old.host → (r : Result (Unit {0}) Halt) → ComesTo (func_of old.func.now) old.heap old.values new.heap new.values r s → (b : Outside) → moves.DoesFor (doing (simple s)) rules old new b b (full r)
-  make_does quiet host r does b = record {
+  pub make_does : IsSilent s → new.host ≡ old.host → (r : Result (Unit {0}) Halt) → ComesTo (func_of old.func.now) old.heap old.values new.heap new.values r s
+      → (b : Outside) (result : Option Stop) → result ≡ full r → moves.DoesFor (doing x) rules old new b b result
+  make_does quiet host r does b result equal = subst (λ y. moves.DoesFor (doing y) rules old new b b result) (sym is) (subst (moves.DoesFor (doing (simple s)) rules old new b b) (sym equal) (record {
     keeps = changed_keeps old new h;
     comes = λ f ts frame w q.
         let a = does_simple (setup_of rules (heap_of old.heap)) f s frame w in
@@ -136,11 +144,12 @@ module _ (rules : Rules) (old new : Run) (s : Simple) (h : HasChanged old new) w
         (simple_at frame.depth (setup_of rules (heap_of old.heap)) f s frame w refl)
         (simple_inside (setup_of rules (heap_of old.heap)) f s frame w quiet)
         (does (seen_in (program_of rules.program.now) old (tasks_left old) f ts frame w q) w rules.depth (sym q.func) refl);
-  }
+  }))
 
   -- one that speaks with the host, and leaves the heap
-  pub host_does : new.heap ≡ old.heap → (before after : Outside) (r : Result (Unit {0}) HostHalt) → DoesOut old.heap old.values new.values old.host new.host before after r s → moves.DoesFor (doing (simple s)) rules old new before after (halted r)
-  host_does heap before after r does = record {
+  pub host_does : new.heap ≡ old.heap → (before after : Outside) (r : Result (Unit {0}) HostHalt) → DoesOut old.heap old.values new.values old.host new.host before after r s
+      → (result : Option Stop) → result ≡ halted r → moves.DoesFor (doing x) rules old new before after result
+  host_does heap before after r does result equal = subst (λ y. moves.DoesFor (doing y) rules old new before after result) (sym is) (subst (moves.DoesFor (doing (simple s)) rules old new before after) (sym equal) (record {
     keeps = changed_keeps old new h;
     comes = λ f ts frame w q.
         let a = does_simple (setup_of rules (heap_of old.heap)) f s frame w in
@@ -149,4 +158,4 @@ module _ (rules : Rules) (old new : Run) (s : Simple) (h : HasChanged old new) w
         (simple_at frame.depth (setup_of rules (heap_of old.heap)) f s frame w refl)
         (subst (λ k. hosts_spec.Comes q.items k new.values new.host before after r w a) (sym heap)
         (does (seen_in (program_of rules.program.now) old (tasks_left old) f ts frame w q) w (heap_of old.heap) rules.depth refl runs.hosts));
-  }
+  }))

@@ -1,5 +1,5 @@
 -- What the tables ask of a statement, from what the statement asks.
-use Rattle.std.proofs.Common.{◌≡◌, ◌⊎◌, inl, inr, ◌<◌, ◌≤◌, ◌+◌, ◌*◌, ◌^◌, ◌==◌, ℕ, zero, suc, max, Bool, true, false, if◌then◌else◌, List, [], ◌∷◌, map, length, Option, Some, None, Ok, Err, refl, sym, ap, ◌∙◌, subst, arith, slice_get, option_map}
+use Rattle.std.proofs.Common.{◌≡◌, ◌<◌, ◌≤◌, ◌+◌, ◌*◌, ◌^◌, ◌==◌, ℕ, zero, suc, max, true, List, [], ◌∷◌, length, Option, Some, None, refl, sym, ap, ◌∙◌, subst, arith, slice_get, option_map}
 use Rattle.std.specs.List.{All}
 use Rattle.std.specs.Prelude.{IfSome}
 use Rattle.std.specs.Vec.{vec_capacity}
@@ -7,7 +7,7 @@ use Rattle.std.proofs.lemmas.Bool.Decides.{nat_tests}
 use Rattle.std.proofs.lemmas.Option.{none-some, same_Some}
 use Rattle.vlt_base.specs.declared.ids.VarId.{VarId}
 use Rattle.vlt_core.specs.Core.{Ty, int, bool, tracked, owning, guarded, VarDecl, CaseDecl, Operand, Simple, make, build, Form, simple, Func, Program, variant, owning_variant}
-use Rattle.vlt_core.specs.Lookups.{Reference, reference_of, VariantOf, variant_of, variant_in, var_type, fields_of, case_at, cases_of}
+use Rattle.vlt_core.specs.Lookups.{Reference, reference_of, VariantOf, variant_of, variant_in, fields_of, case_at, cases_of}
 use Rattle.vlt_core.specs.Widths.{greatest}
 use Rattle.vlt_core.specs.View.{func_of, program_of, vars_of}
 use Rattle.vlt_heap.specs.Shown.{heap_of, slots_of}
@@ -38,10 +38,15 @@ greatest_at go [] i x e = absurd (none-some x e)
 greatest_at go (y ∷ ys) zero x e = let s : go y ≡ go x = ap go (same_Some y x e) in omega (arith, s)
 greatest_at go (y ∷ ys) (suc i) x e = let l = greatest_at go ys i x e in omega (arith, l)
 
+-- ---- the statement
+
+pub can_at : (x y : Form) (rules : Rules) (r : Run) → x ≡ y → CanDo x rules r → CanDo y rules r
+can_at x y rules r e c = subst (λ k. CanDo k rules r) e c
+
 -- ---- the running frame
 
 module _ (form : Form) (rules : Rules) (r : Run) (can : CanDo form rules r) where
-  pub can_seen : Seen r.heap r.values
+  abbrev pub can_seen : Seen r.heap r.values
   can_seen = seen_in (program_of rules.program.now) r (tasks_left r) can.right.func can.right.tasks can.right.frame can.right.world can.right.shown
 
   can_runs : Runs can.right.shown.items r can.right.func can.right.frame can.right.world
@@ -81,7 +86,7 @@ can_vars form rules r can vs own = vars_all (func_of r.func.now) r.values.vars v
 -- ---- statements that don't go wrong
 
 module _ (s : Simple) (rules : Rules) (r : Run) (can : CanDo (simple s) rules r) where
-  pub right_act : IsRight r.heap r.values s
+  abbrev pub right_act : IsRight r.heap r.values s
   right_act = record { seen = can_seen (simple s) rules r can; world = can.right.world; objects = refl; heap_budget = heap_of r.heap; depth = rules.depth; right = can.right.right }
 
   pub right_here : IsRightHere (func_of r.func.now) r.heap r.values s
@@ -106,6 +111,9 @@ module _ (form : Form) (rules : Rules) (r : Run) (can : CanDo form rules r) wher
       let b = can.ready.room.values in
       let q = wide_square r.values.width can.ready.room.wide.some in
       omega (arith, a, b, q)
+
+  pub room_tasks : length r.tasks.items + 3 ≤ vec_capacity r.tasks
+  room_tasks = let a = can.ready.tasks in let b = can.ready.room.tasks in omega (arith, a, b)
 
   pub room_fields : (t n : ℕ) → n ≡ length (fields_of p t) → length r.values.slots.items + n * r.values.width ≤ vec_capacity r.values.slots
   room_fields t n e =
@@ -191,38 +199,32 @@ module _ (x : ℕ) (args : List Operand) (rules : Rules) (r : Run) (can : CanDo 
   make_has : HasFields (program_of rules.program.now) can.right.func x (length args)
   make_has = make_fields (program_of rules.program.now) (heap_of r.heap) rules.depth can.right.func x args can.right.frame can.right.world can.right.right
 
-  pub make_room : length r.values.slots.items + length args * r.values.width ≤ vec_capacity r.values.slots
-  make_room = room_fields (simple (make x args)) rules r can make_has.reference.type (length args) make_has.count
+  pub make_room : (n : ℕ) → length args ≡ n → length r.values.slots.items + n * r.values.width ≤ vec_capacity r.values.slots
+  make_room n e = room_fields (simple (make x args)) rules r can make_has.reference.type n (sym e ∙ make_has.count)
 
-  pub make_cells : length args * r.values.width ≤ slots_of r.heap
-  make_cells = cells_fit (simple (make x args)) rules r can make_has.reference.type (length args) make_has.count
+  pub make_cells : (n : ℕ) → length args ≡ n → n * r.values.width ≤ slots_of r.heap
+  make_cells n e = cells_fit (simple (make x args)) rules r can make_has.reference.type n (sym e ∙ make_has.count)
 
 module _ (v c : ℕ) (args : List Operand) (rules : Rules) (r : Run) (can : CanDo (simple (build v c args)) rules r) where
   build_has : HasPayload (program_of rules.program.now) (func_of r.func.now) v c (length args)
   build_has = subst (λ f. HasPayload (program_of rules.program.now) f v c (length args)) (sym can.right.shown.func)
       (build_payload (program_of rules.program.now) (heap_of r.heap) rules.depth can.right.func v c args can.right.frame can.right.world can.right.right)
 
-  pub build_narrow : FitsCase (program_of rules.program.now) (func_of r.func.now) v c (length args) r.values.width
-  build_narrow = build_fits (program_of rules.program.now) (func_of r.func.now) v c (length args) r.values.width can.ready.func can.ready.room.wide build_has
+  pub build_narrow : (n : ℕ) → length args ≡ n → FitsCase (program_of rules.program.now) (func_of r.func.now) v c n r.values.width
+  build_narrow n e = subst (λ k. FitsCase (program_of rules.program.now) (func_of r.func.now) v c k r.values.width) e
+      (build_fits (program_of rules.program.now) (func_of r.func.now) v c (length args) r.values.width can.ready.func can.ready.room.wide build_has)
 
-  pub build_room : length r.values.slots.items + length args * r.values.width ≤ vec_capacity r.values.slots
-  build_room =
-      let n = wide_times (length args) r.values.width r.values.width (payload_narrow (program_of rules.program.now) (func_of r.func.now) v c (length args) r.values.width build_narrow build_has) in
+  pub build_room : (n : ℕ) → length args ≡ n → length r.values.slots.items + n * r.values.width ≤ vec_capacity r.values.slots
+  build_room n e =
+      let l = payload_narrow (program_of rules.program.now) (func_of r.func.now) v c (length args) r.values.width (build_narrow (length args) refl) build_has in
+      let k = wide_times n r.values.width r.values.width (omega (arith, l, e)) in
       let a = can.ready.values in
       let b = can.ready.room.values in
-      omega (arith, a, b, n)
+      omega (arith, a, b, k)
 
--- an object has fewer fields than slots
-pub few_fields : (form : Form) (rules : Rules) (r : Run) → CanDo form rules r → (x : ℕ) → slots_of r.heap < 2 ^ 32 → IfSome (reference_of (func_of r.func.now) x) (λ q. length (fields_of (program_of rules.program.now) q.type) < 2 ^ 32)
-few_fields form rules r can x few = by (reference_of (func_of r.func.now) x)
+pub few_fields : (form : Form) (rules : Rules) (r : Run) → CanDo form rules r → (x : ℕ) → IfSome (reference_of (func_of r.func.now) x) (λ q. length (fields_of (program_of rules.program.now) q.type) < 2 ^ 32)
+few_fields form rules r can x = by (reference_of (func_of r.func.now) x)
   where
-    below : (n w : ℕ) → 1 ≤ w → n ≤ n * w
-    below n zero l = absurd (omega (arith, l))
-    below n (suc w) l = omega arith
-
     by : (y : Option Reference) → IfSome y (λ q. length (fields_of (program_of rules.program.now) q.type) < 2 ^ 32)
     by None = tt
-    by (Some q) =
-        let b = can.ready.room.cells q.type in
-        let n = below (length (fields_of (program_of rules.program.now) q.type)) r.values.width can.ready.room.wide.some in
-        omega (arith, b, n, few)
+    by (Some q) = can.ready.room.fields q.type

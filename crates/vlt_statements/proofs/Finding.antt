@@ -1,11 +1,11 @@
 -- What a part of a move finds, where it doesn't go wrong.
-use Rattle.std.proofs.Common.{◌≡◌, ℕ, suc, ◌+◌, ◌≤◌, Bool, true, false, List, [], ◌∷◌, length, Option, Some, None, Ok, Err, refl, sym, ap, ◌∙◌, subst, arith}
+use Rattle.std.proofs.Common.{◌≡◌, ℕ, suc, Bool, true, false, List, [], ◌∷◌, length, Some, Ok, Err, refl, sym, ap, ◌∙◌}
 use Rattle.std.proofs.lemmas.Bool.{false≢true}
 use Rattle.vlt_core.specs.Core.{Func}
 use Rattle.vlt_core.specs.Lookups.{KeyIn}
-use Rattle.vlt_meaning.specs.World.{Value, held, World, Frame, Outcome, not_empty, missing, fault, is_fault}
+use Rattle.vlt_meaning.specs.World.{Value, held, World, Frame, not_empty, is_fault}
 use Rattle.vlt_meaning.specs.Found.{Found, Named}
-use Rattle.vlt_meaning.specs.Step.{Step, goes, ends, with_var, with_changed, is_fillable}
+use Rattle.vlt_meaning.specs.Step.{with_var, with_changed, is_fillable}
 use Rattle.vlt_meaning.specs.Objects.{with_owner}
 use Rattle.vlt_meaning.specs.Operands.{case_object}
 use Rattle.vlt_machine.specs.Got.{Got, got, stopped, then_got, found_in, got_if, opened_got, filled_got}

@@ -1,12 +1,12 @@
 -- A focus: where its block begins, and where it ends.
-use Rattle.std.proofs.Common.{◌≡◌, inl, inr, ◌<◌, ◌≤◌, ◌+◌, ◌==◌, ℕ, suc, Bool, true, false, List, [], ◌∷◌, ◌++◌, Option, Some, None, Ok, Err, refl, sym, ap, ◌∙◌, subst, arith}
+use Rattle.std.proofs.Common.{◌≡◌, ◌==◌, ℕ, Bool, true, List, [], ◌∷◌, ◌++◌, Option, Some, None, Ok, Err, refl, sym, ap, ◌∙◌, subst, arith}
 use Rattle.std.proofs.lemmas.Bool.Decides.{nat_tests}
-use Rattle.vlt_core.specs.Core.{Block, focus, Func, Program}
+use Rattle.vlt_core.specs.Core.{Block, focus, Func}
 use Rattle.vlt_core.specs.Lookups.{Reference, guarded_of, reference_of, release_set}
-use Rattle.vlt_core.specs.View.{func_of, program_of}
+use Rattle.vlt_core.specs.View.{func_of}
 use Rattle.vlt_heap.specs.Items.{Items}
-use Rattle.vlt_meaning.specs.World.{Value, one, of_case, number, reference, owned, held, lent, is_lent_under, is_adopted_by, Object, World, Frame, Outcome, missing, not_held, not_guarded, other_object, wrong_state, fault, is_fault}
-use Rattle.vlt_meaning.specs.Found.{Found, ◌>>=◌, or_fault, Named, if_so}
+use Rattle.vlt_meaning.specs.World.{Value, one, of_case, number, reference, owned, held, lent, is_lent_under, is_adopted_by, Object, World, Frame, missing, not_held, not_guarded, other_object, wrong_state, fault}
+use Rattle.vlt_meaning.specs.Found.{Found, or_fault, Named, if_so}
 use Rattle.vlt_meaning.specs.Objects.{object_at, in_states, with_owner}
 use Rattle.vlt_meaning.specs.Values.{held_object, reference_in, guarded_object}
 use Rattle.vlt_meaning.specs.Step.{Step, goes, jumps, leaves, ends, with_found, with_changed, with_var, with_key}
@@ -18,7 +18,7 @@ use Rattle.vlt_values.specs.declared.values.Values.{Values}
 use Rattle.vlt_values.specs.Shown.{Seen}
 use Rattle.vlt_values.proofs.Touching.{OrFault, then_fault, some_fault, so_fault, held_fault, object_fault, so_is, some_is}
 use Rattle.vlt_acts.specs.declared.focus.Focus.{Focus}
-use Rattle.vlt_acts.specs.Acts.{Shows, IsSameFrame}
+use Rattle.vlt_acts.specs.Acts.{Shows}
 use Rattle.vlt_acts.specs.Focus.{FindsFocus, CanFocus, IsFocus, focused_frame, focused_world, Focuses, FindsEnd, CanEnd, unfocused_world, Unfocuses}
 use Rattle.vlt_objects.proofs.Going.{found_safe}
 use Rattle.vlt_hosts.specs.Hosts.{Outside, ShowsHost}
@@ -29,10 +29,10 @@ use Rattle.vlt_tasks.specs.declared.task.At.{At}
 use Rattle.vlt_tasks.specs.declared.task.At.TheVariants.{Goes, Jumps, Leaves}
 use Rattle.vlt_tasks.specs.declared.task.Task.{Task}
 use Rattle.vlt_tasks.specs.declared.task.Task.TheVariants.{Unfocus}
-use Rattle.vlt_tasks.specs.Shown.{IsFocused, setup_of, tasks_left, ShowsTasks, Runs, ShowsStep, ShowsWith, ShowsConf}
-use Rattle.vlt_tasks.specs.Moves.{world_in, CameTo, CanDo, IsRight, IsRightTask}
+use Rattle.vlt_tasks.specs.Shown.{IsFocused, tasks_left, ShowsTasks, Runs, ShowsStep, ShowsWith, ShowsConf}
+use Rattle.vlt_tasks.specs.Moves.{world_in, CameTo, CanDo, IsRight}
 use Rattle.vlt_tasks.proofs.Staying.{IsGoing, going, seen_in, IsSameRun, stays_left}
-use Rattle.vlt_tasks.proofs.Pushing.{WithTasks, put_shown, left_shown}
+use Rattle.vlt_tasks.proofs.Pushing.{WithTasks, put_shown}
 use Rattle.vlt_tasks.proofs.Coming.{Came, wrong_came, missing_came, found_came, came_since}
 use Rattle.vlt_statements.proofs.Asking.{can_seen}
 use Rattle.vlt_statements.proofs.Finding.{when_right}
@@ -260,7 +260,7 @@ module _ (focus_is : Focus) (r : Run) (c : Conf) (q : ShowsWith (Unfocus focus_i
 
   module _ (s : Setup) (new : Run) (b : Outside) (same : IsSameRun r new) (values : new.values ≡ r.values) (host : new.host ≡ r.host) (fuel : new.fuel ≡ r.fuel) (does : Unfocuses focus_is r.heap r.values new.heap) where
     ended_came : (frame : Frame) (w : World) (e : c.step ≡ goes frame w) → Came w b b None new (at c.func next.rest (unfocused s next.guard next.key next.adopter next.number frame w))
-    unfolding unfocused with_found
+    unfolding unfocused with_found next_is finds_end
     ended_came frame w e = by_object (focused_object s next.key next.number frame w.objects) refl (focused_fault s next.key next.number frame w)
       where
         k : ShowsConf r (at c.func next.rest (goes frame w))
@@ -297,3 +297,17 @@ module _ (focus_is : Focus) (r : Run) (c : Conf) (q : ShowsWith (Unfocus focus_i
         let g = goes_at q.items r c.func r.at c.step going_on q.step in
         subst (λ k. CameTo (world_in c.step) b b None new k k.step) (sym (moved_is s))
         (subst (λ x. CameTo (world_in x) b b None new (moves_to s x) (moves_to s x).step) (sym g.is) (ended_came g.frame g.world g.is))
+
+pub jumps_elsewhere : (a : At) (k : Bool) → a ≡ Jumps k → a ≡ Goes → ⊥
+jumps_elsewhere a k e g = subst is_jump (sym e ∙ g) tt
+  where
+    is_jump : At → Type 0
+    is_jump (Jumps k) = Unit {0}
+    is_jump a = ⊥
+
+pub leaves_elsewhere : (a : At) → a ≡ Leaves → a ≡ Goes → ⊥
+leaves_elsewhere a e g = subst is_leave (sym e ∙ g) tt
+  where
+    is_leave : At → Type 0
+    is_leave Leaves = Unit {0}
+    is_leave a = ⊥

@@ -1,7 +1,8 @@
 mod Outside
-mod Asking
+pub mod Asking
 mod Acting
 mod Finding
-mod Blocks
+mod Entering
 mod Switching
 mod Foci
+pub mod Closing

@@ -1,11 +1,11 @@
 -- Statements that don't speak with the host change nothing of the world but its objects.
-use Rattle.std.proofs.Common.{◌≡◌, ℕ, ℤ, Bool, true, false, List, [], ◌∷◌, Option, Some, None, Ok, Err, if◌then◌else◌, refl}
+use Rattle.std.proofs.Common.{◌≡◌, ℕ, Bool, true, false, List, [], ◌∷◌, Option, Ok, Err, if◌then◌else◌, refl}
 use Rattle.vlt_core.specs.Core.{Operand, pure, move, pack, Simple, set, print, put, make, become, release, drop, own, unpack, build, swap, open_into, adopt, Func, Program}
 use Rattle.vlt_core.specs.Core as core
 use Rattle.vlt_core.specs.Lookups.{KeyIn}
 use Rattle.vlt_meaning.specs.World.{Value, Owner, Object, World, Frame, Reason, is_full}
 use Rattle.vlt_meaning.specs.Found.{Found}
-use Rattle.vlt_meaning.specs.Step.{Step, goes, jumps, leaves, ends, with_found, where_so, with_objects, with_made, with_moved, with_released, with_dropped, fill, with_filled}
+use Rattle.vlt_meaning.specs.Step.{Step, with_found, where_so, with_objects, with_made, with_moved, with_released, with_dropped, fill, with_filled}
 use Rattle.vlt_meaning.specs.Operands.{with_operand, with_operands, with_case_packed}
 use Rattle.vlt_meaning.specs.Run.{Setup, made_in, swapped, opened, does_simple}
 use Rattle.vlt_tasks.specs.Moves.{world_in}

@@ -1,23 +1,24 @@
 -- A switch: the arm of the case, whose variables get the payload.
-use Rattle.std.proofs.Common.{◌≡◌, inl, inr, ◌<◌, ◌≤◌, ◌+◌, ◌==◌, ℕ, ℤ, pos, suc, Bool, true, false, if◌then◌else◌, List, [], ◌∷◌, ◌++◌, map, length, Option, Some, None, Ok, Err, refl, sym, ap, ◌∙◌, subst, arith, option_map}
+use Rattle.std.proofs.Common.{◌≡◌, ◌≤◌, ◌+◌, ◌==◌, ℕ, ℤ, pos, suc, Bool, true, false, if◌then◌else◌, List, map, length, Option, Some, None, Ok, Err, refl, sym, ap, ◌∙◌, subst, arith, option_map}
+use Rattle.std.specs.Borrow.{Bor}
 use Rattle.std.proofs.lemmas.Bool.{false≢true}
-use Rattle.std.proofs.lemmas.Bool.Decides.{nat_tests}
 use Rattle.std.proofs.lemmas.Option.{none-some, same_Some}
 use Rattle.std.proofs.lemmas.List.{length-append, length-map}
 use Rattle.vlt_core.specs.Core.{Arms, no_arms, arm, switch, Func, Program}
 use Rattle.vlt_core.specs.Lookups.{VariantOf, variant_of, is_owning_var, case_keys}
-use Rattle.vlt_core.specs.View.{ArmView, func_of, program_of}
-use Rattle.vlt_heap.specs.Shown.{heap_of}
-use Rattle.vlt_meaning.specs.World.{Value, Part, one, owned, of_case, World, Frame, Outcome, missing, no_value, fault}
+use Rattle.vlt_base.specs.declared.ids.VarId.{VarId}
+use Rattle.vlt_core.specs.declared.program.Arm.{Arm, out-Arm}
+use Rattle.vlt_core.specs.View.{ArmView, func_of, program_of, arm_of, arms_of, block_of, vars_of}
+use Rattle.vlt_core.proofs.Views.{arm_parts}
+use Rattle.vlt_meaning.specs.World.{Value, one, owned, of_case, World, Frame, missing, fault}
 use Rattle.vlt_meaning.specs.Found.{Found, or_fault}
 use Rattle.vlt_meaning.specs.Operands.{Case, case_in, emptied}
-use Rattle.vlt_meaning.specs.Step.{Step, goes, ends, with_var}
+use Rattle.vlt_meaning.specs.Step.{goes, ends, with_var}
 use Rattle.vlt_meaning.specs.Run.{Setup}
 use Rattle.vlt_machine.specs.Got.{Got, got, stopped, then_got, opened_got, filled_got}
 use Rattle.vlt_machine.specs.Machine as m
 use Rattle.vlt_machine.specs.Machine.{Conf, at, act, enter_block, enter_arm, when_found, when_got}
 use Rattle.vlt_values.specs.Parts.{flat}
-use Rattle.vlt_values.specs.Shown.{Seen, ShowObjects}
 use Rattle.vlt_values.proofs.Touching.{OrFault, some_fault}
 use Rattle.vlt_acts.specs.Acts.{Shows}
 use Rattle.vlt_objects.specs.Cases.{TellsCase, IsOpened, OpensArm}
@@ -26,8 +27,8 @@ use Rattle.vlt_hosts.specs.Hosts.{Outside, ShowsHost}
 use Rattle.vlt_tasks.specs.declared.task.Rules.{Rules}
 use Rattle.vlt_tasks.specs.declared.task.Run.{Run}
 use Rattle.vlt_tasks.specs.Own.{AreVars, AreOwnArms}
-use Rattle.vlt_tasks.specs.Shown.{setup_of, tasks_left, Runs, ShowsConf}
-use Rattle.vlt_tasks.specs.Moves.{CameTo, CanDo, entering, Does, IsRight}
+use Rattle.vlt_tasks.specs.Shown.{tasks_left, ShowsConf}
+use Rattle.vlt_tasks.specs.Moves.{CanDo, IsRight}
 use Rattle.vlt_tasks.proofs.Staying.{IsGoing, going, seen_in, IsSameRun, stays_left}
 use Rattle.vlt_tasks.proofs.Coming.{Came, wrong_came, missing_came, found_came, came_since}
 use Rattle.vlt_statements.specs.Arms.{arm_for}
@@ -65,6 +66,19 @@ arm_own p f n (arm k vs body rest) x own e = by (n == k) e (λ h. arm_own p f n 
     by : (t : Bool) → (if t then Some (k, vs, body) else arm_for n rest) ≡ Some x → (arm_for n rest ≡ Some x → AreVars f x.1) → AreVars f x.1
     by true e h = subst (λ y. AreVars f y.1) (same_Some _ x e) own.0
     by false e h = h e
+
+-- the arm that the code found, and its variables
+pub arm_has : (arms : List Arm) (n : ℕ) (found : Option (Bor Arm)) (a : Bor Arm) → found ≡ Some a → option_map (λ a. arm_of a.now) found ≡ arm_for n (arms_of arms) → arm_for n (arms_of arms) ≡ Some (arm_of a.now)
+arm_has arms n found a is e = sym e ∙ ap (option_map (λ a. arm_of a.now)) is
+
+pub arm_lacks : (arms : List Arm) (n : ℕ) (found : Option (Bor Arm)) → found ≡ None → option_map (λ a. arm_of a.now) found ≡ arm_for n (arms_of arms) → arm_for n (arms_of arms) ≡ None
+arm_lacks arms n found is e = sym e ∙ ap (option_map (λ a. arm_of a.now)) is
+
+pub arm_vars_are : (a : Arm) (vs : List VarId) → vs ≡ (out-Arm a).vars → vars_of vs ≡ (arm_of a).1
+arm_vars_are a vs e = ap vars_of e ∙ sym (ap (λ x. x.1) (arm_parts a))
+
+pub arm_block_is : (a : Arm) → block_of (out-Arm a).body ≡ (arm_of a).2
+arm_block_is a = sym (ap (λ x. x.2) (arm_parts a))
 
 -- ---- the case of a value
 
@@ -132,7 +146,7 @@ module _ (v : ℕ) (arms : Arms) (rules : Rules) (r : Run) (can : CanDo (switch 
           (filling_wrong _ _ (emptied f v frame) after (filled_got f x.1 (map one c.parts) (emptied f v frame) after) k)
           (subst (λ q. IsRight q.step) (arm_entered f c arms x can.right.tasks (emptied f v frame) after e) right) in
           let h : Fills (length x.1) (length (map one c.parts)) (emptied f v frame) g.frame after g.world = subst (IsFilling (length x.1) (length (map one c.parts)) (emptied f v frame) after) g.is k in
-          record { case = c; is = is; view = x; has = e; count = h.count ∙ length-map one c.parts }
+          record { case = c; is = is; view = x; has = e; count = h.count ∙ length-map c.parts one }
 
   pub finds_arm : FindsArm r arms v frame
   finds_arm =
@@ -158,6 +172,20 @@ module _ (v : ℕ) (arms : Arms) (rules : Rules) (r : Run) (can : CanDo (switch 
 
   pub arm_number : (z : ℤ) → TellsCase v r.values z → z ≡ pos finds_arm.case.number
   arm_number z h = h r.heap (can_seen (switch v arms 0) rules r can) finds_arm.case finds_arm.is
+
+  -- the arm that the code found
+  module _ (z : ℤ) (view : ArmView) (tells : TellsCase v r.values z) (found : (n : ℕ) → z ≡ pos n → arm_for n arms ≡ Some view) where
+    view_is : finds_arm.view ≡ view
+    view_is = same_Some finds_arm.view view (sym finds_arm.has ∙ found finds_arm.case.number (arm_number z tells))
+
+    pub wide_at : (n : ℕ) → n ≡ length view.1 → 1 + n ≤ r.values.width
+    wide_at n e = let l = arm_wide in let k : length finds_arm.view.1 ≡ length view.1 = ap (λ x. length x.1) view_is in omega (arith, l, k, e)
+
+    pub vars_at : AreVars (func_of r.func.now) view.1
+    vars_at = subst (λ x. AreVars (func_of r.func.now) x.1) view_is arm_vars
+
+  pub always_found : (z : ℤ) → TellsCase v r.values z → ((n : ℕ) → z ≡ pos n → arm_for n arms ≡ None) → ⊥
+  always_found z tells none = none-some finds_arm.view (sym (none finds_arm.case.number (arm_number z tells)) ∙ finds_arm.has)
 
 -- ---- where it comes to
 

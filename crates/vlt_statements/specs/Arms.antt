@@ -1,5 +1,5 @@
 -- The arm of a case.
-use Rattle.std.specs.Prelude.{ℕ, ◌==◌, if◌then◌else◌, List, Option, Some, None}
+use Rattle.std.specs.Prelude.{ℕ, ◌==◌, if◌then◌else◌, Option, Some, None}
 use Rattle.vlt_core.specs.Core.{Arms, no_arms, arm}
 use Rattle.vlt_core.specs.View.{ArmView}
 

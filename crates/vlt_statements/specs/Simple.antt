@@ -1,17 +1,18 @@
 -- Statements without blocks that call nothing.
+use Rattle.std.specs.Prelude.{Bool, true, false}
 use Rattle.vlt_core.specs.Core.{become, release, drop, unpack, swap, open_into, adopt, Form, simple}
 
-abbrev pub IsSimple : Form → Type 0
-IsSimple (simple s) = Unit {0}
-IsSimple form = ⊥
+abbrev pub is_simple : Form → Bool
+is_simple (simple s) = true
+is_simple form = false
 
 -- it neither traps nor ends the run
-abbrev pub IsQuiet : Form → Type 0
-IsQuiet (simple (become x state)) = Unit {0}
-IsQuiet (simple (release x)) = Unit {0}
-IsQuiet (simple (drop v)) = Unit {0}
-IsQuiet (simple (unpack x v)) = Unit {0}
-IsQuiet (simple (swap x i v)) = Unit {0}
-IsQuiet (simple (open_into x vs)) = Unit {0}
-IsQuiet (simple (adopt y x r)) = Unit {0}
-IsQuiet form = ⊥
+abbrev pub is_quiet : Form → Bool
+is_quiet (simple (become x state)) = true
+is_quiet (simple (release x)) = true
+is_quiet (simple (drop v)) = true
+is_quiet (simple (unpack x v)) = true
+is_quiet (simple (swap x i v)) = true
+is_quiet (simple (open_into x vs)) = true
+is_quiet (simple (adopt y x r)) = true
+is_quiet form = false

@@ -80,11 +80,15 @@ fn arm_of_case<'a>(arms: &'a [Arm], case: i64) -> Option<&'a Arm>
     ensures { (n : ℕ) → case ≡ pos n → option_map (λ a. arm_of a.now) result
         ≡ arm_for n (arms_of arms.now) }
 {
-    let (arm, rest) = arms.split_first()?;
-    if i64::from(arm.case) == case {
-        Some(arm)
-    } else {
-        arm_of_case(rest, case)
+    match arms.split_first() {
+        None => None,
+        Some((arm, rest)) => {
+            if i64::from(arm.case) == case {
+                Some(arm)
+            } else {
+                arm_of_case(rest, case)
+            }
+        }
     }
 }
 

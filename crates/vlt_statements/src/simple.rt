@@ -1,9 +1,10 @@
 //! Statements without blocks.
 
+ghost use Rattle.std.specs.Prelude.{◌≡◌, true};
 ghost use Rattle.vlt_core.specs.View.{form_of};
 ghost use Rattle.vlt_hosts.specs.Hosts.{Outside};
 ghost use Rattle.vlt_tasks.specs.Moves.{doing, CanDo, DoesFor};
-ghost use Rattle.vlt_statements.specs.Simple.{IsSimple, IsQuiet};
+ghost use Rattle.vlt_statements.specs.Simple.{is_simple, is_quiet};
 
 use vlt_acts::{adopt, become_state, fill, release, set, unpack};
 use vlt_core::Form;
@@ -14,7 +15,7 @@ use vlt_tasks::{Rules, Run, Stop, or_full, or_halt, or_trap};
 
 /// A statement that neither traps nor ends the run.
 fn rearrange(rules: &Rules, form: &Form, run: &mut Run)
-    requires quiet { IsQuiet (form_of form.now) }
+    requires quiet { is_quiet (form_of form.now) ≡ true }
     requires can { CanDo (form_of form.now) rules.now run.old }
     ensures { (b : Outside) → DoesFor (doing (form_of form.now)) rules.now run.old run.new b b
         None }
@@ -40,7 +41,7 @@ fn rearrange(rules: &Rules, form: &Form, run: &mut Run)
 
 /// A statement without blocks that calls nothing.
 pub fn do_simple<K: Sink>(rules: &Rules, form: &Form, run: &mut Run, sink: &mut K) -> Option<Stop>
-    requires simple { IsSimple (form_of form.now) }
+    requires simple { is_simple (form_of form.now) ≡ true }
     requires can { CanDo (form_of form.now) rules.now run.old }
     ensures { DoesFor (doing (form_of form.now)) rules.now run.old run.new
         (record { written = K.written sink.old; faults = K.faults sink.old })

@@ -38,7 +38,7 @@ pub step_goes : (items : Items) (r : Run) (f : Func) (a : At) (frame : Frame) (w
 step_goes items r f a frame w e h = subst (λ x. ShowsStep items r f x (goes frame w)) (sym e) h
 
 -- what is seen of a run that goes on
-pub seen_in : (p : Program) (r : Run) (ts : List Task) (f : Func) (us : List m.Task) (frame : Frame) (w : World) → ShowsWith ts r (at f us (goes frame w)) → Seen r.heap r.values
+abbrev pub seen_in : (p : Program) (r : Run) (ts : List Task) (f : Func) (us : List m.Task) (frame : Frame) (w : World) → ShowsWith ts r (at f us (goes frame w)) → Seen r.heap r.values
 seen_in p r ts f us frame w q =
     let g = going q.items r f r.at frame w q.step in
     record { program = p; func = f; frame = frame; objects = w.objects; items = q.items; holds = q.holds; shown = g.runs.objects; fits = g.runs.frame_shown }
@@ -108,6 +108,7 @@ room_kept p depth old new h k = record {
   wide = rw k.width h.wide;
   heap = k.sound;
   cells = λ t. rw (k.width, k.size.slots) (h.cells t);
+  fields = h.fields;
   values = rw k.width (omega (arith, h.values, k.values));
   operands = λ t. let a = h.operands t in rw k.width (omega (arith, a, k.values));
   tasks = omega (arith, h.tasks, k.tasks);

@@ -1,5 +1,5 @@
 -- What a move of a run, or a part of one, asks and comes to.
-use Rattle.std.specs.Prelude.{◌≡◌, ◌⊎◌, ◌≤◌, ℕ, ◌+◌, ◌*◌, Bool, true, false, List, [], ◌∷◌, ◌++◌, length, Option, Some, None, vec_capacity}
+use Rattle.std.specs.Prelude.{◌≡◌, ◌⊎◌, ◌≤◌, ℕ, ◌<◌, ◌+◌, ◌*◌, ◌^◌, Bool, true, false, List, [], ◌∷◌, ◌++◌, length, Option, Some, None, vec_capacity}
 use Rattle.vlt_io.specs.Outside.{Rose, GrewByPart}
 use Rattle.vlt_core.specs.View.{func_of, program_of}
 use Rattle.vlt_core.specs.Core.{Expr, Form, Block, Func, Program}
@@ -30,6 +30,7 @@ pub record HasRoom (p : Program) (depth : ℕ) (r : Run) : Type 0 where
   pub wide : IsWide p r.values.width
   pub heap : IsSound r.heap
   pub cells : (t : ℕ) → length (fields_of p t) * r.values.width ≤ slots_of r.heap
+  pub fields : (t : ℕ) → length (fields_of p t) < 2 ^ 32
   pub values : (depth + 1) * frame_slots p r.values.width + r.values.width * r.values.width ≤ vec_capacity r.values.slots
   pub operands : (t : ℕ) → (depth + 1) * frame_slots p r.values.width + length (fields_of p t) * r.values.width ≤ vec_capacity r.values.slots
   pub tasks : depth * (tall_of p + 1) + 3 ≤ vec_capacity r.tasks

@@ -1,8 +1,7 @@
 -- Where statements with blocks come to.
-use Rattle.std.proofs.Common.{◌≡◌, ⊎_elim, inl, inr, ◌<◌, ◌≤◌, ◌+◌, ◌-◌, ◌==◌, ℕ, ℤ, pos, Bool, true, false, if◌then◌else◌, List, [], ◌∷◌, ◌++◌, map, length, Option, Some, None, Result, Ok, Err, refl, sym, ap, ◌∙◌, subst, arith, option_map}
+use Rattle.std.proofs.Common.{◌≡◌, inl, inr, ◌<◌, ◌≤◌, ◌-◌, ◌==◌, ℕ, ℤ, Bool, true, false, if◌then◌else◌, List, [], ◌∷◌, ◌++◌, map, Option, Some, None, Result, refl, sym, ap, ◌∙◌, subst, arith}
 use Rattle.std.specs.Vec.{vec_capacity}
 use Rattle.std.specs.Borrow.{Bor}
-use Rattle.std.proofs.lemmas.Bool.{false≢true}
 use Rattle.std.proofs.lemmas.Bool.Decides.{nat_tests}
 use Rattle.vlt_ops.specs.declared.TrapKind.{TrapKind}
 use Rattle.vlt_ops.specs.Operator.{is_true}
@@ -14,25 +13,23 @@ use Rattle.vlt_core.specs.View.{stmts_of, block_of, tok_of}
 use Rattle.vlt_core.proofs.Views.{block_parts}
 use Rattle.vlt_heap.specs.Shown.{IsSound, heap_of, slots_of}
 use Rattle.vlt_meaning.specs.World.{World, Frame, fuel_end}
-use Rattle.vlt_meaning.specs.Found.{Found}
 use Rattle.vlt_meaning.specs.Values.{number_of}
-use Rattle.vlt_meaning.specs.Step.{Step, goes, jumps, leaves, ends}
+use Rattle.vlt_meaning.specs.Step.{goes, ends}
 use Rattle.vlt_meaning.specs.Run.{Setup}
 use Rattle.vlt_machine.specs.Machine as m
-use Rattle.vlt_machine.specs.Machine.{Conf, at, enter_block, when_found, spending}
+use Rattle.vlt_machine.specs.Machine.{Conf, at, enter_block, turn_on, when_found, spending}
 use Rattle.vlt_values.specs.Shown.{Seen, IsNumber}
 use Rattle.vlt_hosts.specs.Hosts.{Outside}
 use Rattle.vlt_hosts.proofs.Writing.{silent}
 use Rattle.vlt_tasks.specs.declared.stop.Stop.{Stop}
-use Rattle.vlt_tasks.specs.declared.stop.Stop.TheVariants.{FuelEnd, Trap}
-use Rattle.vlt_tasks.specs.declared.task.Task.{Task}
-use Rattle.vlt_tasks.specs.declared.task.Task.TheVariants.{List as Listed, Closing, Turn}
+use Rattle.vlt_tasks.specs.declared.stop.Stop.TheVariants.{FuelEnd}
+use Rattle.vlt_tasks.specs.declared.task.Task.TheVariants.{List as Listed, Closing}
 use Rattle.vlt_tasks.specs.declared.task.Run.{Run}
-use Rattle.vlt_tasks.specs.Shown.{setup_of, tasks_left, Runs, ShowsConf}
-use Rattle.vlt_tasks.specs.Moves.{entering, Keeps, Does}
+use Rattle.vlt_tasks.specs.Shown.{tasks_left, ShowsConf}
+use Rattle.vlt_tasks.specs.Moves.{Keeps}
 use Rattle.vlt_tasks.proofs.Staying.{IsGoing, going, step_goes, seen_in}
 use Rattle.vlt_tasks.proofs.Pushing.{WithTasks, put_shown}
-use Rattle.vlt_tasks.proofs.Coming.{Came, number_came, trapped_came, came_since}
+use Rattle.vlt_tasks.proofs.Coming.{Came, came_since}
 
 -- ---- the beginning of a block
 
@@ -63,7 +60,7 @@ number_here s e r x h f ts frame w q = h (seen_in s.program r (tasks_left r) f t
 -- ---- a unit of fuel
 
 module _ (old new : Run) (is : new ≡ record old { fuel = old.fuel - 1 }) where
-  less : World → World
+  abbrev less : World → World
   less w = record w { fuel = w.fuel - 1 }
 
   -- the run with a unit less shows the world with a unit less
@@ -102,6 +99,19 @@ fuel_spent w b result r n f ts go e some h = if_came w b result r (w.fuel == 0) 
   where
     some_is : (n : ℕ) → 0 < n → (n == 0) ≡ false
     some_is n l = grind (arith, nat_tests)
+
+-- a turn, once a unit of fuel was spent
+abbrev pub turned : Setup → Func → core.Expr → core.Block → List m.Task → Frame → World → Conf
+turned s f e body ts frame w = when_found (number_of s.program f e frame w.objects) f ts w (λ z. if is_true z then enter_block f body (m.turn e body ∷ ts) frame w else at f ts (goes frame w))
+
+module _ (s : Setup) (e : core.Expr) (body : core.Block) (w : World) (b : Outside) (r : Run) (f : Func) (ts : List m.Task) (frame : Frame) where
+  pub turn_ends : w.fuel ≡ r.fuel → r.fuel ≡ 0 → Came w b b (Some FuelEnd) r (turn_on s f e body ts frame w)
+  unfolding turn_on
+  turn_ends spent none = out_of_fuel w b r f ts (turned s f e body ts frame) spent none
+
+  pub turn_goes : (result : Option Stop) (n : ℕ) → w.fuel ≡ n → 0 < n → Came (record w { fuel = w.fuel - 1 }) b b result r (turned s f e body ts frame (record w { fuel = w.fuel - 1 })) → Came w b b result r (turn_on s f e body ts frame w)
+  unfolding turn_on
+  turn_goes result n spent some h = fuel_spent w b result r n f ts (turned s f e body ts frame) spent some h
 
 pub keeps_still : (old new : Run) → IsSound old.heap → new.heap ≡ old.heap → new.values ≡ old.values → new.host ≡ old.host → vec_capacity old.tasks ≤ vec_capacity new.tasks → Keeps old new
 keeps_still old new sound heap values host tasks = record {
