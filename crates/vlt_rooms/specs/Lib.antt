@@ -1,0 +1,3 @@
+pub mod Rooms
+pub mod Start
+pub mod Sorts
