@@ -5,5 +5,6 @@ pub mod Bodies
 pub mod Made
 pub mod Ticks
 pub mod Whole
+pub mod Few
 pub mod Filled
 pub mod Arms

@@ -1,5 +1,6 @@
 -- Each function of an elaborated program is made of its head.
-use Rattle.std.proofs.Common.{◌≡◌, ℕ, zero, suc, false, true≢false, if◌then◌else◌, List, [], ◌∷◌, ◌++◌, Option, Some, None, slice_get, Result, Ok, Err, refl, sym, ap, ◌∙◌, subst}
+use Rattle.std.proofs.Common.{◌≡◌, ℕ, zero, suc, ◌≤◌, nat_lt, false, true≢false, if◌then◌else◌, List, [], ◌∷◌, ◌++◌, length, Option, Some, None, slice_get, Result, Ok, Err, refl, sym, ap, ◌∙◌, subst}
+use Rattle.std.proofs.lemmas.Bool.{ltb-false}
 use Rattle.std.proofs.lemmas.Option.{none-some, same_Some}
 use Rattle.vlt_syntax.specs.Tree as s
 use Rattle.vlt_syntax.specs.Tree.{Block, Head, Decl, Tree}
@@ -9,7 +10,7 @@ use Rattle.vlt_core.specs.Core as core
 use Rattle.vlt_core.specs.Core.{Form, Func, Program}
 use Rattle.vlt_kinds_names.specs.declared.found.Refusal.{Refusal}
 use Rattle.vlt_kinds_names.specs.Names.{names_refused}
-use Rattle.vlt_kinds_names.specs.Refusals.{of_each, least}
+use Rattle.vlt_kinds_names.specs.Refusals.{refuse_if, of_each, least}
 use Rattle.vlt_kinds_types.specs.Files.{file_of}
 use Rattle.vlt_kinds_decls.specs.Decls.{types_refused}
 use Rattle.vlt_kinds_decls.specs.Made.{core_types}
@@ -19,7 +20,8 @@ use Rattle.vlt_kinds_heads.specs.Externals.{external_refused}
 use Rattle.vlt_kinds_heads.specs.Phase.{extern_refused, heads_refused_in, heads_refused, core_heads_in}
 use Rattle.vlt_kinds.specs.Kinds.{Kinds}
 use Rattle.vlt_kinds.specs.Tables.{kinds_of, unless, heads_told, types_told, names_told}
-use Rattle.vlt_kinds_laws.proofs.Empty.{no_left, no_right}
+use Rattle.vlt_kinds_laws.proofs.Empty.{no_left, no_right, not_broken}
+use Rattle.vlt_resolve_exprs.specs.declared.limits.TheConstants.{TOO_MANY_VARIABLES, TOO_MANY_KEYS}
 use Rattle.vlt_resolve.specs.Walk.{then_do, walk_stmts}
 use Rattle.vlt_resolve.specs.Elaboration as elab
 use Rattle.vlt_resolve.specs.Elaboration.{body_scope, body_around, stmts_in, end_refused, func_made, walk_body, is_function, walk_defined, walk_extern, walk_function, walk_decls, walk_tree, main_of, Told, with_told}
@@ -64,6 +66,14 @@ skipped kinds [] d ds e = sym (no_heads kinds ds)
 skipped kinds (h ∷ hs) d ds e =
     ap (λ b. if b then then_do (walk_function kinds h d) (λ f. then_do (walk_decls kinds hs ds) (λ fs. Ok (f ∷ fs))) else walk_decls kinds (h ∷ hs) ds) e
 
+-- a head that isn't refused has 256 variables at most
+head_few : (h : Func) (at : ℕ) → elab.head_refused h at ≡ [] → length h.vars ≤ 256
+unfolding elab.head_refused
+head_few h at none =
+    ltb-false 256 (length h.vars)
+    (not_broken (nat_lt 256 (length h.vars)) TOO_MANY_VARIABLES at
+    (no_right (refuse_if (nat_lt 256 (length h.keys)) TOO_MANY_KEYS at) (refuse_if (nat_lt 256 (length h.vars)) TOO_MANY_VARIABLES at) none))
+
 module _ (kinds : Kinds) where
   body_made : (h : Func) (b : Block) (f : Func) → walk_body kinds h b ≡ Ok f → HasWalked kinds h b f
   body_made h b f e =
@@ -82,7 +92,7 @@ module _ (kinds : Kinds) where
       let rest = then_ok (walk_decls kinds hs ds) _ fs f.rest in
       let w = unless_ok (least (elab.head_refused h at.from)) (walk_body kinds h b) f.first f.one in
       subst (AreMade kinds (h ∷ hs)) (same_ok (f.first ∷ rest.first) fs rest.rest) (
-        (head, Some b, refl, record { passed = no_left _ _ none; hosted = λ e. absurd (true≢false e); walked = (is.0.1, body_made h b f.first w.1) }),
+        (head, Some b, refl, record { passed = no_left _ _ none; hosted = λ e. absurd (true≢false e); few = head_few h at.from (least_none None (elab.head_refused h at.from) w.0).1; walked = (is.0.1, body_made h b f.first w.1) }),
         all_made ds rest.first is.1 (no_right (head_refused kinds.file head) _ none) rest.one,
       )
   all_made (s.extern head at ∷ ds) fs is none e =
@@ -93,7 +103,7 @@ module _ (kinds : Kinds) where
       let w = unless_ok (least (elab.head_refused h at.from)) (Ok (record h { body = core.done })) f.first f.one in
       let here = no_left (head_refused kinds.file head ++ external_refused kinds.file kinds.types head (keys_of kinds.file head)) _ none in
       subst (AreMade kinds (h ∷ hs)) (same_ok (f.first ∷ rest.first) fs rest.rest) (
-        (head, None, refl, record { passed = no_left _ _ here; hosted = λ e. no_right (head_refused kinds.file head) _ here; walked = sym (same_ok (record h { body = core.done }) f.first w.1) }),
+        (head, None, refl, record { passed = no_left _ _ here; hosted = λ e. no_right (head_refused kinds.file head) _ here; few = head_few h at.from (least_none None (elab.head_refused h at.from) w.0).1; walked = sym (same_ok (record h { body = core.done }) f.first w.1) }),
         all_made ds rest.first is.1 (no_right (head_refused kinds.file head ++ external_refused kinds.file kinds.types head (keys_of kinds.file head)) _ none) rest.one,
       )
   all_made (s.stateset n ss at ∷ ds) fs is none e = all_made ds fs is.1 none (sym (skipped kinds (of_each (core_heads_in kinds.file) ds) (s.stateset n ss at) ds refl) ∙ e)

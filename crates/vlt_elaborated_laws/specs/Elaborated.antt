@@ -1,5 +1,5 @@
 -- The core program that elaboration gives of a tree of the language breaks none of the core's rules.
-use Rattle.std.specs.Prelude.{◌≡◌, ℕ, Some, slice_get, Ok}
+use Rattle.std.specs.Prelude.{◌≡◌, ℕ, ◌≤◌, length, Some, slice_get, Ok}
 use Rattle.vlt_syntax.specs.Tree.{Tree}
 use Rattle.vlt_syntax.specs.Lists.{Each}
 use Rattle.vlt_syntax.specs.Grammar.{IsTree, language}
@@ -32,6 +32,11 @@ ElaboratedProgramsHaveStates = (t : Tree) (kinds : Kinds) (p : Program) → IsEl
 abbrev pub ElaboratedProgramsHaveArms : Type 0
 ElaboratedProgramsHaveArms = (t : Tree) (kinds : Kinds) (p : Program) → IsElaborated t kinds p →
     (g : ℕ) (f : Func) → slice_get p.fns g ≡ Some f → HasArmsStmts f.body
+
+-- no function has more than 256 variables, hidden ones included
+abbrev pub ElaboratedProgramsHaveFewVariables : Type 0
+ElaboratedProgramsHaveFewVariables = (t : Tree) (kinds : Kinds) (p : Program) → IsElaborated t kinds p →
+    (g : ℕ) (f : Func) → slice_get p.fns g ≡ Some f → length f.vars ≤ 256
 
 -- its sets are those that the tree declares
 abbrev pub ElaboratedProgramsHaveSets : Type 0

@@ -1,5 +1,5 @@
 -- What elaboration made of a function's declaration that it refused nothing.
-use Rattle.std.specs.Prelude.{◌≡◌, ℕ, false, not, List, [], ◌∷◌, Option, Some, None, is_some, Ok}
+use Rattle.std.specs.Prelude.{◌≡◌, ℕ, ◌≤◌, false, not, List, [], ◌∷◌, length, Option, Some, None, is_some, Ok}
 use Rattle.vlt_syntax.specs.Tree.{Block, Head}
 use Rattle.vlt_syntax.specs.Grammar.{IsBlock, language}
 use Rattle.vlt_core.specs.Core.{Form, done, Func}
@@ -31,6 +31,7 @@ IsWalked kinds h (Some b) f = IsBlock language language.depth b × HasWalked kin
 pub record IsMade (kinds : Kinds) (head : Head) (body : Option Block) (f : Func) : Type 0 where
   pub passed : head_refused kinds.file head ≡ []
   pub hosted : is_some body ≡ false → external_refused kinds.file kinds.types head (keys_of kinds.file head) ≡ []
+  pub few : length (head_made kinds head body).vars ≤ 256
   pub walked : IsWalked kinds (head_made kinds head body) body f
 
 -- each function is made of its head

@@ -3,7 +3,7 @@
 //! The check and the runs of whole texts rest on them.
 #![tactic(auto)]
 
-ghost use Rattle.vlt_elaborated_laws.specs.Elaborated.{ElaboratedProgramsAreKinded, ElaboratedProgramsHaveStates, ElaboratedProgramsHaveArms, ElaboratedProgramsHaveSets};
+ghost use Rattle.vlt_elaborated_laws.specs.Elaborated.{ElaboratedProgramsAreKinded, ElaboratedProgramsHaveStates, ElaboratedProgramsHaveArms, ElaboratedProgramsHaveFewVariables, ElaboratedProgramsHaveSets};
 
 /// An elaborated program breaks none of the core's rules.
 pub fn elaborated_programs_are_kinded()
@@ -23,4 +23,9 @@ pub fn elaborated_programs_have_arms()
 /// Its sets are those that the tree declares.
 pub fn elaborated_programs_have_sets()
     ensures { ElaboratedProgramsHaveSets }
+{}
+
+/// None of its functions has more than 256 variables.
+pub fn elaborated_programs_have_few_variables()
+    ensures { ElaboratedProgramsHaveFewVariables }
 {}

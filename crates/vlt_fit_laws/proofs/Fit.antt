@@ -1,15 +1,17 @@
 -- The core program of a text's tree, put together from the laws on each of its parts.
-use Rattle.std.proofs.Common.{◌≡◌, List}
+use Rattle.std.proofs.Common.{◌≡◌, ℕ, ◌≤◌, List, length}
 use Rattle.vlt_syntax.specs.Tree.{Decl}
 use Rattle.vlt_syntax.specs.Lists.{Each}
 use Rattle.vlt_syntax.specs.Grammar.{IsDecl, language}
 use Rattle.vlt_core.specs.Core.{Program}
+use Rattle.vlt_core.specs.Lookups.{fields_of}
 use Rattle.vlt_kinds_types.specs.Files.{file_of}
+use Rattle.vlt_kinds_decls.specs.Made.{core_types}
 use Rattle.vlt_kinds_laws.specs.Declared.{HasDeclared, IsPassed}
 use Rattle.vlt_sound_typed.specs.Sizes.{HasSizes}
 use Rattle.vlt_sound_typed.specs.Narrow.{HasNarrowHeads}
 use Rattle.vlt_sound_declared.specs.Externals.{HasExternals}
-use Rattle.vlt_elaborated_laws.specs.Elaborated.{IsElaborated, ElaboratedProgramsAreKinded, ElaboratedProgramsHaveStates, ElaboratedProgramsHaveArms, ElaboratedProgramsHaveSets}
+use Rattle.vlt_elaborated_laws.specs.Elaborated.{IsElaborated, ElaboratedProgramsAreKinded, ElaboratedProgramsHaveStates, ElaboratedProgramsHaveArms, ElaboratedProgramsHaveFewVariables, ElaboratedProgramsHaveSets}
 use Rattle.vlt_elaborated_laws.proofs.Whole.{passed_of}
 use Rattle.vlt_fit_laws.specs.Fit.{ProgramsAreFit}
 use Rattle.vlt_fit_laws.proofs.Externals.{externals_of, declared_of}
@@ -19,7 +21,10 @@ pub record Laws : Type 0 where
   pub states : ElaboratedProgramsHaveStates
   pub arms : ElaboratedProgramsHaveArms
   pub sets : ElaboratedProgramsHaveSets
+  pub vars : ElaboratedProgramsHaveFewVariables
   pub small : (ds : List Decl) (p : Program) → Each (IsDecl language) ds → p.sets ≡ (file_of ds).sets → HasSizes p
+  pub fields : (ds : List Decl) (p : Program) → Each (IsDecl language) ds → p.types ≡ core_types (file_of ds) ds →
+      (t : ℕ) → length (fields_of p t) ≤ 32
   pub narrow : (ds : List Decl) (p : Program) → IsPassed ds → HasDeclared ds p → HasExternals ds p → HasNarrowHeads p
 
 pub fit : Laws → ProgramsAreFit
@@ -29,4 +34,5 @@ fit laws t kinds p x told gives =
       well_formed = record { kinded = laws.kinded t kinds p e; states = laws.states t kinds p e; arms = laws.arms t kinds p e };
       sizes = laws.small t.decls p x.tree.0 (laws.sets t kinds p e);
       narrow = laws.narrow t.decls p (passed_of t kinds p e) (declared_of t kinds p e) (externals_of t kinds p e);
+      few = record { fields = laws.fields t.decls p x.tree.0 (declared_of t kinds p e).types; vars = laws.vars t kinds p e };
     }

@@ -1,9 +1,10 @@
 -- What is known of the core programs of texts.
-use Rattle.std.specs.Prelude.{◌≡◌, Ok}
+use Rattle.std.specs.Prelude.{◌≡◌, ℕ, ◌≤◌, length, Some, slice_get, Ok}
 use Rattle.vlt_syntax.specs.Tree.{Tree}
 use Rattle.vlt_syntax.specs.Lists.{Each}
 use Rattle.vlt_syntax.specs.Grammar.{IsTree, language}
-use Rattle.vlt_core.specs.Core.{Program}
+use Rattle.vlt_core.specs.Core.{Func, Program}
+use Rattle.vlt_core.specs.Lookups.{fields_of}
 use Rattle.vlt_kinds.specs.Kinds.{Kinds}
 use Rattle.vlt_kinds.specs.Tables.{kinds_told}
 use Rattle.vlt_resolve.specs.Elaboration.{elaborated}
@@ -12,12 +13,18 @@ use Rattle.vlt_sound_typed.specs.Sizes.{HasSizes}
 use Rattle.vlt_sound_typed.specs.Narrow.{HasNarrowHeads}
 use Rattle.vlt_ticks_laws.specs.Ticks.{HasTicks}
 
+-- few fields in each struct, and few variables in each function
+pub record HasFewParts (p : Program) : Type 0 where
+  pub fields : (t : ℕ) → length (fields_of p t) ≤ 32
+  pub vars : (i : ℕ) (f : Func) → slice_get p.fns i ≡ Some f → length f.vars ≤ 256
+
 -- All that the laws on checks and runs want to know of a program: it breaks no rule on names and types, each of its sets has a
--- state and at most 32, all below 32 where a host gives one, and each of its switches has an arm.
+-- state and at most 32, all below 32 where a host gives one, each of its switches has an arm, and fields and variables are few.
 pub record IsFitProgram (p : Program) : Type 0 where
   pub well_formed : IsWellFormed p
   pub sizes : HasSizes p
   pub narrow : HasNarrowHeads p
+  pub few : HasFewParts p
 
 -- a tree of the language, in which the names of cases are ticks, as in each text
 pub record IsTextTree (t : Tree) : Type 0 where

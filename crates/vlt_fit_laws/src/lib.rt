@@ -6,10 +6,13 @@
 ghost use Rattle.vlt_fit_laws.specs.Fit.{ProgramsAreFit};
 
 use vlt_elaborated_laws::{
-    elaborated_programs_are_kinded, elaborated_programs_have_arms, elaborated_programs_have_sets,
+    elaborated_programs_are_kinded, elaborated_programs_have_arms,
+    elaborated_programs_have_few_variables, elaborated_programs_have_sets,
     elaborated_programs_have_states,
 };
-use vlt_sound_declared::{declared_externals_are_narrow, declared_sets_are_small};
+use vlt_sound_declared::{
+    declared_externals_are_narrow, declared_sets_are_small, declared_structs_are_small,
+};
 
 /// The core program of a tree that a text has is all that the check and the law on runs ask for.
 pub fn programs_are_fit()
@@ -19,6 +22,8 @@ pub fn programs_are_fit()
     elaborated_programs_have_states();
     elaborated_programs_have_arms();
     elaborated_programs_have_sets();
+    elaborated_programs_have_few_variables();
     declared_sets_are_small();
+    declared_structs_are_small();
     declared_externals_are_narrow();
 }

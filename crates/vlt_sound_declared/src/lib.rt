@@ -1,4 +1,4 @@
-//! Laws on the sets of states that a text declares: nothing goes in and nothing comes out.
+//! Laws on the sets of states and the structs that a text declares, with no code that runs.
 //! Read `specs/Externals.antt` first.
 //! `vlt_sound` rests on them: no run of an accepted program goes wrong.
 #![tactic(auto)]
@@ -7,4 +7,4 @@ mod narrow;
 mod sizes;
 
 pub use narrow::declared_externals_are_narrow;
-pub use sizes::declared_sets_are_small;
+pub use sizes::{declared_sets_are_small, declared_structs_are_small};
