@@ -6,5 +6,6 @@ pub mod Made
 pub mod Ticks
 pub mod Whole
 pub mod Few
+pub mod Blank
 pub mod Filled
 pub mod Arms

@@ -1,10 +1,10 @@
 -- The core program that elaboration gives of a tree of the language breaks none of the core's rules.
-use Rattle.std.specs.Prelude.{◌≡◌, ℕ, ◌≤◌, length, Some, slice_get, Ok}
+use Rattle.std.specs.Prelude.{◌≡◌, ℕ, ◌≤◌, true, length, Some, slice_get, Ok}
 use Rattle.vlt_syntax.specs.Tree.{Tree}
 use Rattle.vlt_syntax.specs.Lists.{Each}
 use Rattle.vlt_syntax.specs.Grammar.{IsTree, language}
 use Rattle.vlt_ticks_laws.specs.Ticks.{HasTicks}
-use Rattle.vlt_core.specs.Core.{Func, Program}
+use Rattle.vlt_core.specs.Core.{done, Func, Program}
 use Rattle.vlt_core.specs.Kinded.{IsKinded}
 use Rattle.vlt_core_laws.specs.States.{HasStates}
 use Rattle.vlt_core_laws.specs.Arms.{HasArmsStmts}
@@ -37,6 +37,11 @@ ElaboratedProgramsHaveArms = (t : Tree) (kinds : Kinds) (p : Program) → IsElab
 abbrev pub ElaboratedProgramsHaveFewVariables : Type 0
 ElaboratedProgramsHaveFewVariables = (t : Tree) (kinds : Kinds) (p : Program) → IsElaborated t kinds p →
     (g : ℕ) (f : Func) → slice_get p.fns g ≡ Some f → length f.vars ≤ 256
+
+-- externals have no statements
+abbrev pub ElaboratedProgramsHaveBlankExternals : Type 0
+ElaboratedProgramsHaveBlankExternals = (t : Tree) (kinds : Kinds) (p : Program) → IsElaborated t kinds p →
+    (g : ℕ) (f : Func) → slice_get p.fns g ≡ Some f → f.external ≡ true → f.body ≡ done
 
 -- its sets are those that the tree declares
 abbrev pub ElaboratedProgramsHaveSets : Type 0

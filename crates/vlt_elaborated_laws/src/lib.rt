@@ -3,7 +3,7 @@
 //! The check and the runs of whole texts rest on them.
 #![tactic(auto)]
 
-ghost use Rattle.vlt_elaborated_laws.specs.Elaborated.{ElaboratedProgramsAreKinded, ElaboratedProgramsHaveStates, ElaboratedProgramsHaveArms, ElaboratedProgramsHaveFewVariables, ElaboratedProgramsHaveSets};
+ghost use Rattle.vlt_elaborated_laws.specs.Elaborated.{ElaboratedProgramsAreKinded, ElaboratedProgramsHaveStates, ElaboratedProgramsHaveArms, ElaboratedProgramsHaveFewVariables, ElaboratedProgramsHaveBlankExternals, ElaboratedProgramsHaveSets};
 
 /// An elaborated program breaks none of the core's rules.
 pub fn elaborated_programs_are_kinded()
@@ -28,4 +28,9 @@ pub fn elaborated_programs_have_sets()
 /// None of its functions has more than 256 variables.
 pub fn elaborated_programs_have_few_variables()
     ensures { ElaboratedProgramsHaveFewVariables }
+{}
+
+/// Its externals have no statements.
+pub fn elaborated_programs_have_blank_externals()
+    ensures { ElaboratedProgramsHaveBlankExternals }
 {}

@@ -1,9 +1,9 @@
 -- What is known of the core programs of texts.
-use Rattle.std.specs.Prelude.{◌≡◌, ℕ, ◌≤◌, length, Some, slice_get, Ok}
+use Rattle.std.specs.Prelude.{◌≡◌, ℕ, ◌≤◌, true, length, Some, slice_get, Ok}
 use Rattle.vlt_syntax.specs.Tree.{Tree}
 use Rattle.vlt_syntax.specs.Lists.{Each}
 use Rattle.vlt_syntax.specs.Grammar.{IsTree, language}
-use Rattle.vlt_core.specs.Core.{Func, Program}
+use Rattle.vlt_core.specs.Core.{done, Func, Program}
 use Rattle.vlt_core.specs.Lookups.{fields_of}
 use Rattle.vlt_kinds.specs.Kinds.{Kinds}
 use Rattle.vlt_kinds.specs.Tables.{kinds_told}
@@ -25,6 +25,8 @@ pub record IsFitProgram (p : Program) : Type 0 where
   pub sizes : HasSizes p
   pub narrow : HasNarrowHeads p
   pub few : HasFewParts p
+  -- externals have no statements
+  pub blank : (i : ℕ) (f : Func) → slice_get p.fns i ≡ Some f → f.external ≡ true → f.body ≡ done
 
 -- a tree of the language, in which the names of cases are ticks, as in each text
 pub record IsTextTree (t : Tree) : Type 0 where

@@ -7,8 +7,8 @@ ghost use Rattle.vlt_fit_laws.specs.Fit.{ProgramsAreFit};
 
 use vlt_elaborated_laws::{
     elaborated_programs_are_kinded, elaborated_programs_have_arms,
-    elaborated_programs_have_few_variables, elaborated_programs_have_sets,
-    elaborated_programs_have_states,
+    elaborated_programs_have_blank_externals, elaborated_programs_have_few_variables,
+    elaborated_programs_have_sets, elaborated_programs_have_states,
 };
 use vlt_sound_declared::{
     declared_externals_are_narrow, declared_sets_are_small, declared_structs_are_small,
@@ -23,6 +23,7 @@ pub fn programs_are_fit()
     elaborated_programs_have_arms();
     elaborated_programs_have_sets();
     elaborated_programs_have_few_variables();
+    elaborated_programs_have_blank_externals();
     declared_sets_are_small();
     declared_structs_are_small();
     declared_externals_are_narrow();

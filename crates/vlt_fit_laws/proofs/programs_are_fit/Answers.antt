@@ -8,6 +8,7 @@ returns c = fit (record {
   arms = c.elaborated_programs_have_arms.ensures;
   sets = c.elaborated_programs_have_sets.ensures;
   vars = c.elaborated_programs_have_few_variables.ensures;
+  blank = c.elaborated_programs_have_blank_externals.ensures;
   small = c.declared_sets_are_small.ensures;
   fields = c.declared_structs_are_small.ensures;
   narrow = c.declared_externals_are_narrow.ensures;
