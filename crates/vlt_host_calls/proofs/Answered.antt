@@ -16,6 +16,7 @@ use Rattle.vlt_meaning.specs.Objects.{moved}
 use Rattle.vlt_meaning.specs.Calls.{entries_after}
 use Rattle.vlt_meaning.specs.HostAnswers.{Result as Given, case_with, Piece, Answer, then_reads, case_read, variant_read, result_read, answer_of}
 use Rattle.vlt_meaning.specs.Externals.{come_back, objects_of_keys, keys_of_case, case_objects, case_states, entry_states, with_states, with_answered, Fitting, or_bad}
+use Rattle.vlt_machine.specs.Reached.{NamesKeys}
 use Rattle.vlt_values.specs.declared.values.Values.{Values}
 use Rattle.vlt_values.specs.Shown.{ShowObjects, key_at, Seen, IsGrown}
 use Rattle.vlt_values.proofs.Pushing.{frame_grown}
@@ -30,7 +31,7 @@ use Rattle.vlt_results.specs.Stated.{Sets, SetsEntries, ComesLoose, SetsCase, Ar
 use Rattle.vlt_results.specs.Results.{AreBefore, NamesCases, Made, result_made, IsResultMade, PutsResult}
 use Rattle.vlt_results.proofs.Readings.{case_is}
 use Rattle.vlt_results.proofs.Casing.{objects_are}
-use Rattle.vlt_host_calls.specs.Heeded.{NamesKeys, ListsKeys, ComesIn, SetsResult, heeded, HasHeeded, IsHeeded, Heeds, IsSameBelow}
+use Rattle.vlt_host_calls.specs.Heeded.{ListsKeys, ComesIn, SetsResult, heeded, HasHeeded, IsHeeded, Heeds, IsSameBelow}
 use Rattle.vlt_host_calls.proofs.Keys.{are_given, are_held, cases_named}
 
 -- ---- the case that an answer gives

@@ -21,6 +21,7 @@ use Rattle.vlt_meaning.specs.Values.{held_object}
 use Rattle.vlt_meaning.specs.Step.{Step, goes, ends, jumps, leaves, with_event, with_answer, first_answer, with_moved, with_objects, with_var, deliver}
 use Rattle.vlt_meaning.specs.Calls.{passed_object, passed_objects}
 use Rattle.vlt_meaning.specs.Externals.{taken_objects, call_external}
+use Rattle.vlt_machine.specs.Reached.{NamesKeys}
 use Rattle.vlt_values.specs.declared.values.Values.{Values}
 use Rattle.vlt_values.specs.Parts.{HaveValue}
 use Rattle.vlt_values.specs.Pushed.{HaveValues}
@@ -43,8 +44,8 @@ use Rattle.vlt_externals.specs.Told.{AreArgs, TellsCall, IsTaken}
 use Rattle.vlt_externals.specs.Sent.{AreNamed, taken_out, CanTake, Takes, owned_out, CanHand, Hands}
 use Rattle.vlt_externals.proofs.Going.{seen_after}
 use Rattle.vlt_results.specs.Results.{AreBefore, Made}
-use Rattle.vlt_host_calls.specs.Heeded.{NamesKeys, ListsKeys, heeded, HasHeeded, IsHeeded, Heeds, IsSameBelow}
-use Rattle.vlt_host_calls.specs.Called.{IsCall, called_to, CanCall, Calls, IsLeftBehind}
+use Rattle.vlt_host_calls.specs.Heeded.{ListsKeys, heeded, HasHeeded, IsHeeded, Heeds, IsSameBelow}
+use Rattle.vlt_host_calls.specs.Called.{IsCall, called_to, CanCall, Calls}
 use Rattle.vlt_host_calls.proofs.Keys.{are_named}
 use Rattle.vlt_host_calls.proofs.Leading.{LeadsOn, answered, then_heed, then_hand, then_take, delivered_leads, external_leads}
 
@@ -332,19 +333,20 @@ module _ (p : Program) (g : Func) (target : Option VarId) (keys : List ℕ) (h :
 
 -- ---- the table behind the call
 
-pub left_behind : (old cut two three four : Values) (from count : ℕ) → from + count ≡ length old.slots.items → old.base ≤ from → IsCut from old cut → vec_capacity cut.slots ≡ vec_capacity old.slots → IsSameBelow cut two → IsSameFrame two three → IsCut from three four → vec_capacity four.slots ≡ vec_capacity three.slots
-    → IsLeftBehind count old four
-left_behind old cut two three four from count long low cuts room below same again last = record {
-  same = record {
-    below = λ k l.
-        again.same k (omega (arith, l, low))
-        ∙ same.below k (subst (λ n. k < n) (sym (below.base ∙ cuts.base)) l)
-        ∙ below.below k (subst (λ n. k < n) (sym cuts.base) l)
-        ∙ cuts.same k (omega (arith, l, low));
-    room = omega (arith, room, last, below.room, same.room);
-    base = again.base ∙ same.base ∙ below.base ∙ cuts.base;
-    vars = again.vars ∙ same.vars ∙ below.vars ∙ cuts.vars;
-    width = again.width ∙ same.width ∙ below.width ∙ cuts.width;
-  };
-  long = let l = again.long in omega (arith, l, long);
+pub cut_below : (old cut two : Values) (from : ℕ) → old.base ≤ from → IsCut from old cut → vec_capacity cut.slots ≡ vec_capacity old.slots → IsSameBelow cut two → IsSameBelow old two
+cut_below old cut two from low cuts room below = record {
+  below = λ k l. below.below k (subst (λ n. k < n) (sym cuts.base) l) ∙ cuts.same k (omega (arith, l, low));
+  room = omega (arith, room, below.room);
+  base = below.base ∙ cuts.base;
+  vars = below.vars ∙ cuts.vars;
+  width = below.width ∙ cuts.width;
+}
+
+pub all_below : (old two three four : Values) (from : ℕ) → old.base ≤ from → IsSameBelow old two → IsSameFrame two three → IsCut from three four → vec_capacity four.slots ≡ vec_capacity three.slots → IsSameBelow old four
+all_below old two three four from low below same again room = record {
+  below = λ k l. again.same k (omega (arith, l, low)) ∙ same.below k (subst (λ n. k < n) (sym below.base) l) ∙ below.below k l;
+  room = omega (arith, room, below.room, same.room);
+  base = again.base ∙ same.base ∙ below.base;
+  vars = again.vars ∙ same.vars ∙ below.vars;
+  width = again.width ∙ same.width ∙ below.width;
 }

@@ -6,11 +6,12 @@ use Rattle.vlt_core.specs.Core.{CaseKey, CaseDecl, Mode, kept, taken, given, fre
 use Rattle.vlt_core.specs.Lookups.{is_before, is_fresh, is_held_before, is_new, VariantOf, variant_in, case_at}
 use Rattle.vlt_meaning.specs.World.{Frame}
 use Rattle.vlt_meaning.specs.Externals.{is_given}
+use Rattle.vlt_machine.specs.Reached.{NamesKeys}
 use Rattle.vlt_externals.specs.Sent.{IsNamed, AreNamed}
 use Rattle.vlt_externals.specs.Back.{AreGiven}
 use Rattle.vlt_results.specs.Stated.{key_for, AreOldNamed, AreCaseObjects}
 use Rattle.vlt_results.specs.Results.{HasCaseObjects, NamesCases}
-use Rattle.vlt_host_calls.specs.Heeded.{NamesKeys, IsOldKey, StandsFor, ListsKeys}
+use Rattle.vlt_host_calls.specs.Heeded.{IsOldKey, StandsFor, ListsKeys}
 
 right_false : (a b : Bool) → (a && not b) ≡ true → b ≡ false
 right_false true true h = absurd (false≢true h)
@@ -30,8 +31,8 @@ module _ (p : Program) (g : Func) (keys : List ℕ) (frame : Frame) (lists : Lis
 
   old_named : (e : Entry) → IsOldKey g keys e.key → IsNamed keys frame e
   old_named e old =
-      let k = known.all e.key old.listed old.old in
-      record { number = k.number; is = ap (option_and_then frame.keys) k.listed ∙ k.named }
+      let k = known e.key old.listed old.old in
+      record { number = k.number; is = ap (option_and_then frame.keys) k.is ∙ k.named }
 
   given_in : (es : List Entry) → AreListed es → AreGiven keys frame es
   given_in [] all = tt
@@ -61,9 +62,9 @@ module _ (p : Program) (g : Func) (keys : List ℕ) (frame : Frame) (lists : Lis
   objects_in_case args [] all = ([], tt)
   objects_in_case args (k ∷ ks) all =
       let s = all 0 k refl in
-      let q = known.all s.key s.listed.listed s.listed.old in
+      let q = known s.key s.listed.listed s.listed.old in
       let r = objects_in_case args ks (λ i j at. all (suc i) j at) in
-      (q.number ∷ r.0, (ap (λ x. option_and_then frame.keys (option_and_then (slice_get keys) x)) s.is ∙ ap (option_and_then frame.keys) q.listed ∙ q.named, r.1))
+      (q.number ∷ r.0, (ap (λ x. option_and_then frame.keys (option_and_then (slice_get keys) x)) s.is ∙ ap (option_and_then frame.keys) q.is ∙ q.named, r.1))
 
   pub cases_named : NamesCases p g keys frame
   cases_named v is c d decl =

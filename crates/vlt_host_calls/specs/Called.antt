@@ -6,6 +6,7 @@ use Rattle.vlt_core.specs.Core.{Func, Program}
 use Rattle.vlt_meaning.specs.World.{Value, World, Outcome, is_fault}
 use Rattle.vlt_meaning.specs.Step.{Step, ends}
 use Rattle.vlt_meaning.specs.Externals.{call_external}
+use Rattle.vlt_machine.specs.Reached.{NamesKeys}
 use Rattle.vlt_heap.specs.declared.heap.Heap.{Heap}
 use Rattle.vlt_heap.specs.Shown.{heap_of}
 use Rattle.vlt_values.specs.declared.values.Values.{Values}
@@ -15,7 +16,6 @@ use Rattle.vlt_hosts.specs.declared.halt.Halt.{Halt}
 use Rattle.vlt_hosts.specs.declared.host.Host.{Host}
 use Rattle.vlt_hosts.specs.Hosts.{ShowsHost, Outside, Comes}
 use Rattle.vlt_externals.specs.Told.{AreArgs}
-use Rattle.vlt_host_calls.specs.Heeded.{NamesKeys, IsSameBelow}
 
 -- behind the frame the values of the arguments stand, and the keys that the call lists name objects
 pub record IsCall (p : Program) (g : Func) (keys : List ℕ) (h : Heap) (values : Values) (host : Host) (c : Seen h values) (w : World) (args : List Value) : Type 0 where
@@ -50,8 +50,3 @@ abbrev pub Calls : Program → Func → (target : Option VarId) → (keys : List
 Calls p g target keys before after old new first last start end r =
     (c : Seen before old) (w : World) (args : List Value) → IsCall p g keys before old first c w args →
     Comes c.items after new last start end r w (called_to before old c g target keys args w)
-
--- the call is over, and so many slots of arguments are gone
-pub record IsLeftBehind (count : ℕ) (old new : Values) : Type 0 where
-  pub same : IsSameBelow old new
-  pub long : length new.slots.items + count ≡ length old.slots.items

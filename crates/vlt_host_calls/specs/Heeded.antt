@@ -13,6 +13,7 @@ use Rattle.vlt_meaning.specs.Objects.{moved}
 use Rattle.vlt_meaning.specs.Calls.{is_new_key}
 use Rattle.vlt_meaning.specs.HostAnswers.{Result as Given, result_read}
 use Rattle.vlt_meaning.specs.Externals.{case_objects, case_states, fitting, or_bad, with_answered}
+use Rattle.vlt_machine.specs.Reached.{NamesKeys}
 use Rattle.vlt_heap.specs.declared.heap.Heap.{Heap}
 use Rattle.vlt_heap.specs.Items.{Items}
 use Rattle.vlt_heap.specs.Shown.{heap_of}
@@ -26,18 +27,7 @@ use Rattle.vlt_externals.specs.Back.{AreBack}
 use Rattle.vlt_results.specs.Stated.{Sets}
 use Rattle.vlt_results.specs.Results.{AreBefore, NamesCases, Made, result_made}
 
--- ---- keys that name objects
-
--- the caller's key for a key of the head names an object
-pub record IsKnownKey (keys : List ℕ) (frame : Frame) (j : ℕ) : Type 0 where
-  pub key : ℕ
-  pub number : ℕ
-  pub listed : slice_get keys j ≡ Some key
-  pub named : frame.keys key ≡ Some number
-
--- so it is for each key that the call lists, that of a new object aside
-pub record NamesKeys (g : Func) (keys : List ℕ) (frame : Frame) : Type 0 where
-  pub all : (j : ℕ) → j < length keys → is_new_key g j ≡ false → IsKnownKey keys frame j
+-- ---- keys that a call lists
 
 -- the call lists a key of the head, which isn't that of a new object
 pub record IsOldKey (g : Func) (keys : List ℕ) (j : ℕ) : Type 0 where

@@ -8,8 +8,8 @@ ghost use Rattle.vlt_acts.specs.Acts.{IsSameFrame};
 ghost use Rattle.vlt_frames.specs.Naming.{IsDelivered};
 ghost use Rattle.vlt_answers.specs.Read.{AreSets};
 ghost use Rattle.vlt_results.specs.Results.{FitsResult};
-ghost use Rattle.vlt_host_calls.specs.Heeded.{ListsKeys};
-ghost use Rattle.vlt_host_calls.specs.Called.{CanCall, Calls, IsLeftBehind};
+ghost use Rattle.vlt_host_calls.specs.Heeded.{ListsKeys, IsSameBelow};
+ghost use Rattle.vlt_host_calls.specs.Called.{CanCall, Calls};
 
 use crate::heeding::heed;
 use vlt_base::{KeyId, VarId};
@@ -67,8 +67,9 @@ pub fn call_external<K: Sink>(
     ensures sound { IsSound heap.new }
     ensures size { IsSameSize heap.old heap.new }
     ensures line { vec_capacity host.old.line ≤ vec_capacity host.new.line }
-    ensures left { IfOk result (λ u. IsLeftBehind ((func_of g.now).params * values.old.width)
-        values.old values.new) }
+    ensures same { IsSameBelow values.old values.new }
+    ensures long { IfOk result (λ u. length values.new.slots.items +
+        (func_of g.now).params * values.old.width ≡ length values.old.slots.items) }
     ensures calls { Calls (program_of program.now) (func_of g.now) target (keys_of keys.now)
         heap.old heap.new values.old values.new host.old host.new
         (record { written = K.written sink.old; faults = K.faults sink.old })

@@ -1,5 +1,5 @@
 -- Where a part of a move comes to, from where its step comes to.
-use Rattle.std.proofs.Common.{◌≡◌, ◌⊎◌, ⊎_elim, inl, inr, ◌≤◌, ℕ, Bool, true, false, List, [], ◌∷◌, ◌++◌, Option, Some, None, Result, Ok, Err, refl, sym, ap, ◌∙◌, subst, arith, ℤ}
+use Rattle.std.proofs.Common.{◌≡◌, ⊎_elim, inl, inr, true, List, ◌++◌, Option, Some, None, Result, Ok, Err, refl, sym, ap, ◌∙◌, subst, ℤ}
 use Rattle.std.proofs.lemmas.Option.{none-some}
 use Rattle.vlt_core.specs.Core.{Func}
 use Rattle.vlt_ops.specs.declared.TrapKind.{TrapKind}
@@ -18,11 +18,10 @@ use Rattle.vlt_hosts.specs.Hosts as hosts
 use Rattle.vlt_hosts.proofs.Writing.{silent}
 use Rattle.vlt_tasks.specs.declared.stop.Stop.{Stop}
 use Rattle.vlt_tasks.specs.declared.stop.Stop.TheVariants.{Trap}
-use Rattle.vlt_tasks.specs.declared.task.Task.{Task}
 use Rattle.vlt_tasks.specs.declared.task.Run.{Run}
 use Rattle.vlt_tasks.specs.Halting.{outcome_of, stop_for, halted}
 use Rattle.vlt_tasks.specs.Shown.{ShowsConf}
-use Rattle.vlt_tasks.specs.Moves.{world_in, GoneOn, IsCut, HasStopped, CameTo}
+use Rattle.vlt_tasks.specs.Moves.{GoneOn, IsCut, CameTo}
 use Rattle.vlt_tasks.proofs.Staying.{IsSameRun, ShowsThen, stays_left}
 
 -- where a configuration is come to

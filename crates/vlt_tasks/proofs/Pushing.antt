@@ -1,5 +1,5 @@
 -- A task more, and the next task taken.
-use Rattle.std.proofs.Common.{◌≡◌, ◌≤◌, Bool, List, [], ◌∷◌, ◌++◌, Option, refl, sym, ap, ◌∙◌, subst, reverse}
+use Rattle.std.proofs.Common.{◌≡◌, List, [], ◌∷◌, ◌++◌, sym, subst}
 use Rattle.vlt_core.specs.Core.{Func}
 use Rattle.vlt_heap.specs.Items.{Items}
 use Rattle.vlt_meaning.specs.World.{Frame, World}
@@ -10,7 +10,7 @@ use Rattle.vlt_tasks.specs.declared.task.At.{At}
 use Rattle.vlt_tasks.specs.declared.task.At.TheVariants.{Goes, Jumps, Leaves}
 use Rattle.vlt_tasks.specs.declared.task.Task.{Task}
 use Rattle.vlt_tasks.specs.declared.task.Run.{Run}
-use Rattle.vlt_tasks.specs.Shown.{tasks_left, ShowsTasks, Runs, WasLeft, ShowsStep, ShowsWith, ShowsConf}
+use Rattle.vlt_tasks.specs.Shown.{tasks_left, ShowsTasks, Runs, ShowsStep, ShowsWith, ShowsConf}
 use Rattle.vlt_tasks.proofs.Stacks.{next_is}
 
 -- only the stack changed

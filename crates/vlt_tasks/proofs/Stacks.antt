@@ -1,6 +1,6 @@
 -- The stack of tasks, whose last one is the next.
-use Rattle.std.proofs.Common.{◌≡◌, ◌<◌, ◌≤◌, ◌+◌, ℕ, suc, List, [], ◌∷◌, ◌++◌, length, refl, sym, ap, ◌∙◌, subst, arith, slice_get, reverse}
-use Rattle.std.proofs.lemmas.List.{reverse-append, length-reverse, length-append}
+use Rattle.std.proofs.Common.{◌≡◌, ◌<◌, ◌≤◌, ℕ, List, [], ◌∷◌, ◌++◌, sym, ap, ◌∙◌, subst, arith, slice_get, reverse}
+use Rattle.std.proofs.lemmas.List.{reverse-append}
 use Rattle.vlt_heap.specs.Items.{Items}
 use Rattle.vlt_heap.proofs.Listed.{KeepMade}
 use Rattle.vlt_machine.specs.Machine as m
@@ -9,7 +9,7 @@ use Rattle.vlt_frames.specs.Frames.{frame_end, IsBelow, Waits}
 use Rattle.vlt_frames.proofs.Standing.{stands_same, stands_kept}
 use Rattle.vlt_tasks.specs.declared.task.Task.{Task}
 use Rattle.vlt_tasks.specs.declared.task.Task.TheVariants.{List as Listed, Closing, Turn, Unfocus, Back}
-use Rattle.vlt_tasks.specs.Shown.{IsFocused, IsCaller, ShowsTask, base_behind, depth_behind, ShowsTasks}
+use Rattle.vlt_tasks.specs.Shown.{ShowsTask, base_behind, depth_behind, ShowsTasks}
 
 -- a task more is the next one
 pub next_is : (old new : List Task) (t : Task) → new ≡ old ++ t ∷ [] → reverse new ≡ t ∷ reverse old

@@ -1,17 +1,16 @@
 -- A run that shows a configuration still, once its tables were changed.
-use Rattle.std.proofs.Common.{◌≡◌, ◌<◌, ◌≤◌, ◌+◌, ◌*◌, ℕ, Bool, List, [], ◌∷◌, length, refl, sym, ap, ◌∙◌, subst, arith, reverse}
-use Rattle.std.specs.Vec.{vec_capacity}
+use Rattle.std.proofs.Common.{◌≡◌, ◌*◌, ℕ, List, length, refl, sym, ap, ◌∙◌, subst, arith, reverse}
 use Rattle.vlt_core.specs.View.{func_of}
 use Rattle.vlt_core.specs.Core.{Func, Program}
-use Rattle.vlt_meaning.specs.World.{Value, Frame, World}
-use Rattle.vlt_meaning.specs.Step.{goes, jumps, leaves, ends}
+use Rattle.vlt_meaning.specs.World.{Frame, World}
+use Rattle.vlt_meaning.specs.Step.{goes}
 use Rattle.vlt_heap.specs.Items.{Items}
-use Rattle.vlt_heap.specs.Shown.{IsSound, IsSameSize}
+use Rattle.vlt_heap.specs.Shown.{IsSound}
 use Rattle.vlt_machine.specs.Machine as m
 use Rattle.vlt_machine.specs.Machine.{at}
 use Rattle.vlt_values.specs.Shown.{IsTable, Seen}
 use Rattle.vlt_acts.specs.Acts.{Shows, IsSameFrame}
-use Rattle.vlt_frames.specs.Frames.{NamesOwn, IsRunning}
+use Rattle.vlt_frames.specs.Frames.{IsRunning}
 use Rattle.vlt_frames.proofs.Standing.{running_names}
 use Rattle.vlt_hosts.specs.Hosts.{ShowsHost}
 use Rattle.vlt_tasks.specs.declared.task.At.{At}

@@ -1,15 +1,15 @@
 -- What a move of a run, or a part of one, asks and comes to.
-use Rattle.std.specs.Prelude.{◌≡◌, ◌⊎◌, ◌≤◌, ℕ, ◌<◌, ◌+◌, ◌*◌, ◌^◌, Bool, true, false, List, [], ◌∷◌, ◌++◌, length, Option, Some, None, vec_capacity}
+use Rattle.std.specs.Prelude.{◌≡◌, ◌⊎◌, ◌≤◌, ℕ, ◌<◌, ◌+◌, ◌*◌, ◌^◌, true, false, List, ◌∷◌, ◌++◌, length, Option, Some, None, vec_capacity}
 use Rattle.vlt_io.specs.Outside.{Rose, GrewByPart}
 use Rattle.vlt_core.specs.View.{func_of, program_of}
-use Rattle.vlt_core.specs.Core.{Expr, Form, Block, Func, Program}
+use Rattle.vlt_core.specs.Core.{Form, Block, Func, Program}
 use Rattle.vlt_core.specs.Lookups.{fields_of}
 use Rattle.vlt_core.specs.Widths.{greatest}
 use Rattle.vlt_meaning.specs.World.{Event, event_text, Frame, World, Outcome, is_fault}
 use Rattle.vlt_meaning.specs.Step.{Step, goes, jumps, leaves, ends}
 use Rattle.vlt_meaning.specs.Run.{Setup}
 use Rattle.vlt_machine.specs.Machine as m
-use Rattle.vlt_machine.specs.Machine.{Conf, at, act, enter_block, turn_on, moved}
+use Rattle.vlt_machine.specs.Machine.{Conf, at, act, enter_block, moved}
 use Rattle.vlt_machine.specs.Bounds.{tall_of}
 use Rattle.vlt_heap.specs.Shown.{IsSound, IsSameSize, heap_of, slots_of}
 use Rattle.vlt_hosts.specs.Hosts.{Outside, Wrote}
@@ -100,15 +100,12 @@ IsRight a = (o : Outcome) (w : World) → a ≡ ends o w → is_fault o ≡ fals
 abbrev pub Part : Type 0
 Part = Setup → Func → List m.Task → Frame → World → Conf
 
--- a statement, the beginning of a block, and the next turn of a loop
+-- a statement, and the beginning of a block
 abbrev pub doing : Form → Part
 doing form s f ts frame w = act s f form ts frame w
 
 abbrev pub entering : Block → Part
 entering b s f ts frame w = enter_block f b ts frame w
-
-abbrev pub turning : Expr → Block → Part
-turning e b s f ts frame w = turn_on s f e b ts frame w
 
 -- some configuration that the run shows goes on, and this part of its move doesn't go wrong
 pub record GoesRight (part : Part) (s : Setup) (r : Run) : Type 0 where

@@ -6,7 +6,7 @@ use Rattle.vlt_core.specs.declared.program.Block.{Block}
 use Rattle.vlt_core.specs.Core as core
 use Rattle.vlt_core.specs.Core.{Func}
 use Rattle.vlt_meaning.specs.World.{Value, Frame, World}
-use Rattle.vlt_meaning.specs.Step.{Step, goes, jumps, leaves, ends}
+use Rattle.vlt_meaning.specs.Step.{Step, goes, jumps, leaves}
 use Rattle.vlt_meaning.specs.Run.{Setup}
 use Rattle.vlt_machine.specs.Machine as m
 use Rattle.vlt_machine.specs.Machine.{Caller, Conf}

@@ -4,7 +4,7 @@ use Rattle.vlt_core.specs.View.{program_of, func_of, entry_of, keys_of}
 use Rattle.vlt_externals.specs.Told.{TellsCall}
 use Rattle.vlt_externals.specs.Sent.{CanTake, Takes}
 use Rattle.vlt_host_calls.specs.Heeded.{Heeds}
-use Rattle.vlt_host_calls.proofs.Calling.{vars_before, args_end, can_take, can_hand, cut_off, no_answer, halts, goes_on, left_behind}
+use Rattle.vlt_host_calls.proofs.Calling.{vars_before, args_end, can_take, can_hand, cut_off, no_answer, halts, goes_on, cut_below, all_below}
 use Rattle.vlt_host_calls.proofs.call.call_external.Goals as goal
 
 pub returns-in-Err-clause-calls : goal.returns-in-Err-clause-calls
@@ -42,12 +42,26 @@ returns-in-Err-heed-clause-calls g c =
     (subst (Heeds (program_of c.args.program.now) (func_of c.args.g.now) (keys_of c.args.keys.now) (c.args.host.now.taken + 1) c.in-Some.answer.now c.truncate.new.self c.heed.new.values c.send_owned.new.heap c.heed.new.heap) c.in-Err-heed.is
     (subst (λ n. Heeds (program_of c.args.program.now) (func_of c.args.g.now) (keys_of c.args.keys.now) n c.in-Some.answer.now c.truncate.new.self c.heed.new.values c.send_owned.new.heap c.heed.new.heap c.heed.result) (ap (λ q. q.taken) c.in-Some.ensures.1) c.heed.ensures.heeds))
 
-pub returns-in-Ok-heed-clause-left : goal.returns-in-Ok-heed-clause-left
-returns-in-Ok-heed-clause-left g c =
-    left_behind c.args.values.now c.truncate.new.self c.heed.new.values c.deliver.new.values c.truncate-in-Ok-heed.new.self (c.len.result - c.args.g.now.params * c.width.result) (c.args.g.now.params * c.args.values.now.width)
-    (args_end (program_of c.args.program.now) (func_of c.args.g.now) (keys_of c.args.keys.now) c.args.heap.now c.args.values.now c.args.host.now c.requires.can.seen c.requires.can.world c.requires.can.args c.requires.can.call (c.len.result - c.args.g.now.params * c.width.result) (ap (λ k. k - c.args.g.now.params * c.width.result) c.len.ensures ∙ ap (λ w. length c.args.values.now.slots.items - c.args.g.now.params * w) c.width.ensures))
+pub returns-in-Err-heed-clause-same : goal.returns-in-Err-heed-clause-same
+returns-in-Err-heed-clause-same g c =
+    cut_below c.args.values.now c.truncate.new.self c.heed.new.values (c.len.result - c.args.g.now.params * c.width.result)
     (let l = vars_before (program_of c.args.program.now) (func_of c.args.g.now) (keys_of c.args.keys.now) c.args.heap.now c.args.values.now c.args.host.now c.requires.can.seen c.requires.can.world c.requires.can.args c.requires.can.call (c.len.result - c.args.g.now.params * c.width.result) (ap (λ k. k - c.args.g.now.params * c.width.result) c.len.ensures ∙ ap (λ w. length c.args.values.now.slots.items - c.args.g.now.params * w) c.width.ensures) in omega (arith, l))
-    c.truncate.ensures.cut c.truncate.ensures.room c.heed.ensures.same c.deliver.ensures.same c.truncate-in-Ok-heed.ensures.cut c.truncate-in-Ok-heed.ensures.room
+    c.truncate.ensures.cut c.truncate.ensures.room c.heed.ensures.same
+
+pub returns-in-Ok-heed-clause-same : goal.returns-in-Ok-heed-clause-same
+returns-in-Ok-heed-clause-same g c =
+    all_below c.args.values.now c.heed.new.values c.deliver.new.values c.truncate-in-Ok-heed.new.self (c.len.result - c.args.g.now.params * c.width.result)
+    (let l = vars_before (program_of c.args.program.now) (func_of c.args.g.now) (keys_of c.args.keys.now) c.args.heap.now c.args.values.now c.args.host.now c.requires.can.seen c.requires.can.world c.requires.can.args c.requires.can.call (c.len.result - c.args.g.now.params * c.width.result) (ap (λ k. k - c.args.g.now.params * c.width.result) c.len.ensures ∙ ap (λ w. length c.args.values.now.slots.items - c.args.g.now.params * w) c.width.ensures) in omega (arith, l))
+    (cut_below c.args.values.now c.truncate.new.self c.heed.new.values (c.len.result - c.args.g.now.params * c.width.result)
+    (let l = vars_before (program_of c.args.program.now) (func_of c.args.g.now) (keys_of c.args.keys.now) c.args.heap.now c.args.values.now c.args.host.now c.requires.can.seen c.requires.can.world c.requires.can.args c.requires.can.call (c.len.result - c.args.g.now.params * c.width.result) (ap (λ k. k - c.args.g.now.params * c.width.result) c.len.ensures ∙ ap (λ w. length c.args.values.now.slots.items - c.args.g.now.params * w) c.width.ensures) in omega (arith, l))
+    c.truncate.ensures.cut c.truncate.ensures.room c.heed.ensures.same)
+    c.deliver.ensures.same c.truncate-in-Ok-heed.ensures.cut c.truncate-in-Ok-heed.ensures.room
+
+pub returns-in-Ok-heed-clause-long : goal.returns-in-Ok-heed-clause-long
+returns-in-Ok-heed-clause-long g c =
+    let l = c.truncate-in-Ok-heed.ensures.cut.long in
+    let e = args_end (program_of c.args.program.now) (func_of c.args.g.now) (keys_of c.args.keys.now) c.args.heap.now c.args.values.now c.args.host.now c.requires.can.seen c.requires.can.world c.requires.can.args c.requires.can.call (c.len.result - c.args.g.now.params * c.width.result) (ap (λ k. k - c.args.g.now.params * c.width.result) c.len.ensures ∙ ap (λ w. length c.args.values.now.slots.items - c.args.g.now.params * w) c.width.ensures) in
+    ap (λ n. n + c.args.g.now.params * c.args.values.now.width) l ∙ e
 
 pub returns-in-Ok-heed-clause-calls : goal.returns-in-Ok-heed-clause-calls
 returns-in-Ok-heed-clause-calls g c =
