@@ -1,6 +1,6 @@
 //! Laws of the grammar of C texts: nothing goes in and nothing comes out.
 //! Read `specs/Laws.antt` first, then `specs/Automaton.antt`.
-//! No crate rests on it yet: `c_parser` is to refuse a text where the automaton does.
+//! Rests on it: `c_parser`, which refuses a text where the automaton does.
 #![tactic(auto)]
 
 ghost use Rattle.c_automaton.specs.Laws.{RefusesAsTheGrammar};

@@ -1,6 +1,6 @@
 mod Arguments
+mod Automata
 mod Heads
 mod Lexing
-mod Naming
 mod Runs
 mod Statements

@@ -1,11 +1,13 @@
 //! Calls.
 
-ghost use Rattle.std.specs.Prelude.{◌≡◌, ◌+◌, [], ◌∷◌, false, map, IfErr, IfOk};
+ghost use Rattle.std.specs.Prelude.{◌≡◌, ◌+◌, [], ◌∷◌, false, true, map, IfErr, IfOk};
 ghost use Rattle.c_syntax.specs.Spelling.{arg_token, args_then, call_then, more_args_then};
 ghost use Rattle.c_syntax.specs.Grammar.{HasNoText, IsCall};
 ghost use Rattle.c_syntax.specs.View.{arg_of, call_of};
-ghost use Rattle.c_parser.specs.Refusals.{Names};
 ghost use Rattle.c_parser.specs.Parsing.{Reads, ReadsBehind};
+ghost use Rattle.c_automaton.specs.Automaton as machine;
+ghost use Rattle.c_parser.specs.Following.{ahead, Takes, Turns};
+ghost use Rattle.c_automaton.specs.Ahead.{begins_with, is_callee};
 
 use crate::cursor::{is_sign, refuse, sign, token};
 use crate::error::ParseError;
@@ -19,7 +21,8 @@ fn arg(alloc: Global, lexemes: &[Lexeme<'_>], at: usize, texts: bool) -> Result<
     ensures reads { IfOk result (λ x. Reads lexemes.now at (at + 1)
         (λ rest. arg_token (arg_of x) ∷ rest)) }
     ensures is { IfOk result (λ x. texts ≡ false → HasNoText (arg_of x ∷ [])) }
-    ensures refused { IfErr result (Names lexemes.now) }
+    ensures follows { Turns (machine.arg texts ∷ []) [] (λ x. at + 1)
+        lexemes.now at result }
 {
     match token(lexemes, at) {
         Some(Token::Number(value)) => Ok(CArg::Number(value)),
@@ -31,6 +34,7 @@ fn arg(alloc: Global, lexemes: &[Lexeme<'_>], at: usize, texts: bool) -> Result<
 }
 
 /// The arguments behind the first, and the closing parenthesis.
+#[tactic(auto, using(c_automaton::proofs::Taking::comma_arg, c_automaton::proofs::Taking::more_args_end))]
 fn more_args(
     alloc: Global,
     lexemes: &[Lexeme<'_>],
@@ -42,7 +46,7 @@ fn more_args(
     ensures reads { IfOk result (λ x. ReadsBehind (arg_token (arg_of first)) lexemes.now at x.1
         (args_then (map arg_of x.0))) }
     ensures is { IfOk result (λ x. texts ≡ false → HasNoText (map arg_of x.0)) }
-    ensures refused { IfErr result (Names lexemes.now) }
+    ensures follows { Takes (machine.more_args texts ∷ []) lexemes.now at result }
 {
     let mut args = Items::new(alloc);
     args.push(first)?;
@@ -56,6 +60,7 @@ fn more_args(
 }
 
 /// Arguments, and the closing parenthesis.
+#[tactic(auto, using(c_automaton::proofs::Taking::no_args, c_automaton::proofs::Taking::args_begin))]
 fn args(
     alloc: Global,
     lexemes: &[Lexeme<'_>],
@@ -64,7 +69,7 @@ fn args(
 ) -> Result<(Items<CArg>, usize), ParseError>
     ensures reads { IfOk result (λ x. Reads lexemes.now at x.1 (args_then (map arg_of x.0))) }
     ensures is { IfOk result (λ x. texts ≡ false → HasNoText (map arg_of x.0)) }
-    ensures refused { IfErr result (Names lexemes.now) }
+    ensures follows { Takes (machine.args texts ∷ []) lexemes.now at result }
 {
     if is_sign(lexemes, at, CSign::CloseParen) {
         return Ok((Items::new(alloc), at + 1));
@@ -77,7 +82,8 @@ fn args(
 pub fn call(alloc: Global, lexemes: &[Lexeme<'_>], at: usize) -> Result<(CCall, usize), ParseError>
     ensures reads { IfOk result (λ x. Reads lexemes.now at x.1 (call_then (call_of x.0))) }
     ensures is { IfOk result (λ x. IsCall (call_of x.0)) }
-    ensures refused { IfErr result (Names lexemes.now) }
+    ensures follows { begins_with is_callee (ahead lexemes.now at) ≡ true →
+        Takes (machine.value ∷ []) lexemes.now at result }
 {
     match token(lexemes, at) {
         Some(Token::Name(name)) => {

@@ -1,10 +1,12 @@
 //! One token at a time.
 
-ghost use Rattle.std.specs.Prelude.{◌≡◌, ◌∷◌, [], ◌+◌, ◌≤◌, length, MatchOption, IfErr, IfOk, IsTrue};
+ghost use Rattle.std.specs.Prelude.{◌≡◌, ◌∷◌, [], ◌+◌, ◌≤◌, Some, length, MatchOption, IfErr, IfOk, IsTrue};
 ghost use Rattle.c_syntax.specs.Tokens as t;
 ghost use Rattle.c_parser.specs.View.{token_of, tokens_from};
-ghost use Rattle.c_parser.specs.Refusals.{Names};
 ghost use Rattle.c_parser.specs.Parsing.{Reads};
+ghost use Rattle.c_automaton.specs.Automaton as machine;
+ghost use Rattle.c_parser.specs.Following.{ahead, told_of, Comes, Turns};
+ghost use Rattle.c_automaton.specs.Ahead.{begins_sign, begins_word, refusal_at};
 
 use crate::error::ParseError;
 use crate::token::{Lexeme, Token};
@@ -12,8 +14,10 @@ use c_syntax::{CSign, CWord};
 
 /// The token at a position.
 pub fn token<'a>(lexemes: &[Lexeme<'a>], at: usize) -> Option<Token<'a>>
-    ensures { MatchOption result (tokens_from lexemes.now at ≡ [])
+    ensures reads { MatchOption result (tokens_from lexemes.now at ≡ [])
         (λ t. Reads lexemes.now at (at + 1) (λ rest. token_of t ∷ rest)) }
+    ensures comes { MatchOption result (ahead lexemes.now at ≡ [])
+        (λ t. Comes (token_of t) lexemes.now at (at + 1)) }
 {
     let lexeme = lexemes.get(at)?;
     Some(lexeme.token)
@@ -21,7 +25,7 @@ pub fn token<'a>(lexemes: &[Lexeme<'a>], at: usize) -> Option<Token<'a>>
 
 /// Nothing goes on with the token at a position.
 pub fn refuse(lexemes: &[Lexeme<'_>], at: usize) -> ParseError
-    ensures { Names lexemes.now result }
+    ensures told { told_of result ≡ Some (refusal_at (ahead lexemes.now at)) }
 {
     match lexemes.get(at) {
         Some(lexeme) => ParseError::Unexpected(lexeme.at),
@@ -30,32 +34,39 @@ pub fn refuse(lexemes: &[Lexeme<'_>], at: usize) -> ParseError
 }
 
 /// Reads a sign.
+#[tactic(auto, using(c_automaton::proofs::Taking::sign_taken, c_automaton::proofs::Taking::sign_lacks, crate::proofs::Automata::fails_with))]
 pub fn sign(lexemes: &[Lexeme<'_>], at: usize, wanted: CSign) -> Result<usize, ParseError>
     ensures reads { IfOk result (λ next. Reads lexemes.now at next
         (λ rest. t.sign wanted ∷ rest)) }
-    ensures refused { IfErr result (Names lexemes.now) }
+    ensures follows { Turns (machine.sign wanted ∷ []) [] (λ next. next)
+        lexemes.now at result }
 {
-    match token(lexemes, at) {
-        Some(Token::Sign(found)) if found == wanted => Ok(at + 1),
-        _ => Err(refuse(lexemes, at)),
+    if !is_sign(lexemes, at, wanted) {
+        return Err(refuse(lexemes, at));
     }
+    Ok(at + 1)
 }
 
 /// Reads a word.
+#[tactic(auto, using(c_automaton::proofs::Taking::word_taken, c_automaton::proofs::Taking::word_lacks, crate::proofs::Automata::fails_with))]
 pub fn word(lexemes: &[Lexeme<'_>], at: usize, wanted: CWord) -> Result<usize, ParseError>
     ensures reads { IfOk result (λ next. Reads lexemes.now at next
         (λ rest. t.word wanted ∷ rest)) }
-    ensures refused { IfErr result (Names lexemes.now) }
+    ensures follows { Turns (machine.word wanted ∷ []) [] (λ next. next)
+        lexemes.now at result }
 {
-    match token(lexemes, at) {
-        Some(Token::Word(found)) if found == wanted => Ok(at + 1),
-        _ => Err(refuse(lexemes, at)),
+    if !is_word(lexemes, at, wanted) {
+        return Err(refuse(lexemes, at));
     }
+    Ok(at + 1)
 }
 
 /// Whether a sign stands at a position.
 pub fn is_sign(lexemes: &[Lexeme<'_>], at: usize, wanted: CSign) -> bool
-    ensures { IsTrue result → Reads lexemes.now at (at + 1) (λ rest. t.sign wanted ∷ rest) }
+    ensures reads { IsTrue result →
+        Reads lexemes.now at (at + 1) (λ rest. t.sign wanted ∷ rest) }
+    ensures comes { IsTrue result → Comes (t.sign wanted) lexemes.now at (at + 1) }
+    ensures begins { result ≡ begins_sign wanted (ahead lexemes.now at) }
 {
     match token(lexemes, at) {
         Some(Token::Sign(found)) => found == wanted,
@@ -65,7 +76,10 @@ pub fn is_sign(lexemes: &[Lexeme<'_>], at: usize, wanted: CSign) -> bool
 
 /// Whether a word stands at a position.
 pub fn is_word(lexemes: &[Lexeme<'_>], at: usize, wanted: CWord) -> bool
-    ensures { IsTrue result → Reads lexemes.now at (at + 1) (λ rest. t.word wanted ∷ rest) }
+    ensures reads { IsTrue result →
+        Reads lexemes.now at (at + 1) (λ rest. t.word wanted ∷ rest) }
+    ensures comes { IsTrue result → Comes (t.word wanted) lexemes.now at (at + 1) }
+    ensures begins { result ≡ begins_word wanted (ahead lexemes.now at) }
 {
     match token(lexemes, at) {
         Some(Token::Word(found)) => found == wanted,

@@ -1,14 +1,16 @@
 //! Cells, expressions and calls.
 
-ghost use Rattle.std.specs.Prelude.{◌≡◌, ◌+◌, ◌≤◌, ◌∷◌, List, true, map, IfErr, IfOk};
+ghost use Rattle.std.specs.Prelude.{◌≡◌, ◌+◌, ◌≤◌, [], ◌∷◌, List, true, map, IfErr, IfOk};
 ghost use Rattle.vlt_ops.specs.Operator.{row_of};
 ghost use Rattle.c_syntax.specs.Tokens as t;
 ghost use Rattle.c_syntax.specs.declared.token.CSign.TheVariants.{OpenParen};
 ghost use Rattle.c_syntax.specs.Spelling.{arg_token, args_then, call_then, cell_then, expr_then, more_args_then};
 ghost use Rattle.c_syntax.specs.Grammar.{HasNoText, IsCall, IsExpr};
 ghost use Rattle.c_syntax.specs.View.{arg_of, call_of, expr_of};
-ghost use Rattle.c_parser.specs.Refusals.{Names};
 ghost use Rattle.c_parser.specs.Parsing.{Reads, ReadsBehind};
+ghost use Rattle.c_syntax.specs.declared.token.CSign.TheVariants.{Arrow};
+ghost use Rattle.c_automaton.specs.Automaton as machine;
+ghost use Rattle.c_parser.specs.Following.{AtDepth, Takes, Turns, TurnsWhere};
 
 use crate::cursor::{is_sign, refuse, sign, token};
 use crate::error::ParseError;
@@ -27,7 +29,7 @@ pub fn cell_behind(
     ensures reads { IfOk result (λ x.
         ReadsBehind (t.variable (record { reference = true; number = base })) lexemes.now at x.1
         (cell_then x.0)) }
-    ensures refused { IfErr result (Names lexemes.now) }
+    ensures follows { Takes (machine.sign Arrow ∷ machine.cell_rest []) lexemes.now at result }
 {
     let kind = sign(lexemes, at, CSign::Arrow)?;
     let reference = match token(lexemes, kind) {
@@ -49,6 +51,7 @@ pub fn cell_behind(
 }
 
 /// What stands behind an opening parenthesis, with the closing one.
+#[tactic(auto, using(c_automaton::proofs::Taking::inside_operand, c_automaton::proofs::Taking::prefix_taken, c_automaton::proofs::Taking::closing_paren))]
 #[cycle(expression)]
 fn behind_paren(
     alloc: Global,
@@ -60,7 +63,8 @@ fn behind_paren(
     ensures reads { IfOk result (λ x. ReadsBehind (t.sign OpenParen) lexemes.now at x.1
         (expr_then (expr_of x.0))) }
     ensures is { IfOk result (λ x. IsExpr (depth + 1) (expr_of x.0)) }
-    ensures refused { IfErr result (Names lexemes.now) }
+    ensures follows { TurnsWhere (AtDepth (depth + 1)) (machine.inside ∷ []) [] (λ x. x.1)
+        lexemes.now at result }
 {
     match token(lexemes, at) {
         Some(Token::Operator(Op::Subtract)) => {
@@ -86,11 +90,13 @@ fn behind_paren(
 }
 
 /// The operator between two operands.
+#[tactic(auto, using(c_automaton::proofs::Taking::operator_taken))]
 fn operator(lexemes: &[Lexeme<'_>], at: usize) -> Result<Op, ParseError>
     ensures reads { IfOk result (λ op. Reads lexemes.now at (at + 1)
         (λ rest. t.operator op ∷ rest)) }
     ensures arity { IfOk result (λ op. (row_of op).arity ≡ 2) }
-    ensures refused { IfErr result (Names lexemes.now) }
+    ensures follows { Turns (machine.operation ∷ [])
+        (machine.operand ∷ machine.closing ∷ []) (λ op. at + 1) lexemes.now at result }
 {
     match token(lexemes, at) {
         Some(Token::Operator(op)) if row(op).arity == 2 => Ok(op),
@@ -99,6 +105,7 @@ fn operator(lexemes: &[Lexeme<'_>], at: usize) -> Result<Op, ParseError>
 }
 
 /// An expression of at most this depth.
+#[tactic(auto, using(c_automaton::proofs::Taking::paren_opens, c_automaton::proofs::Taking::paren_is_too_deep, c_automaton::proofs::Taking::no_arrow))]
 #[cycle(expression)]
 pub fn expr(
     alloc: Global,
@@ -109,7 +116,8 @@ pub fn expr(
     requires { 1 ≤ depth }
     ensures reads { IfOk result (λ x. Reads lexemes.now at x.1 (expr_then (expr_of x.0))) }
     ensures is { IfOk result (λ x. IsExpr depth (expr_of x.0)) }
-    ensures refused { IfErr result (Names lexemes.now) }
+    ensures follows { TurnsWhere (AtDepth depth) (machine.operand ∷ []) [] (λ x. x.1)
+        lexemes.now at result }
 {
     match token(lexemes, at) {
         Some(Token::Number(value)) => Ok((CExpr::Number(value), at + 1)),

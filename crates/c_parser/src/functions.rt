@@ -1,12 +1,15 @@
 //! Heads, functions with their bodies, and the whole.
 
-ghost use Rattle.std.specs.Prelude.{◌≡◌, ◌+◌, ◌≤◌, [], ◌∷◌, pos, length, map, IfErr, IfOk};
+ghost use Rattle.std.specs.Prelude.{◌≡◌, ◌+◌, ◌≤◌, ◌<◌, [], ◌∷◌, Bool, false, pos, ◌&&◌, length, map, IfErr, IfOk, IsTrue};
 ghost use Rattle.c_syntax.specs.Tokens as t;
 ghost use Rattle.c_syntax.specs.Spelling.{declaration_then, head_then, params_then, result_then, spelling, type_then, vars_then};
 ghost use Rattle.c_syntax.specs.Grammar.{AreStmts, IsUnit, language};
 ghost use Rattle.c_parser.specs.View.{body_of, declaration_of, head_of, tokens_from, unit_of};
-ghost use Rattle.c_parser.specs.Refusals.{Names};
 ghost use Rattle.c_parser.specs.Parsing.{Reads, ReadsBody, ReadsParams, ReadsSome};
+ghost use Rattle.c_syntax.specs.declared.token.CSign.TheVariants.{OpenBrace, Semicolon};
+ghost use Rattle.c_automaton.specs.Automaton as machine;
+ghost use Rattle.c_parser.specs.Following.{ahead, before_bodies, Comes, Fails, HasNoBlock, Takes, Turns, TurnsWhere};
+ghost use Rattle.c_automaton.specs.Ahead.{begins_sign, begins_with, behind_head_of, functions_symbol, is_type};
 
 use crate::cursor::{is_sign, is_word, refuse, sign, token, word};
 use crate::error::ParseError;
@@ -21,9 +24,10 @@ use vlt_base::Items;
 const ROOM: u8 = 191;
 
 /// A type, and whether it is `vr_ref`.
+#[tactic(auto, using(c_automaton::proofs::Taking::ref_type, c_automaton::proofs::Taking::long_type))]
 fn type_at(lexemes: &[Lexeme<'_>], at: usize) -> Result<(bool, usize), ParseError>
     ensures reads { IfOk result (λ x. Reads lexemes.now at x.1 (type_then x.0)) }
-    ensures refused { IfErr result (Names lexemes.now) }
+    ensures follows { Takes (machine.type ∷ []) lexemes.now at result }
 {
     if is_word(lexemes, at, CWord::Ref) {
         return Ok((true, at + 1));
@@ -34,9 +38,12 @@ fn type_at(lexemes: &[Lexeme<'_>], at: usize) -> Result<(bool, usize), ParseErro
 }
 
 /// What a function gives.
+#[tactic(auto, using(c_automaton::proofs::Taking::void_taken, crate::proofs::Automata::head_here))]
 fn result_at(lexemes: &[Lexeme<'_>], at: usize) -> Result<(CResult, usize), ParseError>
+    requires { at < length lexemes.now }
     ensures reads { IfOk result (λ x. Reads lexemes.now at x.1 (result_then x.0)) }
-    ensures refused { IfErr result (Names lexemes.now) }
+    ensures follows { (all : Bool) → Turns (functions_symbol all ∷ [])
+        (machine.head_rest (behind_head_of all)) (λ x. x.1) lexemes.now at result }
 {
     if is_word(lexemes, at, CWord::Void) {
         return Ok((CResult::Nothing, at + 1));
@@ -53,7 +60,7 @@ fn result_at(lexemes: &[Lexeme<'_>], at: usize) -> Result<(CResult, usize), Pars
 fn declaration(lexemes: &[Lexeme<'_>], at: usize) -> Result<(Declaration, usize), ParseError>
     ensures reads { IfOk result (λ x. Reads lexemes.now at x.1
         (declaration_then (declaration_of x.0))) }
-    ensures refused { IfErr result (Names lexemes.now) }
+    ensures follows { Takes (machine.type ∷ machine.any_variable ∷ []) lexemes.now at result }
 {
     let (reference, next) = type_at(lexemes, at)?;
     match token(lexemes, next) {
@@ -69,6 +76,7 @@ fn declaration(lexemes: &[Lexeme<'_>], at: usize) -> Result<(Declaration, usize)
 }
 
 /// The parameters behind the first, and the closing parenthesis.
+#[tactic(auto, using(c_automaton::proofs::Taking::comma_param, c_automaton::proofs::Taking::more_params_end))]
 fn more_params(
     alloc: Global,
     lexemes: &[Lexeme<'_>],
@@ -77,7 +85,7 @@ fn more_params(
 ) -> Result<(Items<Declaration>, usize), ParseError>
     ensures reads { IfOk result (λ x. ReadsParams lexemes.now at x.1 (declaration_of first)
         (map declaration_of x.0)) }
-    ensures refused { IfErr result (Names lexemes.now) }
+    ensures follows { Takes (machine.more_params ∷ []) lexemes.now at result }
 {
     let mut params = Items::new(alloc);
     params.push(first)?;
@@ -92,6 +100,7 @@ fn more_params(
 }
 
 /// Parameters, and the closing parenthesis.
+#[tactic(auto, using(c_automaton::proofs::Taking::void_params, c_automaton::proofs::Taking::params_begin))]
 fn params(
     alloc: Global,
     lexemes: &[Lexeme<'_>],
@@ -99,7 +108,7 @@ fn params(
 ) -> Result<(Items<Declaration>, usize), ParseError>
     ensures reads { IfOk result (λ x. Reads lexemes.now at x.1
         (params_then (map declaration_of x.0))) }
-    ensures refused { IfErr result (Names lexemes.now) }
+    ensures follows { Takes (machine.params ∷ []) lexemes.now at result }
 {
     if is_word(lexemes, at, CWord::Void) {
         let next = sign(lexemes, at + 1, CSign::CloseParen)?;
@@ -112,7 +121,8 @@ fn params(
 /// The name of a function.
 fn name(lexemes: &[Lexeme<'_>], at: usize) -> Result<CName, ParseError>
     ensures reads { IfOk result (λ f. Reads lexemes.now at (at + 1) (λ rest. t.name f ∷ rest)) }
-    ensures refused { IfErr result (Names lexemes.now) }
+    ensures follows { Turns (machine.any_name ∷ []) [] (λ f. at + 1)
+        lexemes.now at result }
 {
     match token(lexemes, at) {
         Some(Token::Name(name)) => Ok(name),
@@ -122,8 +132,10 @@ fn name(lexemes: &[Lexeme<'_>], at: usize) -> Result<CName, ParseError>
 
 /// The head of a function.
 fn head(alloc: Global, lexemes: &[Lexeme<'_>], at: usize) -> Result<(Head, usize), ParseError>
+    requires { at < length lexemes.now }
     ensures reads { IfOk result (λ x. Reads lexemes.now at x.1 (head_then (head_of x.0))) }
-    ensures refused { IfErr result (Names lexemes.now) }
+    ensures follows { (all : Bool) → Turns (functions_symbol all ∷ [])
+        (behind_head_of all) (λ x. x.1) lexemes.now at result }
 {
     let (given, next) = result_at(lexemes, at)?;
     let name = name(lexemes, next)?;
@@ -140,11 +152,14 @@ fn head(alloc: Global, lexemes: &[Lexeme<'_>], at: usize) -> Result<(Head, usize
 }
 
 /// Whether a type begins at a position.
-fn begins_type(lexemes: &[Lexeme<'_>], at: usize) -> bool {
+fn begins_type(lexemes: &[Lexeme<'_>], at: usize) -> bool
+    ensures { result ≡ begins_with is_type (ahead lexemes.now at) }
+{
     is_word(lexemes, at, CWord::Ref) || is_word(lexemes, at, CWord::Long)
 }
 
 /// The declarations of variables.
+#[tactic(auto, using(c_automaton::proofs::Taking::var_begins, c_automaton::proofs::Taking::no_type))]
 fn vars(
     alloc: Global,
     lexemes: &[Lexeme<'_>],
@@ -153,7 +168,8 @@ fn vars(
     requires { at ≤ length lexemes.now }
     ensures reads { IfOk result (λ x. ReadsSome lexemes.now at x.1
         (vars_then (map declaration_of x.0))) }
-    ensures refused { IfErr result (Names lexemes.now) }
+    ensures follows { Turns (machine.body ∷ []) (machine.stmts false ∷ []) (λ x. x.1)
+        lexemes.now at result }
 {
     let mut vars = Items::new(alloc);
     let mut here = at;
@@ -174,7 +190,8 @@ fn body(
 ) -> Result<(Body, usize), ParseError>
     ensures reads { IfOk result (λ x. ReadsBody lexemes.now at x.1 (head_of head) (body_of x.0)) }
     ensures are { IfOk result (λ x. AreStmts language.expressions 191 (body_of x.0).stmts) }
-    ensures refused { IfErr result (Names lexemes.now) }
+    ensures follows { TurnsWhere HasNoBlock (machine.sign OpenBrace ∷ machine.body ∷ []) [] (λ x. x.1)
+        lexemes.now at result }
 {
     let open = sign(lexemes, at, CSign::OpenBrace)?;
     let (vars, next) = vars(alloc, lexemes, open)?;
@@ -182,12 +199,24 @@ fn body(
     Ok((Body { head, vars, stmts }, next))
 }
 
+/// Whether a head that ends at a position stands without a body, before all functions that have one.
+fn is_alone(lexemes: &[Lexeme<'_>], at: usize, bodies: &[Body]) -> bool
+    ensures is { result ≡ (before_bodies bodies.now && begins_sign Semicolon (ahead lexemes.now at)) }
+    ensures none { IsTrue result → bodies.now ≡ [] }
+    ensures reads { IsTrue result →
+        Reads lexemes.now at (at + 1) (λ rest. t.sign Semicolon ∷ rest) }
+    ensures comes { IsTrue result → Comes (t.sign Semicolon) lexemes.now at (at + 1) }
+{
+    bodies.is_empty() && is_sign(lexemes, at, CSign::Semicolon)
+}
+
 /// The number in the second line.
 fn first_lines(lexemes: &[Lexeme<'_>]) -> Result<u64, ParseError>
     ensures reads { IfOk result (λ main. tokens_from lexemes.now 0 ≡ t.include ∷ t.line_end
         ∷ t.define ∷ t.number (pos main) ∷ t.line_end ∷ tokens_from lexemes.now 5) }
     ensures within { IfOk result (λ main. 5 ≤ length lexemes.now) }
-    ensures refused { IfErr result (Names lexemes.now) }
+    ensures follows { Turns (machine.include ∷ machine.line_end ∷ machine.define
+        ∷ machine.natural ∷ machine.line_end ∷ []) [] (λ main. 5) lexemes.now 0 result }
 {
     match token(lexemes, 0) {
         Some(Token::Include) => {}
@@ -215,7 +244,8 @@ fn first_lines(lexemes: &[Lexeme<'_>]) -> Result<u64, ParseError>
 pub fn unit(alloc: Global, lexemes: &[Lexeme<'_>]) -> Result<Unit, ParseError>
     ensures spelled { IfOk result (λ u. tokens_from lexemes.now 0 ≡ spelling (unit_of u)) }
     ensures within { IfOk result (λ u. IsUnit language (unit_of u)) }
-    ensures refused { IfErr result (Names lexemes.now) }
+    ensures follows { IfErr result
+        (Fails (machine.run language machine.start (ahead lexemes.now 0))) }
 {
     let main = first_lines(lexemes)?;
     let mut heads = Vec::new(alloc);
@@ -223,7 +253,7 @@ pub fn unit(alloc: Global, lexemes: &[Lexeme<'_>]) -> Result<Unit, ParseError>
     let mut here = 5;
     while here < lexemes.len() {
         let (head, next) = head(alloc, lexemes, here)?;
-        if bodies.is_empty() && is_sign(lexemes, next, CSign::Semicolon) {
+        if is_alone(lexemes, next, &bodies) {
             heads.push(head)?;
             here = next + 1;
         } else {

@@ -6,7 +6,7 @@
 ghost use Rattle.std.specs.Prelude.{◌≡◌, ◌<◌, ◌-◌, ◌^◌, length, IfErr, IfOk};
 ghost use Rattle.c_syntax.specs.Reading.{IsUnitOf};
 ghost use Rattle.c_parser.specs.View.{lexemes_of, unit_of};
-ghost use Rattle.c_parser.specs.Refusals.{NamesOf};
+ghost use Rattle.c_parser.specs.Refusals.{IsRefusedAs};
 
 mod calls;
 mod cursor;
@@ -20,6 +20,7 @@ mod tests;
 mod token;
 mod unit;
 
+use c_automaton::automaton_refuses_as_the_grammar;
 pub use error::ParseError;
 pub use lex::before_mark;
 use std::alloc::Global;
@@ -35,13 +36,15 @@ pub struct Written<'a> {
 
 /// Reads a C text up to the first mark of a certificate, by the grammar and within its limits.
 ///
-/// Names and types aren't judged here. `Unexpected`, `EndOfText` and `Limit` say where reading stopped.
+/// Names and types aren't judged here.
+#[tactic(auto, using(crate::proofs::Automata::told_refused))]
 pub fn read_unit(alloc: Global, text: &[u8]) -> Result<Written<'_>, ParseError>
     requires size { length text.now < 2 ^ 32 - 1 }
     ensures reads { IfOk result (λ x. IsUnitOf text.now (lexemes_of x.lexemes.items)
         (unit_of x.unit)) }
-    ensures refused { IfErr result (NamesOf text.now) }
+    ensures refused { IfErr result (IsRefusedAs text.now) }
 {
+    automaton_refuses_as_the_grammar();
     let lexemes = lex::lex(alloc, before_mark(text))?;
     let unit = functions::unit(alloc, &lexemes)?;
     Ok(Written { lexemes, unit })

@@ -1,14 +1,16 @@
 //! Statements.
 
-ghost use Rattle.std.specs.Prelude.{◌≡◌, ◌+◌, ◌≤◌, ◌∷◌, ℕ, IfErr, IfOk};
+ghost use Rattle.std.specs.Prelude.{◌≡◌, ◌+◌, ◌≤◌, [], ◌∷◌, ℕ, Bool, true, false, ◌&&◌, IfErr, IfOk, IsTrue};
 ghost use Rattle.c_syntax.specs.Tokens as t;
-ghost use Rattle.c_syntax.specs.declared.token.CSign.TheVariants.{Assign, CloseBrace, OpenBrace};
+ghost use Rattle.c_syntax.specs.declared.token.CSign.TheVariants.{Arrow, Assign, CloseBrace, OpenBrace, Semicolon};
 ghost use Rattle.c_syntax.specs.declared.token.CWord.TheVariants.{If, Return, While};
 ghost use Rattle.c_syntax.specs.Spelling.{stmt_then, stmts_then};
 ghost use Rattle.c_syntax.specs.Grammar.{AreStmts, IsStmt, language};
 ghost use Rattle.c_syntax.specs.View.{stmt_of, stmts_of};
-ghost use Rattle.c_parser.specs.Refusals.{Names};
 ghost use Rattle.c_parser.specs.Parsing.{Reads, ReadsBehind, ReadsBehindTwo};
+ghost use Rattle.c_automaton.specs.Automaton as machine;
+ghost use Rattle.c_parser.specs.Following.{ahead, Comes, Takes, TurnsWhere, WithRoom};
+ghost use Rattle.c_automaton.specs.Ahead.{begins_sign, behind_variable_of, if_rest, while_rest};
 
 use crate::calls::call;
 use crate::cursor::{is_sign, is_word, refuse, sign, token, word};
@@ -23,6 +25,7 @@ use vlt_base::{C_BLOCK_DEPTH, Items};
 const DEPTH: u8 = 16;
 
 /// What is set to a value or to what a call gives, behind the sign.
+#[tactic(auto, using(c_automaton::proofs::Taking::value_operand))]
 fn set(
     alloc: Global,
     lexemes: &[Lexeme<'_>],
@@ -33,7 +36,7 @@ fn set(
         (t.sign Assign) lexemes.now at x.1 (stmt_then (stmt_of x.0))) }
     ensures is { (room : ℕ) → IfOk result (λ x.
         IsStmt language.expressions room (stmt_of x.0)) }
-    ensures refused { IfErr result (Names lexemes.now) }
+    ensures follows { Takes (machine.value ∷ machine.sign Semicolon ∷ []) lexemes.now at result }
 {
     match token(lexemes, at) {
         Some(Token::Name(_) | Token::Primitive(_)) => {
@@ -49,6 +52,15 @@ fn set(
     }
 }
 
+/// Whether a variable is that of a cell, which goes on at a position.
+fn is_cell(lexemes: &[Lexeme<'_>], at: usize, variable: CVar) -> bool
+    ensures is { result ≡ (variable.reference && begins_sign Arrow (ahead lexemes.now at)) }
+    ensures reference { IsTrue result → variable.reference ≡ true }
+    ensures comes { IsTrue result → Comes (t.sign Arrow) lexemes.now at (at + 1) }
+{
+    variable.reference && is_sign(lexemes, at, CSign::Arrow)
+}
+
 /// A statement that begins with a variable.
 fn behind_variable(
     alloc: Global,
@@ -60,9 +72,9 @@ fn behind_variable(
         (stmt_then (stmt_of x.0))) }
     ensures is { (room : ℕ) → IfOk result (λ x.
         IsStmt language.expressions room (stmt_of x.0)) }
-    ensures refused { IfErr result (Names lexemes.now) }
+    ensures follows { Takes (behind_variable_of variable) lexemes.now at result }
 {
-    if variable.reference && is_sign(lexemes, at, CSign::Arrow) {
+    if is_cell(lexemes, at, variable) {
         let (cell, next) = cell_behind(lexemes, at, variable.number)?;
         let next = sign(lexemes, next, CSign::Assign)?;
         let (value, next) = expr(alloc, lexemes, next, DEPTH)?;
@@ -74,6 +86,7 @@ fn behind_variable(
 }
 
 /// What stands behind `return`.
+#[tactic(auto, using(c_automaton::proofs::Taking::return_ends, c_automaton::proofs::Taking::return_value))]
 fn behind_return(
     alloc: Global,
     lexemes: &[Lexeme<'_>],
@@ -83,7 +96,7 @@ fn behind_return(
         (stmt_then (stmt_of x.0))) }
     ensures is { (room : ℕ) → IfOk result (λ x.
         IsStmt language.expressions room (stmt_of x.0)) }
-    ensures refused { IfErr result (Names lexemes.now) }
+    ensures follows { Takes (machine.behind_return ∷ []) lexemes.now at result }
 {
     if is_sign(lexemes, at, CSign::Semicolon) {
         return Ok((CStmt::Return(None), at + 1));
@@ -104,13 +117,16 @@ fn block(
     ensures reads { IfOk result (λ x. Reads lexemes.now at x.1
         (λ rest. t.sign OpenBrace ∷ stmts_then (stmts_of x.0) (t.sign CloseBrace ∷ rest))) }
     ensures are { IfOk result (λ x. AreStmts language.expressions room (stmts_of x.0)) }
-    ensures refused { IfErr result (Names lexemes.now) }
+    ensures follows { (counts : Bool) → TurnsWhere (WithRoom counts room)
+        (machine.sign OpenBrace ∷ machine.stmts counts ∷ []) [] (λ x. x.1)
+        lexemes.now at result }
 {
     let open = sign(lexemes, at, CSign::OpenBrace)?;
     stmts(alloc, lexemes, open, room)
 }
 
 /// Statements, and the closing brace.
+#[tactic(auto, using(c_automaton::proofs::Taking::block_ends))]
 #[cycle(statements)]
 pub fn stmts(
     alloc: Global,
@@ -121,7 +137,8 @@ pub fn stmts(
     ensures reads { IfOk result (λ x. Reads lexemes.now at x.1
         (λ rest. stmts_then (stmts_of x.0) (t.sign CloseBrace ∷ rest))) }
     ensures are { IfOk result (λ x. AreStmts language.expressions room (stmts_of x.0)) }
-    ensures refused { IfErr result (Names lexemes.now) }
+    ensures follows { (counts : Bool) → TurnsWhere (WithRoom counts room)
+        (machine.stmts counts ∷ []) [] (λ x. x.1) lexemes.now at result }
 {
     let mut found = Items::new(alloc);
     let mut here = at;
@@ -134,6 +151,7 @@ pub fn stmts(
 }
 
 /// A statement in a block in which blocks may still nest so deep.
+#[tactic(auto, using(c_automaton::proofs::Taking::variable_begins, c_automaton::proofs::Taking::call_stmt, c_automaton::proofs::Taking::if_opens, c_automaton::proofs::Taking::while_opens, c_automaton::proofs::Taking::if_is_too_deep, c_automaton::proofs::Taking::while_is_too_deep))]
 #[cycle(statements)]
 fn stmt(
     alloc: Global,
@@ -141,9 +159,12 @@ fn stmt(
     at: usize,
     room: u8,
 ) -> Result<(CStmt, usize), ParseError>
+    requires { begins_sign CloseBrace (ahead lexemes.now at) ≡ false }
     ensures reads { IfOk result (λ x. Reads lexemes.now at x.1 (stmt_then (stmt_of x.0))) }
     ensures is { IfOk result (λ x. IsStmt language.expressions room (stmt_of x.0)) }
-    ensures refused { IfErr result (Names lexemes.now) }
+    ensures follows { (counts : Bool) → TurnsWhere (WithRoom counts room)
+        (machine.stmts counts ∷ []) (machine.stmts counts ∷ []) (λ x. x.1)
+        lexemes.now at result }
 {
     match token(lexemes, at) {
         Some(Token::Var(variable)) => behind_variable(alloc, lexemes, at + 1, variable),
@@ -178,6 +199,7 @@ fn stmt(
 }
 
 /// What stands behind `if`, its blocks having so much room in them.
+#[tactic(auto, using(c_automaton::proofs::Taking::no_else, c_automaton::proofs::Taking::else_begins))]
 #[cycle(statements)]
 fn behind_if(
     alloc: Global,
@@ -188,7 +210,7 @@ fn behind_if(
     ensures reads { IfOk result (λ x. ReadsBehind (t.word If) lexemes.now at x.1
         (stmt_then (stmt_of x.0))) }
     ensures is { IfOk result (λ x. IsStmt language.expressions (room + 1) (stmt_of x.0)) }
-    ensures refused { IfErr result (Names lexemes.now) }
+    ensures follows { TurnsWhere (WithRoom true room) if_rest [] (λ x. x.1) lexemes.now at result }
 {
     let open = sign(lexemes, at, CSign::OpenParen)?;
     let (condition, next) = expr(alloc, lexemes, open, DEPTH)?;
@@ -212,7 +234,7 @@ fn behind_while(
     ensures reads { IfOk result (λ x. ReadsBehind (t.word While) lexemes.now at x.1
         (stmt_then (stmt_of x.0))) }
     ensures is { IfOk result (λ x. IsStmt language.expressions (room + 1) (stmt_of x.0)) }
-    ensures refused { IfErr result (Names lexemes.now) }
+    ensures follows { TurnsWhere (WithRoom true room) while_rest [] (λ x. x.1) lexemes.now at result }
 {
     let open = sign(lexemes, at, CSign::OpenParen)?;
     match token(lexemes, open) {

@@ -5,7 +5,6 @@ use Rattle.c_syntax.specs.Text.{Lexeme, Piece, AreTokensOf, AreFirst, IsTokensOf
 use Rattle.c_syntax.specs.Reading.{places_in, IsOfKind}
 use Rattle.c_kinds_laws.specs.Laws.{AreWithin}
 use Rattle.c_kinds_laws.proofs.Places.{told_within}
-use Rattle.c_parser.specs.Refusals.{BeginsToken}
 use Rattle.c_reader.specs.declared.error.CError.{CError}
 use Rattle.c_reader.specs.declared.error.CError.TheVariants.{Unexpected, EndOfText, Kind, Limit, Memory}
 use Rattle.c_reader.specs.Reads.{IsReadAs, IsWithin}
@@ -46,7 +45,7 @@ one_within n (p ∷ ps) zero at h e = subst (λ x. x ≤ n) (same_Some p at e) h
 one_within n (p ∷ ps) (suc i) at h e = one_within n ps i at h.1 e
 
 pub read_within : (text : List ℕ) (e : CError) → IsReadAs text (Err e) → IsWithin text e
-read_within text (Unexpected at) is = one_within (length text) (places_in is.0) is.2.position at (text_within text is.0 is.1) is.2.there
+read_within text (Unexpected at) is = one_within (length text) (places_in is.lexemes) is.is.0 at (text_within text is.lexemes is.tokens) is.is.1
 read_within text EndOfText is = tt
 read_within text (Kind rule at) is =
     told_within (places_in is.lexemes) is.unit (length text) (record { at = at; rule = rule }) (text_within text is.lexemes is.reads.tokens) is.least

@@ -2,7 +2,7 @@
 use Rattle.std.specs.Prelude.{◌≤◌, ℕ, List, length, Result, Ok, Err}
 use Rattle.c_syntax.specs.View.{program_of}
 use Rattle.c_syntax.specs.Reading.{IsCProgramOf, IsOfKind}
-use Rattle.c_parser.specs.Refusals.{NamesOf}
+use Rattle.c_parser.specs.Refusals.{IsRefusedAs}
 use Rattle.c_parser.specs.declared.error.ParseError.{ParseError}
 use Rattle.c_parser.specs.declared.error.ParseError.TheVariants as grammar
 use Rattle.c_reader.specs.declared.error.CError.{CError}
@@ -16,14 +16,13 @@ of_grammar grammar.EndOfText = EndOfText
 of_grammar (grammar.Limit n) = Limit n
 of_grammar grammar.Memory = Memory
 
--- The text stands for the program; or that rule is the least that its names and types break; or it isn't of the grammar, and
--- what is told is one of its tokens or a limit.
+-- The text stands for the program; or that rule is the least that its names and types break; or the grammar refuses its tokens so.
 abbrev pub IsReadAs : List ℕ → Result CFile CError → Type 0
 IsReadAs text (Ok file) = IsCProgramOf text (program_of file.program) file.cert
 IsReadAs text (Err (Kind rule at)) = IsOfKind text rule at
-IsReadAs text (Err (Unexpected at)) = NamesOf text (grammar.Unexpected at)
-IsReadAs text (Err EndOfText) = Unit {0}
-IsReadAs text (Err (Limit n)) = NamesOf text (grammar.Limit n)
+IsReadAs text (Err (Unexpected at)) = IsRefusedAs text (grammar.Unexpected at)
+IsReadAs text (Err EndOfText) = IsRefusedAs text grammar.EndOfText
+IsReadAs text (Err (Limit n)) = IsRefusedAs text (grammar.Limit n)
 IsReadAs text (Err Memory) = Unit {0}
 
 -- what is told stands in the text, or at its end

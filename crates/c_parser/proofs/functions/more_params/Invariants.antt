@@ -1,6 +1,9 @@
 use Rattle.std.proofs.Common.{◌≡◌, ◌≤◌, ◌-◌, List, length, map, ◌∷◌}
 use Rattle.c_parser.specs.declared.unit.Declaration.{Declaration}
 use Rattle.c_parser.specs.View.{declaration_of, tokens_from}
+use Rattle.c_syntax.specs.Grammar.{language}
+use Rattle.c_automaton.specs.Automaton as machine
+use Rattle.c_parser.specs.Following.{ahead}
 use Rattle.c_parser.proofs.Heads.{more_begun}
 use Rattle.c_parser.proofs.functions.more_params.Given as goal
 
@@ -11,4 +14,5 @@ abbrev pub invariant-loop-params : goal.invariant-loop-params
 invariant-loop-params l = record {
   begun : (ds : List Declaration) × (l.params ≡ l.fn.first ∷ ds) × (tokens_from l.lexemes l.at ≡ more_begun (map declaration_of ds) (tokens_from l.lexemes l.here));
   later : l.at ≤ l.here;
+  follows : (ys : List machine.Symbol) → machine.run language (machine.more_params ∷ ys) (ahead l.lexemes l.at) ≡ machine.run language (machine.more_params ∷ ys) (ahead l.lexemes l.here);
 }

@@ -1,8 +1,10 @@
-use Rattle.std.proofs.Common.{◌≡◌, ◌≤◌, ◌+◌, ◌-◌, ◌*◌, length}
+use Rattle.std.proofs.Common.{◌≡◌, ◌≤◌, ◌+◌, ◌-◌, ◌*◌, length, Bool, List, ◌∷◌}
 use Rattle.c_syntax.specs.Spelling.{stmts_then}
 use Rattle.c_syntax.specs.Grammar.{AreStmts, language}
 use Rattle.c_syntax.specs.View.{stmts_of}
 use Rattle.c_parser.specs.View.{tokens_from}
+use Rattle.c_automaton.specs.Automaton as machine
+use Rattle.c_parser.specs.Following.{ahead, WithRoom}
 use Rattle.c_parser.proofs.stmts.+statements.Given as goal
 
 abbrev pub decreases-block : goal.decreases-block
@@ -28,4 +30,5 @@ invariant-stmts-loop-alloc l = record {
   spells : tokens_from l.lexemes l.at ≡ stmts_then (stmts_of l.found) (tokens_from l.lexemes l.here);
   are : AreStmts language.expressions l.room (stmts_of l.found);
   later : l.at ≤ l.here;
+  follows : (counts : Bool) (ys : List machine.Symbol) → WithRoom counts l.room ys → machine.run language (machine.stmts counts ∷ ys) (ahead l.lexemes l.at) ≡ machine.run language (machine.stmts counts ∷ ys) (ahead l.lexemes l.here);
 }
