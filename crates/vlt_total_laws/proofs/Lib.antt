@@ -1,0 +1,10 @@
+pub mod Surely
+pub mod Alike
+pub mod Closed
+pub mod Told
+pub mod Read
+pub mod Start
+pub mod Derived
+pub mod First
+pub mod Telling
+pub mod Judged
