@@ -9,6 +9,7 @@ use Rattle.vlt_kinds_names.specs.declared.found.Refusal.{Refusal}
 use Rattle.vlt_kinds.specs.Kinds.{Kinds}
 use Rattle.vlt_kinds.specs.Tables.{kinds_told}
 use Rattle.vlt_resolve.specs.Elaboration.{Told, broken, elaborated}
+use Rattle.vlt_total_laws.specs.Sure.{Surely}
 
 -- the core program where the declarations are told so
 abbrev pub with_kinds : Tree → Result Kinds Refusal → Result Program Told
@@ -38,3 +39,7 @@ IsVerdictOf t (accepted p) = (program_told t ≡ Ok p) × IsAccepted p
 -- A tree that a text has is of one verdict.
 abbrev pub HasOneVerdict : Type 0
 HasOneVerdict = (t : Tree) (v w : Verdict) → IsTextTree t → IsVerdictOf t v → IsVerdictOf t w → v ≡ w
+
+-- It can't be that it is of none.
+abbrev pub HasSomeVerdict : Type 0
+HasSomeVerdict = (t : Tree) → IsTextTree t → Surely ((v : Verdict) × IsVerdictOf t v)

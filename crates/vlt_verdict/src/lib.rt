@@ -1,9 +1,9 @@
 //! Verdicts: a tree goes in, what it is as a program comes out.
 //! Read `specs/Verdicts.antt` first.
-//! The replies of `check` rest on it, and that a text has one reply on `a_tree_has_one_verdict`.
+//! The replies of `check` rest on it, and that a text has one reply on its two laws.
 #![tactic(auto)]
 
-ghost use Rattle.vlt_verdict.specs.Verdicts.{HasOneVerdict};
+ghost use Rattle.vlt_verdict.specs.Verdicts.{HasOneVerdict, HasSomeVerdict};
 
 mod verdict;
 
@@ -11,6 +11,7 @@ pub use verdict::{Verdict, judge};
 use vlt_check::accepted_has_no_fault;
 use vlt_fault_laws::there_is_one_first_fault;
 use vlt_fit_laws::programs_are_fit;
+use vlt_total_laws::programs_are_judged;
 
 /// A tree that a text has is of one verdict.
 pub fn a_tree_has_one_verdict()
@@ -19,4 +20,12 @@ pub fn a_tree_has_one_verdict()
     accepted_has_no_fault();
     there_is_one_first_fault();
     programs_are_fit();
+}
+
+/// It can't be that a tree that a text has is of no verdict.
+pub fn a_tree_has_some_verdict()
+    ensures { HasSomeVerdict }
+{
+    programs_are_fit();
+    programs_are_judged();
 }
