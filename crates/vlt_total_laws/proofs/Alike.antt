@@ -1,5 +1,5 @@
 -- Tests of tokens and of states. A fact on tokens and states that finitely many tests don't tell apart is, surely, told by a test.
-use Rattle.std.proofs.Common.{◌≡◌, ℕ, Bool, true, false, IsTrue, List, [], ◌∷◌, ◌++◌, refl, sym, ◌∙◌}
+use Rattle.std.proofs.Common.{◌≡◌, ℕ, Bool, true, false, List, [], ◌∷◌, ◌++◌, refl, sym, ◌∙◌}
 use Rattle.vlt_core.specs.Core.{States, Tok}
 use Rattle.vlt_core.specs.Maps.{is_tok}
 use Rattle.vlt_total_laws.specs.Sure.{Surely}

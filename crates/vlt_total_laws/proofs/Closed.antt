@@ -137,9 +137,11 @@ module _ (xs : List Test) where
   pub row_closed : (r : Row) (rs : List Row) (S : Every) → Keeps xs (tests_rows (r ∷ rs)) → IsClosed S → IsClosed (λ t. image t r (S t))
   row_closed r rs S k c =
       let l = keeps_left xs (tests_row r) (tests_rows rs) k in
-      record { each = λ t u m q p x y.
-          subst (λ b. image_if b r (S u) q) (l.0 t u p)
-          (image_if_related (is_tok t r.tok) r (S t) (S u) (keeps_left xs (tests_wanted r.wanted) (tests_left r.after) l.1) (keeps_right xs (tests_wanted r.wanted) (tests_left r.after) l.1) (λ o q x y. c.each t u o q p x y) m q x y) }
+      record {
+        each = λ t u m q p x y.
+            subst (λ b. image_if b r (S u) q) (l.0 t u p)
+            (image_if_related (is_tok t r.tok) r (S t) (S u) (keeps_left xs (tests_wanted r.wanted) (tests_left r.after) l.1) (keeps_right xs (tests_wanted r.wanted) (tests_left r.after) l.1) (λ o q x y. c.each t u o q p x y) m q x y);
+      }
 
   pub rest_kept : (r : Row) (rs : List Row) → Keeps xs (tests_rows (r ∷ rs)) → Keeps xs (tests_rows rs)
   rest_kept r rs k = keeps_right xs (tests_row r) (tests_rows rs) k

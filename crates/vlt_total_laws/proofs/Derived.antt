@@ -1,16 +1,16 @@
 -- A body that is fit is, surely, derived, or something in it is faulty.
-use Rattle.std.proofs.Common.{◌≡◌, ◌++◌, ℕ, List, None, ◌⊎◌, inl, inr, ⊎_elim}
+use Rattle.std.proofs.Common.{◌++◌, ℕ, List, None, ◌⊎◌, inl, inr, ⊎_elim}
 use Rattle.vlt_core.specs.Core.{Tok, Func, Program}
 use Rattle.vlt_core.specs.Maps.{HeldMap}
 use Rattle.vlt_core.specs.Flow.{Block}
 use Rattle.vlt_core.specs.Bodies.{body_flow}
 use Rattle.vlt_core.specs.Derives.{start_map, IsAcceptedFunc}
 use Rattle.vlt_core.specs.Local.{Notes, IsLocalBlock}
-use Rattle.vlt_core.specs.Found.{One, Has}
+use Rattle.vlt_core.specs.Found.{Has}
 use Rattle.vlt_core.specs.Faults.{HasFault}
 use Rattle.vlt_core_laws.specs.Fit.{IsFitBody}
 use Rattle.vlt_flow_laws.specs.Faulted.{HasFaultBlock}
-use Rattle.vlt_flow_laws.specs.Shown.{Every, IsFit, IsStart, IsReadOf}
+use Rattle.vlt_flow_laws.specs.Shown.{IsFit, IsStart, IsReadOf}
 use Rattle.vlt_flow_laws.specs.Sweep.{Stock, IsFoundIn, found_head_block, found_exit_block}
 use Rattle.vlt_flow_laws.proofs.Deriving.{accepted}
 use Rattle.vlt_flow_laws.proofs.Showing.{faultless_local}

@@ -4,7 +4,7 @@ use Rattle.std.proofs.lemmas.Bool.{cases_lt}
 use Rattle.vlt_core.specs.Core.{Tok, a_key, a_var}
 use Rattle.vlt_core.specs.Faults.{Spot, IsNoLaterTok, IsNoLater}
 use Rattle.vlt_total_laws.specs.Sure.{Surely}
-use Rattle.vlt_total_laws.proofs.Surely.{sure, surely, so, LeastBy, least_by}
+use Rattle.vlt_total_laws.proofs.Surely.{sure, surely, so, least_by}
 
 -- a spot with a token
 record Place : Type 0 where

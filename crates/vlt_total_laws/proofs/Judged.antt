@@ -1,5 +1,5 @@
 -- A program is, surely, accepted, or it has a first fault.
-use Rattle.std.proofs.Common.{◌≡◌, ◌<◌, ◌≤◌, ℕ, Bool, true, false, Some, slice_get, refl, sym, ◌∙◌, ◌⊎◌, inl, inr, ⊎_elim, true≢false, arith}
+use Rattle.std.proofs.Common.{◌≡◌, ℕ, Bool, true, false, Some, slice_get, refl, sym, ◌∙◌, inl, inr, ⊎_elim, true≢false, arith}
 use Rattle.vlt_core.specs.Core.{Tok, Func, Program}
 use Rattle.vlt_core.specs.Derives.{IsAcceptedFunc, IsAccepted}
 use Rattle.vlt_core.specs.Faults.{FaultKind, FlowFault, HasFault, IsFaultIn, IsFirstIn, IsFirstFault}
@@ -10,7 +10,7 @@ use Rattle.vlt_total_laws.specs.Sure.{Surely}
 use Rattle.vlt_total_laws.specs.Judged.{IsJudged}
 use Rattle.vlt_total_laws.proofs.Surely.{sure, surely, so, one_way, all_in, Least, least}
 use Rattle.vlt_total_laws.proofs.Derived.{derived_or_faulty}
-use Rattle.vlt_total_laws.proofs.First.{First, first_of}
+use Rattle.vlt_total_laws.proofs.First.{first_of}
 use Rattle.vlt_total_laws.proofs.Telling.{fault_told}
 
 module _ (p : Program) where

@@ -1,10 +1,10 @@
 -- The status that stands for what is found, where that is of one kind.
-use Rattle.std.proofs.Common.{◌≡◌, ℕ, Bool, true, false, IsTrue, refl, sym, ◌∙◌, subst, true≢false}
+use Rattle.std.proofs.Common.{◌≡◌, ℕ, Bool, true, false, IsTrue, refl, sym, ◌∙◌, true≢false}
 use Rattle.vlt_core.specs.Core.{Tok}
-use Rattle.vlt_core.specs.Maps.{Status, absent, held, lent, full, Kind, is_absent, is_held, is_lent, is_full}
+use Rattle.vlt_core.specs.Maps.{Status, absent, held, lent, full, is_absent, is_held, is_lent, is_full}
 use Rattle.vlt_core.specs.Found.{One, one_absent, one_held, one_lent, one_full, Has}
 use Rattle.vlt_core.specs.Faults.{StandsFor}
-use Rattle.vlt_flow_laws.specs.Shown.{Every, one_kind, IsOneKind}
+use Rattle.vlt_flow_laws.specs.Shown.{Every, IsOneKind}
 use Rattle.vlt_flow_laws.specs.Sweep.{Many, In}
 use Rattle.vlt_total_laws.proofs.Surely.{IsTest}
 use Rattle.vlt_total_laws.proofs.Told.{IsTabled}

@@ -5,15 +5,15 @@ use Rattle.vlt_core.specs.Maps.{Wanted, wants_absent, wants_held, wants_in, want
 use Rattle.vlt_core.specs.Flow.{Flow, step, choose, loop, switch, scope, focus, return, jump, Block, block, Stmts, done, next, Arms, no_arms, arm, end_of}
 use Rattle.vlt_core.specs.Bodies.{body_flow}
 use Rattle.vlt_core.specs.Derives.{start_map}
-use Rattle.vlt_core.specs.Found.{One, one_absent, one_held, one_lent, one_full, Ones, Has, WantsOne, LeftBy, image_if, image, images, both, turns, Exit, to_next, to_continue, out, out_block, out_stmts, head_of}
+use Rattle.vlt_core.specs.Found.{One, one_absent, one_held, one_lent, one_full, Ones, Has, WantsOne, LeftBy, image_if, image, images, turns, Exit, to_next, to_continue, out, out_block, out_stmts, head_of}
 use Rattle.vlt_core.specs.Faults.{Spot, If, IsMixed, IsUnwanted, IsPresent, present_of, spots, spots_block, spots_stmts, RowAt, SpotAt, SpotAtBlock, SpotAtStmts, SpotAtArms, FaultKind, at_row, at_join, TellsRow, TellsJoin, IsFaultIn, IsToldOf}
 use Rattle.vlt_core_laws.specs.Fit.{IsFitBody}
 use Rattle.vlt_flow_laws.specs.Tame.{ArePlain, IsFocus, IsTame, IsTameBlock, IsTameStmts, IsTameArms}
 use Rattle.vlt_flow_laws.specs.Shown.{Every, one_kind, IsGood, IsOneKind, AreFilled, HasFilled, HasFilledBlock, HasFilledStmts, HasFilledArms}
 use Rattle.vlt_flow_laws.proofs.Showing.{one_kind_of, good_form, good_block, good_stmts, focus_enter}
 use Rattle.vlt_total_laws.specs.Sure.{Surely}
-use Rattle.vlt_total_laws.proofs.Surely.{sure, surely, so}
-use Rattle.vlt_total_laws.proofs.Alike.{Test, ToksAlike, Keeps, keeps_left, keeps_right}
+use Rattle.vlt_total_laws.proofs.Surely.{so}
+use Rattle.vlt_total_laws.proofs.Alike.{Test, Keeps, keeps_left, keeps_right}
 use Rattle.vlt_total_laws.proofs.Closed.{tests, tests_block, tests_rows, tests_stmts, tests_arms, IsClosed, Related, row_closed, rest_kept, rows_closed, form_closed, head_closed, block_closed, stmts_closed, round_of}
 use Rattle.vlt_total_laws.proofs.Told.{closed_tabled}
 use Rattle.vlt_total_laws.proofs.Read.{read, tabled_stands}

@@ -1,15 +1,15 @@
 -- Tables, by statement, of what is found of each token in a body.
-use Rattle.std.proofs.Common.{◌≡◌, ◌+◌, ◌||◌, ℕ, Bool, true, false, List, [], ◌∷◌, ◌++◌, map, refl, sym, ◌⊎◌, inl, inr, ⊎_elim, true≢false}
+use Rattle.std.proofs.Common.{◌≡◌, ◌+◌, ◌||◌, ℕ, Bool, true, false, List, ◌++◌, refl, sym, ◌⊎◌, inl, inr, ⊎_elim, true≢false}
 use Rattle.std.proofs.lemmas.Bool.{cases_eq}
 use Rattle.vlt_core.specs.Core.{Tok, a_key}
 use Rattle.vlt_core.specs.Maps.{Row}
 use Rattle.vlt_core.specs.Flow.{Flow, step, choose, loop, switch, scope, focus, return, jump, Block, block, Stmts, done, next, Arms, no_arms, arm, size, size_block}
-use Rattle.vlt_core.specs.Found.{One, one_absent, one_held, one_lent, one_full, Ones, images, both, to_next, out, head_of}
+use Rattle.vlt_core.specs.Found.{One, one_absent, one_held, one_lent, one_full, images, both, to_next, out, head_of}
 use Rattle.vlt_flow_laws.specs.Shown.{Every}
 use Rattle.vlt_flow_laws.specs.Sweep.{Many, found_head, found_head_block, found_head_stmts, found_head_arms, found_exit, found_exit_block, found_exit_stmts, found_exit_arms}
 use Rattle.vlt_total_laws.specs.Sure.{Surely}
 use Rattle.vlt_total_laws.proofs.Surely.{sure, surely, so, IsTest}
-use Rattle.vlt_total_laws.proofs.Alike.{Test, Case, case_of, AreAlike, ToksAlike, StatesAlike, same_state, toks_alike, states_alike, IsSteady, IsDecided, decided, Keeps, keeps_left, keeps_right}
+use Rattle.vlt_total_laws.proofs.Alike.{Test, Case, case_of, StatesAlike, same_state, toks_alike, states_alike, IsDecided, decided, Keeps, keeps_left, keeps_right}
 use Rattle.vlt_total_laws.proofs.Closed.{tests, tests_block, tests_rows, tests_stmts, tests_arms, Related, IsClosed, rows_closed, form_closed, head_closed}
 
 -- of each token what is found, as a table of single statuses, and whether some are lent

@@ -1,14 +1,13 @@
 -- Verdicts, from what each step says of a tree.
-use Rattle.std.proofs.Common.{◌≡◌, Some, Result, Ok, Err, refl, sym, ap, ◌∙◌, subst}
+use Rattle.std.proofs.Common.{◌≡◌, Result, Ok, Err, ap, ◌∙◌}
 use Rattle.vlt_syntax.specs.Tree.{Tree}
 use Rattle.vlt_core.specs.Core.{Program}
-use Rattle.vlt_core.specs.Derives.{IsAccepted}
 use Rattle.vlt_core.specs.Faults.{FlowFault, IsFirstFault}
 use Rattle.vlt_kinds_names.specs.declared.found.Refusal.{Refusal}
 use Rattle.vlt_kinds.specs.Kinds.{Kinds}
 use Rattle.vlt_kinds.specs.Tables.{kinds_told}
 use Rattle.vlt_resolve.specs.Elaboration.{Told, broken, elaborated}
-use Rattle.vlt_verdict.specs.Verdicts.{with_kinds, program_told, IsFaultyIn, refused, faulty, accepted, IsVerdictOf}
+use Rattle.vlt_verdict.specs.Verdicts.{with_kinds, program_told, refused, faulty, IsVerdictOf}
 
 pub declarations_refused : (t : Tree) (r : Refusal) → kinds_told t ≡ Err r → IsVerdictOf t (refused (broken r.rule r.at))
 declarations_refused t r e = ap (with_kinds t) e

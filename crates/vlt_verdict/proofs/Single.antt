@@ -1,5 +1,5 @@
 -- A tree has one verdict.
-use Rattle.std.proofs.Common.{◌≡◌, Option, Some, Result, Ok, Err, refl, sym, ap, ◌∙◌, subst}
+use Rattle.std.proofs.Common.{◌≡◌, Some, Result, Ok, Err, refl, sym, ap, ◌∙◌, subst}
 use Rattle.std.specs.Prelude.{slice_get}
 use Rattle.vlt_syntax.specs.Tree.{Tree}
 use Rattle.vlt_core.specs.Core.{Func, Program}
@@ -8,11 +8,11 @@ use Rattle.vlt_core.specs.Faults.{FlowFault, IsFirstFault}
 use Rattle.vlt_kinds_names.specs.declared.found.Refusal.{Refusal}
 use Rattle.vlt_kinds.specs.Kinds.{Kinds}
 use Rattle.vlt_kinds.specs.Tables.{kinds_told}
-use Rattle.vlt_resolve.specs.Elaboration.{Told, broken, elaborated}
+use Rattle.vlt_resolve.specs.Elaboration.{Told, broken}
 use Rattle.vlt_check.specs.Checks.{IsWellFormed}
 use Rattle.vlt_fault_laws.specs.Laws.{HasOneFirstFault}
 use Rattle.vlt_fit_laws.specs.Fit.{IsFitProgram, IsTextTree, ProgramsAreFit}
-use Rattle.vlt_verdict.specs.Verdicts.{Verdict, with_kinds, program_told, IsFaultyIn, refused, faulty, accepted, IsVerdictOf, HasOneVerdict}
+use Rattle.vlt_verdict.specs.Verdicts.{with_kinds, program_told, IsFaultyIn, refused, faulty, accepted, HasOneVerdict}
 
 same_told : (a b : Told) → ◌≡◌ {A = Result Program Told} (Err a) (Err b) → a ≡ b
 same_told a b e = cc

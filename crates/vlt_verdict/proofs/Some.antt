@@ -3,7 +3,7 @@ use Rattle.std.proofs.Common.{◌≡◌, inl, inr, Result, Ok, Err, refl}
 use Rattle.vlt_syntax.specs.Tree.{Tree}
 use Rattle.vlt_core.specs.Core.{Program}
 use Rattle.vlt_check.specs.Checks.{IsWellFormed}
-use Rattle.vlt_fit_laws.specs.Fit.{IsTextTree, ProgramsAreFit}
+use Rattle.vlt_fit_laws.specs.Fit.{ProgramsAreFit}
 use Rattle.vlt_resolve.specs.Elaboration.{Told}
 use Rattle.vlt_total_laws.specs.Sure.{Surely}
 use Rattle.vlt_total_laws.specs.Judged.{IsJudged}
