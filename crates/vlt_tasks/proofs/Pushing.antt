@@ -32,7 +32,7 @@ module _ (items : Items) (old new : Run) (f : Func) where
   step_still (Jumps k) (ends o w) h = h
   step_still Leaves (goes frame w) h = h
   step_still Leaves (jumps c frame w) h = h
-  step_still Leaves (leaves b kept w) h = record { left = h.left; hosts = h.hosts; fuel = h.fuel }
+  step_still Leaves (leaves b kept w) h = record { left = h.left; table = h.table; hosts = h.hosts; fuel = h.fuel }
   step_still Leaves (ends o w) h = h
 
 module _ (old new : Run) (is : WithTasks old new) where

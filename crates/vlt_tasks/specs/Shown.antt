@@ -13,7 +13,7 @@ use Rattle.vlt_machine.specs.Machine.{Caller, Conf}
 use Rattle.vlt_heap.specs.Items.{Items, IsMadeAt}
 use Rattle.vlt_heap.specs.Shown.{Holds}
 use Rattle.vlt_values.specs.declared.values.Values.{Values}
-use Rattle.vlt_values.specs.Shown.{ShowObjects, ShowsFrame}
+use Rattle.vlt_values.specs.Shown.{ShowObjects, ShowsFrame, IsTable}
 use Rattle.vlt_acts.specs.declared.focus.Focus.{Focus}
 use Rattle.vlt_frames.specs.declared.waiting.Waiting.{Waiting}
 use Rattle.vlt_frames.specs.Frames.{NamesOwn, IsRunning, Waits}
@@ -90,6 +90,7 @@ pub record Runs (items : Items) (r : Run) (f : Func) (frame : Frame) (w : World)
 -- the function was left
 pub record WasLeft (items : Items) (r : Run) (f : Func) (a : Option Value) (kept : List ℕ) (w : World) : Type 0 where
   pub left : HasLeft items r.values f a kept w
+  pub table : IsTable r.values
   pub hosts : ShowsHost r.host w
   pub fuel : w.fuel ≡ r.fuel
 
