@@ -223,6 +223,7 @@ module _ (rules : Rules) (old : Run) (values : Values) (grown : IsGrown old.valu
           wide = rw grown.width can.ready.room.wide;
           heap = can.ready.room.heap;
           cells = λ t. rw grown.width (can.ready.room.cells t);
+          fields = can.ready.room.fields;
           values = rw grown.width (let v = can.ready.room.values in omega (arith, v, wider));
           operands = λ t. rw grown.width (let v = can.ready.room.operands t in omega (arith, v, wider));
           tasks = can.ready.room.tasks;

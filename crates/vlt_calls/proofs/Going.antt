@@ -87,7 +87,7 @@ module _ (rules : Rules) (old : Run) (g : Func) (target : Option ℕ) (keys : Li
 
   still_ready : (p : Program) (depth : ℕ) → IsReadyIn p depth g target keys old → IsReadyIn p depth g target keys spent
   still_ready p depth k = record {
-    room = record { wide = k.room.wide; heap = k.room.heap; cells = k.room.cells; values = k.room.values; operands = k.room.operands; tasks = k.room.tasks; line = k.room.line };
+    room = record { wide = k.room.wide; heap = k.room.heap; cells = k.room.cells; fields = k.room.fields; values = k.room.values; operands = k.room.operands; tasks = k.room.tasks; line = k.room.line };
     own = k.own;
     callee = k.callee;
     target_own = k.target_own;
