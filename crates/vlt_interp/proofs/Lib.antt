@@ -1,0 +1,11 @@
+pub mod Keeping
+pub mod Later
+pub mod Fitting
+pub mod Fronts
+pub mod Tasking
+pub mod Turning
+pub mod Popping
+pub mod Weighing
+pub mod Acting
+pub mod Running
+pub mod Beginning

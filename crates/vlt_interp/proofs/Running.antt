@@ -1,0 +1,336 @@
+-- The run goes on, and comes to its end.
+use Rattle.std.proofs.Common.{◌≡◌, inl, inr, ◌⊎◌, ⊎_elim, ℕ, zero, suc, ◌<◌, ◌≤◌, ◌+◌, ◌*◌, true, false, List, [], ◌∷◌, ◌++◌, length, Option, Some, None, refl, sym, ap, ◌∙◌, subst, append_assoc, append-nil, arith, slice_get, reverse}
+use Rattle.std.proofs.lemmas.Grind.{flat_map-append}
+use Rattle.std.proofs.lemmas.Bool.{false≢true}
+use Rattle.std.proofs.lemmas.Option.{none-some, same_Some}
+use Rattle.vlt_io.specs.Outside.{Rose, Grew}
+use Rattle.vlt_core.specs.View.{program_of}
+use Rattle.vlt_core.specs.Core.{Func, Program}
+use Rattle.vlt_meaning.specs.World as model
+use Rattle.vlt_meaning.specs.World.{Event, line_of, event_text, World, Outcome, Ran, is_fault}
+use Rattle.vlt_meaning.specs.Step.{Step, goes, jumps, leaves, ends}
+use Rattle.vlt_meaning.specs.Run.{Setup, first_frame, start, ended}
+use Rattle.vlt_meaning_laws.specs.Keeping.{world_after}
+use Rattle.vlt_machine.specs.Machine as m
+use Rattle.vlt_machine.specs.Machine.{Conf, at, moved, moves, first_conf}
+use Rattle.vlt_machine.specs.Bounds.{tall_of, Fits}
+use Rattle.vlt_machine.specs.Laws.{LeadsTo}
+use Rattle.vlt_machine.proofs.Fitting.{suffices, first_fits}
+use Rattle.vlt_machine.proofs.Finishing.{finishes, ending, moves_end}
+use Rattle.vlt_machine.proofs.Halting.{fuel_in, weight}
+use Rattle.vlt_heap.specs.Shown.{heap_of}
+use Rattle.vlt_hosts.specs.Hosts.{Outside, Wrote}
+use Rattle.vlt_tasks.specs.declared.stop.Stop.{Stop}
+use Rattle.vlt_tasks.specs.declared.stop.Stop.TheVariants.{Done}
+use Rattle.vlt_tasks.specs.declared.task.At.{At}
+use Rattle.vlt_tasks.specs.declared.task.At.TheVariants.{Goes as GoesOn, Jumps, Leaves}
+use Rattle.vlt_tasks.specs.declared.task.Task.{Task}
+use Rattle.vlt_tasks.specs.declared.task.Rules.{Rules}
+use Rattle.vlt_tasks.specs.declared.task.Run.{Run}
+use Rattle.vlt_tasks.specs.Own.{HasOwn, IsOwn, AreOwn, IsOwnBlock, AreOwnArms}
+use Rattle.vlt_tasks.specs.Halting.{outcome_of}
+use Rattle.vlt_tasks.specs.Shown.{setup_of, tasks_left, ShowsStep, ShowsWith, ShowsConf}
+use Rattle.vlt_tasks.specs.Moves.{Keeps, world_in, GoneOn, IsCut, HasStopped, CameTo, IsRight}
+use Rattle.vlt_tasks.proofs.Staying.{room_kept}
+use Rattle.vlt_machine.specs.Reached.{IsReached}
+use Rattle.vlt_interp.specs.Reached.{IsRunnable}
+use Rattle.vlt_interp.specs.Owned.{HoldsIn, IsOwnConf}
+use Rattle.vlt_interp.specs.Going.{setup_in, IsFine, CanMove, Goes, IsOver, Moves}
+use Rattle.vlt_interp.specs.Running.{IsRunning, IsFinished}
+use Rattle.vlt_interp.proofs.Keeping.{IsClosed, moved_holds, first_holds}
+use Rattle.vlt_interp.proofs.Later.{Adds, ending_adds, moved_end, ends_there}
+use Rattle.vlt_interp.proofs.Fitting.{as_many}
+use Rattle.vlt_interp.proofs.Fronts.{not_ended}
+use Rattle.vlt_interp.proofs.Weighing.{size_of, IsSmallList, IsSmall, IsSmallBlock, AreSmallArms, small_closed, tasks_weight, most_left, measure, weighs, moved_falls}
+
+-- ---- what was written
+
+grew_both : (a b c : Option (List ℕ)) (x y : List ℕ) → Grew a b x → Grew b c y → Grew a c (x ++ y)
+grew_both None b c x y first second = let P : Option (List ℕ) → Type 0 = λ o. Grew o c y in subst P first second
+grew_both (Some a) b c x y first second =
+    let P : Option (List ℕ) → Type 0 = λ o. Grew o c y in
+    subst P first second ∙ ap (λ t. Some t) (append_assoc a x y)
+
+text_both : (es fs : List Event) → event_text (es ++ fs) ≡ event_text es ++ event_text fs
+text_both es fs = flat_map-append line_of es fs
+
+wrote_both : (u v w : World) (a b c : Outside) → Wrote u v a b → Wrote v w b c → Wrote u w a c
+wrote_both u v w a b c x y = record {
+  events = x.events ++ y.events;
+  added = y.added ∙ ap (λ l. l ++ y.events) x.added ∙ append_assoc u.events x.events y.events;
+  grew = rw (text_both x.events y.events) (grew_both a.written b.written c.written (event_text x.events) (event_text y.events) x.grew y.grew);
+  counted = omega (arith, x.counted, y.counted);
+}
+
+-- a part that goes out behind what went out
+cut_both : (u v w z : World) (a b c : Outside) (stop : Stop) → Wrote u v a b → IsCut v b c stop w → Adds w z → Rose a.faults c.faults → IsCut u a c stop z
+cut_both u v w z a b c stop x y more rose =
+    let part = y.grew in
+    record {
+      fault = y.fault;
+      events = x.events ++ (y.events ++ more.events);
+      added = more.are ∙ ap (λ l. l ++ more.events) (y.added ∙ ap (λ l. l ++ y.events) x.added) ∙ simp append_assoc;
+      grew = (
+        event_text x.events ++ part.0,
+        part.1 ++ event_text more.events,
+        text_both x.events (y.events ++ more.events) ∙ ap (λ l. event_text x.events ++ l) (text_both y.events more.events ∙ ap (λ l. l ++ event_text more.events) part.2) ∙ simp append_assoc,
+        grew_both a.written b.written c.written (event_text x.events) part.0 x.grew part.3,
+      );
+      rose = rose;
+      counted = omega (arith, x.counted, y.counted);
+    }
+
+rose_more : (a b c : ℕ) → a ≤ b → Rose b c → Rose a c
+rose_more a b c l (inl r) = inl (omega (arith, l, r))
+rose_more a b c l (inr r) = inr r
+
+-- ---- what holds of all that a run comes to
+
+last_move : (r : Setup) (n : ℕ) (c : Conf) → moves r (suc n) c ≡ moved r (moves r n c)
+last_move r zero c = refl
+last_move r (suc n) c = last_move r n (moved r c)
+
+pub own_closed : (p : Program) → HasOwn p → IsClosed p (AreOwn p) (IsOwn p) (IsOwnBlock p) (AreOwnArms p)
+own_closed p h = record {
+  first_of = λ f place form rest k. k.0;
+  rest_of = λ f place form rest k. k.1;
+  list_in = λ f ss bound end k. k;
+  yes_in = λ f e a b k. k.0;
+  no_in = λ f e a b k. k.1;
+  loop_in = λ f e b k. k;
+  switch_in = λ f v arms end k. k.1;
+  arm_in = λ f c vs b rest k. k.1;
+  arms_in = λ f c vs b rest k. k.2;
+  focus_in = λ f y z b k. k.1;
+  scope_in = λ f b k. k;
+  body_of = λ i f at. (h.all i f at).body;
+}
+
+module _ (r : Setup) (c : Conf) (reached : IsReached r c) where
+  -- what holds at the start and after each move
+  along : (P : Conf → Type 0) → ((d : Conf) → P d → P (moved r d)) → P (first_conf reached.main (first_frame 1) (start reached.fuel reached.input reached.answers)) → P c
+  along P next first = subst P reached.is (go reached.count (first_conf reached.main (first_frame 1) (start reached.fuel reached.input reached.answers)) first)
+    where
+      go : (n : ℕ) (d : Conf) → P d → P (moves r n d)
+      go zero d h = h
+      go (suc n) d h = go n (moved r d) (next d h)
+
+  reached_own : HasOwn r.program → IsOwnConf r.program c
+  reached_own h =
+      let k = own_closed r.program h in
+      along (IsOwnConf r.program) (moved_holds r (AreOwn r.program) (IsOwn r.program) (IsOwnBlock r.program) (AreOwnArms r.program) k)
+      (first_holds r (AreOwn r.program) (IsOwn r.program) (IsOwnBlock r.program) (AreOwnArms r.program) k r.program.main reached.main reached.is_main)
+
+  reached_small : HoldsIn (IsSmallList (size_of r.program)) (IsSmall (size_of r.program)) r.program c.func c.tasks
+  reached_small =
+      let n = size_of r.program in
+      let k = small_closed r.program in
+      along (λ d. HoldsIn (IsSmallList n) (IsSmall n) r.program d.func d.tasks) (moved_holds r (IsSmallList n) (IsSmall n) (IsSmallBlock n) (AreSmallArms n) k)
+      (first_holds r (IsSmallList n) (IsSmall n) (IsSmallBlock n) (AreSmallArms n) k r.program.main reached.main reached.is_main)
+
+  reached_fits : 1 ≤ r.depth → Fits r c
+  reached_fits deep = along (Fits r) (λ d h. (suffices r d h).next) (first_fits r reached.main r.program.main (first_frame 1) (start reached.fuel reached.input reached.answers) reached.is_main refl deep)
+
+  reached_next : IsReached r (moved r c)
+  reached_next = record {
+    main = reached.main;
+    is_main = reached.is_main;
+    fuel = reached.fuel;
+    input = reached.input;
+    answers = reached.answers;
+    count = suc reached.count;
+    is = last_move r reached.count (first_conf reached.main (first_frame 1) (start reached.fuel reached.input reached.answers)) ∙ ap (moved r) reached.is;
+  }
+
+-- ---- where it ends
+
+done_is : (r : Setup) (f : Func) (ts : List m.Task) (a : Step) → ts ≡ [] → finishes r f ts a ≡ a
+done_is r f ts a e = ap (λ us. finishes r f us a) e
+
+leads_ending : (r : Setup) (c : Conf) (goal : Step) → LeadsTo r c goal → ending r c ≡ goal
+leads_ending r c goal h =
+    let last = moves r h.count c in
+    sym (moves_end r h.count c) ∙ done_is r last.func last.tasks last.step h.tasks ∙ h.step
+
+same_world : (a : Step) → world_in a ≡ world_after a
+same_world (goes frame w) = refl
+same_world (jumps c frame w) = refl
+same_world (leaves x kept w) = refl
+same_world (ends o w) = refl
+
+ended_world : (a : Step) → (ended a).world ≡ world_after a
+ended_world (goes frame w) = refl
+ended_world (jumps c frame w) = refl
+ended_world (leaves x kept w) = refl
+ended_world (ends o w) = refl
+
+-- a run that goes right ends in no fault
+right_moved : (r : Setup) (c : Conf) (goal : Step) → ending r c ≡ goal → is_fault (ended goal).outcome ≡ false → IsRight (moved r c).step
+right_moved r c goal e right o w is = subst (λ a. is_fault (ended a).outcome ≡ false) (sym e ∙ ends_there r c o w is) right
+
+-- the fuel of what is shown
+shown_fuel : (items : _) (r : Run) (f : Func) (x : At) (a : Step) → ShowsStep items r f x a → (world_after a).fuel ≡ r.fuel
+shown_fuel items r f GoesOn (goes frame w) h = h.fuel
+shown_fuel items r f GoesOn (jumps c frame w) h = absurd h
+shown_fuel items r f GoesOn (leaves b kept w) h = absurd h
+shown_fuel items r f GoesOn (ends o w) h = absurd h
+shown_fuel items r f (Jumps k) (goes frame w) h = absurd h
+shown_fuel items r f (Jumps k) (jumps c frame w) h = h.runs.fuel
+shown_fuel items r f (Jumps k) (leaves b kept w) h = absurd h
+shown_fuel items r f (Jumps k) (ends o w) h = absurd h
+shown_fuel items r f Leaves (goes frame w) h = absurd h
+shown_fuel items r f Leaves (jumps c frame w) h = absurd h
+shown_fuel items r f Leaves (leaves b kept w) h = h.fuel
+shown_fuel items r f Leaves (ends o w) h = absurd h
+
+-- ---- the loop
+
+module _ (rules : Rules) (goal : Step) (w0 : World) (a b c : Outside) (old new : Run) (running : IsRunning rules goal w0 a b old) where
+  to_goal : ending (setup_in rules old) running.conf ≡ goal
+  to_goal = leads_ending (setup_in rules old) running.conf goal running.leads
+
+  fine : IsFine (setup_in rules old) running.conf
+  fine = record {
+    right = right_moved (setup_in rules old) running.conf goal to_goal running.right;
+    fits = reached_fits (setup_in rules old) running.conf running.reached running.deep;
+    own = reached_own (setup_in rules old) running.conf running.reached running.runnable.own;
+    knows = running.runnable.calls (setup_in rules old) running.conf refl running.reached;
+  }
+
+  pub can_move : CanMove rules old
+  can_move = record { room = running.room; has_own = running.runnable.own; conf = running.conf; shown = running.shown; fine = fine }
+
+  -- some task is left
+  some_task : (t : Task) (ts : List Task) → tasks_left old ≡ t ∷ ts → (us : List m.Task) → running.conf.tasks ≡ us → (P : Type 0) → ((u : m.Task) (vs : List m.Task) → running.conf.tasks ≡ u ∷ vs → P) → P
+  some_task t ts is [] e P h =
+      let n = as_many running.shown.items old.values old.values.base old.depth (tasks_left old) running.conf.tasks running.shown.shown in
+      let k = ap length is in
+      let l = ap length e in
+      absurd (omega (arith, n, k, l))
+  some_task t ts is (u ∷ vs) e P h = h u vs e
+
+  leads_next : (u : m.Task) (vs : List m.Task) → running.conf.tasks ≡ u ∷ vs → LeadsTo (setup_in rules old) (moved (setup_in rules old) running.conf) goal
+  leads_next u vs e = by running.leads.count running.leads.tasks running.leads.step
+    where
+      filled : (u : m.Task) (vs ts : List m.Task) → ts ≡ u ∷ vs → ts ≡ [] → ⊥
+      filled u vs ts e none = let k = ap length e in let l = ap length none in omega (arith, k, l)
+
+      by : (n : ℕ) → (moves (setup_in rules old) n running.conf).tasks ≡ [] → (moves (setup_in rules old) n running.conf).step ≡ goal → LeadsTo (setup_in rules old) (moved (setup_in rules old) running.conf) goal
+      by zero none is = absurd (filled u vs running.conf.tasks e none)
+      by (suc n) none is = record { count = n; tasks = none; step = is }
+
+  pub record GoesOnSo : Type 0 where
+    pub goes : IsRunning rules goal w0 a c new
+    pub falls : measure (program_of rules.program.now) rules.depth new.fuel (tasks_left new) < measure (program_of rules.program.now) rules.depth old.fuel (tasks_left old)
+
+  -- a step that went on
+  gone : (x : Step) → IsRight x → CameTo (world_in running.conf.step) b c None new (moved (setup_in rules old) running.conf) x → GoneOn (world_in running.conf.step) b c new (moved (setup_in rules old) running.conf) (world_in x)
+  gone (ends o w) right h = absurd (false≢true (sym (right o w refl) ∙ h))
+  gone (goes frame w) right h = h
+  gone (jumps k frame w) right h = h
+  gone (leaves x kept w) right h = h
+
+  weight_of : (r : Run) (d : Conf) → ShowsConf r d → r.fuel * (most_left (program_of rules.program.now) rules.depth + 1) + tasks_weight (tasks_left r) ≡ fuel_in d * (most_left (program_of rules.program.now) rules.depth + 1) + weight d.tasks
+  weight_of r d q =
+      let x = weighs q.items r.values r.values.base r.depth (tasks_left r) d.tasks q.shown in
+      let y = shown_fuel q.items r d.func r.at d.step q.step in
+      ap (λ n. n * (most_left (program_of rules.program.now) rules.depth + 1) + tasks_weight (tasks_left r)) (sym y) ∙ ap (λ n. fuel_in d * (most_left (program_of rules.program.now) rules.depth + 1) + n) x
+
+  goes_so : (u : m.Task) (vs : List m.Task) → running.conf.tasks ≡ u ∷ vs → Keeps old new → GoneOn (world_in running.conf.step) b c new (moved (setup_in rules old) running.conf) (world_in (moved (setup_in rules old) running.conf).step) → GoesOnSo
+  goes_so u vs e keeps h =
+      let s = setup_in rules old in
+      let next = moved s running.conf in
+      let same : setup_in rules new ≡ s = ap (setup_of rules) keeps.size.heap in
+      let reached = reached_next s running.conf running.reached in
+      let fall = moved_falls s running.conf u vs e (suffices s next (suffices s running.conf fine.fits).next).tasks (reached_small s next reached) in
+      record {
+        goes = record {
+          runnable = running.runnable;
+          deep = running.deep;
+          room = room_kept (program_of rules.program.now) rules.depth old new running.room keeps;
+          conf = next;
+          shown = h.shown;
+          reached = subst (λ t. IsReached t next) (sym same) reached;
+          leads = subst (λ t. LeadsTo t next goal) (sym same) (leads_next u vs e);
+          right = running.right;
+          wrote = wrote_both w0 (world_in running.conf.step) (world_in next.step) a b c running.wrote h.wrote;
+        };
+        falls = let x = weight_of new next h.shown in let y = weight_of old running.conf running.shown in omega (arith, x, y, fall);
+      }
+
+  pub goes_on : Moves (tasks_left old) rules old new b c None → GoesOnSo
+  goes_on h = by (tasks_left old) refl h
+    where
+      by : (ts : List Task) → tasks_left old ≡ ts → Moves ts rules old new b c None → GoesOnSo
+      by [] is h = absurd (none-some Done h.done)
+      by (t ∷ ts) is h = some_task t ts is running.conf.tasks refl GoesOnSo (λ u vs e.
+          goes_so u vs e h.keeps (gone (moved (setup_in rules old) running.conf).step fine.right (h.comes running.conf (subst (λ l. ShowsWith l old running.conf) is running.shown) fine)))
+
+  -- ---- its end
+
+  goal_world : world_after goal ≡ (ended goal).world
+  goal_world = sym (ended_world goal)
+
+  cut_so : (stop : Stop) (v : World) → IsCut (world_in running.conf.step) b c stop v → Adds v (ended goal).world → IsFinished (ended goal) w0 a c stop new
+  cut_so stop v k more = inr (cut_both w0 (world_in running.conf.step) v (ended goal).world a b c stop running.wrote k more (rose_more a.faults b.faults c.faults running.wrote.counted k.rose))
+
+  from_next : (x : Step) → (moved (setup_in rules old) running.conf).step ≡ x → Adds (world_in x) (ended goal).world
+  from_next x is =
+      let s = setup_in rules old in
+      let next = moved s running.conf in
+      let adds = ending_adds s next in
+      let there : world_after (ending s next) ≡ (ended goal).world = ap world_after (moved_end s running.conf ∙ to_goal) ∙ goal_world in
+      let here : world_after next.step ≡ world_in x = ap world_after is ∙ sym (same_world x) in
+      subst (λ w. Adds w (ended goal).world) here (subst (Adds (world_after next.step)) there adds)
+
+  stops_so : (stop : Stop) (x : Step) → (moved (setup_in rules old) running.conf).step ≡ x → CameTo (world_in running.conf.step) b c (Some stop) new (moved (setup_in rules old) running.conf) x → IsFinished (ended goal) w0 a c stop new
+  stops_so stop (goes frame w) is h = cut_so stop w h (from_next (goes frame w) is)
+  stops_so stop (jumps k frame w) is h = cut_so stop w h (from_next (jumps k frame w) is)
+  stops_so stop (leaves x kept w) is h = cut_so stop w h (from_next (leaves x kept w) is)
+  stops_so stop (ends o w) is h =
+      let at_end : ends o w ≡ goal = sym (ends_there (setup_in rules old) running.conf o w is) ∙ to_goal in
+      let out : o ≡ (ended goal).outcome = ap (λ y. (ended y).outcome) at_end in
+      let there : w ≡ (ended goal).world = ap (λ y. (ended y).world) at_end in
+      ⊎_elim
+      (λ f. absurd (false≢true (sym (fine.right o w is) ∙ f)))
+      (λ k. ⊎_elim
+      (λ (e : HasStopped (world_in running.conf.step) b c new stop o w). inl (record {
+        outcome = e.outcome ∙ ap (λ y. Some y) out;
+        fuel = ap (λ y. y.fuel) (sym there) ∙ e.fuel;
+        wrote = wrote_both w0 (world_in running.conf.step) (ended goal).world a b c running.wrote (subst (λ y. Wrote (world_in running.conf.step) y b c) there e.wrote);
+      }))
+      (λ k. cut_so stop w k (from_next (ends o w) is))
+      k)
+      h
+
+  -- with nothing left main was left
+  over_so : (stop : Stop) → IsOver new old b c (Some stop) → running.conf.tasks ≡ [] → IsFinished (ended goal) w0 a c stop new
+  over_so stop h none = by running.conf.step running.shown.step running.wrote (done_is (setup_in rules old) running.conf.func running.conf.tasks running.conf.step none)
+    where
+      by : (x : Step) → ShowsStep running.shown.items old running.conf.func old.at x → Wrote w0 (world_in x) a b → ending (setup_in rules old) running.conf ≡ x → IsFinished (ended goal) w0 a c stop new
+      by (goes frame w) q wrote e = absurd (false≢true (sym (subst (λ y. is_fault (ended y).outcome ≡ false) (sym to_goal ∙ e) running.right)))
+      by (jumps k frame w) q wrote e = absurd (false≢true (sym (subst (λ y. is_fault (ended y).outcome ≡ false) (sym to_goal ∙ e) running.right)))
+      by (ends o w) q wrote e = absurd (not_ended running.shown.items old running.conf.func old.at o w q)
+      by (leaves x kept w) q wrote e =
+          let at_end : leaves x kept w ≡ goal = sym e ∙ to_goal in
+          let stop_is : stop ≡ Done = same_Some stop Done h.done in
+          inl (record {
+            outcome = ap outcome_of stop_is ∙ ap (λ y. Some (ended y).outcome) at_end;
+            fuel = ap (λ y. (ended y).world.fuel) (sym at_end) ∙ shown_fuel running.shown.items old running.conf.func old.at (leaves x kept w) q ∙ sym h.fuel;
+            wrote = subst (λ o. Wrote w0 (ended goal).world a o) (sym h.silent) (subst (λ y. Wrote w0 y a b) (ap (λ y. (ended y).world) at_end) wrote);
+          })
+
+  pub ends_so : (stop : Stop) → Moves (tasks_left old) rules old new b c (Some stop) → IsFinished (ended goal) w0 a c stop new
+  ends_so stop h = by (tasks_left old) refl h
+    where
+      empty : (us : List m.Task) → tasks_left old ≡ [] → running.conf.tasks ≡ us → running.conf.tasks ≡ []
+      empty [] is e = e
+      empty (u ∷ us) is e =
+          let n = as_many running.shown.items old.values old.values.base old.depth (tasks_left old) running.conf.tasks running.shown.shown in
+          let k = ap length is in
+          let l = ap length e in
+          absurd (omega (arith, n, k, l))
+
+      by : (ts : List Task) → tasks_left old ≡ ts → Moves ts rules old new b c (Some stop) → IsFinished (ended goal) w0 a c stop new
+      by [] is h = over_so stop h (empty running.conf.tasks is refl)
+      by (t ∷ ts) is h = stops_so stop (moved (setup_in rules old) running.conf).step refl (h.comes running.conf (subst (λ l. ShowsWith l old running.conf) is running.shown) fine)

@@ -1,0 +1,13 @@
+//! A core program and budgets in; a machine, which runs it once over input and answers and writes its events, out.
+//! Read `vlt_meaning/specs/Run.antt` first, then `specs/Reached.antt` and `specs/Machine.antt`.
+//! Rests on it: `vaultc_core`.
+#![tactic(auto)]
+
+mod errors;
+mod machine;
+mod moves;
+mod run;
+
+pub use errors::OpenError;
+pub use machine::Machine;
+pub use vlt_tasks::Stop;

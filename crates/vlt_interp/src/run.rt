@@ -1,0 +1,100 @@
+//! Whole runs.
+
+ghost use Rattle.vlt_core.specs.View.{program_of};
+ghost use Rattle.vlt_numbers.specs.Answers.{lists_of};
+ghost use Rattle.vlt_meaning.specs.Run.{ended};
+ghost use Rattle.vlt_hosts.specs.Hosts.{Outside};
+ghost use Rattle.vlt_rooms.specs.Start.{IsSet};
+ghost use Rattle.vlt_interp.specs.Reached.{IsRunnable};
+ghost use Rattle.vlt_interp.specs.Running.{start_of, goal_of, IsRunning, IsFinished};
+ghost use Rattle.vlt_interp.specs.Start.{run_within, IsEnded};
+
+use crate::moves::step;
+use vlt_base::Budgets;
+use vlt_core::Program;
+use vlt_frames::start;
+use vlt_hosts::Host;
+use vlt_io::Sink;
+use vlt_numbers::Answers;
+use vlt_rooms::Start;
+use vlt_tasks::{At, Rules, Run, Stop, Task, put};
+
+/// How a run ended, and the fuel that was left.
+#[derive(Clone, Copy)]
+pub struct Ended {
+    pub stop: Stop,
+    pub fuel: u64,
+}
+
+/// Goes on to the end of the run.
+fn finish<'a, K: Sink>(rules: &Rules<'a>, run: &mut Run<'a, '_>, sink: &mut K) -> Stop
+    requires start { (b : Outside) → IsRunning rules.now (goal_of rules.now run.old)
+        (start_of run.old) b b run.old }
+    ensures { IsFinished (ended (goal_of rules.now run.old)) (start_of run.old)
+        (record { written = K.written sink.old; faults = K.faults sink.old })
+        (record { written = K.written sink.new; faults = K.faults sink.new }) result run.new }
+{
+    loop {
+        match step(rules, run, sink) {
+            None => {}
+            Some(stop) => return stop,
+        }
+    }
+}
+
+/// Runs a program, over tables to which nothing was put.
+pub fn run_program<'a, K: Sink>(
+    program: &'a Program,
+    budgets: Budgets,
+    s: Start<'a>,
+    input: &[i64],
+    answers: &Answers,
+    sink: &mut K,
+) -> Ended
+    requires runnable { IsRunnable (program_of program.now) }
+    requires set { IsSet (program_of program.now) budgets s }
+    ensures { IsEnded (run_within program.now budgets input.now (lists_of answers.now))
+        (record { written = K.written sink.old; faults = K.faults sink.old })
+        (record { written = K.written sink.new; faults = K.faults sink.new }) result }
+{
+    let Budgets { fuel, depth, .. } = budgets;
+    if depth == 0 {
+        return Ended {
+            stop: Stop::DepthEnd,
+            fuel,
+        };
+    }
+    let Some(main) = program.fns.get(program.main.0 as usize) else {
+        unreachable!();
+    };
+    let Start {
+        mut tasks,
+        mut values,
+        heap,
+        line,
+    } = s;
+    start(&mut values, main);
+    put(&mut tasks, Task::List(main.body.as_slice()));
+    let host = Host {
+        input,
+        answers,
+        taken: 0,
+        line,
+    };
+    let rules = Rules { program, depth };
+    let mut run = Run {
+        func: main,
+        tasks,
+        at: At::Goes,
+        depth: 1,
+        fuel,
+        values,
+        heap,
+        host,
+    };
+    let stop = finish(&rules, &mut run, sink);
+    Ended {
+        stop,
+        fuel: run.fuel,
+    }
+}
