@@ -1,0 +1,4 @@
+pub mod Sets
+pub mod Clauses
+pub mod Operands
+pub mod Whole
