@@ -190,8 +190,8 @@ fn body(
 ) -> Result<(Body, usize), ParseError>
     ensures reads { IfOk result (λ x. ReadsBody lexemes.now at x.1 (head_of head) (body_of x.0)) }
     ensures are { IfOk result (λ x. AreStmts language.expressions 191 (body_of x.0).stmts) }
-    ensures follows { TurnsWhere HasNoBlock (machine.sign OpenBrace ∷ machine.body ∷ []) [] (λ x. x.1)
-        lexemes.now at result }
+    ensures follows { TurnsWhere HasNoBlock (machine.sign OpenBrace ∷ machine.body ∷ [])
+        [] (λ x. x.1) lexemes.now at result }
 {
     let open = sign(lexemes, at, CSign::OpenBrace)?;
     let (vars, next) = vars(alloc, lexemes, open)?;
@@ -201,7 +201,8 @@ fn body(
 
 /// Whether a head that ends at a position stands without a body, before all functions that have one.
 fn is_alone(lexemes: &[Lexeme<'_>], at: usize, bodies: &[Body]) -> bool
-    ensures is { result ≡ (before_bodies bodies.now && begins_sign Semicolon (ahead lexemes.now at)) }
+    ensures is { result ≡
+        (before_bodies bodies.now && begins_sign Semicolon (ahead lexemes.now at)) }
     ensures none { IsTrue result → bodies.now ≡ [] }
     ensures reads { IsTrue result →
         Reads lexemes.now at (at + 1) (λ rest. t.sign Semicolon ∷ rest) }

@@ -36,7 +36,8 @@ fn set(
         (t.sign Assign) lexemes.now at x.1 (stmt_then (stmt_of x.0))) }
     ensures is { (room : ℕ) → IfOk result (λ x.
         IsStmt language.expressions room (stmt_of x.0)) }
-    ensures follows { Takes (machine.value ∷ machine.sign Semicolon ∷ []) lexemes.now at result }
+    ensures follows { Takes (machine.value ∷ machine.sign Semicolon ∷ [])
+        lexemes.now at result }
 {
     match token(lexemes, at) {
         Some(Token::Name(_) | Token::Primitive(_)) => {
@@ -234,7 +235,8 @@ fn behind_while(
     ensures reads { IfOk result (λ x. ReadsBehind (t.word While) lexemes.now at x.1
         (stmt_then (stmt_of x.0))) }
     ensures is { IfOk result (λ x. IsStmt language.expressions (room + 1) (stmt_of x.0)) }
-    ensures follows { TurnsWhere (WithRoom true room) while_rest [] (λ x. x.1) lexemes.now at result }
+    ensures follows { TurnsWhere (WithRoom true room) while_rest [] (λ x. x.1)
+        lexemes.now at result }
 {
     let open = sign(lexemes, at, CSign::OpenParen)?;
     match token(lexemes, open) {

@@ -8,7 +8,6 @@ mod blocks;
 mod cells;
 mod halt;
 mod host;
-mod line;
 mod primitive;
 mod registers;
 mod tell;

@@ -7,11 +7,11 @@ ghost use Rattle.c_primitives.specs.Done.{told_of};
 
 use crate::args::{is_none, one_number, one_reference, one_text};
 use crate::halt::{Halt, MISUSED};
-use crate::line::{begin, end, tell_block, tell_number, write_line};
 use crate::world::{Talk, World};
 use c_syntax::{CArg, CPrim};
 use c_values::{Value, Vars};
 use vlt_io::Sink;
+use vlt_lines::{begin, end, tell_number, tell_object, write_number};
 
 /// How many arguments a call has at most.
 const MAX_TOLD: u32 = 16;
@@ -45,7 +45,7 @@ impl World<'_> {
             (primitive_does self.old.heap CPrim.Print (map arg_of args.now)) }
     {
         match one_number(args, vars) {
-            Ok(z) => match write_line(sink, z) {
+            Ok(z) => match write_number(sink, z) {
                 Ok(()) => Ok(None),
                 Err(_) => Err(Halt::SinkFault),
             },
@@ -107,7 +107,7 @@ impl World<'_> {
                 if told >= MAX_TOLD {
                     return Err(Halt::Broken(MISUSED));
                 }
-                tell_block(&mut self.line, block.number);
+                tell_object(&mut self.line, block.number);
                 self.talk = Talk::Calling(told + 1);
                 Ok(None)
             }
