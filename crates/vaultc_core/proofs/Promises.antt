@@ -1,5 +1,5 @@
 -- What stands behind status 0 of `check`.
-use Rattle.std.proofs.Common.{◌≡◌, ◌⊎◌, inl, inr, ℕ, suc, List, Option, Some, refl, sym, ap, subst, arith}
+use Rattle.std.proofs.Common.{◌≡◌, ◌⊎◌, inl, inr, ℕ, suc, List, [], ◌∷◌, Option, Some, None, refl, sym, ap, ◌∙◌, subst, arith}
 use Rattle.vlt_base.specs.Limits.{limit_of}
 use Rattle.vlt_base.specs.declared.limits.TheConstants.{SOURCE_BYTES}
 use Rattle.vlt_core.specs.Core.{Program}
@@ -25,11 +25,13 @@ use Rattle.vaultc_core.specs.Finishes.{Finishes}
 use Rattle.vaultc_core.specs.Lines.{Reply, reply}
 use Rattle.vaultc_core.specs.Texts.{IsTooLong, IsTextOf, Refusal, unlexed, unparsed, refusal_reply}
 use Rattle.vaultc_core.specs.Verdicts.{IsProgramOf, check_reply}
-use Rattle.vaultc_core.specs.Replies.{IsReplyToNamed, IsReplyToCommand, IsOneRead, MayReply}
+use Rattle.vaultc_core.specs.Sources.{had, unread, too_long, text_in, read_before, read_in, IsOneRead}
+use Rattle.vaultc_core.specs.Replies.{IsReplyToText, bytes_at, IsReplyToRead, IsReplyToCommand, AreOfC, MayReply}
 use Rattle.vaultc_core.specs.Promised.{IsPromised}
 use Rattle.vaultc_core.proofs.Read.{TextsHaveTicks, text_tree}
 use Rattle.vaultc_core.proofs.Single.{Laws}
-use Rattle.vaultc_core.proofs.Told.{read_there, complete}
+use Rattle.vaultc_core.proofs.Reading.{one_read, read_there, short_before}
+use Rattle.vaultc_core.proofs.Told.{complete}
 
 not_zero : (n : ℕ) → 0 ≡ suc n → ⊥
 not_zero n e = omega arith
@@ -68,22 +70,28 @@ module _ (law : ProgramsAreFit) (ticks : TextsHaveTicks) (right : GoRight) where
         accepted = is.1;
         never_goes_wrong = right.never p fit.well_formed.kinded is.1 fit.sizes fit.well_formed.states fit.narrow;
         leaves_only_its_clause = right.leaves p fit.well_formed.kinded is.1 fit.sizes fit.well_formed.states fit.narrow;
-        there = λ told tells. read_there store told name bytes read short tells;
+        there = λ told tells. read_there store told (text_in name) bytes read short tells;
         written = subst (λ x. Grew old new x) (ap (λ r. r.text) e) grew;
       }
 
+  of_text : (store : Option Files) (file bytes text : List ℕ) (old new : Option (List ℕ)) → IsRead store file (limit_of SOURCE_BYTES) bytes → (IsTooLong bytes → ⊥) →
+      IsReplyToText (check file) bytes (reply DONE text) → Grew old new text → IsPromised store file bytes old new
+  of_text store file bytes text old new read short (inl (e, is, same)) grew = absurd (no_refusal bytes text e same)
+  of_text store file bytes text old new read short (inr (t, reads, (v, is, same))) grew = of_verdict store file bytes text t v old new read short reads is same grew
+
   of_may : {S : Type 0} (g : Ghosts S) (early late : S) → (file text : List ℕ) (old new : Option (List ℕ)) →
       MayReply g early late (Some (check file)) (reply DONE text) → Grew old new text →
-      (bytes : List ℕ) × IsOneRead g early late file bytes × IsPromised (g.files early) file bytes old new
-  of_may g early late file text old new (inl (fails, same)) grew = absurd (not_zero 1 (status_of text _ same))
-  of_may g early late file text old new (inr (bytes, read, inl (long, same))) grew = absurd (not_zero 4 (status_of text _ same))
-  of_may g early late file text old new (inr (bytes, read, inr (short, inl (e, is, same)))) grew = absurd (no_refusal bytes text e same)
-  of_may g early late file text old new (inr (bytes, read, inr (short, inr (t, reads, (v, is, same))))) grew =
-      (bytes, read, of_verdict (g.files early) file bytes text t v old new read.told short reads is same grew)
+      (bytes : List ℕ) × IsOneRead g early late (text_in file) bytes × IsPromised (g.files early) file bytes old new
+  of_may g early late file text old new (unread name, may, same) grew = absurd (not_zero 1 (status_of text _ same))
+  of_may g early late file text old new (too_long n, may, same) grew = absurd (not_zero 4 (status_of text _ same))
+  of_may g early late file text old new (had contents, may, is) grew =
+      let one = one_read g early late (text_in file) contents may in
+      let at_first : IsReplyToText (check file) one.0 (reply DONE text) = subst (λ cs. IsReplyToText (check file) (bytes_at cs 0) (reply DONE text)) one.1 is in
+      (one.0, one.2, of_text (g.files early) file one.0 text old new one.2.told one.3 at_first grew)
 
   pub promised : {S K : Type 0} (g : Ghosts S) (k : sink.Ghosts K) (early late : S) (before after : K) (command : Option Command) (status : ℕ) →
       Finishes k (MayReply g early late command) before after status → (file : List ℕ) → command ≡ Some (check file) → status ≡ DONE →
-      (bytes : List ℕ) × IsOneRead g early late file bytes × IsPromised (g.files early) file bytes (k.written before) (k.written after)
+      (bytes : List ℕ) × IsOneRead g early late (text_in file) bytes × IsPromised (g.files early) file bytes (k.written before) (k.written after)
   promised g k early late before after command status f file is_check zero =
       let x = f.whole (λ three. omega (arith, zero, three)) (λ four. omega (arith, zero, four)) in
       let at_zero : MayReply g early late command (reply DONE x.0) = subst (λ n. MayReply g early late command (reply n x.0)) zero x.1 in
@@ -91,16 +99,16 @@ module _ (law : ProgramsAreFit) (ticks : TextsHaveTicks) (right : GoRight) where
       of_may g early late file x.0 (k.written before) (k.written after) may x.2
 
 -- the reply of `check` to the bytes of an accepted program
-accepted_reply : (file bytes : List ℕ) (p : Program) → IsProgramOf bytes p → IsAccepted p → IsReplyToNamed (check file) (Some bytes) (check_reply bytes (accepted p))
-accepted_reply file bytes p is follows = inr (is.short, inr (is.tree, is.reads, (accepted p, (is.elaborates, follows), refl)))
+accepted_reply : (file bytes : List ℕ) (p : Program) → IsProgramOf bytes p → IsAccepted p → IsReplyToText (check file) bytes (check_reply bytes (accepted p))
+accepted_reply file bytes p is follows = inr (is.tree, is.reads, (accepted p, (is.elaborates, follows), refl))
 
 pub accepts : Laws → {S K : Type 0} (g : Ghosts S) (k : sink.Ghosts K) (early late : S) (before after : K) (command : Option Command) (status : ℕ)
     → Finishes k (MayReply g early late command) before after status → (files : Files) (file bytes : List ℕ) (p : Program) → g.files early ≡ Some files
     → command ≡ Some (check file) → files file ≡ Some bytes → IsProgramOf bytes p → IsAccepted p
     → (Rose (g.faults early) (g.faults late) → ⊥) → (Rose (k.faults before) (k.faults after) → ⊥) → (status ≡ DONE) ⊎ (status ≡ NO_MEMORY)
 accepts laws g k early late before after command status f files file bytes p tells is_check there is follows store_sound sink_sound =
-    let named : IsReplyToNamed (check file) (files file) (check_reply bytes (accepted p)) =
-    subst (λ o. IsReplyToNamed (check file) o (check_reply bytes (accepted p))) (sym there) (accepted_reply file bytes p is follows) in
-    let replies : IsReplyToCommand command files (check_reply bytes (accepted p)) =
-    subst (λ o. IsReplyToCommand o files (check_reply bytes (accepted p))) (sym is_check) named in
-    complete laws g k early late before after command status files (check_reply bytes (accepted p)) f tells replies store_sound sink_sound
+    let r = check_reply bytes (accepted p) in
+    let read : had (bytes ∷ []) ≡ read_in files (Some (text_in file) ∷ []) = sym (ap (λ o. read_before (text_in file) o (had [])) there ∙ short_before (text_in file) bytes (had []) is.short) in
+    let replies : IsReplyToCommand (Some (check file)) files r = subst (λ x. IsReplyToRead (check file) x r) read (accepted_reply file bytes p is follows) in
+    let of_check : AreOfC (Some (check file)) → ⊥ = λ c. c in
+    complete laws g k early late before after command status files r f tells (subst (λ o. AreOfC o → ⊥) (sym is_check) of_check) (subst (λ o. IsReplyToCommand o files r) (sym is_check) replies) store_sound sink_sound

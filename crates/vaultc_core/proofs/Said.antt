@@ -12,31 +12,31 @@ use Rattle.vlt_verdict.specs.declared.verdict.Verdict as shown
 use Rattle.vlt_verdict.specs.declared.verdict.Verdict.TheVariants.{Broken, Exceeded, Faulty, Accepted}
 use Rattle.vlt_verdict.specs.Verdicts.{Verdict, refused, faulty, accepted, IsVerdictOf}
 use Rattle.vlt_verdict.specs.Seen.{IsSeenAs}
-use Rattle.vaultc_core.specs.Commands.{Command, check, explain, run, fmt}
+use Rattle.vaultc_core.specs.Commands.{Command, check, explain, fmt}
 use Rattle.vaultc_core.specs.Lines as lines
 use Rattle.vaultc_core.specs.Texts.{Refusal, AreRefused, IsTextOf, refusal_reply}
 use Rattle.vaultc_core.specs.Verdicts.{check_reply, IsExplained}
-use Rattle.vaultc_core.specs.Parts.{IsReplyToRunOf}
-use Rattle.vaultc_core.specs.Replies.{IsReplyToVerdict, IsReplyToRun, IsReplyToText}
+use Rattle.vlt_core.specs.Core.{Program}
+use Rattle.vlt_core.specs.declared.program.Program as code
+use Rattle.vlt_given.specs.Given.{Given}
+use Rattle.vaultc_core.specs.Runs.{IsReplyToProgram}
+use Rattle.vaultc_core.specs.Replies.{IsReplyToVerdict, IsReplyToRun, IsReplyToTree, IsReplyByTree, IsReplyToText, IsReplyToRunText}
 use Rattle.vaultc_core.specs.Shown.{shown_reply, is_accepted, IsJudged}
 
 -- ---- texts that are refused
 
-refused_here : (command : Command) (bytes : List ℕ) (o : Option Refusal) (r : lines.Reply) → IfSome o (AreRefused bytes) → option_map (refusal_reply bytes) o ≡ Some r → IsReplyToText command bytes r
-refused_here command bytes None r is same = absurd (none_some r same) where
+refused_by : (P : Tree → lines.Reply → Type 0) (bytes : List ℕ) (o : Option Refusal) (r : lines.Reply) → IfSome o (AreRefused bytes) → option_map (refusal_reply bytes) o ≡ Some r → IsReplyByTree P bytes r
+refused_by P bytes None r is same = absurd (none_some r same) where
   none_some : (r : lines.Reply) → None ≡ Some r → ⊥
   none_some r e = cc
-refused_here command bytes (Some e) r is same = inl (e, is, sym (some_some _ _ same)) where
+refused_by P bytes (Some e) r is same = inl (e, is, sym (some_some _ _ same)) where
   some_some : (r q : lines.Reply) → Some r ≡ Some q → r ≡ q
   some_some r q e = cc
 
--- what is said of bytes that are refused is what each command replies to them
-pub refused_said : (command : Command) (bytes : List ℕ) (o : Option Refusal) (r : Result Reply AllocError) → IfSome o (AreRefused bytes)
-    → IfOk r (λ x. option_map (refusal_reply bytes) o ≡ Some (shown_reply x)) → IfOk r (λ x. IsReplyToText command bytes (shown_reply x))
-refused_said command bytes o (Ok x) is same = refused_here command bytes o (shown_reply x) is same
-refused_said command bytes o (Err e) is same = tt
+refused_here : (command : Command) (bytes : List ℕ) (o : Option Refusal) (r : lines.Reply) → IfSome o (AreRefused bytes) → option_map (refusal_reply bytes) o ≡ Some r → IsReplyToText command bytes r
+refused_here command bytes o r is same = refused_by (IsReplyToTree command bytes) bytes o r is same
 
--- the same of a command with any file
+-- what is said of bytes that are refused is what each command replies to them, with any file
 pub refused_each : (command : List ℕ → Command) (bytes : List ℕ) (o : Option Refusal) (r : Result Reply AllocError) → IfSome o (AreRefused bytes)
     → IfOk r (λ x. option_map (refusal_reply bytes) o ≡ Some (shown_reply x)) → IfOk r (λ x. (file : List ℕ) → IsReplyToText (command file) bytes (shown_reply x))
 refused_each command bytes o (Ok x) is same = λ file. refused_here (command file) bytes o (shown_reply x) is same
@@ -63,32 +63,37 @@ laid_said bytes t (Err e) reads is = tt
 
 -- ---- verdicts
 
+-- what is said of a text that is refused is what `run` replies to it
+pub refused_run_text : (bytes : List ℕ) (given : Given) (b : Budgets) (o : Option Refusal) (r : Result Reply AllocError) → IfSome o (AreRefused bytes)
+    → IfOk r (λ x. option_map (refusal_reply bytes) o ≡ Some (shown_reply x)) → IfOk r (λ x. IsReplyToRunText bytes given b (shown_reply x))
+refused_run_text bytes given b o (Ok x) is same = refused_by (IsReplyToRun bytes given b) bytes o (shown_reply x) is same
+refused_run_text bytes given b o (Err e) is same = tt
+
 -- `run` says of a verdict that isn't accepted what `check` says of it
-check_is_run : (text : List ℕ) (b : Budgets) (t : Tree) (v : shown.Verdict) (s : Verdict) (r : lines.Reply) → is_accepted v ≡ false →
-    IsSeenAs v s → r ≡ check_reply text s → IsReplyToVerdict text b t s r
-check_is_run text b t v (refused x) r other seen e = e
-check_is_run text b t v (faulty p f x) r other seen e = e
-check_is_run text b t (Accepted q) (accepted p) r other seen e = absurd cc
-check_is_run text b t (Broken rule at) (accepted p) r other seen e = absurd cc
-check_is_run text b t (Exceeded n) (accepted p) r other seen e = absurd cc
-check_is_run text b t (Faulty q x) (accepted p) r other (f, there, same) e = absurd cc
+check_is_run : (text : List ℕ) (given : Given) (b : Budgets) (v : shown.Verdict) (s : Verdict) (r : lines.Reply) → is_accepted v ≡ false →
+    IsSeenAs v s → r ≡ check_reply text s → IsReplyToVerdict text given b s r
+check_is_run text given b v (refused x) r other seen e = e
+check_is_run text given b v (faulty p f x) r other seen e = e
+check_is_run text given b (Accepted q) (accepted p) r other seen e = absurd cc
+check_is_run text given b (Broken rule at) (accepted p) r other seen e = absurd cc
+check_is_run text given b (Exceeded n) (accepted p) r other seen e = absurd cc
+check_is_run text given b (Faulty q x) (accepted p) r other (f, there, same) e = absurd cc
 
 -- what is said of a verdict that isn't accepted is what `run` replies to the text
-pub refused_run : (text file : List ℕ) (b : Budgets) (t : Tree) (v : shown.Verdict) (r : Result Reply AllocError) → IsTextOf t text →
-    is_accepted v ≡ false → IsJudged t v → IfOk r (λ x. (s : Verdict) → IsSeenAs v s → shown_reply x ≡ check_reply text s) →
-    IfOk r (λ x. IsReplyToText (run file b) text (shown_reply x))
-refused_run text file b t v (Ok x) reads other (s, is, seen) said =
-    inr (t, reads, (s, is, check_is_run text b t v s (shown_reply x) other seen (said s seen)))
-refused_run text file b t v (Err e) reads other judged said = tt
+pub refused_run : (text slice : List ℕ) (given : Given) (b : Budgets) (t : Tree) (v : shown.Verdict) (r : Result Reply AllocError) → slice ≡ text → IsTextOf t text →
+    is_accepted v ≡ false → IsJudged t v → IfOk r (λ x. (s : Verdict) → IsSeenAs v s → shown_reply x ≡ check_reply slice s) →
+    IfOk r (λ x. IsReplyToRunText text given b (shown_reply x))
+refused_run text slice given b t v (Ok x) same reads other (s, is, seen) said =
+    inr (t, reads, (s, is, check_is_run text given b v s (shown_reply x) other seen (subst (λ l. shown_reply x ≡ check_reply l s) same (said s seen))))
+refused_run text slice given b t v (Err e) same reads other judged said = tt
 
-accepted_judged : (text : List ℕ) (b : Budgets) (t : Tree) (v : shown.Verdict) (r : lines.Reply) → is_accepted v ≡ true → IsJudged t v →
-    IsReplyToRunOf b t r → IsReplyToRun text b t r
-accepted_judged text b t (Accepted q) r so (s, is, same) replies = (accepted (program_of q), subst (IsVerdictOf t) same is, replies)
-accepted_judged text b t (Broken rule at) r so judged replies = absurd cc
-accepted_judged text b t (Exceeded n) r so judged replies = absurd cc
-accepted_judged text b t (Faulty q x) r so judged replies = absurd cc
+-- an accepted verdict is that of its program
+pub accepted_program : (t : Tree) (v : shown.Verdict) (q : code.Program) → v ≡ Accepted q → IsJudged t v → IsVerdictOf t (accepted (program_of q))
+accepted_program t v q so (s, is, seen) = accepted_seen t q s is (subst (λ x. IsSeenAs x s) so seen) where
+  accepted_seen : (t : Tree) (q : code.Program) (s : Verdict) → IsVerdictOf t s → IsSeenAs (Accepted q) s → IsVerdictOf t (accepted (program_of q))
+  accepted_seen t q s is same = subst (IsVerdictOf t) same is
 
--- the run of a tree that is accepted is what `run` replies to the text
-pub accepted_run : (text file : List ℕ) (b : Budgets) (t : Tree) (v : shown.Verdict) → IsTextOf t text → is_accepted v ≡ true → IsJudged t v →
-    (r : lines.Reply) → IsReplyToRunOf b t r → IsReplyToText (run file b) text r
-accepted_run text file b t v reads so judged r replies = inr (t, reads, accepted_judged text b t v r so judged replies)
+-- the run of an accepted program is what `run` replies to the text
+pub accepted_run : (text : List ℕ) (given : Given) (b : Budgets) (t : Tree) (p : Program) → IsTextOf t text → IsVerdictOf t (accepted p) →
+    (r : lines.Reply) → IsReplyToProgram p given b r → IsReplyToRunText text given b r
+accepted_run text given b t p reads is r replies = inr (t, reads, (accepted p, is, replies))

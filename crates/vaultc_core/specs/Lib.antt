@@ -1,9 +1,10 @@
 pub mod Commands
+pub mod Sources
 pub mod Lines
 pub mod Texts
 pub mod Verdicts
 pub mod Runs
-pub mod Parts
+pub mod CRuns
 pub mod Replies
 pub mod Promised
 pub mod Finishes

@@ -18,7 +18,7 @@ reply status text = record { status = status; text = text }
 -- ---- lines
 
 abbrev pub usage : List ℕ
-usage = codes "usage: vaultc check F | explain F | fmt F | emit F | verify F | load N | run F OPTIONS | crun F OPTIONS\n"
+usage = codes "usage: vaultc check F | explain F | fmt F | run F OPTIONS | crun F OPTIONS\n"
 
 abbrev pub read_line : List ℕ → List ℕ
 read_line name = codes "read " ++ name ++ codes "\n"
@@ -52,3 +52,14 @@ over_reply n = reply OVER_LIMIT (limit_line n)
 -- something is wrong with a text at a byte
 abbrev pub place_reply : (what text : List ℕ) → ℕ → Reply
 place_reply what text at = reply NO_TEXT (place_line what text at)
+
+-- a line of a file isn't of numbers
+abbrev pub numbers_reply : (what : List ℕ) → ℕ → Reply
+numbers_reply what line = reply NO_TEXT (codes "text " ++ what ++ codes " " ++ decimal line ++ codes "\n")
+
+abbrev pub bad_answer_line : ℕ → List ℕ
+bad_answer_line n = codes "answer " ++ decimal n ++ codes " bad\n"
+
+-- the text of the events, and then the last line
+abbrev pub behind : (events : List ℕ) → Reply → Reply
+behind events last = reply last.status (events ++ last.text)

@@ -1,34 +1,39 @@
--- What a run of a program replies.
-use Rattle.std.specs.Prelude.{◌≡◌, ◌<◌, ℕ, List, [], ◌++◌, ◌⊎◌, codes}
-use Rattle.vlt_base.specs.Limits.{limit_of}
+-- What a run of an accepted program replies.
+use Rattle.std.specs.Prelude.{◌≡◌, ◌⊎◌, ℤ, List, [], Option, Some, None, codes}
 use Rattle.vlt_base.specs.declared.Budgets.{Budgets}
 use Rattle.vlt_base.specs.declared.limits.TheConstants.{VALUE_SLOTS}
-use Rattle.first_core.specs.Core.{Program}
-use Rattle.first_meaning.specs.World.{Outcome, done, trap, heap_end, depth_end, fault, Ran, event_text}
-use Rattle.first_meaning.specs.Run.{run}
-use Rattle.first_interp.specs.Width.{slots_needed}
-use Rattle.vaultc_core.specs.declared.status.TheConstants.{DONE, TRAPPED, OUT_OF_BUDGET}
-use Rattle.vaultc_core.specs.Lines.{Reply, over_reply, trap_line}
+use Rattle.vlt_core.specs.Core.{Program}
+use Rattle.vlt_meaning.specs.World.{Outcome, done, trap, fuel_end, heap_end, depth_end, input_end, answers_end, bad_answer, fault, Ran, event_text}
+use Rattle.vlt_meaning.specs.Run as meaning
+use Rattle.vlt_given.specs.Given.{Given, numbers, bad_input, bad_answers}
+use Rattle.vlt_run.specs.Ends.{IsTooWide}
+use Rattle.vaultc_core.specs.declared.status.TheConstants.{DONE, TRAPPED, OUT_OF_BUDGET, OUT_OF_NUMBERS}
+use Rattle.vaultc_core.specs.Lines.{Reply, reply, over_reply, trap_line, numbers_reply, bad_answer_line, behind}
 
--- the status of a run that ends so, and the line behind its events; a fault has none
-abbrev pub EndsWith : Outcome → (status : ℕ) → (line : List ℕ) → Type 0
-EndsWith done status line = (status ≡ DONE) × (line ≡ [])
-EndsWith (trap t) status line = (status ≡ TRAPPED) × (line ≡ trap_line t)
-EndsWith heap_end status line = (status ≡ OUT_OF_BUDGET) × (line ≡ codes "budget heap\n")
-EndsWith depth_end status line = (status ≡ OUT_OF_BUDGET) × (line ≡ codes "budget depth\n")
-EndsWith fault status line = ⊥
+-- the last line of each outcome, with the status; a fault has none, and no run of an accepted program ends in one
+abbrev pub last_of : Outcome → Option Reply
+last_of done = Some (reply DONE [])
+last_of (trap t) = Some (reply TRAPPED (trap_line t))
+last_of fuel_end = Some (reply OUT_OF_BUDGET (codes "budget fuel\n"))
+last_of heap_end = Some (reply OUT_OF_BUDGET (codes "budget heap\n"))
+last_of depth_end = Some (reply OUT_OF_BUDGET (codes "budget depth\n"))
+last_of input_end = Some (reply OUT_OF_NUMBERS (codes "input ended\n"))
+last_of answers_end = Some (reply OUT_OF_NUMBERS (codes "answers ended\n"))
+last_of (bad_answer n) = Some (reply OUT_OF_NUMBERS (bad_answer_line n))
+last_of (fault reason object) = None
 
--- the text of a run's events, and then the line of its end
+-- the text of a run's events, and then the last line of its outcome
 abbrev pub IsReplyToRan : Ran → Reply → Type 0
-IsReplyToRan ran r = (line : List ℕ) × EndsWith ran.outcome r.status line × (r.text ≡ event_text ran.world.events ++ line)
+IsReplyToRan ran r = (last : Reply) × (last_of ran.outcome ≡ Some last) × (r ≡ behind (event_text ran.world.events) last)
 
--- the frames and objects of the budgets don't fit into a machine
-abbrev pub IsTooWide : Program → Budgets → Type 0
-IsTooWide p b = limit_of VALUE_SLOTS < slots_needed p b.depth b.heap
+-- over input numbers and answers; the frames and objects of the budgets may not fit into a machine
+abbrev pub IsReplyOverNumbers : Program → (input : List ℤ) → (answers : List (List ℤ)) → Budgets → Reply → Type 0
+IsReplyOverNumbers p input answers b r =
+    (IsTooWide p b × (r ≡ over_reply VALUE_SLOTS))
+    ⊎ ((IsTooWide p b → ⊥) × IsReplyToRan (meaning.run p b.fuel b.heap b.depth input answers) r)
 
--- the run of the program within the budgets, without input or answers
-abbrev pub run_within : Program → Budgets → Ran
-run_within p b = run p b.fuel b.heap b.depth [] []
-
-abbrev pub IsReplyToProgram : Program → Budgets → Reply → Type 0
-IsReplyToProgram p b r = (IsTooWide p b × (r ≡ over_reply VALUE_SLOTS)) ⊎ ((IsTooWide p b → ⊥) × IsReplyToRan (run_within p b) r)
+-- over what the files of numbers give
+abbrev pub IsReplyToProgram : Program → Given → Budgets → Reply → Type 0
+IsReplyToProgram p (numbers input answers) b r = IsReplyOverNumbers p input answers b r
+IsReplyToProgram p (bad_input line) b r = r ≡ numbers_reply (codes "input") line
+IsReplyToProgram p (bad_answers line) b r = r ≡ numbers_reply (codes "answers") line

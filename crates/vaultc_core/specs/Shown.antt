@@ -1,15 +1,16 @@
--- The plain refusals, parts and replies that those of the code stand for.
-use Rattle.std.specs.Prelude.{◌≡◌, ◌⊎◌, ℕ, Bool, true, false, MatchOption, Option, Some, None, Result, Ok, Err}
+-- The plain refusals, ends and replies that those of the code stand for.
+use Rattle.std.specs.Prelude.{◌≡◌, ◌≤◌, ◌⊎◌, ℕ, Bool, true, false, List, [], ◌∷◌, MatchOption, Option, Some, None, Result, Ok, Err, codes}
+use Rattle.std.specs.Option.{option_and_then}
+use Rattle.std.specs.Global.{Vec}
 use Rattle.std.specs.declared.alloc.AllocError.{AllocError}
-use Rattle.first_core.specs.Kinds.{IsKinded}
-use Rattle.first_core.specs.Derives.{IsAccepted}
-use Rattle.first_core.specs.View.{program_of}
 use Rattle.vlt_lexer.specs.declared.lexer.LexError.TheVariants as lex
 use Rattle.vlt_parser_exprs.specs.declared.error.ParseError.TheVariants as parse
 use Rattle.vlt_syntax.specs.Refusals.{unexpected_at, over_limit, ended}
-use Rattle.first_interp.specs.Stops.{outcome_of}
-use Rattle.first_interp.specs.declared.stop.Stop.{Stop}
-use Rattle.first_interp.specs.declared.stop.Stop.TheVariants.{SinkFault}
+use Rattle.vlt_tasks.specs.Halting.{outcome_of}
+use Rattle.vlt_tasks.specs.declared.stop.Stop.{Stop}
+use Rattle.vlt_tasks.specs.declared.stop.Stop.TheVariants.{SinkFault}
+use Rattle.vlt_run.specs.declared.end.RunEnd.{RunEnd}
+use Rattle.vlt_run.specs.declared.end.RunEnd.TheVariants as end
 use Rattle.vlt_io.specs.declared.sink.Sink.{Ghosts}
 use Rattle.vlt_syntax.specs.Tree.{Tree}
 use Rattle.vlt_core.specs.Faults.{IsFirstFault}
@@ -21,14 +22,24 @@ use Rattle.vlt_verdict.specs.declared.verdict.Verdict.{Verdict}
 use Rattle.vlt_verdict.specs.declared.verdict.Verdict.TheVariants as verdict
 use Rattle.vaultc_core.specs.declared.status.TheConstants.{SINK_FAILED, NO_MEMORY}
 use Rattle.vaultc_core.specs.Finishes.{Finishes}
-use Rattle.vaultc_core.specs.Runs.{EndsWith}
+use Rattle.vaultc_core.specs.Runs.{last_of}
 use Rattle.vaultc_core.specs.Lines as lines
 use Rattle.vaultc_core.specs.Texts.{Refusal, unlexed, unparsed}
-use Rattle.vaultc_core.specs.Parts as p
+use Rattle.vlt_base.specs.declared.limits.TheConstants.{SOURCE_BYTES, VALUE_SLOTS}
+use Rattle.c_interp.specs.declared.stop.CStop.{CStop}
+use Rattle.c_interp.specs.declared.stop.CStop.TheVariants as stopped
+use Rattle.c_reader.specs.Reads.{IsWithin}
+use Rattle.c_reader.specs.declared.error.CError.{CError}
+use Rattle.c_run.specs.Ends.{IsUnread}
+use Rattle.c_run.specs.declared.end.CEnd.{CEnd}
+use Rattle.c_run.specs.declared.end.CEnd.TheVariants as ended
+use Rattle.vaultc_core.specs.CRuns.{end_reply, stop_reply}
+use Rattle.vaultc_core.specs.Sources.{Read, had, unread, too_long, IsOver}
+use Rattle.vaultc_core.specs.declared.files.FileError.{FileError}
+use Rattle.vaultc_core.specs.declared.files.FileError.TheVariants.{Unread, TooLong, Memory}
+use Rattle.vaultc_core.specs.declared.files.RunFiles.{RunFiles}
 use Rattle.vaultc_core.specs.declared.source.TextError.{TextError}
 use Rattle.vaultc_core.specs.declared.source.TextError.TheVariants as error
-use Rattle.vaultc_core.specs.declared.parts.Part.{Part}
-use Rattle.vaultc_core.specs.declared.parts.Part.TheVariants as part
 use Rattle.vaultc_core.specs.declared.reply.Reply.{Reply}
 
 -- the refusal that an error tells; want of memory is none
@@ -39,13 +50,6 @@ refusal_of (error.Parse (parse.Unexpected at)) = Some (unparsed (unexpected_at a
 refusal_of (error.Parse parse.EndOfText) = Some (unparsed ended)
 refusal_of (error.Parse (parse.Limit n)) = Some (unparsed (over_limit n))
 refusal_of (error.Parse parse.Memory) = None
-
--- the code keeps the program of an accepted part alone
-abbrev pub Shows : Part → p.Part → Type 0
-Shows part.Outside p.outside = Unit {0}
-Shows part.Refused (p.refused x) = Unit {0}
-Shows (part.Accepted q) (p.accepted x) = x ≡ program_of q
-Shows _ _ = ⊥
 
 -- the code's verdict stands for one of the tree
 abbrev pub IsJudged : Tree → Verdict → Type 0
@@ -68,14 +72,80 @@ abbrev pub IsReplyOf : Result Reply AllocError → lines.Reply → Type 0
 IsReplyOf (Ok r) q = q ≡ shown_reply r
 IsReplyOf (Err e) q = ⊥
 
--- a program that is accepted has numbers that fit, and follows the rules
-abbrev pub IsRunnable : Part → Type 0
-IsRunnable (part.Accepted q) = IsKinded (program_of q) × IsAccepted (program_of q)
-IsRunnable _ = Unit {0}
+-- ---- files
 
--- How the last line of a run is written, by how the run stopped: where it has an outcome, one that ends with the line; else
--- nothing more, the sink having failed or memory being wanting.
-abbrev pub EndsRun : {K : Type 0} (g : Ghosts K) → Stop → (old new : K) → (status : ℕ) → Type 0
-EndsRun g stop old new status = MatchOption (outcome_of stop)
-    ((new ≡ old) × (((status ≡ SINK_FAILED) × (stop ≡ SinkFault)) ⊎ (status ≡ NO_MEMORY)))
-    (λ o. Finishes g (λ r. EndsWith o r.status r.text) old new status)
+-- what reading came to, where it ended so; want of memory tells nothing
+abbrev pub error_seen : FileError → Option Read
+error_seen (Unread name) = Some (unread name.now)
+error_seen (TooLong n) = Some (too_long n)
+error_seen Memory = None
+
+abbrev pub seen_file : Result (Vec ℕ) FileError → Option Read
+seen_file (Ok bytes) = Some (had (bytes.items ∷ []))
+seen_file (Err e) = error_seen e
+
+abbrev pub seen_files : Result RunFiles FileError → Option Read
+seen_files (Ok files) = Some (had (files.text.items ∷ files.input.items ∷ files.answers.items ∷ []))
+seen_files (Err e) = error_seen e
+
+-- a limit that is told has a number
+abbrev pub IsNumbered : FileError → Type 0
+IsNumbered (TooLong n) = (1 ≤ n) × (n ≤ 15)
+IsNumbered e = Unit {0}
+
+-- no file has more bytes than its limit allows; that of the text has this number
+pub record AreShort (limit : ℕ) (files : RunFiles) : Type 0 where
+  pub text : IsOver limit files.text.items → ⊥
+  pub input : IsOver SOURCE_BYTES files.input.items → ⊥
+  pub answers : IsOver SOURCE_BYTES files.answers.items → ⊥
+
+-- ---- runs of programs
+
+-- the last line where the machine stopped so; where the sink failed there is none
+abbrev pub stop_line : Stop → Option lines.Reply
+stop_line s = option_and_then last_of (outcome_of s)
+
+-- the last line of an end; want of memory has none
+abbrev pub end_line : RunEnd → Option lines.Reply
+end_line (end.BadInput line) = Some (lines.numbers_reply (codes "input") line)
+end_line (end.BadAnswers line) = Some (lines.numbers_reply (codes "answers") line)
+end_line end.TooWide = Some (lines.over_reply VALUE_SLOTS)
+end_line (end.Stopped s) = stop_line s
+end_line end.Memory = None
+
+-- How the last line of a run is written, by how the machine stopped: where it has a last line, that one; else nothing, the
+-- sink having failed.
+abbrev pub StopsRun : {K : Type 0} (g : Ghosts K) → Stop → (old new : K) → (status : ℕ) → Type 0
+StopsRun g stop old new status = MatchOption (stop_line stop)
+    ((new ≡ old) × ((status ≡ SINK_FAILED) × (stop ≡ SinkFault)))
+    (λ last. Finishes g (λ r. r ≡ last) old new status)
+
+-- the same by an end; nothing is written either where memory was wanting
+abbrev pub EndsRun : {K : Type 0} (g : Ghosts K) → RunEnd → (old new : K) → (status : ℕ) → Type 0
+EndsRun g e old new status = MatchOption (end_line e)
+    ((new ≡ old) × (((status ≡ SINK_FAILED) × (e ≡ end.Stopped SinkFault)) ⊎ (status ≡ NO_MEMORY)))
+    (λ last. Finishes g (λ r. r ≡ last) old new status)
+
+-- ---- runs of C texts
+
+-- a text stands for no program, and what is told of it lies in the text
+pub record IsReasonOf (text : List ℕ) (e : CError) : Type 0 where
+  pub reads : IsUnread text e
+  pub within : IsWithin text e
+
+abbrev pub IsTellableEnd : (text : List ℕ) → CEnd → Type 0
+IsTellableEnd text (ended.Unread e) = IsReasonOf text e
+IsTellableEnd text end = Unit {0}
+
+-- How the last line of a C run is written, by how the machine stopped: where it has a last line, that one; else nothing, the
+-- sink having failed.
+abbrev pub StopsC : {K : Type 0} (g : Ghosts K) → CStop → (old new : K) → (status : ℕ) → Type 0
+StopsC g stop old new status = MatchOption (stop_reply stop)
+    ((new ≡ old) × ((status ≡ SINK_FAILED) × (stop ≡ stopped.SinkFault)))
+    (λ last. Finishes g (λ r. r ≡ last) old new status)
+
+-- the same by an end; nothing is written either where memory was wanting
+abbrev pub EndsC : {K : Type 0} (g : Ghosts K) → (text : List ℕ) → CEnd → (old new : K) → (status : ℕ) → Type 0
+EndsC g text end old new status = MatchOption (end_reply text end)
+    ((new ≡ old) × (((status ≡ SINK_FAILED) × (end ≡ ended.Stopped stopped.SinkFault)) ⊎ (status ≡ NO_MEMORY)))
+    (λ last. Finishes g (λ r. r ≡ last) old new status)

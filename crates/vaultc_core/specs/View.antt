@@ -1,10 +1,45 @@
--- The plain commands that those of the code stand for.
+-- The plain commands and options that those of the code stand for.
+use Rattle.std.specs.Prelude.{ℕ, List}
+use Rattle.std.specs.Option.{option_map}
 use Rattle.vaultc_core.specs.Commands as commands
 use Rattle.vaultc_core.specs.declared.words.Command.{Command}
-use Rattle.vaultc_core.specs.declared.words.Command.TheVariants.{Check, Explain, Run, Fmt}
+use Rattle.vaultc_core.specs.declared.words.Command.TheVariants.{Text, Run, C}
+use Rattle.vaultc_core.specs.declared.words.TextCommand.{TextCommand}
+use Rattle.vaultc_core.specs.declared.words.TextCommand.TheVariants.{Check, Explain, Fmt}
+use Rattle.vaultc_core.specs.declared.words.Setting.{Setting}
+use Rattle.vaultc_core.specs.declared.words.Setting.TheVariants.{Fuel, Heap, Depth, Input, Answers}
+use Rattle.vaultc_core.specs.declared.words.Settings.{Settings}
+use Rattle.vaultc_core.specs.declared.words.Taken.{Taken}
+
+abbrev pub seen_setting : Setting → commands.Setting
+seen_setting (Fuel n) = commands.fuel n
+seen_setting (Heap n) = commands.heap n
+seen_setting (Depth n) = commands.depth n
+seen_setting (Input file) = commands.input file.now
+seen_setting (Answers file) = commands.answers file.now
+
+abbrev pub seen_settings : Settings → commands.Settings
+seen_settings s = record {
+  fuel = s.fuel;
+  heap = s.heap;
+  depth = s.depth;
+  input = option_map (λ f. f.now) s.input;
+  answers = option_map (λ f. f.now) s.answers;
+}
+
+abbrev pub seen_taken : Taken → commands.Taken
+seen_taken t = record {
+  budgets = t.budgets;
+  input = option_map (λ f. f.now) t.input;
+  answers = option_map (λ f. f.now) t.answers;
+}
+
+abbrev pub seen_text : TextCommand → (file : List ℕ) → commands.Command
+seen_text Check file = commands.check file
+seen_text Explain file = commands.explain file
+seen_text Fmt file = commands.fmt file
 
 abbrev pub seen_command : Command → commands.Command
-seen_command (Check file) = commands.check file.now
-seen_command (Explain file) = commands.explain file.now
-seen_command (Run file budgets) = commands.run file.now budgets
-seen_command (Fmt file) = commands.fmt file.now
+seen_command (Text command file) = seen_text command file.now
+seen_command (Run file taken) = commands.run file.now (seen_taken taken)
+seen_command (C file taken) = commands.crun file.now (seen_taken taken)

@@ -1,32 +1,38 @@
 //! Carries out the commands.
 
-ghost use Rattle.std.specs.Prelude.{◌≡◌, ◌≢◌, ◌<◌, ◌-◌, ◌^◌, ℕ, List, length, map, None, Some, IfOk, string_bytes};
-ghost use Rattle.vaultc_core.specs.Commands.{command_of};
-ghost use Rattle.vlt_verdict.specs.Seen.{IsTellable};
-ghost use Rattle.vaultc_core.specs.Texts.{IsTooLong, IsTextOf};
-ghost use Rattle.vaultc_core.specs.Replies.{IsReplyToText, MayReply};
-ghost use Rattle.vaultc_core.specs.Parts as p;
-ghost use Rattle.vaultc_core.specs.Parts.{IsReplyToPart, IsReplyToRunOf};
-ghost use Rattle.vaultc_core.specs.Commands as c;
-ghost use Rattle.vaultc_core.specs.Finishes.{Finishes};
-ghost use Rattle.vaultc_core.specs.Shown.{IsJudged, IsRunnable, Shows, is_accepted, shown_reply};
-ghost use Rattle.vlt_syntax.specs.Spelling.{spelling};
+ghost use Rattle.std.specs.Prelude.{◌≡◌, ◌≢◌, List, ℕ, map, None, Some, IfOk, IfSome, IfNone, false, string_bytes};
+ghost use Rattle.vlt_base.specs.declared.limits.TheConstants.{SOURCE_BYTES};
 ghost use Rattle.vlt_syntax.specs.View.{tree_of};
-ghost use Rattle.vaultc_core.specs.View.{seen_command};
+ghost use Rattle.vlt_fit_laws.specs.Fit.{IsTextTree};
+ghost use Rattle.vlt_given.specs.Given.{given_by};
+ghost use Rattle.vlt_verdict.specs.Seen.{IsTellable};
+ghost use Rattle.vlt_verdict.specs.declared.verdict.Verdict.TheVariants.{Accepted};
+ghost use Rattle.vaultc_core.specs.Commands as c;
+ghost use Rattle.vaultc_core.specs.Commands.{command_of};
+ghost use Rattle.vaultc_core.specs.Texts.{IsTooLong, IsTextOf};
+ghost use Rattle.vaultc_core.specs.Replies.{IsReplyToText, IsReplyToRunText, MayReply};
+ghost use Rattle.vaultc_core.specs.Finishes.{Finishes};
+ghost use Rattle.vaultc_core.specs.View.{seen_command, seen_taken, seen_text};
+ghost use Rattle.vaultc_core.specs.Shown.{AreShort, IsJudged, is_accepted, shown_reply};
 
+use crate::c_runs::run_c;
 use crate::explain::explained;
-use crate::lines::{USAGE, laid_out, over_limit, refusal, unread, verdict};
-use crate::parts::{Part, part_of};
+use crate::files::{RunFiles, read_file, read_run_files};
+use crate::lines::{USAGE, laid_out, not_had, refusal, verdict};
 use crate::reply::Reply;
 use crate::runs::run_program;
-use crate::source::{FileError, read_file, read_tree};
-use crate::status::{NO_COMMAND, NO_MEMORY, NO_PROGRAM, NOT_ACCEPTED};
-use crate::words::{Command, read_command};
+use crate::source::read_tree;
+use crate::status::{NO_COMMAND, NO_MEMORY};
+use crate::words::{Command, Taken, TextCommand, read_command};
 use crate::write::{finish, finish_reply};
 use std::alloc::{AllocError, Global};
-use vlt_base::{Budgets, SOURCE_BYTES};
+use vlt_base::{Budgets, C_BYTES, SOURCE_BYTES};
+use vlt_calls_laws::accepted_programs_know_their_calls;
+use vlt_core::Program;
 use vlt_fit_laws::programs_are_fit;
 use vlt_io::{Sink, Store};
+use vlt_own_laws::kinded_programs_name_their_own;
+use vlt_sound::accepted_programs_go_right;
 use vlt_syntax::Tree;
 use vlt_verdict::{Verdict, judge};
 
@@ -73,91 +79,132 @@ fn reply_to_fmt(alloc: Global, bytes: &[u8]) -> Result<Reply, AllocError>
     }
 }
 
-/// Whether the verdict is that the program follows all rules.
-fn is_accepted(judged: &Verdict) -> bool
-    ensures { result ≡ is_accepted judged.now }
+/// The program, where the verdict is that it follows all rules.
+fn accepted(judged: &Verdict) -> Option<&Program>
+    ensures some { IfSome result (λ p. judged.now ≡ Accepted p.now) }
+    ensures none { IfNone result (is_accepted judged.now ≡ false) }
 {
-    matches!(judged, Verdict::Accepted(_))
-}
-
-/// Runs a program of the part of the language that runs, or says that it is none.
-fn run_part<K: Sink>(alloc: Global, part: &Part, budgets: Budgets, out: &mut K) -> u8
-    requires { IsRunnable part.now }
-    ensures { (t : p.Part) → Shows part.now t →
-        Finishes K.Sink (IsReplyToPart budgets t) out.old out.new result }
-{
-    match part {
-        Part::Accepted(program) => run_program(alloc, program, budgets, out),
-        Part::Outside => finish(out, NO_PROGRAM, b"kind\n"),
-        Part::Refused => finish(out, NOT_ACCEPTED, b"protocol\n"),
+    match judged {
+        Verdict::Accepted(program) => Some(program),
+        _ => None,
     }
 }
 
-/// Runs an accepted tree, where it is of the part of the language that runs.
-fn run_tree<K: Sink>(alloc: Global, tree: &Tree, budgets: Budgets, out: &mut K) -> u8
-    requires { length (spelling (tree_of tree.now)) < 2 ^ 32 }
-    ensures { Finishes K.Sink (IsReplyToRunOf budgets (tree_of tree.now)) out.old out.new result }
-{
-    match part_of(alloc, tree) {
-        Ok(part) => run_part(alloc, &part, budgets, out),
-        Err(AllocError) => NO_MEMORY,
-    }
-}
-
-/// Runs a tree that is accepted, or says of it what `check` says.
+/// Runs the program of a verdict, or says of it what `check` says.
 fn run_judged<K: Sink>(
     alloc: Global,
-    bytes: &[u8],
+    files: &RunFiles,
     tree: &Tree,
     judged: &Verdict,
     budgets: Budgets,
     out: &mut K,
 ) -> u8
-    requires size { length bytes.now < 2 ^ 32 - 1 }
-    requires reads { IsTextOf (tree_of tree.now) bytes.now }
-    requires few { length (spelling (tree_of tree.now)) < 2 ^ 32 }
+    requires short { AreShort SOURCE_BYTES files.now }
+    requires reads { IsTextOf (tree_of tree.now) files.now.text.items }
+    requires tree { IsTextTree (tree_of tree.now) }
     requires is { IsJudged (tree_of tree.now) judged.now }
     requires tellable { IsTellable judged.now }
-    ensures { (file : List ℕ) →
-        Finishes K.Sink (IsReplyToText (c.run file budgets) bytes.now) out.old out.new result }
+    ensures { Finishes K.Sink (IsReplyToRunText files.now.text.items
+        (given_by files.now.input.items files.now.answers.items) budgets)
+        out.old out.new result }
 {
-    if is_accepted(judged) {
-        return run_tree(alloc, tree, budgets, out);
+    programs_are_fit();
+    accepted_programs_go_right();
+    accepted_programs_know_their_calls();
+    kinded_programs_name_their_own();
+    match accepted(judged) {
+        Some(program) => run_program(alloc, program, files, budgets, out),
+        None => finish_reply(out, verdict(alloc, files.text.as_slice(), judged)),
     }
-    finish_reply(out, verdict(alloc, bytes, judged))
 }
 
-/// Runs the program of a text, or says of it what `check` says.
-fn run<K: Sink>(alloc: Global, bytes: &[u8], budgets: Budgets, out: &mut K) -> u8
-    requires { ¬ (IsTooLong bytes.now) }
-    ensures { (file : List ℕ) →
-        Finishes K.Sink (IsReplyToText (c.run file budgets) bytes.now) out.old out.new result }
+/// Runs the program of a text, or says of the text what `check` says.
+fn run_text<K: Sink>(alloc: Global, files: &RunFiles, budgets: Budgets, out: &mut K) -> u8
+    requires { AreShort SOURCE_BYTES files.now }
+    ensures { Finishes K.Sink (IsReplyToRunText files.now.text.items
+        (given_by files.now.input.items files.now.answers.items) budgets)
+        out.old out.new result }
 {
+    let bytes = files.text.as_slice();
     let tree = match read_tree(alloc, bytes) {
         Ok(tree) => tree,
         Err(error) => return finish_reply(out, refusal(alloc, bytes, error)),
     };
     match judge(alloc, &tree) {
-        Ok(judged) => run_judged(alloc, bytes, &tree, &judged, budgets, out),
+        Ok(judged) => run_judged(alloc, files, &tree, &judged, budgets, out),
         Err(AllocError) => NO_MEMORY,
     }
 }
 
-/// Carries out a command on the bytes of its file.
-fn reply_to_text<K: Sink>(alloc: Global, command: Command<'_>, bytes: &[u8], out: &mut K) -> u8
+/// Carries out a command on the bytes of its text.
+fn reply_to_text<K: Sink>(alloc: Global, command: TextCommand, bytes: &[u8], out: &mut K) -> u8
     requires { ¬ (IsTooLong bytes.now) }
-    ensures { Finishes K.Sink (IsReplyToText (seen_command command.entry) bytes.now)
+    ensures { (file : List ℕ) →
+        Finishes K.Sink (IsReplyToText (seen_text command file) bytes.now)
         out.old out.new result }
 {
     match command {
-        Command::Check(_) => finish_reply(out, reply_to_check(alloc, bytes)),
-        Command::Explain(_) => finish_reply(out, reply_to_explain(alloc, bytes)),
-        Command::Run(_, budgets) => run(alloc, bytes, budgets, out),
-        Command::Fmt(_) => finish_reply(out, reply_to_fmt(alloc, bytes)),
+        TextCommand::Check => finish_reply(out, reply_to_check(alloc, bytes)),
+        TextCommand::Explain => finish_reply(out, reply_to_explain(alloc, bytes)),
+        TextCommand::Fmt => finish_reply(out, reply_to_fmt(alloc, bytes)),
     }
 }
 
 /// Reads the file of a command, and carries the command out.
+fn reply_to_file<S: Store, K: Sink>(
+    alloc: Global,
+    command: TextCommand,
+    name: &str,
+    store: &mut S,
+    out: &mut K,
+) -> u8
+    ensures { Finishes K.Sink
+        (MayReply S.Store store.old store.new (Some (seen_text command name.now)))
+        out.old out.new result }
+{
+    match read_file(alloc, store, name, SOURCE_BYTES) {
+        Ok(bytes) => reply_to_text(alloc, command, bytes.as_slice(), out),
+        Err(error) => finish_reply(out, not_had(alloc, error)),
+    }
+}
+
+/// Reads the files of a run, and runs the program of the text.
+fn reply_to_run<S: Store, K: Sink>(
+    alloc: Global,
+    name: &str,
+    taken: Taken<'_>,
+    store: &mut S,
+    out: &mut K,
+) -> u8
+    ensures { Finishes K.Sink
+        (MayReply S.Store store.old store.new (Some (c.run name.now (seen_taken taken.entry))))
+        out.old out.new result }
+{
+    match read_run_files(alloc, store, name, SOURCE_BYTES, taken) {
+        Ok(files) => run_text(alloc, &files, taken.budgets, out),
+        Err(error) => finish_reply(out, not_had(alloc, error)),
+    }
+}
+
+/// Reads the files of a run of a C text, and runs it.
+fn reply_to_c<S: Store, K: Sink>(
+    alloc: Global,
+    name: &str,
+    taken: Taken<'_>,
+    store: &mut S,
+    out: &mut K,
+) -> u8
+    ensures { Finishes K.Sink
+        (MayReply S.Store store.old store.new (Some (c.crun name.now (seen_taken taken.entry))))
+        out.old out.new result }
+{
+    match read_run_files(alloc, store, name, C_BYTES, taken) {
+        Ok(files) => run_c(alloc, &files, taken.budgets, out),
+        Err(error) => finish_reply(out, not_had(alloc, error)),
+    }
+}
+
+/// Reads the files of a command, and carries the command out.
 fn reply_to_command<S: Store, K: Sink>(
     alloc: Global,
     command: Command<'_>,
@@ -168,12 +215,10 @@ fn reply_to_command<S: Store, K: Sink>(
         (MayReply S.Store store.old store.new (Some (seen_command command.entry)))
         out.old out.new result }
 {
-    let name = command.file();
-    match read_file(alloc, store, name) {
-        Ok(bytes) => reply_to_text(alloc, command, bytes.as_slice(), out),
-        Err(FileError::Unread) => finish_reply(out, unread(alloc, name)),
-        Err(FileError::TooLong) => finish_reply(out, over_limit(alloc, SOURCE_BYTES)),
-        Err(FileError::Memory) => NO_MEMORY,
+    match command {
+        Command::Text(command, name) => reply_to_file(alloc, command, name, store, out),
+        Command::Run(name, taken) => reply_to_run(alloc, name, taken, store, out),
+        Command::C(name, taken) => reply_to_c(alloc, name, taken, store, out),
     }
 }
 

@@ -13,14 +13,16 @@ ghost use Rattle.vaultc_core.specs.Lines as lines;
 ghost use Rattle.vaultc_core.specs.declared.status.TheConstants.{DONE, NO_COMMAND, UNREAD, SINK_FAILED, NO_MEMORY};
 ghost use Rattle.vaultc_core.specs.Texts.{AreReadInOneWay};
 ghost use Rattle.vaultc_core.specs.Verdicts.{IsProgramOf};
-ghost use Rattle.vaultc_core.specs.Replies.{HasOneReply, IsReplyTo, IsInside, IsOneRead, IsUnread, MayReply};
+ghost use Rattle.vaultc_core.specs.Replies.{AreOfC, HasOneReply, HasSomeReply, IsReplyTo, IsInside, IsUnread, MayReply};
+ghost use Rattle.vaultc_core.specs.Sources.{IsOneRead, text_in};
 ghost use Rattle.vaultc_core.specs.Finishes.{Finishes, WrotePart, WroteReply};
 ghost use Rattle.vaultc_core.specs.Promised.{IsPromised};
 
+mod c_runs;
 mod commands;
 mod explain;
+mod files;
 mod lines;
-mod parts;
 mod reply;
 mod runs;
 mod source;
@@ -33,14 +35,14 @@ use vlt_fit_laws::programs_are_fit;
 use vlt_io::{Sink, Store};
 use vlt_sound::accepted_programs_go_right;
 use vlt_ticks_laws::texts_have_ticks;
-use vlt_verdict::a_tree_has_one_verdict;
+use vlt_verdict::{a_tree_has_one_verdict, a_tree_has_some_verdict};
+use vlt_witness_laws::first_fault_has_witness;
 
 /// Carries out the command that the words are, and gives its status.
 ///
 /// It reads files from the store and writes all its lines to the sink.
 pub fn vaultc<S: Store, K: Sink>(alloc: Global, words: &[String], store: &mut S, out: &mut K) -> u8
-    // Whatever the store: the status and the text are a reply to the bytes that one read of the command's file gave, or tell
-    // that the file wasn't read.
+    // Whatever the store: the status and the text are a reply to what reading the command's files came to, one after another.
     ensures every_store { Finishes K.Sink
         (MayReply S.Store store.old store.new (command_of (map string_bytes words.now)))
         out.old out.new result }
@@ -50,7 +52,7 @@ pub fn vaultc<S: Store, K: Sink>(alloc: Global, words: &[String], store: &mut S,
     // `check` gives 0 only for bytes of a program that follows the rules, and no run of that one goes wrong.
     ensures promised { (file : List ℕ) →
         command_of (map string_bytes words.now) ≡ Some (commands.check file) → result ≡ DONE →
-        (bytes : List ℕ) × IsOneRead S.Store store.old store.new file bytes
+        (bytes : List ℕ) × IsOneRead S.Store store.old store.new (text_in file) bytes
         × IsPromised (S.files store.old) file bytes (K.written out.old) (K.written out.new) }
     // With the file there, its bytes those of an accepted program, and no fault, `check` gives 0 unless memory is wanting.
     ensures accepts { (files : Files) (file bytes : List ℕ) (p : Program) →
@@ -59,8 +61,15 @@ pub fn vaultc<S: Store, K: Sink>(alloc: Global, words: &[String], store: &mut S,
         IsProgramOf bytes p → IsAccepted p →
         ¬ (Rose (S.faults store.old) (S.faults store.new)) →
         ¬ (Rose (K.faults out.old) (K.faults out.new)) → (result ≡ DONE) ⊎ (result ≡ NO_MEMORY) }
-    // With the file there and no fault, the status is that of the reply, unless memory is wanting.
+    // With no fault, a reply to the store's files is written whole, unless memory is wanting.
+    ensures no_fault { (files : Files) → S.files store.old ≡ Some files →
+        ¬ (Rose (S.faults store.old) (S.faults store.new)) →
+        ¬ (Rose (K.faults out.old) (K.faults out.new)) →
+        WroteReply K.Sink (IsReplyTo (map string_bytes words.now) files) out.old out.new result
+        ⊎ (result ≡ NO_MEMORY) }
+    // With no fault, the status of a command but `crun` is that of the reply, unless memory is wanting.
     ensures complete { (files : Files) (r : lines.Reply) → S.files store.old ≡ Some files →
+        ¬ (AreOfC (command_of (map string_bytes words.now))) →
         IsReplyTo (map string_bytes words.now) files r →
         ¬ (Rose (S.faults store.old) (S.faults store.new)) →
         ¬ (Rose (K.faults out.old) (K.faults out.new)) → (result ≡ r.status) ⊎ (result ≡ NO_MEMORY) }
@@ -70,7 +79,7 @@ pub fn vaultc<S: Store, K: Sink>(alloc: Global, words: &[String], store: &mut S,
     ensures no_command { command_of (map string_bytes words.now) ≡ None →
         ((result ≡ NO_COMMAND) × Grew (K.written out.old) (K.written out.new) lines.usage)
         ⊎ ((result ≡ SINK_FAILED) × GrewByPart (K.written out.old) (K.written out.new) lines.usage) }
-    // The command's file wasn't read, and that is written.
+    // A file of the command wasn't read, and that is written.
     ensures unread { result ≡ UNREAD →
         (command : commands.Command) × (command_of (map string_bytes words.now) ≡ Some command)
         × WroteReply K.Sink (IsUnread S.Store store.old store.new command) out.old out.new UNREAD }
@@ -89,11 +98,22 @@ pub fn vaultc<S: Store, K: Sink>(alloc: Global, words: &[String], store: &mut S,
     commands::carry_out(alloc, words, store, out)
 }
 
-/// A command has one reply to the bytes of its file, but that `explain` may tell one path or another.
+/// A command but `crun` has one reply to what it read, but that `explain` may tell one path or another.
 pub fn a_command_has_one_reply()
     ensures { HasOneReply }
 {
     a_tree_has_one_verdict();
+    texts_have_ticks();
+}
+
+/// It can't be that a command but `crun` has no reply to what it read.
+pub fn a_command_has_some_reply()
+    ensures { HasSomeReply }
+{
+    a_tree_has_some_verdict();
+    programs_are_fit();
+    accepted_programs_go_right();
+    first_fault_has_witness();
     texts_have_ticks();
 }
 

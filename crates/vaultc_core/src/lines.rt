@@ -1,10 +1,11 @@
 //! The lines: a reply for each refusal, each verdict and each layout.
 
-ghost use Rattle.std.specs.Prelude.{◌≡◌, ◌<◌, ◌≤◌, ◌^◌, ◌-◌, length, IfOk, IfSome, Some, option_map};
+ghost use Rattle.std.specs.Prelude.{◌≡◌, ◌<◌, ◌≤◌, ◌^◌, ◌-◌, length, IfOk, IfSome, MatchOption, Some, option_map};
 ghost use Rattle.vlt_syntax.specs.View.{tree_of};
 ghost use Rattle.vlt_printer.specs.Layout.{layout};
+ghost use Rattle.vaultc_core.specs.declared.status.TheConstants.{OUT_OF_NUMBERS};
 ghost use Rattle.vaultc_core.specs.Lines as l;
-ghost use Rattle.vaultc_core.specs.Lines.{unread_reply, over_reply, place_reply};
+ghost use Rattle.vaultc_core.specs.Lines.{reply, over_reply, place_reply, numbers_reply, bad_answer_line};
 ghost use Rattle.vaultc_core.specs.Texts.{AreRefused, IsTooLong, refusal_reply};
 ghost use Rattle.vlt_core.specs.Core.{Func};
 ghost use Rattle.vlt_core.specs.View.{program_of};
@@ -12,11 +13,13 @@ ghost use Rattle.vlt_check.specs.Checks.{fault_of};
 ghost use Rattle.vlt_verdict.specs.Verdicts as v;
 ghost use Rattle.vlt_verdict.specs.Seen.{IsFaultyFunction, IsSeenAs, IsTellable};
 ghost use Rattle.vaultc_core.specs.Verdicts.{check_reply};
-ghost use Rattle.vaultc_core.specs.Shown.{refusal_of, shown_reply};
+ghost use Rattle.vaultc_core.specs.Shown.{IsNumbered, error_seen, refusal_of, shown_reply};
+ghost use Rattle.vaultc_core.specs.Replies.{IsReplyOver};
 
+use crate::files::FileError;
 use crate::reply::Reply;
 use crate::source::TextError;
-use crate::status::{DONE, NO_PROGRAM, NO_TEXT, NOT_ACCEPTED, OVER_LIMIT, UNREAD};
+use crate::status::{DONE, NO_PROGRAM, NO_TEXT, NOT_ACCEPTED, OUT_OF_NUMBERS, OVER_LIMIT, UNREAD};
 use std::alloc::{AllocError, Global};
 use vlt_base::{Memory, limit, place};
 use vlt_core::{FlowFault, Program};
@@ -29,17 +32,7 @@ use vlt_verdict::Verdict;
 
 /// What is written where the words are no command.
 pub const USAGE: &str =
-    "usage: vaultc check F | explain F | fmt F | emit F | verify F | load N | run F OPTIONS | crun F OPTIONS\n";
-
-/// The file of this name wasn't read.
-pub fn unread(alloc: Global, name: &str) -> Result<Reply, AllocError>
-    ensures { IfOk result (λ r. shown_reply r ≡ unread_reply name.now) }
-{
-    Ok(Reply {
-        status: UNREAD,
-        text: format!(in alloc; "read {name}\n")?.into_bytes(),
-    })
-}
+    "usage: vaultc check F | explain F | fmt F | run F OPTIONS | crun F OPTIONS\n";
 
 /// There is more of something than the limit of this number allows.
 pub fn over_limit(alloc: Global, number: u8) -> Result<Reply, AllocError>
@@ -54,8 +47,24 @@ pub fn over_limit(alloc: Global, number: u8) -> Result<Reply, AllocError>
     })
 }
 
+/// The bytes of files aren't had, for this reason.
+pub fn not_had(alloc: Global, error: FileError<'_>) -> Result<Reply, AllocError>
+    requires { IsNumbered error }
+    ensures { IfOk result (λ r. MatchOption (error_seen error.entry) ⊥ (λ x.
+        IsReplyOver (λ _ _. ⊥) x (shown_reply r))) }
+{
+    match error {
+        FileError::Unread(name) => Ok(Reply {
+            status: UNREAD,
+            text: format!(in alloc; "read {name}\n")?.into_bytes(),
+        }),
+        FileError::TooLong(number) => over_limit(alloc, number),
+        FileError::Memory => Err(AllocError),
+    }
+}
+
 /// Something is wrong with a text at a byte.
-fn wrong_at(alloc: Global, what: &str, text: &[u8], at: u32) -> Result<Reply, AllocError>
+pub fn wrong_at(alloc: Global, what: &str, text: &[u8], at: u32) -> Result<Reply, AllocError>
     requires size { length text.now < 2 ^ 32 - 1 }
     requires within { at ≤ length text.now }
     ensures { IfOk result (λ r. shown_reply r ≡ place_reply what.now text.now at) }
@@ -64,6 +73,27 @@ fn wrong_at(alloc: Global, what: &str, text: &[u8], at: u32) -> Result<Reply, Al
     Ok(Reply {
         status: NO_TEXT,
         text: format!(in alloc; "text {what} {line}:{column}\n")?.into_bytes(),
+    })
+}
+
+/// A line of a file isn't of numbers.
+pub fn bad_numbers(alloc: Global, what: &str, line: u32) -> Result<Reply, AllocError>
+    ensures { IfOk result (λ r. shown_reply r ≡ numbers_reply what.now line) }
+{
+    Ok(Reply {
+        status: NO_TEXT,
+        text: format!(in alloc; "text {what} {line}\n")?.into_bytes(),
+    })
+}
+
+/// The answer at a position was none that may be.
+pub fn bad_answer(alloc: Global, position: u32) -> Result<Reply, AllocError>
+    ensures { IfOk result (λ r.
+        shown_reply r ≡ reply OUT_OF_NUMBERS (bad_answer_line position)) }
+{
+    Ok(Reply {
+        status: OUT_OF_NUMBERS,
+        text: format!(in alloc; "answer {position} bad\n")?.into_bytes(),
     })
 }
 

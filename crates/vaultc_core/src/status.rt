@@ -32,3 +32,9 @@ pub const TRAPPED: u8 = 9;
 
 /// The run used up a budget.
 pub const OUT_OF_BUDGET: u8 = 10;
+
+/// The run wanted a number or an answer that there was none of, or an answer was none that may be.
+pub const OUT_OF_NUMBERS: u8 = 11;
+
+/// The run of a C text has no meaning from some statement on.
+pub const UNDEFINED: u8 = 13;

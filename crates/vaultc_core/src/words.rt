@@ -1,10 +1,10 @@
 //! From words to a command.
 
-ghost use Rattle.std.specs.Prelude.{◌≡◌, ◌≤◌, ◌<◌, ◌+◌, length, slice_get, MatchOption, IfSome, IfNone, None, Some, drop, map, string_bytes, option_map};
+ghost use Rattle.std.specs.Prelude.{◌≡◌, ◌≤◌, length, IfSome, None, Some, map, string_bytes, option_map};
 ghost use Rattle.std.specs.List.{list_all};
 ghost use Rattle.std.specs.Char.{is_ascii_digit};
-ghost use Rattle.vaultc_core.specs.Commands.{command_of, file_of, is_file_word, number_within, setting_of, with_setting, settings_of, nothing_set, budgets_of, without_options};
-ghost use Rattle.vaultc_core.specs.View.{seen_command};
+ghost use Rattle.vaultc_core.specs.Commands.{command_of, is_file_word, file_word, number_within, setting_of, with_setting, settings_of, nothing_set, taken_by, without_options};
+ghost use Rattle.vaultc_core.specs.View.{seen_command, seen_text, seen_setting, seen_settings, seen_taken};
 
 use vlt_base::Budgets;
 
@@ -19,43 +19,52 @@ pub const DEFAULT_HEAP: u32 = 65_536;
 
 pub const DEFAULT_DEPTH: u32 = 1_000;
 
+/// What a run takes: budgets, and the names of its files of numbers.
+#[derive(Clone, Copy, Debug)]
+pub struct Taken<'a> {
+    pub budgets: Budgets,
+    pub input: Option<&'a str>,
+    pub answers: Option<&'a str>,
+}
+
+/// What is done with a text alone.
+#[derive(Clone, Copy, Debug)]
+pub enum TextCommand {
+    Check,
+    Explain,
+    Fmt,
+}
+
 /// A command with its file.
 #[derive(Clone, Copy, Debug)]
 pub enum Command<'a> {
-    Check(&'a str),
-    Explain(&'a str),
-    Run(&'a str, Budgets),
-    Fmt(&'a str),
-}
-
-impl<'a> Command<'a> {
-    /// The file that it reads.
-    pub fn file(self) -> &'a str
-        ensures { result.now ≡ file_of (seen_command self.entry) }
-    {
-        match self {
-            Command::Check(file) => file,
-            Command::Explain(file) => file,
-            Command::Run(file, _) => file,
-            Command::Fmt(file) => file,
-        }
-    }
+    Text(TextCommand, &'a str),
+    /// Runs the program of a text.
+    Run(&'a str, Taken<'a>),
+    /// Runs a C text.
+    C(&'a str, Taken<'a>),
 }
 
 /// An option with its value.
 #[derive(Clone, Copy, Debug)]
-enum Setting {
+enum Setting<'a> {
     Fuel(u64),
     Heap(u32),
     Depth(u32),
+    /// The file of input numbers.
+    Input(&'a str),
+    /// The file of answers.
+    Answers(&'a str),
 }
 
 /// What options have set.
 #[derive(Clone, Copy, Debug)]
-struct Settings {
+struct Settings<'a> {
     fuel: Option<u64>,
     heap: Option<u32>,
     depth: Option<u32>,
+    input: Option<&'a str>,
+    answers: Option<&'a str>,
 }
 
 /// Whether a word may name a file: it isn't empty and doesn't begin with `-`.
@@ -63,6 +72,13 @@ fn is_file(word: &str) -> bool
     ensures { result ≡ is_file_word word.now }
 {
     !word.is_empty() && !word.starts_with('-')
+}
+
+/// A word that may name a file.
+fn read_name(word: &str) -> Option<&str>
+    ensures { option_map (λ f. f.now) result ≡ file_word word.now }
+{
+    if is_file(word) { Some(word) } else { None }
 }
 
 fn is_all_digits(word: &str) -> bool
@@ -90,8 +106,8 @@ fn read_number(word: &str, low: u64, high: u64) -> Option<u64>
 }
 
 /// The option of this name with this value, if there is one.
-fn read_setting(option: &str, value: &str) -> Option<Setting>
-    ensures { result ≡ setting_of option.now value.now }
+fn read_setting<'a>(option: &str, value: &'a str) -> Option<Setting<'a>>
+    ensures { option_map seen_setting result ≡ setting_of option.now value.now }
 {
     match option {
         "--fuel" => {
@@ -106,14 +122,23 @@ fn read_setting(option: &str, value: &str) -> Option<Setting>
             let depth = read_number(value, 1, u64::from(MOST_DEPTH))?;
             Some(Setting::Depth(depth as u32))
         }
+        "--input" => {
+            let file = read_name(value)?;
+            Some(Setting::Input(file))
+        }
+        "--answers" => {
+            let file = read_name(value)?;
+            Some(Setting::Answers(file))
+        }
         _ => None,
     }
 }
 
-impl Settings {
+impl<'a> Settings<'a> {
     /// These with one more, where it wasn't set before.
-    fn with(self, setting: Setting) -> Option<Settings>
-        ensures { result ≡ with_setting self setting }
+    fn with(self, setting: Setting<'a>) -> Option<Settings<'a>>
+        ensures { option_map seen_settings result
+            ≡ with_setting (seen_settings self.entry) (seen_setting setting.entry) }
     {
         match setting {
             Setting::Fuel(fuel) if self.fuel.is_none() => Some(Settings {
@@ -128,64 +153,76 @@ impl Settings {
                 depth: Some(depth),
                 ..self
             }),
+            Setting::Input(file) if self.input.is_none() => Some(Settings {
+                input: Some(file),
+                ..self
+            }),
+            Setting::Answers(file) if self.answers.is_none() => Some(Settings {
+                answers: Some(file),
+                ..self
+            }),
             _ => None,
         }
     }
 
-    /// The budgets of a run: what isn't set has its default.
-    fn budgets(self) -> Budgets
-        ensures { result ≡ budgets_of self }
+    /// What a run takes: a budget that isn't set has its default.
+    fn taken(self) -> Taken<'a>
+        ensures { seen_taken result ≡ taken_by (seen_settings self.entry) }
     {
-        Budgets {
-            fuel: self.fuel.unwrap_or(DEFAULT_FUEL),
-            heap: self.heap.unwrap_or(DEFAULT_HEAP),
-            depth: self.depth.unwrap_or(DEFAULT_DEPTH),
+        Taken {
+            budgets: Budgets {
+                fuel: self.fuel.unwrap_or(DEFAULT_FUEL),
+                heap: self.heap.unwrap_or(DEFAULT_HEAP),
+                depth: self.depth.unwrap_or(DEFAULT_DEPTH),
+            },
+            input: self.input,
+            answers: self.answers,
         }
     }
 }
 
-/// The option at a position and its value, the word behind it.
-fn option_at(words: &[String], at: usize) -> Option<(&str, &str)>
-    requires { at < length words.now }
-    ensures none { IfNone result (length words.now ≤ at + 1) }
-    ensures option { IfSome result (λ x. slice_get (map string_bytes words.now) at
-        ≡ Some x.0.now) }
-    ensures value { IfSome result (λ x. slice_get (map string_bytes words.now) (at + 1)
-        ≡ Some x.1.now) }
+/// These, and what pairs of options and values set besides, each option at most once, in any order.
+fn read_more<'a>(words: &'a [String], settings: Settings<'a>) -> Option<Settings<'a>>
+    ensures { option_map seen_settings result
+        ≡ settings_of (map string_bytes words.now) (seen_settings settings.entry) }
 {
-    if at + 1 < words.len() {
-        Some((words[at].as_str(), words[at + 1].as_str()))
-    } else {
-        None
+    match words {
+        [] => Some(settings),
+        [option, value, rest @ ..] => {
+            let setting = read_setting(option.as_str(), value.as_str())?;
+            let settings = settings.with(setting)?;
+            read_more(rest, settings)
+        }
+        _ => None,
     }
 }
 
-/// What pairs of options and values set, each option at most once, in any order.
-fn read_settings(words: &[String]) -> Option<Settings>
-    ensures { result ≡ settings_of (map string_bytes words.now) nothing_set }
+/// What pairs of options and values set.
+fn read_settings(words: &[String]) -> Option<Settings<'_>>
+    ensures { option_map seen_settings result
+        ≡ settings_of (map string_bytes words.now) nothing_set }
 {
-    let mut settings = Settings {
+    let nothing = Settings {
         fuel: None,
         heap: None,
         depth: None,
+        input: None,
+        answers: None,
     };
-    let mut at = 0;
-    while at < words.len() {
-        let (option, value) = option_at(words, at)?;
-        let setting = read_setting(option, value)?;
-        settings = settings.with(setting)?;
-        at += 2;
-    }
-    Some(settings)
+    read_more(words, nothing)
 }
 
 /// A command that takes no options.
-fn without_options<'a>(command: Command<'a>, options: &[String]) -> Option<Command<'a>>
+fn without_options<'a>(
+    command: TextCommand,
+    file: &'a str,
+    options: &[String],
+) -> Option<Command<'a>>
     ensures { option_map seen_command result
-        ≡ without_options (seen_command command.entry) (map string_bytes options.now) }
+        ≡ without_options (seen_text command file.now) (map string_bytes options.now) }
 {
     if options.is_empty() {
-        Some(command)
+        Some(Command::Text(command, file))
     } else {
         None
     }
@@ -202,12 +239,16 @@ pub fn read_command(words: &[String]) -> Option<Command<'_>>
         return None;
     }
     match command.as_str() {
-        "check" => without_options(Command::Check(file.as_str()), options),
-        "explain" => without_options(Command::Explain(file.as_str()), options),
-        "fmt" => without_options(Command::Fmt(file.as_str()), options),
+        "check" => without_options(TextCommand::Check, file.as_str(), options),
+        "explain" => without_options(TextCommand::Explain, file.as_str(), options),
+        "fmt" => without_options(TextCommand::Fmt, file.as_str(), options),
         "run" => {
             let settings = read_settings(options)?;
-            Some(Command::Run(file.as_str(), settings.budgets()))
+            Some(Command::Run(file.as_str(), settings.taken()))
+        }
+        "crun" => {
+            let settings = read_settings(options)?;
+            Some(Command::C(file.as_str(), settings.taken()))
         }
         _ => None,
     }

@@ -3,8 +3,7 @@
 use crate::outside::{Outside, SOUND, reply};
 use std::test::Fail;
 
-const USAGE: &str =
-    "usage: vaultc check F | explain F | fmt F | emit F | verify F | load N | run F OPTIONS | crun F OPTIONS\n";
+const USAGE: &str = "usage: vaultc check F | explain F | fmt F | run F OPTIONS | crun F OPTIONS\n";
 
 const POINT: &str = "struct point { int x; int y; }
 void main() {
@@ -163,7 +162,7 @@ fn a_file_may_be_of_full_size(rt: HostRuntime) -> Result<(), Fail> {
 
 #[test]
 fn other_words_are_refused(rt: HostRuntime) -> Result<(), Fail> {
-    let cases: [&[&str]; 27] = [
+    let cases: [&[&str]; 38] = [
         &["run"],
         &["run", "-a.v"],
         &["run", "a.v", "--heap"],
@@ -176,6 +175,17 @@ fn other_words_are_refused(rt: HostRuntime) -> Result<(), Fail> {
         &["run", "a.v", "--fuel", "+1"],
         &["run", "a.v", "--fuel", ""],
         &["run", "a.v", "--speed", "1"],
+        &["run", "a.v", "--input", "b.v"],
+        &["run", "a.v", "--answers", "b.v"],
+        &["crun"],
+        &["crun", "-a.v"],
+        &["crun", "a.v", "--input"],
+        &["crun", "a.v", "--input", ""],
+        &["crun", "a.v", "--input", "-b.v"],
+        &["crun", "a.v", "--input", "b.v", "--input", "b.v"],
+        &["crun", "a.v", "--answers", "b.v", "--answers", "b.v"],
+        &["crun", "a.v", "--answers", "b.v", "--heap", "16777217"],
+        &["crun", "a.v", "b.v"],
         &["check", "a.v", "--fuel", "1"],
         &[],
         &["check"],
@@ -365,7 +375,7 @@ const RUNS: [(&str, &[&str], u8, &str); 20] = [
         "protocol 6:5 K found absent wanted held\n",
     ),
     ("", RUN, 7, "kind 1 1:1\n"),
-    ("void main() { print(1 + 2 + 3); }", RUN, 7, "kind\n"),
+    ("void main() { print(1 + 2 + 3); }", RUN, 0, "6\n"),
     ("void", RUN, 6, "text end\n"),
     (
         KEPT,

@@ -1,6 +1,6 @@
 //! The examples of the repository, with what the commands write of them: the table of `examples/README.md`.
 
-use crate::outside::{SOUND, reply};
+use crate::outside::{SOUND, reply, reply_over};
 use std::test::Fail;
 
 const COUNTERS: &str = "struct counters {
@@ -176,6 +176,10 @@ void main() {
     release p;
 }
 ";
+
+/// The text of point.c.
+const POINT_IN_C: &str =
+    "#include \"vault_rt.h\"\n#define VR_MAIN f0\nvoid f0 ( void ) ;\nvoid f0 ( void ) {\nlong long n0 ;\nlong long n1 ;\nvr_ref p0 ;\np0 = vr_new ( 2 , 0 ) ;\np0 -> n [ 0 ] = 4 ;\np0 -> n [ 1 ] = 2 ;\nn0 = p0 -> n [ 0 ] ;\nn1 = p0 -> n [ 1 ] ;\nn0 = ( n0 + n1 ) ;\nvr_print ( n0 ) ;\nvr_release ( p0 ) ;\nreturn ;\n}\n";
 
 const POOL: &str = "stateset use { free, busy }
 struct pool {
@@ -420,6 +424,18 @@ void main() {
 }
 ";
 
+const TOTAL: &str = "void main() {
+    int total = 0;
+    bool left = more();
+    while (left) {
+        int n = input();
+        total = total + n;
+        left = more();
+    }
+    print(total);
+}
+";
+
 const UNFINISHED: &str = "struct point {
     int x;
     int y;
@@ -441,10 +457,50 @@ void main() {
 }
 ";
 
+/// Files with a file of numbers, the words, the status and what is written.
+const RUNS: [(&str, &[u8], &[&str], u8, &str); 5] = [
+    (
+        TOTAL,
+        b"3 -4\n10\n",
+        &["run", "a.v", "--input", "n"],
+        0,
+        "9\n",
+    ),
+    (
+        SOCKETS,
+        b"\n0\n\n1\n2\n3\n\n",
+        &["run", "a.v", "--answers", "n"],
+        0,
+        "@socket\n@bind #1 8080\n@listen #1 8\n@accept #1\n1\n@accept #1\n2\n@accept #1\n3\n@close #1\n",
+    ),
+    (
+        SOCKETS,
+        b"\n1 98\n\n",
+        &["run", "a.v", "--answers", "n"],
+        0,
+        "@socket\n@bind #1 8080\n-98\n@close #1\n",
+    ),
+    (
+        SOCKETS,
+        b"\n0\n\n1\n2\n3\n\n",
+        &["run", "a.v", "--answers", "n", "--fuel", "4"],
+        10,
+        "@socket\n@bind #1 8080\n@listen #1 8\nbudget fuel\n",
+    ),
+    (
+        PACKET,
+        b"0\n",
+        &["run", "a.v", "--answers", "n"],
+        0,
+        "@transfer 7\n0\n",
+    ),
+];
+
 /// Files with the words behind the name, the status and what is written.
-const EXAMPLES: [(&str, &[&str], u8, &str); 25] = [
+const EXAMPLES: [(&str, &[&str], u8, &str); 30] = [
     (POINT, &["check", "a.v"], 0, "accepted 1\n"),
     (POINT, &["run", "a.v"], 0, "6\n"),
+    (POINT_IN_C, &["crun", "a.v"], 0, "6\n"),
     (COUNTERS, &["run", "a.v"], 0, "135\n1500\n"),
     (
         COUNTERS,
@@ -536,7 +592,11 @@ const EXAMPLES: [(&str, &[&str], u8, &str); 25] = [
         8,
         "protocol 16:5 B found held@busy wanted held@free\n",
     ),
-    (POOL, &["run", "a.v"], 7, "kind\n"),
+    (POOL, &["run", "a.v"], 0, "1\n2\n3\n1024\n64\n"),
+    (LOCK, &["run", "a.v"], 0, "380\n"),
+    (REGION, &["run", "a.v"], 0, "30\n"),
+    (REGION, &["run", "a.v", "--heap", "3"], 10, "budget heap\n"),
+    (TOTAL, &["check", "a.v"], 0, "accepted 1\n"),
     (UNFINISHED, &["fmt", "a.v"], 6, "text token 6:47\n"),
 ];
 
@@ -544,6 +604,17 @@ const EXAMPLES: [(&str, &[&str], u8, &str); 25] = [
 fn examples_do_what_is_said(rt: HostRuntime) -> Result<(), Fail> {
     for (file, words, status, text) in EXAMPLES {
         let (found, written) = reply(rt.alloc(), SOUND, file.as_bytes(), words)?;
+        assert_eq!(rt; found, status, "{file}");
+        assert_eq!(rt; written.as_slice(), text.as_bytes(), "{file}");
+    }
+    Ok(())
+}
+
+#[test]
+fn examples_are_run_over_numbers(rt: HostRuntime) -> Result<(), Fail> {
+    for (file, numbers, words, status, text) in RUNS {
+        let files: [(&str, &[u8]); 2] = [("a.v", file.as_bytes()), ("n", numbers)];
+        let (found, written) = reply_over(rt.alloc(), SOUND, &files, words)?;
         assert_eq!(rt; found, status, "{file}");
         assert_eq!(rt; written.as_slice(), text.as_bytes(), "{file}");
     }
@@ -570,6 +641,7 @@ fn examples_are_laid_out(rt: HostRuntime) -> Result<(), Fail> {
         RELEASED_TWICE,
         SOCKETS,
         SOCKETS_UNBOUND,
+        TOTAL,
         USED_AFTER_RELEASE,
     ] {
         let (found, written) = reply(rt.alloc(), SOUND, file.as_bytes(), &["fmt", "a.v"])?;

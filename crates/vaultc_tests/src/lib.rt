@@ -4,6 +4,8 @@
 #![tactic(auto)]
 
 #[cfg(test)]
+mod c_runs;
+#[cfg(test)]
 mod commands;
 #[cfg(test)]
 mod examples;
@@ -19,5 +21,7 @@ mod outside;
 mod refusals;
 #[cfg(test)]
 mod rules;
+#[cfg(test)]
+mod runs;
 #[cfg(test)]
 mod sizes;

@@ -1,4 +1,4 @@
-//! The commands over one file in memory.
+//! The commands over files in memory.
 
 use std::alloc::Global;
 use std::test::Fail;
@@ -20,15 +20,17 @@ pub const SOUND: Outside = Outside {
     room: 131_072,
 };
 
-/// The status and the bytes written, where the one file `a.v` holds these bytes.
-pub fn reply(
+/// The status and the bytes written, where these files hold these bytes.
+pub fn reply_over(
     alloc: Global,
     outside: Outside,
-    file: &[u8],
+    files: &[(&str, &[u8])],
     words: &[&str],
 ) -> Result<(u8, Vec<u8>), Fail> {
     let mut store = MemStore::new(alloc, &[outside.failing_read]).map_err(|_| "memory")?;
-    store.add("a.v", file).map_err(|_| "memory")?;
+    for (name, bytes) in files {
+        store.add(name, bytes).map_err(|_| "memory")?;
+    }
     let mut sink = MemSink::new(alloc, outside.room, &[outside.failing_write]).map_err(
         |_| "memory",
     )?;
@@ -38,4 +40,14 @@ pub fn reply(
     }
     let status = vaultc(alloc, owned.as_slice(), &mut store, &mut sink);
     Ok((status, Vec::from_slice(alloc, sink.bytes())?))
+}
+
+/// The same, where the one file `a.v` holds these bytes.
+pub fn reply(
+    alloc: Global,
+    outside: Outside,
+    file: &[u8],
+    words: &[&str],
+) -> Result<(u8, Vec<u8>), Fail> {
+    reply_over(alloc, outside, &[("a.v", file)], words)
 }

@@ -99,8 +99,7 @@ const LARGE: [(&str, &[&str], u8, &str); 16] = [
     ),
 ];
 
-const USAGE: &str =
-    "usage: vaultc check F | explain F | fmt F | emit F | verify F | load N | run F OPTIONS | crun F OPTIONS\n";
+const USAGE: &str = "usage: vaultc check F | explain F | fmt F | run F OPTIONS | crun F OPTIONS\n";
 
 #[test]
 fn large_texts_have_every_status(rt: HostRuntime) -> Result<(), Fail> {
@@ -147,9 +146,10 @@ fn push_times(text: &mut Vec<u8>, piece: &str, count: usize) -> Result<(), Alloc
 
 /// How many blocks are opened in each other, what stands in the last, how many are closed, and words with a status and what is
 /// written.
-const DEEP: [(usize, &str, usize, &[&str], u8, &str); 13] = [
+const DEEP: [(usize, &str, usize, &[&str], u8, &str); 14] = [
     (60, "", 60, CHECK, 0, "accepted 1\n"),
-    (60, "", 60, RUN, 7, "kind\n"),
+    (60, "", 60, RUN, 0, ""),
+    (60, "print(7);", 60, RUN, 0, "7\n"),
     (60, "x = 1;", 60, CHECK, 7, "kind 27 1:85\n"),
     (60, "x = 1;", 60, RUN, 7, "kind 27 1:85\n"),
     (60, "", 60, EXPLAIN, 0, "accepted 1\n"),

@@ -2,7 +2,7 @@ use Rattle.std.proofs.Common.{map}
 use Rattle.std.specs.Prelude.{string_bytes}
 use Rattle.vaultc_core.specs.Commands.{command_of}
 use Rattle.vaultc_core.proofs.Promises.{GoRight, promised, accepts}
-use Rattle.vaultc_core.proofs.Told.{told, memory, complete}
+use Rattle.vaultc_core.proofs.Told.{told, memory, complete, no_fault, usage, unread_told}
 use Rattle.vaultc_core.proofs.vaultc.Goals as goal
 
 pub returns-clause-told : goal.returns-clause-told
@@ -30,3 +30,15 @@ pub returns-clause-accepts : goal.returns-clause-accepts
 returns-clause-accepts g c =
     accepts (record { one = c.a_tree_has_one_verdict.ensures; ticks = c.texts_have_ticks.ensures }) g.S.Store g.K.Sink c.args.store.now c.carry_out.new.store c.args.out.now c.carry_out.new.out
     (command_of (map string_bytes c.args.words.now)) c.carry_out.result c.carry_out.ensures.finishes
+
+pub returns-clause-no_fault : goal.returns-clause-no_fault
+returns-clause-no_fault g c = λ files.
+    no_fault g.S.Store g.K.Sink c.args.store.now c.carry_out.new.store c.args.out.now c.carry_out.new.out (command_of (map string_bytes c.args.words.now)) c.carry_out.result files c.carry_out.ensures.finishes
+
+pub returns-clause-usage : goal.returns-clause-usage
+returns-clause-usage g c =
+    usage g.S.Store g.K.Sink c.args.store.now c.carry_out.new.store c.args.out.now c.carry_out.new.out (command_of (map string_bytes c.args.words.now)) c.carry_out.result c.carry_out.ensures.finishes
+
+pub returns-clause-unread : goal.returns-clause-unread
+returns-clause-unread g c =
+    unread_told g.S.Store g.K.Sink c.args.store.now c.carry_out.new.store c.args.out.now c.carry_out.new.out (command_of (map string_bytes c.args.words.now)) c.carry_out.result c.carry_out.ensures.finishes

@@ -2,7 +2,7 @@ use Rattle.std.proofs.Common.{◌≡◌, ◌<◌, true, length, rules, arith}
 use Rattle.std.proofs.lemmas.Grind.{common_steps}
 use Rattle.std.specs.List.{list_all}
 use Rattle.std.specs.Char.{is_ascii_digit}
-use Rattle.vaultc_core.proofs.Settings.{number_unread}
+use Rattle.vaultc_core.proofs.Numbers.{number_unread}
 use Rattle.vaultc_core.proofs.words.read_number.Goals as goal
 
 pub returns-in_default-clause-value : goal.returns-in_default-clause-value

@@ -1,4 +1,0 @@
-pub mod States
-pub mod Passing
-pub mod Deriving
-pub mod Accepting

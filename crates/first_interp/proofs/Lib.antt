@@ -1,9 +1,0 @@
-pub mod Values
-pub mod Cuts
-pub mod Tasks
-pub mod Telling
-pub mod Found
-pub mod Erased
-pub mod Steps
-pub mod Runs
-pub mod Sample

@@ -1,4 +1,0 @@
-pub mod Files
-pub mod View
-pub mod Refusals
-pub mod Scopes

@@ -1,0 +1,289 @@
+-- What is written of the run of a C text: its events, and the last line of its end.
+use Rattle.std.proofs.Common.{◌≡◌, ◌⊎◌, inl, inr, ℕ, ◌≤◌, List, [], ◌++◌, Option, Some, None, refl, sym, ap, subst, arith}
+use Rattle.std.specs.Prelude.{◌≢◌, codes, MatchOption, IfSome, IfOk, Result, Err}
+use Rattle.std.specs.declared.alloc.AllocError.{AllocError}
+use Rattle.vlt_base.specs.declared.Budgets.{Budgets}
+use Rattle.vlt_io.specs.Outside.{Rose, Grew, GrewByPart}
+use Rattle.vlt_io.specs.declared.sink.Sink.{Ghosts}
+use Rattle.c_interp.specs.Halting.{outcome_of, IsTold}
+use Rattle.c_interp.specs.declared.stop.CStop.{CStop}
+use Rattle.c_interp.specs.declared.stop.CStop.TheVariants as halted
+use Rattle.c_meaning.specs.Run.{c_run}
+use Rattle.c_meaning.specs.World as model
+use Rattle.c_meaning.specs.World.{Outcome, Ran, event_text}
+use Rattle.c_primitives.specs.Shown.{Outside}
+use Rattle.c_reader.specs.Reads.{IsReadAs, RefusalsAreInTheText}
+use Rattle.c_reader.specs.declared.error.CError.{CError}
+use Rattle.c_reader.specs.declared.error.CError.TheVariants as error
+use Rattle.c_run.specs.Ends.{IsUntouched, IsUnread, StopsAs, EndsAs}
+use Rattle.c_run.specs.declared.end.CEnd.{CEnd}
+use Rattle.c_run.specs.declared.end.CEnd.TheVariants.{Unread, BadInput, BadAnswers, TooWide, Stopped, Memory}
+use Rattle.vaultc_core.specs.declared.status.TheConstants.{DONE, UNREAD, SINK_FAILED, NO_MEMORY, TRAPPED, OUT_OF_BUDGET, OUT_OF_NUMBERS, UNDEFINED}
+use Rattle.vaultc_core.specs.declared.reply.Reply.{Reply as Shown}
+use Rattle.vaultc_core.specs.CRuns.{c_refusal, undefined_line, stop_reply, end_reply, took, IsReplyToC}
+use Rattle.vaultc_core.specs.Finishes.{Finishes}
+use Rattle.vaultc_core.specs.Lines.{Reply, reply, trap_line, bad_answer_line, behind}
+use Rattle.vaultc_core.specs.Shown.{IsReasonOf, IsTellableEnd, EndsC, IsReplyOf, shown_reply}
+use Rattle.vaultc_core.proofs.Ended.{Says, cut_off, came_to_end}
+use Rattle.vaultc_core.proofs.Finished.{grew_none, finishes_as, reply_is}
+use Rattle.vaultc_core.proofs.Own.{own_c_end}
+
+some_none : (r : Reply) → Some r ≡ None → ⊥
+some_none r e = cc
+
+none_some : (r : Reply) → None ≡ Some r → ⊥
+none_some r e = cc
+
+no_outcome : (o : Outcome) → None ≡ Some o → ⊥
+no_outcome o e = cc
+
+-- ---- stops and outcomes
+
+-- a stop with a last line is that of an outcome
+outcome_there : (s : CStop) (last : Reply) → stop_reply s ≡ Some last → (o : Outcome) × (outcome_of s ≡ Some o)
+outcome_there halted.Done last e = (model.done, refl)
+outcome_there (halted.Trap t) last e = (model.trap t, refl)
+outcome_there halted.FuelEnd last e = (model.fuel_end, refl)
+outcome_there halted.HeapEnd last e = (model.heap_end, refl)
+outcome_there halted.DepthEnd last e = (model.depth_end, refl)
+outcome_there halted.InputEnd last e = (model.input_end, refl)
+outcome_there halted.AnswersEnd last e = (model.answers_end, refl)
+outcome_there (halted.BadAnswer n) last e = (model.bad_answer n, refl)
+outcome_there halted.SinkFault last e = absurd (none_some last e)
+outcome_there (halted.Undefined rule n) last e = (model.undefined rule n, refl)
+
+-- each outcome has a stop with a last line
+record StopFor (o : Outcome) : Type 0 where
+  stop : CStop
+  last : Reply
+  outcome : outcome_of stop ≡ Some o
+  line : stop_reply stop ≡ Some last
+
+stop_for : (o : Outcome) → StopFor o
+stop_for model.done = record { stop = halted.Done; last = reply DONE []; outcome = refl; line = refl }
+stop_for (model.trap t) = record { stop = halted.Trap t; last = reply TRAPPED (trap_line t); outcome = refl; line = refl }
+stop_for model.fuel_end = record { stop = halted.FuelEnd; last = reply OUT_OF_BUDGET (codes "budget fuel\n"); outcome = refl; line = refl }
+stop_for model.heap_end = record { stop = halted.HeapEnd; last = reply OUT_OF_BUDGET (codes "budget heap\n"); outcome = refl; line = refl }
+stop_for model.depth_end = record { stop = halted.DepthEnd; last = reply OUT_OF_BUDGET (codes "budget depth\n"); outcome = refl; line = refl }
+stop_for model.input_end = record { stop = halted.InputEnd; last = reply OUT_OF_NUMBERS (codes "input ended\n"); outcome = refl; line = refl }
+stop_for model.answers_end = record { stop = halted.AnswersEnd; last = reply OUT_OF_NUMBERS (codes "answers ended\n"); outcome = refl; line = refl }
+stop_for (model.bad_answer n) = record { stop = halted.BadAnswer n; last = reply OUT_OF_NUMBERS (bad_answer_line n); outcome = refl; line = refl }
+stop_for (model.undefined rule n) = record { stop = halted.Undefined rule n; last = reply UNDEFINED (undefined_line rule n); outcome = refl; line = refl }
+
+is_cut : (s : CStop) (o : Outcome) → outcome_of s ≡ Some o → s ≡ halted.SinkFault → ⊥
+is_cut s o e same = no_outcome o (subst (λ x. outcome_of x ≡ Some o) same e)
+
+-- the run's outcome, over a sink that takes all
+stops_whole : (ran : Ran) (s : CStop) → outcome_of s ≡ Some ran.outcome → StopsAs ran (took []) (took (event_text ran.world.events)) s
+stops_whole ran s e = record {
+  outcome = subst (λ x. IfSome x (λ o. o ≡ ran.outcome)) (sym e) refl;
+  told = subst (λ x. IsTold x (event_text ran.world.events) (Some []) (Some (event_text ran.world.events))) (sym e) refl;
+  cause = λ fault. absurd (is_cut s ran.outcome e fault);
+  counted = omega arith;
+}
+
+-- ---- an end with a last line
+
+-- the events, over a sink that takes all and over this one
+record Wrote (text input answers : List ℕ) (b : Budgets) (before after : Outside) (end : CEnd) : Type 0 where
+  events : List ℕ
+  ends : EndsAs text input answers b (took []) (took events) end
+  grew : Grew before.written after.written events
+  counted : before.faults ≤ after.faults
+
+untouched_grew : (before after : Outside) → IsUntouched before after → Grew before.written after.written []
+untouched_grew before after same = subst (λ x. Grew before.written x.written []) (sym same) (grew_none before.written)
+
+untouched_counted : (before after : Outside) → IsUntouched before after → before.faults ≤ after.faults
+untouched_counted before after same = omega (arith, ap (λ x. x.faults) same)
+
+untouched : (text input answers : List ℕ) (b : Budgets) (before after : Outside) (end : CEnd) → IsUntouched before after → EndsAs text input answers b (took []) (took []) end
+    → Wrote text input answers b before after end
+untouched text input answers b before after end same ends =
+    record { events = []; ends = ends; grew = untouched_grew before after same; counted = untouched_counted before after same }
+
+of_outcome : (ran : Ran) (before after : Outside) (s : CStop) (o : Outcome) → outcome_of s ≡ Some o → StopsAs ran before after s
+    → (outcome_of s ≡ Some ran.outcome) × Grew before.written after.written (event_text ran.world.events)
+of_outcome ran before after s o e stops =
+    let same : o ≡ ran.outcome = subst (λ x. IfSome x (λ p. p ≡ ran.outcome)) e stops.outcome in
+    (subst (λ p. outcome_of s ≡ Some p) same e, subst (λ x. IsTold x (event_text ran.world.events) before.written after.written) e stops.told)
+
+wrote : (text input answers : List ℕ) (b : Budgets) (before after : Outside) (end : CEnd) (last : Reply) → end_reply text end ≡ Some last
+    → EndsAs text input answers b before after end → Wrote text input answers b before after end
+wrote text input answers b before after (Unread e) last line (is, same) = untouched text input answers b before after (Unread e) same (is, refl)
+wrote text input answers b before after (BadInput n) last line x =
+    untouched text input answers b before after (BadInput n) x.ends.1 (record { program = x.program; cert = x.cert; reads = x.reads; ends = (x.ends.0, refl) })
+wrote text input answers b before after (BadAnswers n) last line x =
+    untouched text input answers b before after (BadAnswers n) x.ends.1 (record { program = x.program; cert = x.cert; reads = x.reads; ends = (x.ends.0, refl) })
+wrote text input answers b before after TooWide last line x =
+    let y = x.ends in
+    untouched text input answers b before after TooWide y.ends.1 (record {
+      program = x.program;
+      cert = x.cert;
+      reads = x.reads;
+      ends = record { numbers = y.numbers; input_is = y.input_is; lists = y.lists; answers_are = y.answers_are; ends = (y.ends.0, refl) };
+    })
+wrote text input answers b before after (Stopped s) last line x =
+    let y = x.ends in
+    let ran = c_run x.program b.fuel b.heap b.depth y.numbers y.lists in
+    let o = outcome_there s last line in
+    let is = of_outcome ran before after s o.0 o.1 y.ends.1 in
+    record {
+      events = event_text ran.world.events;
+      ends = record {
+        program = x.program;
+        cert = x.cert;
+        reads = x.reads;
+        ends = record { numbers = y.numbers; input_is = y.input_is; lists = y.lists; answers_are = y.answers_are; ends = (y.ends.0, stops_whole ran s is.0) };
+      };
+      grew = is.1;
+      counted = y.ends.1.counted;
+    }
+wrote text input answers b before after Memory last line x = absurd (none_some last line)
+
+-- the events and this last line are one reply
+one_says : (text input answers : List ℕ) (b : Budgets) (end : CEnd) (events : List ℕ) (last : Reply) → end_reply text end ≡ Some last
+    → EndsAs text input answers b (took []) (took events) end → Says (IsReplyToC text input answers b) (λ r. r ≡ last) events
+one_says text input answers b end events last line ends = record {
+  replies = λ r same. record { end = end; events = events; ends = ends; last = last; last_is = line; whole = ap (behind events) same };
+  inside = λ r same. subst (λ q. q.status ≢ UNREAD) (sym same) (own_c_end text end last line).1;
+  some = (last, refl);
+}
+
+last_written : {K : Type 0} (g : Ghosts K) (text input answers : List ℕ) (b : Budgets) (old mid new : K) (end : CEnd) (result : ℕ) (last : Reply) → end_reply text end ≡ Some last
+    → EndsAs text input answers b (record { written = g.written old; faults = g.faults old }) (record { written = g.written mid; faults = g.faults mid }) end
+    → Finishes g (λ r. r ≡ last) mid new result → Finishes g (IsReplyToC text input answers b) old new result
+last_written g text input answers b old mid new end result last line ends f =
+    let w = wrote text input answers b (record { written = g.written old; faults = g.faults old }) (record { written = g.written mid; faults = g.faults mid }) end last line ends in
+    came_to_end g (IsReplyToC text input answers b) (λ r. r ≡ last) w.events old mid new result (one_says text input answers b end w.events last line w.ends) w.grew w.counted f
+
+-- ---- an end without one
+
+-- the sink cut the run off
+run_cut : {K : Type 0} (g : Ghosts K) (text input answers : List ℕ) (b : Budgets) (old mid : K) (result : ℕ)
+    → EndsAs text input answers b (record { written = g.written old; faults = g.faults old }) (record { written = g.written mid; faults = g.faults mid }) (Stopped halted.SinkFault)
+    → (result ≡ SINK_FAILED) ⊎ (result ≡ NO_MEMORY) → Finishes g (IsReplyToC text input answers b) old mid result
+run_cut g text input answers b old mid result x which =
+    let y = x.ends in
+    let ran = c_run x.program b.fuel b.heap b.depth y.numbers y.lists in
+    let s = stop_for ran.outcome in
+    let events = event_text ran.world.events in
+    let ends : EndsAs text input answers b (took []) (took events) (Stopped s.stop) = record {
+      program = x.program;
+      cert = x.cert;
+      reads = x.reads;
+      ends = record { numbers = y.numbers; input_is = y.input_is; lists = y.lists; answers_are = y.answers_are; ends = (y.ends.0, stops_whole ran s.stop s.outcome) };
+    } in
+    cut_off g (IsReplyToC text input answers b) (λ r. r ≡ s.last) events old mid result (one_says text input answers b (Stopped s.stop) events s.last s.line ends)
+    y.ends.1.told (λ _. y.ends.1.cause refl) which
+
+sink_or_memory : (result : ℕ) (F : Type 0) → ((result ≡ SINK_FAILED) × F) ⊎ (result ≡ NO_MEMORY) → (result ≡ SINK_FAILED) ⊎ (result ≡ NO_MEMORY)
+sink_or_memory result F (inl (three, f)) = inl three
+sink_or_memory result F (inr four) = inr four
+
+-- memory was wanting, and nothing was written
+memory_wanting : {K : Type 0} (g : Ghosts K) (P : Reply → Type 0) (old mid : K) (end : CEnd) (result : ℕ) → Grew (g.written old) (g.written mid) [] → (end ≡ Stopped halted.SinkFault → ⊥)
+    → ((result ≡ SINK_FAILED) × (end ≡ Stopped halted.SinkFault)) ⊎ (result ≡ NO_MEMORY) → Finishes g P old mid result
+memory_wanting g P old mid end result none other (inl (three, cut)) = absurd (other cut)
+memory_wanting g P old mid end result none other (inr four) = record {
+  whole = λ sink memory. absurd (memory four);
+  failed = λ three. absurd (omega (arith, three, four));
+  part = λ three. absurd (omega (arith, three, four));
+  memory = λ _. inl none;
+}
+
+not_stopped : Memory ≡ Stopped halted.SinkFault → ⊥
+not_stopped e = cc
+
+none_left : {K : Type 0} (g : Ghosts K) (text input answers : List ℕ) (b : Budgets) (old mid : K) (end : CEnd) (result : ℕ) → end_reply text end ≡ None
+    → EndsAs text input answers b (record { written = g.written old; faults = g.faults old }) (record { written = g.written mid; faults = g.faults mid }) end
+    → ((result ≡ SINK_FAILED) × (end ≡ Stopped halted.SinkFault)) ⊎ (result ≡ NO_MEMORY) → Finishes g (IsReplyToC text input answers b) old mid result
+none_left g text input answers b old mid (Unread (error.Unexpected at)) result none ends which = absurd (some_none _ none)
+none_left g text input answers b old mid (Unread error.EndOfText) result none ends which = absurd (some_none _ none)
+none_left g text input answers b old mid (Unread (error.Kind rule at)) result none ends which = absurd (some_none _ none)
+none_left g text input answers b old mid (Unread (error.Limit n)) result none ends which = absurd (some_none _ none)
+none_left g text input answers b old mid (Unread error.Memory) result none ends which = absurd ends.0
+none_left g text input answers b old mid (BadInput n) result none ends which = absurd (some_none _ none)
+none_left g text input answers b old mid (BadAnswers n) result none ends which = absurd (some_none _ none)
+none_left g text input answers b old mid TooWide result none ends which = absurd (some_none _ none)
+none_left g text input answers b old mid (Stopped halted.Done) result none ends which = absurd (some_none _ none)
+none_left g text input answers b old mid (Stopped (halted.Trap t)) result none ends which = absurd (some_none _ none)
+none_left g text input answers b old mid (Stopped halted.FuelEnd) result none ends which = absurd (some_none _ none)
+none_left g text input answers b old mid (Stopped halted.HeapEnd) result none ends which = absurd (some_none _ none)
+none_left g text input answers b old mid (Stopped halted.DepthEnd) result none ends which = absurd (some_none _ none)
+none_left g text input answers b old mid (Stopped halted.InputEnd) result none ends which = absurd (some_none _ none)
+none_left g text input answers b old mid (Stopped halted.AnswersEnd) result none ends which = absurd (some_none _ none)
+none_left g text input answers b old mid (Stopped (halted.BadAnswer n)) result none ends which = absurd (some_none _ none)
+none_left g text input answers b old mid (Stopped halted.SinkFault) result none ends which =
+    run_cut g text input answers b old mid result ends (sink_or_memory result _ which)
+none_left g text input answers b old mid (Stopped (halted.Undefined rule n)) result none ends which = absurd (some_none _ none)
+none_left g text input answers b old mid Memory result none ends which =
+    memory_wanting g (IsReplyToC text input answers b) old mid Memory result
+    (untouched_grew (record { written = g.written old; faults = g.faults old }) (record { written = g.written mid; faults = g.faults mid }) ends) not_stopped which
+
+-- ---- any end
+
+-- a run ended so, and its last line was written
+pub c_ended : {K : Type 0} (g : Ghosts K) (text input answers : List ℕ) (b : Budgets) (old mid new : K) (end : CEnd) (result : ℕ)
+    → EndsAs text input answers b (record { written = g.written old; faults = g.faults old }) (record { written = g.written mid; faults = g.faults mid }) end
+    → EndsC g text end mid new result → Finishes g (IsReplyToC text input answers b) old new result
+c_ended g text input answers b old mid new end result ends last = by_last (end_reply text end) refl last
+  where
+    by_last : (o : Option Reply) → end_reply text end ≡ o
+        → MatchOption o ((new ≡ mid) × (((result ≡ SINK_FAILED) × (end ≡ Stopped halted.SinkFault)) ⊎ (result ≡ NO_MEMORY))) (λ l. Finishes g (λ r. r ≡ l) mid new result)
+        → Finishes g (IsReplyToC text input answers b) old new result
+    by_last (Some l) line f = last_written g text input answers b old mid new end result l line ends f
+    by_last None none (same, which) = subst (λ k. Finishes g (IsReplyToC text input answers b) old k result) (sym same) (none_left g text input answers b old mid end result none ends which)
+
+-- what is told of an end lies in the text
+pub tellable : RefusalsAreInTheText → (text input answers : List ℕ) (b : Budgets) (before after : Outside) (end : CEnd) → EndsAs text input answers b before after end → IsTellableEnd text end
+tellable law text input answers b before after (Unread (error.Unexpected at)) ends = record { reads = ends.0; within = law text (error.Unexpected at) ends.0 }
+tellable law text input answers b before after (Unread error.EndOfText) ends = record { reads = ends.0; within = tt }
+tellable law text input answers b before after (Unread (error.Kind rule at)) ends = record { reads = ends.0; within = law text (error.Kind rule at) ends.0 }
+tellable law text input answers b before after (Unread (error.Limit n)) ends = record { reads = ends.0; within = tt }
+tellable law text input answers b before after (Unread error.Memory) ends = absurd ends.0
+tellable law text input answers b before after (BadInput n) ends = tt
+tellable law text input answers b before after (BadAnswers n) ends = tt
+tellable law text input answers b before after TooWide ends = tt
+tellable law text input answers b before after (Stopped s) ends = tt
+tellable law text input answers b before after Memory ends = tt
+
+-- ---- texts that are refused
+
+some_some : (r q : Reply) → Some r ≡ Some q → q ≡ r
+some_some r q e = cc
+
+last_as : {K : Type 0} (g : Ghosts K) (last : Reply) (r : Result Shown AllocError) (old new : K) (status : ℕ) → IfOk r (λ x. Some last ≡ Some (shown_reply x))
+    → Finishes g (IsReplyOf r) old new status → Finishes g (λ q. q ≡ last) old new status
+last_as g last r old new status said f =
+    finishes_as g (IsReplyOf r) (λ q. q ≡ last) old new status (λ q is. some_some last q (reply_is (λ p. Some last ≡ Some p) r q said is)) f
+
+-- the line of a refusal is the last one
+pub refused_ends : {K : Type 0} (g : Ghosts K) (text : List ℕ) (e : CError) (r : Result Shown AllocError) (old new : K) (status : ℕ) → IsReasonOf text e
+    → IfOk r (λ x. c_refusal text e ≡ Some (shown_reply x)) → Finishes g (IsReplyOf r) old new status → EndsC g text (Unread e) old new status
+refused_ends g text (error.Unexpected at) r old new status reason said f = last_as g _ r old new status said f
+refused_ends g text error.EndOfText r old new status reason said f = last_as g _ r old new status said f
+refused_ends g text (error.Kind rule at) r old new status reason said f = last_as g _ r old new status said f
+refused_ends g text (error.Limit n) r old new status reason said f = last_as g _ r old new status said f
+refused_ends g text error.Memory r old new status reason said f = absurd reason.reads
+
+-- ---- limits
+
+numbered : {A B : Type 0} (n : ℕ) → ((n ≡ 14) × A) ⊎ ((n ≡ 15) × B) → (1 ≤ n) × (n ≤ 15)
+numbered n (inl (e, a)) = (omega (arith, e), omega (arith, e))
+numbered n (inr (e, b)) = (omega (arith, e), omega (arith, e))
+
+-- the limits of the grammar have their numbers
+pub limit_numbered : (text : List ℕ) (n : ℕ) → IsReadAs text (Err (error.Limit n)) → (1 ≤ n) × (n ≤ 15)
+limit_numbered text n is = numbered n is.is.1
+
+pub c_limit : (text : List ℕ) (e : CError) (n : ℕ) → e ≡ error.Limit n → IsReasonOf text e → IsReadAs text (Err (error.Limit n))
+c_limit text e n same is = subst (IsUnread text) same is.reads
+
+-- ---- the bytes of the files
+
+pub same_files : {K : Type 0} (g : Ghosts K) (text input answers text' input' answers' : List ℕ) (b : Budgets) (old new : K) (result : ℕ) → text ≡ text' → input ≡ input' → answers ≡ answers'
+    → Finishes g (IsReplyToC text input answers b) old new result → Finishes g (IsReplyToC text' input' answers' b) old new result
+same_files g text input answers text' input' answers' b old new result t i a f =
+    subst (λ x. Finishes g (IsReplyToC x input' answers' b) old new result) t
+    (subst (λ x. Finishes g (IsReplyToC text x answers' b) old new result) i (subst (λ x. Finishes g (IsReplyToC text input x b) old new result) a f))

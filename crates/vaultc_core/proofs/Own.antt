@@ -1,0 +1,155 @@
+-- Which statuses a command's replies to the bytes of its files have.
+use Rattle.std.proofs.Common.{◌≡◌, ◌⊎◌, inl, inr, ℕ, ℤ, ◌≤◌, List, Option, Some, None, sym, ap, subst, arith}
+use Rattle.std.specs.Prelude.{◌≢◌}
+use Rattle.vlt_base.specs.declared.Budgets.{Budgets}
+use Rattle.vlt_core.specs.Core.{Program}
+use Rattle.vlt_meaning.specs.World.{Outcome, done, trap, fuel_end, heap_end, depth_end, input_end, answers_end, bad_answer, fault}
+use Rattle.vlt_given.specs.Given.{Given, numbers, bad_input, bad_answers, given_by}
+use Rattle.vlt_lexer.specs.declared.lexer.LexError.TheVariants as lex
+use Rattle.vlt_resolve.specs.Elaboration.{broken, exceeded}
+use Rattle.vlt_syntax.specs.Refusals.{unexpected_at, over_limit, ended}
+use Rattle.vlt_syntax.specs.Tree.{Tree}
+use Rattle.vlt_verdict.specs.Verdicts as verdict
+use Rattle.vlt_verdict.specs.Verdicts.{Verdict}
+use Rattle.c_interp.specs.declared.stop.CStop.{CStop}
+use Rattle.c_interp.specs.declared.stop.CStop.TheVariants as stop
+use Rattle.c_reader.specs.declared.error.CError.{CError}
+use Rattle.c_reader.specs.declared.error.CError.TheVariants as error
+use Rattle.c_run.specs.declared.end.CEnd.{CEnd}
+use Rattle.c_run.specs.declared.end.CEnd.TheVariants.{Unread, BadInput, BadAnswers, TooWide, Stopped, Memory}
+use Rattle.vaultc_core.specs.declared.status.TheConstants.{NO_COMMAND, UNREAD}
+use Rattle.vaultc_core.specs.CRuns.{IsReplyToC, c_refusal, stop_reply, end_reply}
+use Rattle.vaultc_core.specs.Commands.{Command, check, explain, run, fmt, crun}
+use Rattle.vaultc_core.specs.Lines.{Reply}
+use Rattle.vaultc_core.specs.Replies.{IsReplyToVerdict, IsReplyToTree, IsReplyToText, IsReplyToRunText, IsReplyToContents, bytes_at}
+use Rattle.vaultc_core.specs.Runs.{last_of, IsReplyOverNumbers, IsReplyToProgram}
+use Rattle.vaultc_core.specs.Texts.{Refusal, unlexed, unparsed, refusal_reply}
+use Rattle.vaultc_core.specs.Verdicts.{check_reply, IsExplained}
+
+-- neither that of words that are no command nor that of a file that wasn't read
+abbrev pub IsOwn : ℕ → Type 0
+IsOwn status = (status ≢ NO_COMMAND) × (status ≢ UNREAD)
+
+own_zero : IsOwn 0
+own_zero = (λ e. omega (arith, e), λ e. omega (arith, e))
+
+own : (n : ℕ) → 3 ≤ n → IsOwn n
+own n large = (λ e. omega (arith, e, large), λ e. omega (arith, e, large))
+
+own_as : (r q : Reply) → r ≡ q → IsOwn q.status → IsOwn r.status
+own_as r q same is = subst (λ x. IsOwn x.status) (sym same) is
+
+-- ---- texts
+
+own_refusal : (bytes : List ℕ) (e : Refusal) → IsOwn (refusal_reply bytes e).status
+own_refusal bytes (unlexed (lex.NotUtf8 at)) = own 6 (omega arith)
+own_refusal bytes (unlexed (lex.BadByte at)) = own 6 (omega arith)
+own_refusal bytes (unlexed (lex.NumberTooLarge at)) = own 6 (omega arith)
+own_refusal bytes (unlexed (lex.OpenComment at)) = own 6 (omega arith)
+own_refusal bytes (unlexed (lex.Limit n)) = own 5 (omega arith)
+own_refusal bytes (unlexed lex.Memory) = own 4 (omega arith)
+own_refusal bytes (unparsed (unexpected_at at)) = own 6 (omega arith)
+own_refusal bytes (unparsed (over_limit n)) = own 5 (omega arith)
+own_refusal bytes (unparsed ended) = own 6 (omega arith)
+
+own_verdict : (text : List ℕ) (v : Verdict) → IsOwn (check_reply text v).status
+own_verdict text (verdict.refused (broken rule at)) = own 7 (omega arith)
+own_verdict text (verdict.refused (exceeded n)) = own 5 (omega arith)
+own_verdict text (verdict.faulty p f x) = own 8 (omega arith)
+own_verdict text (verdict.accepted p) = own_zero
+
+some_some : (r q : Reply) → Some r ≡ Some q → r ≡ q
+some_some r q e = cc
+
+own_last : (r q : Reply) → Some r ≡ Some q → IsOwn r.status → IsOwn q.status
+own_last r q e is = own_as q r (sym (some_some r q e)) is
+
+no_last : (r : Reply) → None ≡ Some r → ⊥
+no_last r e = cc
+
+pub own_outcome : (o : Outcome) (last : Reply) → last_of o ≡ Some last → IsOwn last.status
+own_outcome done last e = own_last _ last e own_zero
+own_outcome (trap t) last e = own_last _ last e (own 9 (omega arith))
+own_outcome fuel_end last e = own_last _ last e (own 10 (omega arith))
+own_outcome heap_end last e = own_last _ last e (own 10 (omega arith))
+own_outcome depth_end last e = own_last _ last e (own 10 (omega arith))
+own_outcome input_end last e = own_last _ last e (own 11 (omega arith))
+own_outcome answers_end last e = own_last _ last e (own 11 (omega arith))
+own_outcome (bad_answer n) last e = own_last _ last e (own 11 (omega arith))
+own_outcome (fault reason object) last e = absurd (no_last last e)
+
+own_over_numbers : (p : Program) (input : List ℤ) (answers : List (List ℤ)) (b : Budgets) (r : Reply) → IsReplyOverNumbers p input answers b r → IsOwn r.status
+own_over_numbers p input answers b r (inl (wide, same)) = own_as r _ same (own 5 (omega arith))
+own_over_numbers p input answers b r (inr (fits, (last, of, same))) = own_as r _ same (own_outcome _ last of)
+
+own_program : (p : Program) (given : Given) (b : Budgets) (r : Reply) → IsReplyToProgram p given b r → IsOwn r.status
+own_program p (numbers input answers) b r is = own_over_numbers p input answers b r is
+own_program p (bad_input line) b r is = own_as r _ is (own 6 (omega arith))
+own_program p (bad_answers line) b r is = own_as r _ is (own 6 (omega arith))
+
+own_judged : (text : List ℕ) (given : Given) (b : Budgets) (v : Verdict) (r : Reply) → IsReplyToVerdict text given b v r → IsOwn r.status
+own_judged text given b (verdict.refused x) r is = own_as r _ is (own_verdict text (verdict.refused x))
+own_judged text given b (verdict.faulty p f x) r is = own_as r _ is (own_verdict text (verdict.faulty p f x))
+own_judged text given b (verdict.accepted p) r is = own_program p given b r is
+
+own_explained : (text : List ℕ) (v : Verdict) (r : Reply) → IsExplained text v r → IsOwn r.status
+own_explained text (verdict.refused x) r is = own_as r _ is (own_verdict text (verdict.refused x))
+own_explained text (verdict.faulty p f x) r (first, second, shows, is) = own_as r _ is (own 8 (omega arith))
+own_explained text (verdict.accepted p) r is = own_as r _ is own_zero
+
+own_tree : (command : Command) (text : List ℕ) (t : Tree) (r : Reply) → IsReplyToTree command text t r → IsOwn r.status
+own_tree (check file) text t r (v, judged, is) = own_as r _ is (own_verdict text v)
+own_tree (explain file) text t r (v, judged, is) = own_explained text v r is
+own_tree (run file taken) text t r is = absurd is
+own_tree (fmt file) text t r is = own_as r _ is own_zero
+own_tree (crun file taken) text t r is = absurd is
+
+own_text : (command : Command) (text : List ℕ) (r : Reply) → IsReplyToText command text r → IsOwn r.status
+own_text command text r (inl (e, refused, is)) = own_as r _ is (own_refusal text e)
+own_text command text r (inr (t, reads, is)) = own_tree command text t r is
+
+own_run : (text : List ℕ) (given : Given) (b : Budgets) (r : Reply) → IsReplyToRunText text given b r → IsOwn r.status
+own_run text given b r (inl (e, refused, is)) = own_as r _ is (own_refusal text e)
+own_run text given b r (inr (t, reads, (v, judged, is))) = own_judged text given b v r is
+
+-- ---- C texts
+
+own_c_refusal : (text : List ℕ) (e : CError) (r : Reply) → c_refusal text e ≡ Some r → IsOwn r.status
+own_c_refusal text (error.Unexpected at) r e = own_last _ r e (own 6 (omega arith))
+own_c_refusal text error.EndOfText r e = own_last _ r e (own 6 (omega arith))
+own_c_refusal text (error.Kind rule at) r e = own_last _ r e (own 6 (omega arith))
+own_c_refusal text (error.Limit n) r e = own_last _ r e (own 5 (omega arith))
+own_c_refusal text error.Memory r e = absurd (no_last r e)
+
+own_stop : (s : CStop) (r : Reply) → stop_reply s ≡ Some r → IsOwn r.status
+own_stop stop.Done r e = own_last _ r e own_zero
+own_stop (stop.Trap t) r e = own_last _ r e (own 9 (omega arith))
+own_stop stop.FuelEnd r e = own_last _ r e (own 10 (omega arith))
+own_stop stop.HeapEnd r e = own_last _ r e (own 10 (omega arith))
+own_stop stop.DepthEnd r e = own_last _ r e (own 10 (omega arith))
+own_stop stop.InputEnd r e = own_last _ r e (own 11 (omega arith))
+own_stop stop.AnswersEnd r e = own_last _ r e (own 11 (omega arith))
+own_stop (stop.BadAnswer n) r e = own_last _ r e (own 11 (omega arith))
+own_stop stop.SinkFault r e = absurd (no_last r e)
+own_stop (stop.Undefined rule statement) r e = own_last _ r e (own 13 (omega arith))
+
+pub own_c_end : (text : List ℕ) (end : CEnd) (r : Reply) → end_reply text end ≡ Some r → IsOwn r.status
+own_c_end text (Unread error) r e = own_c_refusal text error r e
+own_c_end text (BadInput line) r e = own_last _ r e (own 6 (omega arith))
+own_c_end text (BadAnswers line) r e = own_last _ r e (own 6 (omega arith))
+own_c_end text TooWide r e = own_last _ r e (own 5 (omega arith))
+own_c_end text (Stopped s) r e = own_stop s r e
+own_c_end text Memory r e = absurd (no_last r e)
+
+own_c : (text input answers : List ℕ) (b : Budgets) (r : Reply) → IsReplyToC text input answers b r → IsOwn r.status
+own_c text input answers b r is = own_as r _ is.whole (own_c_end text is.end is.last is.last_is)
+
+-- ---- commands
+
+pub own_reply : (command : Command) (contents : List (List ℕ)) (r : Reply) → IsReplyToContents command contents r → IsOwn r.status
+own_reply (check file) contents r is = own_text (check file) (bytes_at contents 0) r is
+own_reply (explain file) contents r is = own_text (explain file) (bytes_at contents 0) r is
+own_reply (run file taken) contents r is =
+    own_run (bytes_at contents 0) (given_by (bytes_at contents 1) (bytes_at contents 2)) taken.budgets r is
+own_reply (fmt file) contents r is = own_text (fmt file) (bytes_at contents 0) r is
+own_reply (crun file taken) contents r is = own_c (bytes_at contents 0) (bytes_at contents 1) (bytes_at contents 2) taken.budgets r is

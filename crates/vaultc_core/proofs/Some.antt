@@ -1,0 +1,117 @@
+-- It can't be that a command has no reply to what it read.
+use Rattle.std.proofs.Common.{◌≡◌, ◌<◌, ℕ, ℤ, List, ◌++◌, length, ◌⊎◌, inl, inr, ⊎_elim, refl, arith}
+use Rattle.std.specs.Prelude.{false, codes}
+use Rattle.std.proofs.lemmas.Bool.{cases_lt}
+use Rattle.vlt_base.specs.declared.Budgets.{Budgets}
+use Rattle.vlt_base.specs.declared.limits.TheConstants.{VALUE_SLOTS}
+use Rattle.vlt_base.specs.Limits.{limit_of}
+use Rattle.vlt_syntax.specs.Tree.{Tree}
+use Rattle.vlt_printer.specs.Layout.{layout}
+use Rattle.vlt_core.specs.Core.{Program}
+use Rattle.vlt_core.specs.Faults.{FlowFault, IsFirstFault}
+use Rattle.vlt_core.specs.Widths.{slots_needed}
+use Rattle.vlt_check.specs.Checks.{IsWellFormed}
+use Rattle.vlt_fit_laws.specs.Fit.{IsTextTree, ProgramsAreFit}
+use Rattle.vlt_given.specs.Given.{Given, numbers, bad_input, bad_answers, given_by}
+use Rattle.vlt_meaning.specs.Run as meaning
+use Rattle.vlt_meaning.specs.World.{Ran, is_fault, event_text}
+use Rattle.vlt_reports.specs.Reports.{fault_line, paths_text}
+use Rattle.vlt_run.specs.Ends.{IsTooWide}
+use Rattle.vlt_sound.specs.Promise.{NeverGoesWrong}
+use Rattle.vlt_total_laws.specs.Sure.{Surely}
+use Rattle.vlt_total_laws.proofs.Surely.{sure, so}
+use Rattle.vlt_verdict.proofs.Single.{fit_program}
+use Rattle.vlt_verdict.specs.Verdicts.{Verdict, refused, faulty, accepted, IsVerdictOf, HasSomeVerdict}
+use Rattle.vlt_witness_laws.specs.Shown.{HasWitness}
+use Rattle.vaultc_core.specs.declared.status.TheConstants.{DONE, NOT_ACCEPTED}
+use Rattle.vaultc_core.specs.Commands.{Command, check, explain, run, fmt, crun}
+use Rattle.vaultc_core.specs.Lines.{Reply, reply, over_reply, unread_reply, numbers_reply, behind}
+use Rattle.vaultc_core.specs.Runs.{IsReplyToRan, IsReplyOverNumbers, IsReplyToProgram}
+use Rattle.vaultc_core.specs.Sources.{Read, had, unread, too_long}
+use Rattle.vaultc_core.specs.Texts.{refusal_reply}
+use Rattle.vaultc_core.specs.Verdicts.{check_reply, IsExplained}
+use Rattle.vaultc_core.specs.Replies.{IsReplyToCheck, IsReplyToExplain, IsReplyToVerdict, IsReplyToRun, IsReplyByTree, bytes_at, IsReplyToContents, RunsC, HasSomeReply}
+use Rattle.vaultc_core.proofs.Read.{TextsHaveTicks, text_tree, read_in_one_way}
+use Rattle.vaultc_core.proofs.RunEnded.{last_there}
+use Rattle.vaultc_core.proofs.Runnable.{OfAccepted}
+
+-- what is known of the trees of texts
+pub record Laws : Type 0 where
+  pub ticks : TextsHaveTicks
+  pub fit : ProgramsAreFit
+  pub verdicts : HasSomeVerdict
+  pub witnesses : (p : Program) (x : FlowFault) → IsWellFormed p → IsFirstFault p x → HasWitness p x
+  pub never : OfAccepted NeverGoesWrong
+
+-- ---- runs of programs that never go wrong
+
+over_or_not : (limit n : ℕ) → (limit < n) ⊎ ((limit < n) → ⊥)
+over_or_not limit n = ⊎_elim inl (λ le. inr (λ lt. omega (arith, le, lt))) (cases_lt limit n)
+
+wide_or_not : (p : Program) (b : Budgets) → IsTooWide p b ⊎ (IsTooWide p b → ⊥)
+wide_or_not p b = over_or_not (limit_of VALUE_SLOTS) (slots_needed p b.depth b.heap)
+
+of_ran : (ran : Ran) → is_fault ran.outcome ≡ false → (r : Reply) × IsReplyToRan ran r
+of_ran ran right = let last = last_there ran.outcome right in (behind (event_text ran.world.events) last.0, (last.0, last.1, refl))
+
+over_numbers : (p : Program) (input : List ℤ) (answers : List (List ℤ)) (b : Budgets) → NeverGoesWrong p → (r : Reply) × IsReplyOverNumbers p input answers b r
+over_numbers p input answers b never = ⊎_elim
+    (λ wide. (over_reply VALUE_SLOTS, inl (wide, refl)))
+    (λ fits. let r = of_ran (meaning.run p b.fuel b.heap b.depth input answers) (never b.fuel b.heap b.depth input answers) in (r.0, inr (fits, r.1)))
+    (wide_or_not p b)
+
+of_program : (p : Program) (given : Given) (b : Budgets) → NeverGoesWrong p → (r : Reply) × IsReplyToProgram p given b r
+of_program p (numbers input answers) b never = over_numbers p input answers b never
+of_program p (bad_input line) b never = (numbers_reply (codes "input") line, refl)
+of_program p (bad_answers line) b never = (numbers_reply (codes "answers") line, refl)
+
+module _ (laws : Laws) where
+  -- each verdict is explained in some way, since each first fault has a witness
+  explained : (text : List ℕ) (t : Tree) → IsTextTree t → (v : Verdict) → IsVerdictOf t v → (r : Reply) × IsExplained text v r
+  explained text t tree (refused e) is = (check_reply text (refused e), refl)
+  explained text t tree (accepted p) is = (check_reply text (accepted p), refl)
+  explained text t tree (faulty p f x) is =
+      let w = laws.witnesses p x (fit_program laws.fit t p tree is.0).well_formed is.1.first in
+      (reply NOT_ACCEPTED (fault_line text p f x.at x.tok x.kind ++ paths_text text p f w.first w.second), (w.first, w.second, w.shown, refl))
+
+  of_verdict : (text : List ℕ) (given : Given) (b : Budgets) (t : Tree) → IsTextTree t → (v : Verdict) → IsVerdictOf t v → (r : Reply) × IsReplyToVerdict text given b v r
+  of_verdict text given b t tree (refused e) is = (check_reply text (refused e), refl)
+  of_verdict text given b t tree (faulty p f x) is = (check_reply text (faulty p f x), refl)
+  of_verdict text given b t tree (accepted p) is =
+      let x = fit_program laws.fit t p tree is.0 in
+      of_program p given b (laws.never p x.well_formed.kinded is.1 x.sizes x.well_formed.states x.narrow)
+
+  -- ---- texts
+
+  some_of_check : (text : List ℕ) (t : Tree) → IsTextTree t → Surely ((r : Reply) × IsReplyToCheck text t r)
+  some_of_check text t tree = so (laws.verdicts t tree) (λ v. (check_reply text v.0, (v.0, v.1, refl)))
+
+  some_of_explain : (text : List ℕ) (t : Tree) → IsTextTree t → Surely ((r : Reply) × IsReplyToExplain text t r)
+  some_of_explain text t tree = so (laws.verdicts t tree) (λ v. let r = explained text t tree v.0 v.1 in (r.0, (v.0, v.1, r.1)))
+
+  some_of_run : (text : List ℕ) (given : Given) (b : Budgets) (t : Tree) → IsTextTree t → Surely ((r : Reply) × IsReplyToRun text given b t r)
+  some_of_run text given b t tree = so (laws.verdicts t tree) (λ v. let r = of_verdict text given b t tree v.0 v.1 in (r.0, (v.0, v.1, r.1)))
+
+  by_tree : (P : Tree → Reply → Type 0) (bytes : List ℕ) → ((t : Tree) → IsTextTree t → Surely ((r : Reply) × P t r)) → Surely ((r : Reply) × IsReplyByTree P bytes r)
+  by_tree P bytes some = ⊎_elim
+      (λ x. so (some x.0 (text_tree laws.ticks bytes x.0 x.1)) (λ r. (r.0, inr (x.0, x.1, r.1))))
+      (λ x. sure (refusal_reply bytes x.0, inl (x.0, x.1, refl)))
+      (read_in_one_way bytes).either
+
+  -- ---- files
+
+  some_of_contents : (command : Command) (contents : List (List ℕ)) → (RunsC command → ⊥) → Surely ((r : Reply) × IsReplyToContents command contents r)
+  some_of_contents (check file) contents other = let bytes = bytes_at contents 0 in by_tree (IsReplyToCheck bytes) bytes (some_of_check bytes)
+  some_of_contents (explain file) contents other = let bytes = bytes_at contents 0 in by_tree (IsReplyToExplain bytes) bytes (some_of_explain bytes)
+  some_of_contents (fmt file) contents other =
+      by_tree (λ t r. r ≡ reply DONE (layout t)) (bytes_at contents 0) (λ t tree. sure (reply DONE (layout t), refl))
+  some_of_contents (run file taken) contents other =
+      let bytes = bytes_at contents 0 in
+      let given = given_by (bytes_at contents 1) (bytes_at contents 2) in
+      by_tree (IsReplyToRun bytes given taken.budgets) bytes (some_of_run bytes given taken.budgets)
+  some_of_contents (crun file taken) contents other = absurd (other tt)
+
+  pub some_of_read : HasSomeReply
+  some_of_read command (had contents) other = some_of_contents command contents other
+  some_of_read command (unread name) other = sure (unread_reply name, refl)
+  some_of_read command (too_long n) other = sure (over_reply n, refl)

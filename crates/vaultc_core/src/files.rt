@@ -1,0 +1,98 @@
+//! From the names of files to their bytes.
+
+ghost use Rattle.std.specs.Prelude.{◌<◌, ◌≤◌, ◌^◌, [], ◌∷◌, Some, IfErr, IfOk, IfSome, option_map};
+ghost use Rattle.vlt_base.specs.declared.limits.TheConstants as limits;
+ghost use Rattle.vaultc_core.specs.Sources.{MayRead, IsOver, numbers_in, run_sources};
+ghost use Rattle.vaultc_core.specs.Shown.{AreShort, IsNumbered, seen_file, seen_files};
+ghost use Rattle.vlt_base.specs.Limits.{limit_of};
+ghost use Rattle.vaultc_core.specs.View.{seen_taken};
+
+use crate::words::Taken;
+use std::alloc::Global;
+use vlt_base::{SOURCE_BYTES, limit};
+use vlt_io::{Store, StoreError};
+
+/// Why the bytes of files aren't had.
+#[derive(Clone, Copy, Debug)]
+pub enum FileError<'a> {
+    /// There is no file of this name, or reading it failed.
+    Unread(&'a str),
+    /// A file has more bytes than the limit of this number allows.
+    TooLong(u8),
+    Memory,
+}
+
+/// Reads a file, once, whose bytes the limit of this number bounds.
+pub fn read_file<'a, S: Store>(
+    alloc: Global,
+    store: &mut S,
+    name: &'a str,
+    number: u8,
+) -> Result<Vec<u8>, FileError<'a>>
+    requires from { 1 ≤ number }
+    requires to { number ≤ 15 }
+    requires small { limit_of number < 2 ^ 32 }
+    ensures read { IfSome (seen_file result) (MayRead S.Store store.old store.new
+        (Some (record { name = name.now; limit = number }) ∷ [])) }
+    ensures short { IfOk result (λ bytes. ¬ (IsOver number bytes.items)) }
+    ensures numbered { IfErr result IsNumbered }
+{
+    let most = limit(number) as usize;
+    match store.read(alloc, name, most) {
+        Ok(bytes) if bytes.len() > most => Err(FileError::TooLong(number)),
+        Ok(bytes) => Ok(bytes),
+        Err(StoreError::Failed) => Err(FileError::Unread(name)),
+        Err(StoreError::Memory) => Err(FileError::Memory),
+    }
+}
+
+/// Reads a file of numbers. One that isn't named has no bytes.
+fn read_numbers<'a, S: Store>(
+    alloc: Global,
+    store: &mut S,
+    name: Option<&'a str>,
+) -> Result<Vec<u8>, FileError<'a>>
+    ensures read { IfSome (seen_file result) (MayRead S.Store store.old store.new
+        (option_map numbers_in (option_map (λ f. f.now) name.entry) ∷ [])) }
+    ensures short { IfOk result (λ bytes. ¬ (IsOver limits.SOURCE_BYTES bytes.items)) }
+    ensures numbered { IfErr result IsNumbered }
+{
+    match name {
+        Some(name) => read_file(alloc, store, name, SOURCE_BYTES),
+        None => Ok(Vec::new(alloc)),
+    }
+}
+
+/// The bytes of the files of a run.
+#[derive(Drop)]
+pub struct RunFiles {
+    pub text: Vec<u8>,
+    pub input: Vec<u8>,
+    pub answers: Vec<u8>,
+}
+
+/// Reads the files of a run, one after another; the limit of this number bounds the text's bytes.
+pub fn read_run_files<'a, S: Store>(
+    alloc: Global,
+    store: &mut S,
+    file: &'a str,
+    number: u8,
+    taken: Taken<'a>,
+) -> Result<RunFiles, FileError<'a>>
+    requires from { 1 ≤ number }
+    requires to { number ≤ 15 }
+    requires small { limit_of number < 2 ^ 32 }
+    ensures read { IfSome (seen_files result) (MayRead S.Store store.old store.new
+        (run_sources (record { name = file.now; limit = number }) (seen_taken taken.entry))) }
+    ensures short { IfOk result (AreShort number) }
+    ensures numbered { IfErr result IsNumbered }
+{
+    let text = read_file(alloc, store, file, number)?;
+    let input = read_numbers(alloc, store, taken.input)?;
+    let answers = read_numbers(alloc, store, taken.answers)?;
+    Ok(RunFiles {
+        text,
+        input,
+        answers,
+    })
+}
