@@ -7,7 +7,7 @@ ghost use Rattle.vlt_core.specs.View.{func_of, keys_of, operand_of};
 ghost use Rattle.vlt_calls.specs.Called.{going_in, CanGoIn, DoesIn, CanCall, Acts};
 
 use crate::entering::enter_body;
-use crate::out::call_out;
+use crate::external::call_out;
 use vlt_base::{FnId, KeyId, VarId};
 use vlt_core::{Func, Operand};
 use vlt_io::Sink;

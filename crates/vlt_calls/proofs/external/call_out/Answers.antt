@@ -3,7 +3,7 @@ use Rattle.std.specs.Option.{option_map}
 use Rattle.vlt_core.specs.View.{program_of, func_of, keys_of}
 use Rattle.vlt_calls.proofs.Sizes.{result_fits, value_room, line_room}
 use Rattle.vlt_calls.proofs.Outside.{can_call_out, called_out}
-use Rattle.vlt_calls.proofs.out.call_out.Goals as goal
+use Rattle.vlt_calls.proofs.external.call_out.Goals as goal
 
 pub call_external-requires-clause-room : goal.call_external-requires-clause-room
 call_external-requires-clause-room g c =
