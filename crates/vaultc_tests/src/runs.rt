@@ -188,7 +188,7 @@ fn long_runs_end(rt: HostRuntime) -> Result<(), Fail> {
         &["run", "a.v", "--heap", "1"],
     )?;
     assert_eq!(rt; found, 0);
-    assert_eq!(rt; bytes.as_slice(), b"40000\n");
+    assert_eq!(rt; bytes.as_slice(), b"40000\n".as_slice());
     Ok(())
 }
 
