@@ -275,7 +275,7 @@ const LARGE_RUNS: [(&str, u8, &str); 4] = [
     ("}", 0, ""),
     ("vr_trap(1);}", 9, "trap 1\n"),
     ("while(1){}}", 10, "budget fuel\n"),
-    ("vr_print((1%0));}", 13, "undefined 4 at 6000\n"),
+    ("if((1%0)){}else{}}", 13, "undefined 4 at 6000\n"),
 ];
 
 /// What follows the same, with the line that refuses it.
