@@ -18,7 +18,7 @@ reply status text = record { status = status; text = text }
 -- ---- lines
 
 abbrev pub usage : List ℕ
-usage = codes "usage: vaultc check F | explain F | fmt F | run F OPTIONS | crun F OPTIONS\n"
+usage = codes "usage: vaultc check F | explain F | fmt F | emit F | verify F | load N | run F OPTIONS | crun F OPTIONS\n"
 
 abbrev pub read_line : List ℕ → List ℕ
 read_line name = codes "read " ++ name ++ codes "\n"

@@ -32,7 +32,7 @@ use vlt_verdict::Verdict;
 
 /// What is written where the words are no command.
 pub const USAGE: &str =
-    "usage: vaultc check F | explain F | fmt F | run F OPTIONS | crun F OPTIONS\n";
+    "usage: vaultc check F | explain F | fmt F | emit F | verify F | load N | run F OPTIONS | crun F OPTIONS\n";
 
 /// There is more of something than the limit of this number allows.
 pub fn over_limit(alloc: Global, number: u8) -> Result<Reply, AllocError>

@@ -3,7 +3,8 @@
 use crate::outside::{Outside, SOUND, reply};
 use std::test::Fail;
 
-const USAGE: &str = "usage: vaultc check F | explain F | fmt F | run F OPTIONS | crun F OPTIONS\n";
+const USAGE: &str =
+    "usage: vaultc check F | explain F | fmt F | emit F | verify F | load N | run F OPTIONS | crun F OPTIONS\n";
 
 const POINT: &str = "struct point { int x; int y; }
 void main() {

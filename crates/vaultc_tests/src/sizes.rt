@@ -99,7 +99,8 @@ const LARGE: [(&str, &[&str], u8, &str); 16] = [
     ),
 ];
 
-const USAGE: &str = "usage: vaultc check F | explain F | fmt F | run F OPTIONS | crun F OPTIONS\n";
+const USAGE: &str =
+    "usage: vaultc check F | explain F | fmt F | emit F | verify F | load N | run F OPTIONS | crun F OPTIONS\n";
 
 #[test]
 fn large_texts_have_every_status(rt: HostRuntime) -> Result<(), Fail> {
