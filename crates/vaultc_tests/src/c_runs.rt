@@ -107,12 +107,12 @@ fn c_texts_are_run(rt: HostRuntime) -> Result<(), Fail> {
             ("an", b"7\n8\n"),
         ];
         let (found, written) = reply_over(alloc, SOUND, &files, words)?;
-        assert_eq!(rt; found, status, "{body}");
+        assert_eq!(rt; found, status);
         if body == "vr_print(1);f0();}" {
             let all = calls(alloc, 1000)?;
             assert!(rt; written.as_slice() == all.as_slice());
         } else {
-            assert_eq!(rt; written.as_slice(), text.as_bytes(), "{body}");
+            assert_eq!(rt; written.as_slice(), text.as_bytes());
         }
     }
     Ok(())
