@@ -105,6 +105,21 @@ macro_rules! is_int {
 /// The operators of the language.
 pub const TABLE: OpTable<18> = operators!(table!());
 
+macro_rules! row_at {
+    (($at:expr) $($arity:tt { $($op:ident = $number:tt, $sign:tt, $level:tt, $takes:ident -> $gives:ident, $how:ident $by:tt;)* })*) => {
+        match $at {
+            $($(Op::$op => OpRow {
+                number: $number,
+                sign: $sign,
+                arity: $arity,
+                level: $level,
+                takes: Takes::$takes,
+                gives_int: is_int!($gives),
+            },)*)*
+        }
+    };
+}
+
 /// The row of an operator in `TABLE`.
 pub fn row(op: Op) -> OpRow
     ensures number { result.number ≡ (row_of op).number }
@@ -114,7 +129,7 @@ pub fn row(op: Op) -> OpRow
     ensures takes { result.takes ≡ (row_of op).takes }
     ensures gives_int { result.gives_int ≡ (row_of op).gives_int }
 {
-    TABLE.rows[op as usize]
+    operators!(row_at!(op))
 }
 
 macro_rules! apply_each {
