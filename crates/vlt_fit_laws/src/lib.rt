@@ -6,12 +6,18 @@
 mod narrow;
 mod sizes;
 
+ghost use Rattle.vlt_fit_laws.specs.Fit.{ProgramsAreFit};
+
 pub use narrow::declared_externals_are_narrow;
 pub use sizes::{declared_sets_are_small, declared_structs_are_small};
-
-ghost use Rattle.vlt_fit_laws.specs.Fit.{ProgramsAreFit};
-use vlt_resolve_laws::{ elaborated_programs_are_kinded, elaborated_programs_have_arms, elaborated_programs_have_blank_externals, elaborated_programs_have_few_variables, elaborated_programs_have_sets, elaborated_programs_have_states, };
-use vlt_fit_laws::{ declared_externals_are_narrow, declared_sets_are_small, declared_structs_are_small, };
+use vlt_fit_laws::{
+    declared_externals_are_narrow, declared_sets_are_small, declared_structs_are_small,
+};
+use vlt_resolve_laws::{
+    elaborated_programs_are_kinded, elaborated_programs_have_arms,
+    elaborated_programs_have_blank_externals, elaborated_programs_have_few_variables,
+    elaborated_programs_have_sets, elaborated_programs_have_states,
+};
 
 /// The core program of a tree that a text has is all that the check and the law on runs ask for.
 pub fn programs_are_fit()
