@@ -64,31 +64,31 @@ pub only_type : (o : Option ℕ) (ts : List ℕ) → Gives o ts → (t : ℕ) �
 only_type o [] given t is = absurd (given.some t is)
 only_type o (u ∷ us) given t is = all_same o t (u ∷ us) is given.each
 
-abbrev refers : (type : ℕ) → List ℕ → Rules
+pub abbrev refers : (type : ℕ) → List ℕ → Rules
 refers t [] = rule.KEY_ARGUMENT ∷ []
 refers t (u ∷ us) = unless (are_all t (u ∷ us)) rule.TWO_KEY_TYPES
 
-refers_right : (o : Option ℕ) (ts : List ℕ) → Gives o ts → (t : ℕ) → o ≡ Some t → refers t ts ≡ []
+pub refers_right : (o : Option ℕ) (ts : List ℕ) → Gives o ts → (t : ℕ) → o ≡ Some t → refers t ts ≡ []
 refers_right o [] given t is = absurd (given.some t is)
 refers_right o (u ∷ us) given t is = holds (are_all t (u ∷ us)) rule.TWO_KEY_TYPES (all_same o t (u ∷ us) is given.each)
 
-abbrev listed_as : Option ℕ → ℕ → Rules
+pub abbrev listed_as : Option ℕ → ℕ → Rules
 listed_as None u = rule.WRONG_TYPE ∷ []
 listed_as (Some t) u = unless (t == u) rule.WRONG_TYPE
 
-abbrev agrees : Option ℕ → List ℕ → Rules
+pub abbrev agrees : Option ℕ → List ℕ → Rules
 agrees None [] = []
 agrees (Some t) [] = rule.WRONG_TYPE ∷ []
 agrees listed (u ∷ us) = if are_all u us then listed_as listed u else rule.TWO_KEY_TYPES ∷ []
 
-agrees_right : (o : Option ℕ) (ts : List ℕ) → Gives o ts → agrees o ts ≡ []
+pub agrees_right : (o : Option ℕ) (ts : List ℕ) → Gives o ts → agrees o ts ≡ []
 agrees_right None [] given = refl
 agrees_right (Some t) [] given = absurd (given.some t refl)
 agrees_right None (u ∷ us) given = absurd (none-some u given.each.0)
 agrees_right (Some t) (u ∷ us) given =
     rw (all_same (Some t) u us given.each.0 given.each.1) (holds (t == u) rule.WRONG_TYPE (eq-eqb t u (same_Some t u given.each.0)))
 
-if_both : (b : Bool) (rules : Rules) → rules ≡ [] → (if b then [] else rules) ≡ []
+pub if_both : (b : Bool) (rules : Rules) → rules ≡ [] → (if b then [] else rules) ≡ []
 if_both true rules e = refl
 if_both false rules e = e
 
