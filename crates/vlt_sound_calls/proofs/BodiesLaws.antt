@@ -23,7 +23,7 @@ use Rattle.vlt_sound_worlds.specs.Typed.{IsTyped}
 use Rattle.vlt_sound_worlds.specs.Safe.{Goal, Safe, goes_to}
 use Rattle.vlt_sound_worlds.proofs.Safe.{found_safe, so_safe}
 use Rattle.vlt_sound_worlds.proofs.Rows.{pass_split, passed_split}
-use Rattle.vlt_sound_worlds.proofs.Changes.{agrees_map}
+use Rattle.vlt_sound_worlds.proofs.FrameChanges.{agrees_map}
 use Rattle.vlt_sound_worlds.proofs.Empty.{both_empty}
 use Rattle.vlt_sound_worlds.specs.Scoped.{IsScoped}
 use Rattle.vlt_sound_worlds.specs.Handed.{handed}

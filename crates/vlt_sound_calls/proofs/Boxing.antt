@@ -20,7 +20,7 @@ use Rattle.vlt_sound_worlds.specs.Scene.{Focus}
 use Rattle.vlt_sound_worlds.specs.Fits.{Fits}
 use Rattle.vlt_sound_worlds.specs.Agrees.{Handed, values_of, Context, FociAgree, scene, stock, Agrees}
 use Rattle.vlt_sound_worlds.proofs.Kept.{object_kept}
-use Rattle.vlt_sound_worlds.proofs.Owners.{cells_stay}
+use Rattle.vlt_sound_worlds.proofs.FrameOwners.{cells_stay}
 use Rattle.vlt_sound_worlds.proofs.Chains.{ranked_roots}
 use Rattle.vlt_sound_worlds.proofs.Changing.{agrees_changed, owned_live}
 use Rattle.vlt_sound_calls.specs.TakenOver.{AreTakenOver}

@@ -29,7 +29,7 @@ use Rattle.vlt_sound_worlds.specs.Safe.{Safe, goes_to}
 use Rattle.vlt_sound_worlds.proofs.Empty.{both_empty, both_so, unless_so}
 use Rattle.vlt_sound_worlds.proofs.Plain.{same_plain, plain_value}
 use Rattle.vlt_sound_worlds.proofs.Safe.{found_safe, so_safe}
-use Rattle.vlt_sound_worlds.proofs.Changes.{target_scope, agrees_set}
+use Rattle.vlt_sound_worlds.proofs.FrameChanges.{target_scope, agrees_set}
 use Rattle.vlt_sound_worlds.proofs.TypeFacts.{var_known, target_known}
 use Rattle.vlt_sound_worlds.proofs.Owning.{fill_safe}
 use Rattle.vlt_sound_worlds.specs.Scoped.{IsScoped}

@@ -9,7 +9,7 @@ use Rattle.vlt_meaning.specs.Calls.{entries_after}
 use Rattle.vlt_meaning.specs.Externals.{is_taken, is_given}
 use Rattle.vlt_sound_worlds.proofs.Rows.{row_here, row_other}
 use Rattle.vlt_sound_worlds.proofs.Touch.{held_is}
-use Rattle.vlt_sound_worlds.proofs.Owners.{ChangesTok}
+use Rattle.vlt_sound_worlds.proofs.FrameOwners.{ChangesTok}
 use Rattle.vlt_sound_worlds.proofs.Leaving.{key_same, var_is_no_key}
 use Rattle.vlt_sound_calls.specs.Callee.{Among, AreApartBy, caller_key}
 use Rattle.vlt_sound_calls.proofs.Entries.{same_entry, sought}

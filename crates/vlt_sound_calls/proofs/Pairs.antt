@@ -13,7 +13,7 @@ use Rattle.vlt_sound_worlds.proofs.Look.{changes_one}
 use Rattle.vlt_sound_worlds.specs.Members.{In, IsOnce}
 use Rattle.vlt_sound_worlds.proofs.Members.{in_or_not}
 use Rattle.vlt_sound_worlds.specs.Fits.{Names}
-use Rattle.vlt_sound_worlds.proofs.Changes.{set_here, set_other}
+use Rattle.vlt_sound_worlds.proofs.FrameChanges.{set_here, set_other}
 use Rattle.vlt_sound_worlds.proofs.Leaving.{length_changed}
 use Rattle.vlt_sound_calls.specs.Returned.{IsKept, AreKept}
 use Rattle.vlt_sound_calls.specs.Callee.{Among, AreApartBy, caller_key}

@@ -20,8 +20,8 @@ use Rattle.vlt_sound_worlds.specs.Fits.{IsOne, Fits}
 use Rattle.vlt_sound_worlds.proofs.Fits.{fits_named}
 use Rattle.vlt_sound_worlds.specs.Agrees.{Context, scene, Agrees}
 use Rattle.vlt_sound_worlds.specs.Safe.{Goal, Safe}
-use Rattle.vlt_sound_worlds.proofs.Changes.{set_here, set_other}
-use Rattle.vlt_sound_worlds.proofs.Owners.{ChangesTok}
+use Rattle.vlt_sound_worlds.proofs.FrameChanges.{set_here, set_other}
+use Rattle.vlt_sound_worlds.proofs.FrameOwners.{ChangesTok}
 use Rattle.vlt_sound_worlds.proofs.Leaving.{length_changed}
 use Rattle.vlt_sound_worlds.specs.Scopes.{IsFresh}
 use Rattle.vlt_sound_worlds.proofs.Coming.{agrees_bound, bound_heads}

@@ -16,7 +16,7 @@ use Rattle.vlt_sound_worlds.specs.Scene.{Focus, Grows, SameStates}
 use Rattle.vlt_sound_worlds.proofs.Scene.{grows}
 use Rattle.vlt_sound_worlds.specs.Agrees.{ObjectFits, IsAdoptable, Handed, Context, FociAgree, scene, stock, Agrees}
 use Rattle.vlt_sound_worlds.proofs.Kept.{KeepsOwned, object_kept}
-use Rattle.vlt_sound_worlds.proofs.Owners.{cells_stay}
+use Rattle.vlt_sound_worlds.proofs.FrameOwners.{cells_stay}
 
 -- an object that was under a key is under another one
 pub record IsRekeyed (old new : Object) : Type 0 where

@@ -23,7 +23,7 @@ use Rattle.vlt_sound_worlds.specs.Members.{In}
 use Rattle.vlt_sound_worlds.specs.Agrees.{Context, scene, Agrees}
 use Rattle.vlt_sound_worlds.specs.Typed.{IsTyped}
 use Rattle.vlt_sound_worlds.specs.Safe.{Goal, Safe, goes_to}
-use Rattle.vlt_sound_worlds.proofs.Changes.{agrees_map}
+use Rattle.vlt_sound_worlds.proofs.FrameChanges.{agrees_map}
 use Rattle.vlt_sound_worlds.specs.Scoped.{IsKeyInScope, IsScoped}
 use Rattle.vlt_sound_worlds.proofs.Starting as starting
 use Rattle.vlt_sound_calls.specs.Returned.{IsEntered}

@@ -35,7 +35,7 @@ use Rattle.vlt_sound_worlds.proofs.Rows.{pass_split, passed_split}
 use Rattle.vlt_sound_worlds.proofs.Expressions.{names_at}
 use Rattle.vlt_sound_worlds.proofs.Plain.{plain_value}
 use Rattle.vlt_sound_worlds.proofs.Safe.{found_safe, so_safe}
-use Rattle.vlt_sound_worlds.proofs.Changes.{agrees_set, target_scope}
+use Rattle.vlt_sound_worlds.proofs.FrameChanges.{agrees_set, target_scope}
 use Rattle.vlt_sound_worlds.proofs.Owning.{fill_safe}
 use Rattle.vlt_sound_worlds.proofs.TypeFacts.{target_known}
 use Rattle.vlt_sound_worlds.specs.Handed.{handed}

@@ -33,8 +33,8 @@ use Rattle.vlt_sound_worlds.specs.Safe.{Goal, Safe}
 use Rattle.vlt_sound_worlds.proofs.Rows.{row_here, row_other}
 use Rattle.vlt_sound_worlds.proofs.Touch.{named}
 use Rattle.vlt_sound_worlds.proofs.Safe.{found_safe}
-use Rattle.vlt_sound_worlds.proofs.Changes.{set_here, set_other}
-use Rattle.vlt_sound_worlds.proofs.Owners.{agrees_owner, ChangesTok, cells_stay}
+use Rattle.vlt_sound_worlds.proofs.FrameChanges.{set_here, set_other}
+use Rattle.vlt_sound_worlds.proofs.FrameOwners.{agrees_owner, ChangesTok, cells_stay}
 use Rattle.vlt_sound_worlds.proofs.Leaving.{key_same, var_is_no_key, length_changed}
 use Rattle.vlt_sound_worlds.proofs.Moved.{owned_found}
 use Rattle.vlt_sound_statements.proofs.Facts.{absent_is}

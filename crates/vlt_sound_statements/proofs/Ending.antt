@@ -19,7 +19,7 @@ use Rattle.vlt_sound_worlds.specs.Keys.{KeyAgrees, IsUnder, IsSameObject, SameUn
 use Rattle.vlt_sound_worlds.specs.Scene.{Focus}
 use Rattle.vlt_sound_worlds.specs.Agrees.{VarsAgree, Handed, values_of, FitHanded, Context, FociAgree, scene, stock, Agrees}
 use Rattle.vlt_sound_worlds.proofs.Kept.{object_kept}
-use Rattle.vlt_sound_worlds.proofs.Owners.{cells_stay}
+use Rattle.vlt_sound_worlds.proofs.FrameOwners.{cells_stay}
 use Rattle.vlt_sound_worlds.specs.Moved.{MovesThese}
 use Rattle.vlt_sound_worlds.proofs.Changing.{agrees_changed, owned_live}
 use Rattle.vlt_sound_statements.specs.Ended.{AreEnded}

@@ -31,7 +31,7 @@ use Rattle.vlt_sound_worlds.proofs.Empty.{both_empty}
 use Rattle.vlt_sound_worlds.proofs.Rows.{row_here}
 use Rattle.vlt_sound_worlds.proofs.Touch.{named, held_found, guarded_found, held_is, guarded_held, tracked_held}
 use Rattle.vlt_sound_worlds.proofs.Safe.{found_safe}
-use Rattle.vlt_sound_worlds.proofs.Changes.{set_here, agrees_set}
+use Rattle.vlt_sound_worlds.proofs.FrameChanges.{set_here, agrees_set}
 use Rattle.vlt_sound_worlds.proofs.Leaving.{agrees_adopted}
 use Rattle.vlt_sound_worlds.specs.Scopes.{IsFresh}
 use Rattle.vlt_sound_worlds.proofs.Blocks.{agrees_below, agrees_in}

@@ -20,7 +20,7 @@ use Rattle.vlt_sound_worlds.specs.Keys.{IsUnder, IsOnly, KeyAgrees}
 use Rattle.vlt_sound_worlds.proofs.KeysLaws.{key_kept, key_held, key_lent, held_one, lent_one, under_one}
 use Rattle.vlt_sound_worlds.specs.Scene.{Focus}
 use Rattle.vlt_sound_worlds.specs.Agrees.{HasVar, Handed, Context, FociAgree, stock, Agrees}
-use Rattle.vlt_sound_worlds.proofs.Owners.{agrees_owner, ChangesTok, cells_stay}
+use Rattle.vlt_sound_worlds.proofs.FrameOwners.{agrees_owner, ChangesTok, cells_stay}
 use Rattle.vlt_sound_worlds.proofs.Leaving.{key_same, var_is_no_key, length_changed}
 
 -- ---- held, or lent

@@ -28,7 +28,7 @@ use Rattle.vlt_sound_worlds.specs.Safe.{Goal, Safe, goes_to}
 use Rattle.vlt_sound_worlds.proofs.Empty.{both_empty, unless_so}
 use Rattle.vlt_sound_worlds.proofs.Rows.{pass_split, passed_split, row_here}
 use Rattle.vlt_sound_worlds.proofs.Safe.{found_safe, so_safe}
-use Rattle.vlt_sound_worlds.proofs.Changes.{agrees_set, set_here}
+use Rattle.vlt_sound_worlds.proofs.FrameChanges.{agrees_set, set_here}
 use Rattle.vlt_sound_worlds.specs.Scopes.{IsFresh}
 use Rattle.vlt_sound_worlds.proofs.Owning.{absent_is, row_tok}
 use Rattle.vlt_sound_worlds.proofs.TypeFacts.{var_known}

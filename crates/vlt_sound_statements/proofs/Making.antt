@@ -30,8 +30,8 @@ use Rattle.vlt_sound_worlds.specs.Agrees.{HasVar, FitCells, ObjectFits, Handed, 
 use Rattle.vlt_sound_worlds.specs.Typed.{IsTyped}
 use Rattle.vlt_sound_worlds.proofs.Kept.{KeepsOwned, cells_kept, object_kept}
 use Rattle.vlt_sound_worlds.proofs.Expressions.{names_at}
-use Rattle.vlt_sound_worlds.proofs.Changes.{set_here, set_other}
-use Rattle.vlt_sound_worlds.proofs.Owners.{ChangesTok}
+use Rattle.vlt_sound_worlds.proofs.FrameChanges.{set_here, set_other}
+use Rattle.vlt_sound_worlds.proofs.FrameOwners.{ChangesTok}
 use Rattle.vlt_sound_worlds.proofs.Leaving.{key_same, var_is_no_key}
 use Rattle.vlt_sound_worlds.specs.Scopes.{NoneSpeaks, NonePins, IsFresh}
 use Rattle.vlt_sound_worlds.specs.Handed.{handed}

@@ -39,7 +39,7 @@ use Rattle.vlt_sound_worlds.proofs.Touch.{tracked_held, named}
 use Rattle.vlt_sound_worlds.proofs.Expressions.{names_at}
 use Rattle.vlt_sound_worlds.proofs.Safe.{found_safe}
 use Rattle.vlt_sound_worlds.proofs.Kept.{cells_in}
-use Rattle.vlt_sound_worlds.proofs.Owners.{ChangesTok}
+use Rattle.vlt_sound_worlds.proofs.FrameOwners.{ChangesTok}
 use Rattle.vlt_sound_worlds.proofs.TypeFacts.{tracked_known}
 use Rattle.vlt_sound_worlds.proofs.Owning.{row_tok}
 use Rattle.vlt_sound_worlds.proofs.Adopting.{object_found}

@@ -26,7 +26,7 @@ use Rattle.vlt_sound_worlds.specs.Safe.{Goal, Safe}
 use Rattle.vlt_sound_worlds.proofs.Empty.{both_empty, both_so, unless_so}
 use Rattle.vlt_sound_worlds.proofs.Rows.{row_here}
 use Rattle.vlt_sound_worlds.proofs.Safe.{so_safe}
-use Rattle.vlt_sound_worlds.proofs.Changes.{agrees_set}
+use Rattle.vlt_sound_worlds.proofs.FrameChanges.{agrees_set}
 use Rattle.vlt_sound_worlds.proofs.Plain.{same_plain, plain_value}
 use Rattle.vlt_sound_worlds.proofs.Handing.{agrees_filled}
 use Rattle.vlt_sound_worlds.proofs.TypeFacts.{var_known, fits_wider}

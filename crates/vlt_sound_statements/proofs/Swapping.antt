@@ -29,7 +29,7 @@ use Rattle.vlt_sound_worlds.specs.Agrees.{HasVar, VarsFit, VarsAgree, ObjectFits
 use Rattle.vlt_sound_worlds.specs.Typed.{IsTyped}
 use Rattle.vlt_sound_worlds.proofs.Kept.{KeepsOwned, cells_in, object_kept, old_cells_kept}
 use Rattle.vlt_sound_worlds.proofs.Expressions.{Read, names_at}
-use Rattle.vlt_sound_worlds.proofs.Changes.{set_here, set_other}
+use Rattle.vlt_sound_worlds.proofs.FrameChanges.{set_here, set_other}
 use Rattle.vlt_sound_worlds.proofs.Fields.{cells_set}
 use Rattle.vlt_sound_worlds.specs.Moved.{MovesThese}
 use Rattle.vlt_sound_worlds.proofs.Chains.{ranked_roots, ranked_children}

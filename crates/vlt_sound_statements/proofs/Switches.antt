@@ -32,7 +32,7 @@ use Rattle.vlt_sound_worlds.proofs.Empty.{both_empty, both_so, unless_so, when_s
 use Rattle.vlt_sound_worlds.proofs.Rows.{row_here, row_other, tok_is, pass_split, passed_split}
 use Rattle.vlt_sound_worlds.proofs.Touch.{used}
 use Rattle.vlt_sound_worlds.proofs.Safe.{found_safe}
-use Rattle.vlt_sound_worlds.proofs.Changes.{set_here, agrees_map}
+use Rattle.vlt_sound_worlds.proofs.FrameChanges.{set_here, agrees_map}
 use Rattle.vlt_sound_worlds.proofs.Plain.{plain_value}
 use Rattle.vlt_sound_worlds.proofs.Blocks.{agrees_in}
 use Rattle.vlt_sound_worlds.specs.Scoped.{HasKeys}

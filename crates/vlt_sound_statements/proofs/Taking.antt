@@ -23,8 +23,8 @@ use Rattle.vlt_sound_worlds.proofs.KeysLaws.{key_kept, key_held, none_under, und
 use Rattle.vlt_sound_worlds.specs.Scene.{Focus, IsFocusOn}
 use Rattle.vlt_sound_worlds.proofs.Fits.{fits_named}
 use Rattle.vlt_sound_worlds.specs.Agrees.{HasVar, Pin, Context, FociAgree, PinsAgree, scene, stock, Agrees}
-use Rattle.vlt_sound_worlds.proofs.Changes.{set_here, set_other}
-use Rattle.vlt_sound_worlds.proofs.Owners.{agrees_owner, ChangesTok, cells_stay}
+use Rattle.vlt_sound_worlds.proofs.FrameChanges.{set_here, set_other}
+use Rattle.vlt_sound_worlds.proofs.FrameOwners.{agrees_owner, ChangesTok, cells_stay}
 use Rattle.vlt_sound_worlds.proofs.Leaving.{key_same, var_is_no_key, length_changed}
 use Rattle.vlt_sound_worlds.specs.Scopes.{NonePins, IsFresh}
 

@@ -20,7 +20,7 @@ use Rattle.vlt_sound_worlds.proofs.Empty.{both_empty}
 use Rattle.vlt_sound_worlds.proofs.Rows.{row_here, row_other}
 use Rattle.vlt_sound_worlds.proofs.Touch.{tracked_held, tracked_found, named}
 use Rattle.vlt_sound_worlds.proofs.Safe.{found_safe, so_safe}
-use Rattle.vlt_sound_worlds.proofs.Changes.{target_scope}
+use Rattle.vlt_sound_worlds.proofs.FrameChanges.{target_scope}
 use Rattle.vlt_sound_worlds.proofs.TypeFacts.{target_known}
 use Rattle.std.proofs.lemmas.Bool.{ne_eqb}
 use Rattle.std.proofs.Common.{map, inr, inl, not, ◌==◌, IsTrue, ◌≡◌, List, [], ◌∷◌, ◌++◌}
@@ -35,7 +35,7 @@ use Rattle.vlt_meaning.specs.Run.{any_state}
 use Rattle.vlt_sound_worlds.proofs.Look.{changes_one}
 use Rattle.vlt_sound_worlds.specs.Scene.{IsOf}
 use Rattle.vlt_sound_worlds.proofs.Rows.{stays_passed}
-use Rattle.vlt_sound_worlds.proofs.Changes.{agrees_set, agrees_map}
+use Rattle.vlt_sound_worlds.proofs.FrameChanges.{agrees_set, agrees_map}
 use Rattle.vlt_sound_worlds.proofs.Leaving.{agrees_adopted, key_same}
 use Rattle.vlt_sound_worlds.proofs.Owning.{row_tok}
 use Rattle.vlt_meaning.specs.World.{Object}

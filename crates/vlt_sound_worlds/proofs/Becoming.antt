@@ -35,7 +35,7 @@ use Rattle.vlt_sound_worlds.proofs.Rows.{row_here}
 use Rattle.vlt_sound_worlds.proofs.Touch.{tracked_held, named}
 use Rattle.vlt_sound_worlds.proofs.Safe.{found_safe}
 use Rattle.vlt_sound_worlds.proofs.Kept.{KeepsOwned, vars_kept, handed_kept, var_states, hand_states, rest_kept, object_kept}
-use Rattle.vlt_sound_worlds.proofs.Owners.{ChangesTok, cells_stay}
+use Rattle.vlt_sound_worlds.proofs.FrameOwners.{ChangesTok, cells_stay}
 use Rattle.vlt_sound_worlds.proofs.Leaving.{key_same, var_is_no_key, length_changed}
 use Rattle.vlt_sound_worlds.proofs.TypeFacts.{tracked_known}
 use Rattle.vlt_sound_worlds.proofs.Owning.{row_tok}

@@ -26,8 +26,8 @@ use Rattle.vlt_sound_worlds.specs.Fits.{Names, Fits}
 use Rattle.vlt_sound_worlds.proofs.Fits.{fits_named}
 use Rattle.vlt_sound_worlds.specs.Agrees.{HasVar, InScope, VarsFit, Handed, values_of, FitHanded, Pin, Context, FociAgree, PinsAgree, scene, stock, Agrees}
 use Rattle.vlt_sound_worlds.specs.Scopes.{NoneSpeaks, NonePins, IsFresh}
-use Rattle.vlt_sound_worlds.proofs.Changes.{set_here, set_other}
-use Rattle.vlt_sound_worlds.proofs.Owners.{Moves, agrees_owner, owner_heads, ChangesTok, cells_stay}
+use Rattle.vlt_sound_worlds.proofs.FrameChanges.{set_here, set_other}
+use Rattle.vlt_sound_worlds.proofs.FrameOwners.{Moves, agrees_owner, owner_heads, ChangesTok, cells_stay}
 use Rattle.vlt_sound_worlds.proofs.Leaving.{key_same, var_is_no_key, length_changed}
 
 module _ {p : Program} {f : Func} {c : Context} {h : HeldMap} {ids : Ids} {x : Handed} {hand : List Handed} {frame : Frame} {os : List Object}

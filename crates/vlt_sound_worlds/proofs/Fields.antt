@@ -33,7 +33,7 @@ use Rattle.vlt_sound_worlds.proofs.Expressions.{expr_fine, Read, read, not_ownin
 use Rattle.vlt_sound_worlds.proofs.Plain.{plain_value}
 use Rattle.vlt_sound_worlds.proofs.Safe.{found_safe, fine_safe, so_safe}
 use Rattle.vlt_sound_worlds.proofs.Kept.{KeepsOwned, cells_in, object_kept, old_cells_kept}
-use Rattle.vlt_sound_worlds.proofs.Changes.{agrees_map, agrees_cells}
+use Rattle.vlt_sound_worlds.proofs.FrameChanges.{agrees_map, agrees_cells}
 use Rattle.vlt_sound_worlds.proofs.Leaving.{length_changed}
 use Rattle.vlt_sound_worlds.proofs.TypeFacts.{misfit_plain}
 

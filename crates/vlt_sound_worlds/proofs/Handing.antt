@@ -19,8 +19,8 @@ use Rattle.vlt_sound_worlds.proofs.Roots.{same_root}
 use Rattle.vlt_sound_worlds.specs.Keys.{KeyAgrees}
 use Rattle.vlt_sound_worlds.specs.Fits.{Fits}
 use Rattle.vlt_sound_worlds.specs.Agrees.{HasVar, InScope, VarsAgree, Handed, values_of, Context, scene, stock, Agrees}
-use Rattle.vlt_sound_worlds.proofs.Changes.{set_here, set_other}
-use Rattle.vlt_sound_worlds.proofs.Owners.{ChangesTok}
+use Rattle.vlt_sound_worlds.proofs.FrameChanges.{set_here, set_other}
+use Rattle.vlt_sound_worlds.proofs.FrameOwners.{ChangesTok}
 use Rattle.vlt_sound_worlds.proofs.Leaving.{hand_more, handed_more}
 
 key_is_no_var : {v k : ℕ} → a_key k ≡ a_var v → ⊥

@@ -30,7 +30,7 @@ use Rattle.std.proofs.Common.{zero, suc, ◌++◌, slice_set}
 use Rattle.vlt_sound_worlds.proofs.Look.{changes_one}
 use Rattle.vlt_sound_worlds.proofs.Ranks.{ranked_root, ranked_child}
 use Rattle.vlt_sound_worlds.proofs.KeysLaws.{key_absent, under_is}
-use Rattle.vlt_sound_worlds.proofs.Owners.{agrees_owner, ChangesTok, cells_stay}
+use Rattle.vlt_sound_worlds.proofs.FrameOwners.{agrees_owner, ChangesTok, cells_stay}
 
 pub key_same : {k j : ℕ} → a_key k ≡ a_key j → k ≡ j
 key_same e = ap number e

@@ -17,8 +17,8 @@ pub mod Expressions
 pub mod Plain
 pub mod Safe
 pub mod Kept
-pub mod Changes
-pub mod Owners
+pub mod FrameChanges
+pub mod FrameOwners
 pub mod Leaving
 pub mod Handing
 pub mod TypeFacts

@@ -26,7 +26,7 @@ use Rattle.vlt_sound_worlds.proofs.Touch.{used, tracked_held, tracked_found, nam
 use Rattle.vlt_sound_worlds.proofs.Expressions.{expr_fine}
 use Rattle.vlt_sound_worlds.proofs.Plain.{plain_value}
 use Rattle.vlt_sound_worlds.proofs.Safe.{found_safe, fine_safe}
-use Rattle.vlt_sound_worlds.proofs.Changes.{agrees_map}
+use Rattle.vlt_sound_worlds.proofs.FrameChanges.{agrees_map}
 use Rattle.vlt_sound_worlds.proofs.Leaving.{agrees_packed}
 use Rattle.vlt_sound_worlds.proofs.Handing.{agrees_moved}
 use Rattle.vlt_sound_worlds.proofs.Owning.{full_is, row_tok}

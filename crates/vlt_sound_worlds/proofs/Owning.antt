@@ -26,8 +26,8 @@ use Rattle.vlt_sound_worlds.proofs.Empty.{both_empty}
 use Rattle.vlt_sound_worlds.proofs.Rows.{row_here, row_other}
 use Rattle.vlt_sound_worlds.proofs.Touch.{used, tracked_held, tracked_found, named}
 use Rattle.vlt_sound_worlds.proofs.Safe.{found_safe, so_safe}
-use Rattle.vlt_sound_worlds.proofs.Changes.{target_scope}
-use Rattle.vlt_sound_worlds.proofs.Owners.{ChangesTok}
+use Rattle.vlt_sound_worlds.proofs.FrameChanges.{target_scope}
+use Rattle.vlt_sound_worlds.proofs.FrameOwners.{ChangesTok}
 use Rattle.vlt_sound_worlds.proofs.Leaving.{agrees_packed}
 use Rattle.vlt_sound_worlds.proofs.Handing.{agrees_moved, agrees_filled}
 use Rattle.vlt_sound_worlds.proofs.TypeFacts.{target_known, fits_wider, wanted_owning, move_facts, pack_facts, packed_tracked}

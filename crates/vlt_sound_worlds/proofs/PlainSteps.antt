@@ -28,7 +28,7 @@ use Rattle.vlt_sound_worlds.proofs.Rows.{stays_passed, expr_stays}
 use Rattle.vlt_sound_worlds.proofs.Expressions.{expr_fine, wanted_number, IsNumber}
 use Rattle.vlt_sound_worlds.proofs.Plain.{plain_value}
 use Rattle.vlt_sound_worlds.proofs.Safe.{found_safe, fine_safe, input_safe}
-use Rattle.vlt_sound_worlds.proofs.Changes.{agrees_map, agrees_set, target_scope}
+use Rattle.vlt_sound_worlds.proofs.FrameChanges.{agrees_map, agrees_set, target_scope}
 use Rattle.vlt_sound_worlds.proofs.TypeFacts.{target_known, misfit_plain, basic_is}
 
 -- a number that is found

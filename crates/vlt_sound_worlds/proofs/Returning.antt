@@ -19,7 +19,7 @@ use Rattle.vlt_sound_worlds.specs.Keys.{KeyAgrees, IsUnder, IsOfType}
 use Rattle.vlt_sound_worlds.proofs.KeysLaws.{key_kept, key_held, none_under, under_one}
 use Rattle.vlt_sound_worlds.specs.Scene.{Focus}
 use Rattle.vlt_sound_worlds.specs.Agrees.{HasVar, Handed, Context, FociAgree, stock, Agrees}
-use Rattle.vlt_sound_worlds.proofs.Owners.{agrees_owner, ChangesTok, cells_stay}
+use Rattle.vlt_sound_worlds.proofs.FrameOwners.{agrees_owner, ChangesTok, cells_stay}
 use Rattle.vlt_sound_worlds.proofs.Leaving.{key_same, var_is_no_key, length_changed}
 
 module _ {p : Program} {f : Func} {c : Context} {h : HeldMap} {ids : Ids} {hand : List Handed} {frame : Frame} {os : List Object}

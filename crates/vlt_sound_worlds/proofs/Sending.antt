@@ -23,7 +23,7 @@ use Rattle.vlt_sound_worlds.proofs.KeysLaws.{key_kept, key_absent, under_is}
 use Rattle.vlt_sound_worlds.specs.Scene.{Focus}
 use Rattle.vlt_sound_worlds.specs.Agrees.{HasVar, Handed, values_of, Context, FociAgree, stock, Agrees}
 use Rattle.vlt_sound_worlds.proofs.Kept.{object_kept}
-use Rattle.vlt_sound_worlds.proofs.Owners.{cells_stay}
+use Rattle.vlt_sound_worlds.proofs.FrameOwners.{cells_stay}
 use Rattle.vlt_sound_worlds.proofs.Binding.{first_or_other}
 use Rattle.vlt_sound_worlds.proofs.Starting.{has_in}
 use Rattle.vlt_sound_worlds.proofs.Chains.{ranked_roots}

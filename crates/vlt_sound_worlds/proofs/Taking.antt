@@ -20,7 +20,7 @@ use Rattle.vlt_sound_worlds.proofs.KeysLaws.{key_kept, under_one}
 use Rattle.vlt_sound_worlds.specs.Scene.{Focus}
 use Rattle.vlt_sound_worlds.specs.Fits.{Fits}
 use Rattle.vlt_sound_worlds.specs.Agrees.{Handed, values_of, Context, FociAgree, scene, stock, Agrees}
-use Rattle.vlt_sound_worlds.proofs.Owners.{agrees_owner, cells_stay}
+use Rattle.vlt_sound_worlds.proofs.FrameOwners.{agrees_owner, cells_stay}
 use Rattle.vlt_sound_worlds.proofs.Leaving.{length_changed, hand_more, handed_more}
 
 module _ {p : Program} {f : Func} {c : Context} {h : HeldMap} {ids : Ids} {hand : List Handed} {frame : Frame} {os : List Object}

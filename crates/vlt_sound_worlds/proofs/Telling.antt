@@ -20,7 +20,7 @@ use Rattle.vlt_sound_worlds.specs.Scene.{Focus, Grows}
 use Rattle.vlt_sound_worlds.proofs.Scene.{grows}
 use Rattle.vlt_sound_worlds.specs.Agrees.{Handed, Context, FociAgree, ObjectFits, scene, stock, Agrees}
 use Rattle.vlt_sound_worlds.proofs.Kept.{KeepsOwned, vars_kept, handed_kept, var_states, hand_states, rest_kept, object_kept}
-use Rattle.vlt_sound_worlds.proofs.Owners.{cells_stay}
+use Rattle.vlt_sound_worlds.proofs.FrameOwners.{cells_stay}
 use Rattle.vlt_sound_worlds.proofs.Leaving.{length_changed}
 
 module _ {p : Program} {f : Func} {c : Context} {h : HeldMap} {ids : Ids} {hand : List Handed} {frame : Frame} {os : List Object}

@@ -25,7 +25,7 @@ use Rattle.vlt_sound_worlds.proofs.Empty.{both_empty}
 use Rattle.vlt_sound_worlds.proofs.Rows.{row_here}
 use Rattle.vlt_sound_worlds.proofs.Touch.{used, named}
 use Rattle.vlt_sound_worlds.proofs.Safe.{found_safe}
-use Rattle.vlt_sound_worlds.proofs.Changes.{set_here, set_other, agrees_set}
+use Rattle.vlt_sound_worlds.proofs.FrameChanges.{set_here, set_other, agrees_set}
 use Rattle.vlt_sound_worlds.proofs.Leaving.{length_changed}
 use Rattle.vlt_sound_worlds.proofs.TypeFacts.{var_known, apart_same}
 use Rattle.vlt_sound_worlds.proofs.Owning.{row_tok, absent_is, full_is}
