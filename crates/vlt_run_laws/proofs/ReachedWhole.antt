@@ -14,7 +14,7 @@ use Rattle.vlt_sound_worlds.specs.Agrees.{Agrees}
 use Rattle.vlt_sound_calls.specs.Meet.{HasFunctions}
 use Rattle.vlt_sound_calls.specs.Externals.{ExternalsAreSafe}
 use Rattle.vlt_sound_calls.proofs.HostsLaws.{externals_are_safe}
-use Rattle.vlt_sound_calls.proofs.Results.{answers_safe}
+use Rattle.vlt_sound_calls.proofs.HostResults.{answers_safe}
 use Rattle.vlt_sound_statements.specs.Kinded.{BreakNone}
 use Rattle.vlt_sound.specs.Sizes.{HasSizes}
 use Rattle.vlt_sound.specs.Narrow.{HasNarrowHeads}

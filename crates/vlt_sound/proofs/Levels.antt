@@ -21,7 +21,7 @@ use Rattle.vlt_sound_statements.proofs.Bodies.{body_safe}
 use Rattle.vlt_sound.specs.Narrow.{HasNarrowHeads}
 use Rattle.vlt_sound.proofs.HeadsLaws.{has_hosts}
 use Rattle.vlt_sound_calls.proofs.HostsLaws.{externals_are_safe}
-use Rattle.vlt_sound_calls.proofs.Results.{answers_safe}
+use Rattle.vlt_sound_calls.proofs.HostResults.{answers_safe}
 
 module _ (p : Program) (heap depth : ℕ) (kinded : IsKinded p) (accepted : IsAccepted p)
     (sizes : HasSizes p) (filled : HasStates p) (narrow : HasNarrowHeads p) where

@@ -32,4 +32,4 @@ pub mod HostsLaws
 pub mod Maps
 pub mod Fitting
 pub mod News
-pub mod Results
+pub mod HostResults
