@@ -10,9 +10,6 @@ ghost use Rattle.vlt_fit_laws.specs.Fit.{ProgramsAreFit};
 
 pub use narrow::declared_externals_are_narrow;
 pub use sizes::{declared_sets_are_small, declared_structs_are_small};
-use vlt_fit_laws::{
-    declared_externals_are_narrow, declared_sets_are_small, declared_structs_are_small,
-};
 use vlt_resolve_laws::{
     elaborated_programs_are_kinded, elaborated_programs_have_arms,
     elaborated_programs_have_blank_externals, elaborated_programs_have_few_variables,
