@@ -1,5 +1,5 @@
-//! Transcripts: files and commands come in, and go out again with what each command wrote and its status.
-//! Read `stdin` first: `rt ci` wants the program to write the very lines that it reads.
+//! Transcripts: files and commands come in, with what each command writes and its status; where it is something else, that goes out.
+//! Read `stdin` first. The last line tells how many commands were run.
 //! Nothing rests on it: `vaultc_core::vaultc` has the clauses.
 #![tactic(auto)]
 
@@ -17,97 +17,114 @@ mod outside;
 mod sizes;
 
 use std::alloc::Global;
-use std::io::{self, BufRead, BufReader, ErrorKind};
+use std::io::{self, BufRead, BufReader, ErrorKind, Write};
 use vaultc_core::vaultc;
-use vlt_io::{MemStore, OutSink};
+use vlt_io::{MemSink, MemStore};
 
-/// What the lines of a transcript are at one place.
+/// The most bytes that a command may write.
+const ROOM: usize = 65_536;
+
+/// What the next line of a transcript is.
 #[derive(Clone, Copy)]
 enum Part {
-    /// Headings and remarks, commands, and where a file begins.
+    /// A heading or a remark, a command, or where a file begins.
     Text,
-    /// The lines of a file, up to `---`.
+    /// A line of a file, up to `---`.
     File,
-    /// What a command wrote, up to its status.
+    /// A line that a command writes, up to its status.
     Reply,
 }
 
-/// The files so far, the one that is being read, and what the next line is.
+/// The files so far, and what was read last.
 #[derive(Drop)]
 struct Transcript {
     store: MemStore,
-    name: String,
-    bytes: Vec<u8>,
     part: Part,
+    /// The name of the file that is being read, or the words of the command.
+    title: String,
+    /// The bytes of the file so far, or those of the reply.
+    bytes: Vec<u8>,
+    commands: u32,
 }
 
 impl Transcript {
     fn new(alloc: Global) -> io::Result<Transcript> {
         Ok(Transcript {
             store: MemStore::new(alloc, &[]).map_err(|_| ErrorKind::OutOfMemory)?,
-            name: String::new(alloc),
-            bytes: Vec::new(alloc),
             part: Part::Text,
+            title: String::new(alloc),
+            bytes: Vec::new(alloc),
+            commands: 0,
         })
     }
 
-    /// A line of a file.
+    /// Begins a file or a command, where the line does so.
+    fn begin(&mut self, alloc: Global, line: &str) -> io::Result<()> {
+        let (part, title) = if let Some(name) = line.strip_prefix("--- ") {
+            (Part::File, name)
+        } else if let Some(words) = line.strip_prefix("$ ") {
+            (Part::Reply, words)
+        } else {
+            return Ok(());
+        };
+        self.part = part;
+        self.title = String::from_str(alloc, title)?;
+        self.bytes = Vec::new(alloc);
+        Ok(())
+    }
+
+    /// Keeps a line of a file or of a reply.
     fn keep(&mut self, line: &str) -> io::Result<()> {
-        if line == "---" {
-            self.part = Part::Text;
-            let added = self.store.add(self.name.as_str(), self.bytes.as_slice());
-            return added.map_err(|_| ErrorKind::OutOfMemory.into());
-        }
         self.bytes.extend_from_slice(line.as_bytes())?;
         self.bytes.push(b'\n')?;
         Ok(())
     }
-}
 
-/// Carries out a command over the files so far.
-fn carry_out<R: Print>(rt: &R, alloc: Global, line: &str, store: &mut MemStore) -> io::Result<()> {
-    let mut words = Vec::new(alloc);
-    for word in line.split(' ') {
-        words.push(String::from_str(alloc, word)?)?;
+    /// The file is whole.
+    fn end_file(&mut self) -> io::Result<()> {
+        self.part = Part::Text;
+        let added = self.store.add(self.title.as_str(), self.bytes.as_slice());
+        added.map_err(|_| ErrorKind::OutOfMemory.into())
     }
-    let status = vaultc(
-        alloc,
-        words.as_slice(),
-        store,
-        &mut OutSink::new(io::writer(rt)),
-    );
-    println!(rt; "= {status}")
-}
 
-/// Takes one line of a transcript.
-fn take<R: Print>(
-    rt: &R,
-    alloc: Global,
-    transcript: &mut Transcript,
-    line: &str,
-) -> io::Result<()> {
-    match transcript.part {
-        Part::File => {
-            println!(rt; "{line}")?;
-            transcript.keep(line)
+    /// What the command writes over the files so far, and the line of its status.
+    fn reply(&mut self, alloc: Global) -> io::Result<Vec<u8>> {
+        let mut words = Vec::new(alloc);
+        for word in self.title.split(' ') {
+            words.push(String::from_str(alloc, word)?)?;
         }
-        Part::Reply => {
-            if line.starts_with("= ") {
-                transcript.part = Part::Text;
-            }
-            Ok(())
+        let mut sink = MemSink::new(alloc, ROOM, &[]).map_err(|_| ErrorKind::OutOfMemory)?;
+        let status = vaultc(alloc, words.as_slice(), &mut self.store, &mut sink);
+        let mut found = Vec::from_slice(alloc, sink.bytes())?;
+        found.extend_from_slice(format!(in alloc; "= {status}\n")?.as_bytes())?;
+        Ok(found)
+    }
+
+    /// The reply is whole: prints what the command writes, where that is another one.
+    fn end_reply<R: Print>(&mut self, rt: &R, alloc: Global) -> io::Result<()> {
+        self.part = Part::Text;
+        self.commands = self.commands.saturating_add(1);
+        let found = self.reply(alloc)?;
+        if found.as_slice() != self.bytes.as_slice() {
+            println!(rt; "command {}: $ {}", self.commands, self.title)?;
+            io::writer(rt).write_all(found.as_slice())?;
         }
-        Part::Text => {
-            println!(rt; "{line}")?;
-            if let Some(name) = line.strip_prefix("--- ") {
-                transcript.name = String::from_str(alloc, name)?;
-                transcript.bytes = Vec::new(alloc);
-                transcript.part = Part::File;
-            } else if let Some(words) = line.strip_prefix("$ ") {
-                transcript.part = Part::Reply;
-                return carry_out(rt, alloc, words, &mut transcript.store);
+        Ok(())
+    }
+
+    /// Takes one line.
+    fn take<R: Print>(&mut self, rt: &R, alloc: Global, line: &str) -> io::Result<()> {
+        match self.part {
+            Part::Text => self.begin(alloc, line),
+            Part::File if line == "---" => self.end_file(),
+            Part::File => self.keep(line),
+            Part::Reply => {
+                self.keep(line)?;
+                if line.starts_with("= ") {
+                    self.end_reply(rt, alloc)?;
+                }
+                Ok(())
             }
-            Ok(())
         }
     }
 }
@@ -117,7 +134,7 @@ fn main(rt: HostRuntime) -> io::Result<()> {
     let mut transcript = Transcript::new(alloc)?;
     for line in BufReader::new(alloc, rt.reader())?.lines(alloc) {
         let line = line?;
-        take(&rt, alloc, &mut transcript, line.as_str())?;
+        transcript.take(&rt, alloc, line.as_str())?;
     }
-    Ok(())
+    println!(rt; "{} commands", transcript.commands)
 }
