@@ -2,9 +2,12 @@
 use Rattle.std.specs.Prelude.{◌≡◌, ◌≢◌, ◌<◌, ◌≤◌, ◌+◌, ◌^◌, ℕ, Bool, true, false, List, Option, Some, None, IsSome, ◌⊎◌, length, map, slice_index_or, Result, Err}
 use Rattle.vlt_core.specs.Core.{Tok, Func, Program}
 use Rattle.vlt_core.specs.Maps.{Row, HeldMap, IsBelow, CanPass, passed, gone}
-use Rattle.vlt_core.specs.Flow.{loop as while_form, Flow, Block, Stmts, Arms, size, size_block, size_arms}
+use Rattle.vlt_core.specs.Flow.{loop as while_form, choose, Flow, Block, Stmts, Arms, size, size_block, size_arms}
 use Rattle.vlt_core.specs.Local.{Notes, When, Meets, leads, leads_block, leads_stmts, IsLocal, IsLocalBlock, IsLocalStmts, IsLocalArms, IsLocalIn}
 use Rattle.vlt_core.specs.Maps as maps
+use Rattle.vlt_core.specs.declared.held.Row as code
+use Rattle.vlt_rows.specs.declared.tree.FlowBlock.{FlowBlock}
+use Rattle.vlt_rows.specs.FlowView.{rows_view, block_view}
 use Rattle.vlt_flow.specs.declared.errors.Stop.{Stop}
 use Rattle.vlt_flow.specs.declared.errors.Stop.TheVariants.{Refused}
 use Rattle.vlt_keyset.specs.Held.{Statuses, map_of, gap}
@@ -214,6 +217,10 @@ IsWalkedOn l n s (Some h) old new r = IsWalked (form_part l n s) l n (n + size s
 abbrev pub HasNoneOn : (l : Option ℕ) (n : ℕ) (s : Flow) (o : Option Statuses) (old : Marks) → Type 0
 HasNoneOn l n s None old = ⊥
 HasNoneOn l n s (Some h) old = HasNone (form_part l n s) (map_of h) old
+
+-- a choice between two blocks of the code's
+abbrev pub choice_of : List code.Row → FlowBlock → FlowBlock → Flow
+choice_of rs a b = choose (rows_view rs) (block_view a) (block_view b)
 
 -- the maps kept are a local annotation of the body, and lie below each that is
 pub record IsLeastLocal (s : Block) (h : HeldMap) (k : Marks) : Type 0 where

@@ -7,7 +7,7 @@ ghost use Rattle.vlt_core.specs.Flow.{passes_block, passes_arms};
 ghost use Rattle.vlt_core.specs.HeldView.{toks_of};
 ghost use Rattle.vlt_rows.specs.FlowView.{flow_view, block_view, stmts_view, arms_view, rows_view};
 ghost use Rattle.vlt_keyset.specs.Held.{map_of};
-ghost use Rattle.vlt_flow.specs.Walks.{OnRefused, Passes, slot, HasRoom, IsWalked, HasNone, form_part, block_part, stmts_part, IsJoinedWay, HasNoWay, IsTurn, HasNoTurn, IsJump, HasNoJump, IsLeft, NoLeft, IsPlace, IsWalkedOn, HasNoneOn, IsTurned, IsJoinedArms, HasNoArms, HasRoomFor, ForLoop, IsLoop};
+ghost use Rattle.vlt_flow.specs.Walks.{OnRefused, Passes, slot, HasRoom, IsWalked, HasNone, form_part, block_part, stmts_part, IsJoinedWay, HasNoWay, IsTurn, HasNoTurn, IsJump, HasNoJump, IsLeft, NoLeft, IsPlace, IsWalkedOn, HasNoneOn, IsTurned, IsJoinedArms, HasNoArms, HasRoomFor, ForLoop, IsLoop, choice_of};
 
 use crate::count::count_form;
 use crate::errors::Stop;
@@ -30,6 +30,25 @@ pub struct Walked {
 struct Way {
     passes: bool,
     at: usize,
+}
+
+/// What comes to the statement `at` is this map.
+fn comes(held: Held, at: usize) -> Walked
+    ensures held { result.held ≡ Some held }
+    ensures at { result.at ≡ at }
+{
+    Walked {
+        held: Some(held),
+        at,
+    }
+}
+
+/// Nothing comes to the statement `at`.
+fn stops(at: usize) -> Walked
+    ensures held { result.held ≡ None }
+    ensures at { result.at ≡ at }
+{
+    Walked { held: None, at }
 }
 
 fn either(a: bool, b: bool) -> bool
@@ -128,6 +147,7 @@ fn jump(
     }
 }
 
+/// Walks the statement n, in the loop l.
 #[cycle(walk)]
 pub fn walk_form(
     alloc: Global,
@@ -138,8 +158,8 @@ pub fn walk_form(
     held: Held,
 ) -> Result<Walked, Stop>
     requires room { HasRoom kept.old l n (n + size (flow_view form.now)) }
-    ensures ok { IfOk result (λ w.
-        IsWalked (form_part l n (flow_view form.now)) l n (n + size (flow_view form.now)) (map_of held) kept.old kept.new w.held) }
+    ensures ok { IfOk result (λ w. IsWalked (form_part l n (flow_view form.now))
+        l n (n + size (flow_view form.now)) (map_of held) kept.old kept.new w.held) }
     ensures at { IfOk result (λ w. w.at ≡ n + size (flow_view form.now)) }
     ensures refused { OnRefused result (HasNone (form_part l n (flow_view form.now))
         (map_of held) kept.old) }
@@ -147,38 +167,21 @@ pub fn walk_form(
     match form {
         Flow::Step { rows } => {
             let held = pass(held, rows.as_slice())?;
-            Ok(Walked {
-                held: Some(held),
-                at: n + 1,
-            })
+            Ok(comes(held, n + 1))
         }
         Flow::If {
             rows,
             then_block,
             else_block,
         } => {
-            let inside = pass(held, rows.as_slice())?;
-            let other = inside.copy(alloc)?;
-            let first = walk_way(alloc, kept, then_block, l, n, n + 1, inside)?;
-            let second = walk_way(alloc, kept, else_block, l, n, first.at, other)?;
-            behind(
-                alloc,
-                kept,
-                n,
-                Way {
-                    passes: either(first.passes, second.passes),
-                    at: second.at,
-                },
-            )
+            let rows = rows.as_slice();
+            walk_if(alloc, kept, rows, then_block, else_block, l, n, held)
         }
         Flow::While { rows, body } => {
             kept.join_around(n, held)?;
             let at = walk_turns(alloc, kept, body, rows.as_slice(), n)?;
             let exit = kept.copy_behind(alloc, n)?;
-            Ok(Walked {
-                held: Some(exit),
-                at,
-            })
+            Ok(comes(exit, at))
         }
         Flow::Switch { rows, arms, end } => {
             let inside = pass(held, rows.as_slice())?;
@@ -193,19 +196,45 @@ pub fn walk_form(
         }
         Flow::Return { rows } => {
             let _end = pass(held, rows.as_slice())?;
-            Ok(Walked {
-                held: None,
-                at: n + 1,
-            })
+            Ok(stops(n + 1))
         }
         Flow::Jump { continues, left } => {
             jump(kept, *continues, left.as_slice(), l, held)?;
-            Ok(Walked {
-                held: None,
-                at: n + 1,
-            })
+            Ok(stops(n + 1))
         }
     }
+}
+
+/// The two blocks of the choice n, one after another.
+#[cycle(walk)]
+fn walk_if(
+    alloc: Global,
+    kept: &mut Kept,
+    rows: &[Row],
+    then_block: &FlowBlock,
+    else_block: &FlowBlock,
+    l: Option<usize>,
+    n: usize,
+    held: Held,
+) -> Result<Walked, Stop>
+    requires room { HasRoom kept.old l n
+        (n + size (choice_of rows.now then_block.now else_block.now)) }
+    ensures ok { IfOk result (λ w. IsWalkedOn l n
+        (choice_of rows.now then_block.now else_block.now) (Some held) kept.old kept.new w.held) }
+    ensures at { IfOk result (λ w. w.at
+        ≡ n + size (choice_of rows.now then_block.now else_block.now)) }
+    ensures refused { OnRefused result (HasNoneOn l n
+        (choice_of rows.now then_block.now else_block.now) (Some held) kept.old) }
+{
+    let inside = pass(held, rows)?;
+    let other = inside.copy(alloc)?;
+    let first = walk_way(alloc, kept, then_block, l, n, n + 1, inside)?;
+    let second = walk_way(alloc, kept, else_block, l, n, first.at, other)?;
+    let way = Way {
+        passes: either(first.passes, second.passes),
+        at: second.at,
+    };
+    behind(alloc, kept, n, way)
 }
 
 /// A way of the choice k: what comes to its end is joined behind the choice.
@@ -277,8 +306,8 @@ fn walk_turn(
 ) -> Result<usize, Stop>
     requires room { HasRoom kept.old None (n + 1) (n + 1 + size_block (block_view body.now)) }
     requires before { slot kept.old.around n ≡ Some before.now }
-    ensures ok { OnOk result (
-        IsTurn (rows_view rows.now) (block_view body.now) n (n + 1 + size_block (block_view body.now)) before.now kept.old kept.new) }
+    ensures ok { OnOk result (IsTurn (rows_view rows.now) (block_view body.now)
+        n (n + 1 + size_block (block_view body.now)) before.now kept.old kept.new) }
     ensures at { IfOk result (λ m. m ≡ n + 1 + size_block (block_view body.now)) }
     ensures refused { OnRefused result (HasNoTurn (rows_view rows.now)
         (block_view body.now) n kept.old) }
@@ -331,8 +360,8 @@ pub fn walk_block(
     held: Held,
 ) -> Result<Walked, Stop>
     requires room { HasRoom kept.old l n (n + size_block (block_view block.now)) }
-    ensures ok { IfOk result (λ w.
-        IsWalked (block_part l n (block_view block.now)) l n (n + size_block (block_view block.now)) (map_of held) kept.old kept.new w.held) }
+    ensures ok { IfOk result (λ w. IsWalked (block_part l n (block_view block.now))
+        l n (n + size_block (block_view block.now)) (map_of held) kept.old kept.new w.held) }
     ensures at { IfOk result (λ w. w.at ≡ n + size_block (block_view block.now)) }
     ensures refused { OnRefused result (HasNone (block_part l n (block_view block.now))
         (map_of held) kept.old) }
@@ -380,8 +409,8 @@ fn walk_list(
     held: Held,
 ) -> Result<Walked, Stop>
     requires room { HasRoom kept.old l n (n + size_stmts (stmts_view stmts.now)) }
-    ensures ok { IfOk result (λ w.
-        IsWalked (stmts_part l n (stmts_view stmts.now)) l n (n + size_stmts (stmts_view stmts.now)) (map_of held) kept.old kept.new w.held) }
+    ensures ok { IfOk result (λ w. IsWalked (stmts_part l n (stmts_view stmts.now))
+        l n (n + size_stmts (stmts_view stmts.now)) (map_of held) kept.old kept.new w.held) }
     ensures at { IfOk result (λ w. w.at ≡ n + size_stmts (stmts_view stmts.now)) }
     ensures refused { OnRefused result (HasNone (stmts_part l n (stmts_view stmts.now))
         (map_of held) kept.old) }

@@ -1,13 +1,15 @@
 //! Right sides, for a target: what is refused in them, and what they become.
 
-ghost use Rattle.std.specs.Prelude.{◌≡◌, option_map, Some, map, IfOk, OnOk};
+ghost use Rattle.std.specs.Prelude.{◌≡◌, ◌∷◌, [], option_map, Some, map, IfOk, OnOk};
 ghost use Rattle.vlt_syntax.specs.View as tree;
 ghost use Rattle.vlt_core.specs.View.{ty_of, form_of};
 ghost use Rattle.vlt_kinds_names.specs.Refusals.{least_from};
 ghost use Rattle.vlt_kinds.specs.Seen.{kinds_seen};
 ghost use Rattle.vlt_resolve_exprs.specs.Seen.{scope_seen};
-ghost use Rattle.vlt_resolve_rights.specs.Rights as r;
+ghost use Rattle.vlt_resolve_calls.specs.Calls as c;
 ghost use Rattle.vlt_resolve_calls.specs.Seen.{forms_of, target_seen};
+ghost use Rattle.vlt_resolve_calls.specs.Targets as t;
+ghost use Rattle.vlt_resolve_rights.specs.Rights as r;
 
 use crate::adopts::{check_adopt, core_adopt};
 use crate::news::{check_new, new_forms};
@@ -19,7 +21,7 @@ use vlt_kinds::Kinds;
 use vlt_kinds_names::Found;
 use vlt_resolve_calls::{Forms, Target, Use, build, call};
 use vlt_resolve_exprs::{Scope, same_ty};
-use vlt_syntax::Right;
+use vlt_syntax::{Call, Expr, Right};
 
 #[tactic(auto, unfolding(crate::specs::Rights::input_refused))]
 fn check_input(wanted: &Ty, ty: &Ty, at: u32, found: &mut Found)
@@ -27,6 +29,50 @@ fn check_input(wanted: &Ty, ty: &Ty, at: u32, found: &mut Found)
         (r.input_refused (ty_of wanted.now) (ty_of ty.now) at) }
 {
     found.add_if(!same_ty(wanted, ty), WRONG_TYPE, at);
+}
+
+/// A value for the variable `x`.
+fn value(
+    alloc: Heap,
+    kinds: &Kinds<'_>,
+    scope: &Scope<'_>,
+    target: &Target,
+    x: VarId,
+    expr: &Expr,
+    found: &mut Found,
+) -> Result<Forms, AllocError>
+    ensures refused { OnOk result (found.new.least ≡ least_from found.old.least
+        (t.value_refused (kinds_seen kinds.now) (scope_seen scope.now) (target_seen target.now)
+        (tree.expr_of expr.now))) }
+    ensures forms { IfOk result (λ fs. forms_of fs
+        ≡ t.core_value (kinds_seen kinds.now) (scope_seen scope.now) (target_seen target.now)
+        x.0 (tree.expr_of expr.now) ∷ []) }
+{
+    target.check_value(alloc, kinds, scope, expr, found)?;
+    let form = target.core_value(alloc, kinds, scope, x, expr)?;
+    Ok(Forms::One(form))
+}
+
+/// A call for the variable `x`.
+fn call_for(
+    alloc: Heap,
+    kinds: &Kinds<'_>,
+    scope: &Scope<'_>,
+    target: &Target,
+    x: VarId,
+    called: &Call,
+    found: &mut Found,
+) -> Result<Forms, AllocError>
+    ensures refused { OnOk result (found.new.least ≡ least_from found.old.least
+        (c.call_refused (kinds_seen kinds.now) (scope_seen scope.now)
+        (c.given (target_seen target.now)) (tree.call_of called.now))) }
+    ensures forms { IfOk result (λ fs. forms_of fs
+        ≡ c.core_call (kinds_seen kinds.now) (scope_seen scope.now)
+        (c.given (target_seen target.now)) (Some x.0) (tree.call_of called.now) ∷ []) }
+{
+    let used = Use::Given(target);
+    let form = call(alloc, kinds, scope, used, Some(x), called, found)?;
+    Ok(Forms::One(form))
 }
 
 fn target_right(
@@ -47,27 +93,12 @@ fn target_right(
         (target_seen target.now) x.0 hidden.0 (tree.right_of right.now)) }
 {
     match right {
-        Right::Value(expr) => {
-            target.check_value(alloc, kinds, scope, expr, found)?;
-            let form = target.core_value(alloc, kinds, scope, x, expr)?;
-            Ok(Forms::One(form))
-        }
+        Right::Value(expr) => value(alloc, kinds, scope, target, x, expr, found),
         Right::Build(built) => {
             let form = build(alloc, kinds, scope, &target.ty, x, built, found)?;
             Ok(Forms::One(form))
         }
-        Right::Call(called) => {
-            let form = call(
-                alloc,
-                kinds,
-                scope,
-                Use::Given(target),
-                Some(x),
-                called,
-                found,
-            )?;
-            Ok(Forms::One(form))
-        }
+        Right::Call(called) => call_for(alloc, kinds, scope, target, x, called, found),
         Right::Input(at) => {
             check_input(&Ty::Int, &target.ty, at.from, found);
             Ok(Forms::One(Form::Input { v: x, more: false }))
@@ -82,28 +113,11 @@ fn target_right(
             fields,
             at,
         } => {
+            let inits = fields.as_slice();
             check_new(
-                alloc,
-                kinds,
-                scope,
-                target,
-                owner,
-                named,
-                fields.as_slice(),
-                at.from,
-                found,
+                alloc, kinds, scope, target, owner, named, inits, at.from, found,
             )?;
-            new_forms(
-                alloc,
-                kinds,
-                scope,
-                target,
-                x,
-                hidden,
-                owner,
-                named,
-                fields.as_slice(),
-            )
+            new_forms(alloc, kinds, scope, target, x, hidden, owner, named, inits)
         }
         Right::Adopt {
             variable,

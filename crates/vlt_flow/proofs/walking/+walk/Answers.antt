@@ -9,7 +9,7 @@ use Rattle.vlt_flow.specs.declared.walking.Walked.{Walked}
 use Rattle.vlt_flow.specs.Walks.{Marks, slot, Passes, IsWalked, IsLeft, form_part, block_part, stmts_part}
 use Rattle.vlt_core.specs.HeldView.{toks_of}
 use Rattle.vlt_rows.specs.FlowView.{block_view, arms_view, stmts_view, rows_view}
-use Rattle.vlt_rows.proofs.Views.{block_parts, step_form, if_form, while_form, switch_form, scope_form, focus_form, return_form, jump_form}
+use Rattle.vlt_rows.proofs.Views.{block_parts, step_form, while_form, switch_form, scope_form, focus_form, return_form, jump_form}
 use Rattle.vlt_flow.specs.declared.errors.Stop.{Stop}
 use Rattle.vlt_keyset.specs.Held.{Statuses, map_of}
 use Rattle.vlt_flow.proofs.Passing.{handed, refused_through, split_at}
@@ -235,6 +235,38 @@ walk_arms-walk_way-requires t c =
     let split = split_at _ _ _ lt c.arm-item.is in
     (omega (arith, c.decreases, arming_small _ _ _ _ _ _ _ _ _ c.arm-item.result split c.loop-arm.invariant), arming_room _ _ _ _ _ _ _ _ _ c.arm-item.result split c.requires.room c.loop-arm.invariant)
 
+-- ---- choices
+
+pub walk_if-walk_way-requires : goal.walk_if-walk_way-requires
+walk_if-walk_way-requires t c =
+    let room = c.requires.room in
+    (omega (arith, c.decreases), record { room = room_part _ _ _ _ _ _ room (omega arith) (omega arith); choice = omega arith; other = room.apart c.args.n (omega arith) (omega arith) })
+
+pub walk_if-walk_way-requires-2 : goal.walk_if-walk_way-requires-2
+walk_if-walk_way-requires-2 t c =
+    let room = c.requires.room in
+    let first = c.in_ok-first.ensures in
+    let part = room_part _ _ _ (c.args.n + 1) (c.args.n + 1 + size_block (block_view c.args.then_block.now) + size_block (block_view c.args.else_block.now)) _ room (omega arith) (omega arith) in
+    let more = room_frame _ _ _ _ _ _ _ _ part first.ok.frame in
+    (omega (arith, c.decreases), rw first.at (record { room = room_part _ _ _ _ _ _ more (omega arith) (omega arith); choice = omega arith; other = room.apart c.args.n (omega arith) (omega arith) }))
+
+pub walk_if-returns-in_err-inside-clause-refused : goal.walk_if-returns-in_err-inside-clause-refused
+walk_if-returns-in_err-inside-clause-refused t c = handed _ _ _ c.from_residual.ensures.1 c.in_err-inside.was (choose_rows_none _ _ _ _ _ _ _) c.pass.ensures.refused
+
+pub walk_if-returns-in_err-first-clause-refused : goal.walk_if-returns-in_err-first-clause-refused
+walk_if-returns-in_err-first-clause-refused t c = handed _ _ _ c.from_residual-in_err-first.ensures.1 c.in_err-first.was (choose_first_none _ _ _ _ _ _ _ _ c.in_ok-inside.ensures.ok) c.walk_way.ensures.refused
+
+pub walk_if-returns-in_err-second-clause-refused : goal.walk_if-returns-in_err-second-clause-refused
+walk_if-returns-in_err-second-clause-refused t c =
+    let never = rw (c.in_ok-first.ensures.at, c.in_ok-other.ensures) at c.walk_way-2.ensures.refused in
+    handed _ _ _ c.from_residual-in_err-second.ensures.1 c.in_err-second.was (choose_second_none _ _ _ _ _ _ _ _ _ c.in_ok-inside.ensures.ok c.in_ok-first.ensures.ok) never
+
+pub walk_if-returns-clause-ok : goal.walk_if-returns-clause-ok
+walk_if-returns-clause-ok t c =
+    let second = rw (c.in_ok-first.ensures.at, c.in_ok-other.ensures) at c.in_ok-second.ensures.ok in
+    let place = rw (c.either.ensures, c.in_ok-first.ensures.passes, c.in_ok-second.ensures.passes) at c.behind.ensures.place in
+    IfOk-weaker {Y = Stop} _ _ _ (λ r q. choose_walked _ _ _ _ _ _ _ _ _ _ _ c.requires.room c.in_ok-inside.ensures.ok c.in_ok-first.ensures.ok second q) place
+
 -- ---- forms
 
 pub walk_form-returns-in_err-held-in-Step-clause-refused : goal.walk_form-returns-in_err-held-in-Step-clause-refused
@@ -245,44 +277,7 @@ walk_form-returns-in_err-held-in-Step-clause-refused t c =
 pub walk_form-returns-in_ok-held-in-Step-clause-ok : goal.walk_form-returns-in_ok-held-in-Step-clause-ok
 walk_form-returns-in_ok-held-in-Step-clause-ok t c =
     let p = rw c.as_slice.ensures at c.in_ok-held-in-Step.ensures.ok in
-    rw (step_form _ _ c.in-Step.is) (step_walked _ _ _ _ _ _ p)
-
-pub walk_form-returns-in_err-inside-in-If-clause-refused : goal.walk_form-returns-in_err-inside-in-If-clause-refused
-walk_form-returns-in_err-inside-in-If-clause-refused t c =
-    let never = rw c.as_slice-in-If.ensures at c.pass-in-If.ensures.refused in
-    rw (if_form _ _ _ _ c.in-If.is) (handed _ _ _ c.from_residual-in_err-inside-in-If.ensures.1 c.in_err-inside-in-If.was (choose_rows_none _ _ _ _ _ _ _) never)
-
-pub walk_form-walk_way-requires : goal.walk_form-walk_way-requires
-walk_form-walk_way-requires t c =
-    let room = rw (if_form _ _ _ _ c.in-If.is) at c.requires.room in
-    (omega (arith, c.decreases, ap size (if_form _ _ _ _ c.in-If.is)), record { room = room_part _ _ _ _ _ _ room (omega arith) (omega arith); choice = omega arith; other = room.apart c.args.n (omega arith) (omega arith) })
-
-pub walk_form-walk_way-requires-in-If : goal.walk_form-walk_way-requires-in-If
-walk_form-walk_way-requires-in-If t c =
-    let room = rw (if_form _ _ _ _ c.in-If.is) at c.requires.room in
-    let first = c.in_ok-first-in-If.ensures in
-    let part = room_part _ _ _ (c.args.n + 1) (c.args.n + 1 + size_block (block_view c.in-If.then_block) + size_block (block_view c.in-If.else_block)) _ room (omega arith) (omega arith) in
-    let more = room_frame _ _ _ _ _ _ _ _ part first.ok.frame in
-    (omega (arith, c.decreases, ap size (if_form _ _ _ _ c.in-If.is)), rw first.at (record { room = room_part _ _ _ _ _ _ more (omega arith) (omega arith); choice = omega arith; other = room.apart c.args.n (omega arith) (omega arith) }))
-
-pub walk_form-returns-in_err-first-in-If-clause-refused : goal.walk_form-returns-in_err-first-in-If-clause-refused
-walk_form-returns-in_err-first-in-If-clause-refused t c =
-    let p = rw c.as_slice-in-If.ensures at c.in_ok-inside-in-If.ensures.ok in
-    rw (if_form _ _ _ _ c.in-If.is) (handed _ _ _ c.from_residual-in_err-first-in-If.ensures.1 c.in_err-first-in-If.was (choose_first_none _ _ _ _ _ _ _ _ p) c.walk_way.ensures.refused)
-
-pub walk_form-returns-in_err-second-in-If-clause-refused : goal.walk_form-returns-in_err-second-in-If-clause-refused
-walk_form-returns-in_err-second-in-If-clause-refused t c =
-    let p = rw c.as_slice-in-If.ensures at c.in_ok-inside-in-If.ensures.ok in
-    let never = rw (c.in_ok-first-in-If.ensures.at, c.in_ok-other-in-If.ensures) at c.walk_way-in-If.ensures.refused in
-    rw (if_form _ _ _ _ c.in-If.is) (handed _ _ _ c.from_residual-in_err-second-in-If.ensures.1 c.in_err-second-in-If.was (choose_second_none _ _ _ _ _ _ _ _ _ p c.in_ok-first-in-If.ensures.ok) never)
-
-pub walk_form-returns-in_ok-second-in-If-clause-ok : goal.walk_form-returns-in_ok-second-in-If-clause-ok
-walk_form-returns-in_ok-second-in-If-clause-ok t c =
-    let room = rw (if_form _ _ _ _ c.in-If.is) at c.requires.room in
-    let p = rw c.as_slice-in-If.ensures at c.in_ok-inside-in-If.ensures.ok in
-    let second = rw (c.in_ok-first-in-If.ensures.at, c.in_ok-other-in-If.ensures) at c.in_ok-second-in-If.ensures.ok in
-    let place = rw (c.either.ensures, c.in_ok-first-in-If.ensures.passes, c.in_ok-second-in-If.ensures.passes) at c.behind.ensures.place in
-    rw (if_form _ _ _ _ c.in-If.is) (IfOk-weaker {Y = Stop} _ _ _ (λ r q. choose_walked _ _ _ _ _ _ _ _ _ _ _ room p c.in_ok-first-in-If.ensures.ok second q) place)
+    rw (step_form _ _ c.in-Step.is, c.comes.ensures.held) (step_walked _ _ _ _ _ _ p)
 
 pub walk_form-walk_turns-requires : goal.walk_form-walk_turns-requires
 walk_form-walk_turns-requires t c =
@@ -301,7 +296,7 @@ walk_form-returns-in_ok-exit-in-While-clause-ok t c =
     let room = rw (while_form _ _ _ c.in-While.is) at c.requires.room in
     let g = c.in_ok-join_around-in-While.ensures in
     let turned = rw c.as_slice-in-While.ensures at c.in_ok-at-in-While.ensures.ok in
-    rw (while_form _ _ _ c.in-While.is) (loop_walked _ _ _ _ _ _ _ _ _ room (record { long = g.long; into = g.into; others = g.others; behind = g.behind }) turned c.in_ok-exit-in-While.ensures.same)
+    rw (while_form _ _ _ c.in-While.is, c.comes-in-While.ensures.held) (loop_walked _ _ _ _ _ _ _ _ _ room (record { long = g.long; into = g.into; others = g.others; behind = g.behind }) turned c.in_ok-exit-in-While.ensures.same)
 
 pub walk_form-walk_arms-requires : goal.walk_form-walk_arms-requires
 walk_form-walk_arms-requires t c =
@@ -324,7 +319,7 @@ walk_form-returns-in_ok-way-in-Switch-clause-ok t c =
     let p = rw c.as_slice-in-Switch.ensures at c.in_ok-inside-in-Switch.ensures.ok in
     let arms = rw c.as_slice-in-Switch-2.ensures at c.in_ok-way-in-Switch.ensures.ok in
     let passes = rw c.as_slice-in-Switch-2.ensures at c.in_ok-way-in-Switch.ensures.passes in
-    let place = rw passes at c.behind-in-Switch.ensures.place in
+    let place = rw passes at c.behind.ensures.place in
     rw (switch_form _ _ _ _ c.in-Switch.is) (IfOk-weaker {Y = Stop} _ _ _ (λ r q. switch_walked _ _ _ _ c.in-Switch.end _ _ _ _ _ p arms q) place)
 
 pub walk_form-walk_block-requires : goal.walk_form-walk_block-requires
@@ -373,7 +368,7 @@ walk_form-returns-in_err-_end-in-Return-clause-refused t c =
 pub walk_form-returns-in_ok-_end-in-Return-clause-ok : goal.walk_form-returns-in_ok-_end-in-Return-clause-ok
 walk_form-returns-in_ok-_end-in-Return-clause-ok t c =
     let p = rw c.as_slice-in-Return.ensures at c.in_ok-_end-in-Return.ensures.ok in
-    rw (return_form _ _ c.in-Return.is) (return_walked _ _ _ _ _ _ p)
+    rw (return_form _ _ c.in-Return.is, c.stops.ensures.held) (return_walked _ _ _ _ _ _ p)
 
 pub walk_form-returns-in_err-jump-in-Jump-clause-refused : goal.walk_form-returns-in_err-jump-in-Jump-clause-refused
 walk_form-returns-in_err-jump-in-Jump-clause-refused t c =
@@ -383,4 +378,4 @@ walk_form-returns-in_err-jump-in-Jump-clause-refused t c =
 pub walk_form-returns-in_ok-jump-in-Jump-clause-ok : goal.walk_form-returns-in_ok-jump-in-Jump-clause-ok
 walk_form-returns-in_ok-jump-in-Jump-clause-ok t c =
     let j = rw c.as_slice-in-Jump.ensures at c.in_ok-jump-in-Jump.ensures.ok in
-    rw (jump_form _ _ _ c.in-Jump.is) (jump_walked _ _ _ _ _ _ _ j)
+    rw (jump_form _ _ _ c.in-Jump.is, c.stops-in-Jump.ensures.held) (jump_walked _ _ _ _ _ _ _ j)

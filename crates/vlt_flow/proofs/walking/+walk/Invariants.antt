@@ -2,7 +2,7 @@ use Rattle.std.proofs.Common.{◌+◌, ◌*◌}
 use Rattle.vlt_core.specs.Flow.{size, size_block, size_stmts, size_arms}
 use Rattle.vlt_rows.specs.FlowView.{rows_view, block_view, flow_view, stmts_view, arms_view}
 use Rattle.vlt_keyset.specs.Held.{map_of}
-use Rattle.vlt_flow.specs.Walks.{slot}
+use Rattle.vlt_flow.specs.Walks.{slot, choice_of}
 use Rattle.vlt_flow.proofs.Turning.{Turning, gap_in, Arming, Listing}
 use Rattle.vlt_flow.proofs.walking.+walk.Given as goal
 
@@ -22,6 +22,9 @@ decreases-walk_turns-loop-before l = gap_in (slot l.kept.around l.n)
 
 abbrev pub decreases-walk_form : goal.decreases-walk_form
 decreases-walk_form l = 8 * size (flow_view l.form.now) + 1
+
+abbrev pub decreases-walk_if : goal.decreases-walk_if
+decreases-walk_if l = 8 * size (choice_of l.rows.now l.then_block.now l.else_block.now)
 
 abbrev pub decreases-walk_on : goal.decreases-walk_on
 decreases-walk_on l = 8 * size (flow_view l.form.now) + 2
