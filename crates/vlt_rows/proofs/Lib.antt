@@ -3,3 +3,4 @@ pub mod Looping
 pub mod Collected
 pub mod Building
 pub mod Views
+pub mod Named

@@ -1,9 +1,8 @@
 -- Rows behind rows.
-use Rattle.std.proofs.Common.{◌≡◌, List, [], ◌∷◌, ◌++◌, ◌⊎◌, inl, inr, refl, sym, subst, ⊎_elim, Result, Ok, Err}
+use Rattle.std.proofs.Common.{◌≡◌, List, [], ◌∷◌, ◌++◌, inl, inr, refl, sym, subst, Result, Ok, Err}
 use Rattle.std.specs.Result.{IsErrAnd}
 use Rattle.vlt_core.specs.Maps.{Row}
 use Rattle.vlt_rows.specs.declared.sink.RowError.{RowError}
-use Rattle.vlt_rows.specs.declared.sink.RowError.TheVariants.{Unfit}
 use Rattle.vlt_rows.specs.Taking.{Takes, Stops, TakesAll, StopsIn, TookOrStopped}
 
 module _ {V : Type 0} (takes : Takes V) (stops : Stops V) where
@@ -25,7 +24,7 @@ module _ {V : Type 0} (takes : Takes V) (stops : Stops V) where
   stops_first xs ys v m n (Ok x) d gives p = absurd gives
   stops_first xs ys v m n (Err x) d gives p = record {
     took = tt;
-    stopped = subst (λ e. (e ≡ Unfit) ⊎ StopsIn takes stops (xs ++ ys) v e) (sym gives) (⊎_elim (λ q. inl q) (λ q. inr (stops_left xs ys v d q)) p.stopped);
+    stopped = subst (StopsIn takes stops (xs ++ ys) v) (sym gives) (stops_left xs ys v d p.stopped);
   }
 
   pub stops_more : (xs ys : List Row) (v m n : V) (d : RowError) → TookOrStopped takes stops xs v m (Err d) → TookOrStopped takes stops (xs ++ ys) v n (Err d)
@@ -35,7 +34,7 @@ module _ {V : Type 0} (takes : Takes V) (stops : Stops V) where
   goes_on xs ys v u w (Ok x) p q = record { took = all_then xs ys v u w p.took q.took; stopped = tt }
   goes_on xs ys v u w (Err x) p q = record {
     took = tt;
-    stopped = ⊎_elim (λ s. inl s) (λ s. inr (stops_right xs ys v u x p.took s)) q.stopped;
+    stopped = stops_right xs ys v u x p.took q.stopped;
   }
 
   pub takes_none : (v : V) → TookOrStopped takes stops [] v v (Ok tt)

@@ -1,3 +1,4 @@
+pub mod Wide
 pub mod Taking
 pub mod Pieces
 pub mod FlowView

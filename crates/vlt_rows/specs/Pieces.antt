@@ -1,17 +1,9 @@
 -- Parts of the rows of a statement; private contracts alone cite this.
-use Rattle.std.specs.Prelude.{◌≡◌, ℕ, Bool, true, false, if◌then◌else◌, List, [], ◌∷◌, ◌++◌, map, filter, slice_get, Option, None, Some}
+use Rattle.std.specs.Prelude.{ℕ, Bool, true, false, if◌then◌else◌, List, [], ◌∷◌, ◌++◌, map, filter, slice_get, Option}
 use Rattle.vlt_core.specs.Core.{Operand, Entry, CaseKey, Func, Program, a_key, Form, simple, call}
 use Rattle.vlt_core.specs.Lookups.{VariantOf, KeyIn, case_keys, after_set, is_new, is_given_back, owning_states, is_owning_var, guarded_of, reference_of, release_set}
 use Rattle.vlt_core.specs.Maps.{Row, becomes_absent, becomes_held, becomes_lent, wants_absent, wants_held, wants_in}
-use Rattle.vlt_core.specs.Maps as maps
-use Rattle.vlt_core.specs.HeldView.{after_of}
-use Rattle.vlt_core.specs.Rows.{row, on_key, key_row, empty_row, on_option, operand_rows, entry_row, clause_rows, returned_row, simple_rows, rows_of}
-use Rattle.vlt_core.specs.declared.held.After.{After}
-
--- what the code has for what a row leaves; nothing is said where it has nothing
-abbrev pub IsAfter : maps.After → Option After → Type 0
-IsAfter a None = Unit {0}
-IsAfter a (Some b) = after_of b ≡ a
+use Rattle.vlt_core.specs.Rows.{row, on_key, key_row, empty_row, on_option, operand_rows, entry_row, clause_rows, returned_row, new_rows, given_back_rows, simple_rows, rows_of}
 
 abbrev pub entry_rows : Program → Func → (keys : List ℕ) → Entry → List Row
 entry_rows p f keys e = on_option (slice_get keys e.key) (λ k. entry_row p f k e ∷ [])
@@ -28,6 +20,10 @@ new_row p f value e = if is_new e then returned_row p f value e else []
 abbrev pub given_back_row : Program → Func → Entry → List Row
 given_back_row p f e =
     map (λ e. row (a_key e.key) (wants_in (after_set p f e)) becomes_absent) (filter is_given_back (e ∷ []))
+
+-- the rows of a return before those that want the function's tokens away
+abbrev pub handed_back_rows : Program → Func → Option Operand → List Row
+handed_back_rows p f value = value_rows p f value ++ new_rows p f value ++ given_back_rows p f
 
 -- where a build puts the objects of a case's keys in, and where an arm takes them out
 abbrev pub case_row : (opens : Bool) → KeyIn → Row

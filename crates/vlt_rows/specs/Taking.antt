@@ -2,7 +2,6 @@
 use Rattle.std.specs.Prelude.{◌≡◌, List, [], ◌∷◌, ◌⊎◌, Result, OnOk, IfErr}
 use Rattle.vlt_core.specs.Maps.{Row}
 use Rattle.vlt_rows.specs.declared.sink.RowError.{RowError}
-use Rattle.vlt_rows.specs.declared.sink.RowError.TheVariants.{Unfit}
 
 abbrev pub Takes : Type 0 → Type 1
 Takes V = Row → V → V → Type 0
@@ -20,7 +19,7 @@ abbrev pub StopsIn : {V : Type 0} → Takes V → Stops V → List Row → V →
 StopsIn takes stops [] v e = ⊥
 StopsIn {V} takes stops (r ∷ rs) v e = stops r v e ⊎ ((u : V) × takes r v u × StopsIn takes stops rs u e)
 
--- The rows were all taken, from one value to the other; or not all: one stops, or a number stands for nothing.
+-- The rows were all taken, from one value to the other; or not all: one stops.
 pub record TookOrStopped {V : Type 0} (takes : Takes V) (stops : Stops V) (rs : List Row) (v w : V) (r : Result (Unit {0}) RowError) : Type 0 where
   pub took : OnOk r (TakesAll takes rs v w)
-  pub stopped : IfErr r (λ e. (e ≡ Unfit) ⊎ StopsIn takes stops rs v e)
+  pub stopped : IfErr r (StopsIn takes stops rs v)

@@ -3,16 +3,19 @@
 ghost use Rattle.std.specs.Prelude.{◌≡◌, ◌∷◌, [], Some, map, slice_get};
 ghost use Rattle.std.specs.Option.{option_map, option_copied};
 ghost use Rattle.vlt_core.specs.View.{program_of, func_of, operand_of, entry_of, keys_of, mode_of, states_of};
-ghost use Rattle.vlt_core.specs.HeldView.{wanted_of, after_of, toks_of};
+ghost use Rattle.vlt_core.specs.HeldView.{wanted_of, toks_of};
+ghost use Rattle.vlt_core.specs.Maps.{wants_in, becomes_absent};
 ghost use Rattle.vlt_core.specs.Core.{call, return};
 ghost use Rattle.vlt_core.specs.Lookups.{is_before, is_after, is_fresh};
-ghost use Rattle.vlt_core.specs.Rows.{rows_of, operand_rows, held_in, entry_wanted, entry_after, clause_rows, target_rows, new_rows, given_back_rows, return_rows, tokens_of, on_option};
+ghost use Rattle.vlt_core.specs.Rows.{rows_of, operand_rows, held_in, key_row, entry_row, entry_wanted, clause_rows, target_rows, new_rows, given_back_rows, return_rows, tokens_of, on_option};
 ghost use Rattle.vlt_rows.specs.Taking.{TookOrStopped};
-ghost use Rattle.vlt_rows.specs.Pieces.{IsAfter, entry_rows, callee_rows, value_rows, new_row, given_back_row};
+ghost use Rattle.vlt_rows.specs.Wide.{states_named};
+ghost use Rattle.vlt_rows.specs.Pieces.{entry_rows, callee_rows, value_rows, new_row, given_back_row, handed_back_rows};
 
 use crate::expr::{take_operand, take_operands};
-use crate::pieces::{take_fill, take_gone, take_key, take_row};
+use crate::pieces::{take_fill, take_gone, take_left, take_row, take_wanted};
 use crate::sink::{RowError, RowSink};
+use crate::states::{States, side_states};
 use vlt_base::{FnId, KeyId, StateSet, VarId};
 use vlt_core::{After, Entry, Expr, Func, Mode, Operand, Program, Row, Tok, Wanted};
 
@@ -65,17 +68,29 @@ fn wanted_at(e: Entry) -> Wanted
     }
 }
 
-/// What an entry leaves of the caller's key; none where the key has no states.
-fn after_at(p: &Program, f: &Func, k: KeyId, e: Entry) -> Option<After>
-    ensures { IsAfter (entry_after (program_of p.now) (func_of f.now) k.0 (entry_of e)) result }
+/// The row of a clause's entry at a call, where this key of the caller's stands for its key.
+fn take_entry_at<S: RowSink>(
+    p: &Program,
+    f: &Func,
+    k: KeyId,
+    e: Entry,
+    to: &mut S,
+) -> Result<(), RowError>
+    ensures { TookOrStopped S.takes S.stops
+        (entry_row (program_of p.now) (func_of f.now) k.0 (entry_of e) ∷ [])
+        to.old to.new result }
 {
     if is_after(e.mode) {
-        match p.states_or_all(f, k, e.after) {
-            None => None,
-            Some(states) => Some(After::Set(states)),
-        }
+        take_left(to, Tok::Key(k), wanted_at(e), side_states(p, f, k, e.after))
     } else {
-        Some(After::Absent)
+        take_row(
+            to,
+            Row {
+                tok: Tok::Key(k),
+                wanted: wanted_at(e),
+                after: After::Absent,
+            },
+        )
     }
 }
 
@@ -93,17 +108,7 @@ fn take_entry<S: RowSink>(
 {
     match keys.get(e.key.0 as usize) {
         None => Ok(()),
-        Some(k) => match after_at(p, f, *k, e) {
-            None => Err(RowError::Unfit),
-            Some(after) => take_row(
-                to,
-                Row {
-                    tok: Tok::Key(*k),
-                    wanted: wanted_at(e),
-                    after,
-                },
-            ),
-        },
+        Some(k) => take_entry_at(p, f, *k, e, to),
     }
 }
 
@@ -188,6 +193,18 @@ fn take_value<S: RowSink>(
     }
 }
 
+/// The key of a returned variable, in one of these states, is gone.
+fn take_returned<S: RowSink>(f: &Func, x: VarId, states: States, to: &mut S) -> Result<(), RowError>
+    ensures { TookOrStopped S.takes S.stops
+        (key_row (func_of f.now) x.0 (wants_in (states_named states)) becomes_absent)
+        to.old to.new result }
+{
+    match f.reference(x) {
+        None => Ok(()),
+        Some(r) => take_wanted(to, Tok::Key(r.key), states, After::Absent),
+    }
+}
+
 /// The row of an entry for a new object, which is the returned variable's.
 fn take_new<S: RowSink>(
     p: &Program,
@@ -204,10 +221,9 @@ fn take_new<S: RowSink>(
         return Ok(());
     }
     match value {
-        Some(Operand::Pure(Expr::Var(x))) => match p.states_or_all(f, e.key, e.after) {
-            None => Err(RowError::Unfit),
-            Some(states) => take_key(f, *x, Wanted::In(states), After::Absent, to),
-        },
+        Some(Operand::Pure(Expr::Var(x))) => {
+            take_returned(f, *x, side_states(p, f, e.key, e.after), to)
+        }
         _ => Ok(()),
     }
 }
@@ -236,17 +252,8 @@ fn take_given_back<S: RowSink>(p: &Program, f: &Func, e: Entry, to: &mut S) -> R
     if !is_after(e.mode) || is_new(e.mode) {
         return Ok(());
     }
-    match p.states_or_all(f, e.key, e.after) {
-        None => Err(RowError::Unfit),
-        Some(states) => take_row(
-            to,
-            Row {
-                tok: Tok::Key(e.key),
-                wanted: Wanted::In(states),
-                after: After::Absent,
-            },
-        ),
-    }
+    let states = side_states(p, f, e.key, e.after);
+    take_wanted(to, Tok::Key(e.key), states, After::Absent)
 }
 
 fn take_given_backs<S: RowSink>(p: &Program, f: &Func, to: &mut S) -> Result<(), RowError>
@@ -257,6 +264,22 @@ fn take_given_backs<S: RowSink>(p: &Program, f: &Func, to: &mut S) -> Result<(),
         take_given_back(p, f, *e, to)?;
     }
     Ok(())
+}
+
+/// The rows of a return before those that want the function's tokens away.
+pub fn take_handed_back<S: RowSink>(
+    p: &Program,
+    f: &Func,
+    value: &Option<Operand>,
+    to: &mut S,
+) -> Result<(), RowError>
+    ensures { TookOrStopped S.takes S.stops
+        (handed_back_rows (program_of p.now) (func_of f.now) (option_map operand_of value.now))
+        to.old to.new result }
+{
+    take_value(p, f, value, to)?;
+    take_news(p, f, value, to)?;
+    take_given_backs(p, f, to)
 }
 
 /// The rows of a return; `tokens` has the tokens of the function.
@@ -272,8 +295,6 @@ pub fn take_return<S: RowSink>(
         (return_rows (program_of p.now) (func_of f.now) (option_map operand_of value.now))
         to.old to.new result }
 {
-    take_value(p, f, value, to)?;
-    take_news(p, f, value, to)?;
-    take_given_backs(p, f, to)?;
+    take_handed_back(p, f, value, to)?;
     take_gone(tokens, to)
 }

@@ -10,7 +10,7 @@ ghost use Rattle.vlt_rows.specs.FlowView.{rows_view};
 
 use crate::calls::take_return;
 use crate::expr::take_expr;
-use crate::sink::{RowError, RowSink};
+use crate::sink::{RowError, RowSink, WideRow};
 use crate::statements::{take_arm, take_focus, take_focus_end, take_form, take_switch};
 use std::alloc::Global;
 use vlt_base::{Items, VarId};
@@ -33,17 +33,21 @@ impl RowList {
 }
 
 impl RowSink for RowList {
-    ghost use Rattle.std.specs.Prelude.{◌≡◌, ◌++◌, ◌∷◌, []};
+    ghost use Rattle.std.specs.Prelude.{◌≡◌, ◌⊎◌, ◌++◌, ◌∷◌, []};
     ghost use Rattle.vlt_rows.specs.FlowView.{rows_view};
-    ghost use Rattle.vlt_rows.specs.declared.sink.RowError.TheVariants.{Memory};
+    ghost use Rattle.vlt_rows.specs.declared.sink.RowError.TheVariants.{Memory, Unfit};
 
     ghost takes = { λ r v w. rows_view w.rows ≡ rows_view v.rows ++ r ∷ [] };
 
-    ghost stops = { λ r v e. e ≡ Memory };
+    ghost stops = { λ r v e. (e ≡ Memory) ⊎ (e ≡ Unfit) };
 
     fn take(&mut self, row: Row) -> Result<(), RowError> {
         self.rows.push(row)?;
         Ok(())
+    }
+
+    fn take_wide(&mut self, _row: WideRow) -> Result<(), RowError> {
+        Err(RowError::Unfit)
     }
 }
 

@@ -1,13 +1,15 @@
 //! Rows on a variable or its key.
 
 ghost use Rattle.std.specs.Prelude.{◌∷◌, [], map};
-ghost use Rattle.vlt_core.specs.View.{program_of, func_of, vars_of};
+ghost use Rattle.vlt_core.specs.View.{program_of, func_of, tok_of, vars_of};
 ghost use Rattle.vlt_core.specs.HeldView.{row_of, wanted_of, after_of, toks_of};
-ghost use Rattle.vlt_core.specs.Maps.{gone};
-ghost use Rattle.vlt_core.specs.Rows.{touch_rows, key_row, end_row, empty_row, fill_rows};
+ghost use Rattle.vlt_core.specs.Maps.{gone, wants_in, becomes_held};
+ghost use Rattle.vlt_core.specs.Rows.{row, touch_rows, key_row, end_row, empty_row, fill_rows};
+ghost use Rattle.vlt_rows.specs.Wide.{states_named};
 ghost use Rattle.vlt_rows.specs.Taking.{TookOrStopped};
 
-use crate::sink::{RowError, RowSink};
+use crate::sink::{RowError, RowSink, WideRow};
+use crate::states::{States, permitted_states, release_states};
 use vlt_base::VarId;
 use vlt_core::{After, Func, Program, Row, Tok, Wanted};
 
@@ -16,6 +18,58 @@ pub fn take_row<S: RowSink>(to: &mut S, row: Row) -> Result<(), RowError>
         to.old to.new result }
 {
     to.take(row)
+}
+
+/// A row that wants these states.
+pub fn take_wanted<S: RowSink>(
+    to: &mut S,
+    tok: Tok,
+    states: States,
+    after: After,
+) -> Result<(), RowError>
+    ensures { TookOrStopped S.takes S.stops
+        (row (tok_of tok) (wants_in (states_named states)) (after_of after) ∷ [])
+        to.old to.new result }
+{
+    match states {
+        States::Set(set) => take_row(
+            to,
+            Row {
+                tok,
+                wanted: Wanted::In(set),
+                after,
+            },
+        ),
+        _ => to.take_wide(WideRow::Wants { tok, states, after }),
+    }
+}
+
+/// A row that leaves these states.
+pub fn take_left<S: RowSink>(
+    to: &mut S,
+    tok: Tok,
+    wanted: Wanted,
+    states: States,
+) -> Result<(), RowError>
+    ensures { TookOrStopped S.takes S.stops
+        (row (tok_of tok) (wanted_of wanted) (becomes_held (states_named states)) ∷ [])
+        to.old to.new result }
+{
+    match states {
+        States::Set(set) => take_row(
+            to,
+            Row {
+                tok,
+                wanted,
+                after: After::Set(set),
+            },
+        ),
+        _ => to.take_wide(WideRow::Leaves {
+            tok,
+            wanted,
+            states,
+        }),
+    }
 }
 
 /// The row of a touch of a field.
@@ -30,17 +84,8 @@ pub fn take_touch<S: RowSink>(
         (func_of f.now) x.0 position) to.old to.new result }
 {
     if let Some(r) = f.reference(x) {
-        match p.permitted(r.type_id, position) {
-            None => return Err(RowError::Unfit),
-            Some(states) => take_row(
-                to,
-                Row {
-                    tok: Tok::Key(r.key),
-                    wanted: Wanted::In(states),
-                    after: After::Same,
-                },
-            )?,
-        }
+        let states = permitted_states(p, r.type_id, position);
+        take_wanted(to, Tok::Key(r.key), states, After::Same)?;
     }
     if let Some(g) = f.guarded(x) {
         take_row(
@@ -86,17 +131,12 @@ pub fn take_end<S: RowSink>(p: &Program, f: &Func, x: VarId, to: &mut S) -> Resu
 {
     match f.reference(x) {
         None => Ok(()),
-        Some(r) => match p.release_set(r.type_id) {
-            None => Err(RowError::Unfit),
-            Some(states) => take_row(
-                to,
-                Row {
-                    tok: Tok::Key(r.key),
-                    wanted: Wanted::In(states),
-                    after: After::Absent,
-                },
-            ),
-        },
+        Some(r) => take_wanted(
+            to,
+            Tok::Key(r.key),
+            release_states(p, r.type_id),
+            After::Absent,
+        ),
     }
 }
 

@@ -4,11 +4,30 @@ ghost use Rattle.std.specs.Prelude.{◌≡◌, OnOk, IfErr};
 ghost use Rattle.vlt_core.specs.HeldView.{row_of};
 ghost use Rattle.vlt_core.specs.Maps.{Row};
 ghost use Rattle.vlt_rows.specs.declared.sink.RowError.TheVariants.{Memory};
+ghost use Rattle.vlt_rows.specs.Wide.{wide_row_of};
 
+use crate::states::States;
 use std::alloc::{AllocError, AllocFailed};
 use thiserror::Error;
-use vlt_core::Row;
+use vlt_core::{After, Row, Tok, Wanted};
 use vlt_keyset::TokenFault;
+
+/// A row one of whose sides names states that no set has.
+#[derive(Clone, Copy)]
+pub enum WideRow {
+    /// These are wanted.
+    Wants {
+        tok: Tok,
+        states: States,
+        after: After,
+    },
+    /// These are left.
+    Leaves {
+        tok: Tok,
+        wanted: Wanted,
+        states: States,
+    },
+}
 
 /// Why rows weren't all taken.
 #[derive(Clone, Copy, Debug, PartialEq, Eq, Error)]
@@ -16,7 +35,7 @@ pub enum RowError {
     /// A row isn't passed.
     #[error("a row isn't passed")]
     Refused(TokenFault),
-    /// A number stands for nothing, or a set has no state.
+    /// A row names states that no set has, or a token has no number.
     #[error("a number stands for nothing")]
     Unfit,
     #[error("there was no memory")]
@@ -51,4 +70,8 @@ pub trait RowSink {
     fn take(&mut self, row: Row) -> Result<(), RowError>
         ensures taken { OnOk result (takes (row_of row) self.old self.new) }
         ensures stopped { IfErr result (stops (row_of row) self.old) };
+
+    fn take_wide(&mut self, row: WideRow) -> Result<(), RowError>
+        ensures taken { OnOk result (takes (wide_row_of row) self.old self.new) }
+        ensures stopped { IfErr result (stops (wide_row_of row) self.old) };
 }

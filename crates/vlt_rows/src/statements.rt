@@ -17,8 +17,11 @@ ghost use Rattle.vlt_rows.specs.Pieces.{unpacked_rows, case_rows, case_key_rows,
 
 use crate::calls::take_call;
 use crate::expr::{take_expr, take_operand, take_operands};
-use crate::pieces::{take_empty, take_end, take_fill, take_fills, take_key, take_row, take_touch};
+use crate::pieces::{
+    take_empty, take_end, take_fill, take_fills, take_key, take_left, take_row, take_touch,
+};
 use crate::sink::{RowError, RowSink};
+use crate::states::{one_state, release_states};
 use vlt_base::{KeyId, StateSet, VarId};
 use vlt_core::{After, Expr, Form, Func, Operand, Program, Row, Tok, Wanted};
 
@@ -66,10 +69,9 @@ fn take_become<S: RowSink>(f: &Func, x: VarId, state: u8, to: &mut S) -> Result<
     ensures { TookOrStopped S.takes S.stops
         (key_row (func_of f.now) x.0 wants_held (becomes_held (λ s. s == state))) to.old to.new result }
 {
-    if state < 32 {
-        take_key(f, x, Wanted::Any, After::Set(only(state)), to)
-    } else {
-        Err(RowError::Unfit)
+    match f.reference(x) {
+        None => Ok(()),
+        Some(r) => take_left(to, Tok::Key(r.key), Wanted::Any, one_state(state)),
     }
 }
 
@@ -312,17 +314,12 @@ fn take_focused<S: RowSink>(p: &Program, f: &Func, z: VarId, to: &mut S) -> Resu
 {
     match f.reference(z) {
         None => Ok(()),
-        Some(r) => match p.release_set(r.type_id) {
-            None => Err(RowError::Unfit),
-            Some(states) => take_row(
-                to,
-                Row {
-                    tok: Tok::Key(r.key),
-                    wanted: Wanted::Absent,
-                    after: After::Set(states),
-                },
-            ),
-        },
+        Some(r) => take_left(
+            to,
+            Tok::Key(r.key),
+            Wanted::Absent,
+            release_states(p, r.type_id),
+        ),
     }
 }
 

@@ -1,19 +1,11 @@
-use Rattle.vlt_rows.proofs.Taken.{stops_first, stops_more, goes_on}
+use Rattle.vlt_rows.proofs.Taken.{stops_first, goes_on}
 use Rattle.vlt_rows.proofs.calls.take_return.Goals as goal
 
-pub returns-in_err-take_value : goal.returns-in_err-take_value
-returns-in_err-take_value g c =
-    stops_first _ _ _ _ _ c.args.to.now _ _ _ c.from_residual.ensures.1 (stops_more _ _ _ _ _ c.args.to.now _ _ (stops_more _ _ _ _ _ _ _ _ c.in_err-take_value.ensures))
-
-pub returns-in_err-take_news : goal.returns-in_err-take_news
-returns-in_err-take_news g c =
-    stops_first _ _ _ _ _ c.args.to.now _ _ _ c.from_residual-in_err-take_news.ensures.1 (stops_more _ _ _ _ _ _ _ _ (goes_on _ _ _ _ _ _ _ _ c.in_ok-take_value.ensures c.in_err-take_news.ensures))
-
-pub returns-in_err-take_given_backs : goal.returns-in_err-take_given_backs
-returns-in_err-take_given_backs g c =
-    stops_first _ _ _ _ _ _ _ _ _ c.from_residual-in_err-take_given_backs.ensures.1 (goes_on _ _ _ _ _ _ _ _ (goes_on _ _ _ _ _ _ _ _ c.in_ok-take_value.ensures c.in_ok-take_news.ensures) c.in_err-take_given_backs.ensures)
+pub returns-in_err-take_handed_back : goal.returns-in_err-take_handed_back
+returns-in_err-take_handed_back g c =
+    stops_first _ _ _ _ _ _ _ _ _ c.from_residual.ensures.1 c.in_err-take_handed_back.ensures
 
 pub returns : goal.returns
 returns g c =
     let tokens = rw c.requires at c.take_gone.ensures in
-    (goes_on _ _ _ _ _ _ _ _ (goes_on _ _ _ _ _ _ _ _ (goes_on _ _ _ _ _ _ _ _ c.in_ok-take_value.ensures c.in_ok-take_news.ensures) c.in_ok-take_given_backs.ensures) tokens)
+    goes_on _ _ _ _ _ _ _ _ c.in_ok-take_handed_back.ensures tokens

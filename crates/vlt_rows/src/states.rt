@@ -1,0 +1,72 @@
+//! The states that a row names, as many as they are.
+
+ghost use Rattle.std.specs.Prelude.{◌≡◌, ◌==◌, ℕ};
+ghost use Rattle.vlt_core.specs.View.{program_of, func_of, states_of};
+ghost use Rattle.vlt_core.specs.Lookups.{release_set, permitted_in, states_or_all, states_of_type, key_type};
+ghost use Rattle.vlt_rows.specs.Wide.{states_named};
+
+use vlt_base::{KeyId, StateSet, TypeId};
+use vlt_core::{Func, Program};
+
+/// States as a program says them. A set has one to 32 of them; a type may have more, and a field that isn't there has none.
+#[derive(Clone, Copy)]
+pub enum States {
+    Set(StateSet),
+    /// Those below a number.
+    Below(usize),
+    Only(u8),
+    Nothing,
+}
+
+/// The states in which a field may be touched.
+pub fn permitted_states(p: &Program, t: TypeId, position: u32) -> States
+    ensures { states_named result ≡ permitted_in (program_of p.now) t.0 position }
+{
+    match p.permitted(t, position) {
+        Some(states) => States::Set(states),
+        None => States::Nothing,
+    }
+}
+
+/// The states in which an object of the type may be released.
+pub fn release_states(p: &Program, t: TypeId) -> States
+    ensures { states_named result ≡ release_set (program_of p.now) t.0 }
+{
+    match p.release_set(t) {
+        Some(states) => States::Set(states),
+        None => States::Below(p.state_count(t)),
+    }
+}
+
+/// All states of a key's object; of a key without a type every state.
+fn states_of_key(p: &Program, f: &Func, k: KeyId) -> States
+    ensures { states_named result
+        ≡ states_of_type (program_of p.now) (key_type (func_of f.now) k.0) }
+{
+    match f.key_type(k) {
+        Some(t) => States::Below(p.state_count(t)),
+        None => States::Below(32),
+    }
+}
+
+/// The states that an entry names, or all of the key.
+pub fn side_states(p: &Program, f: &Func, k: KeyId, named: Option<StateSet>) -> States
+    ensures { states_named result ≡ states_or_all (program_of p.now) (func_of f.now) k.0
+        (states_of named) }
+{
+    match p.states_or_all(f, k, named) {
+        Some(states) => States::Set(states),
+        None => states_of_key(p, f, k),
+    }
+}
+
+/// One state alone.
+pub fn one_state(s: u8) -> States
+    ensures { states_named result ≡ (λ i. i == s) }
+{
+    if s < 32 {
+        States::Set(StateSet::only(s))
+    } else {
+        States::Only(s)
+    }
+}
