@@ -1,6 +1,6 @@
 //! Statements without blocks that bind nothing: `x.f = e`, `release`, `become` and `swap`.
 
-ghost use Rattle.std.specs.Prelude.{◌≡◌, map, option_map, IfOk, OnOk};
+ghost use Rattle.std.specs.Prelude.{◌≡◌, ◌∷◌, [], map, option_map, IfOk, OnOk};
 ghost use Rattle.vlt_syntax.specs.View as tree;
 ghost use Rattle.vlt_core.specs.View.{ty_of, form_of, field_of, keys_of};
 ghost use Rattle.vlt_kinds_names.specs.Refusals.{least_from};
@@ -8,6 +8,7 @@ ghost use Rattle.vlt_kinds.specs.Seen.{kinds_seen};
 ghost use Rattle.vlt_resolve_exprs.specs.Exprs as e;
 ghost use Rattle.vlt_resolve_exprs.specs.Scopes.{var_ty};
 ghost use Rattle.vlt_resolve_exprs.specs.Seen.{scope_seen};
+ghost use Rattle.vlt_resolve_calls.specs.Seen.{forms_of};
 ghost use Rattle.vlt_resolve_stmts.specs.Statements as s;
 
 use std::alloc::{AllocError, Global as Heap};
@@ -18,6 +19,7 @@ use vlt_core::rules::{
 use vlt_core::{FieldDecl, Form, Ty};
 use vlt_kinds::Kinds;
 use vlt_kinds_names::Found;
+use vlt_resolve_calls::Forms;
 use vlt_resolve_exprs::{
     Scope, check_field, check_known, check_wanted, core_expr, field_named, field_number, field_ty,
     is_owning, is_struct, same_ty, ty_under, var_number,
@@ -56,23 +58,23 @@ pub fn put(
     field: &Name,
     value: &Expr,
     found: &mut Found,
-) -> Result<Form, AllocError>
+) -> Result<Forms, AllocError>
     ensures refused { OnOk result (found.new.least
         ≡ least_from found.old.least (s.put_refused (kinds_seen kinds.now)
         (scope_seen scope.now) (tree.name_of base.now) (tree.name_of field.now)
         (tree.expr_of value.now))) }
-    ensures form { IfOk result (λ f. form_of f
+    ensures forms { IfOk result (λ fs. forms_of fs
         ≡ s.core_put (kinds_seen kinds.now) (scope_seen scope.now) (tree.name_of base.now)
-        (tree.name_of field.now) (tree.expr_of value.now)) }
+        (tree.name_of field.now) (tree.expr_of value.now) ∷ []) }
 {
     check_put(alloc, kinds, scope, base, field, value, found)?;
     let number = field_number(kinds, scope, base, field)?;
     let e = core_expr(alloc, kinds, scope, value)?;
-    Ok(Form::Put {
+    Ok(Forms::One(Form::Put {
         x: var_number(scope, base),
         field: number,
         e,
-    })
+    }))
 }
 
 // ---- release x
@@ -108,16 +110,17 @@ fn release_form(ty: Option<&Ty>, v: VarId) -> Form
     }
 }
 
-pub fn release(kinds: &Kinds<'_>, scope: &Scope<'_>, name: &Name, found: &mut Found) -> Form
+pub fn release(kinds: &Kinds<'_>, scope: &Scope<'_>, name: &Name, found: &mut Found) -> Forms
     ensures refused { found.new.least ≡ least_from found.old.least
         (s.release_refused (kinds_seen kinds.now)
         (var_ty (scope_seen scope.now) (tree.name_of name.now).text) (tree.name_of name.now)) }
-    ensures form { form_of result ≡ s.release_form
+    ensures forms { forms_of result ≡ s.release_form
         (var_ty (scope_seen scope.now) (tree.name_of name.now).text)
-        (e.var_number (scope_seen scope.now) (tree.name_of name.now)) }
+        (e.var_number (scope_seen scope.now) (tree.name_of name.now)) ∷ [] }
 {
-    check_release(kinds, scope.var_ty(name.text.as_slice()), name, found);
-    release_form(scope.var_ty(name.text.as_slice()), var_number(scope, name))
+    let ty = scope.var_ty(name.text.as_slice());
+    check_release(kinds, ty, name, found);
+    Forms::One(release_form(ty, var_number(scope, name)))
 }
 
 // ---- become x@s
@@ -193,22 +196,18 @@ pub fn change_state(
     name: &Name,
     state: &Name,
     found: &mut Found,
-) -> Form
+) -> Forms
     ensures refused { found.new.least ≡ least_from found.old.least
         (s.become_refused (kinds_seen kinds.now)
         (var_ty (scope_seen scope.now) (tree.name_of name.now).text) (tree.name_of name.now)
         (tree.name_of state.now)) }
-    ensures form { form_of result ≡ s.core_become (kinds_seen kinds.now) (scope_seen scope.now)
-        (tree.name_of name.now) (tree.name_of state.now) }
+    ensures forms { forms_of result
+        ≡ s.core_become (kinds_seen kinds.now) (scope_seen scope.now)
+        (tree.name_of name.now) (tree.name_of state.now) ∷ [] }
 {
-    check_become(
-        kinds,
-        scope.var_ty(name.text.as_slice()),
-        name,
-        state,
-        found,
-    );
-    become_form(kinds, scope, name, state)
+    let ty = scope.var_ty(name.text.as_slice());
+    check_become(kinds, ty, name, state, found);
+    Forms::One(become_form(kinds, scope, name, state))
 }
 
 // ---- swap x.f, v
@@ -342,20 +341,20 @@ pub fn swap(
     field: &Name,
     variable: &Name,
     found: &mut Found,
-) -> Result<Form, AllocError>
+) -> Result<Forms, AllocError>
     ensures refused { OnOk result (found.new.least
         ≡ least_from found.old.least (s.swap_refused (kinds_seen kinds.now)
         (scope_seen scope.now) (tree.name_of base.now) (tree.name_of field.now)
         (tree.name_of variable.now))) }
-    ensures form { IfOk result (λ f. form_of f
+    ensures forms { IfOk result (λ fs. forms_of fs
         ≡ s.core_swap (kinds_seen kinds.now) (scope_seen scope.now) (tree.name_of base.now)
-        (tree.name_of field.now) (tree.name_of variable.now)) }
+        (tree.name_of field.now) (tree.name_of variable.now) ∷ []) }
 {
     check_swap(alloc, kinds, scope, base, field, variable, found)?;
     let number = field_number(kinds, scope, base, field)?;
-    Ok(Form::Swap {
+    Ok(Forms::One(Form::Swap {
         x: var_number(scope, base),
         field: number,
         v: var_number(scope, variable),
-    })
+    }))
 }

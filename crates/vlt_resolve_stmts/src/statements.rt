@@ -1,13 +1,13 @@
 //! Statements without blocks.
 
-ghost use Rattle.std.specs.Prelude.{◌≡◌, Some, IfOk, OnOk};
+ghost use Rattle.std.specs.Prelude.{◌≡◌, ◌∷◌, [], Some, None, IfOk, OnOk};
 ghost use Rattle.vlt_syntax.specs.View as tree;
 ghost use Rattle.vlt_core.specs.Core as core;
-ghost use Rattle.vlt_core.specs.View.{form_of};
 ghost use Rattle.vlt_kinds_names.specs.Refusals.{least_from};
 ghost use Rattle.vlt_kinds.specs.Seen.{kinds_seen};
 ghost use Rattle.vlt_resolve_exprs.specs.Exprs as e;
 ghost use Rattle.vlt_resolve_exprs.specs.Seen.{scope_seen};
+ghost use Rattle.vlt_resolve_calls.specs.Calls as c;
 ghost use Rattle.vlt_resolve_calls.specs.Seen.{forms_of};
 ghost use Rattle.vlt_resolve_stmts.specs.Seen.{around_seen};
 ghost use Rattle.vlt_resolve_stmts.specs.Statements as s;
@@ -24,7 +24,7 @@ use vlt_kinds::Kinds;
 use vlt_kinds_names::Found;
 use vlt_resolve_calls::{Forms, Use, call};
 use vlt_resolve_exprs::{Scope, check_wanted, core_expr};
-use vlt_syntax::{Expr, Stmt};
+use vlt_syntax::{Call, Expr, Stmt};
 
 #[tactic(auto, unfolding(crate::specs::Statements::jump_refused))]
 fn check_jump(around: Around<'_>, at: u32, found: &mut Found)
@@ -34,22 +34,52 @@ fn check_jump(around: Around<'_>, at: u32, found: &mut Found)
     found.add_if(!around.in_loop, WRONG_JUMP, at);
 }
 
+/// A jump out of the innermost loop, or to its head.
+fn jump(around: Around<'_>, continues: bool, at: u32, found: &mut Found) -> Forms
+    ensures refused { found.new.least ≡ least_from found.old.least
+        (s.jump_refused (around_seen around.entry) at) }
+    ensures forms { forms_of result ≡ core.jump continues ∷ [] }
+{
+    check_jump(around, at, found);
+    Forms::One(Form::Jump { continues })
+}
+
 fn print(
     alloc: Heap,
     kinds: &Kinds<'_>,
     scope: &Scope<'_>,
     value: &Expr,
     found: &mut Found,
-) -> Result<Form, AllocError>
+) -> Result<Forms, AllocError>
     ensures refused { OnOk result (found.new.least
         ≡ least_from found.old.least (e.wanted_refused (kinds_seen kinds.now)
         (scope_seen scope.now) (Some core.int) (tree.expr_of value.now))) }
-    ensures form { IfOk result (λ f. form_of f
-        ≡ core.simple (core.print (e.core_expr (kinds_seen kinds.now) (scope_seen scope.now) (tree.expr_of value.now)))) }
+    ensures forms { IfOk result (λ fs. forms_of fs ≡ core.simple (core.print
+        (e.core_expr (kinds_seen kinds.now) (scope_seen scope.now) (tree.expr_of value.now))) ∷ []) }
 {
     check_wanted(alloc, kinds, scope, &Some(Ty::Int), value, found)?;
     let e = core_expr(alloc, kinds, scope, value)?;
-    Ok(Form::Print { e })
+    Ok(Forms::One(Form::Print { e }))
+}
+
+/// A call whose result, if there is one, is dropped at this place.
+fn drop_call(
+    alloc: Heap,
+    kinds: &Kinds<'_>,
+    scope: &Scope<'_>,
+    called: &Call,
+    at: u32,
+    found: &mut Found,
+) -> Result<Forms, AllocError>
+    ensures refused { OnOk result (found.new.least ≡ least_from found.old.least
+        (c.call_refused (kinds_seen kinds.now) (scope_seen scope.now) (c.dropped at)
+        (tree.call_of called.now))) }
+    ensures forms { IfOk result (λ fs. forms_of fs
+        ≡ c.core_call (kinds_seen kinds.now) (scope_seen scope.now) (c.dropped at) None
+        (tree.call_of called.now) ∷ []) }
+{
+    let form = call(alloc, kinds, scope, Use::Dropped(at), None, called, found)?;
+    Ok(Forms::One(form))
 }
 
 /// Tests a statement without blocks, and makes it. What it makes counts only where nothing is refused.
@@ -83,69 +113,32 @@ pub fn simple<'a>(
             field,
             value,
             ..
-        } => {
-            let form = put(alloc, kinds, scope, base, field, value, found)?;
-            Ok(Forms::One(form))
-        }
-        Stmt::Call(called, at) => {
-            let form = call(
-                alloc,
-                kinds,
-                scope,
-                Use::Dropped(at.from),
-                None,
-                called,
-                found,
-            )?;
-            Ok(Forms::One(form))
-        }
-        Stmt::Print(value, _) => {
-            let form = print(alloc, kinds, scope, value, found)?;
-            Ok(Forms::One(form))
-        }
-        Stmt::Break(at) => {
-            check_jump(around, at.from, found);
-            Ok(Forms::One(Form::Jump { continues: false }))
-        }
-        Stmt::Continue(at) => {
-            check_jump(around, at.from, found);
-            Ok(Forms::One(Form::Jump { continues: true }))
-        }
+        } => put(alloc, kinds, scope, base, field, value, found),
+        Stmt::Call(called, at) => drop_call(alloc, kinds, scope, called, at.from, found),
+        Stmt::Print(value, _) => print(alloc, kinds, scope, value, found),
+        Stmt::Break(at) => Ok(jump(around, false, at.from, found)),
+        Stmt::Continue(at) => Ok(jump(around, true, at.from, found)),
         Stmt::Return(value, at) => return_stmt(alloc, kinds, around, scope, value, at.from, found),
-        Stmt::Release(name, _) => {
-            let form = release(kinds, scope, name, found);
-            Ok(Forms::One(form))
-        }
+        Stmt::Release(name, _) => Ok(release(kinds, scope, name, found)),
         Stmt::Become {
             variable,
             state,
             ..
-        } => {
-            let form = change_state(kinds, scope, variable, state, found);
-            Ok(Forms::One(form))
-        }
+        } => Ok(change_state(kinds, scope, variable, state, found)),
         Stmt::Swap {
             base,
             field,
             variable,
             ..
-        } => {
-            let form = swap(alloc, kinds, scope, base, field, variable, found)?;
-            Ok(Forms::One(form))
-        }
+        } => swap(alloc, kinds, scope, base, field, variable, found),
         Stmt::Open {
             variable,
             parts,
             at,
-        } => open(
-            alloc,
-            kinds,
-            scope,
-            variable,
-            parts.as_slice(),
-            at.from,
-            found,
-        ),
+        } => {
+            let parts = parts.as_slice();
+            open(alloc, kinds, scope, variable, parts, at.from, found)
+        }
         _ => Ok(Forms::Nothing),
     }
 }
