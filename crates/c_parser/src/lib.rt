@@ -15,8 +15,6 @@ mod exprs;
 mod functions;
 mod lex;
 mod stmts;
-#[cfg(test)]
-mod tests;
 mod token;
 mod unit;
 

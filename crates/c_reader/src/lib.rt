@@ -9,8 +9,6 @@ ghost use Rattle.c_reader.specs.Reads.{IsReadAs, RefusalsAreInTheText};
 
 mod error;
 mod program;
-#[cfg(test)]
-mod tests;
 
 use c_kinds::least_refusal;
 use c_parser::{Written, before_mark, read_unit};

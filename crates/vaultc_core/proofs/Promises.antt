@@ -7,8 +7,8 @@ use Rattle.vlt_core.specs.Derives.{IsAccepted}
 use Rattle.vlt_core.specs.Kinded.{IsKinded}
 use Rattle.vlt_core_laws.specs.States.{HasStates}
 use Rattle.vlt_fit_laws.specs.Fit.{ProgramsAreFit}
-use Rattle.vlt_sound_typed.specs.Sizes.{HasSizes}
-use Rattle.vlt_sound_typed.specs.Narrow.{HasNarrowHeads}
+use Rattle.vlt_sound.specs.Sizes.{HasSizes}
+use Rattle.vlt_sound.specs.Narrow.{HasNarrowHeads}
 use Rattle.vlt_sound.specs.Promise.{NeverGoesWrong, LeavesOnlyItsClause}
 use Rattle.vlt_io.specs.Outside.{Files, IsRead, Rose, Grew}
 use Rattle.vlt_io.specs.declared.sink.Sink as sink

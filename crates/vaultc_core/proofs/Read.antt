@@ -20,7 +20,7 @@ use Rattle.vaultc_core.specs.declared.source.TextError.TheVariants as error
 use Rattle.vlt_syntax.specs.Lists.{Each}
 use Rattle.vlt_syntax.specs.Spelling.{spelling}
 use Rattle.vlt_syntax.specs.Tokens.{tokens_in}
-use Rattle.vlt_ticks_laws.specs.Ticks.{HasTicks}
+use Rattle.vlt_syntax_laws.specs.Ticks.{HasTicks}
 use Rattle.vlt_fit_laws.specs.Fit.{IsTextTree}
 use Rattle.vaultc_core.proofs.Lexed.{Lexed, lexed}
 

@@ -18,11 +18,11 @@ use Rattle.vlt_meaning.specs.World.{Ran, is_fault, event_text}
 use Rattle.vlt_reports.specs.Reports.{fault_line, paths_text}
 use Rattle.vlt_run.specs.Ends.{IsTooWide}
 use Rattle.vlt_sound.specs.Promise.{NeverGoesWrong}
-use Rattle.vlt_total_laws.specs.Sure.{Surely}
-use Rattle.vlt_total_laws.proofs.Surely.{sure, so}
+use Rattle.vlt_check_laws.specs.Sure.{Surely}
+use Rattle.vlt_check_laws.proofs.Surely.{sure, so}
 use Rattle.vlt_verdict.proofs.Single.{fit_program}
 use Rattle.vlt_verdict.specs.Verdicts.{Verdict, refused, faulty, accepted, IsVerdictOf, HasSomeVerdict}
-use Rattle.vlt_witness_laws.specs.Shown.{HasWitness}
+use Rattle.vlt_check_laws.specs.Shown.{HasWitness}
 use Rattle.vaultc_core.specs.declared.status.TheConstants.{DONE, NOT_ACCEPTED}
 use Rattle.vaultc_core.specs.Commands.{Command, check, explain, run, fmt, crun}
 use Rattle.vaultc_core.specs.Lines.{Reply, reply, over_reply, unread_reply, numbers_reply, behind}

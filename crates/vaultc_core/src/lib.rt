@@ -31,12 +31,12 @@ mod words;
 mod write;
 
 use std::alloc::Global;
+use vlt_check_laws::first_fault_has_witness;
 use vlt_fit_laws::programs_are_fit;
 use vlt_io::{Sink, Store};
 use vlt_sound::accepted_programs_go_right;
-use vlt_ticks_laws::texts_have_ticks;
+use vlt_syntax_laws::texts_have_ticks;
 use vlt_verdict::{a_tree_has_one_verdict, a_tree_has_some_verdict};
-use vlt_witness_laws::first_fault_has_witness;
 
 /// Carries out the command that the words are, and gives its status.
 ///

@@ -11,7 +11,7 @@ use thiserror::Error;
 use vlt_lexer::{LexError, lex};
 use vlt_parser::{ParseError, parse};
 use vlt_syntax::Tree;
-use vlt_ticks_laws::texts_have_ticks;
+use vlt_syntax_laws::texts_have_ticks;
 
 /// Why bytes aren't read as a tree.
 #[derive(Clone, Copy, Debug, PartialEq, Eq, Error)]

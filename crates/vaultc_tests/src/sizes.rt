@@ -220,3 +220,22 @@ fn deep_layouts_are_written(rt: HostRuntime) -> Result<(), Fail> {
     assert_eq!(rt; none.len(), 0);
     Ok(())
 }
+
+/// `void main() { print(1); .. }` with so many prints.
+fn prints(alloc: Global, count: usize) -> Result<Vec<u8>, AllocError> {
+    let mut text = Vec::from_slice(alloc, b"void main() {")?;
+    for _ in 0..count {
+        text.extend_from_slice(b" print(1);")?;
+    }
+    text.extend_from_slice(b" int n = 1; n = n / 0; }")?;
+    Ok(text)
+}
+
+#[test]
+fn large_programs_are_run(rt: HostRuntime) -> Result<(), Fail> {
+    let text = prints(rt.alloc(), 8_000)?;
+    let (found, bytes) = reply(rt.alloc(), SOUND, text.as_slice(), RUN)?;
+    assert_eq!(rt; found, 9);
+    assert_eq!(rt; bytes.len(), 16_007);
+    Ok(())
+}

@@ -5,7 +5,7 @@ use Rattle.vlt_core.specs.Bodies.{body_flow}
 use Rattle.vlt_core.specs.Derives.{IsAccepted, start_map}
 use Rattle.vlt_core.specs.Faults.{FlowFault, FaultKind, HasFault, IsFirstFault, IsFirstIn}
 use Rattle.vlt_core_laws.proofs.Starting.{fit_body}
-use Rattle.vlt_flow_laws.proofs.Deriving.{annotated}
+use Rattle.vlt_core_laws.proofs.Deriving.{annotated}
 use Rattle.vlt_check.specs.Checks.{IsWellFormed}
 use Rattle.vlt_check.proofs.Listed.{none_in_local}
 

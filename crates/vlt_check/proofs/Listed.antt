@@ -9,13 +9,13 @@ use Rattle.vlt_core.specs.Derives.{IsAccepted, start_map}
 use Rattle.vlt_core.specs.Bodies.{body_flow}
 use Rattle.vlt_flow.specs.Walks.{Marks, notes_of}
 use Rattle.vlt_core_laws.proofs.Starting.{fit_body}
-use Rattle.vlt_flow_laws.proofs.Deriving.{accepted, annotated}
+use Rattle.vlt_core_laws.proofs.Deriving.{accepted, annotated}
 use Rattle.vlt_core.specs.Found.{Has}
 use Rattle.vlt_core.specs.Faults.{HasFault, IsFirstFault}
 use Rattle.vlt_core.specs.Faults as faults
 use Rattle.vlt_core.specs.declared.held.FlowFault.{FlowFault}
-use Rattle.vlt_flow_laws.proofs.Founds.{local_out_block}
-use Rattle.vlt_flow_laws.proofs.Spots.{faulty_block}
+use Rattle.vlt_core_laws.proofs.Founds.{local_out_block}
+use Rattle.vlt_core_laws.proofs.Spots.{faulty_block}
 use Rattle.std.proofs.lemmas.Bool.{cases_lt}
 use Rattle.vlt_check.specs.Tellings.{IsTold}
 use Rattle.vlt_check.specs.declared.program.CheckError.{CheckError}

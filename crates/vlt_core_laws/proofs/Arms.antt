@@ -12,7 +12,7 @@ use Rattle.vlt_core.specs.KindedScopes.{Ids, with_var, binding_broken, keys_brok
 use Rattle.vlt_core.specs.KindedOperands.{misfit}
 use Rattle.vlt_core.specs.KindedBodies.{with_vars, arm_vars_broken}
 use Rattle.vlt_core.specs.declared.rules.TheConstants as rule
-use Rattle.vlt_flow_laws.specs.Shown.{IsFilled, IsOwnKind, AreFilled}
+use Rattle.vlt_core_laws.specs.Shown.{IsFilled, IsOwnKind, AreFilled}
 use Rattle.vlt_core_laws.proofs.Unbroken.{left_empty, right_empty}
 use Rattle.vlt_core_laws.proofs.Ids.{was, type_keys, AreTyped, or_split, or_left, or_right, not_both, same_number, was_not}
 use Rattle.vlt_core_laws.proofs.Binding.{has_first, chosen, var_there, with_var_is, keys_there, fresh_var}

@@ -10,7 +10,7 @@ use Rattle.vlt_core.specs.Types.{keys_of_ty}
 use Rattle.vlt_core.specs.KindedHeads.{Rules, unless, when_some, has}
 use Rattle.vlt_core.specs.KindedScopes.{Ids, with_key, with_var, with_tokens, with_binding, with_target, fresh_broken, keys_broken, tracked_key, own_key, binding_broken, target_broken}
 use Rattle.vlt_core.specs.declared.rules.TheConstants as rule
-use Rattle.vlt_flow_laws.specs.Scoped.{is_bound}
+use Rattle.vlt_core_laws.specs.Scoped.{is_bound}
 use Rattle.vlt_core_laws.proofs.Unbroken.{left_empty, right_empty, unless_holds, filled_not_empty}
 use Rattle.vlt_core_laws.proofs.Ids.{was, keys_in_type, type_keys, Goes, or_split, or_left, or_right, not_both, is_false, same_number, bound_append, bound_left, bound_right, key_is, var_is, each_has, stays}
 

@@ -6,9 +6,9 @@ use Rattle.vlt_core.specs.Flow as flow
 use Rattle.vlt_core.specs.Flow.{passes, passes_block}
 use Rattle.vlt_core.specs.KindedScopes.{Ids, entered, left_behind}
 use Rattle.vlt_core.specs.KindedBodies.{tokens_broken}
-use Rattle.vlt_flow_laws.specs.Scoped.{is_bound, with_bound, IsScoped, IsScopedBlock, IsScopedStmts, IsScopedArms}
-use Rattle.vlt_flow_laws.specs.Tame.{IsTame, IsTameBlock, IsTameStmts, IsTameArms}
-use Rattle.vlt_flow_laws.specs.Shown.{HasFilled, HasFilledBlock, HasFilledStmts, HasFilledArms}
+use Rattle.vlt_core_laws.specs.Scoped.{is_bound, with_bound, IsScoped, IsScopedBlock, IsScopedStmts, IsScopedArms}
+use Rattle.vlt_core_laws.specs.Tame.{IsTame, IsTameBlock, IsTameStmts, IsTameArms}
+use Rattle.vlt_core_laws.specs.Shown.{HasFilled, HasFilledBlock, HasFilledStmts, HasFilledArms}
 use Rattle.vlt_core_laws.proofs.Ids.{IsToken, was, AreTyped, Goes, or_left, or_right, not_both, true_or_false, was_not, bound_append, bound_left, bound_right}
 use Rattle.vlt_core_laws.proofs.Scoping.{Covers}
 use Rattle.vlt_core_laws.proofs.Listed.{listed_made, made_listed, token_of}

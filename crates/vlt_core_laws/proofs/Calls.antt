@@ -23,8 +23,8 @@ use Rattle.vlt_core_laws.proofs.Ids.{type_keys, AreTyped, or_left, or_right, or_
 use Rattle.vlt_core_laws.proofs.Binding.{has_first, IsInRange, var_there, own_in_range, binding_var, binding_key, target_var, on_true, on_false}
 use Rattle.vlt_core_laws.proofs.Good.{Good, AllRows, all_both, all_filled, fill_good}
 use Rattle.vlt_core_laws.proofs.Scoping.{Covers, operand_good}
-use Rattle.vlt_flow_laws.specs.Tame.{IsPlainWanted, IsPlainAfter}
-use Rattle.vlt_flow_laws.specs.Shown.{IsFilled, IsOwnKind}
+use Rattle.vlt_core_laws.specs.Tame.{IsPlainWanted, IsPlainAfter}
+use Rattle.vlt_core_laws.specs.Shown.{IsFilled, IsOwnKind}
 use Rattle.vlt_core_laws.proofs.Simple.{has_only, option_rows}
 
 -- ---- sets that a call leaves

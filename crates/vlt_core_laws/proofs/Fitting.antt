@@ -14,9 +14,9 @@ use Rattle.vlt_core.specs.KindedScopes.{Ids, Around, entered, left_behind, own_k
 use Rattle.vlt_core.specs.KindedOperands.{expr_broken}
 use Rattle.vlt_core.specs.KindedBodies.{in_loop, in_focus, with_focus, with_vars, owning_toks, ends, ids_behind, ids_behind_block, ids_behind_stmts, ids_behind_arms, list_broken, switch_broken, arm_vars_broken, arm_broken, arms_broken, focus_broken, row_broken, form_rows, block_rows, stmts_rows, arms_rows}
 use Rattle.vlt_core.specs.declared.rules.TheConstants as rule
-use Rattle.vlt_flow_laws.specs.Scoped.{is_bound, with_bound, within, AreInScope}
-use Rattle.vlt_flow_laws.specs.Tame.{ArePlain}
-use Rattle.vlt_flow_laws.specs.Shown.{AreFilled}
+use Rattle.vlt_core_laws.specs.Scoped.{is_bound, with_bound, within, AreInScope}
+use Rattle.vlt_core_laws.specs.Tame.{ArePlain}
+use Rattle.vlt_core_laws.specs.Shown.{AreFilled}
 use Rattle.vlt_core_laws.specs.States.{HasStates}
 use Rattle.vlt_core_laws.specs.Heads.{HaveNewResults}
 use Rattle.vlt_core_laws.specs.Arms.{HasArms, HasArmsBlock, HasArmsStmts, HasArmsArms}

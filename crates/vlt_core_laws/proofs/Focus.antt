@@ -11,9 +11,9 @@ use Rattle.vlt_core.specs.KindedScopes.{Ids, with_key, tracked_key, own_key, use
 use Rattle.vlt_core.specs.KindedStatements.{wanted_of, is_guarded_type, is_tracked_type, objects_apart, guarded_object, tracked_type}
 use Rattle.vlt_core.specs.KindedBodies.{with_focus, focus_broken}
 use Rattle.vlt_core.specs.declared.rules.TheConstants as rule
-use Rattle.vlt_flow_laws.specs.Scoped.{AreInScope, LeavesAbsent}
-use Rattle.vlt_flow_laws.specs.Tame.{IsFocus}
-use Rattle.vlt_flow_laws.specs.Shown.{AreFilled}
+use Rattle.vlt_core_laws.specs.Scoped.{AreInScope, LeavesAbsent}
+use Rattle.vlt_core_laws.specs.Tame.{IsFocus}
+use Rattle.vlt_core_laws.specs.Shown.{AreFilled}
 use Rattle.vlt_core_laws.specs.States.{HasStates}
 use Rattle.vlt_core_laws.proofs.Unbroken.{left_empty, right_empty, unless_holds}
 use Rattle.vlt_core_laws.proofs.Ids.{type_keys, same_number, not_both}

@@ -6,9 +6,9 @@ use Rattle.vlt_core.specs.Lookups.{Reference, tracked_in, guarded_in, reference_
 use Rattle.vlt_core.specs.Maps.{Wanted, wants_absent, wants_held, wants_in, wants_full, After, becomes_absent, becomes_held, stays, becomes_full, Row}
 use Rattle.vlt_core.specs.Rows.{row, on_key, key_row, end_row, empty_row, fill_rows, touch_rows}
 use Rattle.vlt_core.specs.KindedHeads.{has}
-use Rattle.vlt_flow_laws.specs.Scoped.{AreInScope}
-use Rattle.vlt_flow_laws.specs.Tame.{IsPlainWanted, IsPlainAfter, ArePlain}
-use Rattle.vlt_flow_laws.specs.Shown.{IsFilled, IsOwnKind, AreFilled}
+use Rattle.vlt_core_laws.specs.Scoped.{AreInScope}
+use Rattle.vlt_core_laws.specs.Tame.{IsPlainWanted, IsPlainAfter, ArePlain}
+use Rattle.vlt_core_laws.specs.Shown.{IsFilled, IsOwnKind, AreFilled}
 use Rattle.vlt_core_laws.proofs.Ids.{keys_in_type, type_keys, or_right}
 use Rattle.vlt_core_laws.proofs.Unbroken.{some_same, some_not_none}
 use Rattle.vlt_core_laws.proofs.Binding.{has_first}

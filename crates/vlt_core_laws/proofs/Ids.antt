@@ -9,7 +9,7 @@ use Rattle.vlt_core.specs.Maps.{is_tok}
 use Rattle.vlt_core.specs.Types.{keys_of_ty}
 use Rattle.vlt_core.specs.KindedHeads.{Rules, has}
 use Rattle.vlt_core.specs.KindedScopes.{Ids}
-use Rattle.vlt_flow_laws.specs.Scoped.{is_bound}
+use Rattle.vlt_core_laws.specs.Scoped.{is_bound}
 use Rattle.vlt_core_laws.proofs.Unbroken.{left_empty, right_empty}
 
 -- the token was bound before this point, wherever

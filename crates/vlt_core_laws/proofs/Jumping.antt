@@ -7,7 +7,7 @@ use Rattle.vlt_core.specs.KindedScopes.{Ids, Around, entered, left_behind}
 use Rattle.vlt_core.specs.KindedBodies.{in_loop, in_focus, with_focus, with_vars, ends, ids_behind, ids_behind_block, row_broken, form_rows, block_rows, stmts_rows, arms_rows}
 use Rattle.vlt_core.specs.Flow as flow
 use Rattle.vlt_core.specs.Bodies.{flow_of, flow_of_block, flow_of_stmts, flow_of_arms}
-use Rattle.vlt_flow_laws.specs.Scoped.{IsJumping, IsJumpingBlock, IsJumpingStmts, IsJumpingArms}
+use Rattle.vlt_core_laws.specs.Scoped.{IsJumping, IsJumpingBlock, IsJumpingStmts, IsJumpingArms}
 use Rattle.vlt_core_laws.proofs.Unbroken.{EachEmpty, right_empty, unless_holds, each_left, each_right}
 use Rattle.vlt_core.specs.declared.rules.TheConstants as rule
 

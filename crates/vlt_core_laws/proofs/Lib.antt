@@ -15,3 +15,17 @@ pub mod Arms
 pub mod Fitting
 pub mod Headed
 pub mod Starting
+pub mod Changes
+pub mod Founds
+pub mod Annotating
+pub mod Deriving
+pub mod Smooth
+pub mod Sweeping
+pub mod Faultless
+pub mod Showing
+pub mod Spots
+pub mod Congruent
+pub mod FlowFitting
+pub mod Together
+pub mod Told
+pub mod One

@@ -12,7 +12,7 @@ use Rattle.vlt_core.specs.Maps.{is_tok}
 use Rattle.vlt_core.specs.Rows.{tokens_of, in_order}
 use Rattle.vlt_core.specs.KindedBodies.{token_broken, same_toks, tokens_broken}
 use Rattle.vlt_core.specs.declared.rules.TheConstants as rule
-use Rattle.vlt_flow_laws.specs.Scoped.{is_bound}
+use Rattle.vlt_core_laws.specs.Scoped.{is_bound}
 use Rattle.vlt_core_laws.proofs.Unbroken.{right_empty, unless_holds}
 use Rattle.vlt_core_laws.proofs.Ids.{IsToken, or_split, or_left, or_right, and_left, and_right, not_both, true_or_false, same_number, key_is, var_is, bound_append, bound_left, bound_right}
 

@@ -14,7 +14,7 @@ use Rattle.vlt_core_laws.proofs.Unbroken.{left_empty, right_empty, unless_holds}
 use Rattle.vlt_core_laws.proofs.Ids.{IsToken, AreTyped, Goes, true_or_false}
 use Rattle.vlt_core_laws.proofs.Binding.{in_range, chosen}
 use Rattle.vlt_core_laws.proofs.Good.{Good, AllRows, all_both, KeysIn, empty_good, gone_good, touch_good, key_good, reference_in}
-use Rattle.vlt_flow_laws.specs.Scoped.{is_bound}
+use Rattle.vlt_core_laws.specs.Scoped.{is_bound}
 
 -- what is in scope by its number is in scope as a token
 pub record Covers (f : Func) (g : Tok → Bool) (ids : Ids) : Type 0 where

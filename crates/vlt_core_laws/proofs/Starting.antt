@@ -17,8 +17,8 @@ use Rattle.vlt_core.specs.KindedScopes.{Ids, Around}
 use Rattle.vlt_core.specs.KindedBodies.{first_ids, ids_behind_stmts, stmts_rows}
 use Rattle.vlt_core.specs.Kinded.{IsKinded}
 use Rattle.vlt_core.specs.declared.rules.TheConstants as rule
-use Rattle.vlt_flow_laws.specs.Scoped.{is_bound, with_bound, IsAbsentOut}
-use Rattle.vlt_flow_laws.specs.Shown.{IsGood, IsStart}
+use Rattle.vlt_core_laws.specs.Scoped.{is_bound, with_bound, IsAbsentOut}
+use Rattle.vlt_core_laws.specs.Shown.{IsGood, IsStart}
 use Rattle.vlt_core_laws.specs.States.{HasStates, IsFilledSet}
 use Rattle.vlt_core_laws.specs.Heads.{HaveNewResults}
 use Rattle.vlt_core_laws.specs.Arms.{HasArmsStmts}

@@ -2,3 +2,9 @@ pub mod States
 pub mod Arms
 pub mod Heads
 pub mod Fit
+pub mod Scoped
+pub mod Tame
+pub mod Faulted
+pub mod Sweep
+pub mod Shown
+pub mod FaultLaws

@@ -9,11 +9,11 @@ use Rattle.vlt_kinds_heads.specs.Phase.{core_head}
 use Rattle.vlt_kinds.specs.Kinds.{Kinds}
 use Rattle.vlt_kinds_laws.specs.Declared.{HasDeclared}
 use Rattle.vlt_resolve.specs.Elaboration.{elaborated}
-use Rattle.vlt_elaborated_laws.specs.Made.{IsMade}
-use Rattle.vlt_elaborated_laws.specs.Elaborated.{IsElaborated}
-use Rattle.vlt_elaborated_laws.proofs.Made.{told, made_at, HasFunctions, functions_made}
+use Rattle.vlt_resolve_laws.specs.Made.{IsMade}
+use Rattle.vlt_resolve_laws.specs.Elaborated.{IsElaborated}
+use Rattle.vlt_resolve_laws.proofs.Made.{told, made_at, HasFunctions, functions_made}
 use Rattle.vlt_kinds.specs.Tables.{kinds_of}
-use Rattle.vlt_sound_declared.specs.Externals.{HasExternals}
+use Rattle.vlt_fit_laws.specs.Externals.{HasExternals}
 
 with_no_body : (file : File) (h : Head) (keys : Keys) → record (core_head file true h keys) { body = core.done } ≡ core_head file true h keys
 unfolding core_head

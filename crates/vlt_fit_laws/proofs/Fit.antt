@@ -8,11 +8,11 @@ use Rattle.vlt_core.specs.Lookups.{fields_of}
 use Rattle.vlt_kinds_types.specs.Files.{file_of}
 use Rattle.vlt_kinds_decls.specs.Made.{core_types}
 use Rattle.vlt_kinds_laws.specs.Declared.{HasDeclared, IsPassed}
-use Rattle.vlt_sound_typed.specs.Sizes.{HasSizes}
-use Rattle.vlt_sound_typed.specs.Narrow.{HasNarrowHeads}
-use Rattle.vlt_sound_declared.specs.Externals.{HasExternals}
-use Rattle.vlt_elaborated_laws.specs.Elaborated.{IsElaborated, ElaboratedProgramsAreKinded, ElaboratedProgramsHaveStates, ElaboratedProgramsHaveArms, ElaboratedProgramsHaveFewVariables, ElaboratedProgramsHaveBlankExternals, ElaboratedProgramsHaveSets}
-use Rattle.vlt_elaborated_laws.proofs.Whole.{passed_of}
+use Rattle.vlt_sound.specs.Sizes.{HasSizes}
+use Rattle.vlt_sound.specs.Narrow.{HasNarrowHeads}
+use Rattle.vlt_fit_laws.specs.Externals.{HasExternals}
+use Rattle.vlt_resolve_laws.specs.Elaborated.{IsElaborated, ElaboratedProgramsAreKinded, ElaboratedProgramsHaveStates, ElaboratedProgramsHaveArms, ElaboratedProgramsHaveFewVariables, ElaboratedProgramsHaveBlankExternals, ElaboratedProgramsHaveSets}
+use Rattle.vlt_resolve_laws.proofs.Whole.{passed_of}
 use Rattle.vlt_fit_laws.specs.Fit.{ProgramsAreFit}
 use Rattle.vlt_fit_laws.proofs.Externals.{externals_of, declared_of}
 

@@ -1,2 +1,5 @@
 pub mod Externals
 pub mod Fit
+pub mod Sets
+pub mod Fields
+pub mod NarrowLaws

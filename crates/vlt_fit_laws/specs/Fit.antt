@@ -9,9 +9,9 @@ use Rattle.vlt_kinds.specs.Kinds.{Kinds}
 use Rattle.vlt_kinds.specs.Tables.{kinds_told}
 use Rattle.vlt_resolve.specs.Elaboration.{elaborated}
 use Rattle.vlt_check.specs.Checks.{IsWellFormed}
-use Rattle.vlt_sound_typed.specs.Sizes.{HasSizes}
-use Rattle.vlt_sound_typed.specs.Narrow.{HasNarrowHeads}
-use Rattle.vlt_ticks_laws.specs.Ticks.{HasTicks}
+use Rattle.vlt_sound.specs.Sizes.{HasSizes}
+use Rattle.vlt_sound.specs.Narrow.{HasNarrowHeads}
+use Rattle.vlt_syntax_laws.specs.Ticks.{HasTicks}
 
 -- few fields in each struct, and few variables in each function
 pub record HasFewParts (p : Program) : Type 0 where

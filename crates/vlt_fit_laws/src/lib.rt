@@ -3,15 +3,17 @@
 //! Verdicts rest on it, and through them the promise of `check`.
 #![tactic(auto)]
 
+mod narrow;
+mod sizes;
+
 ghost use Rattle.vlt_fit_laws.specs.Fit.{ProgramsAreFit};
 
-use vlt_elaborated_laws::{
+pub use narrow::declared_externals_are_narrow;
+pub use sizes::{declared_sets_are_small, declared_structs_are_small};
+use vlt_resolve_laws::{
     elaborated_programs_are_kinded, elaborated_programs_have_arms,
     elaborated_programs_have_blank_externals, elaborated_programs_have_few_variables,
     elaborated_programs_have_sets, elaborated_programs_have_states,
-};
-use vlt_sound_declared::{
-    declared_externals_are_narrow, declared_sets_are_small, declared_structs_are_small,
 };
 
 /// The core program of a tree that a text has is all that the check and the law on runs ask for.

@@ -5,7 +5,7 @@ use Rattle.std.specs.Prelude.{IsSome}
 use Rattle.vlt_core.specs.Maps.{HeldMap, IsBelow}
 use Rattle.vlt_core.specs.Local.{Meets}
 use Rattle.vlt_core.proofs.Maps.{map_refl, map_trans}
-use Rattle.vlt_flow_laws.proofs.Changes.{IsSameOn, IsGrownAt}
+use Rattle.vlt_core_laws.proofs.Changes.{IsSameOn, IsGrownAt}
 use Rattle.vlt_keyset.specs.Held.{Statuses, map_of, gap}
 use Rattle.vlt_flow.specs.Walks.{Marks, slot, map_in, notes_of, Grown, IsSameAt, IsGrownSlot, ForLoop, IsOther, IsFrame, IsLoop, HasRoom, IsInto}
 

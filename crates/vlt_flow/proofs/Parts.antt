@@ -7,7 +7,7 @@ use Rattle.vlt_core.specs.Maps.{Row, HeldMap, IsBelow, CanPass, passed, gone}
 use Rattle.vlt_core.specs.Flow.{step, choose, switch, scope, focus, return, jump, Block, block, Stmts, Arms, size_block, size_stmts, size_arms, passes_block, passes_arms}
 use Rattle.vlt_core.specs.Local.{Notes, When, only_if, rows_passed, leads_block, IsLocalBlock, IsLocalArms}
 use Rattle.vlt_core.proofs.Maps.{map_refl, map_trans, can_below, passed_below}
-use Rattle.vlt_flow_laws.proofs.Changes.{IsSameOn, IsGrownAt, when_same, meets_below, leads_block_same, local_block_grown, leads_block_some}
+use Rattle.vlt_core_laws.proofs.Changes.{IsSameOn, IsGrownAt, when_same, meets_below, leads_block_same, local_block_grown, leads_block_some}
 use Rattle.vlt_keyset.specs.Held.{Statuses, map_of}
 use Rattle.vlt_flow.specs.Walks.{Marks, slot, map_in, maybe_map, notes_of, Above, IsUnder, Grown, IsInto, HasRoom, HasRoomFor, Passes, IsWalked, HasNone, Lies, form_part, block_part, stmts_part, IsWay, IsJoinedWay, HasNoWay, IsPlace, IsLeft, NoLeft, IsJump, HasNoJump, IsJoinedArms, HasNoArms, IsLeastLocal}
 use Rattle.vlt_flow.proofs.Framing.{no_some, grown_below, grown_some, frame_refl, frame_trans, frame_wider, frame_choice, frame_before, frame_meets, loop_frame, IsPutAround, IsPutBehind, put_around_frame, put_behind_frame, put_choice_frame, frame_also}

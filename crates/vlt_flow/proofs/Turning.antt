@@ -10,7 +10,7 @@ use Rattle.vlt_rows.specs.declared.tree.FlowArm.{FlowArm, out-FlowArm}
 use Rattle.vlt_rows.specs.declared.tree.FlowStmt.{FlowStmt}
 use Rattle.vlt_core.proofs.Maps.{map_refl, map_trans, can_below}
 use Rattle.vlt_rows.proofs.Views.{arm_parts, stmt_parts}
-use Rattle.vlt_flow_laws.proofs.Changes.{IsSameOn, IsGrownAt, same_part, when_same, leads_block_same, leads_same, local_grown, local_block_grown}
+use Rattle.vlt_core_laws.proofs.Changes.{IsSameOn, IsGrownAt, same_part, when_same, leads_block_same, leads_same, local_grown, local_block_grown}
 use Rattle.vlt_keyset.specs.Held.{Statuses, map_of, gap}
 use Rattle.vlt_flow.specs.Walks.{Marks, slot, map_in, maybe_map, notes_of, Above, IsUnder, Grown, IsFrame, IsLoop, HasRoom, HasRoomFor, Passes, IsWalked, HasNone, Lies, form_part, block_part, stmts_part, IsJoinedWay, HasNoWay, IsTurn, HasNoTurn, IsTurned, IsJoinedArms, HasNoArms, IsWalkedOn, HasNoneOn}
 use Rattle.vlt_flow.proofs.Framing.{grown_below, grown_some, frame_refl, frame_trans, frame_wider, frame_loop, frame_before, frame_meets, loop_frame, room_frame, IsPutAround, IsPutBehind, put_around_frame, put_behind_frame}

@@ -8,7 +8,7 @@ use Rattle.vlt_base.proofs.Sets.{bit_of_both, lowest_state}
 use Rattle.vlt_base.specs.declared.states.StateSet.{StateSet}
 use Rattle.vlt_core.specs.Maps.{wants_in, becomes_held, becomes_lent, comes_back}
 use Rattle.vlt_core.specs.Found.{One, one_absent, one_held, one_lent, one_full, WantsOne, LeftBy}
-use Rattle.vlt_flow_laws.specs.Sweep.{In}
+use Rattle.vlt_core_laws.specs.Sweep.{In}
 use Rattle.vlt_found.specs.declared.ones.Ones.{Ones}
 use Rattle.vlt_found.specs.Ones.{many_of}
 

@@ -5,12 +5,12 @@ use Rattle.std.proofs.lemmas.Nat.{le_or_l}
 use Rattle.vlt_base.specs.States.{is_bit}
 use Rattle.vlt_base.proofs.Sets.{within_bits}
 use Rattle.vlt_core.specs.Found.{One, one_absent, one_held, one_lent, one_full}
-use Rattle.vlt_flow_laws.specs.Sweep.{In}
+use Rattle.vlt_core_laws.specs.Sweep.{In}
 use Rattle.vlt_found.specs.declared.ones.Ones.{Ones}
 use Rattle.vlt_found.specs.Ones.{many_of, gap_of, lacks}
 use Rattle.std.proofs.lemmas.List.{get_or_read, get_or-set_same, get_or-set_other, length-set}
 use Rattle.std.proofs.lemmas.List.Sums.{sum_by-set}
-use Rattle.vlt_flow_laws.specs.Sweep.{IntoHead, IntoExit, IsNothing}
+use Rattle.vlt_core_laws.specs.Sweep.{IntoHead, IntoExit, IsNothing}
 use Rattle.vlt_found.proofs.Bits.{no_bit}
 use Rattle.vlt_found.specs.Marks.{Marks, IsInto, IsNearer, IsSameParts, IsPut, slot, at, no_ones, stock_of, gap, IsGrown, Went}
 

@@ -4,8 +4,8 @@ use Rattle.std.proofs.lemmas.List.{drop_all}
 use Rattle.vlt_core.specs.Core.{Tok}
 use Rattle.vlt_core.specs.Maps.{Row, is_tok}
 use Rattle.vlt_core.specs.Found.{One, Ones, WantsOne, LeftBy, image_if, image, images}
-use Rattle.vlt_flow_laws.specs.Sweep.{Many, In, IsImage}
-use Rattle.vlt_flow_laws.proofs.Smooth.{smooth_images}
+use Rattle.vlt_core_laws.specs.Sweep.{Many, In, IsImage}
+use Rattle.vlt_core_laws.proofs.Smooth.{smooth_images}
 use Rattle.vlt_found.specs.Passes.{IsMoved}
 
 pub moved_own : (t : Tok) (r : Row) (m m' : Many) → is_tok t r.tok ≡ true → ((o : One) → In m' o ↔ ((x : One) × In m x × WantsOne r.wanted x × LeftBy r.after x o)) → IsMoved t r m m'

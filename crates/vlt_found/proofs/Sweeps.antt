@@ -9,9 +9,9 @@ use Rattle.vlt_rows.specs.declared.tree.FlowStmt.{FlowStmt}
 use Rattle.vlt_rows.specs.declared.tree.FlowArm.{FlowArm, out-FlowArm}
 use Rattle.vlt_rows.specs.FlowView.{stmt_view, arm_view, flow_view, block_view, arms_view, stmts_view, rows_view}
 use Rattle.vlt_rows.proofs.Views.{stmt_parts, arm_parts}
-use Rattle.vlt_flow_laws.specs.Sweep.{Many, In, Stock, IsImage, WayBy, Swept, SweptBlock, SweptStmts, SweptArms}
-use Rattle.vlt_flow_laws.specs.Sweep.{IsReached, IsFoundIn, IsNothing}
-use Rattle.vlt_flow_laws.proofs.Sweeping.{found}
+use Rattle.vlt_core_laws.specs.Sweep.{Many, In, Stock, IsImage, WayBy, Swept, SweptBlock, SweptStmts, SweptArms}
+use Rattle.vlt_core_laws.specs.Sweep.{IsReached, IsFoundIn, IsNothing}
+use Rattle.vlt_core_laws.proofs.Sweeping.{found}
 use Rattle.vlt_found.specs.Ones.{gap_of}
 use Rattle.vlt_found.specs.Marks.{Marks, stock_of, at, gap, Went, HasRoom, ForLoop}
 use Rattle.vlt_found.proofs.Into.{went_refl, went_trans, not_true}

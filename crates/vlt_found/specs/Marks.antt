@@ -2,7 +2,7 @@
 use Rattle.std.specs.Prelude.{◌≡◌, ◌<◌, ◌≤◌, ◌+◌, ◌^◌, ℕ, Bool, true, false, IsTrue, List, Option, Some, None, ◌⊎◌, length, slice_index_or, slice_set, sum_by}
 use Rattle.std.proofs.Common.{arith}
 use Rattle.vlt_core.specs.Found.{One, one_absent, one_held, one_lent, one_full}
-use Rattle.vlt_flow_laws.specs.Sweep.{Many, In, Stock}
+use Rattle.vlt_core_laws.specs.Sweep.{Many, In, Stock}
 use Rattle.vlt_found.specs.declared.ones.Ones.{Ones}
 use Rattle.vlt_found.specs.Ones.{many_of, gap_of}
 

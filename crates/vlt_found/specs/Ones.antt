@@ -2,7 +2,7 @@
 use Rattle.std.specs.Prelude.{◌≡◌, ℕ, ◌-◌, ◌+◌, ◌^◌, Bool, true, false, IsTrue}
 use Rattle.vlt_base.specs.States.{is_bit}
 use Rattle.vlt_core.specs.Found.{One, one_absent, one_held, one_lent, one_full}
-use Rattle.vlt_flow_laws.specs.Sweep.{Many}
+use Rattle.vlt_core_laws.specs.Sweep.{Many}
 use Rattle.vlt_found.specs.declared.ones.Ones.{Ones}
 
 abbrev pub many_of : Ones → Many

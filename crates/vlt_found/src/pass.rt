@@ -5,7 +5,7 @@ ghost use Rattle.vlt_core.specs.View.{tok_of};
 ghost use Rattle.vlt_core.specs.HeldView.{row_of, toks_of};
 ghost use Rattle.vlt_rows.specs.FlowView.{rows_view};
 ghost use Rattle.vlt_core.specs.Maps.{gone};
-ghost use Rattle.vlt_flow_laws.specs.Sweep.{IsImage};
+ghost use Rattle.vlt_core_laws.specs.Sweep.{IsImage};
 ghost use Rattle.vlt_found.specs.Ones.{many_of};
 ghost use Rattle.vlt_found.specs.Passes.{IsMoved};
 

@@ -5,7 +5,7 @@ ghost use Rattle.vlt_core.specs.Flow.{size, size_block, size_stmts, size_arms};
 ghost use Rattle.vlt_core.specs.View.{tok_of};
 ghost use Rattle.vlt_core.specs.HeldView.{toks_of};
 ghost use Rattle.vlt_rows.specs.FlowView.{flow_view, block_view, stmts_view, arms_view, rows_view};
-ghost use Rattle.vlt_flow_laws.specs.Sweep.{Swept, SweptBlock, SweptStmts, SweptArms, WayBy, TurnBy, Lands, In, IsReached, IsFoundIn};
+ghost use Rattle.vlt_core_laws.specs.Sweep.{Swept, SweptBlock, SweptStmts, SweptArms, WayBy, TurnBy, Lands, In, IsReached, IsFoundIn};
 ghost use Rattle.vlt_found.specs.Ones.{many_of};
 ghost use Rattle.vlt_found.specs.Marks.{stock_of, Went, HasRoom, ForLoop};
 

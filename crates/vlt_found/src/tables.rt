@@ -1,7 +1,7 @@
 //! The tables that a sweep keeps.
 
 ghost use Rattle.std.specs.Prelude.{◌≡◌, ◌<◌, ◌≢◌, ◌↔◌, ℕ, IsTrue, length, IfOk, false};
-ghost use Rattle.vlt_flow_laws.specs.Sweep.{IntoHead, IntoExit, IsNothing};
+ghost use Rattle.vlt_core_laws.specs.Sweep.{IntoHead, IntoExit, IsNothing};
 ghost use Rattle.vlt_found.specs.Ones.{many_of, gap_of};
 ghost use Rattle.vlt_found.specs.Marks.{slot, IsSameParts, IsGrown, IsPut, stock_of, at, Went, IsInto, IsNearer};
 

@@ -332,27 +332,3 @@ impl Heap {
         true
     }
 }
-
-#[cfg(test)]
-impl Heap {
-    ghost use Rattle.vlt_heap.specs.Shown.{IsSound, IsLive, IsRoot, IsChild, IsHere};
-
-    /// Whether an object has no parent.
-    pub fn is_root(&self, o: Obj) -> bool
-        requires sound { IsSound self.now }
-        requires live { IsLive self.now o }
-        ensures yes { result ≡ true → IsRoot self.now o }
-        ensures no { result ≡ false → IsChild self.now o }
-    {
-        self.places.parent_of(o.0).is_none()
-    }
-
-    /// Whether an object isn't out.
-    pub fn is_here(&self, o: Obj) -> bool
-        requires sound { IsSound self.now }
-        requires live { IsLive self.now o }
-        ensures { result ≡ true → IsHere self.now o }
-    {
-        !self.kind(o).is_out
-    }
-}

@@ -5,8 +5,6 @@
 
 mod heap;
 mod slots;
-#[cfg(test)]
-mod tests;
 
 pub use heap::Heap;
 pub use slots::{Obj, Slot};

@@ -5,9 +5,9 @@ use Rattle.vlt_core.specs.Maps.{Wanted, wants_absent, wants_held, wants_in, want
 use Rattle.vlt_core.specs.Flow.{Flow, step, choose, loop, switch, scope, focus, return, jump, Block, block, Stmts, done, next, Arms, no_arms, arm, end_of}
 use Rattle.vlt_core.specs.Found.{One, one_absent, one_held, one_lent, one_full, Ones, WantsOne, LeftBy, image_if, image, images, both, turns, Exit, to_next, to_continue, out, out_block, out_stmts, head_of}
 use Rattle.vlt_core.specs.Faults.{Spot, If, IsMixed, IsPresent, present_of, spots, spots_block, spots_stmts, RowAt, SpotAt, SpotAtBlock, SpotAtStmts, SpotAtArms}
-use Rattle.vlt_flow_laws.specs.Tame.{ArePlain, IsTame, IsTameBlock, IsTameStmts, IsTameArms}
-use Rattle.vlt_flow_laws.specs.Shown.{one_kind, IsGood, IsOneKind, AreFilled, HasFilled, HasFilledBlock, HasFilledStmts, HasFilledArms}
-use Rattle.vlt_flow_laws.proofs.Showing.{one_kind_of, good_form, good_block, focus_enter}
+use Rattle.vlt_core_laws.specs.Tame.{ArePlain, IsTame, IsTameBlock, IsTameStmts, IsTameArms}
+use Rattle.vlt_core_laws.specs.Shown.{one_kind, IsGood, IsOneKind, AreFilled, HasFilled, HasFilledBlock, HasFilledStmts, HasFilledArms}
+use Rattle.vlt_core_laws.proofs.Showing.{one_kind_of, good_form, good_block, focus_enter}
 
 -- those that are present are of one kind
 pub record IsClean (S : Ones) : Type 0 where

@@ -5,8 +5,8 @@ use Rattle.vlt_core.specs.Maps.{Row}
 use Rattle.vlt_core.specs.Flow.{step, Block, block, Stmts}
 use Rattle.vlt_core.specs.Found.{Ones}
 use Rattle.vlt_core.specs.Faults.{Spot, RowAt, SpotAtBlock, SpotAtStmts, IsMixed, IsUnwanted, FaultKind}
-use Rattle.vlt_flow_laws.proofs.Congruent.{OfFoundRows, OfFoundJoins, mixed_of_found, unwanted_of_found, row_told_of_found, join_told_of_found, same_spot, same_spot_block}
-use Rattle.vlt_flow_laws.proofs.Sweeping.{IsSameOnes}
+use Rattle.vlt_core_laws.proofs.Congruent.{OfFoundRows, OfFoundJoins, mixed_of_found, unwanted_of_found, row_told_of_found, join_told_of_found, same_spot, same_spot_block}
+use Rattle.vlt_core_laws.proofs.Sweeping.{IsSameOnes}
 use Rattle.vlt_judge.specs.Blames.{TellsUnwanted, TellsMixed}
 
 pub unwanted_told : (kind : FaultKind) → OfFoundRows (TellsUnwanted kind)

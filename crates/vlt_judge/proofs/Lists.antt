@@ -5,8 +5,8 @@ use Rattle.vlt_core.specs.Core.{Tok}
 use Rattle.vlt_core.specs.Maps.{Row}
 use Rattle.vlt_core.specs.Found.{Ones, image}
 use Rattle.vlt_core.specs.Faults.{RowAt, IsMixed, IsUnwanted}
-use Rattle.vlt_flow_laws.specs.Sweep.{Many, In}
-use Rattle.vlt_flow_laws.proofs.Sweeping.{IsSameOnes}
+use Rattle.vlt_core_laws.specs.Sweep.{Many, In}
+use Rattle.vlt_core_laws.proofs.Sweeping.{IsSameOnes}
 use Rattle.vlt_found.specs.Passes.{IsMoved}
 use Rattle.vlt_found.proofs.Passing as passing
 use Rattle.vlt_judge.specs.declared.blame.Blame.{Blame}

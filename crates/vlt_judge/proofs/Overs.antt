@@ -9,9 +9,9 @@ use Rattle.vlt_core.specs.Flow.{Flow, step, choose, loop, switch, scope, focus, 
 use Rattle.vlt_core.specs.Found.{One, Ones, Has, images, out, to_next, head_of}
 use Rattle.vlt_core.specs.Faults.{Spot, SpotAtBlock, spots_block, IsMixed, IsUnwanted, IsNoLaterTok}
 use Rattle.vlt_core.specs.View.{tok_of}
-use Rattle.vlt_flow_laws.specs.Sweep.{In, Stock, IsFoundIn, found_head, found_head_block, found_head_stmts, found_head_arms, found_exit, found_exit_block, found_exit_stmts, found_exit_arms}
-use Rattle.vlt_flow_laws.proofs.Smooth.{smooth_images, smooth_form, smooth_heads}
-use Rattle.vlt_flow_laws.proofs.Sweeping.{smooth_round, fits_block}
+use Rattle.vlt_core_laws.specs.Sweep.{In, Stock, IsFoundIn, found_head, found_head_block, found_head_stmts, found_head_arms, found_exit, found_exit_block, found_exit_stmts, found_exit_arms}
+use Rattle.vlt_core_laws.proofs.Smooth.{smooth_images, smooth_form, smooth_heads}
+use Rattle.vlt_core_laws.proofs.Sweeping.{smooth_round, fits_block}
 use Rattle.vlt_found.specs.declared.ones.Ones as D
 use Rattle.vlt_found.specs.Ones.{many_of}
 use Rattle.vlt_found.specs.Marks.{Marks, stock_of, at as table}

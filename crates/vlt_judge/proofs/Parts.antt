@@ -10,8 +10,8 @@ use Rattle.vlt_base.specs.declared.states.StateSet.{StateSet}
 use Rattle.vlt_core.specs.Maps.{Status, absent, held, lent, full, Wanted, wants_absent, wants_held, wants_in, wants_lent, wants_full, is_absent, is_held, is_lent, is_full}
 use Rattle.vlt_core.specs.Found.{One, one_absent, one_held, one_lent, one_full, Ones, Has, WantsOne}
 use Rattle.vlt_core.specs.Faults.{IsMixed, StandsFor, present_of}
-use Rattle.vlt_flow_laws.specs.Sweep.{In}
-use Rattle.vlt_flow_laws.specs.Shown.{IsOneKind}
+use Rattle.vlt_core_laws.specs.Sweep.{In}
+use Rattle.vlt_core_laws.specs.Shown.{IsOneKind}
 use Rattle.vlt_found.specs.declared.ones.Ones as D
 use Rattle.vlt_found.specs.Ones.{many_of}
 use Rattle.vlt_found.proofs.Bits.{no_true, no_bits}

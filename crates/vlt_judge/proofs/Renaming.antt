@@ -5,7 +5,7 @@ use Rattle.vlt_core.specs.Maps.{Row, is_tok, gone}
 use Rattle.vlt_core.specs.Flow.{Flow, step, choose, loop, switch, scope, focus, return, jump, Block, block, Stmts, done, next, Arms, no_arms, arm, end_of, size, size_block}
 use Rattle.vlt_core.specs.Found.{Ones, image_if, images, both, heads, Exit, to_next, to_break, to_continue, jumps, out, out_block, out_stmts, out_arms, head_of}
 use Rattle.vlt_core.specs.Faults.{Spot, head_spot, join_spot, row_spot, If, spots, spots_block, spots_stmts, spots_arms, RowAt, SpotAt, SpotAtBlock, SpotAtStmts, SpotAtArms}
-use Rattle.vlt_flow_laws.specs.Sweep.{found_head, found_head_block, found_head_stmts, found_head_arms, found_exit, found_exit_block, found_exit_stmts, found_exit_arms}
+use Rattle.vlt_core_laws.specs.Sweep.{found_head, found_head_block, found_head_stmts, found_head_arms, found_exit, found_exit_block, found_exit_stmts, found_exit_arms}
 use Rattle.vlt_judge.specs.Extents.{AvoidsRows, Avoids, AvoidsBlock, AvoidsStmts, AvoidsArms}
 
 module _ (t u : Tok) where

@@ -15,11 +15,11 @@ use Rattle.vlt_core.specs.Found.{One, one_absent, one_held, one_lent, one_full, 
 use Rattle.vlt_core.specs.Faults.{IsMixed, IsUnwanted, TellsRow, TellsJoin, HasFault, IsFirstIn, StandsFor}
 use Rattle.vlt_core.specs.View.{tok_of}
 use Rattle.vlt_core.specs.FaultView.{kind_of}
-use Rattle.vlt_flow_laws.specs.Faulted.{HasFaultBlock}
-use Rattle.vlt_flow_laws.specs.Shown.{IsFit, IsStart, IsOneKind, IsJust, IsReadOf}
-use Rattle.vlt_flow_laws.specs.Sweep.{In, Stock}
-use Rattle.vlt_flow_laws.proofs.Showing.{faultless_local}
-use Rattle.vlt_flow_laws.proofs.Spots.{some_spot_block}
+use Rattle.vlt_core_laws.specs.Faulted.{HasFaultBlock}
+use Rattle.vlt_core_laws.specs.Shown.{IsFit, IsStart, IsOneKind, IsJust, IsReadOf}
+use Rattle.vlt_core_laws.specs.Sweep.{In, Stock}
+use Rattle.vlt_core_laws.proofs.Showing.{faultless_local}
+use Rattle.vlt_core_laws.proofs.Spots.{some_spot_block}
 use Rattle.vlt_found.specs.declared.ones.Ones as D
 use Rattle.vlt_found.specs.Ones.{many_of}
 use Rattle.vlt_found.specs.Marks.{slot, stock_of}

@@ -7,7 +7,7 @@ use Rattle.vlt_core.specs.Found.{One, Ones, WantsOne}
 use Rattle.vlt_core.specs.Faults.{Spot, row_spot, If, RowAt, SpotAt, SpotAtBlock, SpotAtStmts, SpotAtArms, IsMixed, IsUnwanted, IsNoLater, FaultKind, present_of, TellsRow, TellsJoin}
 use Rattle.vlt_core.specs.View.{tok_of}
 use Rattle.vlt_core.specs.FaultView.{kind_of}
-use Rattle.vlt_flow_laws.specs.Shown.{IsOneKind}
+use Rattle.vlt_core_laws.specs.Shown.{IsOneKind}
 use Rattle.vlt_judge.specs.declared.blame.Class.{Class}
 use Rattle.vlt_judge.specs.declared.blame.Class.TheVariants as class
 use Rattle.vlt_judge.specs.declared.blame.Blame.{Blame}

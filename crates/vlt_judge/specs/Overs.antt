@@ -8,7 +8,7 @@ use Rattle.vlt_core.specs.Found.{Has}
 use Rattle.vlt_core.specs.Faults.{Spot, SpotAtBlock, IsMixed, IsUnwanted, spots_block}
 use Rattle.vlt_core.specs.View.{tok_of}
 use Rattle.vlt_core.specs.FaultView.{kind_of}
-use Rattle.vlt_flow_laws.specs.Sweep.{IsFoundIn}
+use Rattle.vlt_core_laws.specs.Sweep.{IsFoundIn}
 use Rattle.vlt_found.specs.Marks.{Marks, stock_of}
 use Rattle.vlt_keyset.specs.Held.{Statuses}
 use Rattle.vlt_judge.specs.declared.blame.Blame.{Blame}

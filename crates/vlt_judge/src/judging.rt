@@ -6,7 +6,7 @@ ghost use Rattle.vlt_core.specs.Faults.{spots, spots_block, spots_stmts, spots_a
 ghost use Rattle.vlt_core.specs.Found.{out, out_block, out_stmts, to_next};
 ghost use Rattle.vlt_core.specs.View.{tok_of};
 ghost use Rattle.vlt_rows.specs.FlowView.{flow_view, block_view, stmts_view, arms_view, rows_view};
-ghost use Rattle.vlt_flow_laws.specs.Sweep.{In};
+ghost use Rattle.vlt_core_laws.specs.Sweep.{In};
 ghost use Rattle.vlt_found.specs.Ones.{many_of};
 ghost use Rattle.vlt_judge.specs.Judging.{HasRoom, IsBehindAll, IsJudged, IsJudgedBlock, IsJudgedStmts, IsJudgedArms, Fitting, FittingBlock, FittingStmts, FittingArms};
 

@@ -15,8 +15,6 @@ mod extent;
 mod judging;
 mod rows;
 mod telling;
-#[cfg(test)]
-mod tests;
 mod tokens;
 
 use crate::blame::Blame;

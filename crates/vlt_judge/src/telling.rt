@@ -4,8 +4,8 @@ ghost use Rattle.std.specs.Prelude.{◌↔◌, IsTrue};
 ghost use Rattle.vlt_core.specs.HeldView.{status_of, wanted_of};
 ghost use Rattle.vlt_core.specs.Found.{One, Has, WantsOne};
 ghost use Rattle.vlt_core.specs.Faults.{IsMixed, StandsFor, present_of};
-ghost use Rattle.vlt_flow_laws.specs.Sweep.{In};
-ghost use Rattle.vlt_flow_laws.specs.Shown.{IsOneKind};
+ghost use Rattle.vlt_core_laws.specs.Sweep.{In};
+ghost use Rattle.vlt_core_laws.specs.Shown.{IsOneKind};
 ghost use Rattle.vlt_found.specs.Ones.{many_of};
 ghost use Rattle.vlt_judge.specs.Blames.{IsRefusing};
 

@@ -12,3 +12,13 @@ pub mod Globals
 pub mod Rows
 pub mod Filled
 pub mod Headers
+pub mod Tables
+pub mod Folds
+pub mod Known
+pub mod Places
+pub mod Core
+pub mod Clauses
+pub mod Entries
+pub mod Hosts
+pub mod Whole
+pub mod HeadStates

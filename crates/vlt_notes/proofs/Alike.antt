@@ -4,7 +4,7 @@ use Rattle.std.specs.Prelude.{IsSome}
 use Rattle.vlt_core.specs.Maps.{HeldMap, CanPass, passed, IsBelow, gone}
 use Rattle.vlt_core.specs.Flow.{Flow, step, choose, loop, switch, scope, focus, return, jump, Block, block, Stmts, done, next, Arms, no_arms, arm, size, size_block, passes_block, passes_arms}
 use Rattle.vlt_core.specs.Local.{Notes, Then, When, only_if, rows_passed, leads, leads_block, leads_stmts, Meets, IsLocal, IsLocalBlock, IsLocalStmts, IsLocalArms}
-use Rattle.vlt_flow_laws.proofs.Changes.{leads_block_some}
+use Rattle.vlt_core_laws.proofs.Changes.{leads_block_some}
 
 -- the maps of noted statements are the same
 abbrev mutual

@@ -17,7 +17,7 @@ use Rattle.vlt_core.specs.KindedHeads.{has, new_keys, typings}
 use Rattle.vlt_core.specs.KindedScopes.{Ids, entered, left_behind}
 use Rattle.vlt_kinds.specs.Kinds.{Kinds}
 use Rattle.vlt_kinds_laws.proofs.Parts.{each_other}
-use Rattle.vlt_heads_laws.proofs.Tables.{found_behind}
+use Rattle.vlt_kinds_laws.proofs.Tables.{found_behind}
 use Rattle.vlt_resolve_exprs.specs.Scopes.{Scope, as_var, as_key, tok_named, var_named, key_named, more_key, more_var, with_name, with_key, with_var, scope_inside, scope_behind}
 use Rattle.vlt_resolve_laws.specs.Steps.{type_among, IsTyped, is_old, among, IsRising, InStep, Grows, ids_with_key, tok_if, ids_with_var}
 

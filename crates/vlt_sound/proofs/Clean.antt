@@ -9,18 +9,18 @@ use Rattle.vlt_meaning.specs.World.{Value, objects_in, Owner, gone, out, loose, 
 use Rattle.vlt_meaning.specs.Objects.{is_under, parents_of}
 use Rattle.vlt_meaning.specs.Clean.{out_objects, is_clean}
 use Rattle.vlt_meaning.specs.Run.{ran}
-use Rattle.vlt_sound_owners.specs.Look.{look, IsLive}
-use Rattle.vlt_sound_owners.proofs.Look.{live_at, live_within, look_is}
-use Rattle.vlt_sound_owners.proofs.Below.{below_test}
-use Rattle.vlt_sound_owners.specs.Members.{In}
-use Rattle.vlt_sound_owners.specs.Placed.{IsOwned, HasIt}
-use Rattle.vlt_sound_owners.proofs.Members.{in_left, in_right}
-use Rattle.vlt_sound_owners.specs.Roots.{Root, in_var, in_hand, in_wait, in_cell, owned_by, content, home}
-use Rattle.vlt_sound_owners.specs.Keys.{IsUnder}
-use Rattle.vlt_sound_owners.proofs.KeysLaws.{none_under}
-use Rattle.vlt_sound_frames.specs.Agrees.{scene, stock}
+use Rattle.vlt_sound_worlds.specs.Look.{look, IsLive}
+use Rattle.vlt_sound_worlds.proofs.Look.{live_at, live_within, look_is}
+use Rattle.vlt_sound_worlds.proofs.Below.{below_test}
+use Rattle.vlt_sound_worlds.specs.Members.{In}
+use Rattle.vlt_sound_worlds.specs.Placed.{IsOwned, HasIt}
+use Rattle.vlt_sound_worlds.proofs.Members.{in_left, in_right}
+use Rattle.vlt_sound_worlds.specs.Roots.{Root, in_var, in_hand, in_wait, in_cell, owned_by, content, home}
+use Rattle.vlt_sound_worlds.specs.Keys.{IsUnder}
+use Rattle.vlt_sound_worlds.proofs.KeysLaws.{none_under}
+use Rattle.vlt_sound_worlds.specs.Agrees.{scene, stock}
 use Rattle.vlt_sound_calls.specs.Returned.{FitsResult, Returned}
-use Rattle.vlt_sound_returns.proofs.Taking.{all_numbered}
+use Rattle.vlt_sound_calls.proofs.Taking.{all_numbered}
 use Rattle.vlt_sound.specs.Main.{IsMain}
 use Rattle.vlt_sound.proofs.Start.{main_context}
 

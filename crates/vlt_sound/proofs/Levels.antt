@@ -7,21 +7,21 @@ use Rattle.vlt_meaning.specs.Run.{Setup, Meaning, less}
 use Rattle.vlt_core_laws.specs.States.{HasStates}
 use Rattle.vlt_sound_calls.specs.Returned.{CalleesAreSafe}
 use Rattle.vlt_sound_statements.specs.Statements.{RestIsSafe}
-use Rattle.vlt_sound_returns.specs.Meet.{HasFunctions}
-use Rattle.vlt_sound_returns.specs.Externals.{ExternalsAreSafe}
-use Rattle.vlt_sound_returns.proofs.BodiesLaws.{calls_are_safe}
-use Rattle.vlt_sound_returns.proofs.ReturnsLaws.{returns_are_safe}
-use Rattle.vlt_sound_typed.specs.Sizes.{HasSizes}
-use Rattle.vlt_sound_typed.proofs.Facts.{has_cases, has_keys, body_kinded, end_kinded}
-use Rattle.vlt_sound_typed.proofs.Functions.{has_functions}
+use Rattle.vlt_sound_calls.specs.Meet.{HasFunctions}
+use Rattle.vlt_sound_calls.specs.Externals.{ExternalsAreSafe}
+use Rattle.vlt_sound_calls.proofs.BodiesLaws.{calls_are_safe}
+use Rattle.vlt_sound_calls.proofs.ReturnsLaws.{returns_are_safe}
+use Rattle.vlt_sound.specs.Sizes.{HasSizes}
+use Rattle.vlt_sound.proofs.Facts.{has_cases, has_keys, body_kinded, end_kinded}
+use Rattle.vlt_sound.proofs.Functions.{has_functions}
 use Rattle.vlt_sound_statements.proofs.SimpleLaws.{step_safe}
 use Rattle.vlt_sound_statements.specs.Parts.{HasSafeParts}
 use Rattle.vlt_sound_statements.proofs.StatementsLaws.{stmts_safe}
 use Rattle.vlt_sound_statements.proofs.Bodies.{body_safe}
-use Rattle.vlt_sound_typed.specs.Narrow.{HasNarrowHeads}
-use Rattle.vlt_sound_typed.proofs.HeadsLaws.{has_hosts}
-use Rattle.vlt_sound_hosts.proofs.HostsLaws.{externals_are_safe}
-use Rattle.vlt_sound_hosts.proofs.Results.{answers_safe}
+use Rattle.vlt_sound.specs.Narrow.{HasNarrowHeads}
+use Rattle.vlt_sound.proofs.HeadsLaws.{has_hosts}
+use Rattle.vlt_sound_calls.proofs.HostsLaws.{externals_are_safe}
+use Rattle.vlt_sound_calls.proofs.HostResults.{answers_safe}
 
 module _ (p : Program) (heap depth : ℕ) (kinded : IsKinded p) (accepted : IsAccepted p)
     (sizes : HasSizes p) (filled : HasStates p) (narrow : HasNarrowHeads p) where

@@ -2,3 +2,13 @@ pub mod Start
 pub mod Clean
 pub mod Levels
 pub mod Whole
+pub mod Rows
+pub mod Types
+pub mod Decls
+pub mod Vars
+pub mod Facts
+pub mod Meeting
+pub mod HeadsDeclared
+pub mod Functions
+pub mod ExternsDeclared
+pub mod HeadsLaws

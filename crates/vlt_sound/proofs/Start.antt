@@ -9,14 +9,14 @@ use Rattle.vlt_core.specs.KindedHeads.{has, keys_of_parameters, keys_of_result}
 use Rattle.vlt_core.specs.KindedBodies.{first_ids}
 use Rattle.vlt_meaning.specs.World.{gone, adopted_by}
 use Rattle.vlt_meaning.specs.Run.{first_frame}
-use Rattle.vlt_sound_owners.specs.Look.{look}
-use Rattle.vlt_sound_owners.specs.Members.{In, IsOnce}
-use Rattle.vlt_sound_owners.specs.Roots.{Root, in_var, in_hand, in_wait, in_cell, content}
-use Rattle.vlt_sound_owners.specs.Keys.{KeyAgrees}
-use Rattle.vlt_sound_owners.proofs.KeysLaws.{key_absent}
-use Rattle.vlt_sound_frames.specs.Agrees.{HasVar, InScope, Waiting, Context, stock, Agrees}
-use Rattle.vlt_sound_scopes.specs.Scoped.{IsScoped}
-use Rattle.vlt_sound_scopes.proofs.Starting.{has_left, has_right, start_scoped}
+use Rattle.vlt_sound_worlds.specs.Look.{look}
+use Rattle.vlt_sound_worlds.specs.Members.{In, IsOnce}
+use Rattle.vlt_sound_worlds.specs.Roots.{Root, in_var, in_hand, in_wait, in_cell, content}
+use Rattle.vlt_sound_worlds.specs.Keys.{KeyAgrees}
+use Rattle.vlt_sound_worlds.proofs.KeysLaws.{key_absent}
+use Rattle.vlt_sound_worlds.specs.Agrees.{HasVar, InScope, Waiting, Context, stock, Agrees}
+use Rattle.vlt_sound_worlds.specs.Scoped.{IsScoped}
+use Rattle.vlt_sound_worlds.proofs.Starting.{has_left, has_right, start_scoped}
 use Rattle.vlt_sound_calls.specs.Returned.{is_lasting, IsEntered}
 use Rattle.vlt_sound_calls.proofs.Parameters.{range_within}
 use Rattle.vlt_sound_calls.proofs.Begins.{status_none}

@@ -1,2 +1,5 @@
 pub mod Promise
 pub mod Main
+pub mod Sizes
+pub mod Fields
+pub mod Narrow

@@ -3,13 +3,21 @@
 //! Programs that are checked and accepted rest on it.
 #![tactic(auto)]
 
+mod externs;
+mod heads;
+mod typed;
+
 ghost use Rattle.vlt_core.specs.Core.{Program};
 ghost use Rattle.vlt_core.specs.Kinded.{IsKinded};
 ghost use Rattle.vlt_core.specs.Derives.{IsAccepted};
 ghost use Rattle.vlt_core_laws.specs.States.{HasStates};
-ghost use Rattle.vlt_sound_typed.specs.Sizes.{HasSizes};
+ghost use Rattle.vlt_sound.specs.Sizes.{HasSizes};
 ghost use Rattle.vlt_sound.specs.Promise.{NeverGoesWrong, LeavesOnlyItsClause};
-ghost use Rattle.vlt_sound_typed.specs.Narrow.{HasNarrowHeads};
+ghost use Rattle.vlt_sound.specs.Narrow.{HasNarrowHeads};
+
+pub use externs::kinded_externals_are_known;
+pub use heads::kinded_functions_are_known;
+pub use typed::kinded_programs_are_typed;
 
 /// No run of an accepted program ends in a fault, and one that comes to main's end leaves only what
 /// its clause or the host has: whatever the bounds, the input and the answers.

@@ -14,14 +14,14 @@ use Rattle.vlt_meaning.specs.World as world
 use Rattle.vlt_meaning.specs.World.{Owner, gone, Object, Frame}
 use Rattle.vlt_meaning.specs.Objects.{with_owner}
 use Rattle.vlt_meaning.specs.Calls.{handed_over, is_new_key, callee_key}
-use Rattle.vlt_sound_owners.specs.Look.{look, IsLive}
-use Rattle.vlt_sound_owners.proofs.Look.{live_within}
-use Rattle.vlt_sound_owners.specs.Keys.{IsOfType, KeyAgrees, IsUnder, IsSameObject, SameUnder, IsOnly}
-use Rattle.vlt_sound_owners.proofs.KeysLaws.{key_kept, key_absent, key_held, held_one, under_is}
-use Rattle.vlt_sound_frames.specs.Agrees.{Handed, Context, Agrees}
-use Rattle.vlt_sound_frames.specs.Typed.{IsLimited}
-use Rattle.vlt_sound_frames.proofs.Touch.{held_is}
-use Rattle.vlt_sound_frames.proofs.Leaving.{key_same}
+use Rattle.vlt_sound_worlds.specs.Look.{look, IsLive}
+use Rattle.vlt_sound_worlds.proofs.Look.{live_within}
+use Rattle.vlt_sound_worlds.specs.Keys.{IsOfType, KeyAgrees, IsUnder, IsSameObject, SameUnder, IsOnly}
+use Rattle.vlt_sound_worlds.proofs.KeysLaws.{key_kept, key_absent, key_held, held_one, under_is}
+use Rattle.vlt_sound_worlds.specs.Agrees.{Handed, Context, Agrees}
+use Rattle.vlt_sound_worlds.specs.Typed.{IsLimited}
+use Rattle.vlt_sound_worlds.proofs.Touch.{held_is}
+use Rattle.vlt_sound_worlds.proofs.Leaving.{key_same}
 use Rattle.vlt_sound_calls.specs.Callee.{Among, AreApartBy, caller_key, IsParamKey, IsCall, without}
 use Rattle.vlt_sound_calls.proofs.Entries.{same_entry, Sought, sought}
 use Rattle.vlt_sound_calls.proofs.ClauseRows.{clause_wanted, without_here, without_other}

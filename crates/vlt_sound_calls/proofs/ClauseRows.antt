@@ -5,9 +5,9 @@ use Rattle.vlt_core.specs.Core.{Tok, a_key, a_var, Entry, Func, Program}
 use Rattle.vlt_core.specs.Lookups.{is_held_before}
 use Rattle.vlt_core.specs.Maps.{Status, absent, HeldMap, IsWanted, changed, row_passed, CanPass, passed, is_tok}
 use Rattle.vlt_core.specs.Rows.{on_option, entry_row, entry_wanted, entry_after, clause_rows}
-use Rattle.vlt_sound_frames.proofs.Empty.{both_so}
-use Rattle.vlt_sound_frames.proofs.Rows.{row_here, row_other, tok_is}
-use Rattle.vlt_sound_frames.proofs.Leaving.{key_same}
+use Rattle.vlt_sound_worlds.proofs.Empty.{both_so}
+use Rattle.vlt_sound_worlds.proofs.Rows.{row_here, row_other, tok_is}
+use Rattle.vlt_sound_worlds.proofs.Leaving.{key_same}
 use Rattle.vlt_sound_calls.specs.Callee.{Among, AreApartBy, caller_key, without}
 
 -- each entry's key has one of the caller

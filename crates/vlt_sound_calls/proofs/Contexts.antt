@@ -4,12 +4,12 @@ use Rattle.vlt_core.specs.Core.{Entry, Func, Program}
 use Rattle.vlt_meaning.specs.Calls.{entries_after}
 use Rattle.vlt_meaning.specs.World as world
 use Rattle.vlt_meaning.specs.World.{Value, World, Object}
-use Rattle.vlt_sound_owners.specs.Look.{look}
-use Rattle.vlt_sound_owners.specs.Members.{In}
-use Rattle.vlt_sound_owners.proofs.KeysLaws.{under_lent}
-use Rattle.vlt_sound_owners.specs.Scene.{Focus}
-use Rattle.vlt_sound_owners.specs.Fits.{Names}
-use Rattle.vlt_sound_frames.specs.Agrees.{Pin, Context, FociAgree}
+use Rattle.vlt_sound_worlds.specs.Look.{look}
+use Rattle.vlt_sound_worlds.specs.Members.{In}
+use Rattle.vlt_sound_worlds.proofs.KeysLaws.{under_lent}
+use Rattle.vlt_sound_worlds.specs.Scene.{Focus}
+use Rattle.vlt_sound_worlds.specs.Fits.{Names}
+use Rattle.vlt_sound_worlds.specs.Agrees.{Pin, Context, FociAgree}
 use Rattle.vlt_sound_calls.specs.Returned.{IsEntered, AreKept, Returned}
 
 pub entered_with : {p : Program} {f : Func} {c : Context} (foci : List Focus) (pins : List Pin) → IsEntered p f c →

@@ -16,21 +16,21 @@ use Rattle.vlt_core.specs.KindedScopes.{Ids}
 use Rattle.vlt_core.specs.KindedBodies.{first_ids}
 use Rattle.vlt_meaning.specs.World.{Value, objects_in, Object, Frame}
 use Rattle.vlt_meaning.specs.Calls.{handed_over, is_new_key, callee_key, callee_frame}
-use Rattle.vlt_sound_owners.specs.Look.{look}
-use Rattle.vlt_sound_owners.specs.Members.{In}
-use Rattle.vlt_sound_owners.specs.Placed.{IsPlaced}
-use Rattle.vlt_sound_owners.specs.Roots.{owned_by, content, home, owner_of}
-use Rattle.vlt_sound_owners.specs.Scene.{Scene}
-use Rattle.vlt_sound_owners.specs.Fits.{Fits}
-use Rattle.vlt_sound_owners.proofs.Fits.{fits_named, fits_behind}
-use Rattle.vlt_sound_frames.specs.Agrees.{HasVar, InScope, VarsFit, VarsAgree, Handed, values_of, Waiting, Context, WaitsWell, scene, stock, Agrees}
-use Rattle.vlt_sound_frames.specs.Typed.{IsTyped}
-use Rattle.vlt_sound_frames.proofs.Plain.{plain_value}
-use Rattle.vlt_sound_frames.proofs.Kept.{vars_kept, handed_kept, waits_kept}
-use Rattle.vlt_sound_frames.proofs.TypeFacts.{var_known}
-use Rattle.vlt_sound_scopes.specs.Scoped.{IsScoped}
-use Rattle.vlt_sound_scopes.proofs.Starting.{has_left, has_right, start_scoped}
-use Rattle.vlt_sound_scopes.specs.Handed.{handed}
+use Rattle.vlt_sound_worlds.specs.Look.{look}
+use Rattle.vlt_sound_worlds.specs.Members.{In}
+use Rattle.vlt_sound_worlds.specs.Placed.{IsPlaced}
+use Rattle.vlt_sound_worlds.specs.Roots.{owned_by, content, home, owner_of}
+use Rattle.vlt_sound_worlds.specs.Scene.{Scene}
+use Rattle.vlt_sound_worlds.specs.Fits.{Fits}
+use Rattle.vlt_sound_worlds.proofs.Fits.{fits_named, fits_behind}
+use Rattle.vlt_sound_worlds.specs.Agrees.{HasVar, InScope, VarsFit, VarsAgree, Handed, values_of, Waiting, Context, WaitsWell, scene, stock, Agrees}
+use Rattle.vlt_sound_worlds.specs.Typed.{IsTyped}
+use Rattle.vlt_sound_worlds.proofs.Plain.{plain_value}
+use Rattle.vlt_sound_worlds.proofs.Kept.{vars_kept, handed_kept, waits_kept}
+use Rattle.vlt_sound_worlds.proofs.TypeFacts.{var_known}
+use Rattle.vlt_sound_worlds.specs.Scoped.{IsScoped}
+use Rattle.vlt_sound_worlds.proofs.Starting.{has_left, has_right, start_scoped}
+use Rattle.vlt_sound_worlds.specs.Handed.{handed}
 use Rattle.vlt_sound_calls.specs.Returned.{IsEntered}
 use Rattle.vlt_sound_calls.specs.Heads.{HasHead}
 use Rattle.vlt_sound_calls.specs.Callee.{IsParamKey, IsCall, without, with_waiting, callee_context}

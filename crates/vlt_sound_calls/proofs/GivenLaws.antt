@@ -10,19 +10,19 @@ use Rattle.vlt_meaning.specs.World as world
 use Rattle.vlt_meaning.specs.Found.{Found, ◌>>=◌, or_fault, Named, if_so}
 use Rattle.vlt_meaning.specs.Objects.{named_in, object_at, owned_at, with_owner, changed, moved}
 use Rattle.vlt_meaning.specs.Externals.{is_given, come_back}
-use Rattle.vlt_sound_owners.specs.Look.{look}
-use Rattle.vlt_sound_owners.proofs.Look.{look_is}
-use Rattle.vlt_sound_owners.specs.Keys.{IsOfType}
-use Rattle.vlt_sound_frames.specs.Agrees.{Handed, Context, scene, Agrees}
-use Rattle.vlt_sound_frames.specs.Typed.{IsTyped}
-use Rattle.vlt_sound_frames.proofs.Rows.{row_here, row_other}
-use Rattle.vlt_sound_frames.proofs.Leaving.{key_same}
-use Rattle.vlt_sound_frames.proofs.Owning.{row_tok}
-use Rattle.vlt_sound_scopes.specs.Scoped.{IsScoped}
+use Rattle.vlt_sound_worlds.specs.Look.{look}
+use Rattle.vlt_sound_worlds.proofs.Look.{look_is}
+use Rattle.vlt_sound_worlds.specs.Keys.{IsOfType}
+use Rattle.vlt_sound_worlds.specs.Agrees.{Handed, Context, scene, Agrees}
+use Rattle.vlt_sound_worlds.specs.Typed.{IsTyped}
+use Rattle.vlt_sound_worlds.proofs.Rows.{row_here, row_other}
+use Rattle.vlt_sound_worlds.proofs.Leaving.{key_same}
+use Rattle.vlt_sound_worlds.proofs.Owning.{row_tok}
+use Rattle.vlt_sound_worlds.specs.Scoped.{IsScoped}
 use Rattle.vlt_sound_calls.specs.Returned.{IsEntered}
 use Rattle.vlt_sound_calls.specs.Callee.{caller_key}
 use Rattle.vlt_sound_calls.proofs.Typing.{keys_typed}
-use Rattle.vlt_sound_scopes.proofs.Returning.{agrees_back}
+use Rattle.vlt_sound_worlds.proofs.Returning.{agrees_back}
 use Rattle.vlt_sound_calls.specs.Given.{whatever, back_row, came, AreGivable}
 
 -- ---- what was found

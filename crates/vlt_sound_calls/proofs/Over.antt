@@ -11,10 +11,10 @@ use Rattle.vlt_meaning.specs.Found.{Found, ◌>>=◌, or_fault, if_so}
 use Rattle.vlt_meaning.specs.Objects.{in_states, with_owner, changed}
 use Rattle.vlt_meaning.specs.Values.{held_object}
 use Rattle.vlt_meaning.specs.Calls.{caller_object, passed_object, passed_objects, changed_if, handed_over}
-use Rattle.vlt_sound_owners.specs.Look.{look, ChangesOne}
-use Rattle.vlt_sound_owners.proofs.Look.{look_at, changes_one}
-use Rattle.vlt_sound_frames.proofs.Touch.{named, held_found}
-use Rattle.vlt_sound_frames.proofs.Leaving.{length_changed}
+use Rattle.vlt_sound_worlds.specs.Look.{look, ChangesOne}
+use Rattle.vlt_sound_worlds.proofs.Look.{look_at, changes_one}
+use Rattle.vlt_sound_worlds.proofs.Touch.{named, held_found}
+use Rattle.vlt_sound_worlds.proofs.Leaving.{length_changed}
 use Rattle.vlt_sound_calls.specs.Callee.{Among, caller_key}
 use Rattle.vlt_sound_calls.proofs.Rekeyed.{IsRekeyed, Rekeyed}
 

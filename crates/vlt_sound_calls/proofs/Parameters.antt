@@ -10,17 +10,17 @@ use Rattle.vlt_core.specs.Types.{with_keys}
 use Rattle.vlt_core.specs.KindedHeads.{has}
 use Rattle.vlt_meaning.specs.World.{Value, objects_in, Owner, Object, Frame}
 use Rattle.vlt_meaning_laws.proofs.Lists.{get_last}
-use Rattle.vlt_sound_owners.specs.Members.{In, IsOnce}
-use Rattle.vlt_sound_owners.specs.Placed.{IsPlaced}
-use Rattle.vlt_sound_owners.specs.Roots.{Root, in_var, in_hand, in_wait, in_cell, Stock, owned_by, content, home}
-use Rattle.vlt_sound_owners.proofs.Members.{in_left}
-use Rattle.vlt_sound_owners.proofs.Placed as placed
-use Rattle.vlt_sound_owners.proofs.Roots.{same_root}
-use Rattle.vlt_sound_owners.specs.Scene.{Scene}
-use Rattle.vlt_sound_owners.specs.Fits.{Names, Fits}
-use Rattle.vlt_sound_frames.specs.Agrees.{Handed, values_of, FitHanded, Waiting}
-use Rattle.vlt_sound_scopes.proofs.Binding.{first_or_other}
-use Rattle.vlt_sound_scopes.specs.Handed.{handed}
+use Rattle.vlt_sound_worlds.specs.Members.{In, IsOnce}
+use Rattle.vlt_sound_worlds.specs.Placed.{IsPlaced}
+use Rattle.vlt_sound_worlds.specs.Roots.{Root, in_var, in_hand, in_wait, in_cell, Stock, owned_by, content, home}
+use Rattle.vlt_sound_worlds.proofs.Members.{in_left}
+use Rattle.vlt_sound_worlds.proofs.Placed as placed
+use Rattle.vlt_sound_worlds.proofs.Roots.{same_root}
+use Rattle.vlt_sound_worlds.specs.Scene.{Scene}
+use Rattle.vlt_sound_worlds.specs.Fits.{Names, Fits}
+use Rattle.vlt_sound_worlds.specs.Agrees.{Handed, values_of, FitHanded, Waiting}
+use Rattle.vlt_sound_worlds.proofs.Binding.{first_or_other}
+use Rattle.vlt_sound_worlds.specs.Handed.{handed}
 use Rattle.vlt_sound_calls.specs.Callee.{with_waiting}
 
 -- ---- waiting functions by depth

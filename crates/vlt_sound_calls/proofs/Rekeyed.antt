@@ -6,17 +6,17 @@ use Rattle.vlt_core.specs.KindedScopes.{Ids}
 use Rattle.vlt_meaning.specs.World as world
 use Rattle.vlt_meaning.specs.World.{Owner, gone, adopted_by, above, Object, Frame}
 use Rattle.vlt_meaning.specs.Objects.{with_owner}
-use Rattle.vlt_sound_owners.specs.Look.{look, IsLive}
-use Rattle.vlt_sound_owners.specs.Ranks.{IsRanked}
-use Rattle.vlt_sound_owners.specs.Placed.{IsOwned, IsPlaced}
-use Rattle.vlt_sound_owners.specs.Roots.{Root, in_var, in_hand, in_wait, in_cell, cell_of, content, home, owner_of}
-use Rattle.vlt_sound_owners.proofs.Placed as placed
-use Rattle.vlt_sound_owners.proofs.Roots.{homes, same_root}
-use Rattle.vlt_sound_owners.specs.Scene.{Focus, Grows, SameStates}
-use Rattle.vlt_sound_owners.proofs.Scene.{grows}
-use Rattle.vlt_sound_frames.specs.Agrees.{ObjectFits, IsAdoptable, Handed, Context, FociAgree, scene, stock, Agrees}
-use Rattle.vlt_sound_frames.proofs.Kept.{KeepsOwned, object_kept}
-use Rattle.vlt_sound_frames.proofs.Owners.{cells_stay}
+use Rattle.vlt_sound_worlds.specs.Look.{look, IsLive}
+use Rattle.vlt_sound_worlds.specs.Ranks.{IsRanked}
+use Rattle.vlt_sound_worlds.specs.Placed.{IsOwned, IsPlaced}
+use Rattle.vlt_sound_worlds.specs.Roots.{Root, in_var, in_hand, in_wait, in_cell, cell_of, content, home, owner_of}
+use Rattle.vlt_sound_worlds.proofs.Placed as placed
+use Rattle.vlt_sound_worlds.proofs.Roots.{homes, same_root}
+use Rattle.vlt_sound_worlds.specs.Scene.{Focus, Grows, SameStates}
+use Rattle.vlt_sound_worlds.proofs.Scene.{grows}
+use Rattle.vlt_sound_worlds.specs.Agrees.{ObjectFits, IsAdoptable, Handed, Context, FociAgree, scene, stock, Agrees}
+use Rattle.vlt_sound_worlds.proofs.Kept.{KeepsOwned, object_kept}
+use Rattle.vlt_sound_worlds.proofs.FrameOwners.{cells_stay}
 
 -- an object that was under a key is under another one
 pub record IsRekeyed (old new : Object) : Type 0 where

@@ -11,16 +11,16 @@ use Rattle.vlt_meaning.specs.World.{Object, Frame, gone}
 use Rattle.vlt_meaning.specs.Objects.{with_state, changed}
 use Rattle.vlt_meaning.specs.Calls.{caller_object}
 use Rattle.vlt_meaning.specs.Externals.{entry_states, with_states}
-use Rattle.vlt_sound_owners.specs.Look.{look, IsLive}
-use Rattle.vlt_sound_owners.proofs.Look.{live_within}
-use Rattle.vlt_sound_owners.specs.Keys.{HasKey, NamesOwned, IsOfType}
-use Rattle.vlt_sound_frames.specs.Agrees.{Handed, Context, Agrees}
-use Rattle.vlt_sound_frames.proofs.Rows.{row_here, row_other}
-use Rattle.vlt_sound_frames.proofs.Leaving.{key_same}
-use Rattle.vlt_sound_frames.proofs.Owning.{row_tok}
-use Rattle.vlt_sound_scopes.proofs.Becoming.{agrees_became}
+use Rattle.vlt_sound_worlds.specs.Look.{look, IsLive}
+use Rattle.vlt_sound_worlds.proofs.Look.{live_within}
+use Rattle.vlt_sound_worlds.specs.Keys.{HasKey, NamesOwned, IsOfType}
+use Rattle.vlt_sound_worlds.specs.Agrees.{Handed, Context, Agrees}
+use Rattle.vlt_sound_worlds.proofs.Rows.{row_here, row_other}
+use Rattle.vlt_sound_worlds.proofs.Leaving.{key_same}
+use Rattle.vlt_sound_worlds.proofs.Owning.{row_tok}
+use Rattle.vlt_sound_worlds.proofs.Becoming.{agrees_became}
 use Rattle.vlt_sound_calls.specs.Callee.{caller_key}
-use Rattle.vlt_sound_owners.specs.Said.{GoTogether, IsAfter}
+use Rattle.vlt_sound_worlds.specs.Said.{GoTogether, IsAfter}
 use Rattle.vlt_sound_calls.specs.Told.{told_row, told, IsTellable, IsHeldAt, AreTellable}
 
 module _ (p : Program) (f g : Func) (c : Context) (ids : Ids) (hand : List Handed) (frame : Frame) (keys : List ℕ) where

@@ -6,11 +6,11 @@ use Rattle.vlt_core.specs.Lookups.{key_type}
 use Rattle.vlt_core.specs.KindedHeads.{has, keys_of_parameters}
 use Rattle.vlt_core.specs.KindedScopes.{Ids}
 use Rattle.vlt_meaning.specs.World.{Frame}
-use Rattle.vlt_sound_owners.specs.Look.{look}
-use Rattle.vlt_sound_owners.specs.Scene.{Scene}
-use Rattle.vlt_sound_frames.specs.Agrees.{Context, VarsFit, WaitsWell}
-use Rattle.vlt_sound_frames.specs.Typed.{IsTyped}
-use Rattle.vlt_sound_scopes.specs.Scoped.{IsKeyInScope, IsOwnKey, IsScoped}
+use Rattle.vlt_sound_worlds.specs.Look.{look}
+use Rattle.vlt_sound_worlds.specs.Scene.{Scene}
+use Rattle.vlt_sound_worlds.specs.Agrees.{Context, VarsFit, WaitsWell}
+use Rattle.vlt_sound_worlds.specs.Typed.{IsTyped}
+use Rattle.vlt_sound_worlds.specs.Scoped.{IsKeyInScope, IsOwnKey, IsScoped}
 use Rattle.vlt_sound_calls.specs.Returned.{IsEntered}
 
 pub keys_typed : {p : Program} {f : Func} {c : Context} {ids : Ids} → IsTyped p f → IsEntered p f c → IsScoped f c ids → (frame : Frame) →

@@ -8,8 +8,8 @@ use Rattle.vlt_core.specs.KindedHeads.{has, keys_of_parameters}
 use Rattle.vlt_core.specs.KindedScopes.{Ids}
 use Rattle.vlt_meaning.specs.World.{Frame}
 use Rattle.vlt_meaning.specs.Calls.{is_new_key, callee_key}
-use Rattle.vlt_sound_frames.specs.Agrees.{Waiting, Context}
-use Rattle.vlt_sound_scopes.specs.Scoped.{IsKeyInScope}
+use Rattle.vlt_sound_worlds.specs.Agrees.{Waiting, Context}
+use Rattle.vlt_sound_worlds.specs.Scoped.{IsKeyInScope}
 use Rattle.vlt_sound_calls.specs.Returned.{is_lasting}
 
 abbrev pub Among : {A : Type 0} → A → List A → Type 0

@@ -7,10 +7,10 @@ use Rattle.vlt_core.specs.KindedScopes.{Ids}
 use Rattle.vlt_core.specs.KindedCalls.{with_call_target, call_broken, return_broken}
 use Rattle.vlt_meaning.specs.World.{World, Frame}
 use Rattle.vlt_meaning.specs.Run.{Setup, Meaning, does_form}
-use Rattle.vlt_sound_frames.specs.Agrees.{Context, Agrees}
-use Rattle.vlt_sound_frames.specs.Typed.{IsTyped}
-use Rattle.vlt_sound_frames.specs.Safe.{Safe, goes_to}
-use Rattle.vlt_sound_scopes.specs.Scoped.{IsScoped, HasKeys}
+use Rattle.vlt_sound_worlds.specs.Agrees.{Context, Agrees}
+use Rattle.vlt_sound_worlds.specs.Typed.{IsTyped}
+use Rattle.vlt_sound_worlds.specs.Safe.{Safe, goes_to}
+use Rattle.vlt_sound_worlds.specs.Scoped.{IsScoped, HasKeys}
 use Rattle.vlt_sound_calls.specs.Heads.{HasHead}
 use Rattle.vlt_sound_calls.specs.Returned.{IsEntered, returns_to}
 

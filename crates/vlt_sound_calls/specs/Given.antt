@@ -5,7 +5,7 @@ use Rattle.vlt_core.specs.Maps.{absent, HeldMap, wants_absent, becomes_held, Row
 use Rattle.vlt_core.specs.Rows.{row}
 use Rattle.vlt_core.specs.KindedScopes.{Ids}
 use Rattle.vlt_meaning.specs.Externals.{is_given}
-use Rattle.vlt_sound_scopes.specs.Scoped.{IsKeyInScope}
+use Rattle.vlt_sound_worlds.specs.Scoped.{IsKeyInScope}
 use Rattle.vlt_sound_calls.specs.Callee.{Among, AreApartBy, caller_key}
 
 abbrev pub whatever : States

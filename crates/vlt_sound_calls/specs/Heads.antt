@@ -5,7 +5,7 @@ use Rattle.vlt_core.specs.Lookups.{var_type, key_type, is_new}
 use Rattle.vlt_core.specs.Types.{keys_of_ty, is_owning_type}
 use Rattle.vlt_core.specs.KindedHeads.{has, are_apart, parameters_of, keys_of_parameters, new_keys, keys_of_result, head_keys, typings, types_at}
 use Rattle.std.specs.List.{flat_map}
-use Rattle.vlt_sound_owners.specs.Members.{In}
+use Rattle.vlt_sound_worlds.specs.Members.{In}
 
 -- an entry of a clause, by its position
 abbrev pub IsEntry : Func → (i : ℕ) → Entry → Type 0

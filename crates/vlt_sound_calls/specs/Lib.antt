@@ -5,3 +5,11 @@ pub mod Callee
 pub mod Ready
 pub mod Told
 pub mod Given
+pub mod Fresh
+pub mod Waits
+pub mod ReturnGiven
+pub mod ReturnHeads
+pub mod TakenOver
+pub mod Meet
+pub mod Externals
+pub mod HostAnswers

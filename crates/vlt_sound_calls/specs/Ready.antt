@@ -7,10 +7,10 @@ use Rattle.vlt_core.specs.Rows.{clause_rows}
 use Rattle.vlt_core.specs.KindedHeads.{parameters_of}
 use Rattle.vlt_core.specs.KindedScopes.{Ids}
 use Rattle.vlt_meaning.specs.World.{Value, Object, Frame}
-use Rattle.vlt_sound_frames.specs.Agrees.{Context, Agrees}
-use Rattle.vlt_sound_frames.specs.Typed.{IsTyped}
-use Rattle.vlt_sound_scopes.specs.Scoped.{IsScoped}
-use Rattle.vlt_sound_scopes.specs.Handed.{handed}
+use Rattle.vlt_sound_worlds.specs.Agrees.{Context, Agrees}
+use Rattle.vlt_sound_worlds.specs.Typed.{IsTyped}
+use Rattle.vlt_sound_worlds.specs.Scoped.{IsScoped}
+use Rattle.vlt_sound_worlds.specs.Handed.{handed}
 use Rattle.vlt_sound_calls.specs.Returned.{IsEntered}
 use Rattle.vlt_sound_calls.specs.Heads.{HasHead}
 use Rattle.vlt_sound_calls.specs.Callee.{IsCall}

@@ -11,15 +11,15 @@ use Rattle.vlt_meaning.specs.World as world
 use Rattle.vlt_meaning.specs.World.{Value, Object, Frame, World}
 use Rattle.vlt_meaning.specs.Calls.{entries_after}
 use Rattle.vlt_meaning.specs.Run.{Setup, Meaning}
-use Rattle.vlt_sound_owners.specs.Look.{look}
-use Rattle.vlt_sound_owners.specs.Members.{In, IsOnce}
-use Rattle.vlt_sound_owners.specs.Roots.{owned_by}
-use Rattle.vlt_sound_owners.specs.Keys.{IsUnder}
-use Rattle.vlt_sound_owners.specs.Scene.{Scene}
-use Rattle.vlt_sound_owners.specs.Fits.{Names, Fits}
-use Rattle.vlt_sound_frames.specs.Agrees.{Handed, values_of, Context, WaitsWell, scene, Agrees}
-use Rattle.vlt_sound_frames.specs.Safe.{Goal, Safe}
-use Rattle.vlt_sound_scopes.specs.Scoped.{IsScoped}
+use Rattle.vlt_sound_worlds.specs.Look.{look}
+use Rattle.vlt_sound_worlds.specs.Members.{In, IsOnce}
+use Rattle.vlt_sound_worlds.specs.Roots.{owned_by}
+use Rattle.vlt_sound_worlds.specs.Keys.{IsUnder}
+use Rattle.vlt_sound_worlds.specs.Scene.{Scene}
+use Rattle.vlt_sound_worlds.specs.Fits.{Names, Fits}
+use Rattle.vlt_sound_worlds.specs.Agrees.{Handed, values_of, Context, WaitsWell, scene, Agrees}
+use Rattle.vlt_sound_worlds.specs.Safe.{Goal, Safe}
+use Rattle.vlt_sound_worlds.specs.Scoped.{IsScoped}
 
 -- ---- where a function begins
 

@@ -3,8 +3,8 @@
 ghost use Rattle.std.specs.Prelude.{◌≡◌, ℕ, List, ◌∷◌, Option};
 ghost use Rattle.vlt_core.specs.Core.{Func, Program};
 ghost use Rattle.vlt_meaning.specs.World.{Value, World};
-ghost use Rattle.vlt_sound_owners.specs.Scene.{Focus};
-ghost use Rattle.vlt_sound_frames.specs.Agrees.{Pin, Context};
+ghost use Rattle.vlt_sound_worlds.specs.Scene.{Focus};
+ghost use Rattle.vlt_sound_worlds.specs.Agrees.{Pin, Context};
 ghost use Rattle.vlt_sound_calls.specs.Returned.{IsEntered, Returned};
 
 /// What is known of a context from the call stays so whatever foci are open and whatever keys are pinned.

@@ -6,9 +6,9 @@ ghost use Rattle.vlt_core.specs.Maps.{HeldMap};
 ghost use Rattle.vlt_core.specs.KindedScopes.{Ids};
 ghost use Rattle.vlt_meaning.specs.World.{Object, Frame};
 ghost use Rattle.vlt_meaning.specs.Externals.{come_back};
-ghost use Rattle.vlt_sound_frames.specs.Agrees.{Handed, Context, Agrees};
-ghost use Rattle.vlt_sound_frames.specs.Typed.{IsTyped};
-ghost use Rattle.vlt_sound_scopes.specs.Scoped.{IsScoped};
+ghost use Rattle.vlt_sound_worlds.specs.Agrees.{Handed, Context, Agrees};
+ghost use Rattle.vlt_sound_worlds.specs.Typed.{IsTyped};
+ghost use Rattle.vlt_sound_worlds.specs.Scoped.{IsScoped};
 ghost use Rattle.vlt_sound_calls.specs.Returned.{IsEntered};
 ghost use Rattle.vlt_sound_calls.specs.Given.{came, AreGivable};
 

@@ -6,8 +6,8 @@ ghost use Rattle.vlt_core.specs.Maps.{HeldMap};
 ghost use Rattle.vlt_core.specs.KindedScopes.{Ids};
 ghost use Rattle.vlt_meaning.specs.World.{Object, Frame};
 ghost use Rattle.vlt_meaning.specs.Externals.{entry_states, with_states};
-ghost use Rattle.vlt_sound_frames.specs.Agrees.{Handed, Context, Agrees};
-ghost use Rattle.vlt_sound_owners.specs.Said.{GoTogether, IsAfter};
+ghost use Rattle.vlt_sound_worlds.specs.Agrees.{Handed, Context, Agrees};
+ghost use Rattle.vlt_sound_worlds.specs.Said.{GoTogether, IsAfter};
 ghost use Rattle.vlt_sound_calls.specs.Told.{told, AreTellable};
 
 /// Where an answer gives the objects of keys that are held other states of the clause, the held map says those behind it.

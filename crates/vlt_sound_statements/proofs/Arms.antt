@@ -15,9 +15,9 @@ use Rattle.vlt_meaning.specs.World.{one, World, Frame}
 use Rattle.vlt_meaning.specs.Step.{with_filled}
 use Rattle.vlt_meaning.specs.Operands.{Case}
 use Rattle.vlt_meaning.specs.Run.{Setup, Meaning, does_block, does_arm}
-use Rattle.vlt_sound_frames.proofs.Empty.{both_empty}
-use Rattle.vlt_sound_scopes.proofs.Widening.{vars_widen, block_widens, widens_both}
-use Rattle.vlt_sound_scopes.proofs.Binding.{left_scoped}
+use Rattle.vlt_sound_worlds.proofs.Empty.{both_empty}
+use Rattle.vlt_sound_worlds.proofs.Widening.{vars_widen, block_widens, widens_both}
+use Rattle.vlt_sound_worlds.proofs.Binding.{left_scoped}
 use Rattle.vlt_sound_statements.specs.Kinded.{BreakNone, IsKindedBlock}
 use Rattle.vlt_sound_statements.specs.Sites.{Site, IsAt}
 use Rattle.vlt_sound_statements.specs.Statements.{IsSafeBlock}

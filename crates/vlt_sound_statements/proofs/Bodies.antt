@@ -13,10 +13,10 @@ use Rattle.vlt_meaning.specs.Step.{Step, goes, jumps, leaves, ends}
 use Rattle.vlt_meaning.specs.Run.{Setup, Meaning, does_stmts}
 use Rattle.vlt_meaning_laws.specs.Ends.{form_ends, block_ends, list_ends, arms_end, Stops}
 use Rattle.vlt_meaning_laws.proofs.Ends.{list_stops}
-use Rattle.vlt_sound_frames.specs.Agrees.{Context, Agrees}
-use Rattle.vlt_sound_frames.specs.Safe.{Safe}
-use Rattle.vlt_sound_frames.proofs.Empty.{both_so, unless_so}
-use Rattle.vlt_sound_scopes.specs.Scoped.{IsScoped}
+use Rattle.vlt_sound_worlds.specs.Agrees.{Context, Agrees}
+use Rattle.vlt_sound_worlds.specs.Safe.{Safe}
+use Rattle.vlt_sound_worlds.proofs.Empty.{both_so, unless_so}
+use Rattle.vlt_sound_worlds.specs.Scoped.{IsScoped}
 use Rattle.vlt_sound_calls.specs.Returned.{IsEntered, returns_to}
 use Rattle.vlt_sound_statements.specs.Kinded.{BreakNone}
 use Rattle.vlt_sound_statements.specs.Sites.{Site, comes_to}

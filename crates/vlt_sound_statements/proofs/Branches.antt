@@ -10,7 +10,7 @@ use Rattle.vlt_core.specs.declared.rules.TheConstants as rule
 use Rattle.vlt_core.specs.KindedScopes.{Ids, entered, left_behind}
 use Rattle.vlt_core.specs.KindedOperands.{misfit, type_of_expr, expr_broken, value_broken}
 use Rattle.vlt_core.specs.KindedBodies.{in_loop, list_broken, row_broken, form_rows, block_rows, stmts_rows, ids_behind, ids_behind_block, ids_behind_stmts, ends}
-use Rattle.vlt_flow_laws.specs.Scoped.{is_bound}
+use Rattle.vlt_core_laws.specs.Scoped.{is_bound}
 use Rattle.vlt_core_laws.proofs.Ids.{bound_left, bound_right}
 use Rattle.vlt_core_laws.proofs.Listed.{listed_made}
 use Rattle.vlt_meaning.specs.World.{World, Frame}
@@ -18,19 +18,19 @@ use Rattle.vlt_ops.specs.Operator.{is_true}
 use Rattle.vlt_meaning.specs.Values.{value_of, number_of}
 use Rattle.vlt_meaning.specs.Step.{Step, goes, with_found, then_turn}
 use Rattle.vlt_meaning.specs.Run.{Setup, Meaning, does_form, does_block, does_stmts}
-use Rattle.vlt_sound_frames.specs.Agrees.{Context, scene, Agrees}
-use Rattle.vlt_sound_frames.specs.Typed.{IsTyped}
-use Rattle.vlt_sound_frames.specs.Safe.{Goal, Safe}
-use Rattle.vlt_sound_frames.proofs.Empty.{both_empty, unless_so}
-use Rattle.vlt_sound_frames.proofs.Rows.{stays_passed, expr_stays}
-use Rattle.vlt_sound_frames.proofs.Expressions.{expr_fine, wanted_number}
-use Rattle.vlt_sound_frames.proofs.PlainSteps.{number_safe}
-use Rattle.vlt_sound_frames.proofs.Blocks.{agrees_below, agrees_in, unused, gone_passed}
-use Rattle.vlt_sound_frames.specs.Scopes.{AreOwning}
-use Rattle.vlt_sound_scopes.specs.Scoped.{HasKeys, Widens}
-use Rattle.vlt_sound_scopes.proofs.Widening.{entered_widens, form_widens, block_widens, stmts_widen}
-use Rattle.vlt_sound_scopes.proofs.Binding.{entered_scoped}
-use Rattle.vlt_sound_scopes.proofs.Scoping.{block_scoped, form_scoped}
+use Rattle.vlt_sound_worlds.specs.Agrees.{Context, scene, Agrees}
+use Rattle.vlt_sound_worlds.specs.Typed.{IsTyped}
+use Rattle.vlt_sound_worlds.specs.Safe.{Goal, Safe}
+use Rattle.vlt_sound_worlds.proofs.Empty.{both_empty, unless_so}
+use Rattle.vlt_sound_worlds.proofs.Rows.{stays_passed, expr_stays}
+use Rattle.vlt_sound_worlds.proofs.Expressions.{expr_fine, wanted_number}
+use Rattle.vlt_sound_worlds.proofs.PlainSteps.{number_safe}
+use Rattle.vlt_sound_worlds.proofs.Blocks.{agrees_below, agrees_in, unused, gone_passed}
+use Rattle.vlt_sound_worlds.specs.Scopes.{AreOwning}
+use Rattle.vlt_sound_worlds.specs.Scoped.{HasKeys, Widens}
+use Rattle.vlt_sound_worlds.proofs.Widening.{entered_widens, form_widens, block_widens, stmts_widen}
+use Rattle.vlt_sound_worlds.proofs.Binding.{entered_scoped}
+use Rattle.vlt_sound_worlds.proofs.Scoping.{block_scoped, form_scoped}
 use Rattle.vlt_sound_statements.specs.Kinded.{IsKindedForm, AreKinded}
 use Rattle.vlt_sound_statements.specs.Sites.{Site, comes_to, IsAt}
 use Rattle.vlt_sound_statements.specs.Statements.{IsSafeForm, IsSafeBlock, AreSafe, RestIsSafe}

@@ -3,8 +3,8 @@ use Rattle.std.proofs.Common.{◌≡◌, ℕ, ◌==◌, ◌-◌, Bool, true, fal
 use Rattle.vlt_core.specs.Core.{Tok}
 use Rattle.vlt_meaning.specs.World.{Value, World, Frame, fuel_end, left_behind}
 use Rattle.vlt_meaning.specs.Step.{Step, goes, jumps, leaves, ends, spend, then_do, then_turn, left_block, are_unused}
-use Rattle.vlt_sound_frames.specs.Safe.{Goal, Safe}
-use Rattle.vlt_sound_frames.proofs.Safe.{so_safe}
+use Rattle.vlt_sound_worlds.specs.Safe.{Goal, Safe}
+use Rattle.vlt_sound_worlds.proofs.Safe.{so_safe}
 
 module _ (g g' : Goal) where
   pub weaker : (a : Step) → ((frame : Frame) (w : World) → g.goes frame w → g'.goes frame w) →

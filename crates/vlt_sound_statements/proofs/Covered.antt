@@ -6,7 +6,7 @@ use Rattle.std.proofs.lemmas.Bool.{cases_Bool, eqb-true, eq-eqb, ne_eqb, ltb-tru
 use Rattle.std.proofs.lemmas.Map.Steps.{length-le_from_distinct_below}
 use Rattle.vlt_core.specs.KindedHeads.{has, are_apart}
 use Rattle.vlt_core_laws.proofs.Ids.{or_split}
-use Rattle.vlt_sound_frames.proofs.Empty.{both_so}
+use Rattle.vlt_sound_worlds.proofs.Empty.{both_so}
 
 is_false : (b : Bool) → not b ≡ true → b ≡ false
 is_false true e = cc

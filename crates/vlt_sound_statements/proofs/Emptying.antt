@@ -16,27 +16,27 @@ use Rattle.vlt_meaning.specs.Objects.{changed, with_owner, owned_at, in_states}
 use Rattle.vlt_meaning.specs.Step.{Step, with_changed, set_at}
 use Rattle.vlt_meaning.specs.Step as step
 use Rattle.vlt_meaning.specs.Operands.{case_object, with_case_opened}
-use Rattle.vlt_sound_owners.specs.Look.{look, ChangesOne}
-use Rattle.vlt_sound_owners.proofs.Look.{changes_one, owns_one, live_within}
-use Rattle.vlt_sound_owners.proofs.Ranks.{ranked_root}
-use Rattle.vlt_sound_owners.specs.Members.{In}
-use Rattle.vlt_sound_owners.specs.Roots.{Root, in_var, in_hand, in_wait, in_cell, owned_by, cell_of, content, home}
-use Rattle.vlt_sound_owners.proofs.Members.{in_left}
-use Rattle.vlt_sound_owners.proofs.Placed as placed
-use Rattle.vlt_sound_owners.proofs.Roots.{homes, same_root}
-use Rattle.vlt_sound_owners.specs.Keys.{KeyAgrees, IsUnder, IsOfType}
-use Rattle.vlt_sound_owners.proofs.KeysLaws.{key_kept, key_held, none_under, under_one}
-use Rattle.vlt_sound_owners.specs.Scene.{Focus}
-use Rattle.vlt_sound_owners.specs.Fits.{Names}
-use Rattle.vlt_sound_frames.specs.Agrees.{HasVar, Handed, values_of, FitHanded, Context, FociAgree, scene, stock, Agrees}
-use Rattle.vlt_sound_frames.specs.Safe.{Goal, Safe}
-use Rattle.vlt_sound_frames.proofs.Rows.{row_here, row_other}
-use Rattle.vlt_sound_frames.proofs.Touch.{named}
-use Rattle.vlt_sound_frames.proofs.Safe.{found_safe}
-use Rattle.vlt_sound_frames.proofs.Changes.{set_here, set_other}
-use Rattle.vlt_sound_frames.proofs.Owners.{agrees_owner, ChangesTok, cells_stay}
-use Rattle.vlt_sound_frames.proofs.Leaving.{key_same, var_is_no_key, length_changed}
-use Rattle.vlt_sound_scopes.proofs.Moved.{owned_found}
+use Rattle.vlt_sound_worlds.specs.Look.{look, ChangesOne}
+use Rattle.vlt_sound_worlds.proofs.Look.{changes_one, owns_one, live_within}
+use Rattle.vlt_sound_worlds.proofs.Ranks.{ranked_root}
+use Rattle.vlt_sound_worlds.specs.Members.{In}
+use Rattle.vlt_sound_worlds.specs.Roots.{Root, in_var, in_hand, in_wait, in_cell, owned_by, cell_of, content, home}
+use Rattle.vlt_sound_worlds.proofs.Members.{in_left}
+use Rattle.vlt_sound_worlds.proofs.Placed as placed
+use Rattle.vlt_sound_worlds.proofs.Roots.{homes, same_root}
+use Rattle.vlt_sound_worlds.specs.Keys.{KeyAgrees, IsUnder, IsOfType}
+use Rattle.vlt_sound_worlds.proofs.KeysLaws.{key_kept, key_held, none_under, under_one}
+use Rattle.vlt_sound_worlds.specs.Scene.{Focus}
+use Rattle.vlt_sound_worlds.specs.Fits.{Names}
+use Rattle.vlt_sound_worlds.specs.Agrees.{HasVar, Handed, values_of, FitHanded, Context, FociAgree, scene, stock, Agrees}
+use Rattle.vlt_sound_worlds.specs.Safe.{Goal, Safe}
+use Rattle.vlt_sound_worlds.proofs.Rows.{row_here, row_other}
+use Rattle.vlt_sound_worlds.proofs.Touch.{named}
+use Rattle.vlt_sound_worlds.proofs.Safe.{found_safe}
+use Rattle.vlt_sound_worlds.proofs.FrameChanges.{set_here, set_other}
+use Rattle.vlt_sound_worlds.proofs.FrameOwners.{agrees_owner, ChangesTok, cells_stay}
+use Rattle.vlt_sound_worlds.proofs.Leaving.{key_same, var_is_no_key, length_changed}
+use Rattle.vlt_sound_worlds.proofs.Moved.{owned_found}
 use Rattle.vlt_sound_statements.proofs.Facts.{absent_is}
 use Rattle.vlt_sound_statements.specs.Opened.{IsOpened, AreOpened}
 

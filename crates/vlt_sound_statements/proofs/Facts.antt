@@ -6,11 +6,11 @@ use Rattle.vlt_core.specs.Maps.{Status, absent, held, lent, full, kind_of, is_ab
 use Rattle.vlt_core.specs.KindedScopes.{Ids, tracked_key, own_key, use_broken, fresh_broken, binding_broken}
 use Rattle.vlt_core.specs.KindedStatements.{tracked_type, is_guarded_type, is_tracked_type, wanted_of, objects_apart, guarded_object}
 use Rattle.vlt_core.specs.KindedBodies.{focus_broken}
-use Rattle.vlt_sound_frames.specs.Agrees.{InScope}
-use Rattle.vlt_sound_frames.proofs.Empty.{both_empty}
-use Rattle.vlt_sound_frames.proofs.Touch.{used}
-use Rattle.vlt_sound_frames.proofs.TypeFacts.{var_known, guarded_known, apart_same}
-use Rattle.vlt_sound_scopes.proofs.Binding.{binding_kept}
+use Rattle.vlt_sound_worlds.specs.Agrees.{InScope}
+use Rattle.vlt_sound_worlds.proofs.Empty.{both_empty}
+use Rattle.vlt_sound_worlds.proofs.Touch.{used}
+use Rattle.vlt_sound_worlds.proofs.TypeFacts.{var_known, guarded_known, apart_same}
+use Rattle.vlt_sound_worlds.proofs.Binding.{binding_kept}
 
 pub absent_is : (s : Status) → kind_of s ≡ is_absent → s ≡ absent
 absent_is absent e = refl

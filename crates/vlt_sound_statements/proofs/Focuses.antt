@@ -19,34 +19,34 @@ use Rattle.vlt_meaning.specs.Objects.{in_states, with_owner, changed, named_in}
 use Rattle.vlt_meaning.specs.Values.{held_object, guarded_object}
 use Rattle.vlt_meaning.specs.Step.{Step, goes, jumps, leaves, ends, with_changed, with_var, with_key}
 use Rattle.vlt_meaning.specs.Run.{Setup, Meaning, does_form, does_block, focused_object, lent_object, unfocused, focus_end}
-use Rattle.vlt_sound_owners.specs.Look.{look, ChangesOne}
-use Rattle.vlt_sound_owners.proofs.Look.{look_at, live_within, changes_one}
-use Rattle.vlt_sound_owners.specs.Keys.{IsOfType}
-use Rattle.vlt_sound_owners.specs.Scene.{Focus, IsOf}
-use Rattle.vlt_sound_owners.proofs.Scene.{grows_itself}
-use Rattle.vlt_sound_frames.specs.Agrees.{InScope, Context, scene, Agrees}
-use Rattle.vlt_sound_frames.specs.Typed.{IsTyped}
-use Rattle.vlt_sound_frames.specs.Safe.{Goal, Safe}
-use Rattle.vlt_sound_frames.proofs.Empty.{both_empty}
-use Rattle.vlt_sound_frames.proofs.Rows.{row_here}
-use Rattle.vlt_sound_frames.proofs.Touch.{named, held_found, guarded_found, held_is, guarded_held, tracked_held}
-use Rattle.vlt_sound_frames.proofs.Safe.{found_safe}
-use Rattle.vlt_sound_frames.proofs.Changes.{set_here, agrees_set}
-use Rattle.vlt_sound_frames.proofs.Leaving.{agrees_adopted}
-use Rattle.vlt_sound_frames.specs.Scopes.{IsFresh}
-use Rattle.vlt_sound_frames.proofs.Blocks.{agrees_below, agrees_in}
-use Rattle.vlt_sound_frames.proofs.Owning.{row_tok}
-use Rattle.vlt_sound_scopes.specs.Scoped.{WasKeyBound, IsScoped, HasKeys}
-use Rattle.vlt_sound_scopes.proofs.Widening.{focus_widens, block_widens, widens_both}
-use Rattle.vlt_sound_scopes.proofs.Binding.{first_or_other}
-use Rattle.vlt_sound_scopes.proofs.Scoping.{focus_scoped}
-use Rattle.vlt_sound_scopes.proofs.Fresh.{is_fresh}
+use Rattle.vlt_sound_worlds.specs.Look.{look, ChangesOne}
+use Rattle.vlt_sound_worlds.proofs.Look.{look_at, live_within, changes_one}
+use Rattle.vlt_sound_worlds.specs.Keys.{IsOfType}
+use Rattle.vlt_sound_worlds.specs.Scene.{Focus, IsOf}
+use Rattle.vlt_sound_worlds.proofs.Scene.{grows_itself}
+use Rattle.vlt_sound_worlds.specs.Agrees.{InScope, Context, scene, Agrees}
+use Rattle.vlt_sound_worlds.specs.Typed.{IsTyped}
+use Rattle.vlt_sound_worlds.specs.Safe.{Goal, Safe}
+use Rattle.vlt_sound_worlds.proofs.Empty.{both_empty}
+use Rattle.vlt_sound_worlds.proofs.Rows.{row_here}
+use Rattle.vlt_sound_worlds.proofs.Touch.{named, held_found, guarded_found, held_is, guarded_held, tracked_held}
+use Rattle.vlt_sound_worlds.proofs.Safe.{found_safe}
+use Rattle.vlt_sound_worlds.proofs.FrameChanges.{set_here, agrees_set}
+use Rattle.vlt_sound_worlds.proofs.Leaving.{agrees_adopted}
+use Rattle.vlt_sound_worlds.specs.Scopes.{IsFresh}
+use Rattle.vlt_sound_worlds.proofs.Blocks.{agrees_below, agrees_in}
+use Rattle.vlt_sound_worlds.proofs.Owning.{row_tok}
+use Rattle.vlt_sound_worlds.specs.Scoped.{WasKeyBound, IsScoped, HasKeys}
+use Rattle.vlt_sound_worlds.proofs.Widening.{focus_widens, block_widens, widens_both}
+use Rattle.vlt_sound_worlds.proofs.Binding.{first_or_other}
+use Rattle.vlt_sound_worlds.proofs.Scoping.{focus_scoped}
+use Rattle.vlt_sound_worlds.proofs.Fresh.{is_fresh}
 use Rattle.vlt_sound_calls.proofs.Contexts.{entered_with}
 use Rattle.vlt_sound_statements.specs.Kinded.{IsKindedForm, IsKindedBlock}
 use Rattle.vlt_sound_statements.specs.Sites.{Site, comes_to, IsAt}
 use Rattle.vlt_sound_statements.specs.Statements.{IsSafeForm, IsSafeBlock}
 use Rattle.vlt_sound_statements.proofs.Lending.{AreApart, held_apart, foci_stay, agrees_turned}
-use Rattle.vlt_sound_statements.proofs.Opening.{with_foci, agrees_foci, opens, closes}
+use Rattle.vlt_sound_statements.proofs.FocusOpening.{with_foci, agrees_foci, opens, closes}
 use Rattle.vlt_sound_statements.proofs.Taking.{agrees_taken}
 use Rattle.vlt_sound_statements.proofs.Facts.{absent_is, lent_is, IsFocus, focus_known, binding_within}
 

@@ -9,19 +9,19 @@ use Rattle.vlt_core.specs.KindedScopes.{Ids}
 use Rattle.vlt_meaning.specs.World.{Owner, adopted_by, gone, above, Object, Frame}
 use Rattle.vlt_meaning.specs.World as world
 use Rattle.vlt_meaning.specs.Objects.{changed, with_owner}
-use Rattle.vlt_sound_owners.specs.Look.{look, ChangesOne}
-use Rattle.vlt_sound_owners.proofs.Look.{changes_one, owns_one}
-use Rattle.vlt_sound_owners.proofs.Ranks.{ranked_root}
-use Rattle.vlt_sound_owners.specs.Placed.{IsOwned}
-use Rattle.vlt_sound_owners.specs.Roots.{Root, in_var, in_hand, in_wait, in_cell, cell_of, content, home}
-use Rattle.vlt_sound_owners.proofs.Placed as placed
-use Rattle.vlt_sound_owners.proofs.Roots.{homes, same_root}
-use Rattle.vlt_sound_owners.specs.Keys.{IsUnder, IsOnly, KeyAgrees}
-use Rattle.vlt_sound_owners.proofs.KeysLaws.{key_kept, key_held, key_lent, held_one, lent_one, under_one}
-use Rattle.vlt_sound_owners.specs.Scene.{Focus}
-use Rattle.vlt_sound_frames.specs.Agrees.{HasVar, Handed, Context, FociAgree, stock, Agrees}
-use Rattle.vlt_sound_frames.proofs.Owners.{agrees_owner, ChangesTok, cells_stay}
-use Rattle.vlt_sound_frames.proofs.Leaving.{key_same, var_is_no_key, length_changed}
+use Rattle.vlt_sound_worlds.specs.Look.{look, ChangesOne}
+use Rattle.vlt_sound_worlds.proofs.Look.{changes_one, owns_one}
+use Rattle.vlt_sound_worlds.proofs.Ranks.{ranked_root}
+use Rattle.vlt_sound_worlds.specs.Placed.{IsOwned}
+use Rattle.vlt_sound_worlds.specs.Roots.{Root, in_var, in_hand, in_wait, in_cell, cell_of, content, home}
+use Rattle.vlt_sound_worlds.proofs.Placed as placed
+use Rattle.vlt_sound_worlds.proofs.Roots.{homes, same_root}
+use Rattle.vlt_sound_worlds.specs.Keys.{IsUnder, IsOnly, KeyAgrees}
+use Rattle.vlt_sound_worlds.proofs.KeysLaws.{key_kept, key_held, key_lent, held_one, lent_one, under_one}
+use Rattle.vlt_sound_worlds.specs.Scene.{Focus}
+use Rattle.vlt_sound_worlds.specs.Agrees.{HasVar, Handed, Context, FociAgree, stock, Agrees}
+use Rattle.vlt_sound_worlds.proofs.FrameOwners.{agrees_owner, ChangesTok, cells_stay}
+use Rattle.vlt_sound_worlds.proofs.Leaving.{key_same, var_is_no_key, length_changed}
 
 -- ---- held, or lent
 

@@ -10,26 +10,26 @@ use Rattle.vlt_core.specs.Rows.{simple_rows}
 use Rattle.vlt_core.specs.declared.rules.TheConstants as rule
 use Rattle.vlt_core.specs.KindedHeads.{Rules}
 use Rattle.vlt_meaning.specs.Run.{Setup, Meaning, does_simple}
-use Rattle.vlt_sound_frames.specs.Typed.{IsTyped}
-use Rattle.vlt_sound_frames.specs.Safe.{goes_to}
-use Rattle.vlt_sound_frames.proofs.Empty.{both_empty}
-use Rattle.vlt_sound_frames.proofs.TypeFacts.{target_known, wanted_owning}
-use Rattle.vlt_sound_frames.proofs.PlainSteps.{print_safe, input_is_safe, set_safe}
-use Rattle.vlt_sound_frames.proofs.Fields.{put_safe}
-use Rattle.vlt_sound_frames.proofs.Owning.{own_move_safe, own_pack_safe}
-use Rattle.vlt_sound_frames.proofs.Adopting.{adopt_safe}
-use Rattle.vlt_sound_frames.proofs.Blocks.{agrees_below}
-use Rattle.vlt_sound_scopes.specs.Scoped.{HasKeys}
-use Rattle.vlt_sound_made.specs.Makings.{HasCases}
-use Rattle.vlt_sound_made.specs.Steps.{IsStepOf}
-use Rattle.vlt_sound_made.proofs.Makes.{make_safe}
-use Rattle.vlt_sound_made.proofs.Builds.{build_safe}
-use Rattle.vlt_sound_made.proofs.Swaps.{swap_safe}
-use Rattle.vlt_sound_scopes.proofs.Becoming.{become_safe}
-use Rattle.vlt_sound_scopes.proofs.Unpacking.{unpack_safe}
-use Rattle.vlt_sound_made.proofs.Releasing.{release_safe}
-use Rattle.vlt_sound_made.proofs.Dropping.{drop_safe}
-use Rattle.vlt_sound_made.proofs.Opening.{open_safe}
+use Rattle.vlt_sound_worlds.specs.Typed.{IsTyped}
+use Rattle.vlt_sound_worlds.specs.Safe.{goes_to}
+use Rattle.vlt_sound_worlds.proofs.Empty.{both_empty}
+use Rattle.vlt_sound_worlds.proofs.TypeFacts.{target_known, wanted_owning}
+use Rattle.vlt_sound_worlds.proofs.PlainSteps.{print_safe, input_is_safe, set_safe}
+use Rattle.vlt_sound_worlds.proofs.Fields.{put_safe}
+use Rattle.vlt_sound_worlds.proofs.Owning.{own_move_safe, own_pack_safe}
+use Rattle.vlt_sound_worlds.proofs.Adopting.{adopt_safe}
+use Rattle.vlt_sound_worlds.proofs.Blocks.{agrees_below}
+use Rattle.vlt_sound_worlds.specs.Scoped.{HasKeys}
+use Rattle.vlt_sound_statements.specs.Makings.{HasCases}
+use Rattle.vlt_sound_statements.specs.Steps.{IsStepOf}
+use Rattle.vlt_sound_statements.proofs.Makes.{make_safe}
+use Rattle.vlt_sound_statements.proofs.Builds.{build_safe}
+use Rattle.vlt_sound_statements.proofs.Swaps.{swap_safe}
+use Rattle.vlt_sound_worlds.proofs.Becoming.{become_safe}
+use Rattle.vlt_sound_worlds.proofs.Unpacking.{unpack_safe}
+use Rattle.vlt_sound_statements.proofs.Releasing.{release_safe}
+use Rattle.vlt_sound_statements.proofs.Dropping.{drop_safe}
+use Rattle.vlt_sound_statements.proofs.Opening.{open_safe}
 use Rattle.vlt_sound_statements.specs.Sites.{comes_to}
 use Rattle.vlt_sound_statements.specs.Statements.{IsSafeForm}
 use Rattle.vlt_sound_statements.proofs.Control.{weaker}

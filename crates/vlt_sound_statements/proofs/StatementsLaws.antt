@@ -9,9 +9,9 @@ use Rattle.vlt_core.specs.declared.rules.TheConstants as rule
 use Rattle.vlt_core.specs.KindedStatements.{ids_after}
 use Rattle.vlt_core.specs.KindedCalls.{with_call_target, return_broken}
 use Rattle.vlt_meaning.specs.Run.{Setup, Meaning, does_simple, does_form, does_stmts, out_of_fuel}
-use Rattle.vlt_sound_frames.specs.Safe.{goes_to}
-use Rattle.vlt_sound_frames.proofs.Empty.{both_empty, unless_so}
-use Rattle.vlt_sound_frames.proofs.Blocks.{agrees_below}
+use Rattle.vlt_sound_worlds.specs.Safe.{goes_to}
+use Rattle.vlt_sound_worlds.proofs.Empty.{both_empty, unless_so}
+use Rattle.vlt_sound_worlds.proofs.Blocks.{agrees_below}
 use Rattle.vlt_sound_calls.specs.Returned.{returns_to}
 use Rattle.vlt_sound_statements.specs.Sites.{comes_to}
 use Rattle.vlt_sound_statements.specs.Statements.{IsSafeForm, IsSafeBlock, AreSafe, RestIsSafe}

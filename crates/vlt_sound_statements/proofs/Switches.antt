@@ -22,25 +22,25 @@ use Rattle.vlt_meaning.specs.Step.{Step, with_found, with_filled}
 use Rattle.vlt_meaning.specs.Step as step
 use Rattle.vlt_meaning.specs.Operands.{Case, case_in, with_case_opened, emptied}
 use Rattle.vlt_meaning.specs.Run.{Setup, Meaning, does_form, does_block, does_arm}
-use Rattle.vlt_sound_owners.specs.Look.{look}
-use Rattle.vlt_sound_owners.specs.Scene.{Scene}
-use Rattle.vlt_sound_owners.specs.Fits.{Names, IsCase, header_type, names_of, Fits}
-use Rattle.vlt_sound_frames.specs.Agrees.{InScope, HasVar, Handed, values_of, FitHanded, Context, scene, Agrees}
-use Rattle.vlt_sound_frames.specs.Typed.{IsTyped}
-use Rattle.vlt_sound_frames.specs.Safe.{Goal, Safe}
-use Rattle.vlt_sound_frames.proofs.Empty.{both_empty, both_so, unless_so, when_so}
-use Rattle.vlt_sound_frames.proofs.Rows.{row_here, row_other, tok_is, pass_split, passed_split}
-use Rattle.vlt_sound_frames.proofs.Touch.{used}
-use Rattle.vlt_sound_frames.proofs.Safe.{found_safe}
-use Rattle.vlt_sound_frames.proofs.Changes.{set_here, agrees_map}
-use Rattle.vlt_sound_frames.proofs.Plain.{plain_value}
-use Rattle.vlt_sound_frames.proofs.Blocks.{agrees_in}
-use Rattle.vlt_sound_scopes.specs.Scoped.{HasKeys}
-use Rattle.vlt_sound_scopes.proofs.Widening.{vars_widen, block_widens, widens_both}
-use Rattle.vlt_sound_scopes.proofs.Binding.{arm_scoped}
-use Rattle.vlt_sound_scopes.specs.Handed.{handed}
-use Rattle.vlt_sound_scopes.proofs.Hand.{agrees_hand}
-use Rattle.vlt_sound_made.specs.Makings.{HasCases}
+use Rattle.vlt_sound_worlds.specs.Look.{look}
+use Rattle.vlt_sound_worlds.specs.Scene.{Scene}
+use Rattle.vlt_sound_worlds.specs.Fits.{Names, IsCase, header_type, names_of, Fits}
+use Rattle.vlt_sound_worlds.specs.Agrees.{InScope, HasVar, Handed, values_of, FitHanded, Context, scene, Agrees}
+use Rattle.vlt_sound_worlds.specs.Typed.{IsTyped}
+use Rattle.vlt_sound_worlds.specs.Safe.{Goal, Safe}
+use Rattle.vlt_sound_worlds.proofs.Empty.{both_empty, both_so, unless_so, when_so}
+use Rattle.vlt_sound_worlds.proofs.Rows.{row_here, row_other, tok_is, pass_split, passed_split}
+use Rattle.vlt_sound_worlds.proofs.Touch.{used}
+use Rattle.vlt_sound_worlds.proofs.Safe.{found_safe}
+use Rattle.vlt_sound_worlds.proofs.FrameChanges.{set_here, agrees_map}
+use Rattle.vlt_sound_worlds.proofs.Plain.{plain_value}
+use Rattle.vlt_sound_worlds.proofs.Blocks.{agrees_in}
+use Rattle.vlt_sound_worlds.specs.Scoped.{HasKeys}
+use Rattle.vlt_sound_worlds.proofs.Widening.{vars_widen, block_widens, widens_both}
+use Rattle.vlt_sound_worlds.proofs.Binding.{arm_scoped}
+use Rattle.vlt_sound_worlds.specs.Handed.{handed}
+use Rattle.vlt_sound_worlds.proofs.Hand.{agrees_hand}
+use Rattle.vlt_sound_statements.specs.Makings.{HasCases}
 use Rattle.vlt_sound_statements.specs.Kinded.{BreakNone}
 use Rattle.vlt_sound_statements.specs.Sites.{Site, comes_to, IsAt}
 use Rattle.vlt_sound_statements.specs.Statements.{IsSafeForm}
@@ -48,8 +48,8 @@ use Rattle.vlt_sound_statements.proofs.Control.{weaker}
 use Rattle.vlt_sound_statements.specs.Arms.{AreSafeArms}
 use Rattle.vlt_sound_statements.specs.Opened.{AreOpened}
 use Rattle.vlt_sound_statements.proofs.Covered.{covered}
-use Rattle.vlt_sound_statements.proofs.Filling.{filled_safe}
-use Rattle.vlt_sound_statements.proofs.Parts.{AreKnown, payloads_kept, parts_values, parts_many, parts_handed, keys_opened}
+use Rattle.vlt_sound_statements.proofs.StatementFilling.{filled_safe}
+use Rattle.vlt_sound_statements.proofs.StatementParts.{AreKnown, payloads_kept, parts_values, parts_many, parts_handed, keys_opened}
 use Rattle.vlt_sound_statements.proofs.Emptying.{with_full, key_row, with_var_twice, agrees_split, agrees_emptied, opened_safe}
 use Rattle.vlt_sound_statements.proofs.Arms.{arms_vars, Arm, arm_is_safe, arm_is_done, ArmAt, arm_at}
 

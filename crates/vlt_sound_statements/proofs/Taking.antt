@@ -10,23 +10,23 @@ use Rattle.vlt_meaning.specs.World.{Owner, adopted_by, gone, Object, Frame}
 use Rattle.vlt_meaning.specs.World as world
 use Rattle.vlt_meaning.specs.Objects.{changed, with_owner}
 use Rattle.vlt_meaning.specs.Step.{with_key}
-use Rattle.vlt_sound_owners.specs.Look.{look, ChangesOne}
-use Rattle.vlt_sound_owners.proofs.Look.{changes_one, owns_one}
-use Rattle.vlt_sound_owners.proofs.Ranks.{ranked_root}
-use Rattle.vlt_sound_owners.specs.Members.{In}
-use Rattle.vlt_sound_owners.specs.Placed.{IsOwned}
-use Rattle.vlt_sound_owners.specs.Roots.{Root, in_var, in_hand, in_wait, in_cell, cell_of, content, home}
-use Rattle.vlt_sound_owners.proofs.Placed as placed
-use Rattle.vlt_sound_owners.proofs.Roots.{homes, same_root}
-use Rattle.vlt_sound_owners.specs.Keys.{KeyAgrees, IsUnder, IsOfType}
-use Rattle.vlt_sound_owners.proofs.KeysLaws.{key_kept, key_held, none_under, under_one}
-use Rattle.vlt_sound_owners.specs.Scene.{Focus, IsFocusOn}
-use Rattle.vlt_sound_owners.proofs.Fits.{fits_named}
-use Rattle.vlt_sound_frames.specs.Agrees.{HasVar, Pin, Context, FociAgree, PinsAgree, scene, stock, Agrees}
-use Rattle.vlt_sound_frames.proofs.Changes.{set_here, set_other}
-use Rattle.vlt_sound_frames.proofs.Owners.{agrees_owner, ChangesTok, cells_stay}
-use Rattle.vlt_sound_frames.proofs.Leaving.{key_same, var_is_no_key, length_changed}
-use Rattle.vlt_sound_frames.specs.Scopes.{NonePins, IsFresh}
+use Rattle.vlt_sound_worlds.specs.Look.{look, ChangesOne}
+use Rattle.vlt_sound_worlds.proofs.Look.{changes_one, owns_one}
+use Rattle.vlt_sound_worlds.proofs.Ranks.{ranked_root}
+use Rattle.vlt_sound_worlds.specs.Members.{In}
+use Rattle.vlt_sound_worlds.specs.Placed.{IsOwned}
+use Rattle.vlt_sound_worlds.specs.Roots.{Root, in_var, in_hand, in_wait, in_cell, cell_of, content, home}
+use Rattle.vlt_sound_worlds.proofs.Placed as placed
+use Rattle.vlt_sound_worlds.proofs.Roots.{homes, same_root}
+use Rattle.vlt_sound_worlds.specs.Keys.{KeyAgrees, IsUnder, IsOfType}
+use Rattle.vlt_sound_worlds.proofs.KeysLaws.{key_kept, key_held, none_under, under_one}
+use Rattle.vlt_sound_worlds.specs.Scene.{Focus, IsFocusOn}
+use Rattle.vlt_sound_worlds.proofs.Fits.{fits_named}
+use Rattle.vlt_sound_worlds.specs.Agrees.{HasVar, Pin, Context, FociAgree, PinsAgree, scene, stock, Agrees}
+use Rattle.vlt_sound_worlds.proofs.FrameChanges.{set_here, set_other}
+use Rattle.vlt_sound_worlds.proofs.FrameOwners.{agrees_owner, ChangesTok, cells_stay}
+use Rattle.vlt_sound_worlds.proofs.Leaving.{key_same, var_is_no_key, length_changed}
+use Rattle.vlt_sound_worlds.specs.Scopes.{NonePins, IsFresh}
 
 module _ {p : Program} {f : Func} {c : Context} {h : HeldMap} {ids : Ids} {frame : Frame} {os : List Object}
     (agrees : Agrees p f c h ids [] frame os) (n a : ℕ)

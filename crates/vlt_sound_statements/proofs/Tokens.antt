@@ -6,11 +6,11 @@ use Rattle.vlt_core.specs.Core.{Tok, a_key, a_var, Func}
 use Rattle.vlt_core.specs.Maps.{kind_of, is_absent, HeldMap, is_tok, row_passed, CanPass, gone}
 use Rattle.vlt_core.specs.Rows.{tokens_of, in_order}
 use Rattle.vlt_core.specs.KindedBodies.{tokens_broken}
-use Rattle.vlt_flow_laws.specs.Scoped.{is_bound}
+use Rattle.vlt_core_laws.specs.Scoped.{is_bound}
 use Rattle.vlt_core_laws.proofs.Ids.{or_split}
 use Rattle.vlt_core_laws.proofs.Listed.{tok_is, tok_self, token_owns, listed_made}
-use Rattle.vlt_sound_frames.specs.Scopes.{AreOwning}
-use Rattle.vlt_sound_frames.proofs.Blocks.{gone_passed}
+use Rattle.vlt_sound_worlds.specs.Scopes.{AreOwning}
+use Rattle.vlt_sound_worlds.proofs.Blocks.{gone_passed}
 
 -- a row that wants a token away changes nothing where it is passed
 gone_once : (u : Tok) (m : HeldMap) → kind_of (m u) ≡ is_absent → row_passed (gone u) m ≡ m

@@ -3,8 +3,8 @@ use Rattle.std.specs.Prelude.{◌≡◌, ℕ, IsTrue, List, [], ◌∷◌, Some}
 use Rattle.vlt_core.specs.Core.{Func}
 use Rattle.vlt_core.specs.Lookups.{KeyIn, key_type}
 use Rattle.vlt_meaning.specs.World.{Object}
-use Rattle.vlt_sound_owners.specs.Keys.{IsOfType}
-use Rattle.vlt_sound_owners.specs.Fits.{Names}
+use Rattle.vlt_sound_worlds.specs.Keys.{IsOfType}
+use Rattle.vlt_sound_worlds.specs.Fits.{Names}
 
 -- an object of a case is the one that the key names, of the key's type and in one of the case's states
 pub record IsOpened (f : Func) (names : Names) (os : ℕ → Object) (k : KeyIn) (n : ℕ) : Type 0 where

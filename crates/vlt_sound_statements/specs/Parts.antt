@@ -1,10 +1,10 @@
 -- What is known of a function and of what its statements are made of.
 use Rattle.vlt_core.specs.Core.{Simple, Func}
 use Rattle.vlt_meaning.specs.Run.{Setup, Meaning}
-use Rattle.vlt_sound_frames.specs.Typed.{IsTyped}
-use Rattle.vlt_sound_scopes.specs.Scoped.{HasKeys}
-use Rattle.vlt_sound_made.specs.Makings.{HasCases}
-use Rattle.vlt_sound_made.specs.Steps.{IsStepOf}
+use Rattle.vlt_sound_worlds.specs.Typed.{IsTyped}
+use Rattle.vlt_sound_worlds.specs.Scoped.{HasKeys}
+use Rattle.vlt_sound_statements.specs.Makings.{HasCases}
+use Rattle.vlt_sound_statements.specs.Steps.{IsStepOf}
 use Rattle.vlt_sound_calls.specs.Heads.{HasHead}
 use Rattle.vlt_sound_calls.specs.Calls.{CallsAreSafe, ReturnsAreSafe}
 

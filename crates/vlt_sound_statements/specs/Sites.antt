@@ -5,11 +5,11 @@ use Rattle.vlt_core.specs.Maps.{kind_of, is_absent, HeldMap}
 use Rattle.vlt_core.specs.Rows.{tokens_of}
 use Rattle.vlt_core.specs.Derives.{toward}
 use Rattle.vlt_core.specs.KindedScopes.{Ids, Around}
-use Rattle.vlt_flow_laws.specs.Scoped.{is_bound}
+use Rattle.vlt_core_laws.specs.Scoped.{is_bound}
 use Rattle.vlt_meaning.specs.World.{Value, World, Frame}
-use Rattle.vlt_sound_frames.specs.Agrees.{InScope, Context, Agrees}
-use Rattle.vlt_sound_frames.specs.Safe.{Goal}
-use Rattle.vlt_sound_scopes.specs.Scoped.{IsScoped}
+use Rattle.vlt_sound_worlds.specs.Agrees.{InScope, Context, Agrees}
+use Rattle.vlt_sound_worlds.specs.Safe.{Goal}
+use Rattle.vlt_sound_worlds.specs.Scoped.{IsScoped}
 use Rattle.vlt_sound_calls.specs.Returned.{IsEntered, Returned}
 
 -- The context of a statement, what may stand there, the tokens that the blocks as far as the loop around bind, and the

@@ -9,8 +9,8 @@ use Rattle.vlt_core.specs.KindedBodies.{ids_behind, ids_behind_block, ids_behind
 use Rattle.vlt_meaning.specs.World.{World, Frame}
 use Rattle.vlt_meaning.specs.Step.{Step}
 use Rattle.vlt_meaning.specs.Run.{Setup, Meaning, does_form, does_block}
-use Rattle.vlt_sound_frames.specs.Agrees.{Agrees}
-use Rattle.vlt_sound_frames.specs.Safe.{Safe}
+use Rattle.vlt_sound_worlds.specs.Agrees.{Agrees}
+use Rattle.vlt_sound_worlds.specs.Safe.{Safe}
 use Rattle.vlt_sound_statements.specs.Kinded.{IsKindedForm, IsKindedBlock, AreKinded}
 use Rattle.vlt_sound_statements.specs.Sites.{Site, comes_to, IsAt}
 

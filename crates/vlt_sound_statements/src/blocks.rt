@@ -3,8 +3,8 @@
 ghost use Rattle.std.specs.Prelude.{ℕ, Bool, List};
 ghost use Rattle.vlt_core.specs.Core.{Tok, Expr, choose, loop, scope, jump, Form, Block, block, Stmts, done, next, Func};
 ghost use Rattle.vlt_meaning.specs.Run.{Setup, Meaning, does_stmts};
-ghost use Rattle.vlt_sound_frames.specs.Typed.{IsTyped};
-ghost use Rattle.vlt_sound_scopes.specs.Scoped.{HasKeys};
+ghost use Rattle.vlt_sound_worlds.specs.Typed.{IsTyped};
+ghost use Rattle.vlt_sound_worlds.specs.Scoped.{HasKeys};
 ghost use Rattle.vlt_sound_statements.specs.Statements.{IsSafeForm, IsSafeBlock, AreSafe, RestIsSafe};
 
 /// A block is safe where its statements are.

@@ -3,8 +3,8 @@
 ghost use Rattle.std.specs.Prelude.{ℕ};
 ghost use Rattle.vlt_core.specs.Core.{focus, Block, Func};
 ghost use Rattle.vlt_meaning.specs.Run.{Setup, Meaning};
-ghost use Rattle.vlt_sound_frames.specs.Typed.{IsTyped};
-ghost use Rattle.vlt_sound_scopes.specs.Scoped.{HasKeys};
+ghost use Rattle.vlt_sound_worlds.specs.Typed.{IsTyped};
+ghost use Rattle.vlt_sound_worlds.specs.Scoped.{HasKeys};
 ghost use Rattle.vlt_sound_statements.specs.Statements.{IsSafeForm, IsSafeBlock};
 
 /// A focus is safe where its block is: the guard is lent, the object is held under its own key, and both go back at the end.

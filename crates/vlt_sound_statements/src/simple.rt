@@ -2,10 +2,10 @@
 
 ghost use Rattle.vlt_core.specs.Core.{Simple, simple, Func};
 ghost use Rattle.vlt_meaning.specs.Run.{Setup, Meaning};
-ghost use Rattle.vlt_sound_frames.specs.Typed.{IsTyped};
-ghost use Rattle.vlt_sound_scopes.specs.Scoped.{HasKeys};
-ghost use Rattle.vlt_sound_made.specs.Makings.{HasCases};
-ghost use Rattle.vlt_sound_made.specs.Steps.{IsStepOf};
+ghost use Rattle.vlt_sound_worlds.specs.Typed.{IsTyped};
+ghost use Rattle.vlt_sound_worlds.specs.Scoped.{HasKeys};
+ghost use Rattle.vlt_sound_statements.specs.Makings.{HasCases};
+ghost use Rattle.vlt_sound_statements.specs.Steps.{IsStepOf};
 ghost use Rattle.vlt_sound_statements.specs.Statements.{IsSafeForm};
 
 /// Each statement without blocks that calls nothing is safe, by itself and at a site.

@@ -3,9 +3,9 @@
 ghost use Rattle.std.specs.Prelude.{ℕ};
 ghost use Rattle.vlt_core.specs.Core.{switch, Arms, Func};
 ghost use Rattle.vlt_meaning.specs.Run.{Setup, Meaning};
-ghost use Rattle.vlt_sound_frames.specs.Typed.{IsTyped};
-ghost use Rattle.vlt_sound_scopes.specs.Scoped.{HasKeys};
-ghost use Rattle.vlt_sound_made.specs.Makings.{HasCases};
+ghost use Rattle.vlt_sound_worlds.specs.Typed.{IsTyped};
+ghost use Rattle.vlt_sound_worlds.specs.Scoped.{HasKeys};
+ghost use Rattle.vlt_sound_statements.specs.Makings.{HasCases};
 ghost use Rattle.vlt_sound_statements.specs.Statements.{IsSafeForm};
 ghost use Rattle.vlt_sound_statements.specs.Arms.{AreSafeArms};
 

@@ -22,3 +22,8 @@ pub mod Refused
 pub mod Anew
 pub mod Decided
 pub mod Within
+pub mod TickedText
+pub mod TickedLists
+pub mod TickedExprs
+pub mod TickedStmts
+pub mod TickedDecls

@@ -3,9 +3,15 @@
 //! The clauses of `vlt_parser::parse` rest on these laws.
 #![tactic(auto)]
 
-ghost use Rattle.std.specs.Prelude.{List};
+ghost use Rattle.std.specs.Prelude.{List, ◌≡◌, ℕ};
 ghost use Rattle.vlt_lexer.specs.Reading.{Lexeme};
 ghost use Rattle.vlt_syntax_laws.specs.Laws.{HasOneTree, HasOneRefusal, HasTreeOrRefusal, IsNeverBoth, IsAccepting, IsRefusing};
+ghost use Rattle.vlt_lexer.specs.Text.{IsTokensOf};
+ghost use Rattle.vlt_syntax.specs.Tokens.{tokens_in};
+ghost use Rattle.vlt_syntax.specs.Tree.{Tree};
+ghost use Rattle.vlt_syntax.specs.Lists.{Each};
+ghost use Rattle.vlt_syntax.specs.Spelling.{spelling};
+ghost use Rattle.vlt_syntax_laws.specs.Ticks.{HasTicks};
 
 /// The grammar alone: one tree with its places, or one refusal, and never both.
 pub fn tokens_are_read_in_one_way()
@@ -19,4 +25,10 @@ pub fn tokens_are_read_in_one_way()
 pub fn automaton_decides()
     ensures accepts { (ls : List Lexeme) → IsAccepting ls }
     ensures refuses { (ls : List Lexeme) → IsRefusing ls }
+{}
+
+/// In a tree that a text spells each name of a variant's case begins with a `'`.
+pub fn texts_have_ticks()
+    ensures { (bytes : List ℕ) (ls : List Lexeme) (t : Tree) →
+        IsTokensOf bytes ls → tokens_in ls ≡ spelling t → Each HasTicks t.decls }
 {}

@@ -10,7 +10,7 @@ use Rattle.vlt_kinds.specs.Kinds.{Kinds}
 use Rattle.vlt_kinds.specs.Tables.{kinds_told}
 use Rattle.vlt_resolve.specs.Elaboration.{Told, broken}
 use Rattle.vlt_check.specs.Checks.{IsWellFormed}
-use Rattle.vlt_fault_laws.specs.Laws.{HasOneFirstFault}
+use Rattle.vlt_core_laws.specs.FaultLaws.{HasOneFirstFault}
 use Rattle.vlt_fit_laws.specs.Fit.{IsFitProgram, IsTextTree, ProgramsAreFit}
 use Rattle.vlt_verdict.specs.Verdicts.{with_kinds, program_told, IsFaultyIn, refused, faulty, accepted, HasOneVerdict}
 

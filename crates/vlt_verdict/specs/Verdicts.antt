@@ -9,7 +9,7 @@ use Rattle.vlt_kinds_names.specs.declared.found.Refusal.{Refusal}
 use Rattle.vlt_kinds.specs.Kinds.{Kinds}
 use Rattle.vlt_kinds.specs.Tables.{kinds_told}
 use Rattle.vlt_resolve.specs.Elaboration.{Told, broken, elaborated}
-use Rattle.vlt_total_laws.specs.Sure.{Surely}
+use Rattle.vlt_check_laws.specs.Sure.{Surely}
 
 -- the core program where the declarations are told so
 abbrev pub with_kinds : Tree → Result Kinds Refusal → Result Program Told

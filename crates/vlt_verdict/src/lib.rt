@@ -9,9 +9,9 @@ mod verdict;
 
 pub use verdict::{Verdict, judge};
 use vlt_check::accepted_has_no_fault;
-use vlt_fault_laws::there_is_one_first_fault;
+use vlt_check_laws::programs_are_judged;
+use vlt_core_laws::there_is_one_first_fault;
 use vlt_fit_laws::programs_are_fit;
-use vlt_total_laws::programs_are_judged;
 
 /// A tree that a text has is of one verdict.
 pub fn a_tree_has_one_verdict()

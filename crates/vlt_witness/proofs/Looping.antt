@@ -8,7 +8,7 @@ use Rattle.vlt_core.specs.Maps.{Row}
 use Rattle.vlt_core.specs.Flow.{Block}
 use Rattle.vlt_core.specs.Found.{One, one_absent, one_held, one_lent, one_full}
 use Rattle.vlt_core.specs.Witness.{Choice, ThroughBlock, Turns, Reaches}
-use Rattle.vlt_flow_laws.specs.Sweep.{In}
+use Rattle.vlt_core_laws.specs.Sweep.{In}
 use Rattle.vlt_found.specs.declared.ones.Ones.{Ones}
 use Rattle.vlt_found.specs.Ones.{many_of}
 use Rattle.vlt_witness.specs.declared.ways.Way.{Way}

@@ -9,8 +9,8 @@ use Rattle.vlt_core.specs.Witness.{Choice, only, RowMet, NoRow}
 use Rattle.vlt_core.specs.HeldView.{row_of}
 use Rattle.vlt_core.specs.declared.held.Row as D
 use Rattle.vlt_core.specs.FaultView.{choices_of}
-use Rattle.vlt_flow_laws.specs.Sweep.{Many, In, IsImage}
-use Rattle.vlt_flow_laws.proofs.Smooth.{smooth_image, smooth_images}
+use Rattle.vlt_core_laws.specs.Sweep.{Many, In, IsImage}
+use Rattle.vlt_core_laws.proofs.Smooth.{smooth_image, smooth_images}
 use Rattle.vlt_found.specs.Ones.{many_of}
 use Rattle.vlt_found.specs.Passes.{IsMoved}
 use Rattle.vlt_found.proofs.Bits.{both_true}

@@ -7,7 +7,7 @@ use Rattle.std.proofs.lemmas.Bool.Decides.{nat_tests}
 use Rattle.vlt_base.specs.States.{is_bit, has_state, IsWithin}
 use Rattle.vlt_base.specs.declared.states.StateSet.{StateSet}
 use Rattle.vlt_core.specs.Found.{One, one_absent, one_held, one_lent, one_full}
-use Rattle.vlt_flow_laws.specs.Sweep.{In}
+use Rattle.vlt_core_laws.specs.Sweep.{In}
 use Rattle.vlt_found.specs.declared.ones.Ones.{Ones}
 use Rattle.vlt_found.specs.Ones.{many_of}
 use Rattle.vlt_found.proofs.Bits.{no_true}

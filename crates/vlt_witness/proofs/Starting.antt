@@ -7,7 +7,7 @@ use Rattle.vlt_core.specs.Maps.{absent, held, lent, full}
 use Rattle.vlt_core.specs.Found.{One, Has}
 use Rattle.vlt_core.specs.HeldView.{status_of}
 use Rattle.vlt_core.specs.declared.held.Status.TheVariants.{Absent}
-use Rattle.vlt_flow_laws.specs.Sweep.{In}
+use Rattle.vlt_core_laws.specs.Sweep.{In}
 use Rattle.vlt_found.specs.declared.ones.Ones.{Ones}
 use Rattle.vlt_found.specs.Ones.{many_of}
 use Rattle.vlt_found.proofs.Bits.{no_true, no_bits}

@@ -3,7 +3,7 @@ use Rattle.std.proofs.Common.{◌≡◌, ◌∙◌, ◌↔◌, ◌⊎◌, ◌++�
 use Rattle.vlt_core.specs.Found.{One, one_absent, one_held, one_lent, one_full}
 use Rattle.vlt_core.specs.Witness.{Choice}
 use Rattle.vlt_core.specs.FaultView.{choices_of}
-use Rattle.vlt_flow_laws.specs.Sweep.{In}
+use Rattle.vlt_core_laws.specs.Sweep.{In}
 use Rattle.vlt_found.specs.Ones.{many_of}
 use Rattle.vlt_witness.specs.declared.seen.Seen.{Seen}
 use Rattle.vlt_witness.specs.declared.ways.Way.{Way}

@@ -5,7 +5,7 @@ ghost use Rattle.vlt_base.specs.States.{has_state};
 ghost use Rattle.vlt_core.specs.HeldView.{row_of, wanted_of};
 ghost use Rattle.vlt_core.specs.Found.{One, WantsOne};
 ghost use Rattle.vlt_core.specs.Faults.{IsPresent};
-ghost use Rattle.vlt_flow_laws.specs.Sweep.{In};
+ghost use Rattle.vlt_core_laws.specs.Sweep.{In};
 ghost use Rattle.vlt_found.specs.Ones.{many_of};
 ghost use Rattle.vlt_witness.specs.Ways.{row_end, join_end, class_of};
 ghost use Rattle.vlt_witness.specs.Aims.{rows_aimed, joins_aimed, spot_of};

@@ -9,12 +9,12 @@ ghost use Rattle.vlt_core.specs.Witness.{IsWitness, IsWitnessIn};
 ghost use Rattle.vlt_core.specs.HeldView.{wanted_of};
 ghost use Rattle.vlt_core.specs.View.{program_of, func_of, tok_of};
 ghost use Rattle.vlt_core.specs.FaultView.{choices_of};
-ghost use Rattle.vlt_flow_laws.specs.Sweep.{In};
+ghost use Rattle.vlt_core_laws.specs.Sweep.{In};
 ghost use Rattle.vlt_found.specs.Ones.{many_of};
 ghost use Rattle.vlt_keyset.specs.Held.{map_of};
 ghost use Rattle.vlt_rows.specs.FlowView.{block_view};
 ghost use Rattle.vlt_check.specs.Checks.{IsWellFormed, fault_of};
-ghost use Rattle.vlt_witness_laws.specs.Shown.{HasWitness};
+ghost use Rattle.vlt_check_laws.specs.Shown.{HasWitness};
 ghost use Rattle.vlt_witness.specs.Ways.{end_of_join, IsSeen, OnSeen};
 ghost use Rattle.vlt_witness.specs.Shows.{ArePaths, IsPair, HasNoPair, IsShownRow, IsShownJoin, IsShownBy};
 

@@ -7,7 +7,7 @@ ghost use Rattle.vlt_core.specs.Witness.{RowMet};
 ghost use Rattle.vlt_core.specs.View.{tok_of};
 ghost use Rattle.vlt_core.specs.HeldView.{row_of, toks_of};
 ghost use Rattle.vlt_rows.specs.FlowView.{rows_view};
-ghost use Rattle.vlt_flow_laws.specs.Sweep.{In, IsImage};
+ghost use Rattle.vlt_core_laws.specs.Sweep.{In, IsImage};
 ghost use Rattle.vlt_found.specs.Ones.{many_of};
 ghost use Rattle.vlt_witness.specs.Ways.{row_end, IsWay, On, OnSeen, nothing_found};
 ghost use Rattle.vlt_witness.specs.Search.{Walks, Sees, Passes};

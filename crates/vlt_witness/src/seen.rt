@@ -2,7 +2,7 @@
 
 ghost use Rattle.std.specs.Prelude.{◌≡◌, ◌↔◌, List, Some, OnOk, IsTrue};
 ghost use Rattle.vlt_core.specs.Witness as w;
-ghost use Rattle.vlt_flow_laws.specs.Sweep.{In};
+ghost use Rattle.vlt_core_laws.specs.Sweep.{In};
 ghost use Rattle.vlt_witness.specs.Ways.{one_of, row_end, end_of_join, class_of, IsWay, On, IsSeen, OnSeen};
 ghost use Rattle.vlt_witness.specs.Search.{Spreads, Joined, Sees, By, CanBy};
 ghost use Rattle.vlt_witness.specs.Aims.{JoinHere, spot_of};

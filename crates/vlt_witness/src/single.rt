@@ -3,7 +3,7 @@
 ghost use Rattle.std.specs.Prelude.{◌≡◌, ◌↔◌, IsTrue};
 ghost use Rattle.vlt_base.specs.States.{is_bit};
 ghost use Rattle.vlt_core.specs.Found.{One};
-ghost use Rattle.vlt_flow_laws.specs.Sweep.{In};
+ghost use Rattle.vlt_core_laws.specs.Sweep.{In};
 ghost use Rattle.vlt_found.specs.Ones.{many_of};
 ghost use Rattle.vlt_witness.specs.Ways.{one_of, IsSmall};
 

@@ -4,7 +4,7 @@ ghost use Rattle.std.specs.Prelude.{◌≡◌, ◌⊎◌, ◌++◌, ◌∷◌, [
 ghost use Rattle.vlt_core.specs.Found.{One};
 ghost use Rattle.vlt_core.specs.Witness as w;
 ghost use Rattle.vlt_core.specs.FaultView.{pick_of, choices_of};
-ghost use Rattle.vlt_flow_laws.specs.Sweep.{In};
+ghost use Rattle.vlt_core_laws.specs.Sweep.{In};
 ghost use Rattle.vlt_found.specs.Ones.{many_of};
 ghost use Rattle.vlt_witness.specs.Ways.{one_of, IsSmall, IsWay, On, nothing_found};
 ghost use Rattle.vlt_witness.specs.Search.{Spreads, Joined, Walks, Takes, By, CanBy, Grows, IsClosed, IsEvery};

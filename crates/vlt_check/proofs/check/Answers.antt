@@ -1,5 +1,5 @@
 use Rattle.vlt_core.specs.View.{program_of}
-use Rattle.vlt_fault_laws.proofs.One.{one_fault}
+use Rattle.vlt_core_laws.proofs.One.{one_fault}
 use Rattle.vlt_check.specs.Checks.{fault_of}
 use Rattle.vlt_check.proofs.Listed.{on_ok, checked_accepted, refused_rejected}
 use Rattle.vlt_check.proofs.check.Goals as goal

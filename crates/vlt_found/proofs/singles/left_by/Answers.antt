@@ -1,6 +1,6 @@
 use Rattle.std.proofs.Common.{⊎_elim, false}
 use Rattle.vlt_core.specs.Found.{One}
-use Rattle.vlt_flow_laws.specs.Sweep.{In}
+use Rattle.vlt_core_laws.specs.Sweep.{In}
 use Rattle.vlt_found.specs.Ones.{many_of}
 use Rattle.vlt_found.proofs.Bits.{left_states, left_lent, left_held, some_if}
 use Rattle.vlt_found.proofs.singles.left_by.Goals as goal

@@ -7,7 +7,7 @@ use Rattle.vlt_rows.specs.FlowView.{flow_view, block_view, rows_view, stmts_view
 use Rattle.vlt_rows.specs.declared.tree.FlowBlock.{out-FlowBlock}
 use Rattle.vlt_rows.specs.declared.tree.FlowArm.{out-FlowArm}
 use Rattle.vlt_rows.proofs.Views.{step_form, if_form, while_form, switch_form, scope_form, focus_form, return_form, jump_form, block_parts}
-use Rattle.vlt_flow_laws.specs.Sweep.{Many, In, Stock, IsImage}
+use Rattle.vlt_core_laws.specs.Sweep.{Many, In, Stock, IsImage}
 use Rattle.vlt_found.specs.Ones.{many_of}
 use Rattle.vlt_found.specs.Marks.{stock_of}
 use Rattle.vlt_found.proofs.Into.{head_put, exit_put}

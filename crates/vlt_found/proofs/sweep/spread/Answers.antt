@@ -1,7 +1,7 @@
 use Rattle.std.proofs.Common.{length, ap, sym, ◌∙◌, refl, None}
 use Rattle.vlt_core.specs.View.{tok_of}
 use Rattle.vlt_rows.specs.FlowView.{block_view}
-use Rattle.vlt_flow_laws.proofs.Sweeping.{reached}
+use Rattle.vlt_core_laws.proofs.Sweeping.{reached}
 use Rattle.vlt_found.specs.Ones.{many_of}
 use Rattle.vlt_found.specs.Marks.{stock_of}
 use Rattle.vlt_found.proofs.Sweeps.{room_begun, room_went, reached_begun, found_after}

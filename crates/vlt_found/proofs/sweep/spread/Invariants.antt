@@ -2,7 +2,7 @@ use Rattle.std.proofs.Common.{◌≡◌, length, None}
 use Rattle.vlt_core.specs.Flow.{size_block}
 use Rattle.vlt_core.specs.View.{tok_of}
 use Rattle.vlt_rows.specs.FlowView.{block_view}
-use Rattle.vlt_flow_laws.specs.Sweep.{In, IsReached}
+use Rattle.vlt_core_laws.specs.Sweep.{In, IsReached}
 use Rattle.vlt_found.specs.Ones.{many_of}
 use Rattle.vlt_found.specs.Marks.{stock_of, gap, HasRoom}
 use Rattle.vlt_found.proofs.sweep.spread.Given as goal

@@ -1,5 +1,5 @@
 use Rattle.std.proofs.Common.{◌≡◌, ℕ, length}
-use Rattle.vlt_flow_laws.specs.Sweep.{IsNothing}
+use Rattle.vlt_core_laws.specs.Sweep.{IsNothing}
 use Rattle.vlt_found.specs.Marks.{at}
 use Rattle.vlt_found.proofs.tables.nothings.Given as goal
 

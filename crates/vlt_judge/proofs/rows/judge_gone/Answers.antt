@@ -4,7 +4,7 @@ use Rattle.vlt_core.specs.Maps.{gone}
 use Rattle.vlt_core.specs.View.{tok_of}
 use Rattle.vlt_found.proofs.Passing.{going_ends, map_twice}
 use Rattle.vlt_found.proofs.Sweeps.{split_at}
-use Rattle.vlt_flow_laws.specs.Sweep.{In}
+use Rattle.vlt_core_laws.specs.Sweep.{In}
 use Rattle.vlt_found.specs.Ones.{many_of}
 use Rattle.vlt_found.specs.Passes.{IsMoved}
 use Rattle.vlt_judge.specs.Blames.{FirstOfRow}

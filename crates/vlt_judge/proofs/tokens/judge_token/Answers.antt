@@ -1,6 +1,6 @@
 use Rattle.std.proofs.Common.{◌↔◌, subst, sym, ◌∙◌}
 use Rattle.vlt_core.specs.Found.{One, Has}
-use Rattle.vlt_flow_laws.specs.Sweep.{In}
+use Rattle.vlt_core_laws.specs.Sweep.{In}
 use Rattle.vlt_found.specs.Ones.{many_of}
 use Rattle.vlt_judge.proofs.Overs.{over_token, room_found, fits_found}
 use Rattle.vlt_judge.proofs.tokens.judge_token.Goals as goal

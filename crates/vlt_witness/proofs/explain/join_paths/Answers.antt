@@ -1,7 +1,7 @@
 use Rattle.std.specs.Option.{option_map}
 use Rattle.vlt_core.specs.FaultView.{choices_of}
 use Rattle.vlt_found.specs.Ones.{many_of}
-use Rattle.vlt_flow_laws.specs.Sweep.{In}
+use Rattle.vlt_core_laws.specs.Sweep.{In}
 use Rattle.vlt_rows.specs.FlowView.{block_view}
 use Rattle.vlt_witness.proofs.Showing.{join_shown, join_unshown}
 use Rattle.vlt_witness.proofs.explain.join_paths.Goals as goal

@@ -5,7 +5,7 @@ use Rattle.vlt_core.specs.Witness.{Choice, IsWitness, IsWitnessIn}
 use Rattle.vlt_core.specs.View.{program_of, func_of}
 use Rattle.vlt_core.specs.FaultView.{choices_of}
 use Rattle.vlt_check.specs.Checks.{fault_of}
-use Rattle.vlt_witness_laws.specs.Shown.{HasWitness}
+use Rattle.vlt_check_laws.specs.Shown.{HasWitness}
 use Rattle.vlt_witness.proofs.Showing.{some_witness, no_witness, no_func}
 use Rattle.vlt_witness.proofs.explain.paths_for.Goals as goal
 

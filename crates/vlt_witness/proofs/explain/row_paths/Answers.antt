@@ -1,6 +1,6 @@
 use Rattle.vlt_core.specs.FaultView.{choices_of}
 use Rattle.vlt_found.specs.Ones.{many_of}
-use Rattle.vlt_flow_laws.specs.Sweep.{In}
+use Rattle.vlt_core_laws.specs.Sweep.{In}
 use Rattle.vlt_rows.specs.FlowView.{block_view}
 use Rattle.vlt_witness.proofs.Showing.{row_shown, row_unshown}
 use Rattle.vlt_witness.proofs.explain.row_paths.Goals as goal

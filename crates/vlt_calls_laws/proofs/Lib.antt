@@ -1,4 +1,0 @@
-pub mod Sets
-pub mod Clauses
-pub mod Operands
-pub mod Whole

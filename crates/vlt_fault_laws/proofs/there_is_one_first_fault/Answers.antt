@@ -1,5 +1,0 @@
-use Rattle.vlt_fault_laws.proofs.One.{one_fault}
-use Rattle.vlt_fault_laws.proofs.there_is_one_first_fault.Goals as goal
-
-pub returns : goal.returns
-returns c = one_fault

@@ -1,5 +1,0 @@
-use Rattle.vlt_flow_laws.proofs.Deriving.{annotated}
-use Rattle.vlt_flow_laws.proofs.derived_is_local.Goals as goal
-
-pub returns : goal.returns
-returns c = λ s h jumping derived. annotated s h jumping derived

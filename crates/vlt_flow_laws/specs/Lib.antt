@@ -1,5 +1,0 @@
-pub mod Scoped
-pub mod Tame
-pub mod Faulted
-pub mod Sweep
-pub mod Shown

@@ -1,5 +1,0 @@
-use Rattle.vlt_own_laws.proofs.Whole.{names_own}
-use Rattle.vlt_own_laws.proofs.kinded_programs_name_their_own.Goals as goal
-
-pub returns : goal.returns
-returns c = names_own

@@ -1,5 +1,0 @@
-use Rattle.vlt_reached_laws.proofs.Whole.{knows_its_steps}
-use Rattle.vlt_reached_laws.proofs.accepted_programs_know_their_steps.Goals as goal
-
-pub returns : goal.returns
-returns c = knows_its_steps

@@ -1,5 +1,0 @@
-use Rattle.vlt_reached_laws.proofs.Calls.{scope_is_named}
-use Rattle.vlt_reached_laws.proofs.known_steps_name_objects.Goals as goal
-
-pub returns : goal.returns
-returns c = scope_is_named

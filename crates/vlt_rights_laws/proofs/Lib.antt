@@ -1,8 +1,0 @@
-pub mod Parts
-pub mod Rights
-pub mod Typed
-pub mod Shapes
-pub mod Calls
-pub mod Called
-pub mod Callees
-pub mod News

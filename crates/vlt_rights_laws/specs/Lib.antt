@@ -1,4 +1,0 @@
-pub mod Parts
-pub mod Rights
-pub mod Calls
-pub mod News

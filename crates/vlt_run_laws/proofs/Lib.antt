@@ -1,0 +1,18 @@
+mod Keys
+mod OwnNaming
+mod OwnWhole
+pub mod ReachedNaming
+pub mod Calls
+pub mod Moves
+pub mod Blocks
+pub mod Simples
+pub mod Ending
+pub mod Parts
+pub mod Enters
+pub mod Focuses
+pub mod Switches
+pub mod ReachedWhole
+pub mod Sets
+pub mod Clauses
+pub mod Operands
+pub mod CallsWhole

@@ -1,7 +1,0 @@
-pub mod Limited
-pub mod Agrees
-pub mod Typed
-pub mod Fine
-pub mod Safe
-pub mod Steps
-pub mod Scopes

@@ -1,5 +1,0 @@
-use Rattle.vlt_sound_hosts.proofs.Results.{answers_safe}
-use Rattle.vlt_sound_hosts.proofs.answers.answers_are_safe.Goals as goal
-
-pub returns : goal.returns
-returns c = λ r hosts. answers_safe r hosts

@@ -1,5 +1,0 @@
-use Rattle.vlt_sound_hosts.proofs.HostsLaws as hosts
-use Rattle.vlt_sound_hosts.proofs.hosts.externals_are_safe.Goals as goal
-
-pub returns : goal.returns
-returns c = λ r answers. hosts.externals_are_safe r answers

@@ -1,3 +1,0 @@
-pub mod Makings
-pub mod Steps
-pub mod Ended

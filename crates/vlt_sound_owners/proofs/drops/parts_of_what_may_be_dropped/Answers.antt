@@ -1,5 +1,0 @@
-use Rattle.vlt_sound_owners.proofs.Dropping.{part_is_free}
-use Rattle.vlt_sound_owners.proofs.drops.parts_of_what_may_be_dropped.Goals as goal
-
-pub returns : goal.returns
-returns c = part_is_free

@@ -1,5 +1,0 @@
-use Rattle.vlt_sound_returns.proofs.BodiesLaws as bodies
-use Rattle.vlt_sound_returns.proofs.bodies.calls_are_safe.Goals as goal
-
-pub returns : goal.returns
-returns c = λ r rest_of functions externals callees. bodies.calls_are_safe r rest_of functions externals callees

@@ -1,5 +1,0 @@
-use Rattle.vlt_sound_returns.proofs.ReturnsLaws as proved
-use Rattle.vlt_sound_returns.proofs.returns.returns_are_safe.Goals as goal
-
-pub returns : goal.returns
-returns c = λ r rest_of. proved.returns_are_safe r rest_of

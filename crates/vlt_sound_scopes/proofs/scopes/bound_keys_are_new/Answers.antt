@@ -1,5 +1,0 @@
-use Rattle.vlt_sound_scopes.proofs.Fresh.{is_fresh}
-use Rattle.vlt_sound_scopes.proofs.scopes.bound_keys_are_new.Goals as goal
-
-pub returns : goal.returns
-returns c = λ f x ids hand k scoped. is_fresh scoped k hand

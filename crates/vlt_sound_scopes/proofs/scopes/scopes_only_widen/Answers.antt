@@ -1,5 +1,0 @@
-use Rattle.vlt_sound_scopes.proofs.Widening.{form_widens}
-use Rattle.vlt_sound_scopes.proofs.scopes.scopes_only_widen.Goals as goal
-
-pub returns : goal.returns
-returns c = form_widens

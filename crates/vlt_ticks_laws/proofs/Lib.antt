@@ -1,5 +1,0 @@
-pub mod Read
-pub mod Lists
-pub mod Exprs
-pub mod Stmts
-pub mod Decls

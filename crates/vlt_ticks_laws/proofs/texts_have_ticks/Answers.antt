@@ -1,5 +1,0 @@
-use Rattle.vlt_ticks_laws.proofs.Decls.{text_ticks}
-use Rattle.vlt_ticks_laws.proofs.texts_have_ticks.Goals as goal
-
-pub returns : goal.returns
-returns c = λ bytes ls t is e. text_ticks bytes ls t is e

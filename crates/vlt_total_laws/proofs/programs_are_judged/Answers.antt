@@ -1,5 +1,0 @@
-use Rattle.vlt_total_laws.proofs.Judged.{judged}
-use Rattle.vlt_total_laws.proofs.programs_are_judged.Goals as goal
-
-pub returns : goal.returns
-returns c = λ p well. judged p well

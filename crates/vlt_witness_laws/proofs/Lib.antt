@@ -1,9 +1,0 @@
-pub mod Paths
-pub mod Widening
-pub mod Meets
-pub mod Refuting
-pub mod Jumpless
-pub mod Leading
-pub mod Meeting
-pub mod Showing
-pub mod Formed
