@@ -45,4 +45,4 @@ returns g c =
     subst (λ f. EndsAs (c_run (program_of c.args.s.rules.program.now) f c.args.s.rules.heap c.args.s.rules.depth c.args.input.now (lists_of c.args.answers.now)) (record { written = g.K.Sink.written c.args.sink.now; faults = g.K.Sink.faults c.args.sink.now }) (record { written = g.K.Sink.written c.run-stop.new.sink; faults = g.K.Sink.faults c.run-stop.new.sink }) (record { stop = c.run-stop.result; fuel = c.run-stop.new.world.fuel })) c.new-world.ensures.has_fuel
     (subst (λ i. EndsAs (c_run (program_of c.args.s.rules.program.now) c.new-world.result.fuel c.args.s.rules.heap c.args.s.rules.depth i (lists_of c.args.answers.now)) (record { written = g.K.Sink.written c.args.sink.now; faults = g.K.Sink.faults c.args.sink.now }) (record { written = g.K.Sink.written c.run-stop.new.sink; faults = g.K.Sink.faults c.run-stop.new.sink }) (record { stop = c.run-stop.result; fuel = c.run-stop.new.world.fuel })) c.new-world.ensures.has_input
     (subst (λ a. EndsAs (c_run (program_of c.args.s.rules.program.now) c.new-world.result.fuel c.args.s.rules.heap c.args.s.rules.depth c.new-world.result.input.now (lists_of a)) (record { written = g.K.Sink.written c.args.sink.now; faults = g.K.Sink.faults c.args.sink.now }) (record { written = g.K.Sink.written c.run-stop.new.sink; faults = g.K.Sink.faults c.run-stop.new.sink }) (record { stop = c.run-stop.result; fuel = c.run-stop.new.world.fuel })) c.new-world.ensures.has_answers
-    (ended_is _ (start_of c.new-world.result) (record { written = g.K.Sink.written c.args.sink.now; faults = g.K.Sink.faults c.args.sink.now }) (record { written = g.K.Sink.written c.run-stop.new.sink; faults = g.K.Sink.faults c.run-stop.new.sink }) c.run-stop.result c.run-stop.new.world refl c.run-stop.ensures)))
+    (ended_is (c_run (program_of c.args.s.rules.program.now) c.new-world.result.fuel c.args.s.rules.heap c.args.s.rules.depth c.new-world.result.input.now (lists_of c.new-world.result.answers.now)) (start_of c.new-world.result) (record { written = g.K.Sink.written c.args.sink.now; faults = g.K.Sink.faults c.args.sink.now }) (record { written = g.K.Sink.written c.run-stop.new.sink; faults = g.K.Sink.faults c.run-stop.new.sink }) c.run-stop.result c.run-stop.new.world refl c.run-stop.ensures)))
