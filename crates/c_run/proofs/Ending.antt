@@ -21,12 +21,12 @@ use Rattle.c_run.specs.declared.end.CEnd.TheVariants.{Unread, Ended}
 use Rattle.c_run.specs.Ends.{EndsGiven, EndsAs}
 
 -- a machine that was opened stops as the run does
-pub stops : (m : CMachine) (p : Program) (b : Budgets) (numbers : List ℤ) (lists : List (List ℤ)) (stop : CStop) (before after : Outside)
-    → program_in m ≡ p → budgets_of m ≡ b → stop_of m ≡ None → IfNone (stop_of m) (StopsAs (run_on m numbers lists) before after stop)
-    → StopsAs (c_run p b.fuel b.heap b.depth numbers lists) before after stop
-stops m p b numbers lists stop before after program budgets started ended =
-    let same : run_on m numbers lists ≡ c_run p b.fuel b.heap b.depth numbers lists = ap₂ (λ q u. c_run q u.fuel u.heap u.depth numbers lists) program budgets in
-    subst (λ (ran : Ran). StopsAs ran before after stop) same (subst (λ s. IfNone s (StopsAs (run_on m numbers lists) before after stop)) started ended)
+pub stops : (m : CMachine) (p : Program) (b : Budgets) (input : List ℤ) (lists : List (List ℤ)) (stop : CStop) (before after : Outside)
+    → program_in m ≡ p → budgets_of m ≡ b → stop_of m ≡ None → IfNone (stop_of m) (StopsAs (run_on m input lists) before after stop)
+    → StopsAs (c_run p b.fuel b.heap b.depth input lists) before after stop
+stops m p b input lists stop before after program budgets started ended =
+    let same : run_on m input lists ≡ c_run p b.fuel b.heap b.depth input lists = ap₂ (λ q u. c_run q u.fuel u.heap u.depth input lists) program budgets in
+    subst (λ (ran : Ran). StopsAs ran before after stop) same (subst (λ s. IfNone s (StopsAs (run_on m input lists) before after stop)) started ended)
 
 -- ---- the text
 
