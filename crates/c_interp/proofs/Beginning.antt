@@ -7,10 +7,9 @@ use Rattle.c_syntax.specs.declared.program.CStmt.{CStmt}
 use Rattle.c_syntax.specs.View.{func_of, stmts_of, program_of}
 use Rattle.c_syntax.specs.C.{Func, Program}
 use Rattle.c_meaning.specs.World as model
-use Rattle.c_meaning.specs.World.{first_world, event_text, Ran}
 use Rattle.c_meaning.specs.Run.{Numbered, main_of, number_at, count_in, count_in_all}
 use Rattle.c_machine.specs.Machine as m
-use Rattle.c_machine.specs.Machine.{State, names_of, first_conf, IsDeclared}
+use Rattle.c_machine.specs.Machine.{State, names_of, first_conf}
 use Rattle.c_machine.specs.Bounds.{sizes_of, most, width_of, value_slots, Fits}
 use Rattle.c_machine.specs.Within.{longest_name, AreWithin}
 use Rattle.c_machine.proofs.Starting.{first_fits}
@@ -19,7 +18,7 @@ use Rattle.c_machine.proofs.Within.{main_within}
 use Rattle.c_values.specs.declared.value.Value.{Value}
 use Rattle.c_values.specs.Shown.{shown_slots, AreMadeSlots}
 use Rattle.c_primitives.specs.declared.world.World.{World}
-use Rattle.c_primitives.specs.Shown.{Outside}
+use Rattle.vlt_steps.specs.Writing.{Outside}
 use Rattle.c_primitives.proofs.Coming.{silent}
 use Rattle.c_interp.specs.declared.rules.Found.{Found}
 use Rattle.c_interp.specs.declared.rules.Rules.{Rules}

@@ -8,17 +8,18 @@ use Rattle.c_syntax.specs.declared.program.CVar.{CVar}
 use Rattle.c_syntax.specs.View.{func_of, stmts_of}
 use Rattle.c_syntax.specs.C.{Stmts}
 use Rattle.c_meaning.specs.World as model
-use Rattle.c_meaning.specs.World.{fuel_end, depth_end}
 use Rattle.c_meaning.specs.Run.{Setup, Numbered, has_room, depth_in}
 use Rattle.c_machine.specs.Machine as m
 use Rattle.c_machine.specs.Machine.{State, Next, names_of, first_values}
 use Rattle.c_values.specs.declared.value.Value.{Value}
 use Rattle.c_values.specs.Shown.{value_view, shown_slots, AreMadeSlots}
 use Rattle.c_primitives.specs.declared.world.World.{World}
-use Rattle.c_primitives.specs.Shown.{Shows, IsReady, KeepsRoom, Outside}
+use Rattle.c_primitives.specs.Shown.{Shows, IsReady, KeepsRoom}
+use Rattle.vlt_steps.specs.Writing.{Outside}
 use Rattle.c_primitives.proofs.Coming.{silent}
 use Rattle.c_interp.specs.declared.stop.CStop.{CStop}
-use Rattle.c_interp.specs.declared.stop.CStop.TheVariants.{FuelEnd, DepthEnd}
+use Rattle.c_interp.specs.declared.stop.CStop.TheVariants.{Stopped}
+use Rattle.vlt_steps.specs.declared.stop.Stop.TheVariants.{FuelEnd, DepthEnd}
 use Rattle.c_interp.specs.declared.frames.Frames.{Frames}
 use Rattle.c_interp.specs.declared.task.Task.{Task}
 use Rattle.c_interp.specs.declared.rules.Found.{Found}
@@ -52,7 +53,7 @@ module _ (things : Things) (s : World) (w : model.World) (b : Outside) (h : Show
   shown_less q e = record { holds = h.holds; blocks = h.blocks; numbers = h.numbers; references = h.references; made = h.made; fuel = ap (λ n. n - 1) h.fuel ∙ sym e; input = h.input; answers = h.answers; taken = h.taken; talk = h.talk }
 
   -- no fuel is left
-  pub spends_none : (f f' : Frames) (ts : List Task) (go : State → Next) → s.fuel ≡ 0 → CameTo w b b (Some FuelEnd) ts f' s (m.spend (state_of f w) go)
+  pub spends_none : (f f' : Frames) (ts : List Task) (go : State → Next) → s.fuel ≡ 0 → CameTo w b b (Some (Stopped FuelEnd)) ts f' s (m.spend (state_of f w) go)
   unfolding m.spend
   spends_none f f' ts go none =
       let zero : (w.fuel == 0) ≡ true = is_zero w.fuel (h.fuel ∙ none) in
@@ -71,15 +72,15 @@ module _ (things : Things) (s : World) (w : model.World) (b : Outside) (h : Show
       spends_one f f new _ (record s { fuel = q.fuel }) None some (record { things = things; world = less; tasks = sym pushed; state = refl; shown = shown_less q e; made = made; wrote = silent w less b refl })
 
   module _ (r : Setup) (n : ℕ) (target : Option CVar) (glue : Bool) (g : Numbered) (values : List model.Value) (f : Frames) (ts : List Task) where
-    pub enters_no_fuel : (f' : Frames) (us : List Task) → s.fuel ≡ 0 → CameTo w b b (Some FuelEnd) us f' s (m.enter r n target glue g values (tasks_of ts) (state_of f w))
+    pub enters_no_fuel : (f' : Frames) (us : List Task) → s.fuel ≡ 0 → CameTo w b b (Some (Stopped FuelEnd)) us f' s (m.enter r n target glue g values (tasks_of ts) (state_of f w))
     unfolding m.enter
     enters_no_fuel f' us none = spends_none f f' us _ none
 
     pub enters_no_depth : (f' : Frames) (us : List Task) (q : World) → 1 ≤ s.fuel → q.fuel ≡ s.fuel - 1 → has_room r glue f.depth ≡ false
-        → CameTo w b b (Some DepthEnd) us f' (record s { fuel = q.fuel }) (m.enter r n target glue g values (tasks_of ts) (state_of f w))
+        → CameTo w b b (Some (Stopped DepthEnd)) us f' (record s { fuel = q.fuel }) (m.enter r n target glue g values (tasks_of ts) (state_of f w))
     unfolding m.enter
     enters_no_depth f' us q some e none =
-        spends_one f f' us _ (record s { fuel = q.fuel }) (Some DepthEnd) some (rw none (inl (record { outcome = refl; fuel = ap (λ k. k - 1) h.fuel ∙ sym e; wrote = silent w less b refl })))
+        spends_one f f' us _ (record s { fuel = q.fuel }) (Some (Stopped DepthEnd)) some (rw none (inl (record { outcome = refl; fuel = ap (λ k. k - 1) h.fuel ∙ sym e; wrote = silent w less b refl })))
 
     pub enters : (new : Frames) (us : List Task) (q : World) → 1 ≤ s.fuel → q.fuel ≡ s.fuel - 1 → has_room r glue f.depth ≡ true
         → tasks_of us ≡ m.list g.first g.func.body ∷ m.back (m.caller_of n target g.func (state_of f less)) ∷ tasks_of ts → state_of new less ≡ m.callee_state glue g.func values (state_of f less) → AreMadeSlots things new.values.items

@@ -3,27 +3,27 @@ use Rattle.std.proofs.Common.{◌≡◌, inl, inr, ⊎_elim, ℕ, List, Option, 
 use Rattle.std.proofs.lemmas.Option.{none-some}
 use Rattle.vlt_rings.specs.Things.{Things}
 use Rattle.c_syntax.specs.declared.program.CVar.{CVar}
-use Rattle.c_meaning.specs.World.{Outcome}
+use Rattle.c_meaning.specs.World.{Outcome, undefined}
 use Rattle.c_meaning.specs.Primitives.{Effect, gives, breaks_rule, ends}
 use Rattle.c_values.specs.declared.value.Value.{Value}
 use Rattle.c_values.specs.Shown.{AreMadeSlots}
 use Rattle.c_primitives.specs.declared.halt.Halt.{Halt}
 use Rattle.c_primitives.specs.declared.halt.Halt.TheVariants as halt
 use Rattle.c_primitives.specs.declared.world.World.{World}
-use Rattle.c_primitives.specs.Shown.{Shows, Outside, Wrote, Cut, Comes}
-use Rattle.c_primitives.specs.Shown as primitives
+use Rattle.c_primitives.specs.Shown.{Shows, Comes}
+use Rattle.c_primitives.specs.Stops.{halt_outcome, Wrote, IsCut as IsCutHere}
+use Rattle.vlt_steps.specs.Writing.{Outside}
 use Rattle.c_primitives.proofs.Coming.{silent}
-use Rattle.c_interp.specs.Halting.{outcome_of, stop_for}
+use Rattle.c_interp.specs.Halting.{outcome_of, stop_for, IsCut}
 use Rattle.c_interp.proofs.Setting.{slots_kept}
 use Rattle.c_meaning.specs.World as model
-use Rattle.c_meaning.specs.World.{undefined}
 use Rattle.c_machine.specs.Machine as m
 use Rattle.c_machine.specs.Machine.{Next, State}
 use Rattle.c_interp.specs.declared.stop.CStop.{CStop}
 use Rattle.c_interp.specs.declared.stop.CStop.TheVariants.{Undefined}
 use Rattle.c_interp.specs.declared.frames.Frames.{Frames}
 use Rattle.c_interp.specs.declared.task.Task.{Task}
-use Rattle.c_interp.specs.Shown.{tasks_of, state_of, given_view, IsPlain, KeepsFrames, IsCut, CameTo}
+use Rattle.c_interp.specs.Shown.{tasks_of, state_of, given_view, IsPlain, KeepsFrames, CameTo}
 
 pub plain_at : (r : Option CStop) (ts : List Task) (f : Frames) (w : model.World) (x y : Next) → y ≡ x → IsPlain r ts f w x → IsPlain r ts f w y
 plain_at r ts f w x y e h = subst (IsPlain r ts f w) (sym e) h
@@ -43,14 +43,9 @@ module _ (w v : model.World) (before after : Outside) (ts : List Task) (f : Fram
   plain_came (Some stop) (m.goes c) h made wrote p = absurd p
   plain_came (Some stop) (m.stops o u) h made wrote p = inl (record { outcome = p.0; fuel = ap (λ x. x.fuel) p.1 ∙ h.fuel; wrote = subst (λ x. Wrote w x before after) (sym p.1) wrote })
 
-stop_outcome : (n : ℕ) (h : Halt) (o : Outcome) → primitives.outcome_of h ≡ Some o → outcome_of (stop_for n h) ≡ Some o
+stop_outcome : (n : ℕ) (h : Halt) (o : Outcome) → halt_outcome h ≡ Some o → outcome_of (stop_for n h) ≡ Some o
 stop_outcome n (halt.Broken r) o e = absurd (none-some o e)
-stop_outcome n (halt.Trapped t) o e = e
-stop_outcome n halt.HeapEnd o e = e
-stop_outcome n halt.InputEnd o e = e
-stop_outcome n halt.AnswersEnd o e = e
-stop_outcome n (halt.BadAnswer k) o e = e
-stop_outcome n halt.SinkFault o e = absurd (none-some o e)
+stop_outcome n (halt.Stopped stop) o e = e
 
 module _ (n : ℕ) (target : Option CVar) (things : Things) (s : World) (w : model.World) (before after : Outside) (ts : List Task) (f : Frames) where
   -- a statement gives a value or none
@@ -63,7 +58,7 @@ module _ (n : ℕ) (target : Option CVar) (things : Things) (s : World) (w : mod
   after_given g value result (breaks_rule r) made c plain kept = absurd c
   after_given g value result (ends o u) made c plain kept = absurd c
 
-  cut_at : (h : Halt) (v : model.World) → Cut w before after h v → IsCut w before after (stop_for n h) v
+  cut_at : (h : Halt) (v : model.World) → IsCutHere w before after h v → IsCut w before after (stop_for n h) v
   cut_at h v c = record { fault = ap (stop_for n) c.fault; events = c.events; added = c.added; grew = c.grew; rose = c.rose; counted = c.counted }
 
   after_stop : (h : Halt) (e : Effect) → Comes things s w before after (Err h) e → CameTo w before after (Some (stop_for n h)) ts f s (m.after n target e (tasks_of ts) (state_of f w))

@@ -6,7 +6,6 @@ use Rattle.c_syntax.specs.declared.program.CArg.{CArg}
 use Rattle.c_syntax.specs.View.{arg_of, func_of}
 use Rattle.c_syntax.specs.C.{Arg}
 use Rattle.c_meaning.specs.World as model
-use Rattle.c_meaning.specs.World.{Vars}
 use Rattle.c_meaning.specs.Values.{◌>>=◌, arg_value, arg_values}
 use Rattle.c_machine.specs.Machine.{names_of}
 use Rattle.c_values.specs.declared.value.Value.{Value}

@@ -9,7 +9,8 @@ use Rattle.c_machine.specs.Machine.{State, names_of}
 use Rattle.c_values.specs.declared.value.Value.{Value}
 use Rattle.c_values.specs.Shown.{value_view, shown_slots}
 use Rattle.c_interp.specs.declared.stop.CStop.{CStop}
-use Rattle.c_interp.specs.declared.stop.CStop.TheVariants.{Done}
+use Rattle.c_interp.specs.declared.stop.CStop.TheVariants.{Stopped}
+use Rattle.vlt_steps.specs.declared.stop.Stop.TheVariants.{Done}
 use Rattle.c_interp.specs.declared.frames.Frames.{Frames}
 use Rattle.c_interp.specs.declared.task.Caller.{Caller}
 use Rattle.c_interp.specs.declared.task.Task.{Task}
@@ -34,7 +35,7 @@ leave_back value k now left first f f0 g h r w is same before back p =
     (subst (λ s. IsPlain r left h w (m.received k.n k.target (given_view value) (tasks_of left) s)) back p))
 
 pub leave_bottom : (value : Option Value) (g : CResult) (now left first : List Task) (f f0 : Frames) (w : model.World) → tasks_of now ≡ m.bottom g ∷ tasks_of left → f ≡ f0
-    → m.leave (given_view value) (tasks_of now) (state_of f w) ≡ m.leave (given_view value) (tasks_of first) (state_of f w) → IsPlain (Some Done) left f w (m.leave (given_view value) (tasks_of first) (state_of f0 w))
+    → m.leave (given_view value) (tasks_of now) (state_of f w) ≡ m.leave (given_view value) (tasks_of first) (state_of f w) → IsPlain (Some (Stopped Done)) left f w (m.leave (given_view value) (tasks_of first) (state_of f0 w))
 leave_bottom value g now left first f f0 w is same before =
-    subst (λ x. IsPlain (Some Done) left f w (m.leave (given_view value) (tasks_of first) (state_of x w))) same
-    (subst (IsPlain (Some Done) left f w) (sym (ap (λ l. m.leave (given_view value) l (state_of f w)) is) ∙ before) (refl, refl))
+    subst (λ x. IsPlain (Some (Stopped Done)) left f w (m.leave (given_view value) (tasks_of first) (state_of x w))) same
+    (subst (IsPlain (Some (Stopped Done)) left f w) (sym (ap (λ l. m.leave (given_view value) l (state_of f w)) is) ∙ before) (refl, refl))

@@ -1,12 +1,11 @@
 -- What is seen of a machine.
-use Rattle.std.specs.Prelude.{ℕ, ℤ, List, Option, Some, None}
+use Rattle.std.specs.Prelude.{ℕ, ℤ, List, Option, IfSome}
 use Rattle.vlt_base.specs.declared.Budgets.{Budgets}
-use Rattle.c_syntax.specs.declared.program.CProgram.{CProgram}
 use Rattle.c_syntax.specs.View.{program_of}
 use Rattle.c_syntax.specs.C.{Program}
 use Rattle.c_meaning.specs.World.{Ran}
 use Rattle.c_interp.specs.declared.stop.CStop.{CStop}
-use Rattle.c_interp.specs.declared.start.Start.{Start}
+use Rattle.vlt_steps.specs.Stops.{stop_unless}
 use Rattle.c_interp.specs.declared.machine.CMachine.{CMachine}
 use Rattle.c_machine.specs.Machine.{IsRunnable}
 use Rattle.c_interp.specs.Start.{IsStart, run_within}
@@ -22,10 +21,6 @@ budgets_of m = m.budgets
 abbrev pub run_on : CMachine → (input : List ℤ) → (answers : List (List ℤ)) → Ran
 run_on m input answers = run_within m.program.now m.budgets input answers
 
-abbrev pub stop_unless : Option Start → CStop → Option CStop
-stop_unless (Some s) stop = None
-stop_unless None stop = Some stop
-
 -- how the machine stopped, if it did
 abbrev pub stop_of : CMachine → Option CStop
 stop_of m = stop_unless m.start m.stop
@@ -34,11 +29,7 @@ stop_of m = stop_unless m.start m.stop
 abbrev pub fuel_left : CMachine → ℕ
 fuel_left m = m.fuel
 
-abbrev pub IsStartIf : CProgram → Budgets → Option Start → Type 0
-IsStartIf p b None = Unit {0}
-IsStartIf p b (Some s) = IsStart p b s
-
 -- the program can be run, and the tables have room for its run until it has begun
 pub record IsSound (m : CMachine) : Type 0 where
   pub runnable : IsRunnable (program_in m)
-  pub start : IsStartIf m.program.now m.budgets m.start
+  pub start : IfSome m.start (IsStart m.program.now m.budgets)

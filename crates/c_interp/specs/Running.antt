@@ -15,7 +15,9 @@ use Rattle.c_memory.specs.Shown.{cells_of}
 use Rattle.c_values.specs.declared.value.Value.{Value}
 use Rattle.c_values.specs.Shown.{AreMadeSlots}
 use Rattle.c_primitives.specs.declared.world.World.{World}
-use Rattle.c_primitives.specs.Shown.{Shows, IsReady, Outside, Wrote}
+use Rattle.c_primitives.specs.Shown.{Shows, IsReady}
+use Rattle.c_primitives.specs.Stops.{Wrote}
+use Rattle.vlt_steps.specs.Writing.{Outside}
 use Rattle.c_interp.specs.declared.rules.Found.{Found}
 use Rattle.c_interp.specs.declared.rules.Rules.{Rules}
 use Rattle.c_interp.specs.Finding.{AreRules}
@@ -23,7 +25,8 @@ use Rattle.c_interp.specs.Calling.{numbered_of}
 use Rattle.c_interp.specs.declared.stop.CStop.{CStop}
 use Rattle.c_interp.specs.declared.frames.Frames.{Frames}
 use Rattle.c_interp.specs.declared.task.Task.{Task}
-use Rattle.c_interp.specs.Shown.{tasks_of, state_of, setup_of, HasStopped, IsCut}
+use Rattle.c_interp.specs.Halting.{HasStopped, IsCut}
+use Rattle.c_interp.specs.Shown.{tasks_of, state_of, setup_of}
 
 -- the world that a run begins with
 abbrev pub start_of : World → model.World
@@ -43,7 +46,7 @@ pub record IsRunning (r : Rules) (ran : Ran) (w : model.World) (before after : O
 
 -- the run came to its end, or the sink took a part of what it writes
 abbrev pub IsFinished : Ran → model.World → (before after : Outside) → CStop → World → Type 0
-IsFinished ran w before after stop s = HasStopped w before after s stop ran.outcome ran.world ⊎ IsCut w before after stop ran.world
+IsFinished ran w before after stop s = HasStopped w before after s.fuel stop ran.outcome ran.world ⊎ IsCut w before after stop ran.world
 
 -- a run can begin with this function, over empty tables that have room for all
 pub record CanRun (r : Rules) (main : Found) (tasks : List Task) (task_room : ℕ) (values : List (Option Value)) (value_room : ℕ) (s : World) : Type 0 where

@@ -1,12 +1,10 @@
 -- What the fields of the code stand for, and what its functions come to.
-use Rattle.std.specs.Prelude.{◌≡◌, ◌⊎◌, ◌≤◌, ℕ, ◌+◌, ◌*◌, List, [], ◌∷◌, ◌++◌, length, Option, Some, None, vec_capacity}
+use Rattle.std.specs.Prelude.{◌≡◌, ◌⊎◌, ◌≤◌, ℕ, ◌+◌, ◌*◌, List, [], ◌∷◌, length, Option, Some, None, vec_capacity}
 use Rattle.std.specs.Option.{option_map}
-use Rattle.vlt_io.specs.Outside.{Rose, GrewByPart}
 use Rattle.vlt_rings.specs.Things.{Things}
 use Rattle.c_syntax.specs.View.{stmts_of, func_of, program_of}
 use Rattle.c_syntax.specs.C.{Stmt}
 use Rattle.c_meaning.specs.World as model
-use Rattle.c_meaning.specs.World.{Event, event_text, Outcome}
 use Rattle.c_meaning.specs.Run.{Setup, count_in_stmt}
 use Rattle.c_machine.specs.Machine as m
 use Rattle.c_machine.specs.Machine.{State, Conf, Next, names_of}
@@ -16,15 +14,16 @@ use Rattle.c_memory.specs.Shown.{cells_of}
 use Rattle.c_values.specs.declared.value.Value.{Value}
 use Rattle.c_values.specs.Shown.{value_view, shown_slots, AreMadeSlots, IsMadeSlot}
 use Rattle.c_primitives.specs.declared.world.World.{World}
-use Rattle.c_primitives.specs.Shown.{Shows, IsReady, KeepsRoom, Outside, Wrote}
+use Rattle.c_primitives.specs.Shown.{Shows, IsReady, KeepsRoom}
+use Rattle.c_primitives.specs.Stops.{Wrote}
+use Rattle.vlt_steps.specs.Writing.{Outside}
 use Rattle.c_interp.specs.declared.stop.CStop.{CStop}
-use Rattle.c_interp.specs.declared.stop.CStop.TheVariants.{SinkFault}
 use Rattle.c_interp.specs.declared.frames.Frames.{Frames}
 use Rattle.c_interp.specs.declared.task.Caller.{Caller}
 use Rattle.c_interp.specs.declared.task.Task.{Task}
 use Rattle.c_interp.specs.declared.task.Task.TheVariants.{List as Listed, Again, Back, Bottom}
 use Rattle.c_interp.specs.declared.rules.Rules.{Rules}
-use Rattle.c_interp.specs.Halting.{outcome_of}
+use Rattle.c_interp.specs.Halting.{outcome_of, IsCut, HasStopped}
 use Rattle.c_interp.specs.Finding.{AreRules}
 
 -- ---- tasks and frames
@@ -96,26 +95,12 @@ pub record Goes (w : model.World) (before after : Outside) (ts : List Task) (f :
   pub made : AreMadeSlots things f.values.items
   pub wrote : Wrote w world before after
 
--- the sink took a part of what is written up to the world v
-pub record IsCut (w : model.World) (before after : Outside) (stop : CStop) (v : model.World) : Type 0 where
-  pub fault : stop ≡ SinkFault
-  pub events : List Event
-  pub added : v.events ≡ w.events ++ events
-  pub grew : GrewByPart before.written after.written (event_text events)
-  pub rose : Rose before.faults after.faults
-  pub counted : before.faults ≤ after.faults
-
-pub record HasStopped (w : model.World) (before after : Outside) (s : World) (stop : CStop) (o : Outcome) (v : model.World) : Type 0 where
-  pub outcome : outcome_of stop ≡ Some o
-  pub fuel : v.fuel ≡ s.fuel
-  pub wrote : Wrote w v before after
-
 -- from the world w
 abbrev pub CameTo : model.World → (before after : Outside) → Option CStop → List Task → Frames → World → Next → Type 0
 CameTo w before after None ts f s (m.goes c) = Goes w before after ts f s c
 CameTo w before after None ts f s (m.stops o v) = ⊥
 CameTo w before after (Some stop) ts f s (m.goes c) = IsCut w before after stop c.state.world
-CameTo w before after (Some stop) ts f s (m.stops o v) = HasStopped w before after s stop o v ⊎ IsCut w before after stop v
+CameTo w before after (Some stop) ts f s (m.stops o v) = HasStopped w before after s.fuel stop o v ⊎ IsCut w before after stop v
 
 -- the table of tasks had the one room, and has the other
 pub record Came (room room' : ℕ) (old new : Frames) (s s' : World) (before after : Outside) (result : Option CStop) (ts : List Task) (next : model.World → Next) : Type 0 where

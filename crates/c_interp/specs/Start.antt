@@ -1,7 +1,6 @@
 -- What a run begins with, and how it ends.
-use Rattle.std.specs.Prelude.{◌≡◌, ◌⊎◌, ◌≤◌, ◌+◌, ◌*◌, ℤ, List, length, Some, vec_capacity}
+use Rattle.std.specs.Prelude.{◌≡◌, ◌≤◌, ◌+◌, ◌*◌, ℤ, List, length, vec_capacity}
 use Rattle.vlt_base.specs.declared.Budgets.{Budgets}
-use Rattle.vlt_io.specs.Outside.{Rose, Grew, GrewByPart}
 use Rattle.c_syntax.specs.declared.program.CProgram.{CProgram}
 use Rattle.c_syntax.specs.View.{program_of}
 use Rattle.c_meaning.specs.World.{Ran, event_text}
@@ -10,10 +9,13 @@ use Rattle.c_machine.specs.Bounds.{tall_of, value_slots, block_cells}
 use Rattle.c_machine.specs.Within.{longest_name}
 use Rattle.c_memory.specs.Shown.{cells_of}
 use Rattle.c_primitives.specs.Start.{AreNew}
-use Rattle.c_primitives.specs.Shown.{Outside}
-use Rattle.c_interp.specs.declared.stop.CStop.TheVariants.{SinkFault}
+use Rattle.vlt_steps.specs.declared.stop.Ended.{Ended}
+use Rattle.vlt_steps.specs.declared.stop.Stop.TheVariants.{SinkFault}
+use Rattle.vlt_steps.specs.Writing.{Outside}
+use Rattle.vlt_steps.specs.Stops as stops
+use Rattle.c_interp.specs.declared.stop.CStop.{CStop}
+use Rattle.c_interp.specs.declared.stop.CStop.TheVariants.{Stopped}
 use Rattle.c_interp.specs.declared.start.Start.{Start}
-use Rattle.c_interp.specs.declared.start.Ended.{Ended}
 use Rattle.c_interp.specs.Halting.{outcome_of}
 use Rattle.c_interp.specs.Finding.{AreRules}
 
@@ -41,17 +43,6 @@ pub record IsStart (p : CProgram) (b : Budgets) (s : Start) : Type 0 where
 
 -- ---- how it ends
 
-pub record HasEnded (ran : Ran) (before after : Outside) (e : Ended) : Type 0 where
-  pub outcome : outcome_of e.stop ≡ Some ran.outcome
-  pub fuel : ran.world.fuel ≡ e.fuel
-  pub grew : Grew before.written after.written (event_text ran.world.events)
-  pub counted : before.faults ≤ after.faults
-
-pub record WasCut (ran : Ran) (before after : Outside) (e : Ended) : Type 0 where
-  pub fault : e.stop ≡ SinkFault
-  pub grew : GrewByPart before.written after.written (event_text ran.world.events)
-  pub rose : Rose before.faults after.faults
-  pub counted : before.faults ≤ after.faults
-
-abbrev pub IsEnded : Ran → (before after : Outside) → Ended → Type 0
-IsEnded ran before after e = HasEnded ran before after e ⊎ WasCut ran before after e
+abbrev pub EndsAs : Ran → (before after : Outside) → Ended CStop → Type 0
+EndsAs ran before after e =
+    stops.EndsAs outcome_of (Stopped SinkFault) ran.outcome ran.world.fuel (event_text ran.world.events) before after e

@@ -5,14 +5,15 @@ ghost use Rattle.c_syntax.specs.C as c;
 ghost use Rattle.c_syntax.specs.View.{arg_of, call_of, func_of};
 ghost use Rattle.c_meaning.specs.Run as run;
 ghost use Rattle.c_machine.specs.Machine as m;
-ghost use Rattle.c_primitives.specs.Shown.{Outside, IsReady};
+ghost use Rattle.c_primitives.specs.Shown.{IsReady};
+ghost use Rattle.vlt_steps.specs.Writing.{Outside};
 ghost use Rattle.c_interp.specs.declared.frames.Frames.{Frames as Values};
 ghost use Rattle.c_values.specs.declared.value.Value.{Value};
 ghost use Rattle.c_values.specs.Shown.{value_view};
 ghost use Rattle.c_interp.specs.Shown.{tasks_of, state_of, setup_of, Came, HasRoomToDo};
 ghost use Rattle.c_interp.specs.Calling.{ArePushed, HasPushed, IsDepth, numbered_of};
 
-use crate::frames::{Frames, fill, put};
+use crate::frames::{Frames, fill};
 use crate::rules::{Found, Rules};
 use crate::stack::{after, no_value};
 use crate::stop::CStop;
@@ -21,6 +22,7 @@ use c_primitives::World;
 use c_syntax::{CArg, CCall, CFunc, CName, CVar};
 use c_values::arg;
 use vlt_io::Sink;
+use vlt_steps::{Stop, put};
 
 /// Whether a function can be called with these arguments.
 fn can_call(glue: bool, func: &CFunc, args: &[CArg], is_glue: bool) -> bool
@@ -86,11 +88,11 @@ fn enter<'a>(
         (map value_view values) (tasks_of tasks.old.items) (state_of before w)) }
 {
     if world.fuel == 0 {
-        return Some(CStop::FuelEnd);
+        return Some(CStop::Stopped(Stop::FuelEnd));
     }
     world.fuel -= 1;
     let Some(depth) = depth_in(glue, frames.depth, rules.depth) else {
-        return Some(CStop::DepthEnd);
+        return Some(CStop::Stopped(Stop::DepthEnd));
     };
     fill(&mut frames.values, found.func.vars.len());
     let caller = Caller {

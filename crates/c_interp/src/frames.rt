@@ -9,6 +9,7 @@ ghost use Rattle.c_meaning.specs.World as model;
 
 use c_syntax::{CFunc, CVar};
 use c_values::{Value, Vars, find};
+use vlt_steps::put;
 
 /// The values of all frames, and of the running one where they begin, its function, whether this is glue, and how many
 /// functions run that aren't glue.
@@ -19,18 +20,6 @@ pub struct Frames<'a> {
     pub func: &'a CFunc,
     pub is_glue: bool,
     pub depth: u32,
-}
-
-/// One more item, for which there is room.
-pub fn put<T: Drop>(items: &mut Vec<T>, item: T)
-    requires { length items.old.items < vec_capacity items.old }
-    ensures items { items.new.items ≡ items.old.items ++ item ∷ [] }
-    ensures room { vec_capacity items.old ≤ vec_capacity items.new }
-{
-    match items.push(item) {
-        Ok(()) => {}
-        Err(_) => unreachable!(),
-    }
 }
 
 /// So many values more, unset.

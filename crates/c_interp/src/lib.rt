@@ -17,4 +17,5 @@ mod task;
 mod tests;
 
 pub use machine::CMachine;
-pub use stop::{CStop, OpenError};
+pub use stop::CStop;
+pub use vlt_steps::{OpenError, Stop};

@@ -2,22 +2,21 @@
 
 ghost use Rattle.std.specs.Prelude.{◌≡◌, ◌<◌, ◌≤◌, ◌↔◌, None, Some, IfOk, IfNone, IfSome};
 ghost use Rattle.vlt_base.specs.Limits.{limit_of};
-ghost use Rattle.vlt_io.specs.Outside.{Rose};
 ghost use Rattle.vlt_numbers.specs.Answers.{lists_of};
 ghost use Rattle.c_syntax.specs.View.{program_of};
-ghost use Rattle.c_meaning.specs.World.{event_text};
 ghost use Rattle.c_machine.specs.Bounds.{slots_needed};
-ghost use Rattle.c_interp.specs.Halting.{outcome_of, IsTold};
+ghost use Rattle.c_interp.specs.Halting.{outcome_of, StopsAs};
 ghost use Rattle.c_machine.specs.Machine.{IsRunnable};
 
-use crate::start::{Ended, Start, prepare, run_program};
-use crate::stop::{CStop, OpenError};
+use crate::start::{Start, prepare, run_program};
+use crate::stop::CStop;
 use c_machine::is_too_wide;
 use c_syntax::CProgram;
 use std::alloc::Global;
 use vlt_base::Budgets;
 use vlt_io::Sink;
 use vlt_numbers::Answers;
+use vlt_steps::{Ended, OpenError, Stop};
 
 /// A machine for one run of a C program.
 #[derive(Drop)]
@@ -36,6 +35,10 @@ impl<'a> CMachine<'a> {
     ghost use Rattle.c_interp.specs.Machine.{program_in, budgets_of, run_on, stop_of, fuel_left, IsSound};
 
     /// A machine that hasn't started to run the program.
+    ///
+    /// # Errors
+    ///
+    /// `TooWide` where its frames and blocks could have more values than limit 13 allows, and `Memory`.
     pub fn open(alloc: Global, c: &'a CProgram, b: Budgets) -> Result<CMachine<'a>, OpenError>
         requires { IsRunnable (program_of c.now) }
         ensures sound { IfOk result IsSound }
@@ -52,7 +55,7 @@ impl<'a> CMachine<'a> {
             program: c,
             budgets: b,
             start: Some(prepare(alloc, c, b)?),
-            stop: CStop::Done,
+            stop: CStop::Stopped(Stop::Done),
             fuel: b.fuel,
         })
     }
@@ -70,15 +73,12 @@ impl<'a> CMachine<'a> {
         ensures counted { K.faults sink.old ≤ K.faults sink.new }
 
         // Of a machine that hadn't stopped before:
-        ensures outcome { IfNone (stop_of self.old)
-            (IfSome (outcome_of result) (λ o. o ≡ (run_on self.old input.now (lists_of answers.now)).outcome)) }
-        ensures text { IfNone (stop_of self.old)
-            (IsTold (outcome_of result) (event_text (run_on self.old input.now (lists_of answers.now)).world.events)
-            (K.written sink.old) (K.written sink.new)) }
-        ensures fuel { IfNone (stop_of self.old)
-            (IfSome (outcome_of result) (λ o. fuel_left self.new ≡ (run_on self.old input.now (lists_of answers.now)).world.fuel)) }
-        ensures cause { IfNone (stop_of self.old)
-            (result ≡ CStop.SinkFault → Rose (K.faults sink.old) (K.faults sink.new)) }
+        ensures ended { IfNone (stop_of self.old)
+            (StopsAs (run_on self.old input.now (lists_of answers.now))
+            (record { written = K.written sink.old; faults = K.faults sink.old })
+            (record { written = K.written sink.new; faults = K.faults sink.new }) result) }
+        ensures fuel { IfNone (stop_of self.old) (IfSome (outcome_of result) (λ o.
+            fuel_left self.new ≡ (run_on self.old input.now (lists_of answers.now)).world.fuel)) }
     {
         match self.start.take() {
             Some(start) => {

@@ -2,11 +2,11 @@
 
 ghost use Rattle.std.specs.Prelude.{◌≡◌, ◌≤◌, ◌+◌, ◌++◌, false, None, replicate, length, vec_capacity};
 ghost use Rattle.c_syntax.specs.View.{func_of};
-ghost use Rattle.c_primitives.specs.Shown.{Outside};
+ghost use Rattle.vlt_steps.specs.Writing.{Outside};
 ghost use Rattle.c_interp.specs.Shown.{HasRoom};
 ghost use Rattle.c_interp.specs.Running.{start_of, run_of, IsRunning, IsFinished, CanRun};
 
-use crate::frames::{Frames, fill, put};
+use crate::frames::{Frames, fill};
 use crate::rules::{Found, Rules};
 use crate::step::step;
 use crate::stop::CStop;
@@ -14,6 +14,7 @@ use crate::task::Task;
 use c_primitives::World;
 use c_values::Value;
 use vlt_io::Sink;
+use vlt_steps::put;
 
 /// Goes on to the end of the run.
 pub fn finish<'a, K: Sink>(

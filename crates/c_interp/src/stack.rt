@@ -7,17 +7,19 @@ ghost use Rattle.c_meaning.specs.Primitives.{Effect};
 ghost use Rattle.c_machine.specs.Machine as m;
 ghost use Rattle.c_values.specs.Shown.{AreMadeSlots};
 ghost use Rattle.c_primitives.specs.declared.world.World.{World as Shown};
-ghost use Rattle.c_primitives.specs.Shown.{Outside, Comes};
+ghost use Rattle.c_primitives.specs.Shown.{Comes};
+ghost use Rattle.vlt_steps.specs.Writing.{Outside};
 ghost use Rattle.c_interp.specs.declared.task.Task.{Task};
 ghost use Rattle.c_interp.specs.declared.frames.Frames.{Frames as Values};
 ghost use Rattle.c_interp.specs.Shown.{state_of, caller_of, tasks_of, given_view, IsPlain, KeepsFrames, CameTo};
 
-use crate::frames::{Frames, put};
+use crate::frames::Frames;
 use crate::stop::{CStop, stop_at};
 use crate::task::{Caller, Task};
 use c_primitives::Halt;
 use c_syntax::{CResult, CVar};
 use c_values::Value;
+use vlt_steps::{Stop, put};
 
 /// The rule for a value that isn't given, and for the end of a function that is to give one.
 const NO_VALUE: u8 = 6;
@@ -113,10 +115,10 @@ pub fn leave<'a>(
                 go_back(caller, frames);
                 return receive(caller.n, caller.target, value, frames);
             }
-            Task::Bottom(_) => return Some(CStop::Done),
+            Task::Bottom(_) => return Some(CStop::Stopped(Stop::Done)),
         }
     }
-    Some(CStop::Done)
+    Some(CStop::Stopped(Stop::Done))
 }
 
 /// Behind the loop that is under way. `count` is how many statements there are.

@@ -7,7 +7,7 @@ ghost use Rattle.c_meaning.specs.Run.{c_run};
 ghost use Rattle.c_machine.specs.Bounds as bounds;
 ghost use Rattle.c_machine.specs.Bounds.{tall_of};
 ghost use Rattle.c_machine.specs.Machine.{IsRunnable};
-ghost use Rattle.c_interp.specs.Start.{IsStart, IsSet, IsEnded};
+ghost use Rattle.c_interp.specs.Start.{IsStart, IsSet, EndsAs};
 
 use crate::rules::{Rules, rules_of};
 use crate::run::run;
@@ -21,6 +21,7 @@ use std::alloc::Global;
 use vlt_base::{Budgets, Memory};
 use vlt_io::Sink;
 use vlt_numbers::Answers;
+use vlt_steps::{Ended, Stop};
 
 /// What a run begins with.
 #[derive(Drop)]
@@ -29,13 +30,6 @@ pub struct Start<'a> {
     pub tables: Tables,
     pub tasks: Vec<Task<'a>>,
     pub values: Vec<Option<Value>>,
-}
-
-/// How a run ended, and the fuel that was left.
-#[derive(Clone, Copy)]
-pub struct Ended {
-    pub stop: CStop,
-    pub fuel: u64,
 }
 
 /// How many cells a block can have.
@@ -94,10 +88,10 @@ pub fn run_program<K: Sink>(
     input: &[i64],
     answers: &Answers,
     sink: &mut K,
-) -> Ended
+) -> Ended<CStop>
     requires set { IsSet s }
     requires runnable { IsRunnable (program_of s.rules.program.now) }
-    ensures { IsEnded (c_run (program_of s.entry.rules.program.now) fuel s.entry.rules.heap
+    ensures { EndsAs (c_run (program_of s.entry.rules.program.now) fuel s.entry.rules.heap
         s.entry.rules.depth input.now (lists_of answers.now))
         (record { written = K.written sink.old; faults = K.faults sink.old })
         (record { written = K.written sink.new; faults = K.faults sink.new }) result }
@@ -119,7 +113,7 @@ pub fn run_program<K: Sink>(
     };
     if rules.depth == 0 {
         return Ended {
-            stop: CStop::DepthEnd,
+            stop: CStop::Stopped(Stop::DepthEnd),
             fuel,
         };
     }

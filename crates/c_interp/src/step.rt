@@ -10,11 +10,12 @@ ghost use Rattle.c_meaning.specs.Run as run;
 ghost use Rattle.c_meaning.specs.Run.{count_in};
 ghost use Rattle.c_machine.specs.Machine as m;
 ghost use Rattle.c_values.specs.Shown.{AreMadeSlots};
-ghost use Rattle.c_primitives.specs.Shown.{IsReady, Shows, Outside};
+ghost use Rattle.c_primitives.specs.Shown.{IsReady, Shows};
+ghost use Rattle.vlt_steps.specs.Writing.{Outside};
 ghost use Rattle.c_interp.specs.Shown.{tasks_of, state_of, setup_of, Came, HasRoom, HasRoomToDo};
 
 use crate::calls::do_call;
-use crate::frames::{Frames, put};
+use crate::frames::Frames;
 use crate::rules::Rules;
 use crate::stack::{after, break_to, continue_to, end_body, leave};
 use crate::stop::CStop;
@@ -24,6 +25,7 @@ use c_primitives::World;
 use c_syntax::{CExpr, CStmt};
 use c_values::{Value, eval};
 use vlt_io::Sink;
+use vlt_steps::{Stop, put};
 
 /// The rule for a value of the other type.
 const OTHER_TYPE: u8 = 5;
@@ -183,7 +185,7 @@ fn turn<'a>(
         (state_of frames.now w)) }
 {
     if world.fuel == 0 {
-        return Some(CStop::FuelEnd);
+        return Some(CStop::Stopped(Stop::FuelEnd));
     }
     world.fuel -= 1;
     put(tasks, Task::Again(n, body));
@@ -275,6 +277,6 @@ pub fn step<'a, K: Sink>(
             put(tasks, Task::Bottom(given));
             end_body(rules.count, given, tasks, frames)
         }
-        None => Some(CStop::Done),
+        None => Some(CStop::Stopped(Stop::Done)),
     }
 }

@@ -12,6 +12,7 @@ use std::test::Fail;
 use vlt_base::{Budgets, Items};
 use vlt_io::MemSink;
 use vlt_numbers::read_answers;
+use vlt_steps::Stop;
 
 /// `vr_print ( 7 ) ; while ( 1 ) { }`
 fn body(alloc: Global) -> Result<Items<CStmt>, AllocError>
@@ -58,8 +59,14 @@ fn a_run_out_of_fuel(rt: HostRuntime) -> Result<(), Fail> {
     };
     let mut machine = CMachine::open(alloc, &c, budgets)?;
     let mut sink = MemSink::new(alloc, 100, &[])?;
-    assert_eq!(rt; machine.go(&[], &answers, &mut sink), CStop::FuelEnd);
-    assert_eq!(rt; machine.go(&[], &answers, &mut sink), CStop::FuelEnd);
+    assert_eq!(rt;
+        machine.go(&[], &answers, &mut sink),
+        CStop::Stopped(Stop::FuelEnd)
+    );
+    assert_eq!(rt;
+        machine.go(&[], &answers, &mut sink),
+        CStop::Stopped(Stop::FuelEnd)
+    );
     assert_eq!(rt; sink.bytes(), b"7\n".as_slice());
     Ok(())
 }

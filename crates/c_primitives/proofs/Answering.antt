@@ -7,13 +7,15 @@ use Rattle.c_meaning.specs.World as model
 use Rattle.c_meaning.specs.Primitives.{Effect, gives, reads_input, has_more, reads_answer, ends_answer}
 use Rattle.c_values.specs.declared.value.Value.{Value}
 use Rattle.c_values.specs.declared.value.Value.TheVariants.{Number}
-use Rattle.c_primitives.specs.declared.halt.Halt.TheVariants.{Broken, InputEnd, BadAnswer}
+use Rattle.c_primitives.specs.declared.halt.Halt.TheVariants.{Broken, Stopped}
+use Rattle.vlt_steps.specs.declared.stop.Stop.TheVariants.{InputEnd, BadAnswer}
 use Rattle.c_primitives.specs.declared.world.Talk.{Talk}
 use Rattle.c_primitives.specs.declared.world.Talk.TheVariants.{Idle, Calling, Reading}
 use Rattle.c_primitives.specs.declared.world.World.{World}
 use Rattle.c_primitives.specs.Taking.{IsReading}
 use Rattle.c_primitives.specs.Done.{is_reading}
-use Rattle.c_primitives.specs.Shown.{Shows, TalkShows, HasLine, IsReady, KeepsRoom, Outside, Comes}
+use Rattle.c_primitives.specs.Shown.{Shows, TalkShows, HasLine, IsReady, KeepsRoom, Comes}
+use Rattle.vlt_steps.specs.Writing.{Outside}
 use Rattle.c_primitives.proofs.Coming.{silent, keep_same, breaks, gives_value, reading_is}
 
 pub talk_reads : (talk : Talk) (line : List ℕ) (zs : List ℤ) → IsReading talk zs → TalkShows talk line (model.reading zs)
@@ -52,11 +54,11 @@ module _ (ts : Things) (s : World) (w : model.World) (b : Outside) (h : Shows s 
         shown = record { holds = h.holds; blocks = h.blocks; numbers = h.numbers; references = h.references; made = h.made; fuel = h.fuel; input = sym left; answers = h.answers; taken = h.taken; talk = h.talk };
         value = refl;
         made = tt;
-        wrote = silent w _ b refl;
+        wrote = silent w w b refl;
       }))
 
-  pub no_input : s.input.now ≡ [] → Comes ts s w b b (Err InputEnd) (reads_input w.input w)
-  no_input is = subst (λ l. Comes ts s w b b (Err InputEnd) (reads_input l w)) (sym (h.input ∙ is)) (inl (record { outcome = refl; fuel = h.fuel; wrote = silent w w b refl }))
+  pub no_input : s.input.now ≡ [] → Comes ts s w b b (Err (Stopped InputEnd)) (reads_input w.input w)
+  no_input is = subst (λ l. Comes ts s w b b (Err (Stopped InputEnd)) (reads_input l w)) (sym (h.input ∙ is)) (inl (record { outcome = refl; fuel = h.fuel; wrote = silent w w b refl }))
 
   pub more_come : (n : ℤ) (out : Option Value) → n ≡ bool_number (has_more s.input.now) → out ≡ Some (Number n) → Comes ts s w b b (Ok out) (gives (Some (model.number (bool_number (has_more w.input)))) w)
   more_come n out is given =
@@ -78,16 +80,16 @@ module _ (ts : Things) (s : World) (w : model.World) (b : Outside) (h : Shows s 
           shown = record { holds = h.holds; blocks = h.blocks; numbers = h.numbers; references = h.references; made = h.made; fuel = h.fuel; input = h.input; answers = h.answers; taken = h.taken; talk = talk_reads q.talk s.line.items rest left };
           value = refl;
           made = tt;
-          wrote = silent w _ b refl;
+          wrote = silent w w b refl;
         }))
 
-    bad_come : (e : model.Talk → Effect) (t : model.Talk) → zs ≡ zs → w.talk ≡ t → Comes ts s w b b (Err (BadAnswer s.taken)) (e t) → Comes ts s w b b (Err (BadAnswer s.taken)) (e w.talk)
-    bad_come e t same is c = subst (λ x. Comes ts s w b b (Err (BadAnswer s.taken)) (e x)) (sym is) c
+    bad_come : (e : model.Talk → Effect) (t : model.Talk) → zs ≡ zs → w.talk ≡ t → Comes ts s w b b (Err (Stopped (BadAnswer s.taken))) (e t) → Comes ts s w b b (Err (Stopped (BadAnswer s.taken))) (e w.talk)
+    bad_come e t same is c = subst (λ x. Comes ts s w b b (Err (Stopped (BadAnswer s.taken))) (e x)) (sym is) c
 
-    pub no_answer : (test : ℤ → Bool) → zs ≡ [] → Comes ts s w b b (Err (BadAnswer s.taken)) (reads_answer test w.talk w)
+    pub no_answer : (test : ℤ → Bool) → zs ≡ [] → Comes ts s w b b (Err (Stopped (BadAnswer s.taken))) (reads_answer test w.talk w)
     no_answer test is = bad_come (λ t. reads_answer test t w) (model.reading []) refl (is_read ∙ ap (λ l. model.reading l) is) (inl (record { outcome = ap (λ n. Some (model.bad_answer n)) (sym h.taken); fuel = h.fuel; wrote = silent w w b refl }))
 
-    pub other_answer : (test : ℤ → Bool) (z : ℤ) (rest : List ℤ) → zs ≡ z ∷ rest → test z ≡ false → Comes ts s w b b (Err (BadAnswer s.taken)) (reads_answer test w.talk w)
+    pub other_answer : (test : ℤ → Bool) (z : ℤ) (rest : List ℤ) → zs ≡ z ∷ rest → test z ≡ false → Comes ts s w b b (Err (Stopped (BadAnswer s.taken))) (reads_answer test w.talk w)
     other_answer test z rest is so = bad_come (λ t. reads_answer test t w) (model.reading (z ∷ rest)) refl (is_read ∙ ap (λ l. model.reading l) is) (rw so (inl (record { outcome = ap (λ n. Some (model.bad_answer n)) (sym h.taken); fuel = h.fuel; wrote = silent w w b refl })))
 
     pub end_come : zs ≡ [] → Comes ts (record s { talk = Idle }) w b b (Ok None) (ends_answer w.talk w)
@@ -98,10 +100,10 @@ module _ (ts : Things) (s : World) (w : model.World) (b : Outside) (h : Shows s 
           shown = record { holds = h.holds; blocks = h.blocks; numbers = h.numbers; references = h.references; made = h.made; fuel = h.fuel; input = h.input; answers = h.answers; taken = h.taken; talk = tt };
           value = refl;
           made = tt;
-          wrote = silent w _ b refl;
+          wrote = silent w w b refl;
         })
 
-    pub end_bad : (z : ℤ) (rest : List ℤ) → zs ≡ z ∷ rest → Comes ts s w b b (Err (BadAnswer s.taken)) (ends_answer w.talk w)
+    pub end_bad : (z : ℤ) (rest : List ℤ) → zs ≡ z ∷ rest → Comes ts s w b b (Err (Stopped (BadAnswer s.taken))) (ends_answer w.talk w)
     end_bad z rest is = bad_come (λ t. ends_answer t w) (model.reading (z ∷ rest)) refl (is_read ∙ ap (λ l. model.reading l) is) (inl (record { outcome = ap (λ n. Some (model.bad_answer n)) (sym h.taken); fuel = h.fuel; wrote = silent w w b refl }))
 
   pub answer_breaks : (test : ℤ → Bool) → is_reading s.talk ≡ false → Comes ts s w b b (Err (Broken 8)) (reads_answer test w.talk w)

@@ -14,7 +14,8 @@ use Rattle.c_values.specs.Shown.{IsValue, IsReference, IsMadeValue, value_view}
 use Rattle.c_primitives.specs.declared.halt.Halt.{Halt}
 use Rattle.c_primitives.specs.declared.halt.Halt.TheVariants.{Broken}
 use Rattle.c_primitives.specs.declared.world.World.{World}
-use Rattle.c_primitives.specs.Shown.{Shows, Outside, Comes}
+use Rattle.c_primitives.specs.Shown.{Shows, Comes}
+use Rattle.vlt_steps.specs.Writing.{Outside}
 use Rattle.c_primitives.proofs.Coming.{breaks, gives_value}
 
 module _ (ts : Things) (s : World) (w : model.World) (b : Outside) (e : Expr) (vs : Vars) (r : Result Value ℕ) where

@@ -1,17 +1,16 @@
 -- What a primitive comes to.
-use Rattle.std.proofs.Common.{◌≡◌, inl, ℕ, ℤ, pos, Bool, true, false, if◌then◌else◌, List, [], ◌∷◌, ◌++◌, length, Option, Some, None, Result, Ok, Err, refl, sym, ap, ◌∙◌, subst, append-nil, arith}
+use Rattle.std.proofs.Common.{◌≡◌, inl, ℕ, ℤ, pos, Bool, true, false, if◌then◌else◌, List, [], ◌∷◌, ◌++◌, length, Option, Some, None, Result, Ok, Err, refl, sym, ap, ◌∙◌, subst, arith}
 use Rattle.std.specs.Option.{option_map}
 use Rattle.std.proofs.lemmas.Bool.{false≢true}
 use Rattle.std.proofs.lemmas.List.{length-map}
 use Rattle.vlt_ops.specs.declared.TrapKind.TheVariants.{Overflow, ZeroDivisor}
 use Rattle.vlt_ops.specs.Operator.{equals}
-use Rattle.vlt_io.specs.Outside.{Grew}
 use Rattle.vlt_rings.specs.Things.{Things, KeepMade}
 use Rattle.c_syntax.specs.C.{Arg}
 use Rattle.c_meaning.specs.Blocks as bl
 use Rattle.c_meaning.specs.Blocks.{new_block, is_full, parent_of, come_back}
 use Rattle.c_meaning.specs.World as model
-use Rattle.c_meaning.specs.World.{Vars, Outcome}
+use Rattle.c_meaning.specs.World.{Vars, line_of}
 use Rattle.c_meaning.specs.Primitives.{Effect, gives, breaks_rule, ends, or_broken, with_blocks, makes, no_args, on_number, on_reference, on_numbers, on_number_and_reference, on_references, traps, back_or_bad, while_reading}
 use Rattle.c_memory.specs.declared.cells.Ref.{Ref}
 use Rattle.c_memory.specs.declared.blocks.Blocks.{Blocks}
@@ -20,24 +19,24 @@ use Rattle.c_values.specs.declared.value.Value.{Value}
 use Rattle.c_values.specs.declared.value.Value.TheVariants.{Reference}
 use Rattle.c_values.specs.Shown.{IsReference, IsMadeSlot, value_view}
 use Rattle.c_primitives.specs.declared.halt.Halt.{Halt}
-use Rattle.c_primitives.specs.declared.halt.Halt.TheVariants.{Broken, Trapped}
+use Rattle.c_primitives.specs.declared.halt.Halt.TheVariants.{Broken, Stopped}
+use Rattle.vlt_steps.specs.declared.stop.Stop.TheVariants.{Trap}
 use Rattle.c_primitives.specs.declared.world.World.{World}
 use Rattle.c_primitives.specs.Args.{is_none, one_number, one_reference, two_numbers, number_and_reference, two_references, AreReferences, AreNumberAndReference}
 use Rattle.c_primitives.specs.declared.world.Talk.{Talk}
 use Rattle.c_primitives.specs.declared.world.Talk.TheVariants.{Idle, Calling, Reading}
 use Rattle.c_primitives.specs.Taking.{IsReading}
 use Rattle.c_primitives.specs.Done.{done_as, parent_as, back_as, trapped, is_reading}
-use Rattle.c_primitives.specs.Shown.{Shows, TalkShows, IsReady, KeepsRoom, Outside, Wrote, Comes}
+use Rattle.c_primitives.specs.Shown.{Shows, TalkShows, IsReady, KeepsRoom, Comes}
+use Rattle.c_primitives.specs.Stops.{Wrote}
+use Rattle.vlt_steps.specs.Writing.{Outside}
+use Rattle.vlt_steps.proofs.Writing as writing
 use Rattle.c_primitives.proofs.Arguments.{on_number_is, on_reference_is, on_numbers_is, on_number_and_reference_is, on_references_is}
 
 -- ---- nothing is written
 
-pub grew_nothing : (w : Option (List ℕ)) → Grew w w []
-grew_nothing None = refl
-grew_nothing (Some bytes) = ap (λ b. Some b) (sym (append-nil bytes))
-
 pub silent : (w v : model.World) (b : Outside) → v.events ≡ w.events → Wrote w v b b
-silent w v b e = record { events = []; added = e ∙ sym (append-nil w.events); grew = grew_nothing b.written; counted = omega arith }
+silent w v b e = writing.silent line_of w.events v.events b e
 
 -- ---- rooms
 
@@ -159,7 +158,7 @@ module _ (ts : Things) (s : World) (w : model.World) (b : Outside) (xs : List Ar
 module _ (ts : Things) (s : World) (w : model.World) (b : Outside) (bs : Blocks) (h : Shows s ts w) where
   changed_come : (r : Result (Unit {0}) ℕ) (m : Result bl.Blocks ℕ) → Did ts r m bs → Comes ts (record s { blocks = bs }) w b b (done_as r) (with_blocks w m)
   unfolding or_broken
-  changed_come (Ok u) (Ok ms) did = record { things = did.things; kept = did.kept; shown = shown_blocks s bs ts w ms h did; value = refl; made = tt; wrote = silent w _ b refl }
+  changed_come (Ok u) (Ok ms) did = record { things = did.things; kept = did.kept; shown = shown_blocks s bs ts w ms h did; value = refl; made = tt; wrote = silent w w b refl }
   changed_come (Ok u) (Err rule) did = absurd did
   changed_come (Err r) (Ok ms) did = absurd did
   changed_come (Err r) (Err rule) did = record { is = ap (λ x. Broken x) did; fuel = h.fuel; silent = refl }
@@ -181,7 +180,7 @@ new_come s bs ts w b r n m heap h new =
       shown = shown_blocks s bs ts w _ h (record { things = new.come.things; holds = new.come.holds; blocks = new.come.blocks ∙ ap (λ l. l ++ Some (new_block n m) ∷ []) (sym h.blocks); kept = new.come.kept });
       value = ap (λ k. Some (model.reference (Some k))) same;
       made = new.made;
-      wrote = silent w _ b refl;
+      wrote = silent w w b refl;
     })
 
 pub parent_come : (s : World) (ts : Things) (w : model.World) (b : Outside) (r : Result Ref ℕ) (p : Option ℕ) (out : Result (Option Value) Halt) → Shows s ts w → IsParent ts r (parent_of (blocks_of s.blocks ts) p) → out ≡ parent_as r
@@ -235,7 +234,7 @@ unfolding or_broken
 back_come s bs ts w b r p out is h did = rw is (by r (come_back w.blocks p) (subst (λ x. DidBack ts r (come_back x p) s.blocks bs) (sym h.blocks) did))
   where
     by : (r : Result Bool ℕ) (m : Result (Option bl.Blocks) ℕ) → DidBack ts r m s.blocks bs → Comes ts (record s { blocks = bs }) w b b (back_as s.taken r) (or_broken m (λ back. back_or_bad back w))
-    by (Ok true) (Ok (Some ms)) e = record { things = e.things; kept = e.kept; shown = shown_blocks s bs ts w ms h e; value = refl; made = tt; wrote = silent w _ b refl }
+    by (Ok true) (Ok (Some ms)) e = record { things = e.things; kept = e.kept; shown = shown_blocks s bs ts w ms h e; value = refl; made = tt; wrote = silent w w b refl }
     by (Ok true) (Ok None) e = absurd e
     by (Ok true) (Err rule) e = absurd e
     by (Ok false) (Ok (Some ms)) e = absurd e
@@ -259,7 +258,7 @@ none_breaks ts s w b (x ∷ xs) e h n = breaks ts s w b 8 h
 pub trap_come : (ts : Things) (s : World) (w : model.World) (b : Outside) (z : ℤ) (out : Halt) → Shows s ts w → out ≡ trapped z → Comes ts s w b b (Err out) (traps z w)
 trap_come ts s w b z out h is = rw is (by (equals z (pos 1)) (equals z (pos 2)))
   where
-    by : (x y : Bool) → Comes ts s w b b (Err (if x then Trapped Overflow else if y then Trapped ZeroDivisor else Broken 8)) (if x then ends (model.trap Overflow) w else if y then ends (model.trap ZeroDivisor) w else breaks_rule 8)
+    by : (x y : Bool) → Comes ts s w b b (Err (if x then Stopped (Trap Overflow) else if y then Stopped (Trap ZeroDivisor) else Broken 8)) (if x then ends (model.trap Overflow) w else if y then ends (model.trap ZeroDivisor) w else breaks_rule 8)
     by true y = inl (record { outcome = refl; fuel = h.fuel; wrote = silent w w b refl })
     by false true = inl (record { outcome = refl; fuel = h.fuel; wrote = silent w w b refl })
     by false false = breaks ts s w b 8 h

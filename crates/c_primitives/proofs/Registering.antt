@@ -14,7 +14,8 @@ use Rattle.c_primitives.specs.declared.halt.Halt.{Halt}
 use Rattle.c_primitives.specs.declared.halt.Halt.TheVariants.{Broken}
 use Rattle.c_primitives.specs.declared.world.World.{World}
 use Rattle.c_primitives.specs.Done.{number_as, reference_as}
-use Rattle.c_primitives.specs.Shown.{Shows, shown_references, AreMadeRegisters, IsReady, KeepsRoom, Outside, Comes}
+use Rattle.c_primitives.specs.Shown.{Shows, shown_references, AreMadeRegisters, IsReady, KeepsRoom, Comes}
+use Rattle.vlt_steps.specs.Writing.{Outside}
 use Rattle.c_primitives.proofs.Coming.{silent, keep_same, breaks, gives_value}
 
 -- ---- what was set is made
@@ -89,7 +90,7 @@ module _ (ts : Things) (s : World) (w : model.World) (b : Outside) (i : ℤ) (h 
         };
         value = refl;
         made = tt;
-        wrote = silent w _ b refl;
+        wrote = silent w w b refl;
       }))
 
   pub put_reference_come : (q : World) (p : Option Ref) (j : ℕ) → IsMade ts p → Some j ≡ index_below (length s.references.items) i → q.references.items ≡ slice_set s.references.items j (Some p) → Comes ts (record s { references = q.references }) w b b (Ok None) (puts_reference i (number_of p) w)
@@ -112,7 +113,7 @@ module _ (ts : Things) (s : World) (w : model.World) (b : Outside) (i : ℤ) (h 
         };
         value = refl;
         made = tt;
-        wrote = silent w _ b refl;
+        wrote = silent w w b refl;
       })
 
 pub ready_numbers : (s q : World) → IsReady s → IsReady (record s { numbers = q.numbers })

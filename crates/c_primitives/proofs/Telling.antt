@@ -12,22 +12,23 @@ use Rattle.vlt_numbers.specs.declared.answers.Answers.{Answers}
 use Rattle.vlt_numbers.specs.Ends.{cut_at}
 use Rattle.vlt_numbers.specs.Answers.{lists_of}
 use Rattle.c_meaning.specs.World as model
-use Rattle.c_meaning.specs.World.{Told, told_text, told_number, told_block, Event, printed, called, line_of, event_text}
+use Rattle.c_meaning.specs.World.{Told, told_text, told_number, told_block, printed, called, line_of, event_text}
 use Rattle.c_meaning.specs.Primitives.{Effect, breaks_rule, nothing, with_event, tells_number, tells_block, takes_answer, asks}
 use Rattle.c_values.specs.declared.value.Value.{Value}
 use Rattle.c_primitives.specs.declared.halt.Halt.{Halt}
-use Rattle.c_primitives.specs.declared.halt.Halt.TheVariants.{Broken, SinkFault}
+use Rattle.c_primitives.specs.declared.halt.Halt.TheVariants.{Broken, Stopped}
+use Rattle.vlt_steps.specs.declared.stop.Stop.TheVariants.{SinkFault}
 use Rattle.c_primitives.specs.declared.world.Talk.{Talk}
 use Rattle.c_primitives.specs.declared.world.Talk.TheVariants.{Idle, Calling, Reading}
 use Rattle.c_primitives.specs.declared.world.World.{World}
 use Rattle.c_primitives.specs.Taking.{IsTaken}
 use Rattle.c_primitives.specs.Done.{told_of}
-use Rattle.c_primitives.specs.Shown.{Shows, call_text, IsCall, TalkShows, HasLine, IsReady, KeepsRoom, Outside, Wrote, Comes}
+use Rattle.c_primitives.specs.Shown.{Shows, call_text, IsCall, TalkShows, HasLine, IsReady, KeepsRoom, Comes}
+use Rattle.c_primitives.specs.Stops.{Wrote}
+use Rattle.vlt_steps.specs.Writing.{Outside}
+use Rattle.vlt_steps.proofs.Writing as writing
 use Rattle.c_primitives.proofs.Coming.{silent, keep_same, breaks}
 use Rattle.c_primitives.proofs.Answering.{talk_reads, line_reads}
-
-one_event : (w : model.World) (e : Event) → event_text (e ∷ []) ≡ line_of e
-one_event w e = append-nil (line_of e)
 
 answers_long : (start : ℕ) (ends : List ℕ) (numbers : List ℤ) → length (cut_at start ends numbers) ≡ length ends
 answers_long start [] numbers = refl
@@ -45,18 +46,11 @@ module _ (ts : Things) (s : World) (w : model.World) (before after : Outside) (h
     shown = record { holds = h.holds; blocks = h.blocks; numbers = h.numbers; references = h.references; made = h.made; fuel = h.fuel; input = h.input; answers = h.answers; taken = h.taken; talk = h.talk };
     value = refl;
     made = tt;
-    wrote = record { events = printed z ∷ []; added = refl; grew = subst (Grew before.written after.written) (sym (one_event w (printed z))) grew; counted = counted };
+    wrote = writing.one_written line_of w.events (printed z) before after grew counted;
   }
 
-  pub print_cut : (z : ℤ) → GrewByPart before.written after.written (line_of (printed z)) → Rose before.faults after.faults → before.faults ≤ after.faults → Comes ts s w before after (Err SinkFault) (nothing (with_event (printed z) w))
-  print_cut z grew rose counted = record {
-    fault = refl;
-    events = printed z ∷ [];
-    added = refl;
-    grew = subst (GrewByPart before.written after.written) (sym (one_event w (printed z))) grew;
-    rose = rose;
-    counted = counted;
-  }
+  pub print_cut : (z : ℤ) → GrewByPart before.written after.written (line_of (printed z)) → Rose before.faults after.faults → before.faults ≤ after.faults → Comes ts s w before after (Err (Stopped SinkFault)) (nothing (with_event (printed z) w))
+  print_cut z grew rose counted = writing.one_cut line_of (Stopped SinkFault) w.events (w.events ++ printed z ∷ []) (printed z) before after refl grew rose counted
 
 -- ---- the call that is under way
 
@@ -121,7 +115,7 @@ module _ (ts : Things) (s : World) (w : model.World) (b : Outside) (h : Shows s 
           };
           value = refl;
           made = tt;
-          wrote = silent w _ b refl;
+          wrote = silent w w b refl;
         })
 
   pub tell_number_come : (q : World) (z : ℤ) → q.talk ≡ Calling (told + 1) → q.line.items ≡ s.line.items ++ told_text (told_number z) → told < 16 → Comes ts (record s { talk = q.talk; line = q.line }) w b b (Ok None) (tells_number z w.talk w)
@@ -200,7 +194,7 @@ module _ (ts : Things) (s : World) (w : model.World) (before after : Outside) (h
   asked = calling_is s.talk s.line.items w.talk told calls h.talk
 
   text_is : event_text (called asked.name asked.args ∷ []) ≡ s.line.items ++ codes "\n"
-  text_is = one_event w (called asked.name asked.args) ∙ sym (whole_line s.line.items asked.name asked.args asked.call.text)
+  text_is = writing.one_line line_of (called asked.name asked.args) ∙ sym (whole_line s.line.items asked.name asked.args asked.call.text)
 
   told_event : (v : model.World) → v.events ≡ w.events ++ called asked.name asked.args ∷ [] → Grew before.written after.written (s.line.items ++ codes "\n") → before.faults ≤ after.faults → Wrote w v before after
   told_event v e grew counted = record { events = called asked.name asked.args ∷ []; added = e; grew = subst (Grew before.written after.written) (sym text_is) grew; counted = counted }
@@ -240,16 +234,16 @@ module _ (ts : Things) (s : World) (w : model.World) (before after : Outside) (h
               };
               value = refl;
               made = tt;
-              wrote = told_event _ refl grew counted;
+              wrote = told_event (with_event (called asked.name asked.args) w) refl grew counted;
             }))
         by (Err x) is t =
             let same : new ≡ record s { talk = mid.talk; line = mid.line } = t.2 ∙ was in
             given _ (asks_is [] (answers_are ∙ drop_past (lists_of mid.answers.now) mid.taken t.1))
-            (rw (is, t.0, same) (inl (record { outcome = refl; fuel = h.fuel; wrote = told_event _ refl grew counted })))
+            (rw (is, t.0, same) (inl (record { outcome = refl; fuel = h.fuel; wrote = told_event (with_event (called asked.name asked.args) w) refl grew counted })))
 
-  pub ask_cut : (new : World) → GrewByPart before.written after.written (s.line.items ++ codes "\n") → Rose before.faults after.faults → before.faults ≤ after.faults → Comes ts new w before after (Err SinkFault) (asks w.talk w)
+  pub ask_cut : (new : World) → GrewByPart before.written after.written (s.line.items ++ codes "\n") → Rose before.faults after.faults → before.faults ≤ after.faults → Comes ts new w before after (Err (Stopped SinkFault)) (asks w.talk w)
   ask_cut new grew rose counted =
-      subst (λ t. Comes ts new w before after (Err SinkFault) (asks t w)) (sym asked.is) (by w.answers)
+      subst (λ t. Comes ts new w before after (Err (Stopped SinkFault)) (asks t w)) (sym asked.is) (by w.answers)
     where
       cut : (v : model.World) → v.events ≡ w.events ++ called asked.name asked.args ∷ [] → GrewByPart before.written after.written (event_text (called asked.name asked.args ∷ []))
       cut v e = subst (GrewByPart before.written after.written) (sym text_is) grew
@@ -257,7 +251,7 @@ module _ (ts : Things) (s : World) (w : model.World) (before after : Outside) (h
       at : model.World
       at = with_event (called asked.name asked.args) w
 
-      by : (l : List (List ℤ)) → Comes ts new w before after (Err SinkFault) (takes_answer l at)
+      by : (l : List (List ℤ)) → Comes ts new w before after (Err (Stopped SinkFault)) (takes_answer l at)
       by [] = inr (record { fault = refl; events = called asked.name asked.args ∷ []; added = refl; grew = cut at refl; rose = rose; counted = counted })
       by (a ∷ rest) = record { fault = refl; events = called asked.name asked.args ∷ []; added = refl; grew = cut at refl; rose = rose; counted = counted }
 

@@ -1,13 +1,13 @@
 -- What a change of the blocks gives.
-use Rattle.std.specs.Prelude.{◌≡◌, ℕ, ℤ, pos, if◌then◌else◌, List, [], ◌∷◌, Bool, true, false, Option, Some, None, Result, Ok, Err}
-use Rattle.std.specs.Borrow.{Bor}
+use Rattle.std.specs.Prelude.{ℕ, ℤ, pos, if◌then◌else◌, [], Bool, true, false, Option, Some, None, Result, Ok, Err}
 use Rattle.vlt_ops.specs.declared.TrapKind.TheVariants.{Overflow, ZeroDivisor}
 use Rattle.vlt_ops.specs.Operator.{equals}
 use Rattle.c_memory.specs.declared.cells.Ref.{Ref}
 use Rattle.c_values.specs.declared.value.Value.{Value}
 use Rattle.c_values.specs.declared.value.Value.TheVariants.{Number, Reference}
 use Rattle.c_primitives.specs.declared.halt.Halt.{Halt}
-use Rattle.c_primitives.specs.declared.halt.Halt.TheVariants.{Broken, Trapped, BadAnswer}
+use Rattle.c_primitives.specs.declared.halt.Halt.TheVariants.{Broken, Stopped}
+use Rattle.vlt_steps.specs.declared.stop.Stop.TheVariants.{Trap, BadAnswer}
 use Rattle.c_primitives.specs.declared.world.Talk.{Talk}
 use Rattle.c_primitives.specs.declared.world.Talk.TheVariants.{Calling, Reading}
 
@@ -21,7 +21,7 @@ parent_as (Err r) = Err (Broken r)
 
 abbrev pub back_as : (taken : ℕ) → Result Bool ℕ → Result (Option Value) Halt
 back_as taken (Ok true) = Ok None
-back_as taken (Ok false) = Err (BadAnswer taken)
+back_as taken (Ok false) = Err (Stopped (BadAnswer taken))
 back_as taken (Err r) = Err (Broken r)
 
 abbrev pub is_reading : Talk → Bool
@@ -38,14 +38,9 @@ reference_as None = Err (Broken 7)
 
 abbrev pub trapped : ℤ → Halt
 trapped z =
-    if equals z (pos 1) then Trapped Overflow
-    else if equals z (pos 2) then Trapped ZeroDivisor
+    if equals z (pos 1) then Stopped (Trap Overflow)
+    else if equals z (pos 2) then Stopped (Trap ZeroDivisor)
     else Broken 8
-
--- the first of the numbers, and the others
-abbrev pub IsNext : List ℤ → Option (ℤ × Bor (List ℤ)) → Type 0
-IsNext left None = left ≡ []
-IsNext left (Some q) = left ≡ q.0 ∷ q.1.now
 
 abbrev pub told_of : Talk → Option ℕ
 told_of (Calling told) = Some told

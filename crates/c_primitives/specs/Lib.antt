@@ -1,3 +1,4 @@
+pub mod Stops
 pub mod Args
 pub mod Done
 pub mod Shown

@@ -1,7 +1,6 @@
 -- The world that the code's world shows, and what a statement comes to.
-use Rattle.std.specs.Prelude.{◌≡◌, ◌⊎◌, ◌<◌, ◌≤◌, ℕ, ◌+◌, ◌*◌, ◌-◌, ◌^◌, List, ◌++◌, map, length, drop, Option, Some, None, Result, Ok, Err, option_map, slice_get, vec_capacity, codes}
+use Rattle.std.specs.Prelude.{◌≡◌, ◌⊎◌, ◌<◌, ◌≤◌, ℕ, ◌+◌, ◌*◌, ◌-◌, ◌^◌, List, ◌++◌, map, length, drop, Option, Some, Result, Ok, Err, option_map, slice_get, vec_capacity, codes}
 use Rattle.std.specs.List.{flat_map}
-use Rattle.vlt_io.specs.Outside.{Rose, Grew, GrewByPart}
 use Rattle.vlt_rings.specs.Things.{Things, KeepMade}
 use Rattle.vlt_numbers.specs.Answers.{lists_of}
 use Rattle.c_syntax.specs.declared.program.CPrim.{CPrim}
@@ -9,7 +8,7 @@ use Rattle.c_syntax.specs.declared.program.CCell.{CCell}
 use Rattle.c_syntax.specs.C as c
 use Rattle.c_syntax.specs.C.{Arg}
 use Rattle.c_meaning.specs.World as model
-use Rattle.c_meaning.specs.World.{Vars, Event, Told, told_text, event_text, Outcome}
+use Rattle.c_meaning.specs.World.{Vars, Told, told_text}
 use Rattle.c_meaning.specs.Primitives.{Effect, gives, breaks_rule, ends, written}
 use Rattle.c_machine.specs.Bounds.{cells_in_call}
 use Rattle.c_machine.specs.Within.{name_in_call}
@@ -19,7 +18,9 @@ use Rattle.c_values.specs.declared.value.Value.{Value}
 use Rattle.c_values.specs.declared.vars.Vars.{Vars as Frame}
 use Rattle.c_values.specs.Shown.{value_view, shown_vars, AreMadeSlots, IsMadeValue, IsMadeSlot}
 use Rattle.c_primitives.specs.declared.halt.Halt.{Halt}
-use Rattle.c_primitives.specs.declared.halt.Halt.TheVariants.{Broken, Trapped, HeapEnd, InputEnd, AnswersEnd, BadAnswer, SinkFault}
+use Rattle.c_primitives.specs.declared.halt.Halt.TheVariants.{Broken}
+use Rattle.vlt_steps.specs.Writing.{Outside}
+use Rattle.c_primitives.specs.Stops.{Wrote, IsCut, HasStopped}
 use Rattle.c_primitives.specs.declared.world.Talk.{Talk}
 use Rattle.c_primitives.specs.declared.world.Talk.TheVariants.{Idle, Calling, Reading}
 use Rattle.c_primitives.specs.declared.world.World.{World}
@@ -92,26 +93,6 @@ pub record HasRoomFor (s : World) (p : CPrim) (xs : List Arg) : Type 0 where
 
 -- ---- what a statement comes to
 
--- what is told of the sink: what was written, and how often writing failed
-pub record Outside : Type 0 where
-  pub written : Option (List ℕ)
-  pub faults : ℕ
-
-pub record Wrote (w v : model.World) (before after : Outside) : Type 0 where
-  pub events : List Event
-  pub added : v.events ≡ w.events ++ events
-  pub grew : Grew before.written after.written (event_text events)
-  pub counted : before.faults ≤ after.faults
-
-abbrev pub outcome_of : Halt → Option Outcome
-outcome_of (Broken r) = None
-outcome_of (Trapped t) = Some (model.trap t)
-outcome_of HeapEnd = Some model.heap_end
-outcome_of InputEnd = Some model.input_end
-outcome_of AnswersEnd = Some model.answers_end
-outcome_of (BadAnswer n) = Some (model.bad_answer n)
-outcome_of SinkFault = None
-
 -- the run goes on, with a value or without one
 pub record Gave (ts : Things) (s : World) (w : model.World) (before after : Outside) (a : Option Value) (b : Option model.Value) (v : model.World) : Type 0 where
   pub things : Things
@@ -121,33 +102,19 @@ pub record Gave (ts : Things) (s : World) (w : model.World) (before after : Outs
   pub made : IsMadeSlot things a
   pub wrote : Wrote w v before after
 
--- the sink took a part of what is written here
-pub record Cut (w : model.World) (before after : Outside) (h : Halt) (v : model.World) : Type 0 where
-  pub fault : h ≡ SinkFault
-  pub events : List Event
-  pub added : v.events ≡ w.events ++ events
-  pub grew : GrewByPart before.written after.written (event_text events)
-  pub rose : Rose before.faults after.faults
-  pub counted : before.faults ≤ after.faults
-
 pub record Broke (s : World) (w : model.World) (before after : Outside) (h : Halt) (rule : ℕ) : Type 0 where
   pub is : h ≡ Broken rule
   pub fuel : w.fuel ≡ s.fuel
   pub silent : after ≡ before
 
-pub record Ended (s : World) (w : model.World) (before after : Outside) (h : Halt) (o : Outcome) (v : model.World) : Type 0 where
-  pub outcome : outcome_of h ≡ Some o
-  pub fuel : v.fuel ≡ s.fuel
-  pub wrote : Wrote w v before after
-
 abbrev pub Comes : Things → (new : World) → model.World → (before after : Outside) → Result (Option Value) Halt → Effect → Type 0
 Comes ts s w before after (Ok a) (gives b v) = Gave ts s w before after a b v
-Comes ts s w before after (Err h) (gives b v) = Cut w before after h v
+Comes ts s w before after (Err h) (gives b v) = IsCut w before after h v
 Comes ts s w before after (Ok a) (breaks_rule r) = ⊥
 Comes ts s w before after (Err h) (breaks_rule r) = Broke s w before after h r
 Comes ts s w before after (Ok a) (ends o v) = ⊥
 -- the run may end behind what the sink took a part of
-Comes ts s w before after (Err h) (ends o v) = Ended s w before after h o v ⊎ Cut w before after h v
+Comes ts s w before after (Err h) (ends o v) = HasStopped w before after s.fuel h o v ⊎ IsCut w before after h v
 
 pub record Does (old new : World) (frame : Frame) (before after : Outside) (result : Result (Option Value) Halt) (effect : Vars → model.World → Effect) : Type 0 where
   pub ready : IsReady new

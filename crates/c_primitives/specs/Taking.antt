@@ -3,7 +3,8 @@ use Rattle.std.specs.Prelude.{◌≡◌, ℤ, ◌+◌, List, Option, Some, None,
 use Rattle.vlt_numbers.specs.Answers.{lists_of}
 use Rattle.c_values.specs.declared.value.Value.{Value}
 use Rattle.c_primitives.specs.declared.halt.Halt.{Halt}
-use Rattle.c_primitives.specs.declared.halt.Halt.TheVariants.{AnswersEnd}
+use Rattle.c_primitives.specs.declared.halt.Halt.TheVariants.{Stopped}
+use Rattle.vlt_steps.specs.declared.stop.Stop.TheVariants.{AnswersEnd}
 use Rattle.c_primitives.specs.declared.world.Talk.{Talk}
 use Rattle.c_primitives.specs.declared.world.Talk.TheVariants.{Reading}
 use Rattle.c_primitives.specs.declared.world.World.{World}
@@ -21,4 +22,4 @@ pub record IsRead (old : World) (new : World) : Type 0 where
 
 abbrev pub IsTaken : Result (Option Value) Halt → (old new : World) → Type 0
 IsTaken (Ok a) old new = (a ≡ None) × IsRead old new
-IsTaken (Err h) old new = (h ≡ AnswersEnd) × (slice_get (lists_of old.answers.now) old.taken ≡ None) × (new ≡ old)
+IsTaken (Err h) old new = (h ≡ Stopped AnswersEnd) × (slice_get (lists_of old.answers.now) old.taken ≡ None) × (new ≡ old)

@@ -12,6 +12,7 @@ use crate::world::{Talk, World};
 use c_memory::Ref;
 use c_syntax::{CArg, CPrim};
 use c_values::{Value, Vars};
+use vlt_steps::Stop;
 
 /// Whether an answer is read.
 fn is_reading(talk: Talk) -> bool
@@ -40,7 +41,7 @@ fn returned(r: Result<bool, u8>, taken: u32) -> Result<Option<Value>, Halt>
 {
     match r {
         Ok(true) => Ok(None),
-        Ok(false) => Err(Halt::BadAnswer(taken)),
+        Ok(false) => Err(Halt::Stopped(Stop::BadAnswer(taken))),
         Err(rule) => Err(Halt::Broken(rule)),
     }
 }
@@ -59,11 +60,11 @@ impl World<'_> {
             return Err(Halt::Broken(MISUSED));
         };
         if self.heap == 0 {
-            return Err(Halt::HeapEnd);
+            return Err(Halt::Stopped(Stop::HeapEnd));
         }
         match self.blocks.make(numbers as u32, references as u32) {
             Ok(made) => Ok(Some(Value::Reference(Some(made)))),
-            Err(_) => Err(Halt::HeapEnd),
+            Err(_) => Err(Halt::Stopped(Stop::HeapEnd)),
         }
     }
 

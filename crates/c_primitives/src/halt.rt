@@ -4,7 +4,7 @@ ghost use Rattle.std.specs.Prelude.{◌≡◌};
 ghost use Rattle.c_primitives.specs.Done.{done_as};
 
 use c_values::Value;
-use vlt_ops::TrapKind;
+use vlt_steps::Stop;
 
 /// The rule for a value of the other type.
 pub const OTHER_TYPE: u8 = 5;
@@ -20,14 +20,8 @@ pub const MISUSED: u8 = 8;
 pub enum Halt {
     /// The text has no meaning: a rule is broken.
     Broken(u8),
-    Trapped(TrapKind),
-    HeapEnd,
-    InputEnd,
-    AnswersEnd,
-    /// The answer at this position, from 1, isn't what was to be read.
-    BadAnswer(u32),
-    /// The sink did not take what was written.
-    SinkFault,
+    /// The machine stops so.
+    Stopped(Stop),
 }
 
 /// Nothing is given, or a rule is broken.

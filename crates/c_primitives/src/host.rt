@@ -6,7 +6,6 @@ ghost use Rattle.c_syntax.specs.View.{arg_of};
 ghost use Rattle.c_meaning.specs.Primitives.{primitive_does, reads_answer, is_bit_of};
 ghost use Rattle.c_meaning.specs.Primitives as more;
 ghost use Rattle.c_primitives.specs.Done as done;
-ghost use Rattle.c_primitives.specs.Done.{IsNext};
 ghost use Rattle.c_primitives.specs.Taking.{IsReading};
 
 use crate::args::{is_none, one_number};
@@ -15,6 +14,7 @@ use crate::world::{Talk, World};
 use c_syntax::{CArg, CPrim};
 use c_values::{Value, Vars};
 use vlt_ops::TrapKind;
+use vlt_steps::{Stop, next};
 
 /// The code of a trap by overflow.
 const OVERFLOW: i64 = 1;
@@ -38,21 +38,11 @@ fn trapped(z: i64) -> Halt
     ensures { result ≡ done.trapped z }
 {
     if z == OVERFLOW {
-        Halt::Trapped(TrapKind::Overflow)
+        Halt::Stopped(Stop::Trap(TrapKind::Overflow))
     } else if z == ZERO_DIVISOR {
-        Halt::Trapped(TrapKind::ZeroDivisor)
+        Halt::Stopped(Stop::Trap(TrapKind::ZeroDivisor))
     } else {
         Halt::Broken(MISUSED)
-    }
-}
-
-/// The first of the numbers, and the others.
-fn next(left: &[i64]) -> Option<(i64, &[i64])>
-    ensures { IsNext left.now result }
-{
-    match left.split_first() {
-        Some((first, rest)) => Some((*first, rest)),
-        None => None,
     }
 }
 
@@ -114,7 +104,7 @@ impl World<'_> {
                 self.input = rest;
                 Ok(number_given(first))
             }
-            None => Err(Halt::InputEnd),
+            None => Err(Halt::Stopped(Stop::InputEnd)),
         }
     }
 
@@ -147,7 +137,7 @@ impl World<'_> {
                 self.talk = Talk::Reading(rest);
                 Ok(number_given(first))
             }
-            None => Err(Halt::BadAnswer(self.taken)),
+            None => Err(Halt::Stopped(Stop::BadAnswer(self.taken))),
         }
     }
 
@@ -175,12 +165,12 @@ impl World<'_> {
         match next(left) {
             Some((first, rest)) => {
                 if !is_bit(mask, first) {
-                    return Err(Halt::BadAnswer(self.taken));
+                    return Err(Halt::Stopped(Stop::BadAnswer(self.taken)));
                 }
                 self.talk = Talk::Reading(rest);
                 Ok(number_given(first))
             }
-            None => Err(Halt::BadAnswer(self.taken)),
+            None => Err(Halt::Stopped(Stop::BadAnswer(self.taken))),
         }
     }
 
@@ -197,7 +187,7 @@ impl World<'_> {
             return Err(Halt::Broken(MISUSED));
         };
         match next(left) {
-            Some(_) => Err(Halt::BadAnswer(self.taken)),
+            Some(_) => Err(Halt::Stopped(Stop::BadAnswer(self.taken))),
             None => {
                 self.talk = Talk::Idle;
                 Ok(None)

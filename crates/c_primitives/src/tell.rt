@@ -12,6 +12,7 @@ use c_syntax::{CArg, CPrim};
 use c_values::{Value, Vars};
 use vlt_io::Sink;
 use vlt_lines::{begin, end, tell_number, tell_object, write_number};
+use vlt_steps::Stop;
 
 /// How many arguments a call has at most.
 const MAX_TOLD: u32 = 16;
@@ -47,7 +48,7 @@ impl World<'_> {
         match one_number(args, vars) {
             Ok(z) => match write_number(sink, z) {
                 Ok(()) => Ok(None),
-                Err(_) => Err(Halt::SinkFault),
+                Err(_) => Err(Halt::Stopped(Stop::SinkFault)),
             },
             Err(rule) => Err(Halt::Broken(rule)),
         }
@@ -139,7 +140,7 @@ impl World<'_> {
         self.talk = Talk::Idle;
         match sink.write(self.line.as_slice()) {
             Ok(()) => self.take_answer(),
-            Err(_) => Err(Halt::SinkFault),
+            Err(_) => Err(Halt::Stopped(Stop::SinkFault)),
         }
     }
 
@@ -153,7 +154,7 @@ impl World<'_> {
                 self.talk = Talk::Reading(answer);
                 Ok(None)
             }
-            None => Err(Halt::AnswersEnd),
+            None => Err(Halt::Stopped(Stop::AnswersEnd)),
         }
     }
 }

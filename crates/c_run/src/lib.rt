@@ -7,7 +7,6 @@ ghost use Rattle.std.specs.Prelude.{◌<◌, ◌-◌, ◌^◌, length};
 ghost use Rattle.c_run.specs.Ends.{EndsAs};
 
 mod end;
-mod numbers;
 mod run;
 
 use c_kinds_laws::unrefused_programs_can_run;
@@ -17,6 +16,7 @@ use run::run_file;
 use std::alloc::Global;
 use vlt_base::Budgets;
 use vlt_io::Sink;
+use vlt_steps::RunEnd;
 
 /// Runs the C program of a text within budgets, over the numbers of an input file and the answers of an answers file; a file
 /// without bytes has none. The events are written to the sink, and nothing else is.
@@ -37,8 +37,8 @@ pub fn crun<K: Sink>(
 {
     unrefused_programs_can_run();
     match read_c(alloc, text) {
-        Ok(file) => run_file(alloc, &file.program, input, answers, budgets, out),
-        Err(CError::Memory) => CEnd::Memory,
+        Ok(file) => CEnd::Ended(run_file(alloc, &file.program, input, answers, budgets, out)),
+        Err(CError::Memory) => CEnd::Ended(RunEnd::Memory),
         Err(error) => CEnd::Unread(error),
     }
 }

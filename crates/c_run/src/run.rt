@@ -2,37 +2,37 @@
 
 ghost use Rattle.std.specs.Prelude.{◌<◌, ◌-◌, ◌^◌, length};
 ghost use Rattle.vlt_numbers.specs.Answers.{lists_of};
+ghost use Rattle.vlt_given.specs.Given.{given_by};
 ghost use Rattle.c_syntax.specs.View.{program_of};
 ghost use Rattle.c_machine.specs.Machine.{IsRunnable};
-ghost use Rattle.c_run.specs.Ends.{EndsRun, EndsNumbers};
+ghost use Rattle.c_run.specs.Ends.{EndsRun, EndsGiven};
 
-use crate::end::CEnd;
-use crate::numbers::{read_answers, read_input};
-use c_interp::{CMachine, OpenError};
+use c_interp::{CMachine, CStop};
 use c_syntax::CProgram;
 use std::alloc::Global;
 use vlt_base::Budgets;
+use vlt_given::{Given, read_given};
 use vlt_io::Sink;
-use vlt_numbers::Answers;
+use vlt_steps::{OpenError, RunEnd, end_of};
 
 /// Runs a program over numbers and answers.
 fn run<K: Sink>(
     alloc: Global,
     program: &CProgram,
-    numbers: &[i64],
-    answers: &Answers,
+    given: &Given,
     budgets: Budgets,
     out: &mut K,
-) -> CEnd
+) -> RunEnd<CStop>
     requires runnable { IsRunnable (program_of program.now) }
-    ensures { EndsRun (program_of program.now) numbers.now (lists_of answers.now) budgets
+    ensures { EndsRun (program_of program.now) given.now.input.items
+        (lists_of given.now.answers) budgets
         (record { written = K.written out.old; faults = K.faults out.old })
         (record { written = K.written out.new; faults = K.faults out.new }) result }
 {
     match CMachine::open(alloc, program, budgets) {
-        Ok(mut machine) => CEnd::Stopped(machine.go(numbers, answers, out)),
-        Err(OpenError::TooWide) => CEnd::TooWide,
-        Err(OpenError::Memory) => CEnd::Memory,
+        Ok(mut machine) => RunEnd::Stopped(machine.go(&given.input, &given.answers, out)),
+        Err(OpenError::TooWide) => RunEnd::TooWide,
+        Err(OpenError::Memory) => RunEnd::Memory,
     }
 }
 
@@ -44,20 +44,16 @@ pub fn run_file<K: Sink>(
     answers: &[u8],
     budgets: Budgets,
     out: &mut K,
-) -> CEnd
+) -> RunEnd<CStop>
     requires runnable { IsRunnable (program_of program.now) }
     requires input { length input.now < 2 ^ 32 - 1 }
     requires answers { length answers.now < 2 ^ 32 - 1 }
-    ensures { EndsNumbers (program_of program.now) input.now answers.now budgets
+    ensures { EndsGiven (program_of program.now) (given_by input.now answers.now) budgets
         (record { written = K.written out.old; faults = K.faults out.old })
         (record { written = K.written out.new; faults = K.faults out.new }) result }
 {
-    let numbers = match read_input(alloc, input) {
-        Ok(numbers) => numbers,
-        Err(end) => return end,
-    };
-    match read_answers(alloc, answers) {
-        Ok(lists) => run(alloc, program, &numbers, &lists, budgets, out),
-        Err(end) => end,
+    match read_given(alloc, input, answers) {
+        Ok(given) => run(alloc, program, &given, budgets, out),
+        Err(error) => end_of(error),
     }
 }

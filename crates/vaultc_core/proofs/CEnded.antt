@@ -1,29 +1,37 @@
 -- What is written of the run of a C text: its events, and the last line of its end.
-use Rattle.std.proofs.Common.{◌≡◌, ◌⊎◌, inl, inr, ℕ, ◌≤◌, List, [], ◌++◌, Option, Some, None, refl, sym, ap, subst, arith}
+use Rattle.std.proofs.Common.{◌≡◌, ◌⊎◌, inl, inr, ℕ, ◌≤◌, List, [], Option, Some, None, refl, sym, ap, subst, arith}
 use Rattle.std.specs.Prelude.{◌≢◌, codes, MatchOption, IfSome, IfOk, Result, Err}
 use Rattle.std.specs.declared.alloc.AllocError.{AllocError}
 use Rattle.vlt_base.specs.declared.Budgets.{Budgets}
 use Rattle.vlt_io.specs.Outside.{Rose, Grew, GrewByPart}
 use Rattle.vlt_io.specs.declared.sink.Sink.{Ghosts}
-use Rattle.c_interp.specs.Halting.{outcome_of, IsTold}
+use Rattle.c_interp.specs.Halting.{outcome_of, StopsAs}
+use Rattle.vlt_steps.specs.Stops.{IsTold}
 use Rattle.c_interp.specs.declared.stop.CStop.{CStop}
 use Rattle.c_interp.specs.declared.stop.CStop.TheVariants as halted
+use Rattle.vlt_given.specs.Given.{Given, numbers, bad_input, bad_answers, given_by}
+use Rattle.vlt_steps.specs.declared.stop.Stop.{Stop}
+use Rattle.vlt_steps.specs.declared.stop.Stop.TheVariants as stop
+use Rattle.vlt_steps.specs.declared.end.RunEnd.{RunEnd}
+use Rattle.vlt_steps.specs.declared.end.RunEnd.TheVariants.{BadInput, BadAnswers, TooWide, Stopped, Memory}
+use Rattle.c_syntax.specs.C.{Program}
 use Rattle.c_meaning.specs.Run.{c_run}
 use Rattle.c_meaning.specs.World as model
 use Rattle.c_meaning.specs.World.{Outcome, Ran, event_text}
-use Rattle.c_primitives.specs.Shown.{Outside}
+use Rattle.vlt_steps.specs.Writing.{Outside, IsUntouched}
 use Rattle.c_reader.specs.Reads.{IsReadAs, RefusalsAreInTheText}
 use Rattle.c_reader.specs.declared.error.CError.{CError}
 use Rattle.c_reader.specs.declared.error.CError.TheVariants as error
-use Rattle.c_run.specs.Ends.{IsUntouched, IsUnread, StopsAs, EndsAs}
+use Rattle.c_run.specs.Ends.{IsUnread, EndsGiven, EndsWith, EndsAs}
 use Rattle.c_run.specs.declared.end.CEnd.{CEnd}
-use Rattle.c_run.specs.declared.end.CEnd.TheVariants.{Unread, BadInput, BadAnswers, TooWide, Stopped, Memory}
+use Rattle.c_run.specs.declared.end.CEnd.TheVariants.{Unread, Ended}
 use Rattle.vaultc_core.specs.declared.status.TheConstants.{DONE, UNREAD, SINK_FAILED, NO_MEMORY, TRAPPED, OUT_OF_BUDGET, OUT_OF_NUMBERS, UNDEFINED}
 use Rattle.vaultc_core.specs.declared.reply.Reply.{Reply as Shown}
 use Rattle.vaultc_core.specs.CRuns.{c_refusal, undefined_line, stop_reply, end_reply, took, IsReplyToC}
 use Rattle.vaultc_core.specs.Finishes.{Finishes}
 use Rattle.vaultc_core.specs.Lines.{Reply, reply, trap_line, bad_answer_line, behind}
-use Rattle.vaultc_core.specs.Shown.{IsReasonOf, IsTellableEnd, EndsC, IsReplyOf, shown_reply}
+use Rattle.vaultc_core.specs.Shown.{IsReasonOf, IsTellableEnd, StopsRun, StopsC, EndsC, IsReplyOf, shown_reply}
+use Rattle.vaultc_core.specs.Runs.{stop_line, end_line}
 use Rattle.vaultc_core.proofs.Ended.{Says, cut_off, came_to_end}
 use Rattle.vaultc_core.proofs.Finished.{grew_none, finishes_as, reply_is}
 use Rattle.vaultc_core.proofs.Own.{own_c_end}
@@ -41,15 +49,15 @@ no_outcome o e = cc
 
 -- a stop with a last line is that of an outcome
 outcome_there : (s : CStop) (last : Reply) → stop_reply s ≡ Some last → (o : Outcome) × (outcome_of s ≡ Some o)
-outcome_there halted.Done last e = (model.done, refl)
-outcome_there (halted.Trap t) last e = (model.trap t, refl)
-outcome_there halted.FuelEnd last e = (model.fuel_end, refl)
-outcome_there halted.HeapEnd last e = (model.heap_end, refl)
-outcome_there halted.DepthEnd last e = (model.depth_end, refl)
-outcome_there halted.InputEnd last e = (model.input_end, refl)
-outcome_there halted.AnswersEnd last e = (model.answers_end, refl)
-outcome_there (halted.BadAnswer n) last e = (model.bad_answer n, refl)
-outcome_there halted.SinkFault last e = absurd (none_some last e)
+outcome_there (halted.Stopped stop.Done) last e = (model.done, refl)
+outcome_there (halted.Stopped (stop.Trap t)) last e = (model.trap t, refl)
+outcome_there (halted.Stopped stop.FuelEnd) last e = (model.fuel_end, refl)
+outcome_there (halted.Stopped stop.HeapEnd) last e = (model.heap_end, refl)
+outcome_there (halted.Stopped stop.DepthEnd) last e = (model.depth_end, refl)
+outcome_there (halted.Stopped stop.InputEnd) last e = (model.input_end, refl)
+outcome_there (halted.Stopped stop.AnswersEnd) last e = (model.answers_end, refl)
+outcome_there (halted.Stopped (stop.BadAnswer n)) last e = (model.bad_answer n, refl)
+outcome_there (halted.Stopped stop.SinkFault) last e = absurd (none_some last e)
 outcome_there (halted.Undefined rule n) last e = (model.undefined rule n, refl)
 
 -- each outcome has a stop with a last line
@@ -60,17 +68,17 @@ record StopFor (o : Outcome) : Type 0 where
   line : stop_reply stop ≡ Some last
 
 stop_for : (o : Outcome) → StopFor o
-stop_for model.done = record { stop = halted.Done; last = reply DONE []; outcome = refl; line = refl }
-stop_for (model.trap t) = record { stop = halted.Trap t; last = reply TRAPPED (trap_line t); outcome = refl; line = refl }
-stop_for model.fuel_end = record { stop = halted.FuelEnd; last = reply OUT_OF_BUDGET (codes "budget fuel\n"); outcome = refl; line = refl }
-stop_for model.heap_end = record { stop = halted.HeapEnd; last = reply OUT_OF_BUDGET (codes "budget heap\n"); outcome = refl; line = refl }
-stop_for model.depth_end = record { stop = halted.DepthEnd; last = reply OUT_OF_BUDGET (codes "budget depth\n"); outcome = refl; line = refl }
-stop_for model.input_end = record { stop = halted.InputEnd; last = reply OUT_OF_NUMBERS (codes "input ended\n"); outcome = refl; line = refl }
-stop_for model.answers_end = record { stop = halted.AnswersEnd; last = reply OUT_OF_NUMBERS (codes "answers ended\n"); outcome = refl; line = refl }
-stop_for (model.bad_answer n) = record { stop = halted.BadAnswer n; last = reply OUT_OF_NUMBERS (bad_answer_line n); outcome = refl; line = refl }
+stop_for model.done = record { stop = (halted.Stopped stop.Done); last = reply DONE []; outcome = refl; line = refl }
+stop_for (model.trap t) = record { stop = halted.Stopped (stop.Trap t); last = reply TRAPPED (trap_line t); outcome = refl; line = refl }
+stop_for model.fuel_end = record { stop = (halted.Stopped stop.FuelEnd); last = reply OUT_OF_BUDGET (codes "budget fuel\n"); outcome = refl; line = refl }
+stop_for model.heap_end = record { stop = (halted.Stopped stop.HeapEnd); last = reply OUT_OF_BUDGET (codes "budget heap\n"); outcome = refl; line = refl }
+stop_for model.depth_end = record { stop = (halted.Stopped stop.DepthEnd); last = reply OUT_OF_BUDGET (codes "budget depth\n"); outcome = refl; line = refl }
+stop_for model.input_end = record { stop = (halted.Stopped stop.InputEnd); last = reply OUT_OF_NUMBERS (codes "input ended\n"); outcome = refl; line = refl }
+stop_for model.answers_end = record { stop = (halted.Stopped stop.AnswersEnd); last = reply OUT_OF_NUMBERS (codes "answers ended\n"); outcome = refl; line = refl }
+stop_for (model.bad_answer n) = record { stop = halted.Stopped (stop.BadAnswer n); last = reply OUT_OF_NUMBERS (bad_answer_line n); outcome = refl; line = refl }
 stop_for (model.undefined rule n) = record { stop = halted.Undefined rule n; last = reply UNDEFINED (undefined_line rule n); outcome = refl; line = refl }
 
-is_cut : (s : CStop) (o : Outcome) → outcome_of s ≡ Some o → s ≡ halted.SinkFault → ⊥
+is_cut : (s : CStop) (o : Outcome) → outcome_of s ≡ Some o → s ≡ (halted.Stopped stop.SinkFault) → ⊥
 is_cut s o e same = no_outcome o (subst (λ x. outcome_of x ≡ Some o) same e)
 
 -- the run's outcome, over a sink that takes all
@@ -108,38 +116,62 @@ of_outcome ran before after s o e stops =
     let same : o ≡ ran.outcome = subst (λ x. IfSome x (λ p. p ≡ ran.outcome)) e stops.outcome in
     (subst (λ p. outcome_of s ≡ Some p) same e, subst (λ x. IsTold x (event_text ran.world.events) before.written after.written) e stops.told)
 
-wrote : (text input answers : List ℕ) (b : Budgets) (before after : Outside) (end : CEnd) (last : Reply) → end_reply text end ≡ Some last
-    → EndsAs text input answers b before after end → Wrote text input answers b before after end
-wrote text input answers b before after (Unread e) last line (is, same) = untouched text input answers b before after (Unread e) same (is, refl)
-wrote text input answers b before after (BadInput n) last line x =
-    untouched text input answers b before after (BadInput n) x.ends.1 (record { program = x.program; cert = x.cert; reads = x.reads; ends = (x.ends.0, refl) })
-wrote text input answers b before after (BadAnswers n) last line x =
-    untouched text input answers b before after (BadAnswers n) x.ends.1 (record { program = x.program; cert = x.cert; reads = x.reads; ends = (x.ends.0, refl) })
-wrote text input answers b before after TooWide last line x =
-    let y = x.ends in
-    untouched text input answers b before after TooWide y.ends.1 (record {
-      program = x.program;
-      cert = x.cert;
-      reads = x.reads;
-      ends = record { numbers = y.numbers; input_is = y.input_is; lists = y.lists; answers_are = y.answers_are; ends = (y.ends.0, refl) };
-    })
-wrote text input answers b before after (Stopped s) last line x =
-    let y = x.ends in
-    let ran = c_run x.program b.fuel b.heap b.depth y.numbers y.lists in
-    let o = outcome_there s last line in
-    let is = of_outcome ran before after s o.0 o.1 y.ends.1 in
-    record {
-      events = event_text ran.world.events;
-      ends = record {
-        program = x.program;
-        cert = x.cert;
-        reads = x.reads;
-        ends = record { numbers = y.numbers; input_is = y.input_is; lists = y.lists; answers_are = y.answers_are; ends = (y.ends.0, stops_whole ran s is.0) };
-      };
-      grew = is.1;
-      counted = y.ends.1.counted;
-    }
-wrote text input answers b before after Memory last line x = absurd (none_some last line)
+-- over what the files of numbers give, too
+record Gone (p : Program) (given : Given) (b : Budgets) (before after : Outside) (end : RunEnd CStop) : Type 0 where
+  events : List ℕ
+  ends : EndsGiven p given b (took []) (took events) end
+  grew : Grew before.written after.written events
+  counted : before.faults ≤ after.faults
+
+gone_none : (p : Program) (given : Given) (b : Budgets) (before after : Outside) (end : RunEnd CStop) → IsUntouched before after → EndsGiven p given b (took []) (took []) end → Gone p given b before after end
+gone_none p given b before after end same ends = record { events = []; ends = ends; grew = untouched_grew before after same; counted = untouched_counted before after same }
+
+no_bad_line : {S : Type 0} (s : S) (refusal : RunEnd S) → ((x : S) → refusal ≡ Stopped x → ⊥) → (Stopped s ≡ refusal) ⊎ (Stopped s ≡ Memory) → ⊥
+no_bad_line s refusal other (inl e) = other s (sym e)
+no_bad_line s refusal other (inr e) = cc
+
+gone_stopped : (p : Program) (given : Given) (b : Budgets) (before after : Outside) (s : CStop) (o : Outcome) → outcome_of s ≡ Some o → EndsGiven p given b before after (Stopped s) → Gone p given b before after (Stopped s)
+gone_stopped p (numbers input answers) b before after s o is x =
+    let ran = c_run p b.fuel b.heap b.depth input answers in
+    let out = of_outcome ran before after s o is x.1 in
+    record { events = event_text ran.world.events; ends = (x.0, stops_whole ran s out.0); grew = out.1; counted = x.1.counted }
+gone_stopped p (bad_input line) b before after s o is x = absurd (no_bad_line s (BadInput line) (λ y e. cc) x.0)
+gone_stopped p (bad_answers line) b before after s o is x = absurd (no_bad_line s (BadAnswers line) (λ y e. cc) x.0)
+
+gone : (p : Program) (given : Given) (b : Budgets) (before after : Outside) (end : RunEnd CStop) (last : Reply) → end_line stop_reply end ≡ Some last → EndsGiven p given b before after end → Gone p given b before after end
+gone p given b before after (Stopped s) last line x = let o = outcome_there s last line in gone_stopped p given b before after s o.0 o.1 x
+gone p given b before after Memory last line x = absurd (none_some last line)
+gone p (numbers input answers) b before after TooWide last line x = gone_none p (numbers input answers) b before after TooWide x.1 (x.0, refl)
+gone p (numbers input answers) b before after (BadInput n) last line x = absurd x
+gone p (numbers input answers) b before after (BadAnswers n) last line x = absurd x
+gone p (bad_input l) b before after TooWide last line x = gone_none p (bad_input l) b before after TooWide x.1 (x.0, refl)
+gone p (bad_input l) b before after (BadInput n) last line x = gone_none p (bad_input l) b before after (BadInput n) x.1 (x.0, refl)
+gone p (bad_input l) b before after (BadAnswers n) last line x = gone_none p (bad_input l) b before after (BadAnswers n) x.1 (x.0, refl)
+gone p (bad_answers l) b before after TooWide last line x = gone_none p (bad_answers l) b before after TooWide x.1 (x.0, refl)
+gone p (bad_answers l) b before after (BadInput n) last line x = gone_none p (bad_answers l) b before after (BadInput n) x.1 (x.0, refl)
+gone p (bad_answers l) b before after (BadAnswers n) last line x = gone_none p (bad_answers l) b before after (BadAnswers n) x.1 (x.0, refl)
+
+module _ (text input answers : List ℕ) (b : Budgets) where
+  -- an end with a program is one of the text
+  with_program : (before after : Outside) (end : RunEnd CStop) → (end ≡ Memory → ⊥) → EndsWith text input answers b before after end → EndsAs text input answers b before after (Ended end)
+  with_program before after (BadInput n) none x = x
+  with_program before after (BadAnswers n) none x = x
+  with_program before after TooWide none x = x
+  with_program before after (Stopped s) none x = x
+  with_program before after Memory none x = absurd (none refl)
+
+  wrote_with : (before after : Outside) (end : RunEnd CStop) (last : Reply) → (end ≡ Memory → ⊥) → end_line stop_reply end ≡ Some last → EndsWith text input answers b before after end → Wrote text input answers b before after (Ended end)
+  wrote_with before after end last none line x =
+      let y = gone x.program (given_by input answers) b before after end last line x.ends in
+      record { events = y.events; ends = with_program (took []) (took y.events) end none (record { program = x.program; cert = x.cert; reads = x.reads; ends = y.ends }); grew = y.grew; counted = y.counted }
+
+  wrote : (before after : Outside) (end : CEnd) (last : Reply) → end_reply text end ≡ Some last → EndsAs text input answers b before after end → Wrote text input answers b before after end
+  wrote before after (Unread e) last line (is, same) = untouched text input answers b before after (Unread e) same (is, refl)
+  wrote before after (Ended (BadInput n)) last line x = wrote_with before after (BadInput n) last (λ e. cc) line x
+  wrote before after (Ended (BadAnswers n)) last line x = wrote_with before after (BadAnswers n) last (λ e. cc) line x
+  wrote before after (Ended TooWide) last line x = wrote_with before after TooWide last (λ e. cc) line x
+  wrote before after (Ended (Stopped s)) last line x = wrote_with before after (Stopped s) last (λ e. cc) line x
+  wrote before after (Ended Memory) last line x = absurd (none_some last line)
 
 -- the events and this last line are one reply
 one_says : (text input answers : List ℕ) (b : Budgets) (end : CEnd) (events : List ℕ) (last : Reply) → end_reply text end ≡ Some last
@@ -160,30 +192,37 @@ last_written g text input answers b old mid new end result last line ends f =
 -- ---- an end without one
 
 -- the sink cut the run off
+record Cut (p : Program) (given : Given) (b : Budgets) (before after : Outside) : Type 0 where
+  ran : Ran
+  ends : (s : CStop) → outcome_of s ≡ Some ran.outcome → EndsGiven p given b (took []) (took (event_text ran.world.events)) (Stopped s)
+  part : GrewByPart before.written after.written (event_text ran.world.events)
+  rose : Rose before.faults after.faults
+
+cut_in : (p : Program) (given : Given) (b : Budgets) (before after : Outside) → EndsGiven p given b before after (Stopped (halted.Stopped stop.SinkFault)) → Cut p given b before after
+cut_in p (numbers input answers) b before after x =
+    let ran = c_run p b.fuel b.heap b.depth input answers in
+    record { ran = ran; ends = λ s o. (x.0, stops_whole ran s o); part = x.1.told; rose = x.1.cause refl }
+cut_in p (bad_input line) b before after x = absurd (no_bad_line (halted.Stopped stop.SinkFault) (BadInput line) (λ y e. cc) x.0)
+cut_in p (bad_answers line) b before after x = absurd (no_bad_line (halted.Stopped stop.SinkFault) (BadAnswers line) (λ y e. cc) x.0)
+
 run_cut : {K : Type 0} (g : Ghosts K) (text input answers : List ℕ) (b : Budgets) (old mid : K) (result : ℕ)
-    → EndsAs text input answers b (record { written = g.written old; faults = g.faults old }) (record { written = g.written mid; faults = g.faults mid }) (Stopped halted.SinkFault)
+    → EndsAs text input answers b (record { written = g.written old; faults = g.faults old }) (record { written = g.written mid; faults = g.faults mid }) (Ended (Stopped (halted.Stopped stop.SinkFault)))
     → (result ≡ SINK_FAILED) ⊎ (result ≡ NO_MEMORY) → Finishes g (IsReplyToC text input answers b) old mid result
 run_cut g text input answers b old mid result x which =
-    let y = x.ends in
-    let ran = c_run x.program b.fuel b.heap b.depth y.numbers y.lists in
-    let s = stop_for ran.outcome in
-    let events = event_text ran.world.events in
-    let ends : EndsAs text input answers b (took []) (took events) (Stopped s.stop) = record {
-      program = x.program;
-      cert = x.cert;
-      reads = x.reads;
-      ends = record { numbers = y.numbers; input_is = y.input_is; lists = y.lists; answers_are = y.answers_are; ends = (y.ends.0, stops_whole ran s.stop s.outcome) };
-    } in
-    cut_off g (IsReplyToC text input answers b) (λ r. r ≡ s.last) events old mid result (one_says text input answers b (Stopped s.stop) events s.last s.line ends)
-    y.ends.1.told (λ _. y.ends.1.cause refl) which
+    let y = cut_in x.program (given_by input answers) b (record { written = g.written old; faults = g.faults old }) (record { written = g.written mid; faults = g.faults mid }) x.ends in
+    let s = stop_for y.ran.outcome in
+    let events = event_text y.ran.world.events in
+    let ends : EndsAs text input answers b (took []) (took events) (Ended (Stopped s.stop)) = record { program = x.program; cert = x.cert; reads = x.reads; ends = y.ends s.stop s.outcome } in
+    cut_off g (IsReplyToC text input answers b) (λ r. r ≡ s.last) events old mid result (one_says text input answers b (Ended (Stopped s.stop)) events s.last s.line ends)
+    y.part (λ _. y.rose) which
 
 sink_or_memory : (result : ℕ) (F : Type 0) → ((result ≡ SINK_FAILED) × F) ⊎ (result ≡ NO_MEMORY) → (result ≡ SINK_FAILED) ⊎ (result ≡ NO_MEMORY)
 sink_or_memory result F (inl (three, f)) = inl three
 sink_or_memory result F (inr four) = inr four
 
 -- memory was wanting, and nothing was written
-memory_wanting : {K : Type 0} (g : Ghosts K) (P : Reply → Type 0) (old mid : K) (end : CEnd) (result : ℕ) → Grew (g.written old) (g.written mid) [] → (end ≡ Stopped halted.SinkFault → ⊥)
-    → ((result ≡ SINK_FAILED) × (end ≡ Stopped halted.SinkFault)) ⊎ (result ≡ NO_MEMORY) → Finishes g P old mid result
+memory_wanting : {K : Type 0} (g : Ghosts K) (P : Reply → Type 0) (old mid : K) (end : CEnd) (result : ℕ) → Grew (g.written old) (g.written mid) [] → (end ≡ Ended (Stopped (halted.Stopped stop.SinkFault)) → ⊥)
+    → ((result ≡ SINK_FAILED) × (end ≡ Ended (Stopped (halted.Stopped stop.SinkFault)))) ⊎ (result ≡ NO_MEMORY) → Finishes g P old mid result
 memory_wanting g P old mid end result none other (inl (three, cut)) = absurd (other cut)
 memory_wanting g P old mid end result none other (inr four) = record {
   whole = λ sink memory. absurd (memory four);
@@ -192,34 +231,43 @@ memory_wanting g P old mid end result none other (inr four) = record {
   memory = λ _. inl none;
 }
 
-not_stopped : Memory ≡ Stopped halted.SinkFault → ⊥
+not_stopped : Ended Memory ≡ Ended (Stopped (halted.Stopped stop.SinkFault)) → ⊥
 not_stopped e = cc
 
 none_left : {K : Type 0} (g : Ghosts K) (text input answers : List ℕ) (b : Budgets) (old mid : K) (end : CEnd) (result : ℕ) → end_reply text end ≡ None
     → EndsAs text input answers b (record { written = g.written old; faults = g.faults old }) (record { written = g.written mid; faults = g.faults mid }) end
-    → ((result ≡ SINK_FAILED) × (end ≡ Stopped halted.SinkFault)) ⊎ (result ≡ NO_MEMORY) → Finishes g (IsReplyToC text input answers b) old mid result
+    → ((result ≡ SINK_FAILED) × (end ≡ Ended (Stopped (halted.Stopped stop.SinkFault)))) ⊎ (result ≡ NO_MEMORY) → Finishes g (IsReplyToC text input answers b) old mid result
 none_left g text input answers b old mid (Unread (error.Unexpected at)) result none ends which = absurd (some_none _ none)
 none_left g text input answers b old mid (Unread error.EndOfText) result none ends which = absurd (some_none _ none)
 none_left g text input answers b old mid (Unread (error.Kind rule at)) result none ends which = absurd (some_none _ none)
 none_left g text input answers b old mid (Unread (error.Limit n)) result none ends which = absurd (some_none _ none)
 none_left g text input answers b old mid (Unread error.Memory) result none ends which = absurd ends.0
-none_left g text input answers b old mid (BadInput n) result none ends which = absurd (some_none _ none)
-none_left g text input answers b old mid (BadAnswers n) result none ends which = absurd (some_none _ none)
-none_left g text input answers b old mid TooWide result none ends which = absurd (some_none _ none)
-none_left g text input answers b old mid (Stopped halted.Done) result none ends which = absurd (some_none _ none)
-none_left g text input answers b old mid (Stopped (halted.Trap t)) result none ends which = absurd (some_none _ none)
-none_left g text input answers b old mid (Stopped halted.FuelEnd) result none ends which = absurd (some_none _ none)
-none_left g text input answers b old mid (Stopped halted.HeapEnd) result none ends which = absurd (some_none _ none)
-none_left g text input answers b old mid (Stopped halted.DepthEnd) result none ends which = absurd (some_none _ none)
-none_left g text input answers b old mid (Stopped halted.InputEnd) result none ends which = absurd (some_none _ none)
-none_left g text input answers b old mid (Stopped halted.AnswersEnd) result none ends which = absurd (some_none _ none)
-none_left g text input answers b old mid (Stopped (halted.BadAnswer n)) result none ends which = absurd (some_none _ none)
-none_left g text input answers b old mid (Stopped halted.SinkFault) result none ends which =
+none_left g text input answers b old mid (Ended (BadInput n)) result none ends which = absurd (some_none _ none)
+none_left g text input answers b old mid (Ended (BadAnswers n)) result none ends which = absurd (some_none _ none)
+none_left g text input answers b old mid (Ended TooWide) result none ends which = absurd (some_none _ none)
+none_left g text input answers b old mid (Ended (Stopped (halted.Stopped stop.Done))) result none ends which = absurd (some_none _ none)
+none_left g text input answers b old mid (Ended (Stopped (halted.Stopped (stop.Trap t)))) result none ends which = absurd (some_none _ none)
+none_left g text input answers b old mid (Ended (Stopped (halted.Stopped stop.FuelEnd))) result none ends which = absurd (some_none _ none)
+none_left g text input answers b old mid (Ended (Stopped (halted.Stopped stop.HeapEnd))) result none ends which = absurd (some_none _ none)
+none_left g text input answers b old mid (Ended (Stopped (halted.Stopped stop.DepthEnd))) result none ends which = absurd (some_none _ none)
+none_left g text input answers b old mid (Ended (Stopped (halted.Stopped stop.InputEnd))) result none ends which = absurd (some_none _ none)
+none_left g text input answers b old mid (Ended (Stopped (halted.Stopped stop.AnswersEnd))) result none ends which = absurd (some_none _ none)
+none_left g text input answers b old mid (Ended (Stopped (halted.Stopped (stop.BadAnswer n)))) result none ends which = absurd (some_none _ none)
+none_left g text input answers b old mid (Ended (Stopped (halted.Stopped stop.SinkFault))) result none ends which =
     run_cut g text input answers b old mid result ends (sink_or_memory result _ which)
-none_left g text input answers b old mid (Stopped (halted.Undefined rule n)) result none ends which = absurd (some_none _ none)
-none_left g text input answers b old mid Memory result none ends which =
-    memory_wanting g (IsReplyToC text input answers b) old mid Memory result
+none_left g text input answers b old mid (Ended (Stopped (halted.Undefined rule n))) result none ends which = absurd (some_none _ none)
+none_left g text input answers b old mid (Ended Memory) result none ends which =
+    memory_wanting g (IsReplyToC text input answers b) old mid (Ended Memory) result
     (untouched_grew (record { written = g.written old; faults = g.faults old }) (record { written = g.written mid; faults = g.faults mid }) ends) not_stopped which
+
+-- a stop that runs of the source have too is told as theirs
+pub stops_c : {K : Type 0} (g : Ghosts K) (s : Stop) (old new : K) (status : ℕ) → StopsRun g s old new status → StopsC g (halted.Stopped s) old new status
+stops_c g s old new status h = by (stop_line s) h
+  where
+    by : (o : Option Reply) → MatchOption o ((new ≡ old) × ((status ≡ SINK_FAILED) × (s ≡ stop.SinkFault))) (λ last. Finishes g (λ r. r ≡ last) old new status)
+        → MatchOption o ((new ≡ old) × ((status ≡ SINK_FAILED) × (halted.Stopped s ≡ halted.Stopped stop.SinkFault))) (λ last. Finishes g (λ r. r ≡ last) old new status)
+    by None (same, (failed, is)) = (same, (failed, ap (λ x. halted.Stopped x) is))
+    by (Some last) f = f
 
 -- ---- any end
 
@@ -230,7 +278,7 @@ pub c_ended : {K : Type 0} (g : Ghosts K) (text input answers : List ℕ) (b : B
 c_ended g text input answers b old mid new end result ends last = by_last (end_reply text end) refl last
   where
     by_last : (o : Option Reply) → end_reply text end ≡ o
-        → MatchOption o ((new ≡ mid) × (((result ≡ SINK_FAILED) × (end ≡ Stopped halted.SinkFault)) ⊎ (result ≡ NO_MEMORY))) (λ l. Finishes g (λ r. r ≡ l) mid new result)
+        → MatchOption o ((new ≡ mid) × (((result ≡ SINK_FAILED) × (end ≡ Ended (Stopped (halted.Stopped stop.SinkFault)))) ⊎ (result ≡ NO_MEMORY))) (λ l. Finishes g (λ r. r ≡ l) mid new result)
         → Finishes g (IsReplyToC text input answers b) old new result
     by_last (Some l) line f = last_written g text input answers b old mid new end result l line ends f
     by_last None none (same, which) = subst (λ k. Finishes g (IsReplyToC text input answers b) old k result) (sym same) (none_left g text input answers b old mid end result none ends which)
@@ -242,11 +290,11 @@ tellable law text input answers b before after (Unread error.EndOfText) ends = r
 tellable law text input answers b before after (Unread (error.Kind rule at)) ends = record { reads = ends.0; within = law text (error.Kind rule at) ends.0 }
 tellable law text input answers b before after (Unread (error.Limit n)) ends = record { reads = ends.0; within = tt }
 tellable law text input answers b before after (Unread error.Memory) ends = absurd ends.0
-tellable law text input answers b before after (BadInput n) ends = tt
-tellable law text input answers b before after (BadAnswers n) ends = tt
-tellable law text input answers b before after TooWide ends = tt
-tellable law text input answers b before after (Stopped s) ends = tt
-tellable law text input answers b before after Memory ends = tt
+tellable law text input answers b before after (Ended (BadInput n)) ends = tt
+tellable law text input answers b before after (Ended (BadAnswers n)) ends = tt
+tellable law text input answers b before after (Ended TooWide) ends = tt
+tellable law text input answers b before after (Ended (Stopped s)) ends = tt
+tellable law text input answers b before after (Ended Memory) ends = tt
 
 -- ---- texts that are refused
 

@@ -1,5 +1,5 @@
 -- What is written of a run, in two parts: its events, and the line of its end.
-use Rattle.std.proofs.Common.{◌≡◌, ◌⊎◌, inl, inr, ℕ, ◌≤◌, List, [], ◌++◌, Option, Some, None, refl, sym, ap, subst, ◌∙◌, append_assoc, arith}
+use Rattle.std.proofs.Common.{◌≡◌, ◌⊎◌, inl, inr, ℕ, ◌≤◌, List, [], ◌++◌, Option, Some, None, refl, sym, ap, subst, ◌∙◌, append_assoc}
 use Rattle.std.specs.Prelude.{◌≢◌}
 use Rattle.vlt_io.specs.Outside.{Rose, Grew, GrewByPart}
 use Rattle.vlt_io.specs.declared.sink.Sink.{Ghosts}

@@ -1,5 +1,5 @@
 -- Which statuses a command's replies to the bytes of its files have.
-use Rattle.std.proofs.Common.{◌≡◌, ◌⊎◌, inl, inr, ℕ, ℤ, ◌≤◌, List, Option, Some, None, sym, ap, subst, arith}
+use Rattle.std.proofs.Common.{◌≡◌, inl, inr, ℕ, ℤ, ◌≤◌, List, Some, None, sym, subst, arith}
 use Rattle.std.specs.Prelude.{◌≢◌}
 use Rattle.vlt_base.specs.declared.Budgets.{Budgets}
 use Rattle.vlt_core.specs.Core.{Program}
@@ -12,11 +12,13 @@ use Rattle.vlt_syntax.specs.Tree.{Tree}
 use Rattle.vlt_verdict.specs.Verdicts as verdict
 use Rattle.vlt_verdict.specs.Verdicts.{Verdict}
 use Rattle.c_interp.specs.declared.stop.CStop.{CStop}
-use Rattle.c_interp.specs.declared.stop.CStop.TheVariants as stop
+use Rattle.c_interp.specs.declared.stop.CStop.TheVariants.{Stopped, Undefined}
+use Rattle.vlt_steps.specs.declared.stop.Stop.TheVariants as stop
+use Rattle.vlt_steps.specs.declared.end.RunEnd.TheVariants as end
 use Rattle.c_reader.specs.declared.error.CError.{CError}
 use Rattle.c_reader.specs.declared.error.CError.TheVariants as error
 use Rattle.c_run.specs.declared.end.CEnd.{CEnd}
-use Rattle.c_run.specs.declared.end.CEnd.TheVariants.{Unread, BadInput, BadAnswers, TooWide, Stopped, Memory}
+use Rattle.c_run.specs.declared.end.CEnd.TheVariants.{Unread, Ended}
 use Rattle.vaultc_core.specs.declared.status.TheConstants.{NO_COMMAND, UNREAD}
 use Rattle.vaultc_core.specs.CRuns.{IsReplyToC, c_refusal, stop_reply, end_reply}
 use Rattle.vaultc_core.specs.Commands.{Command, check, explain, run, fmt, crun}
@@ -122,24 +124,24 @@ own_c_refusal text (error.Limit n) r e = own_last _ r e (own 5 (omega arith))
 own_c_refusal text error.Memory r e = absurd (no_last r e)
 
 own_stop : (s : CStop) (r : Reply) → stop_reply s ≡ Some r → IsOwn r.status
-own_stop stop.Done r e = own_last _ r e own_zero
-own_stop (stop.Trap t) r e = own_last _ r e (own 9 (omega arith))
-own_stop stop.FuelEnd r e = own_last _ r e (own 10 (omega arith))
-own_stop stop.HeapEnd r e = own_last _ r e (own 10 (omega arith))
-own_stop stop.DepthEnd r e = own_last _ r e (own 10 (omega arith))
-own_stop stop.InputEnd r e = own_last _ r e (own 11 (omega arith))
-own_stop stop.AnswersEnd r e = own_last _ r e (own 11 (omega arith))
-own_stop (stop.BadAnswer n) r e = own_last _ r e (own 11 (omega arith))
-own_stop stop.SinkFault r e = absurd (no_last r e)
-own_stop (stop.Undefined rule statement) r e = own_last _ r e (own 13 (omega arith))
+own_stop (Stopped stop.Done) r e = own_last _ r e own_zero
+own_stop (Stopped (stop.Trap t)) r e = own_last _ r e (own 9 (omega arith))
+own_stop (Stopped stop.FuelEnd) r e = own_last _ r e (own 10 (omega arith))
+own_stop (Stopped stop.HeapEnd) r e = own_last _ r e (own 10 (omega arith))
+own_stop (Stopped stop.DepthEnd) r e = own_last _ r e (own 10 (omega arith))
+own_stop (Stopped stop.InputEnd) r e = own_last _ r e (own 11 (omega arith))
+own_stop (Stopped stop.AnswersEnd) r e = own_last _ r e (own 11 (omega arith))
+own_stop (Stopped (stop.BadAnswer n)) r e = own_last _ r e (own 11 (omega arith))
+own_stop (Stopped stop.SinkFault) r e = absurd (no_last r e)
+own_stop (Undefined rule statement) r e = own_last _ r e (own 13 (omega arith))
 
 pub own_c_end : (text : List ℕ) (end : CEnd) (r : Reply) → end_reply text end ≡ Some r → IsOwn r.status
 own_c_end text (Unread error) r e = own_c_refusal text error r e
-own_c_end text (BadInput line) r e = own_last _ r e (own 6 (omega arith))
-own_c_end text (BadAnswers line) r e = own_last _ r e (own 6 (omega arith))
-own_c_end text TooWide r e = own_last _ r e (own 5 (omega arith))
-own_c_end text (Stopped s) r e = own_stop s r e
-own_c_end text Memory r e = absurd (no_last r e)
+own_c_end text (Ended (end.BadInput line)) r e = own_last _ r e (own 6 (omega arith))
+own_c_end text (Ended (end.BadAnswers line)) r e = own_last _ r e (own 6 (omega arith))
+own_c_end text (Ended end.TooWide) r e = own_last _ r e (own 5 (omega arith))
+own_c_end text (Ended (end.Stopped s)) r e = own_stop s r e
+own_c_end text (Ended end.Memory) r e = absurd (no_last r e)
 
 own_c : (text input answers : List ℕ) (b : Budgets) (r : Reply) → IsReplyToC text input answers b r → IsOwn r.status
 own_c text input answers b r is = own_as r _ is.whole (own_c_end text is.end is.last is.last_is)

@@ -2,13 +2,13 @@
 use Rattle.std.proofs.Common.{◌≡◌, inl, inr, ℕ, ◌≤◌, List, [], ◌∷◌, Option, Some, refl, subst}
 use Rattle.std.specs.Prelude.{IfSome, MatchOption}
 use Rattle.vlt_base.specs.Limits.{limit_of}
-use Rattle.vlt_io.specs.Outside.{IsRead, MayFail}
+use Rattle.vlt_io.specs.Outside.{IsRead}
 use Rattle.vlt_io.specs.declared.store.Store.{Ghosts}
 use Rattle.vaultc_core.specs.Commands.{Command}
 use Rattle.vaultc_core.specs.Lines.{Reply}
 use Rattle.vaultc_core.specs.Replies.{IsReplyToText, IsReplyOver, MayReply}
 use Rattle.vaultc_core.specs.Shown.{error_seen}
-use Rattle.vaultc_core.specs.Sources.{Source, IsOver, had, unread, too_long, with_bytes, text_in, sources_of, MayRead}
+use Rattle.vaultc_core.specs.Sources.{Source, IsOver, had, unread, too_long, text_in, sources_of, MayRead}
 use Rattle.vaultc_core.specs.View.{seen_text}
 use Rattle.vaultc_core.specs.declared.files.FileError.{FileError}
 use Rattle.vaultc_core.specs.declared.files.FileError.TheVariants.{Unread, TooLong, Memory}

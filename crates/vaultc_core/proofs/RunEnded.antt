@@ -1,5 +1,5 @@
 -- What is written of the run of a program: its events, and the last line of its end.
-use Rattle.std.proofs.Common.{◌≡◌, ◌⊎◌, inl, inr, ℕ, ℤ, ◌≤◌, false, List, [], ◌++◌, Option, Some, None, refl, sym, ap, subst, ◌∙◌, arith}
+use Rattle.std.proofs.Common.{◌≡◌, ◌⊎◌, inl, inr, ℕ, ℤ, ◌≤◌, false, List, [], Option, Some, None, refl, sym, ap, subst, ◌∙◌, arith}
 use Rattle.std.specs.Prelude.{◌≢◌, MatchOption, IfSome, codes}
 use Rattle.std.specs.Option.{option_and_then}
 use Rattle.vlt_base.specs.declared.Budgets.{Budgets}
@@ -7,17 +7,19 @@ use Rattle.vlt_base.specs.declared.limits.TheConstants.{VALUE_SLOTS}
 use Rattle.vlt_io.specs.Outside.{Rose, Grew}
 use Rattle.vlt_io.specs.declared.sink.Sink.{Ghosts}
 use Rattle.vlt_core.specs.Core.{Program}
-use Rattle.vlt_meaning.specs.World.{Outcome, done, trap, fuel_end, heap_end, depth_end, input_end, answers_end, bad_answer, fault, is_fault, Ran, event_text}
+use Rattle.vlt_meaning.specs.World.{Outcome, done, trap, fuel_end, heap_end, depth_end, input_end, answers_end, bad_answer, fault, is_fault, event_text}
 use Rattle.vlt_meaning.specs.Run as meaning
-use Rattle.vlt_hosts.specs.Hosts.{Outside}
-use Rattle.vlt_tasks.specs.Halting.{outcome_of, IsTold}
-use Rattle.vlt_tasks.specs.declared.stop.Stop.{Stop}
-use Rattle.vlt_tasks.specs.declared.stop.Stop.TheVariants.{SinkFault}
+use Rattle.vlt_steps.specs.Writing.{Outside, IsUntouched}
+use Rattle.vlt_hosts.specs.Stops.{outcome_of}
+use Rattle.vlt_steps.specs.Stops.{IsTold}
+use Rattle.vlt_steps.specs.declared.stop.Stop.{Stop}
+use Rattle.vlt_steps.specs.declared.stop.Stop.TheVariants.{SinkFault}
 use Rattle.vlt_given.specs.Given.{Given, numbers, bad_input, bad_answers, given_by}
-use Rattle.vlt_run.specs.declared.end.RunEnd.{RunEnd}
-use Rattle.vlt_run.specs.declared.end.RunEnd.TheVariants.{BadInput, BadAnswers, TooWide, Stopped, Memory}
+use Rattle.vlt_steps.specs.declared.end.RunEnd.{RunEnd}
+use Rattle.vlt_steps.specs.declared.end.RunEnd.TheVariants.{BadInput, BadAnswers, TooWide, Stopped, Memory}
+use Rattle.vlt_steps.specs.Ends.{IsRefusal}
 use Rattle.vlt_run.specs.Ends as ends
-use Rattle.vlt_run.specs.Ends.{IsUntouched, IsRefusal, IsTooWide, StopsAs, EndsGiven, EndsAs}
+use Rattle.vlt_run.specs.Ends.{IsTooWide, EndsGiven, EndsAs}
 use Rattle.vlt_sound.specs.Promise.{NeverGoesWrong}
 use Rattle.vaultc_core.specs.declared.status.TheConstants.{UNREAD, SINK_FAILED, NO_MEMORY}
 use Rattle.vaultc_core.specs.Finishes.{Finishes}
@@ -126,7 +128,7 @@ by_outcome g p input answers b (Some o) Failed old mid new result fits right out
 stops_same : (s u : Stop) → Stopped s ≡ Stopped u → s ≡ u
 stops_same s u e = cc
 
-over_numbers : {K : Type 0} (g : Ghosts K) (p : Program) (input : List ℤ) (answers : List (List ℤ)) (b : Budgets) (old mid new : K) (end : RunEnd) (result : ℕ)
+over_numbers : {K : Type 0} (g : Ghosts K) (p : Program) (input : List ℤ) (answers : List (List ℤ)) (b : Budgets) (old mid new : K) (end : RunEnd Stop) (result : ℕ)
     → NeverGoesWrong p → ends.EndsRun p input answers b (seen g old) (seen g mid) end → EndsRun g end mid new result → Finishes g (IsReplyOverNumbers p input answers b) old new result
 over_numbers g p input answers b old mid new (BadInput line) result never x f = absurd x
 over_numbers g p input answers b old mid new (BadAnswers line) result never x f = absurd x
@@ -141,7 +143,7 @@ over_numbers g p input answers b old mid new Memory result never same f =
 -- ---- the files of numbers
 
 -- a bad line is told, or memory was wanting
-refused : {K : Type 0} (g : Ghosts K) (Replies : Reply → Type 0) (old mid new : K) (refusal end : RunEnd) (result : ℕ) (last : Reply) → Replies last → last.status ≢ UNREAD
+refused : {K : Type 0} (g : Ghosts K) (Replies : Reply → Type 0) (old mid new : K) (refusal end : RunEnd Stop) (result : ℕ) (last : Reply) → Replies last → last.status ≢ UNREAD
     → (EndsRun g refusal mid new result → Finishes g (λ r. r ≡ last) mid new result)
     → IsRefusal refusal (seen g old) (seen g mid) end → EndsRun g end mid new result → Finishes g Replies old new result
 refused g Replies old mid new refusal end result last is inside tells (inl is_so, same) f =
@@ -149,7 +151,7 @@ refused g Replies old mid new refusal end result last is inside tells (inl is_so
 refused g Replies old mid new refusal end result last is inside tells (inr memory, same) f =
     memory_wanting g Replies old mid new result same (subst (λ e. EndsRun g e mid new result) memory f)
 
-over_given : {K : Type 0} (g : Ghosts K) (p : Program) (given : Given) (b : Budgets) (old mid new : K) (end : RunEnd) (result : ℕ)
+over_given : {K : Type 0} (g : Ghosts K) (p : Program) (given : Given) (b : Budgets) (old mid new : K) (end : RunEnd Stop) (result : ℕ)
     → NeverGoesWrong p → EndsGiven p given b (seen g old) (seen g mid) end → EndsRun g end mid new result → Finishes g (IsReplyToProgram p given b) old new result
 over_given g p (numbers input answers) b old mid new end result never x f = over_numbers g p input answers b old mid new end result never x f
 over_given g p (bad_input line) b old mid new end result never x f =
@@ -158,7 +160,7 @@ over_given g p (bad_answers line) b old mid new end result never x f =
     refused g (IsReplyToProgram p (bad_answers line) b) old mid new (BadAnswers line) end result (numbers_reply (codes "answers") line) refl (λ two. omega (arith, two)) (λ e. e) x f
 
 -- a run ended so, and its last line was written
-pub run_ended : {K : Type 0} (g : Ghosts K) (p : Program) (input answers input' answers' : List ℕ) (b : Budgets) (old mid new : K) (end : RunEnd) (result : ℕ)
+pub run_ended : {K : Type 0} (g : Ghosts K) (p : Program) (input answers input' answers' : List ℕ) (b : Budgets) (old mid new : K) (end : RunEnd Stop) (result : ℕ)
     → input ≡ input' → answers ≡ answers' → NeverGoesWrong p → EndsAs p input answers b (seen g old) (seen g mid) end → EndsRun g end mid new result
     → Finishes g (IsReplyToProgram p (given_by input' answers') b) old new result
 run_ended g p input answers input' answers' b old mid new end result i a never x f =

@@ -1,7 +1,7 @@
 -- An accepted program of a text can be run.
-use Rattle.std.proofs.Common.{◌≡◌, ◌≤◌, ◌<◌, ℕ, length, Some, arith}
-use Rattle.std.specs.Prelude.{◌^◌, slice_get}
-use Rattle.vlt_core.specs.Core.{Func, Program}
+use Rattle.std.proofs.Common.{◌≤◌, ◌<◌, ℕ, length, arith}
+use Rattle.std.specs.Prelude.{◌^◌}
+use Rattle.vlt_core.specs.Core.{Program}
 use Rattle.vlt_core.specs.Derives.{IsAccepted}
 use Rattle.vlt_core.specs.Kinded.{IsKinded}
 use Rattle.vlt_core_laws.specs.States.{HasStates}

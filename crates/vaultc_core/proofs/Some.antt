@@ -1,5 +1,5 @@
 -- It can't be that a command has no reply to what it read.
-use Rattle.std.proofs.Common.{◌≡◌, ◌<◌, ℕ, ℤ, List, ◌++◌, length, ◌⊎◌, inl, inr, ⊎_elim, refl, arith}
+use Rattle.std.proofs.Common.{◌≡◌, ◌<◌, ℕ, ℤ, List, ◌++◌, ◌⊎◌, inl, inr, ⊎_elim, refl, arith}
 use Rattle.std.specs.Prelude.{false, codes}
 use Rattle.std.proofs.lemmas.Bool.{cases_lt}
 use Rattle.vlt_base.specs.declared.Budgets.{Budgets}
@@ -27,7 +27,7 @@ use Rattle.vaultc_core.specs.declared.status.TheConstants.{DONE, NOT_ACCEPTED}
 use Rattle.vaultc_core.specs.Commands.{Command, check, explain, run, fmt, crun}
 use Rattle.vaultc_core.specs.Lines.{Reply, reply, over_reply, unread_reply, numbers_reply, behind}
 use Rattle.vaultc_core.specs.Runs.{IsReplyToRan, IsReplyOverNumbers, IsReplyToProgram}
-use Rattle.vaultc_core.specs.Sources.{Read, had, unread, too_long}
+use Rattle.vaultc_core.specs.Sources.{had, unread, too_long}
 use Rattle.vaultc_core.specs.Texts.{refusal_reply}
 use Rattle.vaultc_core.specs.Verdicts.{check_reply, IsExplained}
 use Rattle.vaultc_core.specs.Replies.{IsReplyToCheck, IsReplyToExplain, IsReplyToVerdict, IsReplyToRun, IsReplyByTree, bytes_at, IsReplyToContents, RunsC, HasSomeReply}

@@ -9,7 +9,7 @@ use Rattle.vaultc_core.specs.declared.status.TheConstants.{NO_COMMAND, UNREAD, S
 use Rattle.vaultc_core.specs.Commands.{Command}
 use Rattle.vaultc_core.specs.Sources.{Read, had, unread, too_long, sources_of, read_in, MayRead}
 use Rattle.vaultc_core.specs.Finishes.{WroteReply, WrotePart, Finishes}
-use Rattle.vaultc_core.specs.Lines.{Reply, reply, unread_reply}
+use Rattle.vaultc_core.specs.Lines.{Reply, reply}
 use Rattle.vaultc_core.specs.Replies.{IsReplyToRead, IsReplyToCommand, AreOfC, IsInside, MayReply, IsUnread}
 use Rattle.vaultc_core.proofs.Reading.{IsToldAs, told_as, may_fail}
 use Rattle.vaultc_core.proofs.Own.{own_reply}

@@ -2,17 +2,17 @@
 use Rattle.std.specs.Prelude.{◌≡◌, ℕ, List, [], ◌++◌, Option, Some, None, codes}
 use Rattle.std.specs.Fmt.{decimal}
 use Rattle.vlt_base.specs.declared.Budgets.{Budgets}
-use Rattle.vlt_base.specs.declared.limits.TheConstants.{VALUE_SLOTS}
-use Rattle.c_primitives.specs.Shown.{Outside}
+use Rattle.vlt_steps.specs.Writing.{Outside}
 use Rattle.c_interp.specs.declared.stop.CStop.{CStop}
-use Rattle.c_interp.specs.declared.stop.CStop.TheVariants as stop
+use Rattle.c_interp.specs.declared.stop.CStop.TheVariants.{Stopped, Undefined}
 use Rattle.c_reader.specs.declared.error.CError.{CError}
 use Rattle.c_reader.specs.declared.error.CError.TheVariants as error
 use Rattle.c_run.specs.declared.end.CEnd.{CEnd}
-use Rattle.c_run.specs.declared.end.CEnd.TheVariants.{Unread, BadInput, BadAnswers, TooWide, Stopped, Memory}
+use Rattle.c_run.specs.declared.end.CEnd.TheVariants.{Unread, Ended}
 use Rattle.c_run.specs.Ends.{EndsAs}
-use Rattle.vaultc_core.specs.declared.status.TheConstants.{DONE, NO_TEXT, TRAPPED, OUT_OF_BUDGET, OUT_OF_NUMBERS, UNDEFINED}
-use Rattle.vaultc_core.specs.Lines.{Reply, reply, over_reply, place_reply, trap_line, numbers_reply, bad_answer_line, behind}
+use Rattle.vaultc_core.specs.declared.status.TheConstants.{NO_TEXT, UNDEFINED}
+use Rattle.vaultc_core.specs.Lines.{Reply, reply, over_reply, place_reply, behind}
+use Rattle.vaultc_core.specs.Runs.{stop_line, end_line}
 
 -- ---- the last line of each end, with the status
 
@@ -30,26 +30,14 @@ at_statement what statement = what ++ codes " at " ++ decimal statement ++ codes
 abbrev pub undefined_line : (rule statement : ℕ) → List ℕ
 undefined_line rule statement = at_statement (codes "undefined " ++ decimal rule) statement
 
--- a run that the sink cut off has no last line
+-- a stop that runs of the source have too is told as theirs
 abbrev pub stop_reply : CStop → Option Reply
-stop_reply stop.Done = Some (reply DONE [])
-stop_reply (stop.Trap t) = Some (reply TRAPPED (trap_line t))
-stop_reply stop.FuelEnd = Some (reply OUT_OF_BUDGET (codes "budget fuel\n"))
-stop_reply stop.HeapEnd = Some (reply OUT_OF_BUDGET (codes "budget heap\n"))
-stop_reply stop.DepthEnd = Some (reply OUT_OF_BUDGET (codes "budget depth\n"))
-stop_reply stop.InputEnd = Some (reply OUT_OF_NUMBERS (codes "input ended\n"))
-stop_reply stop.AnswersEnd = Some (reply OUT_OF_NUMBERS (codes "answers ended\n"))
-stop_reply (stop.BadAnswer n) = Some (reply OUT_OF_NUMBERS (bad_answer_line n))
-stop_reply stop.SinkFault = None
-stop_reply (stop.Undefined rule statement) = Some (reply UNDEFINED (undefined_line rule statement))
+stop_reply (Stopped stop) = stop_line stop
+stop_reply (Undefined rule statement) = Some (reply UNDEFINED (undefined_line rule statement))
 
 abbrev pub end_reply : (text : List ℕ) → CEnd → Option Reply
 end_reply text (Unread e) = c_refusal text e
-end_reply text (BadInput line) = Some (numbers_reply (codes "input") line)
-end_reply text (BadAnswers line) = Some (numbers_reply (codes "answers") line)
-end_reply text TooWide = Some (over_reply VALUE_SLOTS)
-end_reply text (Stopped s) = stop_reply s
-end_reply text Memory = None
+end_reply text (Ended end) = end_line stop_reply end
 
 -- ---- a whole run
 

@@ -1,11 +1,16 @@
 -- What a run of an accepted program replies.
 use Rattle.std.specs.Prelude.{◌≡◌, ◌⊎◌, ℤ, List, [], Option, Some, None, codes}
+use Rattle.std.specs.Option.{option_and_then}
 use Rattle.vlt_base.specs.declared.Budgets.{Budgets}
 use Rattle.vlt_base.specs.declared.limits.TheConstants.{VALUE_SLOTS}
 use Rattle.vlt_core.specs.Core.{Program}
 use Rattle.vlt_meaning.specs.World.{Outcome, done, trap, fuel_end, heap_end, depth_end, input_end, answers_end, bad_answer, fault, Ran, event_text}
 use Rattle.vlt_meaning.specs.Run as meaning
 use Rattle.vlt_given.specs.Given.{Given, numbers, bad_input, bad_answers}
+use Rattle.vlt_steps.specs.declared.stop.Stop.{Stop}
+use Rattle.vlt_steps.specs.declared.end.RunEnd.{RunEnd}
+use Rattle.vlt_steps.specs.declared.end.RunEnd.TheVariants.{BadInput, BadAnswers, TooWide, Stopped, Memory}
+use Rattle.vlt_hosts.specs.Stops.{outcome_of}
 use Rattle.vlt_run.specs.Ends.{IsTooWide}
 use Rattle.vaultc_core.specs.declared.status.TheConstants.{DONE, TRAPPED, OUT_OF_BUDGET, OUT_OF_NUMBERS}
 use Rattle.vaultc_core.specs.Lines.{Reply, reply, over_reply, trap_line, numbers_reply, bad_answer_line, behind}
@@ -21,6 +26,18 @@ last_of input_end = Some (reply OUT_OF_NUMBERS (codes "input ended\n"))
 last_of answers_end = Some (reply OUT_OF_NUMBERS (codes "answers ended\n"))
 last_of (bad_answer n) = Some (reply OUT_OF_NUMBERS (bad_answer_line n))
 last_of (fault reason object) = None
+
+-- the last line where a machine stopped so; where the sink failed there is none
+abbrev pub stop_line : Stop → Option Reply
+stop_line stop = option_and_then last_of (outcome_of stop)
+
+-- the last line of an end, by that of each stop; want of memory has none
+abbrev pub end_line : {S : Type 0} → (line_of : S → Option Reply) → RunEnd S → Option Reply
+end_line line_of (BadInput line) = Some (numbers_reply (codes "input") line)
+end_line line_of (BadAnswers line) = Some (numbers_reply (codes "answers") line)
+end_line line_of TooWide = Some (over_reply VALUE_SLOTS)
+end_line line_of (Stopped stop) = line_of stop
+end_line line_of Memory = None
 
 -- the text of a run's events, and then the last line of its outcome
 abbrev pub IsReplyToRan : Ran → Reply → Type 0

@@ -1,16 +1,14 @@
 -- The plain refusals, ends and replies that those of the code stand for.
-use Rattle.std.specs.Prelude.{◌≡◌, ◌≤◌, ◌⊎◌, ℕ, Bool, true, false, List, [], ◌∷◌, MatchOption, Option, Some, None, Result, Ok, Err, codes}
-use Rattle.std.specs.Option.{option_and_then}
+use Rattle.std.specs.Prelude.{◌≡◌, ◌≤◌, ◌⊎◌, ℕ, Bool, true, false, List, [], ◌∷◌, MatchOption, Option, Some, None, Result, Ok, Err}
 use Rattle.std.specs.Global.{Vec}
 use Rattle.std.specs.declared.alloc.AllocError.{AllocError}
 use Rattle.vlt_lexer.specs.declared.lexer.LexError.TheVariants as lex
 use Rattle.vlt_parser_exprs.specs.declared.error.ParseError.TheVariants as parse
 use Rattle.vlt_syntax.specs.Refusals.{unexpected_at, over_limit, ended}
-use Rattle.vlt_tasks.specs.Halting.{outcome_of}
-use Rattle.vlt_tasks.specs.declared.stop.Stop.{Stop}
-use Rattle.vlt_tasks.specs.declared.stop.Stop.TheVariants.{SinkFault}
-use Rattle.vlt_run.specs.declared.end.RunEnd.{RunEnd}
-use Rattle.vlt_run.specs.declared.end.RunEnd.TheVariants as end
+use Rattle.vlt_steps.specs.declared.stop.Stop.{Stop}
+use Rattle.vlt_steps.specs.declared.stop.Stop.TheVariants.{SinkFault}
+use Rattle.vlt_steps.specs.declared.end.RunEnd.{RunEnd}
+use Rattle.vlt_steps.specs.declared.end.RunEnd.TheVariants as end
 use Rattle.vlt_io.specs.declared.sink.Sink.{Ghosts}
 use Rattle.vlt_syntax.specs.Tree.{Tree}
 use Rattle.vlt_core.specs.Faults.{IsFirstFault}
@@ -22,12 +20,12 @@ use Rattle.vlt_verdict.specs.declared.verdict.Verdict.{Verdict}
 use Rattle.vlt_verdict.specs.declared.verdict.Verdict.TheVariants as verdict
 use Rattle.vaultc_core.specs.declared.status.TheConstants.{SINK_FAILED, NO_MEMORY}
 use Rattle.vaultc_core.specs.Finishes.{Finishes}
-use Rattle.vaultc_core.specs.Runs.{last_of}
+use Rattle.vaultc_core.specs.Runs.{stop_line, end_line}
 use Rattle.vaultc_core.specs.Lines as lines
 use Rattle.vaultc_core.specs.Texts.{Refusal, unlexed, unparsed}
-use Rattle.vlt_base.specs.declared.limits.TheConstants.{SOURCE_BYTES, VALUE_SLOTS}
+use Rattle.vlt_base.specs.declared.limits.TheConstants.{SOURCE_BYTES}
 use Rattle.c_interp.specs.declared.stop.CStop.{CStop}
-use Rattle.c_interp.specs.declared.stop.CStop.TheVariants as stopped
+use Rattle.c_interp.specs.declared.stop.CStop.TheVariants.{Stopped}
 use Rattle.c_reader.specs.Reads.{IsWithin}
 use Rattle.c_reader.specs.declared.error.CError.{CError}
 use Rattle.c_run.specs.Ends.{IsUnread}
@@ -101,18 +99,6 @@ pub record AreShort (limit : ℕ) (files : RunFiles) : Type 0 where
 
 -- ---- runs of programs
 
--- the last line where the machine stopped so; where the sink failed there is none
-abbrev pub stop_line : Stop → Option lines.Reply
-stop_line s = option_and_then last_of (outcome_of s)
-
--- the last line of an end; want of memory has none
-abbrev pub end_line : RunEnd → Option lines.Reply
-end_line (end.BadInput line) = Some (lines.numbers_reply (codes "input") line)
-end_line (end.BadAnswers line) = Some (lines.numbers_reply (codes "answers") line)
-end_line end.TooWide = Some (lines.over_reply VALUE_SLOTS)
-end_line (end.Stopped s) = stop_line s
-end_line end.Memory = None
-
 -- How the last line of a run is written, by how the machine stopped: where it has a last line, that one; else nothing, the
 -- sink having failed.
 abbrev pub StopsRun : {K : Type 0} (g : Ghosts K) → Stop → (old new : K) → (status : ℕ) → Type 0
@@ -121,8 +107,8 @@ StopsRun g stop old new status = MatchOption (stop_line stop)
     (λ last. Finishes g (λ r. r ≡ last) old new status)
 
 -- the same by an end; nothing is written either where memory was wanting
-abbrev pub EndsRun : {K : Type 0} (g : Ghosts K) → RunEnd → (old new : K) → (status : ℕ) → Type 0
-EndsRun g e old new status = MatchOption (end_line e)
+abbrev pub EndsRun : {K : Type 0} (g : Ghosts K) → RunEnd Stop → (old new : K) → (status : ℕ) → Type 0
+EndsRun g e old new status = MatchOption (end_line stop_line e)
     ((new ≡ old) × (((status ≡ SINK_FAILED) × (e ≡ end.Stopped SinkFault)) ⊎ (status ≡ NO_MEMORY)))
     (λ last. Finishes g (λ r. r ≡ last) old new status)
 
@@ -135,17 +121,17 @@ pub record IsReasonOf (text : List ℕ) (e : CError) : Type 0 where
 
 abbrev pub IsTellableEnd : (text : List ℕ) → CEnd → Type 0
 IsTellableEnd text (ended.Unread e) = IsReasonOf text e
-IsTellableEnd text end = Unit {0}
+IsTellableEnd text e = Unit {0}
 
 -- How the last line of a C run is written, by how the machine stopped: where it has a last line, that one; else nothing, the
 -- sink having failed.
 abbrev pub StopsC : {K : Type 0} (g : Ghosts K) → CStop → (old new : K) → (status : ℕ) → Type 0
 StopsC g stop old new status = MatchOption (stop_reply stop)
-    ((new ≡ old) × ((status ≡ SINK_FAILED) × (stop ≡ stopped.SinkFault)))
+    ((new ≡ old) × ((status ≡ SINK_FAILED) × (stop ≡ Stopped SinkFault)))
     (λ last. Finishes g (λ r. r ≡ last) old new status)
 
 -- the same by an end; nothing is written either where memory was wanting
 abbrev pub EndsC : {K : Type 0} (g : Ghosts K) → (text : List ℕ) → CEnd → (old new : K) → (status : ℕ) → Type 0
-EndsC g text end old new status = MatchOption (end_reply text end)
-    ((new ≡ old) × (((status ≡ SINK_FAILED) × (end ≡ ended.Stopped stopped.SinkFault)) ⊎ (status ≡ NO_MEMORY)))
+EndsC g text e old new status = MatchOption (end_reply text e)
+    ((new ≡ old) × (((status ≡ SINK_FAILED) × (e ≡ ended.Ended (end.Stopped (Stopped SinkFault)))) ⊎ (status ≡ NO_MEMORY)))
     (λ last. Finishes g (λ r. r ≡ last) old new status)

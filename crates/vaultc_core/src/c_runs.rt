@@ -8,19 +8,18 @@ ghost use Rattle.vaultc_core.specs.Finishes.{Finishes};
 ghost use Rattle.vaultc_core.specs.Shown.{AreShort, EndsC, IsReasonOf, IsTellableEnd, StopsC, shown_reply};
 
 use crate::files::RunFiles;
-use crate::lines::{bad_answer, bad_numbers, over_limit, wrong_at};
+use crate::lines::{bad_numbers, over_limit, wrong_at};
 use crate::reply::Reply;
-use crate::status::{
-    DONE, NO_MEMORY, NO_TEXT, OUT_OF_BUDGET, OUT_OF_NUMBERS, SINK_FAILED, TRAPPED, UNDEFINED,
-};
-use crate::write::{finish, finish_reply};
+use crate::runs;
+use crate::status::{NO_MEMORY, NO_TEXT, UNDEFINED};
+use crate::write::finish_reply;
 use c_interp::CStop;
 use c_reader::{CError, refusals_are_in_the_text};
 use c_run::{CEnd, crun};
 use std::alloc::{AllocError, Global};
 use vlt_base::{Budgets, VALUE_SLOTS};
 use vlt_io::Sink;
-use vlt_ops::TrapKind;
+use vlt_steps::RunEnd;
 
 /// A text stands for no C program, for this reason.
 fn refusal(alloc: Global, text: &[u8], error: CError) -> Result<Reply, AllocError>
@@ -68,19 +67,10 @@ fn finish_stop<K: Sink>(alloc: Global, out: &mut K, stop: CStop) -> u8
     ensures { StopsC K.Sink stop out.old out.new result }
 {
     match stop {
-        CStop::Done => DONE,
-        CStop::Trap(TrapKind::Overflow) => finish(out, TRAPPED, b"trap 1\n"),
-        CStop::Trap(TrapKind::ZeroDivisor) => finish(out, TRAPPED, b"trap 2\n"),
-        CStop::FuelEnd => finish(out, OUT_OF_BUDGET, b"budget fuel\n"),
-        CStop::HeapEnd => finish(out, OUT_OF_BUDGET, b"budget heap\n"),
-        CStop::DepthEnd => finish(out, OUT_OF_BUDGET, b"budget depth\n"),
-        CStop::InputEnd => finish(out, OUT_OF_NUMBERS, b"input ended\n"),
-        CStop::AnswersEnd => finish(out, OUT_OF_NUMBERS, b"answers ended\n"),
-        CStop::BadAnswer(position) => finish_reply(out, bad_answer(alloc, position)),
+        CStop::Stopped(stop) => runs::finish_stop(alloc, out, stop),
         CStop::Undefined { rule, statement } => {
             finish_reply(out, undefined(alloc, rule, statement))
         }
-        CStop::SinkFault => SINK_FAILED,
     }
 }
 
@@ -92,11 +82,14 @@ fn finish_end<K: Sink>(alloc: Global, text: &[u8], end: CEnd, out: &mut K) -> u8
 {
     match end {
         CEnd::Unread(error) => finish_reply(out, refusal(alloc, text, error)),
-        CEnd::BadInput(line) => finish_reply(out, bad_numbers(alloc, "input", line)),
-        CEnd::BadAnswers(line) => finish_reply(out, bad_numbers(alloc, "answers", line)),
-        CEnd::TooWide => finish_reply(out, over_limit(alloc, VALUE_SLOTS)),
-        CEnd::Stopped(stop) => finish_stop(alloc, out, stop),
-        CEnd::Memory => NO_MEMORY,
+        CEnd::Ended(RunEnd::BadInput(line)) => finish_reply(out, bad_numbers(alloc, "input", line)),
+        CEnd::Ended(RunEnd::BadAnswers(line)) => finish_reply(
+            out,
+            bad_numbers(alloc, "answers", line),
+        ),
+        CEnd::Ended(RunEnd::TooWide) => finish_reply(out, over_limit(alloc, VALUE_SLOTS)),
+        CEnd::Ended(RunEnd::Stopped(stop)) => finish_stop(alloc, out, stop),
+        CEnd::Ended(RunEnd::Memory) => NO_MEMORY,
     }
 }
 

@@ -18,11 +18,11 @@ use vlt_base::{Budgets, VALUE_SLOTS};
 use vlt_core::Program;
 use vlt_io::Sink;
 use vlt_ops::TrapKind;
-use vlt_run::{RunEnd, run};
-use vlt_tasks::Stop;
+use vlt_run::run;
+use vlt_steps::{RunEnd, Stop};
 
 /// Writes the line behind the events of a run that stopped so, and gives the status.
-fn finish_stop<K: Sink>(alloc: Global, out: &mut K, stop: Stop) -> u8
+pub fn finish_stop<K: Sink>(alloc: Global, out: &mut K, stop: Stop) -> u8
     ensures { StopsRun K.Sink stop out.old out.new result }
 {
     match stop {
@@ -40,7 +40,7 @@ fn finish_stop<K: Sink>(alloc: Global, out: &mut K, stop: Stop) -> u8
 }
 
 /// Writes the last line of an end, and gives the status.
-fn finish_end<K: Sink>(alloc: Global, end: RunEnd, out: &mut K) -> u8
+fn finish_end<K: Sink>(alloc: Global, end: RunEnd<Stop>, out: &mut K) -> u8
     ensures { EndsRun K.Sink end out.old out.new result }
 {
     match end {

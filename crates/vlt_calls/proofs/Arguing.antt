@@ -1,45 +1,44 @@
 -- A call, whose arguments get their values first.
-use Rattle.std.proofs.Common.{◌≡◌, ◌⊎◌, inl, inr, ◌<◌, ◌≤◌, ◌+◌, ◌*◌, ◌==◌, ℕ, Bool, true, false, List, [], ◌∷◌, length, Option, None, Some, Result, Ok, Err, refl, sym, ap, ◌∙◌, subst, arith, slice_get}
+use Rattle.std.proofs.Common.{◌≡◌, inl, inr, ◌≤◌, ◌+◌, ◌*◌, ◌==◌, ℕ, Bool, true, false, List, [], ◌∷◌, length, Option, None, Some, Result, Ok, Err, refl, sym, ap, ◌∙◌, subst, arith, slice_get}
 use Rattle.std.specs.Prelude.{IfSome}
 use Rattle.std.specs.Vec.{vec_capacity}
 use Rattle.std.proofs.lemmas.Bool.{false≢true}
 use Rattle.std.proofs.lemmas.Bool.Decides.{nat_tests}
-use Rattle.std.proofs.lemmas.Option.{none-some, same_Some}
 use Rattle.vlt_ops.specs.declared.TrapKind.{TrapKind}
 use Rattle.vlt_core.specs.Core.{Operand, pure, move, pack, call, Func, Program}
-use Rattle.vlt_core.specs.View.{func_of, program_of}
+use Rattle.vlt_core.specs.View.{program_of}
 use Rattle.vlt_heap.specs.Items.{Items}
 use Rattle.vlt_heap.specs.Shown.{heap_of}
 use Rattle.vlt_meaning.specs.World.{Value, World, Frame, Outcome, trap, fault, done, fuel_end, heap_end, depth_end, input_end, answers_end, bad_answer, missing, is_fault, no_value, loose, owned, one}
 use Rattle.vlt_meaning.specs.Found.{Found, or_fault}
 use Rattle.vlt_meaning.specs.Objects.{with_owner}
 use Rattle.vlt_meaning.specs.Values.{value_of, object_of}
-use Rattle.vlt_meaning.specs.Step.{Step, goes, ends, with_changed, with_var}
+use Rattle.vlt_meaning.specs.Step.{goes, ends, with_changed, with_var}
 use Rattle.vlt_meaning.specs.Run.{Setup}
 use Rattle.vlt_machine.specs.Got.{Got, got, stopped, then_got, found_in, operand_got, operands_got}
 use Rattle.vlt_machine.specs.Machine as m
-use Rattle.vlt_machine.specs.Machine.{Conf, at, when_found, when_got, when_so, spending, enter, enter_by}
+use Rattle.vlt_machine.specs.Machine.{Conf, at, when_found, when_got, when_so, enter}
 use Rattle.vlt_values.specs.declared.values.Values.{Values}
 use Rattle.vlt_values.specs.Pushed.{HaveValues, HavePushed, ArePushed}
 use Rattle.vlt_values.specs.Shown.{Seen, IsGrown}
-use Rattle.vlt_objects.proofs.Coming.{Pushes, Lessens, operands_lessen}
+use Rattle.vlt_objects.proofs.Coming.{Lessens, operands_lessen}
 use Rattle.vlt_objects.proofs.NewObject.{pushes_count}
-use Rattle.vlt_frames.specs.Frames.{frame_end, IsRunning, NamesOwn}
+use Rattle.vlt_frames.specs.Frames.{frame_end}
 use Rattle.vlt_frames.proofs.Standing.{KeepsNames, operands_names}
-use Rattle.vlt_hosts.specs.Hosts.{ShowsHost, Outside}
+use Rattle.vlt_steps.specs.Writing.{Outside}
 use Rattle.vlt_hosts.proofs.Writing.{silent}
-use Rattle.vlt_tasks.specs.declared.stop.Stop.{Stop}
-use Rattle.vlt_tasks.specs.declared.stop.Stop.TheVariants.{Trap}
+use Rattle.vlt_steps.specs.declared.stop.Stop.{Stop}
+use Rattle.vlt_steps.specs.declared.stop.Stop.TheVariants.{Trap}
 use Rattle.vlt_tasks.specs.declared.task.Rules.{Rules}
 use Rattle.vlt_tasks.specs.declared.task.Run.{Run}
 use Rattle.vlt_tasks.specs.Shown.{setup_of, tasks_left, ShowsTasks, ShowsConf}
-use Rattle.vlt_tasks.specs.Moves.{Keeps, CameTo, IsRight, GoesRight, doing}
+use Rattle.vlt_tasks.specs.Moves.{IsRight, doing}
 use Rattle.vlt_tasks.proofs.Stacks.{tasks_kept}
 use Rattle.vlt_tasks.proofs.Staying.{IsGoing, going}
 use Rattle.vlt_tasks.proofs.Coming.{Came, wrong_came, came_since}
 use Rattle.vlt_tasks.specs.Sizes.{frame_slots}
 use Rattle.vlt_calls.proofs.Sizes.{args_slots}
-use Rattle.vlt_calls.specs.Called.{KnowsExternal, HasArgs, ShowsCall, going_in, IsReadyIn, GoesRightIn, CanGoIn, DoesIn, KnowsCall, CanCall, Acts}
+use Rattle.vlt_calls.specs.Called.{ShowsCall, going_in, CanGoIn, DoesIn, KnowsCall, CanCall, Acts}
 
 -- ---- operands change nothing of the world but its objects, and no depth
 

@@ -1,6 +1,5 @@
 -- A function with a body is entered.
-use Rattle.std.proofs.Common.{◌≡◌, ◌⊎◌, inl, inr, ◌<◌, ◌≤◌, ◌+◌, ◌*◌, ◌-◌, ℕ, suc, nat_lt, Bool, true, false, List, [], ◌∷◌, ◌++◌, length, Option, None, Some, Ok, Err, refl, sym, ap, ◌∙◌, subst, arith, slice_get, reverse, if◌then◌else◌}
-use Rattle.std.specs.Prelude.{IfSome}
+use Rattle.std.proofs.Common.{◌≡◌, inl, inr, ◌<◌, ◌≤◌, ◌+◌, ◌*◌, ◌-◌, ℕ, suc, nat_lt, true, false, List, [], ◌∷◌, ◌++◌, length, Option, None, Some, Ok, Err, refl, sym, ap, ◌∙◌, subst, arith, slice_get, if◌then◌else◌}
 use Rattle.std.specs.Vec.{vec_capacity}
 use Rattle.std.specs.Borrow.{Bor}
 use Rattle.std.specs.Option.{option_map}
@@ -9,39 +8,35 @@ use Rattle.vlt_base.specs.declared.ids.VarId.{VarId}
 use Rattle.vlt_core.specs.declared.program.Stmt.{Stmt}
 use Rattle.vlt_core.specs.Core.{Func, Program}
 use Rattle.vlt_core.specs.View.{func_of, keys_of, stmts_of, program_of}
-use Rattle.vlt_heap.specs.Items.{Items}
-use Rattle.vlt_heap.specs.Shown.{Holds, IsSound, heap_of}
+use Rattle.vlt_heap.specs.Shown.{Holds, IsSound}
 use Rattle.vlt_meaning.specs.World.{Value, World, Frame, depth_end}
 use Rattle.vlt_meaning.specs.Found.{Found}
-use Rattle.vlt_meaning.specs.Step.{Step, goes, ends, with_objects}
+use Rattle.vlt_meaning.specs.Step.{goes, ends, with_objects}
 use Rattle.vlt_meaning.specs.Calls.{passed_objects, handed_over, callee_frame}
-use Rattle.vlt_meaning.specs.Run.{Setup}
 use Rattle.vlt_machine.specs.Machine as m
-use Rattle.vlt_machine.specs.Machine.{Caller, Conf, at, when_found, enter_body}
-use Rattle.vlt_values.specs.declared.values.Values.{Values}
-use Rattle.vlt_values.specs.Shown.{Seen}
+use Rattle.vlt_machine.specs.Machine.{Caller, at, when_found, enter_body}
 use Rattle.vlt_values.proofs.Touching.{OrFault}
 use Rattle.vlt_frames.specs.declared.waiting.Waiting.{Waiting}
 use Rattle.vlt_frames.specs.Frames.{frame_end, IsRunning, Stands, IsBelow, Waits}
-use Rattle.vlt_frames.specs.Entered.{IsCall, HasEntered, Enters}
+use Rattle.vlt_frames.specs.Entered.{HasEntered, Enters}
 use Rattle.vlt_frames.proofs.Standing.{running_names}
-use Rattle.vlt_hosts.specs.Hosts.{ShowsHost, Outside}
+use Rattle.vlt_hosts.specs.Hosts.{ShowsHost}
+use Rattle.vlt_steps.specs.Writing.{Outside}
 use Rattle.vlt_hosts.proofs.Writing.{silent}
 use Rattle.vlt_host_calls.proofs.Calling.{passed_fault}
-use Rattle.vlt_tasks.specs.declared.stop.Stop.{Stop}
-use Rattle.vlt_tasks.specs.declared.stop.Stop.TheVariants.{DepthEnd}
+use Rattle.vlt_steps.specs.declared.stop.Stop.TheVariants.{DepthEnd}
 use Rattle.vlt_tasks.specs.declared.task.Task.{Task}
 use Rattle.vlt_tasks.specs.declared.task.Task.TheVariants.{List as Listed, Back}
 use Rattle.vlt_tasks.specs.declared.task.Rules.{Rules}
 use Rattle.vlt_tasks.specs.declared.task.Run.{Run}
 use Rattle.vlt_tasks.specs.Sizes.{frame_slots}
-use Rattle.vlt_tasks.specs.Own.{IsVar, IsKey, IsOf, HasOwn}
-use Rattle.vlt_tasks.specs.Shown.{setup_of, tasks_left, ShowsTasks}
-use Rattle.vlt_tasks.specs.Moves.{HasRoom, Keeps, CameTo}
+use Rattle.vlt_tasks.specs.Own.{IsOf}
+use Rattle.vlt_tasks.specs.Shown.{tasks_left, ShowsTasks}
+use Rattle.vlt_tasks.specs.Moves.{HasRoom, Keeps}
 use Rattle.vlt_tasks.proofs.Stacks.{next_is, tasks_kept}
 use Rattle.vlt_tasks.proofs.Staying.{keeps_all, step_goes}
 use Rattle.vlt_tasks.proofs.Coming.{Came, wrong_came}
-use Rattle.vlt_calls.specs.Called.{ShowsCall, entering_body, CanGoIn, DoesIn}
+use Rattle.vlt_calls.specs.Called.{ShowsCall, entering_body, DoesIn}
 use Rattle.vlt_calls.proofs.Sizes.{slots_at}
 use Rattle.vlt_calls.proofs.Outside.{seen_call}
 

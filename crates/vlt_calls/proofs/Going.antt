@@ -1,25 +1,25 @@
 -- A unit of fuel for a call.
-use Rattle.std.proofs.Common.{◌≡◌, ◌⊎◌, inl, inr, ◌<◌, ◌≤◌, ◌+◌, ◌-◌, ◌==◌, ℕ, Bool, true, false, if◌then◌else◌, List, Option, Some, None, refl, sym, ap, ◌∙◌, subst, arith}
+use Rattle.std.proofs.Common.{◌≡◌, inl, inr, ◌<◌, ◌-◌, ◌==◌, ℕ, true, false, if◌then◌else◌, List, Option, Some, refl, sym, ap, ◌∙◌, subst, arith}
 use Rattle.std.proofs.lemmas.Bool.Decides.{nat_tests}
 use Rattle.vlt_core.specs.Core.{Func, Program}
 use Rattle.vlt_core.specs.View.{program_of}
 use Rattle.vlt_heap.specs.Shown.{heap_of}
 use Rattle.vlt_meaning.specs.World.{Value, World, Frame, fuel_end}
-use Rattle.vlt_meaning.specs.Step.{Step, ends}
+use Rattle.vlt_meaning.specs.Step.{ends}
 use Rattle.vlt_meaning.specs.Run.{Setup}
 use Rattle.vlt_machine.specs.Machine as m
 use Rattle.vlt_machine.specs.Machine.{Conf, at, spending, enter_by}
-use Rattle.vlt_hosts.specs.Hosts.{Outside}
+use Rattle.vlt_steps.specs.Writing.{Outside}
 use Rattle.vlt_hosts.proofs.Writing.{silent}
-use Rattle.vlt_tasks.specs.declared.stop.Stop.{Stop}
-use Rattle.vlt_tasks.specs.declared.stop.Stop.TheVariants.{FuelEnd}
+use Rattle.vlt_steps.specs.declared.stop.Stop.{Stop}
+use Rattle.vlt_steps.specs.declared.stop.Stop.TheVariants.{FuelEnd}
 use Rattle.vlt_tasks.specs.declared.task.Rules.{Rules}
 use Rattle.vlt_tasks.specs.declared.task.Run.{Run}
 use Rattle.vlt_tasks.specs.Shown.{setup_of}
-use Rattle.vlt_tasks.specs.Moves.{Keeps, CameTo, IsRight}
+use Rattle.vlt_tasks.specs.Moves.{IsRight}
 use Rattle.vlt_tasks.proofs.Staying.{keeps_all}
 use Rattle.vlt_tasks.proofs.Coming.{Came, came_since}
-use Rattle.vlt_calls.specs.Called.{KnowsExternal, HasArgs, ShowsCall, CallPart, calling_out, entering_body, going_in, IsReadyIn, GoesRightIn, CanGoIn, DoesIn}
+use Rattle.vlt_calls.specs.Called.{ShowsCall, CallPart, calling_out, entering_body, going_in, IsReadyIn, CanGoIn, DoesIn}
 
 zero_is : (n : ℕ) → n ≡ 0 → (n == 0) ≡ true
 zero_is n e = grind (arith, nat_tests)

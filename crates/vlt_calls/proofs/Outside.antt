@@ -1,43 +1,36 @@
 -- Where a call of an external comes to.
-use Rattle.std.proofs.Common.{◌≡◌, ◌⊎◌, ⊎_elim, inl, inr, ◌<◌, ◌≤◌, ◌+◌, ◌*◌, ℕ, true, List, [], ◌∷◌, length, Option, None, Some, Result, Ok, Err, refl, sym, ap, ◌∙◌, subst, arith, slice_get, reverse}
+use Rattle.std.proofs.Common.{◌≡◌, ◌⊎◌, ⊎_elim, inl, inr, ◌<◌, ◌≤◌, ◌+◌, ◌*◌, ℕ, true, List, [], length, Option, None, Some, Result, Ok, Err, refl, sym, ap, ◌∙◌, subst, arith, slice_get, reverse}
 use Rattle.std.specs.Prelude.{IfSome, IfOk}
 use Rattle.std.specs.Vec.{vec_capacity}
 use Rattle.std.specs.Option.{option_map}
-use Rattle.std.proofs.lemmas.Option.{none-some}
 use Rattle.vlt_base.specs.declared.ids.VarId.{VarId}
 use Rattle.vlt_core.specs.Core.{Func, Program}
 use Rattle.vlt_core.specs.View.{func_of, program_of}
-use Rattle.vlt_heap.specs.Items.{Items}
 use Rattle.vlt_heap.specs.Shown.{IsSound, IsSameSize, heap_of}
-use Rattle.vlt_meaning.specs.World.{Value, World, Frame, Outcome}
+use Rattle.vlt_meaning.specs.World.{Value, World, Frame}
 use Rattle.vlt_meaning.specs.Step.{Step, goes, jumps, leaves, ends}
-use Rattle.vlt_meaning.specs.Run.{Setup}
 use Rattle.vlt_meaning.specs.Externals.{call_external}
 use Rattle.vlt_machine.specs.Machine as m
-use Rattle.vlt_machine.specs.Machine.{Conf, at}
+use Rattle.vlt_machine.specs.Machine.{at}
 use Rattle.vlt_machine.specs.Bounds.{IsAt}
 use Rattle.vlt_machine.proofs.Depths.{external_at}
-use Rattle.vlt_values.specs.declared.values.Values.{Values}
-use Rattle.vlt_values.specs.Shown.{IsTable, Seen, ShowObjects}
-use Rattle.vlt_frames.specs.Frames.{frame_end, IsRunning}
+use Rattle.vlt_values.specs.Shown.{IsTable, Seen}
+use Rattle.vlt_frames.specs.Frames.{IsRunning}
 use Rattle.vlt_frames.proofs.Standing.{running_names}
-use Rattle.vlt_hosts.specs.declared.halt.Halt.{Halt}
-use Rattle.vlt_hosts.specs.declared.halt.Halt.TheVariants as host
-use Rattle.vlt_hosts.specs.Hosts as hosts
-use Rattle.vlt_hosts.specs.Hosts.{Outside, Went, Comes}
+use Rattle.vlt_steps.specs.declared.stop.Stop.{Stop}
+use Rattle.vlt_hosts.specs.Hosts.{Went, Comes}
+use Rattle.vlt_steps.specs.Writing.{Outside}
 use Rattle.vlt_host_calls.specs.Heeded.{IsSameBelow}
 use Rattle.vlt_host_calls.specs.Called.{IsCall, CanCall as CanCallOut, Calls}
-use Rattle.vlt_tasks.specs.declared.stop.Stop.{Stop}
 use Rattle.vlt_tasks.specs.declared.task.Rules.{Rules}
 use Rattle.vlt_tasks.specs.declared.task.Run.{Run}
 use Rattle.vlt_tasks.specs.Own.{IsVar, IsKey}
-use Rattle.vlt_tasks.specs.Halting.{outcome_of, stop_for, halted}
-use Rattle.vlt_tasks.specs.Shown.{setup_of, tasks_left, ShowsTasks}
-use Rattle.vlt_tasks.specs.Moves.{Keeps, CameTo}
+use Rattle.vlt_tasks.specs.Halting.{halted}
+use Rattle.vlt_tasks.specs.Shown.{tasks_left, ShowsTasks}
+use Rattle.vlt_tasks.specs.Moves.{CameTo}
 use Rattle.vlt_tasks.proofs.Stacks.{tasks_kept}
 use Rattle.vlt_tasks.proofs.Staying.{step_goes}
-use Rattle.vlt_tasks.proofs.Coming.{cut_is}
-use Rattle.vlt_calls.specs.Called.{KnowsExternal, HasArgs, ShowsCall, calling_out, IsReadyIn, CanGoIn, DoesIn}
+use Rattle.vlt_calls.specs.Called.{KnowsExternal, ShowsCall, calling_out, CanGoIn, DoesIn}
 
 -- ---- what the crate of externals asks
 
@@ -91,14 +84,6 @@ module _ (rules : Rules) (r : Run) (g : Func) (target : Option VarId) (keys : Li
 
 -- ---- what it comes to
 
-stop_outcome : (h : Halt) (o : Outcome) → hosts.outcome_of h ≡ Some o → outcome_of (stop_for h) ≡ Some o
-stop_outcome (host.Trapped t) o e = e
-stop_outcome host.HeapEnd o e = e
-stop_outcome host.InputEnd o e = e
-stop_outcome host.AnswersEnd o e = e
-stop_outcome (host.BadAnswer n) o e = e
-stop_outcome host.SinkFault o e = absurd (none-some o e)
-
 -- nothing but the tables, the heap and the host changed
 pub record IsSameBeside (old new : Run) : Type 0 where
   pub func : new.func ≡ old.func
@@ -138,21 +123,21 @@ module _ (old new : Run) (f : Func) (ts : List m.Task) (g : Func) (args : List V
     wrote = h.wrote;
   }
 
-  pub out_came : (r : Result (Unit {0}) Halt) → IfOk r (λ u. length new.values.slots.items + g.params * old.values.width ≡ length old.values.slots.items) → (a : Step) → IsAt frame.depth a → Comes q.items new.heap new.values new.host before after r w a
+  pub out_came : (r : Result (Unit {0}) Stop) → IfOk r (λ u. length new.values.slots.items + g.params * old.values.width ≡ length old.values.slots.items) → (a : Step) → IsAt frame.depth a → Comes q.items new.heap new.values new.host before after r w a
       → CameTo w before after (halted r) new (at f ts a) a
   out_came (Ok u) long (goes next v) d c = went_out next v long d c
   out_came (Ok u) long (ends o v) d c = c
   out_came (Ok u) long (jumps b next v) d c = absurd c
   out_came (Ok u) long (leaves b kept v) d c = absurd c
-  out_came (Err h) long (goes next v) d c = cut_is w v before after h c
+  out_came (Err h) long (goes next v) d c = c
   out_came (Err h) long (ends o v) d c =
-      ⊎_elim (λ e. inl e) (λ c. inr (⊎_elim (λ e. inl (record { outcome = stop_outcome h o e.outcome; fuel = e.fuel ∙ q.args_shown.fuel ∙ sym beside.fuel; wrote = e.wrote })) (λ k. inr (cut_is w v before after h k)) c)) c
+      ⊎_elim (λ e. inl e) (λ c. inr (⊎_elim (λ e. inl (record { outcome = e.outcome; fuel = e.fuel ∙ q.args_shown.fuel ∙ sym beside.fuel; wrote = e.wrote })) (λ k. inr k) c)) c
   out_came (Err h) long (jumps b next v) d c = absurd c
   out_came (Err h) long (leaves b kept v) d c = absurd c
 
 module _ (rules : Rules) (old new : Run) (g : Func) (target : Option VarId) (keys : List ℕ) (external : g.external ≡ true) (can : CanGoIn (calling_out (option_map (λ v. v.0) target) keys g) g (option_map (λ v. v.0) target) keys rules old)
     (before after : Outside) (beside : IsSameBeside old new) (below : IsSameBelow old.values new.values) where
-  pub called_out : (r : Result (Unit {0}) Halt) (stop : Option Stop) → stop ≡ halted r → IsSound new.heap → IsSameSize old.heap new.heap → vec_capacity old.host.line ≤ vec_capacity new.host.line
+  pub called_out : (r : Result (Unit {0}) Stop) (stop : Option Stop) → stop ≡ halted r → IsSound new.heap → IsSameSize old.heap new.heap → vec_capacity old.host.line ≤ vec_capacity new.host.line
       → IfOk r (λ u. length new.values.slots.items + g.params * old.values.width ≡ length old.values.slots.items) → Calls (program_of rules.program.now) g target keys old.heap new.heap old.values new.values old.host new.host before after r
       → DoesIn (calling_out (option_map (λ v. v.0) target) keys g) g keys rules old new before after stop
   called_out r stop is sound size line long calls = record {

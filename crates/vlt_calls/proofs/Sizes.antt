@@ -1,31 +1,19 @@
 -- Room for what a call puts into the tables.
-use Rattle.std.proofs.Common.{◌≡◌, ◌<◌, ◌≤◌, ◌+◌, ◌*◌, ◌^◌, ℕ, zero, suc, max, List, [], ◌∷◌, length, Option, None, Some, refl, sym, ap, ◌∙◌, subst, arith, slice_get}
+use Rattle.std.proofs.Common.{◌≡◌, ◌≤◌, ◌+◌, ◌*◌, ℕ, [], ◌∷◌, length, Option, None, Some, refl, ap, subst, arith}
 use Rattle.std.specs.Vec.{vec_capacity}
 use Rattle.std.specs.Option.{option_to_list}
+use Rattle.std.proofs.Math.Nat.{mul-le-mul_right, le-mul_of_pos_right}
 use Rattle.std.proofs.lemmas.Option.{none-some, same_Some}
-use Rattle.vlt_core.specs.Core.{Ty, int, bool, tracked, owning, guarded, variant, owning_variant, CaseDecl, Func, Program}
-use Rattle.vlt_core.specs.Lookups.{VariantOf, variant_in, cases_of, case_at}
+use Rattle.vlt_core.specs.Core.{Ty, int, bool, tracked, owning, guarded, variant, owning_variant, Func, Program}
+use Rattle.vlt_core.specs.Lookups.{variant_in, cases_of}
 use Rattle.vlt_core.specs.Widths.{greatest}
-use Rattle.vlt_frames.specs.Frames.{frame_end, IsRunning}
+use Rattle.vlt_frames.specs.Frames.{frame_end}
 use Rattle.vlt_results.specs.Results.{FitCases, FitsResult}
 use Rattle.vlt_tasks.specs.declared.task.Run.{Run}
 use Rattle.vlt_tasks.specs.Sizes.{case_parts, cases_in_ty, parts_of, IsWide, frame_slots, line_length}
 use Rattle.vlt_tasks.specs.Own.{IsOf, HasOwn}
 use Rattle.vlt_tasks.specs.Moves.{HasRoom}
-
-greatest_at : {A : Type 0} (go : A → ℕ) (xs : List A) (i : ℕ) (x : A) → slice_get xs i ≡ Some x → go x ≤ greatest go xs
-greatest_at go [] i x at = absurd (none-some x at)
-greatest_at go (y ∷ ys) zero x at = let e = ap go (same_Some y x at) in let m : go y ≤ max (go y) (greatest go ys) = omega arith in omega (arith, e, m)
-greatest_at go (y ∷ ys) (suc i) x at = let q = greatest_at go ys i x at in let m : greatest go ys ≤ max (go y) (greatest go ys) = omega arith in omega (arith, q, m)
-
-more_times : (n m w : ℕ) → n ≤ m → n * w ≤ m * w
-more_times zero m w l = omega arith
-more_times (suc n) zero w l = absurd (omega (arith, l))
-more_times (suc n) (suc m) w l = let q = more_times n m w (omega (arith, l)) in omega (arith, q)
-
-pub wide_square : (w : ℕ) → 1 ≤ w → w ≤ w * w
-wide_square zero l = absurd (omega (arith, l))
-wide_square (suc w) l = omega arith
+use Rattle.vlt_tasks.proofs.Sizes.{greatest_at}
 
 module _ (p : Program) (g : Func) (of : IsOf p g) where
   pub slots_at : (width : ℕ) → frame_end width 0 g ≤ frame_slots p width
@@ -66,7 +54,7 @@ module _ (p : Program) (g : Func) (of : IsOf p g) where
   module _ (depth : ℕ) (r : Run) (room : HasRoom p depth r) (own : HasOwn p) where
     pub args_slots : g.params * r.values.width ≤ frame_slots p r.values.width
     args_slots =
-        let a = more_times g.params (length g.vars) r.values.width (own.all of.position g of.at).params in
+        let a = mul-le-mul_right r.values.width (own.all of.position g of.at).params in
         let b = slots_at r.values.width in
         omega (arith, a, b)
 
@@ -74,7 +62,7 @@ module _ (p : Program) (g : Func) (of : IsOf p g) where
     pub value_room : length r.values.slots.items ≤ depth * frame_slots p r.values.width + g.params * r.values.width → length r.values.slots.items + r.values.width ≤ vec_capacity r.values.slots
     value_room values =
         let a = args_slots in
-        let b = wide_square r.values.width room.wide.some in
+        let b = le-mul_of_pos_right {m = r.values.width} r.values.width (omega (arith, room.wide.some)) in
         let c : (depth + 1) * frame_slots p r.values.width ≡ depth * frame_slots p r.values.width + frame_slots p r.values.width = omega arith in
         let d = room.values in
         omega (arith, a, b, c, d, values)

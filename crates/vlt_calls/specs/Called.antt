@@ -1,5 +1,5 @@
 -- Calls of a run under way: what is asked of one, and where it comes to.
-use Rattle.std.specs.Prelude.{◌≡◌, ◌<◌, ◌≤◌, ◌+◌, ◌*◌, ℕ, true, List, length, Option, Some, slice_get, IfSome}
+use Rattle.std.specs.Prelude.{◌≡◌, ◌≤◌, ◌+◌, ◌*◌, ℕ, true, List, length, Option, Some, slice_get, IfSome}
 use Rattle.vlt_core.specs.View.{func_of, program_of}
 use Rattle.vlt_core.specs.Core.{Operand, Form, call, Func, Program}
 use Rattle.vlt_meaning.specs.World.{Value, World, Frame}
@@ -16,11 +16,12 @@ use Rattle.vlt_heap.specs.Shown.{Holds, heap_of}
 use Rattle.vlt_values.specs.Shown.{ShowObjects, ShowsFrame}
 use Rattle.vlt_values.specs.Pushed.{HaveValues}
 use Rattle.vlt_frames.specs.Frames.{frame_end, IsRunning, NamesOwn}
-use Rattle.vlt_hosts.specs.Hosts.{ShowsHost, Outside}
+use Rattle.vlt_hosts.specs.Hosts.{ShowsHost}
+use Rattle.vlt_steps.specs.Writing.{Outside}
 use Rattle.vlt_answers.specs.Read.{AreSets}
 use Rattle.vlt_externals.specs.Told.{AreSingle}
 use Rattle.vlt_host_calls.specs.Heeded.{ListsKeys}
-use Rattle.vlt_tasks.specs.declared.stop.Stop.{Stop}
+use Rattle.vlt_steps.specs.declared.stop.Stop.{Stop}
 use Rattle.vlt_tasks.specs.declared.task.At.TheVariants.{Goes}
 use Rattle.vlt_tasks.specs.declared.task.Rules.{Rules}
 use Rattle.vlt_tasks.specs.declared.task.Run.{Run}

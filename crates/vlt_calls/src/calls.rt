@@ -11,7 +11,8 @@ use crate::external::call_out;
 use vlt_base::{FnId, KeyId, VarId};
 use vlt_core::{Func, Operand};
 use vlt_io::Sink;
-use vlt_tasks::{Rules, Run, Stop};
+use vlt_steps::Stop;
+use vlt_tasks::{Rules, Run};
 use vlt_values::push_operands;
 
 /// A function is called, the values of whose arguments stand behind the frame.

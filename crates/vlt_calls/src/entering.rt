@@ -3,13 +3,14 @@
 ghost use Rattle.std.specs.Prelude.{◌≡◌, false};
 ghost use Rattle.std.specs.Option.{option_map};
 ghost use Rattle.vlt_core.specs.View.{func_of, keys_of};
-ghost use Rattle.vlt_hosts.specs.Hosts.{Outside};
+ghost use Rattle.vlt_steps.specs.Writing.{Outside};
 ghost use Rattle.vlt_calls.specs.Called.{entering_body, CanGoIn, DoesIn};
 
 use vlt_base::{KeyId, VarId};
 use vlt_core::Func;
 use vlt_frames::enter;
-use vlt_tasks::{Rules, Run, Stop, Task, put};
+use vlt_steps::{Stop, put};
+use vlt_tasks::{Rules, Run, Task};
 
 /// A function with a body is entered where the depth allows; the values of its arguments stand behind the frame.
 pub fn enter_body<'a>(

@@ -9,7 +9,8 @@ use vlt_base::{KeyId, VarId};
 use vlt_core::Func;
 use vlt_host_calls::call_external;
 use vlt_io::Sink;
-use vlt_tasks::{Rules, Run, Stop, or_halt};
+use vlt_steps::Stop;
+use vlt_tasks::{Rules, Run, or_halt};
 
 /// An external is called, the values of whose arguments stand behind the frame.
 pub fn call_out<K: Sink>(

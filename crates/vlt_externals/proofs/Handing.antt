@@ -115,7 +115,7 @@ split h values from m n c (a ∷ rest) after e are went =
     record { first = a; rest = rest; first_are = args_first c.items values from m a rest k; rest_are = args_rest c.items values from m a rest k; mid = r.0; first_out = r.1; rest_out = r.2 }
 
 -- arguments are known still
-args_kept : (old new : Items) (values : Values) (from n : ℕ) (args : List Value) → ((k i : ℕ) → IsMadeAt old k i → IsMadeAt new k i) → AreArgs old values from n args → AreArgs new values from n args
+pub args_kept : (old new : Items) (values : Values) (from n : ℕ) (args : List Value) → ((k i : ℕ) → IsMadeAt old k i → IsMadeAt new k i) → AreArgs old values from n args → AreArgs new values from n args
 args_kept old new values from n args keep are = record { count_is = are.count_is; single = are.single; at = all args from are.at }
   where
     all : (xs : List Value) (k : ℕ) → HaveValues old values.slots.items k values.width xs → HaveValues new values.slots.items k values.width xs

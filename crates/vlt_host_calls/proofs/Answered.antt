@@ -1,16 +1,16 @@
 -- What an answer says is done.
-use Rattle.std.proofs.Common.{◌≡◌, ◌⊎◌, inl, inr, ◌<◌, ◌≤◌, ◌+◌, ◌*◌, ℕ, ℤ, Bool, true, false, List, [], ◌∷◌, length, Option, None, Some, Result, Ok, Err, refl, sym, ap, ◌∙◌, subst, arith, slice_get, vec_capacity}
+use Rattle.std.proofs.Common.{◌≡◌, inl, inr, ◌<◌, ℕ, ℤ, Bool, true, false, List, [], length, Option, None, Some, Result, Ok, Err, refl, sym, ap, ◌∙◌, subst}
 use Rattle.std.specs.List.{zip}
 use Rattle.std.specs.Result.{is_ok}
 use Rattle.std.proofs.lemmas.Bool.{false≢true}
 use Rattle.std.proofs.lemmas.Option.{none-some, same_Some}
 use Rattle.vlt_base.specs.declared.HeapEnd.{HeapEnd}
 use Rattle.vlt_core.specs.Core.{Ty, int, bool, tracked, owning, guarded, variant, owning_variant, CaseDecl, Func, Program}
-use Rattle.vlt_core.specs.Lookups.{after_set, VariantOf, variant_in, case_at, keys_in}
+use Rattle.vlt_core.specs.Lookups.{VariantOf, variant_in, case_at, keys_in}
 use Rattle.vlt_heap.specs.declared.heap.Heap.{Heap}
 use Rattle.vlt_heap.specs.Items.{Items, IsMadeAt}
 use Rattle.vlt_heap.specs.Shown.{heap_of}
-use Rattle.vlt_meaning.specs.World.{Object as Thing, Frame, Outcome, bad_answer, heap_end, is_fault, is_out, loose, missing}
+use Rattle.vlt_meaning.specs.World.{Object as Thing, Frame, Outcome, bad_answer, heap_end, is_out, loose, missing}
 use Rattle.vlt_meaning.specs.Found.{Found, ◌>>=◌, or_fault}
 use Rattle.vlt_meaning.specs.Objects.{moved}
 use Rattle.vlt_meaning.specs.Calls.{entries_after}
@@ -20,18 +20,18 @@ use Rattle.vlt_machine.specs.Reached.{NamesKeys}
 use Rattle.vlt_values.specs.declared.values.Values.{Values}
 use Rattle.vlt_values.specs.Shown.{ShowObjects, key_at, Seen, IsGrown}
 use Rattle.vlt_values.proofs.Pushing.{frame_grown}
-use Rattle.vlt_acts.specs.Acts.{Shows, IsSameFrame}
+use Rattle.vlt_acts.specs.Acts.{Shows}
 use Rattle.vlt_objects.proofs.Tables.{keys_within}
-use Rattle.vlt_hosts.specs.declared.halt.Halt.{Halt}
-use Rattle.vlt_hosts.specs.declared.halt.Halt.TheVariants.{HeapEnd as heap_ended, BadAnswer}
+use Rattle.vlt_steps.specs.declared.stop.Stop.{Stop}
+use Rattle.vlt_steps.specs.declared.stop.Stop.TheVariants.{HeapEnd as heap_ended, BadAnswer}
 use Rattle.vlt_externals.specs.Back.{AreBack, ComesBack}
 use Rattle.vlt_externals.proofs.Going.{seen_after, shows_same}
 use Rattle.vlt_answers.specs.Whole.{case_number, Fits}
-use Rattle.vlt_results.specs.Stated.{Sets, SetsEntries, ComesLoose, SetsCase, AreCaseObjects}
-use Rattle.vlt_results.specs.Results.{AreBefore, NamesCases, Made, result_made, IsResultMade, PutsResult}
+use Rattle.vlt_results.specs.Stated.{SetsEntries, ComesLoose, SetsCase, AreCaseObjects}
+use Rattle.vlt_results.specs.Results.{AreBefore, Made, result_made, IsResultMade, PutsResult}
 use Rattle.vlt_results.proofs.Readings.{case_is}
 use Rattle.vlt_results.proofs.Casing.{objects_are}
-use Rattle.vlt_host_calls.specs.Heeded.{ListsKeys, ComesIn, SetsResult, heeded, HasHeeded, IsHeeded, Heeds, IsSameBelow}
+use Rattle.vlt_host_calls.specs.Heeded.{ListsKeys, ComesIn, SetsResult, heeded, IsHeeded, Heeds}
 use Rattle.vlt_host_calls.proofs.Keys.{are_given, are_held, cases_named}
 
 -- ---- the case that an answer gives
@@ -92,7 +92,7 @@ module _ (p : Program) (g : Func) (keys : List ℕ) (rs : List ℤ) where
 -- ---- the whole answer
 
 -- how a call that makes its result ends
-abbrev pub made_or_ended : Result (Unit {0}) HeapEnd → Result (Unit {0}) Halt
+abbrev pub made_or_ended : Result (Unit {0}) HeapEnd → Result (Unit {0}) Stop
 made_or_ended (Ok u) = Ok u
 made_or_ended (Err e) = Err heap_ended
 
@@ -115,7 +115,7 @@ module _ (p : Program) (g : Func) (keys : List ℕ) (n b : ℕ) (frame : Frame) 
 
 module _ (p : Program) (g : Func) (keys : List ℕ) (n : ℕ) (zs : List ℤ) (old : Values) (h : Heap) (lists : ListsKeys p g keys) where
   bad_end : (items : Items) (heap : Heap) (values : Values) (to : ℕ) → IsHeeded items heap values to (Err (BadAnswer n)) (Err (bad_answer n))
-  bad_end items heap values to = inr (record { halt = BadAnswer n; is = refl; outcome = refl })
+  bad_end items heap values to = inr (record { stop = BadAnswer n; is = refl; outcome = refl })
 
   pub not_read : (new : Values) (last : Heap) → answer_of p g zs ≡ None → Heeds p g keys n zs old new h last (Err (BadAnswer n))
   not_read new last none c known =
@@ -123,7 +123,7 @@ module _ (p : Program) (g : Func) (keys : List ℕ) (n : ℕ) (zs : List ℤ) (o
       (bad_end c.items last new (length old.slots.items))
 
   module _ (rs : List ℤ) (fits : Fits p g zs rs) where
-    read_on : (c : Seen h old) (last : Heap) (new : Values) (r : Result (Unit {0}) Halt) → IsHeeded c.items last new (length old.slots.items) r (after_answer p g keys n (heap_of h) c.frame fits.answer (come_back keys c.frame g.clause c.objects))
+    read_on : (c : Seen h old) (last : Heap) (new : Values) (r : Result (Unit {0}) Stop) → IsHeeded c.items last new (length old.slots.items) r (after_answer p g keys n (heap_of h) c.frame fits.answer (come_back keys c.frame g.clause c.objects))
         → IsHeeded c.items last new (length old.slots.items) r (heeded (heap_of h) p g keys n c.frame zs c.objects)
     read_on c last new r k = subst (λ x. IsHeeded c.items last new (length old.slots.items) r (from_answer p g keys n (heap_of h) c.frame x c.objects)) (sym fits.is) k
 
@@ -137,7 +137,7 @@ module _ (p : Program) (g : Func) (keys : List ℕ) (n : ℕ) (zs : List ℤ) (o
 
     module _ (one : Heap) (comes : ComesBack keys g.clause old h one true) where
       -- the objects of the clause's keys are back
-      back_on : (c : Seen h old) (last : Heap) (new : Values) (r : Result (Unit {0}) Halt) → NamesKeys g keys c.frame
+      back_on : (c : Seen h old) (last : Heap) (new : Values) (r : Result (Unit {0}) Stop) → NamesKeys g keys c.frame
           → ((back : List Thing) (s : Shows c.items one old c.frame back) → IsHeeded c.items last new (length old.slots.items) r (after_back p g keys n (heap_of h) c.frame fits.answer (moved is_out loose (case_objects p g keys c.frame fits.answer.result) back)))
           → IsHeeded c.items last new (length old.slots.items) r (heeded (heap_of h) p g keys n c.frame zs c.objects)
       back_on c last new r known go =
@@ -184,7 +184,7 @@ module _ (p : Program) (g : Func) (keys : List ℕ) (n : ℕ) (zs : List ℤ) (o
           where
             ended : (x : Result (Unit {0}) HeapEnd) (o : Outcome) → o ≡ heap_end → is_ok x ≡ false → IsHeeded c.items last new to (made_or_ended x) (Err o)
             ended (Ok u) o e bad = absurd (false≢true (sym bad))
-            ended (Err q) o e bad = inr (record { halt = heap_ended; is = refl; outcome = ap (λ z. Some z) (sym e) })
+            ended (Err q) o e bad = inr (record { stop = heap_ended; is = refl; outcome = ap (λ z. Some z) (sym e) })
 
             by : (c : Seen h old) (items : Items) → ((a m : ℕ) → IsMadeAt c.items a m → IsMadeAt items a m) → (x : Found Made) → IsResultMade items last new to r x → IsHeeded c.items last new to (made_or_ended r) x
             by c items keep (Ok m) k = record {

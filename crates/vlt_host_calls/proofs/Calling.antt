@@ -1,5 +1,5 @@
 -- The whole call of an external.
-use Rattle.std.proofs.Common.{◌≡◌, ◌⊎◌, inl, inr, ◌<◌, ◌≤◌, ◌+◌, ◌-◌, ◌*◌, ℕ, ℤ, Bool, true, false, if◌then◌else◌, List, [], ◌∷◌, ◌++◌, drop, length, Option, None, Some, Result, Ok, Err, refl, sym, ap, ◌∙◌, subst, arith, slice_get, vec_capacity}
+use Rattle.std.proofs.Common.{◌≡◌, inl, inr, ◌<◌, ◌≤◌, ◌+◌, ◌-◌, ◌*◌, ℕ, ℤ, Bool, true, false, if◌then◌else◌, List, [], ◌∷◌, ◌++◌, drop, length, Option, None, Some, Result, Ok, Err, refl, sym, ap, ◌∙◌, subst, arith, slice_get, vec_capacity}
 use Rattle.std.specs.Prelude.{IfSome}
 use Rattle.std.specs.List.{flat_map}
 use Rattle.std.specs.Option.{option_map}
@@ -10,42 +10,43 @@ use Rattle.vlt_base.specs.declared.ids.VarId.{VarId}
 use Rattle.vlt_io.specs.Outside.{Rose, Grew, GrewByPart}
 use Rattle.vlt_numbers.specs.Answers.{lists_of}
 use Rattle.vlt_core.specs.Core.{Entry, Func, Program}
-use Rattle.vlt_core.specs.Lookups.{is_held_before, before_set}
+use Rattle.vlt_core.specs.Lookups.{is_held_before}
 use Rattle.vlt_rings.proofs.Rows.{row_fits}
 use Rattle.vlt_heap.specs.declared.heap.Heap.{Heap}
 use Rattle.vlt_heap.specs.Items.{Items, IsMadeAt}
 use Rattle.vlt_heap.specs.Shown.{heap_of}
-use Rattle.vlt_meaning.specs.World.{Value, objects_in, out, is_at, is_loose, Object as Thing, called, line_of, World, Frame, Outcome, answers_end, missing, is_fault}
+use Rattle.vlt_meaning.specs.World.{Value, objects_in, out, is_at, is_loose, Object as Thing, called, line_of, World, Frame, Outcome, missing, is_fault}
 use Rattle.vlt_meaning.specs.Found.{Found, ◌>>=◌, or_fault}
 use Rattle.vlt_meaning.specs.Values.{held_object}
-use Rattle.vlt_meaning.specs.Step.{Step, goes, ends, jumps, leaves, with_event, with_answer, first_answer, with_moved, with_objects, with_var, deliver}
+use Rattle.vlt_meaning.specs.Step.{goes, ends, with_event, with_answer, first_answer, with_objects, with_var, deliver}
 use Rattle.vlt_meaning.specs.Calls.{passed_object, passed_objects}
 use Rattle.vlt_meaning.specs.Externals.{taken_objects, call_external}
-use Rattle.vlt_machine.specs.Reached.{NamesKeys}
 use Rattle.vlt_values.specs.declared.values.Values.{Values}
 use Rattle.vlt_values.specs.Parts.{HaveValue}
-use Rattle.vlt_values.specs.Pushed.{HaveValues}
-use Rattle.vlt_values.specs.Shown.{ShowObjects, ShowsFrame, Seen, IsTable, IsCut, var_at, key_at, AreApart}
+use Rattle.vlt_values.specs.Shown.{ShowObjects, ShowsFrame, Seen, IsCut, var_at, AreApart}
 use Rattle.vlt_values.proofs.Touching.{OrFault, then_fault, some_fault, held_fault, so_fault}
 use Rattle.vlt_values.proofs.Writing.{value_moved}
 use Rattle.vlt_acts.specs.Acts.{IsSameFrame, Shows}
-use Rattle.vlt_acts.proofs.Keeping.{value_kept, assigned}
+use Rattle.vlt_acts.proofs.Keeping.{assigned}
 use Rattle.vlt_objects.proofs.Going.{IsSafe, found_safe, moved_safe}
 use Rattle.vlt_objects.proofs.Tables.{cut_shown}
-use Rattle.vlt_frames.specs.Frames.{frame_end, IsRunning, NamesOwn}
+use Rattle.vlt_frames.specs.Frames.{frame_end}
 use Rattle.vlt_frames.specs.Left.{value_at}
 use Rattle.vlt_frames.specs.Naming.{KeysBelow, IsCopiedTo, IsDelivered}
-use Rattle.vlt_hosts.specs.declared.halt.Halt.{Halt}
-use Rattle.vlt_hosts.specs.declared.halt.Halt.TheVariants.{AnswersEnd, SinkFault}
+use Rattle.vlt_steps.specs.declared.stop.Stop.{Stop}
+use Rattle.vlt_steps.specs.declared.stop.Stop.TheVariants.{AnswersEnd, SinkFault}
 use Rattle.vlt_hosts.specs.declared.host.Host.{Host}
-use Rattle.vlt_hosts.specs.Hosts.{ShowsHost, Outside, Wrote, outcome_of, Cut, Comes}
+use Rattle.vlt_hosts.specs.Hosts.{Comes}
+use Rattle.vlt_steps.specs.Writing.{Outside}
+use Rattle.vlt_hosts.specs.Stops.{Wrote, outcome_of, IsCut as IsCutOff}
 use Rattle.vlt_hosts.proofs.Writing.{one_written, one_cut}
-use Rattle.vlt_externals.specs.Told.{AreArgs, TellsCall, IsTaken}
+use Rattle.vlt_externals.proofs.Handing.{args_kept}
+use Rattle.vlt_externals.specs.Told.{AreArgs, TellsCall}
 use Rattle.vlt_externals.specs.Sent.{AreNamed, taken_out, CanTake, Takes, owned_out, CanHand, Hands}
 use Rattle.vlt_externals.proofs.Going.{seen_after}
 use Rattle.vlt_results.specs.Results.{AreBefore, Made}
 use Rattle.vlt_host_calls.specs.Heeded.{ListsKeys, heeded, HasHeeded, IsHeeded, Heeds, IsSameBelow}
-use Rattle.vlt_host_calls.specs.Called.{IsCall, called_to, CanCall, Calls}
+use Rattle.vlt_host_calls.specs.Called.{IsCall, CanCall, Calls}
 use Rattle.vlt_host_calls.proofs.Keys.{are_named}
 use Rattle.vlt_host_calls.proofs.Leading.{LeadsOn, answered, then_heed, then_hand, then_take, delivered_leads, external_leads}
 
@@ -65,13 +66,6 @@ passed_fault p g keys frame objects (e ∷ es) = by (passed_fault p g keys frame
     by rest false = rest
 
 -- ---- where the arguments stand
-
-args_kept : (old new : Items) (values : Values) (from n : ℕ) (args : List Value) → ((k i : ℕ) → IsMadeAt old k i → IsMadeAt new k i) → AreArgs old values from n args → AreArgs new values from n args
-args_kept old new values from n args keep are = record { count_is = are.count_is; single = are.single; at = all args from are.at }
-  where
-    all : (xs : List Value) (k : ℕ) → HaveValues old values.slots.items k values.width xs → HaveValues new values.slots.items k values.width xs
-    all [] k h = tt
-    all (x ∷ xs) k h = (value_kept old new values.slots.items k values.width x keep h.0, all xs (k + values.width) h.1)
 
 module _ (p : Program) (g : Func) (keys : List ℕ) (h : Heap) (old : Values) (host : Host) (c : Seen h old) (w : World) (args : List Value) (call : IsCall p g keys h old host c w args) where
   vars_are : old.vars * old.width ≡ length c.func.vars * old.width
@@ -144,7 +138,7 @@ module _ (p : Program) (g : Func) (target : Option VarId) (keys : List ℕ) (h :
 -- ---- what the call comes to
 
 module _ (items : Items) (heap : Heap) (values : Values) (host : Host) (start end : Outside) (w : World) where
-  pub fault_comes : (r : Result (Unit {0}) Halt) (o : Outcome) (v : World) → is_fault o ≡ true → Comes items heap values host start end r w (ends o v)
+  pub fault_comes : (r : Result (Unit {0}) Stop) (o : Outcome) (v : World) → is_fault o ≡ true → Comes items heap values host start end r w (ends o v)
   fault_comes (Ok u) o v bad = bad
   fault_comes (Err k) o v bad = inl bad
 
@@ -184,12 +178,12 @@ module _ (p : Program) (g : Func) (target : Option VarId) (keys : List ℕ) (h :
       (λ none. inr (inr (one (with_event w (called g.name args)) refl)))
       (λ zs rest first second at taken handed. by rest second (heeded (heap_of h) c.program g keys (w.taken + 1) c.frame zs second))
     where
-      one : (v : World) → v.events ≡ w.events ++ called g.name args ∷ [] → Cut start end SinkFault w v
+      one : (v : World) → v.events ≡ w.events ++ called g.name args ∷ [] → IsCutOff w start end SinkFault v
       one v added = one_cut w v (called g.name args) start end added (subst (GrewByPart start.written end.written) (line_is c w args call) part) rose counted
 
       by : (rest : List (List ℤ)) (second : List Thing) (x : Found Made) → LeadsOn (Comes c.items last new after start end (Err SinkFault) w) (deliver c.func (option_map (λ v. v.0) target)) (answered (called g.name args) w rest second) x
-      by rest second (Ok m) = delivered_leads (Comes c.items last new after start end (Err SinkFault) w) (λ o v bad. inl bad) c.func (option_map (λ v. v.0) target) m.value m.frame _ (λ e. one _ refl) (λ v x e f. one _ refl)
-      by rest second (Err o) = λ objects. inr (inr (one _ refl))
+      by rest second (Ok m) = delivered_leads (Comes c.items last new after start end (Err SinkFault) w) (λ o v bad. inl bad) c.func (option_map (λ v. v.0) target) m.value m.frame _ (λ e. one (with_event w (called g.name args)) refl) (λ v x e f. one (with_event w (called g.name args)) refl)
+      by rest second (Err o) = λ objects. inr (inr (one (with_event w (called g.name args)) refl))
 
   module _ (grew : Grew start.written end.written line) (counted : start.faults ≤ end.faults) where
     wrote : (c : Seen h old) (w : World) (args : List Value) → IsCall p g keys h old host c w args → Wrote w (with_event w (called g.name args)) start end
@@ -235,7 +229,7 @@ module _ (p : Program) (g : Func) (target : Option VarId) (keys : List ℕ) (h :
           cut_kept : (a n : ℕ) → IsMadeAt c.items a n → IsMadeAt shows_out.items a n
           cut_kept a n made = shows_out.kept a n (shows_sent.kept a n made)
 
-          heeded_so : (r : Result (Unit {0}) Halt) → Heeds p g keys (host.taken + 1) zs cut two out_heap last r → IsHeeded shows_out.items last two from r (heeded (heap_of h) c.program g keys (w.taken + 1) c.frame zs second)
+          heeded_so : (r : Result (Unit {0}) Stop) → Heeds p g keys (host.taken + 1) zs cut two out_heap last r → IsHeeded shows_out.items last two from r (heeded (heap_of h) c.program g keys (w.taken + 1) c.frame zs second)
           heeded_so r heeds =
               subst (λ k. IsHeeded shows_out.items last two k r (heeded (heap_of h) c.program g keys (w.taken + 1) c.frame zs second)) cuts.long
               (subst (λ b. IsHeeded shows_out.items last two (length cut.slots.items) r (heeded b c.program g keys (w.taken + 1) c.frame zs second)) budget
@@ -252,7 +246,7 @@ module _ (p : Program) (g : Func) (target : Option VarId) (keys : List ℕ) (h :
             first_of d (y ∷ ys) = y
 
       -- the answer doesn't keep the clause, or a new object can't be made
-      pub halts : (k : Halt) → Heeds p g keys (host.taken + 1) zs cut two out_heap last (Err k) → Calls p g target keys h last old two host after start end (Err k)
+      pub halts : (k : Stop) → Heeds p g keys (host.taken + 1) zs cut two out_heap last (Err k) → Calls p g target keys h last old two host after start end (Err k)
       halts k heeds c w args call =
           external_leads (Comes c.items last two after start end (Err k) w) (λ o v bad. inl bad) (heap_of h) c.program c.func (option_map (λ v. v.0) target) keys g args c.frame w (passed_fault c.program g keys c.frame w.objects g.clause)
           (λ none. absurd (some_left (sym taken ∙ sym call.hosts.answers ∙ none)))
@@ -264,14 +258,14 @@ module _ (p : Program) (g : Func) (target : Option VarId) (keys : List ℕ) (h :
           some_left : {z : List ℤ} {zs : List (List ℤ)} → z ∷ zs ≡ [] → ⊥
           some_left e = absurd (omega (arith, ap length e))
 
-          halt_in : Result (Unit {0}) Halt → Halt
-          halt_in (Ok u) = k
-          halt_in (Err j) = j
+          stop_in : Result (Unit {0}) Stop → Stop
+          stop_in (Ok u) = k
+          stop_in (Err j) = j
 
           by : (shown : Items) (rest : List (List ℤ)) (second : List Thing) (x : Found Made) → IsHeeded shown last two from (Err k) x → LeadsOn (Comes c.items last two after start end (Err k) w) (deliver c.func (option_map (λ v. v.0) target)) (answered (called g.name args) w rest second) x
           by shown rest second (Ok m) j = absurd (false≢true (ap is_ok j.is))
           by shown rest second (Err o) (inl bad) = λ objects. inl bad
-          by shown rest second (Err o) (inr j) = λ objects. inr (inl (record { outcome = ap outcome_of (ap halt_in j.is) ∙ j.outcome; fuel = refl; wrote = let q = wrote c w args call in record { events = q.events; added = q.added; grew = q.grew; counted = q.counted } }))
+          by shown rest second (Err o) (inr j) = λ objects. inr (inl (record { outcome = ap outcome_of (ap stop_in j.is) ∙ j.outcome; fuel = refl; wrote = let q = wrote c w args call in record { events = q.events; added = q.added; grew = q.grew; counted = q.counted } }))
 
       -- what it says is done
       pub goes_on : (three four : Values) → IfSome target (λ v. v.0 < old.vars) → after.input.now ≡ host.input.now → after.answers.now ≡ host.answers.now → after.taken ≡ host.taken + 1 → IsSameBelow cut two → length two.slots.items ≡ length cut.slots.items + cut.width

@@ -1,16 +1,15 @@
 -- Keys that a call lists name objects.
-use Rattle.std.proofs.Common.{◌≡◌, ℕ, suc, Bool, true, false, ◌&&◌, not, List, [], ◌∷◌, Option, Some, refl, ap, ◌∙◌, slice_get}
+use Rattle.std.proofs.Common.{◌≡◌, ℕ, suc, Bool, true, false, ◌&&◌, not, List, [], ◌∷◌, Some, refl, ap, ◌∙◌, slice_get}
 use Rattle.std.specs.Option.{option_and_then}
 use Rattle.std.proofs.lemmas.Bool.{false≢true}
-use Rattle.vlt_core.specs.Core.{CaseKey, CaseDecl, Mode, kept, taken, given, fresh, Entry, Func, Program}
-use Rattle.vlt_core.specs.Lookups.{is_before, is_fresh, is_held_before, is_new, VariantOf, variant_in, case_at}
+use Rattle.vlt_core.specs.Core.{CaseKey, Mode, kept, taken, given, fresh, Entry, Func, Program}
+use Rattle.vlt_core.specs.Lookups.{is_before, is_fresh, is_held_before, is_new}
 use Rattle.vlt_meaning.specs.World.{Frame}
-use Rattle.vlt_meaning.specs.Externals.{is_given}
 use Rattle.vlt_machine.specs.Reached.{NamesKeys}
 use Rattle.vlt_externals.specs.Sent.{IsNamed, AreNamed}
 use Rattle.vlt_externals.specs.Back.{AreGiven}
-use Rattle.vlt_results.specs.Stated.{key_for, AreOldNamed, AreCaseObjects}
-use Rattle.vlt_results.specs.Results.{HasCaseObjects, NamesCases}
+use Rattle.vlt_results.specs.Stated.{AreOldNamed, AreCaseObjects}
+use Rattle.vlt_results.specs.Results.{NamesCases}
 use Rattle.vlt_host_calls.specs.Heeded.{IsOldKey, StandsFor, ListsKeys}
 
 right_false : (a b : Bool) → (a && not b) ≡ true → b ≡ false

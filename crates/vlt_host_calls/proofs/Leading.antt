@@ -1,11 +1,10 @@
 -- What holds of the step that a call of an external leads to, from what holds of where its parts come to.
-use Rattle.std.proofs.Common.{◌≡◌, ℕ, ◌+◌, ℤ, Bool, true, false, if◌then◌else◌, List, [], ◌∷◌, ◌++◌, length, Option, None, Some, Ok, Err, refl, slice_get}
+use Rattle.std.proofs.Common.{◌≡◌, ℕ, ◌+◌, ℤ, Bool, true, false, if◌then◌else◌, List, [], ◌∷◌, ◌++◌, length, Option, None, Some, Ok, Err, refl}
 use Rattle.std.specs.List.{flat_map}
 use Rattle.vlt_core.specs.Core.{Ty, Func, Program}
 use Rattle.vlt_core.specs.Lookups.{VariantOf, variant_in, case_at, case_keys}
 use Rattle.vlt_meaning.specs.World.{Part, number, reference, owned, objects_in, Value, one, of_case, held, loose, out, is_at, is_loose, Object as Thing, is_full, Event, called, World, Frame, Outcome, heap_end, answers_end, fault, missing, no_value, not_empty, is_fault}
 use Rattle.vlt_meaning.specs.Found.{Found, ◌>>=◌, or_fault}
-use Rattle.vlt_meaning.specs.Objects.{moved}
 use Rattle.vlt_meaning.specs.Step.{Step, goes, ends, with_found, where_so, with_objects, with_event, first_answer, with_answer, with_moved, with_made, with_var, with_key, fill, is_fillable, deliver}
 use Rattle.vlt_meaning.specs.Calls.{entries_after, passed_objects, Binding}
 use Rattle.vlt_meaning.specs.HostAnswers.{Piece, plain, new_in, Result as Given, nothing, piece, case_with}
@@ -13,7 +12,7 @@ use Rattle.vlt_meaning.specs.Externals.{taken_objects, from_host, type_in, paylo
 use Rattle.vlt_values.proofs.Touching.{OrFault}
 use Rattle.vlt_objects.proofs.Going.{moved_fault}
 use Rattle.vlt_externals.specs.Sent.{taken_out, owned_out}
-use Rattle.vlt_results.specs.Results.{part_made, pieces_made, variant_made, Made, fresh_made, result_made}
+use Rattle.vlt_results.specs.Results.{pieces_made, variant_made, Made, fresh_made, result_made}
 use Rattle.vlt_host_calls.specs.Heeded.{heeded}
 
 -- what is found is gone on from, with these objects; else the run ends, whatever objects there are

@@ -1,5 +1,5 @@
 -- What a call of an external comes to.
-use Rattle.std.specs.Prelude.{◌≡◌, ◌<◌, ◌+◌, ◌*◌, ℕ, false, List, length, Option, Some, Result, slice_get}
+use Rattle.std.specs.Prelude.{◌≡◌, ◌<◌, ◌*◌, ℕ, false, List, length, Option, Some, Result, slice_get}
 use Rattle.std.specs.Option.{option_map}
 use Rattle.vlt_base.specs.declared.ids.VarId.{VarId}
 use Rattle.vlt_core.specs.Core.{Func, Program}
@@ -12,9 +12,10 @@ use Rattle.vlt_heap.specs.Shown.{heap_of}
 use Rattle.vlt_values.specs.declared.values.Values.{Values}
 use Rattle.vlt_values.specs.Shown.{Seen}
 use Rattle.vlt_frames.specs.Frames.{frame_end, IsRunning, NamesOwn}
-use Rattle.vlt_hosts.specs.declared.halt.Halt.{Halt}
+use Rattle.vlt_steps.specs.declared.stop.Stop.{Stop}
 use Rattle.vlt_hosts.specs.declared.host.Host.{Host}
-use Rattle.vlt_hosts.specs.Hosts.{ShowsHost, Outside, Comes}
+use Rattle.vlt_hosts.specs.Hosts.{ShowsHost, Comes}
+use Rattle.vlt_steps.specs.Writing.{Outside}
 use Rattle.vlt_externals.specs.Told.{AreArgs}
 
 -- behind the frame the values of the arguments stand, and the keys that the call lists name objects
@@ -46,7 +47,7 @@ pub record CanCall (p : Program) (g : Func) (target : Option VarId) (keys : List
   pub right : IsSafe (called_to h values seen g target keys args world)
 
 -- whatever the tables showed
-abbrev pub Calls : Program → Func → (target : Option VarId) → (keys : List ℕ) → (before after : Heap) → (old new : Values) → (first last : Host) → (start end : Outside) → Result (Unit {0}) Halt → Type 0
+abbrev pub Calls : Program → Func → (target : Option VarId) → (keys : List ℕ) → (before after : Heap) → (old new : Values) → (first last : Host) → (start end : Outside) → Result (Unit {0}) Stop → Type 0
 Calls p g target keys before after old new first last start end r =
     (c : Seen before old) (w : World) (args : List Value) → IsCall p g keys before old first c w args →
     Comes c.items after new last start end r w (called_to before old c g target keys args w)

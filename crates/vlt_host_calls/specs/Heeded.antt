@@ -1,5 +1,5 @@
 -- What an answer says is done.
-use Rattle.std.specs.Prelude.{◌≡◌, ◌⊎◌, ◌≤◌, ◌<◌, ◌+◌, ℕ, ℤ, Bool, true, false, List, [], length, Option, None, Some, Result, Ok, Err, slice_get, vec_capacity}
+use Rattle.std.specs.Prelude.{◌≡◌, ◌⊎◌, ◌≤◌, ◌<◌, ℕ, ℤ, Bool, true, false, List, [], length, Option, None, Some, Result, Ok, Err, slice_get, vec_capacity}
 use Rattle.std.specs.List.{zip}
 use Rattle.std.specs.Borrow.{Bor}
 use Rattle.vlt_base.specs.declared.ids.TypeId.{TypeId}
@@ -21,8 +21,8 @@ use Rattle.vlt_values.specs.declared.values.Values.{Values}
 use Rattle.vlt_values.specs.Parts.{HaveValue}
 use Rattle.vlt_values.specs.Shown.{Seen}
 use Rattle.vlt_acts.specs.Acts.{Shows}
-use Rattle.vlt_hosts.specs.declared.halt.Halt.{Halt}
-use Rattle.vlt_hosts.specs.Hosts.{outcome_of}
+use Rattle.vlt_steps.specs.declared.stop.Stop.{Stop}
+use Rattle.vlt_hosts.specs.Stops.{outcome_of}
 use Rattle.vlt_externals.specs.Back.{AreBack}
 use Rattle.vlt_results.specs.Stated.{Sets}
 use Rattle.vlt_results.specs.Results.{AreBefore, NamesCases, Made, result_made}
@@ -72,24 +72,24 @@ heeded b p g keys n frame zs objects = do
   q ← or_bad n (fitting p g keys frame zs objects)
   result_made b p g keys q.answer.states q.answer.result frame (with_answered p g keys frame q.answer q.objects)
 
-pub record HasHeeded (before : Items) (heap : Heap) (values : Values) (to : ℕ) (r : Result (Unit {0}) Halt) (m : Made) : Type 0 where
+pub record HasHeeded (before : Items) (heap : Heap) (values : Values) (to : ℕ) (r : Result (Unit {0}) Stop) (m : Made) : Type 0 where
   pub is : r ≡ Ok tt
   pub shows : Shows before heap values m.frame m.objects
   pub value : (a : Value) → m.value ≡ Some a → HaveValue shows.items values.slots.items to values.width a
   pub keys_before : AreBefore to values m.frame
 
-pub record HasHalted (r : Result (Unit {0}) Halt) (o : Outcome) : Type 0 where
-  pub halt : Halt
-  pub is : r ≡ Err halt
-  pub outcome : outcome_of halt ≡ Some o
+pub record HasHalted (r : Result (Unit {0}) Stop) (o : Outcome) : Type 0 where
+  pub stop : Stop
+  pub is : r ≡ Err stop
+  pub outcome : outcome_of stop ≡ Some o
 
 -- what it says was done, or the run ends, or goes wrong
-abbrev pub IsHeeded : Items → Heap → Values → (to : ℕ) → Result (Unit {0}) Halt → Found Made → Type 0
+abbrev pub IsHeeded : Items → Heap → Values → (to : ℕ) → Result (Unit {0}) Stop → Found Made → Type 0
 IsHeeded before heap values to r (Ok m) = HasHeeded before heap values to r m
 IsHeeded before heap values to r (Err o) = (is_fault o ≡ true) ⊎ HasHalted r o
 
 -- whatever the tables showed; the value stands behind all that stood there
-abbrev pub Heeds : Program → Func → (keys : List ℕ) → (position : ℕ) → List ℤ → (old new : Values) → (before after : Heap) → Result (Unit {0}) Halt → Type 0
+abbrev pub Heeds : Program → Func → (keys : List ℕ) → (position : ℕ) → List ℤ → (old new : Values) → (before after : Heap) → Result (Unit {0}) Stop → Type 0
 Heeds p g keys n zs old new before after r =
     (c : Seen before old) → NamesKeys g keys c.frame →
     IsHeeded c.items after new (length old.slots.items) r (heeded (heap_of before) p g keys n c.frame zs c.objects)

@@ -16,8 +16,9 @@ use vlt_base::{KeyId, VarId};
 use vlt_core::{Func, Program};
 use vlt_externals::{call_line, send_owned, send_taken, take_answer};
 use vlt_heap::Heap;
-use vlt_hosts::{Halt, Host};
+use vlt_hosts::Host;
 use vlt_io::Sink;
+use vlt_steps::Stop;
 use vlt_values::Values;
 
 /// Copies the value at the end to the variable, if there is one.
@@ -50,7 +51,7 @@ pub fn call_external<K: Sink>(
     target: Option<VarId>,
     keys: &[KeyId],
     sink: &mut K,
-) -> Result<(), Halt>
+) -> Result<(), Stop>
     requires sound { IsSound heap.old }
     requires table { IsTable values.old }
     requires wide { 1 ≤ values.old.width }
@@ -79,16 +80,16 @@ pub fn call_external<K: Sink>(
     call_line(&mut host.line, g.name.as_slice(), values, from, g.params);
     match sink.write(&host.line) {
         Ok(()) => {}
-        Err(_) => return Err(Halt::SinkFault),
+        Err(_) => return Err(Stop::SinkFault),
     }
     let Some(answer) = take_answer(host) else {
-        return Err(Halt::AnswersEnd);
+        return Err(Stop::AnswersEnd);
     };
     send_taken(values, heap, g.clause.as_slice(), keys);
     send_owned(values, heap, from, g.params);
     values.truncate(from);
     match heed(values, heap, program, g, keys, answer, host.taken) {
-        Err(halt) => Err(halt),
+        Err(stop) => Err(stop),
         Ok(()) => {
             deliver(values, target);
             values.truncate(from);

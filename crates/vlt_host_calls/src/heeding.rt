@@ -15,8 +15,8 @@ use vlt_base::{KeyId, TypeId};
 use vlt_core::{Func, Program, Ty};
 use vlt_externals::take_back;
 use vlt_heap::Heap;
-use vlt_hosts::Halt;
 use vlt_results::{put_result, set_case, set_entries, take_case};
+use vlt_steps::Stop;
 use vlt_values::Values;
 
 /// The variant that a call gives, with the keys of its header.
@@ -92,7 +92,7 @@ pub fn heed(
     keys: &[KeyId],
     answer: &[i64],
     position: u32,
-) -> Result<(), Halt>
+) -> Result<(), Stop>
     requires sound { IsSound heap.old }
     requires table { IsTable values.old }
     requires wide { 1 ≤ values.old.width }
@@ -111,13 +111,13 @@ pub fn heed(
         answer.now values.old values.new heap.old heap.new result }
 {
     let Some(left) = fitting(program, g, answer) else {
-        return Err(Halt::BadAnswer(position));
+        return Err(Stop::BadAnswer(position));
     };
     if !take_back(values, heap, g.clause.as_slice(), keys) {
-        return Err(Halt::BadAnswer(position));
+        return Err(Stop::BadAnswer(position));
     }
     if !take_result(values, heap, program, g, keys, left) {
-        return Err(Halt::BadAnswer(position));
+        return Err(Stop::BadAnswer(position));
     }
     set_entries(values, heap, program, g, g.clause.as_slice(), keys, answer);
     set_result(values, heap, program, g, keys, left);
@@ -125,6 +125,6 @@ pub fn heed(
     values.grow();
     match put_result(values, heap, program, g, keys, answer, left, to) {
         Ok(()) => Ok(()),
-        Err(_) => Err(Halt::HeapEnd),
+        Err(_) => Err(Stop::HeapEnd),
     }
 }

@@ -1,15 +1,15 @@
 -- Printing and input.
-use Rattle.std.proofs.Common.{◌≡◌, ◌⊎◌, inl, inr, ◌<◌, ◌≤◌, ℕ, ℤ, Bool, true, false, List, [], ◌∷◌, Some, Result, Ok, Err, refl, sym, ap, ◌∙◌, subst}
+use Rattle.std.proofs.Common.{◌≡◌, ◌⊎◌, inl, inr, ◌<◌, ◌≤◌, ℕ, ℤ, true, false, List, [], ◌∷◌, Some, Result, Ok, Err, refl, sym, ◌∙◌, subst}
 use Rattle.vlt_io.specs.Outside.{Rose, Grew, GrewByPart}
 use Rattle.vlt_ops.specs.declared.TrapKind.{TrapKind}
 use Rattle.vlt_ops.specs.Operator.{bool_number}
 use Rattle.vlt_core.specs.Core.{Expr, print, input}
 use Rattle.vlt_heap.specs.declared.slots.Slot.TheVariants.{Number}
 use Rattle.vlt_heap.specs.declared.heap.Heap.{Heap}
-use Rattle.vlt_meaning.specs.World.{number, Value, one, line_of, printed, World, Outcome, trap, is_fault}
+use Rattle.vlt_meaning.specs.World.{number, one, line_of, printed, World, trap}
 use Rattle.vlt_meaning.specs.Found.{Found}
 use Rattle.vlt_meaning.specs.Values.{number_of}
-use Rattle.vlt_meaning.specs.Step.{Step, goes, ends, with_found, with_event, with_var, with_input, first_input, is_more}
+use Rattle.vlt_meaning.specs.Step.{goes, with_found, with_event, with_var, with_input, first_input, is_more}
 use Rattle.vlt_meaning.specs.Run.{does_simple}
 use Rattle.vlt_values.specs.declared.values.Values.{Values}
 use Rattle.vlt_values.specs.Filled.{IsFilled, IsSingleSlot}
@@ -17,10 +17,12 @@ use Rattle.vlt_values.specs.Shown.{Seen, ShowObjects, var_at, IsKept, IsNumber}
 use Rattle.vlt_values.proofs.Numbers.{Faulty, number_is, trap_is}
 use Rattle.vlt_acts.specs.Acts.{setup, Shows}
 use Rattle.vlt_acts.proofs.Keeping.{single_at, assigned}
-use Rattle.vlt_hosts.specs.declared.halt.Halt.{Halt}
-use Rattle.vlt_hosts.specs.declared.halt.Halt.TheVariants.{Trapped, InputEnd, SinkFault}
+use Rattle.vlt_steps.specs.declared.stop.Stop.{Stop}
+use Rattle.vlt_steps.specs.declared.stop.Stop.TheVariants.{Trap, InputEnd, SinkFault}
 use Rattle.vlt_hosts.specs.declared.host.Host.{Host}
-use Rattle.vlt_hosts.specs.Hosts.{ShowsHost, Outside, Wrote, Comes}
+use Rattle.vlt_hosts.specs.Hosts.{ShowsHost, Comes}
+use Rattle.vlt_steps.specs.Writing.{Outside}
+use Rattle.vlt_hosts.specs.Stops.{Wrote}
 use Rattle.vlt_hosts.proofs.Writing.{silent, one_written, one_cut}
 
 -- the tables show what they showed
@@ -34,11 +36,11 @@ shows_still h values c w same = record {
 }
 
 module _ (h : Heap) (values : Values) (c : Seen h values) (host : Host) (start end : Outside) (w : World) (n d : ℕ) (e : Expr) (r : Result ℤ TrapKind) (same : w.objects ≡ c.objects) (is : IsNumber r (number_of c.program c.func e c.frame c.objects)) where
-  abbrev goal : Result (Unit {0}) Halt → Found ℤ → Type 0
+  abbrev goal : Result (Unit {0}) Stop → Found ℤ → Type 0
   goal q x = Comes c.items h values host start end q w (with_found x w (λ z. goes c.frame (with_event w (printed z))))
 
   -- at the objects that are shown
-  at_shown : (q : Result (Unit {0}) Halt) → goal q (number_of c.program c.func e c.frame c.objects) → Comes c.items h values host start end q w (does_simple (setup c.program n d) c.func (print e) c.frame w)
+  at_shown : (q : Result (Unit {0}) Stop) → goal q (number_of c.program c.func e c.frame c.objects) → Comes c.items h values host start end q w (does_simple (setup c.program n d) c.func (print e) c.frame w)
   at_shown q = subst (λ os. goal q (number_of c.program c.func e c.frame os)) (sym same)
 
   pub print_went : (z : ℤ) → r ≡ Ok z → ShowsHost host w → Grew start.written end.written (line_of (printed z)) → start.faults ≤ end.faults → Comes c.items h values host start end (Ok tt) w (does_simple (setup c.program n d) c.func (print e) c.frame w)
@@ -62,13 +64,13 @@ module _ (h : Heap) (values : Values) (c : Seen h values) (host : Host) (start e
       by (inl q) = subst (goal (Err SinkFault)) (sym q) (one_cut w (with_event w (printed z)) (printed z) start end refl grew rose counted)
       by (inr f) = subst (goal (Err SinkFault)) (sym f.is) (inl f.fault)
 
-  pub print_trapped : (t : TrapKind) → r ≡ Err t → start ≡ end → Comes c.items h values host start end (Err (Trapped t)) w (does_simple (setup c.program n d) c.func (print e) c.frame w)
+  pub print_trapped : (t : TrapKind) → r ≡ Err t → start ≡ end → Comes c.items h values host start end (Err (Trap t)) w (does_simple (setup c.program n d) c.func (print e) c.frame w)
   unfolding with_found
-  print_trapped t was quiet = at_shown (Err (Trapped t)) (by (trap_is r (number_of c.program c.func e c.frame c.objects) t is was))
+  print_trapped t was quiet = at_shown (Err (Trap t)) (by (trap_is r (number_of c.program c.func e c.frame c.objects) t is was))
     where
-      by : (number_of c.program c.func e c.frame c.objects ≡ Err (trap t)) ⊎ Faulty (number_of c.program c.func e c.frame c.objects) → goal (Err (Trapped t)) (number_of c.program c.func e c.frame c.objects)
-      by (inl q) = subst (goal (Err (Trapped t))) (sym q) (inr (inl (record { outcome = refl; fuel = refl; wrote = subst (λ b. Wrote w w start b) quiet (silent w w start refl) })))
-      by (inr f) = subst (goal (Err (Trapped t))) (sym f.is) (inl f.fault)
+      by : (number_of c.program c.func e c.frame c.objects ≡ Err (trap t)) ⊎ Faulty (number_of c.program c.func e c.frame c.objects) → goal (Err (Trap t)) (number_of c.program c.func e c.frame c.objects)
+      by (inl q) = subst (goal (Err (Trap t))) (sym q) (inr (inl (record { outcome = refl; fuel = refl; wrote = subst (λ b. Wrote w w start b) quiet (silent w w start refl) })))
+      by (inr f) = subst (goal (Err (Trap t))) (sym f.is) (inl f.fault)
 
 -- ---- input
 

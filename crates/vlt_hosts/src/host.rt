@@ -3,7 +3,6 @@
 ghost use Rattle.std.specs.Prelude.{◌≡◌};
 ghost use Rattle.vlt_ops.specs.Operator.{bool_number};
 ghost use Rattle.vlt_meaning.specs.Step.{is_more};
-ghost use Rattle.vlt_hosts.specs.Taken.{IsNext};
 
 use vlt_numbers::Answers;
 
@@ -14,16 +13,6 @@ pub struct Host<'h> {
     pub answers: &'h Answers,
     pub taken: u32,
     pub line: Vec<u8>,
-}
-
-/// The first of the numbers, and the others.
-pub fn next(left: &[i64]) -> Option<(i64, &[i64])>
-    ensures { IsNext left.now result }
-{
-    match left.split_first() {
-        Some((first, rest)) => Some((*first, rest)),
-        None => None,
-    }
 }
 
 /// Whether there are numbers, as 1 or 0.

@@ -3,10 +3,8 @@
 //! Rests on it: the machine of runs, `vlt_interp`.
 #![tactic(auto)]
 
-mod halt;
 mod host;
 mod numbers;
 
-pub use halt::Halt;
 pub use host::Host;
 pub use numbers::{input, print};

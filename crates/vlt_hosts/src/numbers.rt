@@ -8,15 +8,16 @@ ghost use Rattle.vlt_heap.specs.Shown.{IsSound};
 ghost use Rattle.vlt_values.specs.Shown.{IsTable};
 ghost use Rattle.vlt_acts.specs.Acts.{IsSameFrame};
 ghost use Rattle.vlt_hosts.specs.declared.host.Host.{Host as AHost};
-ghost use Rattle.vlt_hosts.specs.Hosts.{Outside, DoesOut};
+ghost use Rattle.vlt_hosts.specs.Hosts.{DoesOut};
+ghost use Rattle.vlt_steps.specs.Writing.{Outside};
 
-use crate::halt::Halt;
-use crate::host::{Host, has_more, next};
+use crate::host::{Host, has_more};
 use vlt_base::VarId;
 use vlt_core::Expr;
 use vlt_heap::{Heap, Slot};
 use vlt_io::Sink;
 use vlt_lines::write_number;
+use vlt_steps::{Stop, next};
 use vlt_values::{Values, number};
 
 /// `print(e);`
@@ -24,7 +25,7 @@ use vlt_values::{Values, number};
 /// # Errors
 ///
 /// A trap of the expression, and `SinkFault`.
-pub fn print<K: Sink>(values: &Values, heap: &Heap, e: &Expr, sink: &mut K) -> Result<(), Halt>
+pub fn print<K: Sink>(values: &Values, heap: &Heap, e: &Expr, sink: &mut K) -> Result<(), Stop>
     requires sound { IsSound heap.now }
     requires table { IsTable values.now }
     ensures { (host : AHost) → DoesOut heap.now values.now values.now host host
@@ -35,9 +36,9 @@ pub fn print<K: Sink>(values: &Values, heap: &Heap, e: &Expr, sink: &mut K) -> R
     match number(e, values, heap) {
         Ok(z) => match write_number(sink, z) {
             Ok(()) => Ok(()),
-            Err(_) => Err(Halt::SinkFault),
+            Err(_) => Err(Stop::SinkFault),
         },
-        Err(t) => Err(Halt::Trapped(t)),
+        Err(t) => Err(Stop::Trap(t)),
     }
 }
 
@@ -46,7 +47,7 @@ pub fn print<K: Sink>(values: &Values, heap: &Heap, e: &Expr, sink: &mut K) -> R
 /// # Errors
 ///
 /// `InputEnd` where there is no more input.
-pub fn input(values: &mut Values, host: &mut Host, v: VarId, more: bool) -> Result<(), Halt>
+pub fn input(values: &mut Values, host: &mut Host, v: VarId, more: bool) -> Result<(), Stop>
     requires table { IsTable values.old }
     requires wide { 1 ≤ values.old.width }
     requires within { v.0 < values.old.vars }
@@ -67,6 +68,6 @@ pub fn input(values: &mut Values, host: &mut Host, v: VarId, more: bool) -> Resu
             values.put_single(to, Slot::Number(z));
             Ok(())
         }
-        None => Err(Halt::InputEnd),
+        None => Err(Stop::InputEnd),
     }
 }

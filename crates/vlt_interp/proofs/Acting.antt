@@ -1,23 +1,16 @@
 -- What a statement asks of its part of the machine, and what comes of it.
-use Rattle.std.proofs.Common.{◌≡◌, ◌≤◌, ◌+◌, ℕ, Bool, List, Option, Some, None, refl, sym, ap, subst, arith}
-use Rattle.vlt_core.specs.View.{program_of}
-use Rattle.vlt_core.specs.Core.{Form, switch, scope, Block, Arms, Func}
+use Rattle.std.proofs.Common.{◌≡◌, ℕ, Bool, List, Option, None, refl, sym, subst, arith}
+use Rattle.vlt_core.specs.Core.{Form, switch, scope, Block, Arms}
 use Rattle.vlt_core.specs.Core as core
-use Rattle.vlt_meaning.specs.World.{Frame, World}
-use Rattle.vlt_meaning.specs.Step.{Step, goes, jumps}
-use Rattle.vlt_meaning.specs.Run.{Setup}
-use Rattle.vlt_machine.specs.Machine as m
-use Rattle.vlt_machine.specs.Machine.{Conf, at}
-use Rattle.vlt_hosts.specs.Hosts.{Outside}
+use Rattle.vlt_machine.specs.Machine.{at}
+use Rattle.vlt_steps.specs.Writing.{Outside}
 use Rattle.vlt_hosts.proofs.Writing.{silent}
-use Rattle.vlt_tasks.specs.declared.stop.Stop.{Stop}
-use Rattle.vlt_tasks.specs.declared.task.At.{At}
-use Rattle.vlt_tasks.specs.declared.task.At.TheVariants.{Goes as GoesOn, Jumps}
+use Rattle.vlt_steps.specs.declared.stop.Stop.{Stop}
+use Rattle.vlt_tasks.specs.declared.task.At.TheVariants.{Jumps}
 use Rattle.vlt_tasks.specs.declared.task.Rules.{Rules}
 use Rattle.vlt_tasks.specs.declared.task.Run.{Run}
-use Rattle.vlt_tasks.specs.Shown.{ShowsConf}
 use Rattle.vlt_tasks.specs.Moves.{doing, entering, CanDo, MayDo, Does, DoesFor}
-use Rattle.vlt_tasks.proofs.Staying.{keeps_all, going}
+use Rattle.vlt_tasks.proofs.Staying.{going}
 use Rattle.vlt_calls.specs.Called.{CanCall, Acts}
 use Rattle.vlt_interp.specs.Going.{setup_in, CanAct}
 

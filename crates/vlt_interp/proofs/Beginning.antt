@@ -1,5 +1,5 @@
 -- The start of a run.
-use Rattle.std.proofs.Common.{◌≡◌, inl, inr, ⊎_elim, ℕ, ◌≤◌, ◌<◌, ◌+◌, ◌*◌, ◌==◌, true, false, if◌then◌else◌, ℤ, List, [], ◌∷◌, ◌++◌, length, drop, Option, Some, None, refl, sym, ap, ◌∙◌, subst, arith, slice_get, reverse}
+use Rattle.std.proofs.Common.{◌≡◌, inl, ⊎_elim, ℕ, ◌≤◌, ◌+◌, ◌*◌, ◌==◌, true, false, if◌then◌else◌, ℤ, List, [], ◌∷◌, ◌++◌, Option, Some, None, refl, sym, ap, ◌∙◌, subst, arith, slice_get, reverse}
 use Rattle.std.specs.Vec.{vec_capacity}
 use Rattle.std.specs.Borrow.{Bor}
 use Rattle.std.specs.Option.{option_map}
@@ -8,19 +8,17 @@ use Rattle.std.proofs.lemmas.List.{nil_from_length}
 use Rattle.std.proofs.lemmas.Bool.{false≢true}
 use Rattle.std.proofs.lemmas.Bool.Decides.{nat_tests}
 use Rattle.vlt_base.specs.declared.Budgets.{Budgets}
-use Rattle.vlt_io.specs.Outside.{Grew, GrewByPart}
 use Rattle.vlt_numbers.specs.declared.answers.Answers.{Answers}
 use Rattle.vlt_numbers.specs.Answers.{lists_of}
 use Rattle.vlt_core.specs.declared.program.Program.{Program as CodeProgram}
 use Rattle.vlt_core.specs.declared.program.Func.{Func as CodeFunc}
 use Rattle.vlt_core.specs.declared.program.Stmt.{Stmt}
 use Rattle.vlt_core.specs.View.{func_of, stmts_of, program_of}
-use Rattle.vlt_core.specs.Core.{Func, Program}
+use Rattle.vlt_core.specs.Core.{Program}
 use Rattle.vlt_heap.specs.Items.{Items}
-use Rattle.vlt_heap.specs.Shown.{heap_of, slots_of}
 use Rattle.vlt_meaning.specs.World as model
-use Rattle.vlt_meaning.specs.World.{Event, event_text, World, Frame, Outcome, Ran, is_fault}
-use Rattle.vlt_meaning.specs.Step.{Step, goes, ends}
+use Rattle.vlt_meaning.specs.World.{line_of, is_fault}
+use Rattle.vlt_meaning.specs.Step.{ends}
 use Rattle.vlt_meaning.specs.Run.{Setup, first_frame, start, ended, main_run, run}
 use Rattle.vlt_meaning.specs.Does.{does}
 use Rattle.vlt_machine.specs.Machine as m
@@ -30,28 +28,26 @@ use Rattle.vlt_machine.proofs.Theorem.{machine_is_the_run}
 use Rattle.vlt_values.specs.declared.values.Values.{Values}
 use Rattle.vlt_values.specs.Shown.{ShowsFrame}
 use Rattle.vlt_frames.specs.Frames.{frame_end, IsRunning as HasFrame}
-use Rattle.vlt_hosts.specs.Hosts.{Outside, Wrote}
+use Rattle.vlt_steps.specs.Writing.{Outside}
+use Rattle.vlt_hosts.specs.Stops.{outcome_of}
+use Rattle.vlt_steps.proofs.Ending.{finished_ends}
 use Rattle.vlt_hosts.proofs.Writing.{silent}
 use Rattle.vlt_rooms.specs.declared.start.Start.{Start}
-use Rattle.vlt_rooms.specs.Rooms.{HoldsFrames}
 use Rattle.vlt_rooms.specs.Start.{IsSet}
-use Rattle.vlt_tasks.specs.declared.stop.Stop.{Stop}
-use Rattle.vlt_tasks.specs.declared.stop.Stop.TheVariants.{DepthEnd}
+use Rattle.vlt_steps.specs.declared.stop.Stop.{Stop}
+use Rattle.vlt_steps.specs.declared.stop.Stop.TheVariants.{DepthEnd, SinkFault}
 use Rattle.vlt_tasks.specs.declared.task.At.TheVariants.{Goes as GoesOn}
-use Rattle.vlt_tasks.specs.declared.task.Task.{Task}
 use Rattle.vlt_tasks.specs.declared.task.Task.TheVariants.{List as Listed}
 use Rattle.vlt_tasks.specs.declared.task.Rules.{Rules}
 use Rattle.vlt_tasks.specs.declared.task.Run.{Run}
 use Rattle.vlt_tasks.specs.Sizes.{frame_slots, IsWide}
-use Rattle.vlt_tasks.specs.Halting.{outcome_of}
 use Rattle.vlt_tasks.specs.Shown.{setup_of, tasks_left, ShowsTasks, ShowsConf}
-use Rattle.vlt_tasks.specs.Moves.{HasRoom, world_in, IsCut, HasStopped}
+use Rattle.vlt_tasks.specs.Moves.{HasRoom}
 use Rattle.vlt_machine.specs.Reached.{IsReached}
 use Rattle.vlt_interp.specs.Reached.{IsRunnable}
 use Rattle.vlt_interp.specs.Going.{setup_in}
 use Rattle.vlt_interp.specs.Running.{start_of, goal_of, IsRunning, IsFinished}
-use Rattle.vlt_interp.specs.Start.{run_within, IsEnded}
-use Rattle.vlt_interp.specs.declared.run.Ended.{Ended}
+use Rattle.vlt_interp.specs.Start.{run_within, EndsAs}
 use Rattle.vlt_interp.proofs.Fitting.{frame_fits}
 
 -- a program that never goes wrong has a first function
@@ -63,17 +59,14 @@ pub main_is : (p : CodeProgram) (o : Option CodeFunc) → o ≡ slice_get p.fns 
 main_is p o e = slice_get-map func_of p.fns p.main.0 ∙ ap (option_map func_of) (sym e)
 
 -- without any depth
-pub no_depth : (p : CodeProgram) (b : Budgets) (input : List ℤ) (answers : List (List ℤ)) (x : Outside) → b.depth ≡ 0 → IsEnded (run_within p b input answers) x x (record { stop = DepthEnd; fuel = b.fuel })
+pub no_depth : (p : CodeProgram) (b : Budgets) (input : List ℤ) (answers : List (List ℤ)) (x : Outside) → b.depth ≡ 0 → EndsAs (run_within p b input answers) x x (record { stop = DepthEnd; fuel = b.fuel })
 no_depth p b input answers x none =
     let zero : (b.depth == 0) ≡ true = grind (arith, nat_tests) in
     let w = start b.fuel input answers in
     let r : Setup = record { program = program_of p; heap = b.heap; depth = b.depth } in
     let is : run_within p b input answers ≡ ended (ends model.depth_end w) = ap (λ t. ended (if t then ends model.depth_end w else main_run r b.fuel (slice_get (program_of p).fns (program_of p).main) w)) zero in
-    let quiet = silent w w x refl in
-    subst (λ y. IsEnded y x x (record { stop = DepthEnd; fuel = b.fuel })) (sym is) (inl (record { outcome = refl; fuel = refl; grew = subst (Grew x.written x.written) (text_none quiet) quiet.grew; counted = omega arith }))
-  where
-    text_none : (q : Wrote (start b.fuel input answers) (start b.fuel input answers) x x) → event_text q.events ≡ event_text []
-    text_none q = ap event_text (sym q.added)
+    subst (λ y. EndsAs y x x (record { stop = DepthEnd; fuel = b.fuel })) (sym is)
+    (finished_ends outcome_of SinkFault refl line_of x x model.depth_end w.fuel w.events DepthEnd b.fuel (inl (record { outcome = refl; fuel = refl; wrote = silent w w x refl })))
 
 module _ (b : Budgets) (s : Start) (input : Bor (List ℤ)) (answers : Bor Answers) (program : Bor CodeProgram) (runnable : IsRunnable (program_of program.now)) (set : IsSet (program_of program.now) b s) (deep : 1 ≤ b.depth)
     (main : Bor CodeFunc) (is_main : slice_get (program_of program.now).fns (program_of program.now).main ≡ Some (func_of main.now)) where
@@ -164,11 +157,9 @@ module _ (b : Budgets) (s : Start) (input : Bor (List ℤ)) (answers : Bor Answe
     pub first_running : (x : Outside) → IsRunning rules (goal_of rules run) (start_of run) x x run
     first_running x = subst (λ r. IsRunning rules (goal_of rules r) (start_of r) x x r) (sym run_is) (begun_running x)
 
-    pub first_ended : (before after : Outside) (stop : Stop) (last : Run) → IsFinished (ended (goal_of rules run)) (start_of run) before after stop last → IsEnded (run_within program.now b input.now (lists_of answers.now)) before after (record { stop = stop; fuel = last.fuel })
+    pub first_ended : (before after : Outside) (stop : Stop) (last : Run) → IsFinished (ended (goal_of rules run)) (start_of run) before after stop last → EndsAs (run_within program.now b input.now (lists_of answers.now)) before after (record { stop = stop; fuel = last.fuel })
     first_ended before after stop last h =
         let k = subst (λ r. IsFinished (ended (goal_of rules r)) (start_of r) before after stop last) run_is h in
-        subst (λ y. IsEnded y before after (record { stop = stop; fuel = last.fuel })) (sym ran_is)
-        (⊎_elim
-        (λ e. inl (record { outcome = e.outcome; fuel = e.fuel; grew = subst (λ es. Grew before.written after.written (event_text es)) (sym e.wrote.added) e.wrote.grew; counted = e.wrote.counted }))
-        (λ e. inr (record { fault = e.fault; grew = subst (λ es. GrewByPart before.written after.written (event_text es)) (sym e.added) e.grew; rose = e.rose; counted = e.counted }))
-        k)
+        subst (λ y. EndsAs y before after (record { stop = stop; fuel = last.fuel })) (sym ran_is)
+        (let ran = ended (goal_of rules begun) in
+        finished_ends outcome_of SinkFault refl line_of before after ran.outcome ran.world.fuel ran.world.events stop last.fuel k)

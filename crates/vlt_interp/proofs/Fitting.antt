@@ -1,39 +1,23 @@
 -- What a statement finds: how many slots and tasks there are.
-use Rattle.std.proofs.Common.{◌≡◌, ◌<◌, ◌≤◌, ◌+◌, ◌*◌, ◌-◌, ℕ, zero, suc, max, List, [], ◌∷◌, length, Option, Some, None, refl, sym, ap, ◌∙◌, subst, arith, slice_get, reverse}
-use Rattle.std.proofs.Math.Nat.{mul-le-mul_right}
-use Rattle.std.proofs.lemmas.List.{length-reverse}
-use Rattle.std.proofs.lemmas.Option.{same_Some, none-some}
-use Rattle.vlt_core.specs.View.{func_of, program_of}
+use Rattle.std.proofs.Common.{◌≡◌, ◌≤◌, ◌+◌, ◌*◌, ◌-◌, ℕ, zero, suc, List, [], ◌∷◌, length, refl, sym, ap, ◌∙◌, subst, arith}
 use Rattle.vlt_core.specs.Core.{Form, Stmts, Func, Program}
-use Rattle.vlt_core.specs.Widths.{greatest}
-use Rattle.vlt_meaning.specs.World.{Frame, World}
-use Rattle.vlt_meaning.specs.Step.{Step, goes}
-use Rattle.vlt_meaning.specs.Run.{Setup}
 use Rattle.vlt_machine.specs.Machine as m
-use Rattle.vlt_machine.specs.Machine.{Caller, Conf, at}
-use Rattle.vlt_machine.specs.Bounds.{tall_of, Fits, frames}
-use Rattle.vlt_machine.proofs.Fitting.{suffices}
+use Rattle.vlt_machine.specs.Machine.{Caller, at}
 use Rattle.vlt_heap.specs.Items.{Items}
 use Rattle.vlt_values.specs.declared.values.Values.{Values}
 use Rattle.vlt_frames.specs.declared.waiting.Waiting.{Waiting}
 use Rattle.vlt_frames.specs.Frames.{frame_end}
 use Rattle.vlt_tasks.specs.declared.task.Task.{Task}
 use Rattle.vlt_tasks.specs.declared.task.Task.TheVariants.{List as Listed, Closing, Turn, Unfocus, Back}
-use Rattle.vlt_tasks.specs.declared.task.Rules.{Rules}
-use Rattle.vlt_tasks.specs.declared.task.Run.{Run}
 use Rattle.vlt_tasks.specs.Sizes.{frame_slots}
 use Rattle.vlt_tasks.specs.Own.{IsOf}
-use Rattle.vlt_tasks.specs.Shown.{IsCaller, base_behind, depth_behind, ShowsTasks, Runs}
+use Rattle.vlt_tasks.specs.Shown.{IsCaller, base_behind, depth_behind, ShowsTasks}
+use Rattle.vlt_tasks.proofs.Sizes.{greatest_at}
 use Rattle.vlt_interp.specs.Owned.{HoldOf}
-
-pub at_most : {A : Type 0} (f : A → ℕ) (xs : List A) (i : ℕ) (x : A) → slice_get xs i ≡ Some x → f x ≤ greatest f xs
-at_most f [] i x at = absurd (none-some x at)
-at_most f (y ∷ xs) zero x at = subst (λ z. f z ≤ max (f y) (greatest f xs)) (same_Some y x at) (omega arith)
-at_most f (y ∷ xs) (suc i) x at = let k = at_most f xs i x at in omega (arith, k)
 
 -- a frame of the program's functions is no wider than the widest
 pub frame_fits : (p : Program) (width : ℕ) (f : Func) → IsOf p f → length f.vars * width + length f.keys ≤ frame_slots p width
-frame_fits p width f o = let k = at_most (frame_end width 0) p.fns o.position f o.at in omega (arith, k)
+frame_fits p width f o = let k = greatest_at (frame_end width 0) p.fns o.position f o.at in omega (arith, k)
 
 -- the frame of the function at a depth begins behind those of the functions below
 pub record IsLow (base depth slots : ℕ) : Type 0 where

@@ -1,13 +1,13 @@
 -- Which task is in front, and where the last step came to.
-use Rattle.std.proofs.Common.{◌≡◌, Bool, List, [], ◌∷◌, refl, sym, subst}
+use Rattle.std.proofs.Common.{◌≡◌, Bool, List, [], ◌∷◌, subst}
 use Rattle.std.specs.Borrow.{Bor}
 use Rattle.vlt_core.specs.declared.program.Stmt.{Stmt}
 use Rattle.vlt_core.specs.declared.program.Expr.{Expr as CodeExpr}
 use Rattle.vlt_core.specs.declared.program.Block.{Block as CodeBlock}
 use Rattle.vlt_core.specs.View.{stmts_of}
-use Rattle.vlt_core.specs.Core.{Expr, Tok, Block, Stmts, done, next, Func}
+use Rattle.vlt_core.specs.Core.{Expr, Tok, Block, Stmts, Func}
 use Rattle.vlt_heap.specs.Items.{Items}
-use Rattle.vlt_meaning.specs.World.{Value, Frame, World}
+use Rattle.vlt_meaning.specs.World.{Frame, World}
 use Rattle.vlt_meaning.specs.Step.{Step, goes, jumps, leaves, ends}
 use Rattle.vlt_machine.specs.Machine as m
 use Rattle.vlt_machine.specs.Machine.{Caller, Conf, at}

@@ -1,5 +1,5 @@
 -- What holds of all statements that are left holds of them after each move.
-use Rattle.std.proofs.Common.{◌≡◌, ℕ, zero, suc, ◌==◌, nat_lt, Bool, true, false, if◌then◌else◌, List, [], ◌∷◌, length, map, Option, Some, None, Ok, Err, slice_get, refl, ap}
+use Rattle.std.proofs.Common.{◌≡◌, ℕ, ◌==◌, nat_lt, Bool, true, false, if◌then◌else◌, List, [], ◌∷◌, length, map, Option, Some, None, Ok, Err, slice_get, refl, ap}
 use Rattle.vlt_ops.specs.Operator.{is_true}
 use Rattle.vlt_core.specs.Core.{Operand, Expr, Form, Block, block, Stmts, done, next, Arms, no_arms, arm, simple, call, choose, loop, switch, focus, scope, return, jump, Func, Program}
 use Rattle.vlt_core.specs.Lookups.{reference_of, guarded_of, variant_of, case_keys}
@@ -12,9 +12,9 @@ use Rattle.vlt_meaning.specs.Calls.{passed_objects}
 use Rattle.vlt_meaning.specs.Run.{Setup}
 use Rattle.vlt_meaning_laws.proofs.Keeping.{err-ok}
 use Rattle.vlt_machine.specs.Got.{Got, got, stopped, operands_got, opened_got, filled_got}
-use Rattle.vlt_machine.specs.Machine.{Task, list, closing, turn, unfocus, back, Conf, at, when_found, when_got, when_so, spending, enter_block, enter_arm, enter_body, enter_by, enter, turn_on, act, list_moves, turn_moves, moved_in, moved, moves}
+use Rattle.vlt_machine.specs.Machine.{Task, list, closing, turn, unfocus, back, Conf, at, when_found, when_got, when_so, spending, enter_block, enter_arm, enter_body, enter_by, enter, turn_on, act, list_moves, turn_moves, moved_in, moved}
 use Rattle.vlt_tasks.specs.Own.{IsOf}
-use Rattle.vlt_interp.specs.Owned.{HoldOf, HoldsIn}
+use Rattle.vlt_interp.specs.Owned.{HoldsIn}
 
 found_is : (x : Option Func) (g : Func) → or_fault missing x ≡ Ok g → x ≡ Some g
 found_is None g e = absurd (err-ok e)

@@ -1,5 +1,5 @@
 -- Where a run comes to: what was written stays, and where it ends it stays.
-use Rattle.std.proofs.Common.{◌≡◌, ℕ, zero, suc, List, [], ◌∷◌, ◌++◌, true, false, refl, sym, ap, ◌∙◌, append_assoc, append-nil}
+use Rattle.std.proofs.Common.{◌≡◌, List, [], ◌∷◌, ◌++◌, true, false, refl, sym, ap, ◌∙◌, append_assoc, append-nil}
 use Rattle.vlt_core.specs.Core.{Stmts, loop, Func}
 use Rattle.vlt_meaning.specs.World.{Frame, World, Event, Outcome}
 use Rattle.vlt_meaning.specs.Step.{Step, goes, jumps, leaves, ends, then_do, then_turn, left_block}
@@ -10,7 +10,7 @@ use Rattle.vlt_meaning_laws.specs.Keeping.{world_after}
 use Rattle.vlt_meaning_laws.specs.Laws.{does_one}
 use Rattle.vlt_meaning_laws.proofs.Equations.{only_adds}
 use Rattle.vlt_meaning_laws.proofs.Moves.{IsKept, To, back_to, left_to, focus_to, form_to}
-use Rattle.vlt_machine.specs.Machine.{Task, list, closing, turn, unfocus, back, Conf, moved, moves}
+use Rattle.vlt_machine.specs.Machine.{Task, list, closing, turn, unfocus, back, Conf, moved}
 use Rattle.vlt_machine.proofs.Finishing.{finishes, ending, moves_end}
 
 -- events were only added

@@ -1,20 +1,19 @@
 -- The next task is taken off the stack.
-use Rattle.std.proofs.Common.{◌≡◌, ◌≤◌, List, [], ◌∷◌, ◌++◌, Option, Some, refl, sym, ap, ◌∙◌, subst, arith, reverse}
+use Rattle.std.proofs.Common.{◌≡◌, [], ◌∷◌, ◌++◌, Option, Some, refl, sym, ap, subst, arith, reverse}
 use Rattle.std.specs.Vec.{vec_capacity}
 use Rattle.vlt_core.specs.View.{program_of}
-use Rattle.vlt_hosts.specs.Hosts.{Outside}
-use Rattle.vlt_machine.specs.Machine.{Conf, at}
-use Rattle.vlt_tasks.specs.declared.stop.Stop.{Stop}
-use Rattle.vlt_tasks.specs.declared.stop.Stop.TheVariants.{Done}
+use Rattle.vlt_steps.specs.Writing.{Outside}
+use Rattle.vlt_steps.specs.declared.stop.Stop.{Stop}
+use Rattle.vlt_steps.specs.declared.stop.Stop.TheVariants.{Done}
 use Rattle.vlt_tasks.specs.declared.task.Task.{Task}
 use Rattle.vlt_tasks.specs.declared.task.Rules.{Rules}
 use Rattle.vlt_tasks.specs.declared.task.Run.{Run}
-use Rattle.vlt_tasks.specs.Shown.{tasks_left, ShowsTasks, ShowsWith, ShowsConf}
+use Rattle.vlt_tasks.specs.Shown.{tasks_left}
 use Rattle.vlt_tasks.specs.Moves.{Keeps}
 use Rattle.vlt_tasks.proofs.Staying.{room_kept, keeps_on}
 use Rattle.vlt_tasks.proofs.Stacks.{next_is}
 use Rattle.vlt_tasks.proofs.Pushing.{left_shown, taken_shown}
-use Rattle.vlt_interp.specs.Going.{setup_in, IsFine, CanMove, CanDoTask, Goes, GoesTask, Moves}
+use Rattle.vlt_interp.specs.Going.{CanMove, CanDoTask, GoesTask, Moves}
 
 module _ (rules : Rules) (old mid : Run) (t : Task) (items : old.tasks.items ≡ mid.tasks.items ++ t ∷ []) (room : vec_capacity mid.tasks ≡ vec_capacity old.tasks) (can : CanMove rules old) where
   abbrev taken : Run

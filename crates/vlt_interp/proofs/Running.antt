@@ -1,88 +1,43 @@
 -- The run goes on, and comes to its end.
-use Rattle.std.proofs.Common.{◌≡◌, inl, inr, ◌⊎◌, ⊎_elim, ℕ, zero, suc, ◌<◌, ◌≤◌, ◌+◌, ◌*◌, true, false, List, [], ◌∷◌, ◌++◌, length, Option, Some, None, refl, sym, ap, ◌∙◌, subst, append_assoc, append-nil, arith, slice_get, reverse}
-use Rattle.std.proofs.lemmas.Grind.{flat_map-append}
+use Rattle.std.proofs.Common.{◌≡◌, inl, inr, ◌⊎◌, ⊎_elim, ℕ, zero, suc, ◌<◌, ◌≤◌, ◌+◌, ◌*◌, true, false, List, [], ◌∷◌, length, Some, None, refl, sym, ap, ◌∙◌, subst, arith}
 use Rattle.std.proofs.lemmas.Bool.{false≢true}
 use Rattle.std.proofs.lemmas.Option.{none-some, same_Some}
-use Rattle.vlt_io.specs.Outside.{Rose, Grew}
 use Rattle.vlt_core.specs.View.{program_of}
 use Rattle.vlt_core.specs.Core.{Func, Program}
-use Rattle.vlt_meaning.specs.World as model
-use Rattle.vlt_meaning.specs.World.{Event, line_of, event_text, World, Outcome, Ran, is_fault}
+use Rattle.vlt_meaning.specs.World.{line_of, World, is_fault}
 use Rattle.vlt_meaning.specs.Step.{Step, goes, jumps, leaves, ends}
 use Rattle.vlt_meaning.specs.Run.{Setup, first_frame, start, ended}
 use Rattle.vlt_meaning_laws.specs.Keeping.{world_after}
 use Rattle.vlt_machine.specs.Machine as m
 use Rattle.vlt_machine.specs.Machine.{Conf, at, moved, moves, first_conf}
-use Rattle.vlt_machine.specs.Bounds.{tall_of, Fits}
+use Rattle.vlt_machine.specs.Bounds.{Fits}
 use Rattle.vlt_machine.specs.Laws.{LeadsTo}
 use Rattle.vlt_machine.proofs.Fitting.{suffices, first_fits}
 use Rattle.vlt_machine.proofs.Finishing.{finishes, ending, moves_end}
 use Rattle.vlt_machine.proofs.Halting.{fuel_in, weight}
-use Rattle.vlt_heap.specs.Shown.{heap_of}
-use Rattle.vlt_hosts.specs.Hosts.{Outside, Wrote}
-use Rattle.vlt_tasks.specs.declared.stop.Stop.{Stop}
-use Rattle.vlt_tasks.specs.declared.stop.Stop.TheVariants.{Done}
+use Rattle.vlt_steps.specs.Writing.{Outside}
+use Rattle.vlt_hosts.specs.Stops.{Wrote, outcome_of, IsCut, HasStopped}
+use Rattle.vlt_steps.specs.declared.stop.Stop.{Stop}
+use Rattle.vlt_steps.specs.declared.stop.Stop.TheVariants.{Done, SinkFault}
 use Rattle.vlt_tasks.specs.declared.task.At.{At}
 use Rattle.vlt_tasks.specs.declared.task.At.TheVariants.{Goes as GoesOn, Jumps, Leaves}
 use Rattle.vlt_tasks.specs.declared.task.Task.{Task}
 use Rattle.vlt_tasks.specs.declared.task.Rules.{Rules}
 use Rattle.vlt_tasks.specs.declared.task.Run.{Run}
 use Rattle.vlt_tasks.specs.Own.{HasOwn, IsOwn, AreOwn, IsOwnBlock, AreOwnArms}
-use Rattle.vlt_tasks.specs.Halting.{outcome_of}
 use Rattle.vlt_tasks.specs.Shown.{setup_of, tasks_left, ShowsStep, ShowsWith, ShowsConf}
-use Rattle.vlt_tasks.specs.Moves.{Keeps, world_in, GoneOn, IsCut, HasStopped, CameTo, IsRight}
+use Rattle.vlt_tasks.specs.Moves.{Keeps, world_in, GoneOn, CameTo, IsRight}
+use Rattle.vlt_steps.proofs.Writing as writing
 use Rattle.vlt_tasks.proofs.Staying.{room_kept}
 use Rattle.vlt_machine.specs.Reached.{IsReached}
-use Rattle.vlt_interp.specs.Reached.{IsRunnable}
 use Rattle.vlt_interp.specs.Owned.{HoldsIn, IsOwnConf}
-use Rattle.vlt_interp.specs.Going.{setup_in, IsFine, CanMove, Goes, IsOver, Moves}
+use Rattle.vlt_interp.specs.Going.{setup_in, IsFine, CanMove, IsOver, Moves}
 use Rattle.vlt_interp.specs.Running.{IsRunning, IsFinished}
 use Rattle.vlt_interp.proofs.Keeping.{IsClosed, moved_holds, first_holds}
 use Rattle.vlt_interp.proofs.Later.{Adds, ending_adds, moved_end, ends_there}
 use Rattle.vlt_interp.proofs.Fitting.{as_many}
 use Rattle.vlt_interp.proofs.Fronts.{not_ended}
 use Rattle.vlt_interp.proofs.Weighing.{size_of, IsSmallList, IsSmall, IsSmallBlock, AreSmallArms, small_closed, tasks_weight, most_left, measure, weighs, moved_falls}
-
--- ---- what was written
-
-grew_both : (a b c : Option (List ℕ)) (x y : List ℕ) → Grew a b x → Grew b c y → Grew a c (x ++ y)
-grew_both None b c x y first second = let P : Option (List ℕ) → Type 0 = λ o. Grew o c y in subst P first second
-grew_both (Some a) b c x y first second =
-    let P : Option (List ℕ) → Type 0 = λ o. Grew o c y in
-    subst P first second ∙ ap (λ t. Some t) (append_assoc a x y)
-
-text_both : (es fs : List Event) → event_text (es ++ fs) ≡ event_text es ++ event_text fs
-text_both es fs = flat_map-append line_of es fs
-
-wrote_both : (u v w : World) (a b c : Outside) → Wrote u v a b → Wrote v w b c → Wrote u w a c
-wrote_both u v w a b c x y = record {
-  events = x.events ++ y.events;
-  added = y.added ∙ ap (λ l. l ++ y.events) x.added ∙ append_assoc u.events x.events y.events;
-  grew = rw (text_both x.events y.events) (grew_both a.written b.written c.written (event_text x.events) (event_text y.events) x.grew y.grew);
-  counted = omega (arith, x.counted, y.counted);
-}
-
--- a part that goes out behind what went out
-cut_both : (u v w z : World) (a b c : Outside) (stop : Stop) → Wrote u v a b → IsCut v b c stop w → Adds w z → Rose a.faults c.faults → IsCut u a c stop z
-cut_both u v w z a b c stop x y more rose =
-    let part = y.grew in
-    record {
-      fault = y.fault;
-      events = x.events ++ (y.events ++ more.events);
-      added = more.are ∙ ap (λ l. l ++ more.events) (y.added ∙ ap (λ l. l ++ y.events) x.added) ∙ simp append_assoc;
-      grew = (
-        event_text x.events ++ part.0,
-        part.1 ++ event_text more.events,
-        text_both x.events (y.events ++ more.events) ∙ ap (λ l. event_text x.events ++ l) (text_both y.events more.events ∙ ap (λ l. l ++ event_text more.events) part.2) ∙ simp append_assoc,
-        grew_both a.written b.written c.written (event_text x.events) part.0 x.grew part.3,
-      );
-      rose = rose;
-      counted = omega (arith, x.counted, y.counted);
-    }
-
-rose_more : (a b c : ℕ) → a ≤ b → Rose b c → Rose a c
-rose_more a b c l (inl r) = inl (omega (arith, l, r))
-rose_more a b c l (inr r) = inr r
 
 -- ---- what holds of all that a run comes to
 
@@ -253,7 +208,7 @@ module _ (rules : Rules) (goal : Step) (w0 : World) (a b c : Outside) (old new :
           reached = subst (λ t. IsReached t next) (sym same) reached;
           leads = subst (λ t. LeadsTo t next goal) (sym same) (leads_next u vs e);
           right = running.right;
-          wrote = wrote_both w0 (world_in running.conf.step) (world_in next.step) a b c running.wrote h.wrote;
+          wrote = writing.wrote_both line_of w0.events (world_in running.conf.step).events (world_in next.step).events a b c running.wrote h.wrote;
         };
         falls = let x = weight_of new next h.shown in let y = weight_of old running.conf running.shown in omega (arith, x, y, fall);
       }
@@ -272,7 +227,7 @@ module _ (rules : Rules) (goal : Step) (w0 : World) (a b c : Outside) (old new :
   goal_world = sym (ended_world goal)
 
   cut_so : (stop : Stop) (v : World) → IsCut (world_in running.conf.step) b c stop v → Adds v (ended goal).world → IsFinished (ended goal) w0 a c stop new
-  cut_so stop v k more = inr (cut_both w0 (world_in running.conf.step) v (ended goal).world a b c stop running.wrote k more (rose_more a.faults b.faults c.faults running.wrote.counted k.rose))
+  cut_so stop v k more = inr (writing.cut_both line_of SinkFault w0.events (world_in running.conf.step).events v.events (ended goal).world.events more.events a b c stop running.wrote k more.are)
 
   from_next : (x : Step) → (moved (setup_in rules old) running.conf).step ≡ x → Adds (world_in x) (ended goal).world
   from_next x is =
@@ -294,10 +249,10 @@ module _ (rules : Rules) (goal : Step) (w0 : World) (a b c : Outside) (old new :
       ⊎_elim
       (λ f. absurd (false≢true (sym (fine.right o w is) ∙ f)))
       (λ k. ⊎_elim
-      (λ (e : HasStopped (world_in running.conf.step) b c new stop o w). inl (record {
+      (λ (e : HasStopped (world_in running.conf.step) b c new.fuel stop o w). inl (record {
         outcome = e.outcome ∙ ap (λ y. Some y) out;
         fuel = ap (λ y. y.fuel) (sym there) ∙ e.fuel;
-        wrote = wrote_both w0 (world_in running.conf.step) (ended goal).world a b c running.wrote (subst (λ y. Wrote (world_in running.conf.step) y b c) there e.wrote);
+        wrote = writing.wrote_both line_of w0.events (world_in running.conf.step).events (ended goal).world.events a b c running.wrote (subst (λ y. Wrote (world_in running.conf.step) y b c) there e.wrote);
       }))
       (λ k. cut_so stop w k (from_next (ends o w) is))
       k)

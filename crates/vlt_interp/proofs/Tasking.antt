@@ -1,5 +1,5 @@
 -- Where tasks lead.
-use Rattle.std.proofs.Common.{◌≡◌, ◌<◌, ◌≤◌, ◌+◌, ◌*◌, ◌-◌, ℕ, Bool, true, false, List, [], ◌∷◌, ◌++◌, length, Option, Some, None, IfSome, refl, sym, ap, ◌∙◌, subst, arith, slice_get, reverse}
+use Rattle.std.proofs.Common.{◌≡◌, ◌<◌, ◌≤◌, ◌+◌, ◌*◌, ◌-◌, ℕ, Bool, true, false, List, [], ◌∷◌, length, None, refl, sym, ap, ◌∙◌, subst, arith, reverse}
 use Rattle.std.specs.Vec.{vec_capacity}
 use Rattle.std.specs.Borrow.{Bor}
 use Rattle.std.proofs.Math.Nat.{mul-le-mul_right}
@@ -7,40 +7,31 @@ use Rattle.std.proofs.lemmas.List.{length-reverse}
 use Rattle.vlt_core.specs.declared.program.Stmt.{Stmt}
 use Rattle.vlt_core.specs.declared.program.Expr.{Expr as CodeExpr}
 use Rattle.vlt_core.specs.declared.program.Block.{Block as CodeBlock}
-use Rattle.vlt_core.specs.View.{func_of, program_of, stmts_of, form_of, expr_of, block_of}
-use Rattle.vlt_core.proofs.Views.{stmt_parts}
-use Rattle.vlt_core.specs.Core.{Operand, Expr, Tok, Form, simple, call, choose, loop, switch, focus, scope, return, jump, Block, Stmts, done, next, Func, Program}
-use Rattle.vlt_heap.specs.Items.{Items}
-use Rattle.vlt_heap.specs.Shown.{heap_of}
-use Rattle.vlt_meaning.specs.World.{Frame, World, Outcome, is_fault}
+use Rattle.vlt_core.specs.View.{func_of, program_of, stmts_of}
+use Rattle.vlt_core.specs.Core.{Tok, Stmts, done, next, Func}
+use Rattle.vlt_meaning.specs.World.{Frame, World, left_behind}
 use Rattle.vlt_meaning.specs.Step.{Step, goes, jumps, leaves, ends, where_so, left_block, are_unused}
-use Rattle.vlt_meaning.specs.World.{left_behind}
-use Rattle.vlt_meaning.specs.Calls.{back_in}
 use Rattle.vlt_meaning.specs.Run.{Setup}
 use Rattle.vlt_machine.specs.Machine as m
-use Rattle.vlt_machine.specs.Machine.{Caller, Conf, at, list_moves, turn_moves, turn_on, moved}
-use Rattle.vlt_machine.specs.Bounds.{tall_of, Fits, frames}
+use Rattle.vlt_machine.specs.Machine.{at, list_moves, moved}
+use Rattle.vlt_machine.specs.Bounds.{tall_of, frames}
 use Rattle.vlt_machine.proofs.Fitting.{suffices}
-use Rattle.vlt_hosts.specs.Hosts.{Outside}
+use Rattle.vlt_steps.specs.Writing.{Outside}
 use Rattle.vlt_hosts.proofs.Writing.{silent}
-use Rattle.vlt_tasks.specs.declared.stop.Stop.{Stop}
-use Rattle.vlt_tasks.specs.declared.task.At.{At}
-use Rattle.vlt_tasks.specs.declared.task.At.TheVariants.{Goes as GoesOn, Jumps, Leaves}
+use Rattle.vlt_tasks.specs.declared.task.At.TheVariants.{Jumps, Leaves}
 use Rattle.vlt_tasks.specs.declared.task.Task.{Task}
-use Rattle.vlt_tasks.specs.declared.task.Task.TheVariants.{List as Listed, Closing, Turn, Unfocus, Back}
+use Rattle.vlt_tasks.specs.declared.task.Task.TheVariants.{List as Listed, Closing, Turn}
 use Rattle.vlt_tasks.specs.declared.task.Rules.{Rules}
 use Rattle.vlt_tasks.specs.declared.task.Run.{Run}
 use Rattle.vlt_tasks.specs.Sizes.{frame_slots}
-use Rattle.vlt_tasks.specs.Own.{HasOwn, IsOwn, AreOwn, IsOf}
-use Rattle.vlt_tasks.specs.Shown.{IsTurn, setup_of, tasks_left, Runs, ShowsStep, ShowsWith, ShowsConf}
-use Rattle.vlt_tasks.specs.Moves.{HasRoom, IsReady, Keeps, world_in, GoneOn, CameTo, IsRight, doing, GoesRight, CanDo, MayDo, Does, IsRightTask, DoesTask}
-use Rattle.vlt_tasks.proofs.Staying.{room_kept, keeps_all, keeps_on, step_goes}
-use Rattle.vlt_tasks.proofs.Pushing.{WithTasks, left_shown, put_shown}
+use Rattle.vlt_tasks.specs.Own.{IsOwn, AreOwn, IsOf}
+use Rattle.vlt_tasks.specs.Shown.{tasks_left, Runs, ShowsWith, ShowsConf}
+use Rattle.vlt_tasks.specs.Moves.{world_in, CameTo}
+use Rattle.vlt_tasks.proofs.Staying.{keeps_all}
 use Rattle.vlt_tasks.proofs.Coming.{Came}
-use Rattle.vlt_interp.specs.Owned.{HoldOf, HoldsIn}
-use Rattle.vlt_interp.specs.Going.{setup_in, IsFine, CanGo, CanDoTask, Goes, GoesTask}
-use Rattle.vlt_interp.proofs.Fitting.{frame_fits, IsLow, low, as_many}
-use Rattle.vlt_interp.proofs.Fronts.{by_list, by_closing, by_turn, by_back, by_goes, by_jumps, by_leaves, not_ended}
+use Rattle.vlt_interp.specs.Going.{setup_in, IsFine, CanDoTask, GoesTask}
+use Rattle.vlt_interp.proofs.Fitting.{frame_fits, low, as_many}
+use Rattle.vlt_interp.proofs.Fronts.{by_list, by_closing, by_jumps, by_leaves, not_ended}
 
 -- ---- a step that is passed on
 

@@ -1,5 +1,5 @@
 -- Where the tasks lead that do statements: a list, a loop and a return.
-use Rattle.std.proofs.Common.{◌≡◌, ◌≤◌, ◌+◌, ◌*◌, ℕ, Bool, true, false, List, [], ◌∷◌, ◌++◌, length, Option, Some, None, IfSome, refl, sym, ap, ◌∙◌, subst, arith, slice_get, reverse}
+use Rattle.std.proofs.Common.{◌≡◌, ◌≤◌, ◌+◌, Bool, true, false, List, [], ◌∷◌, ◌++◌, length, Option, None, refl, sym, ap, ◌∙◌, subst, arith}
 use Rattle.std.specs.Vec.{vec_capacity}
 use Rattle.std.specs.Borrow.{Bor}
 use Rattle.std.proofs.lemmas.List.{length-append}
@@ -7,37 +7,32 @@ use Rattle.std.proofs.lemmas.Bool.{false≢true}
 use Rattle.vlt_core.specs.declared.program.Stmt.{Stmt}
 use Rattle.vlt_core.specs.declared.program.Expr.{Expr as CodeExpr}
 use Rattle.vlt_core.specs.declared.program.Block.{Block as CodeBlock}
-use Rattle.vlt_core.specs.View.{func_of, program_of, stmts_of, form_of, expr_of, block_of}
+use Rattle.vlt_core.specs.View.{program_of, stmts_of, form_of, expr_of, block_of}
 use Rattle.vlt_core.proofs.Views.{stmt_parts}
-use Rattle.vlt_core.specs.Core.{Operand, Expr, Form, simple, call, choose, loop, switch, focus, scope, return, jump, Block, Stmts, done, next, Func, Program}
-use Rattle.vlt_heap.specs.Shown.{heap_of}
-use Rattle.vlt_meaning.specs.World.{Frame, World, Outcome, fault, no_return, is_fault}
-use Rattle.vlt_meaning.specs.Step.{Step, goes, jumps, leaves, ends}
+use Rattle.vlt_core.specs.Core.{Expr, loop, Block, next, Func}
+use Rattle.vlt_meaning.specs.World.{Frame, World, fault, no_return}
+use Rattle.vlt_meaning.specs.Step.{Step, goes, jumps, leaves}
 use Rattle.vlt_meaning.specs.Calls.{back_in}
 use Rattle.vlt_meaning.specs.Run.{Setup}
 use Rattle.vlt_machine.specs.Machine as m
-use Rattle.vlt_machine.specs.Machine.{Caller, Conf, at, list_moves, turn_moves, turn_on, moved}
-use Rattle.vlt_machine.specs.Bounds.{tall_of}
+use Rattle.vlt_machine.specs.Machine.{Conf, at, turn_moves, turn_on, moved}
 use Rattle.vlt_frames.specs.declared.waiting.Waiting.{Waiting}
-use Rattle.vlt_hosts.specs.Hosts.{Outside}
-use Rattle.vlt_hosts.proofs.Writing.{silent}
-use Rattle.vlt_tasks.specs.declared.stop.Stop.{Stop}
-use Rattle.vlt_tasks.specs.declared.task.At.{At}
+use Rattle.vlt_steps.specs.Writing.{Outside}
+use Rattle.vlt_steps.specs.declared.stop.Stop.{Stop}
 use Rattle.vlt_tasks.specs.declared.task.At.TheVariants.{Goes as GoesOn, Jumps, Leaves}
 use Rattle.vlt_tasks.specs.declared.task.Task.{Task}
-use Rattle.vlt_tasks.specs.declared.task.Task.TheVariants.{List as Listed, Closing, Turn, Unfocus, Back}
+use Rattle.vlt_tasks.specs.declared.task.Task.TheVariants.{List as Listed, Turn, Back}
 use Rattle.vlt_tasks.specs.declared.task.Rules.{Rules}
 use Rattle.vlt_tasks.specs.declared.task.Run.{Run}
-use Rattle.vlt_tasks.specs.Own.{HasOwn, IsOwn, IsOf}
+use Rattle.vlt_tasks.specs.Own.{IsOwn}
 use Rattle.vlt_calls.specs.Called.{Acts}
 use Rattle.vlt_calls.specs.Known.{IsKnownCall}
-use Rattle.vlt_tasks.specs.Shown.{IsTurn, setup_of, tasks_left, Runs, ShowsStep, ShowsWith, ShowsConf}
-use Rattle.vlt_tasks.specs.Moves.{HasRoom, IsReady, Keeps, world_in, CameTo, IsRight, doing, GoesRight, CanDo, MayDo, Does, IsRightTask, DoesTask}
+use Rattle.vlt_tasks.specs.Shown.{IsTurn, tasks_left, Runs, ShowsStep, ShowsWith, ShowsConf}
+use Rattle.vlt_tasks.specs.Moves.{HasRoom, Keeps, world_in, CameTo, IsRight, doing, MayDo, Does, IsRightTask, DoesTask}
 use Rattle.vlt_tasks.proofs.Staying.{room_kept, keeps_all, keeps_on, going}
 use Rattle.vlt_tasks.proofs.Pushing.{put_shown}
 use Rattle.vlt_tasks.proofs.Coming.{Came}
-use Rattle.vlt_machine.specs.Reached.{IsBefore}
-use Rattle.vlt_interp.specs.Going.{setup_in, IsFine, CanGo, CanDoTask, Goes, GoesTask, CanAct}
+use Rattle.vlt_interp.specs.Going.{setup_in, IsFine, CanDoTask, GoesTask, CanAct}
 use Rattle.vlt_interp.proofs.Fronts.{by_list, by_turn, by_back, by_goes, by_jumps, by_leaves}
 use Rattle.vlt_interp.proofs.Tasking.{stays_here, behind_list, behind_turn, IsFit, goes_fit, jumps_fit}
 

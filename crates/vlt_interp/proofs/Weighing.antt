@@ -1,8 +1,8 @@
 -- The moves of a run come to an end: each spends fuel, or leaves less to do; and never more is left than so much.
-use Rattle.std.proofs.Common.{◌≡◌, ◌⊎◌, ⊎_elim, ◌<◌, ◌≤◌, ◌+◌, ◌*◌, ◌-◌, ℕ, zero, suc, max, List, [], ◌∷◌, length, Option, Some, refl, sym, ap, ◌∙◌, subst, arith, slice_get}
-use Rattle.std.proofs.Math.Nat.{mul-le-mul_right, mul-le-mul_left}
+use Rattle.std.proofs.Common.{◌≡◌, ◌⊎◌, ⊎_elim, ◌<◌, ◌≤◌, ◌+◌, ◌*◌, ◌-◌, ℕ, suc, max, List, [], ◌∷◌, length, refl, sym, ap, subst, arith}
+use Rattle.std.proofs.Math.Nat.{mul-le-mul_right}
 use Rattle.vlt_core.specs.View.{stmts_of}
-use Rattle.vlt_core.specs.Core.{Expr, Form, choose, loop, switch, focus, scope, simple, call, return, jump, Block, block, Stmts, done, next, Arms, no_arms, arm, Func, Program}
+use Rattle.vlt_core.specs.Core.{Form, choose, loop, switch, focus, scope, simple, call, return, jump, Block, block, Stmts, done, next, Arms, no_arms, arm, Func, Program}
 use Rattle.vlt_core.specs.Widths.{greatest}
 use Rattle.vlt_heap.specs.Items.{Items}
 use Rattle.vlt_meaning.specs.Run.{Setup}
@@ -15,7 +15,7 @@ use Rattle.vlt_tasks.specs.declared.task.Task.{Task}
 use Rattle.vlt_tasks.specs.declared.task.Task.TheVariants.{List as Listed, Closing, Turn, Unfocus, Back}
 use Rattle.vlt_tasks.specs.Shown.{ShowsTasks}
 use Rattle.vlt_interp.specs.Owned.{HoldOf, HoldsIn}
-use Rattle.vlt_interp.proofs.Fitting.{at_most}
+use Rattle.vlt_tasks.proofs.Sizes.{greatest_at}
 use Rattle.vlt_interp.proofs.Keeping.{IsClosed}
 
 -- ---- how large statements are, bodies of loops included
@@ -94,7 +94,7 @@ small_closed p = record {
   arms_in = λ f c vs b rest h. omega (arith, h);
   focus_in = λ f y z b h. omega (arith, h);
   scope_in = λ f b h. omega (arith, h);
-  body_of = λ i f at. let k = at_most (λ (f : Func). list_size f.body) p.fns i f at in omega (arith, k);
+  body_of = λ i f at. let k = greatest_at (λ (f : Func). list_size f.body) p.fns i f at in omega (arith, k);
 }
 
 more_by : (a b n : ℕ) → (suc a) * n ≡ n + a * n

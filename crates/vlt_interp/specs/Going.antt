@@ -9,9 +9,9 @@ use Rattle.vlt_machine.specs.Machine as m
 use Rattle.vlt_machine.specs.Machine.{Conf, at, moved}
 use Rattle.vlt_machine.specs.Bounds.{Fits}
 use Rattle.vlt_heap.specs.Shown.{heap_of}
-use Rattle.vlt_hosts.specs.Hosts.{Outside}
-use Rattle.vlt_tasks.specs.declared.stop.Stop.{Stop}
-use Rattle.vlt_tasks.specs.declared.stop.Stop.TheVariants.{Done}
+use Rattle.vlt_steps.specs.Writing.{Outside}
+use Rattle.vlt_steps.specs.declared.stop.Stop.{Stop}
+use Rattle.vlt_steps.specs.declared.stop.Stop.TheVariants.{Done}
 use Rattle.vlt_tasks.specs.declared.task.Task.{Task}
 use Rattle.vlt_tasks.specs.declared.task.Rules.{Rules}
 use Rattle.vlt_tasks.specs.declared.task.Run.{Run}

@@ -1,11 +1,11 @@
 -- What is seen of a machine.
-use Rattle.std.specs.Prelude.{ℕ, ℤ, List, Option, Some, None}
+use Rattle.std.specs.Prelude.{ℕ, ℤ, List, Option, IfSome}
 use Rattle.vlt_base.specs.declared.Budgets.{Budgets}
 use Rattle.vlt_core.specs.View.{program_of}
 use Rattle.vlt_core.specs.Core.{Program}
 use Rattle.vlt_meaning.specs.World.{Ran}
-use Rattle.vlt_tasks.specs.declared.stop.Stop.{Stop}
-use Rattle.vlt_rooms.specs.declared.start.Start.{Start}
+use Rattle.vlt_steps.specs.declared.stop.Stop.{Stop}
+use Rattle.vlt_steps.specs.Stops.{stop_unless}
 use Rattle.vlt_rooms.specs.Start.{IsSet}
 use Rattle.vlt_interp.specs.declared.machine.Machine.{Machine}
 use Rattle.vlt_interp.specs.Reached.{IsRunnable}
@@ -22,10 +22,6 @@ budgets_of m = m.budgets
 abbrev pub run_on : Machine → (input : List ℤ) → (answers : List (List ℤ)) → Ran
 run_on m input answers = run_within m.program.now m.budgets input answers
 
-abbrev pub stop_unless : Option Start → Stop → Option Stop
-stop_unless (Some s) stop = None
-stop_unless None stop = Some stop
-
 -- how the machine stopped, if it did
 abbrev pub stop_of : Machine → Option Stop
 stop_of m = stop_unless m.start m.stop
@@ -34,11 +30,7 @@ stop_of m = stop_unless m.start m.stop
 abbrev pub fuel_left : Machine → ℕ
 fuel_left m = m.fuel
 
-abbrev pub IsSetIf : Program → Budgets → Option Start → Type 0
-IsSetIf p b None = Unit {0}
-IsSetIf p b (Some s) = IsSet p b s
-
 -- the program can be run, and the tables have room for its run until it has begun
 pub record IsSound (m : Machine) : Type 0 where
   pub runnable : IsRunnable (program_in m)
-  pub start : IsSetIf (program_in m) m.budgets m.start
+  pub start : IfSome m.start (IsSet (program_in m) m.budgets)

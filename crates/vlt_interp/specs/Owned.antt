@@ -1,5 +1,5 @@
 -- What holds of all statements that are left to do.
-use Rattle.std.specs.Prelude.{ℕ, List, [], ◌∷◌}
+use Rattle.std.specs.Prelude.{List, [], ◌∷◌}
 use Rattle.vlt_core.specs.Core.{Form, loop, Stmts, Func, Program}
 use Rattle.vlt_machine.specs.Machine.{Task, list, turn, back, Conf}
 use Rattle.vlt_tasks.specs.Own.{IsOwn, AreOwn, IsOf}

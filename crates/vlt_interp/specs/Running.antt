@@ -1,5 +1,5 @@
 -- A run under way, and how it ends.
-use Rattle.std.specs.Prelude.{◌≡◌, ◌⊎◌, ◌≤◌, ℕ, false, slice_get}
+use Rattle.std.specs.Prelude.{◌≡◌, ◌⊎◌, ◌≤◌, false, slice_get}
 use Rattle.vlt_core.specs.View.{program_of}
 use Rattle.vlt_numbers.specs.Answers.{lists_of}
 use Rattle.vlt_meaning.specs.World.{World, Ran, is_fault}
@@ -7,12 +7,13 @@ use Rattle.vlt_meaning.specs.Step.{Step}
 use Rattle.vlt_meaning.specs.Run.{start, ended, main_run}
 use Rattle.vlt_machine.specs.Machine.{Conf}
 use Rattle.vlt_machine.specs.Laws.{LeadsTo}
-use Rattle.vlt_hosts.specs.Hosts.{Outside, Wrote}
-use Rattle.vlt_tasks.specs.declared.stop.Stop.{Stop}
+use Rattle.vlt_steps.specs.Writing.{Outside}
+use Rattle.vlt_hosts.specs.Stops.{Wrote, IsCut, HasStopped}
+use Rattle.vlt_steps.specs.declared.stop.Stop.{Stop}
 use Rattle.vlt_tasks.specs.declared.task.Rules.{Rules}
 use Rattle.vlt_tasks.specs.declared.task.Run.{Run}
 use Rattle.vlt_tasks.specs.Shown.{ShowsConf}
-use Rattle.vlt_tasks.specs.Moves.{HasRoom, world_in, IsCut, HasStopped}
+use Rattle.vlt_tasks.specs.Moves.{HasRoom, world_in}
 use Rattle.vlt_machine.specs.Reached.{IsReached}
 use Rattle.vlt_interp.specs.Reached.{IsRunnable}
 use Rattle.vlt_interp.specs.Going.{setup_in}
@@ -38,4 +39,4 @@ pub record IsRunning (rules : Rules) (goal : Step) (w : World) (before after : O
 
 -- the run came to its end, or the sink took a part of what it writes
 abbrev pub IsFinished : Ran → World → (before after : Outside) → Stop → Run → Type 0
-IsFinished ran w before after stop r = HasStopped w before after r stop ran.outcome ran.world ⊎ IsCut w before after stop ran.world
+IsFinished ran w before after stop r = HasStopped w before after r.fuel stop ran.outcome ran.world ⊎ IsCut w before after stop ran.world

@@ -3,11 +3,9 @@
 //! Rests on it: `vaultc_core`.
 #![tactic(auto)]
 
-mod errors;
 mod machine;
 mod moves;
 mod run;
 
-pub use errors::OpenError;
 pub use machine::Machine;
-pub use vlt_tasks::Stop;
+pub use vlt_steps::{OpenError, Stop};

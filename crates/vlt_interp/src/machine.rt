@@ -2,23 +2,20 @@
 
 ghost use Rattle.std.specs.Prelude.{◌≡◌, ◌<◌, ◌≤◌, ◌↔◌, None, Some, IfOk, IfNone, IfSome};
 ghost use Rattle.vlt_base.specs.Limits.{limit_of};
-ghost use Rattle.vlt_io.specs.Outside.{Rose};
 ghost use Rattle.vlt_numbers.specs.Answers.{lists_of};
 ghost use Rattle.vlt_core.specs.View.{program_of};
 ghost use Rattle.vlt_core.specs.Widths.{slots_needed};
-ghost use Rattle.vlt_meaning.specs.World.{event_text};
-ghost use Rattle.vlt_tasks.specs.Halting.{outcome_of, IsTold};
+ghost use Rattle.vlt_hosts.specs.Stops.{outcome_of, StopsAs};
 ghost use Rattle.vlt_interp.specs.Reached.{IsRunnable};
 
-use crate::errors::OpenError;
-use crate::run::{Ended, run_program};
+use crate::run::run_program;
 use std::alloc::Global;
 use vlt_base::Budgets;
 use vlt_core::Program;
 use vlt_io::Sink;
 use vlt_numbers::Answers;
 use vlt_rooms::{Start, is_too_wide, prepare};
-use vlt_tasks::Stop;
+use vlt_steps::{Ended, OpenError, Stop};
 
 /// A machine for one run of a program.
 #[derive(Drop)]
@@ -75,15 +72,12 @@ impl<'a> Machine<'a> {
         ensures counted { K.faults sink.old ≤ K.faults sink.new }
 
         // Of a machine that hadn't stopped before:
-        ensures outcome { IfNone (stop_of self.old) (IfSome (outcome_of result)
-            (λ o. o ≡ (run_on self.old input.now (lists_of answers.now)).outcome)) }
-        ensures text { IfNone (stop_of self.old) (IsTold (outcome_of result)
-            (event_text (run_on self.old input.now (lists_of answers.now)).world.events)
-            (K.written sink.old) (K.written sink.new)) }
+        ensures ended { IfNone (stop_of self.old)
+            (StopsAs (run_on self.old input.now (lists_of answers.now))
+            (record { written = K.written sink.old; faults = K.faults sink.old })
+            (record { written = K.written sink.new; faults = K.faults sink.new }) result) }
         ensures fuel { IfNone (stop_of self.old) (IfSome (outcome_of result) (λ o.
             fuel_left self.new ≡ (run_on self.old input.now (lists_of answers.now)).world.fuel)) }
-        ensures cause { IfNone (stop_of self.old)
-            (result ≡ Stop.SinkFault → Rose (K.faults sink.old) (K.faults sink.new)) }
     {
         match self.start.take() {
             Some(start) => {

@@ -2,7 +2,7 @@
 
 ghost use Rattle.std.specs.Prelude.{◌∷◌};
 ghost use Rattle.vlt_core.specs.View.{form_of};
-ghost use Rattle.vlt_hosts.specs.Hosts.{Outside};
+ghost use Rattle.vlt_steps.specs.Writing.{Outside};
 ghost use Rattle.vlt_tasks.specs.declared.task.Task.TheVariants.{List as ListTask, Closing as ClosingTask, Turn as TurnTask, Back as BackTask};
 ghost use Rattle.vlt_tasks.specs.Shown.{tasks_left};
 ghost use Rattle.vlt_calls.specs.Called.{Acts};
@@ -14,7 +14,8 @@ use vlt_frames::Waiting;
 use vlt_io::Sink;
 use vlt_returns::{give_back, go_back};
 use vlt_statements::{choose, do_simple, enter_block, focus_on, switch_on, turn_on, unfocus};
-use vlt_tasks::{At, Rules, Run, Stop, Task, put};
+use vlt_steps::{Stop, put};
+use vlt_tasks::{At, Rules, Run, Task};
 
 /// A statement, with what is left to do behind it.
 fn act<'a, K: Sink>(

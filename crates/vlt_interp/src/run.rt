@@ -3,11 +3,11 @@
 ghost use Rattle.vlt_core.specs.View.{program_of};
 ghost use Rattle.vlt_numbers.specs.Answers.{lists_of};
 ghost use Rattle.vlt_meaning.specs.Run.{ended};
-ghost use Rattle.vlt_hosts.specs.Hosts.{Outside};
+ghost use Rattle.vlt_steps.specs.Writing.{Outside};
 ghost use Rattle.vlt_rooms.specs.Start.{IsSet};
 ghost use Rattle.vlt_interp.specs.Reached.{IsRunnable};
 ghost use Rattle.vlt_interp.specs.Running.{start_of, goal_of, IsRunning, IsFinished};
-ghost use Rattle.vlt_interp.specs.Start.{run_within, IsEnded};
+ghost use Rattle.vlt_interp.specs.Start.{run_within, EndsAs};
 
 use crate::moves::step;
 use vlt_base::Budgets;
@@ -17,14 +17,8 @@ use vlt_hosts::Host;
 use vlt_io::Sink;
 use vlt_numbers::Answers;
 use vlt_rooms::Start;
-use vlt_tasks::{At, Rules, Run, Stop, Task, put};
-
-/// How a run ended, and the fuel that was left.
-#[derive(Clone, Copy)]
-pub struct Ended {
-    pub stop: Stop,
-    pub fuel: u64,
-}
+use vlt_steps::{Ended, Stop, put};
+use vlt_tasks::{At, Rules, Run, Task};
 
 /// Goes on to the end of the run.
 fn finish<'a, K: Sink>(rules: &Rules<'a>, run: &mut Run<'a, '_>, sink: &mut K) -> Stop
@@ -50,10 +44,10 @@ pub fn run_program<'a, K: Sink>(
     input: &[i64],
     answers: &Answers,
     sink: &mut K,
-) -> Ended
+) -> Ended<Stop>
     requires runnable { IsRunnable (program_of program.now) }
     requires set { IsSet (program_of program.now) budgets s }
-    ensures { IsEnded (run_within program.now budgets input.now (lists_of answers.now))
+    ensures { EndsAs (run_within program.now budgets input.now (lists_of answers.now))
         (record { written = K.written sink.old; faults = K.faults sink.old })
         (record { written = K.written sink.new; faults = K.faults sink.new }) result }
 {

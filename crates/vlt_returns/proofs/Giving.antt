@@ -1,24 +1,22 @@
 -- A function is left.
-use Rattle.std.proofs.Common.{◌≡◌, ◌⊎◌, inl, inr, ◌<◌, ◌≤◌, ◌+◌, ◌*◌, ℕ, zero, suc, List, [], ◌∷◌, length, Option, Some, None, Result, Ok, Err, refl, sym, ap, ◌∙◌, subst, arith}
+use Rattle.std.proofs.Common.{◌≡◌, inl, inr, ◌≤◌, ◌+◌, ◌*◌, ℕ, zero, suc, List, [], length, Option, Some, None, Result, Ok, Err, refl, sym, ap, ◌∙◌, subst, arith}
 use Rattle.std.specs.Vec.{vec_capacity}
 use Rattle.vlt_ops.specs.declared.TrapKind.{TrapKind}
-use Rattle.vlt_core.specs.Core.{Operand, return, Func, Program}
+use Rattle.vlt_core.specs.Core.{Operand, return, Func}
 use Rattle.vlt_core.specs.View.{func_of, program_of}
-use Rattle.vlt_heap.specs.Items.{Items}
-use Rattle.vlt_meaning.specs.World as model
-use Rattle.vlt_meaning.specs.World.{World, Frame, Outcome, trap, fault, done, fuel_end, heap_end, depth_end, input_end, answers_end, bad_answer, is_fault}
+use Rattle.vlt_meaning.specs.World.{World, Frame, trap, fault, done, fuel_end, heap_end, depth_end, input_end, answers_end, bad_answer}
 use Rattle.vlt_meaning.specs.Step.{Step, goes, jumps, leaves, ends}
 use Rattle.vlt_meaning.specs.Run.{Setup, left_function}
 use Rattle.vlt_meaning.specs.Calls.{with_returned}
 use Rattle.vlt_machine.specs.Machine as m
-use Rattle.vlt_machine.specs.Machine.{Conf, at}
+use Rattle.vlt_machine.specs.Machine.{at}
 use Rattle.vlt_values.specs.declared.values.Values.{Values}
-use Rattle.vlt_values.specs.Shown.{IsTable, IsGrown, Seen}
+use Rattle.vlt_values.specs.Shown.{IsTable, IsGrown}
 use Rattle.vlt_frames.specs.Left.{HasLeft, IsLeft, Gives}
-use Rattle.vlt_hosts.specs.Hosts.{Outside, ShowsHost}
+use Rattle.vlt_hosts.specs.Hosts.{ShowsHost}
+use Rattle.vlt_steps.specs.Writing.{Outside}
 use Rattle.vlt_hosts.proofs.Writing.{silent}
-use Rattle.vlt_tasks.specs.declared.stop.Stop.{Stop}
-use Rattle.vlt_tasks.specs.declared.stop.Stop.TheVariants.{Trap}
+use Rattle.vlt_steps.specs.declared.stop.Stop.TheVariants.{Trap}
 use Rattle.vlt_tasks.specs.declared.task.At.TheVariants.{Leaves}
 use Rattle.vlt_tasks.specs.declared.task.Run.{Run}
 use Rattle.vlt_tasks.specs.Sizes.{frame_slots}
@@ -26,7 +24,8 @@ use Rattle.vlt_tasks.specs.Shown.{tasks_left, ShowsTasks, ShowsConf}
 use Rattle.vlt_tasks.specs.Moves.{Keeps, CameTo, doing, MayDo, Does}
 use Rattle.vlt_tasks.proofs.Stacks.{tasks_kept}
 use Rattle.vlt_tasks.proofs.Staying.{going, running_table}
-use Rattle.vlt_returns.proofs.Silence.{IsInside, returned_inside}
+use Rattle.vlt_tasks.proofs.Inside.{IsInside}
+use Rattle.vlt_returns.proofs.Silence.{returned_inside}
 
 -- what is asked of the table
 pub given_table : (o : Option Operand) (r : Run) → MayDo (return o) r → IsTable r.values

@@ -1,11 +1,11 @@
 -- The caller of a function that was left goes on.
-use Rattle.std.proofs.Common.{◌≡◌, ◌<◌, ◌≤◌, ◌+◌, ◌-◌, ◌*◌, ℕ, suc, Bool, List, [], ◌∷◌, length, Option, Some, None, refl, sym, ap, ◌∙◌, subst, arith, slice_get}
+use Rattle.std.proofs.Common.{◌≡◌, ◌<◌, ◌≤◌, ◌-◌, ℕ, List, [], ◌∷◌, Option, None, refl, sym, ap, ◌∙◌, subst, arith, slice_get}
 use Rattle.std.specs.Vec.{vec_capacity}
 use Rattle.vlt_core.specs.Core.{Func}
 use Rattle.vlt_core.specs.View.{func_of}
 use Rattle.vlt_heap.specs.Shown.{IsSound}
 use Rattle.vlt_heap.specs.Items.{Items}
-use Rattle.vlt_meaning.specs.World.{Value, World, Frame, Outcome, is_fault}
+use Rattle.vlt_meaning.specs.World.{Value, World, Outcome}
 use Rattle.vlt_meaning.specs.Step.{Step, goes, jumps, leaves, ends}
 use Rattle.vlt_meaning.specs.Calls.{back_in}
 use Rattle.vlt_meaning.specs.Run.{Setup}
@@ -16,20 +16,21 @@ use Rattle.vlt_machine.proofs.Depths.{back_at}
 use Rattle.vlt_values.specs.declared.values.Values.{Values}
 use Rattle.vlt_values.specs.Shown.{IsTable}
 use Rattle.vlt_frames.specs.declared.waiting.Waiting.{Waiting}
-use Rattle.vlt_frames.specs.Frames.{IsRunning, IsBelow, Waits}
+use Rattle.vlt_frames.specs.Frames.{IsRunning, IsBelow}
 use Rattle.vlt_frames.specs.Left.{HasLeft, IsBack, Returns}
-use Rattle.vlt_hosts.specs.Hosts.{Outside, ShowsHost}
+use Rattle.vlt_steps.specs.Writing.{Outside}
 use Rattle.vlt_hosts.proofs.Writing.{silent}
 use Rattle.vlt_tasks.specs.declared.task.At.{At}
 use Rattle.vlt_tasks.specs.declared.task.At.TheVariants.{Goes, Jumps, Leaves}
 use Rattle.vlt_tasks.specs.declared.task.Task.{Task}
 use Rattle.vlt_tasks.specs.declared.task.Task.TheVariants.{Back}
 use Rattle.vlt_tasks.specs.declared.task.Run.{Run}
-use Rattle.vlt_tasks.specs.Shown.{IsCaller, tasks_left, ShowsTasks, WasLeft, ShowsStep, ShowsWith, ShowsConf}
-use Rattle.vlt_tasks.specs.Moves.{Keeps, world_in, CameTo, IsRightTask, DoesTask}
+use Rattle.vlt_tasks.specs.Shown.{tasks_left, ShowsTasks, WasLeft, ShowsStep, ShowsWith}
+use Rattle.vlt_tasks.specs.Moves.{world_in, CameTo, IsRightTask, DoesTask}
 use Rattle.vlt_tasks.proofs.Stacks.{tasks_kept}
 use Rattle.vlt_tasks.proofs.Staying.{running_table}
-use Rattle.vlt_returns.proofs.Silence.{IsInside, back_inside}
+use Rattle.vlt_tasks.proofs.Inside.{IsInside}
+use Rattle.vlt_returns.proofs.Silence.{back_inside}
 
 -- wherever the step came to, the variables of the running frame stand in the table
 shown_table : (items : Items) (r : Run) (f : Func) (x : At) (a : Step) → ShowsStep items r f x a → IsTable r.values

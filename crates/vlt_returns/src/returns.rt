@@ -6,13 +6,14 @@ ghost use Rattle.vlt_core.specs.Core as core;
 ghost use Rattle.vlt_core.specs.View.{operand_of};
 ghost use Rattle.vlt_heap.specs.Shown.{IsSound};
 ghost use Rattle.vlt_meaning.specs.Run.{Setup};
-ghost use Rattle.vlt_hosts.specs.Hosts.{Outside};
+ghost use Rattle.vlt_steps.specs.Writing.{Outside};
 ghost use Rattle.vlt_tasks.specs.declared.task.Task.TheVariants.{Back as BackTask};
 ghost use Rattle.vlt_tasks.specs.Moves.{doing, MayDo, Does, IsRightTask, DoesTask};
 
 use vlt_core::Operand;
 use vlt_frames::{Waiting, give, leave};
-use vlt_tasks::{At, Run, Stop};
+use vlt_steps::Stop;
+use vlt_tasks::{At, Run};
 
 /// `return o;`
 pub fn give_back(value: &Option<Operand>, run: &mut Run) -> Option<Stop>

@@ -1,8 +1,7 @@
 -- Sums and greatest numbers over lists that are mapped, and over positions.
-use Rattle.std.proofs.Common.{◌≡◌, ◌≤◌, ◌+◌, ℕ, zero, suc, max, List, [], ◌∷◌, map, length, drop, Option, Some, None, slice_get, refl, sym, ap, ◌∙◌, subst, arith}
+use Rattle.std.proofs.Common.{◌≡◌, ◌≤◌, ◌+◌, ℕ, suc, max, List, [], ◌∷◌, map, length, drop, Option, Some, None, slice_get, refl, sym, ap, ◌∙◌, subst, arith}
 use Rattle.std.specs.List.{sum_by, range_with_len}
 use Rattle.std.proofs.lemmas.List.Sums.{sum_by-cons}
-use Rattle.std.proofs.lemmas.Option.{same_Some, none-some}
 use Rattle.vlt_core.specs.Core.{FieldDecl, TypeDecl, Program}
 use Rattle.vlt_core.specs.Lookups.{fields_in, fields_of}
 use Rattle.vlt_core.specs.Widths.{greatest, slots_of, cells_of, widest_type}
@@ -10,6 +9,7 @@ use Rattle.vlt_core.specs.declared.program.TypeDecl.{TypeDecl as CodeDecl}
 use Rattle.vlt_core.specs.View.{type_of}
 use Rattle.vlt_rooms.specs.Sorts.{cells_in, counted}
 use Rattle.std.proofs.lemmas.List.{drop_all}
+use Rattle.vlt_tasks.proofs.Sizes.{greatest_at}
 
 pub sum_by-map : {A B : Type 0} (f : B → ℕ) (g : A → B) (xs : List A) → sum_by f (map g xs) ≡ sum_by (λ x. f (g x)) xs
 sum_by-map f g [] = refl
@@ -17,19 +17,13 @@ sum_by-map f g (x ∷ xs) =
     let k = sum_by-map f g xs in
     sum_by-cons f (g x) (map g xs) ∙ ap (λ n. f (g x) + n) k ∙ sym (sum_by-cons (λ x. f (g x)) x xs)
 
--- each element's number is at most the greatest
-at_most : {A : Type 0} (f : A → ℕ) (xs : List A) (i : ℕ) (x : A) → slice_get xs i ≡ Some x → f x ≤ greatest f xs
-at_most f [] i x at = absurd (none-some x at)
-at_most f (y ∷ xs) zero x at = subst (λ z. f z ≤ max (f y) (greatest f xs)) (same_Some y x at) (omega arith)
-at_most f (y ∷ xs) (suc i) x at = let k = at_most f xs i x at in omega (arith, k)
-
 -- what is given to the fields of the declared types is given to those of any number
 pub fields_at_most : (f : List FieldDecl → ℕ) (n : ℕ) (p : Program) → f [] ≤ n → greatest (λ (t : TypeDecl). f (fields_in (Some t))) p.types ≤ n → (t : ℕ) → f (fields_of p t) ≤ n
 fields_at_most f n p none all t = by (slice_get p.types t) refl
   where
     by : (o : Option TypeDecl) → slice_get p.types t ≡ o → f (fields_in o) ≤ n
     by None is = none
-    by (Some d) is = let a = at_most (λ (t : TypeDecl). f (fields_in (Some t))) p.types t d is in omega (arith, a, all)
+    by (Some d) is = let a = greatest_at (λ (t : TypeDecl). f (fields_in (Some t))) p.types t d is in omega (arith, a, all)
 
 over_range : {A : Type 0} (f : ℕ → ℕ) (g : A → ℕ) (i : ℕ) (xs : List A) → ((j : ℕ) (x : A) → slice_get xs j ≡ Some x → f (i + j) ≡ g x) → greatest f (range_with_len i (length xs)) ≡ greatest g xs
 over_range f g i [] each = refl

@@ -1,5 +1,5 @@
 -- What a run begins with.
-use Rattle.std.specs.Prelude.{◌≡◌, ℕ, [], length, vec_capacity}
+use Rattle.std.specs.Prelude.{◌≡◌, [], length, vec_capacity}
 use Rattle.vlt_base.specs.declared.Budgets.{Budgets}
 use Rattle.vlt_core.specs.Core.{Program}
 use Rattle.vlt_heap.specs.Shown.{Holds, IsSound, heap_of, slots_of}

@@ -9,15 +9,13 @@ ghost use Rattle.vlt_core.specs.View.{program_of};
 ghost use Rattle.vlt_interp.specs.Reached.{IsRunnable};
 ghost use Rattle.vlt_run.specs.Ends.{EndsAs, EndsRun};
 
-mod end;
-
-pub use end::RunEnd;
 use std::alloc::Global;
 use vlt_base::Budgets;
 use vlt_core::Program;
-use vlt_given::{Given, GivenError, read_given};
-use vlt_interp::{Machine, OpenError};
+use vlt_given::{Given, read_given};
+use vlt_interp::Machine;
 use vlt_io::Sink;
+use vlt_steps::{OpenError, RunEnd, Stop, end_of};
 
 /// Runs a program over the numbers of its files.
 fn run_over<K: Sink>(
@@ -26,7 +24,7 @@ fn run_over<K: Sink>(
     given: &Given,
     budgets: Budgets,
     out: &mut K,
-) -> RunEnd
+) -> RunEnd<Stop>
     requires { IsRunnable (program_of program.now) }
     ensures { EndsRun (program_of program.now) given.now.input.items
         (lists_of given.now.answers) budgets
@@ -49,7 +47,7 @@ pub fn run<K: Sink>(
     answers: &[u8],
     budgets: Budgets,
     out: &mut K,
-) -> RunEnd
+) -> RunEnd<Stop>
     requires runnable { IsRunnable (program_of program.now) }
     requires input { length input.now < 2 ^ 32 - 1 }
     requires answers { length answers.now < 2 ^ 32 - 1 }
@@ -59,8 +57,6 @@ pub fn run<K: Sink>(
 {
     match read_given(alloc, input, answers) {
         Ok(given) => run_over(alloc, program, &given, budgets, out),
-        Err(GivenError::BadInput(line)) => RunEnd::BadInput(line),
-        Err(GivenError::BadAnswers(line)) => RunEnd::BadAnswers(line),
-        Err(GivenError::Memory) => RunEnd::Memory,
+        Err(error) => end_of(error),
     }
 }

@@ -19,21 +19,22 @@ use Rattle.vlt_acts.specs.Acts as acts
 use Rattle.vlt_objects.specs.declared.halt.Halt.{Halt}
 use Rattle.vlt_objects.specs.Cases.{DoesFor}
 use Rattle.vlt_objects.specs.Made.{Comes, ComesTo}
-use Rattle.vlt_hosts.specs.declared.halt.Halt.{Halt as HostHalt}
+use Rattle.vlt_steps.specs.declared.stop.Stop.{Stop}
 use Rattle.vlt_hosts.specs.declared.host.Host.{Host}
-use Rattle.vlt_hosts.specs.Hosts.{Outside, ShowsHost, DoesOut}
+use Rattle.vlt_hosts.specs.Hosts.{ShowsHost, DoesOut}
+use Rattle.vlt_steps.specs.Writing.{Outside}
 use Rattle.vlt_hosts.specs.Hosts as hosts_spec
 use Rattle.vlt_hosts.proofs.Writing.{silent}
-use Rattle.vlt_tasks.specs.declared.stop.Stop.{Stop}
 use Rattle.vlt_tasks.specs.declared.task.Rules.{Rules}
 use Rattle.vlt_tasks.specs.declared.task.Run.{Run}
 use Rattle.vlt_tasks.specs.Halting.{trapped, full, halted}
 use Rattle.vlt_tasks.specs.Shown.{setup_of, tasks_left, Runs, ShowsConf}
-use Rattle.vlt_tasks.specs.Moves.{CameTo, doing, Keeps, CanDo}
+use Rattle.vlt_tasks.specs.Moves.{CameTo, doing, Keeps}
 use Rattle.vlt_tasks.specs.Moves as moves
 use Rattle.vlt_tasks.proofs.Staying.{IsSameRun, going, seen_in}
 use Rattle.vlt_tasks.proofs.Coming.{went, wrong_came, spoken_came}
-use Rattle.vlt_statements.proofs.Outside.{IsInside, IsSilent, simple_inside}
+use Rattle.vlt_tasks.proofs.Inside.{IsInside}
+use Rattle.vlt_statements.proofs.Outside.{IsSilent, simple_inside}
 
 -- ---- the calls of the tables, in this function of the program
 
@@ -147,7 +148,7 @@ module _ (rules : Rules) (old new : Run) (x : Form) (s : Simple) (is : x ≡ sim
   }))
 
   -- one that speaks with the host, and leaves the heap
-  pub host_does : new.heap ≡ old.heap → (before after : Outside) (r : Result (Unit {0}) HostHalt) → DoesOut old.heap old.values new.values old.host new.host before after r s
+  pub host_does : new.heap ≡ old.heap → (before after : Outside) (r : Result (Unit {0}) Stop) → DoesOut old.heap old.values new.values old.host new.host before after r s
       → (result : Option Stop) → result ≡ halted r → moves.DoesFor (doing x) rules old new before after result
   host_does heap before after r does result equal = subst (λ y. moves.DoesFor (doing y) rules old new before after result) (sym is) (subst (moves.DoesFor (doing (simple s)) rules old new before after) (sym equal) (record {
     keeps = changed_keeps old new h;

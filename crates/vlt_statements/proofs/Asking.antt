@@ -4,6 +4,7 @@ use Rattle.std.specs.List.{All}
 use Rattle.std.specs.Prelude.{IfSome}
 use Rattle.std.specs.Vec.{vec_capacity}
 use Rattle.std.proofs.lemmas.Bool.Decides.{nat_tests}
+use Rattle.std.proofs.Math.Nat.{le-mul_of_pos_right}
 use Rattle.std.proofs.lemmas.Option.{none-some, same_Some}
 use Rattle.vlt_base.specs.declared.ids.VarId.{VarId}
 use Rattle.vlt_core.specs.Core.{Ty, int, bool, tracked, owning, guarded, VarDecl, CaseDecl, Operand, Simple, make, build, Form, simple, Func, Program, variant, owning_variant}
@@ -29,14 +30,8 @@ use Rattle.vlt_tasks.specs.Sizes.{case_parts, cases_in_ty, parts_of, IsWide}
 use Rattle.vlt_tasks.specs.Own.{IsVar, AreVars, IsOwnFunc, IsOf}
 use Rattle.vlt_tasks.specs.Shown.{tasks_left, Runs}
 use Rattle.vlt_tasks.specs.Moves.{CanDo}
+use Rattle.vlt_tasks.proofs.Sizes.{greatest_at}
 use Rattle.vlt_tasks.proofs.Staying.{going, seen_in, running_table}
-
--- ---- what is greatest
-
-pub greatest_at : {A : Type 0} (go : A → ℕ) (xs : List A) (i : ℕ) (x : A) → slice_get xs i ≡ Some x → go x ≤ greatest go xs
-greatest_at go [] i x e = absurd (none-some x e)
-greatest_at go (y ∷ ys) zero x e = let s : go y ≡ go x = ap go (same_Some y x e) in omega (arith, s)
-greatest_at go (y ∷ ys) (suc i) x e = let l = greatest_at go ys i x e in omega (arith, l)
 
 -- ---- the statement
 
@@ -97,10 +92,6 @@ module _ (s : Simple) (rules : Rules) (r : Run) (can : CanDo (simple s) rules r)
 
 -- ---- rooms
 
-wide_square : (w : ℕ) → 1 ≤ w → w ≤ w * w
-wide_square zero l = absurd (omega (arith, l))
-wide_square (suc w) l = omega arith
-
 module _ (form : Form) (rules : Rules) (r : Run) (can : CanDo form rules r) where
   abbrev p : Program
   p = program_of rules.program.now
@@ -109,7 +100,7 @@ module _ (form : Form) (rules : Rules) (r : Run) (can : CanDo form rules r) wher
   room_one =
       let a = can.ready.values in
       let b = can.ready.room.values in
-      let q = wide_square r.values.width can.ready.room.wide.some in
+      let q = le-mul_of_pos_right {m = r.values.width} r.values.width (omega (arith, can.ready.room.wide.some)) in
       omega (arith, a, b, q)
 
   pub room_tasks : length r.tasks.items + 3 ≤ vec_capacity r.tasks

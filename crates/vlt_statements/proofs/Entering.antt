@@ -19,10 +19,10 @@ use Rattle.vlt_meaning.specs.Run.{Setup}
 use Rattle.vlt_machine.specs.Machine as m
 use Rattle.vlt_machine.specs.Machine.{Conf, at, enter_block, turn_on, when_found, spending}
 use Rattle.vlt_values.specs.Shown.{Seen, IsNumber}
-use Rattle.vlt_hosts.specs.Hosts.{Outside}
+use Rattle.vlt_steps.specs.Writing.{Outside}
 use Rattle.vlt_hosts.proofs.Writing.{silent}
-use Rattle.vlt_tasks.specs.declared.stop.Stop.{Stop}
-use Rattle.vlt_tasks.specs.declared.stop.Stop.TheVariants.{FuelEnd}
+use Rattle.vlt_steps.specs.declared.stop.Stop.{Stop}
+use Rattle.vlt_steps.specs.declared.stop.Stop.TheVariants.{FuelEnd}
 use Rattle.vlt_tasks.specs.declared.task.Task.TheVariants.{List as Listed, Closing}
 use Rattle.vlt_tasks.specs.declared.task.Run.{Run}
 use Rattle.vlt_tasks.specs.Shown.{tasks_left, ShowsConf}

@@ -10,10 +10,10 @@ use Rattle.vlt_meaning.specs.Objects.{with_owner}
 use Rattle.vlt_meaning.specs.Operands.{case_object}
 use Rattle.vlt_machine.specs.Got.{Got, got, stopped, then_got, found_in, got_if, opened_got, filled_got}
 use Rattle.vlt_machine.specs.Machine as m
-use Rattle.vlt_machine.specs.Machine.{Conf, at, when_found, when_got}
+use Rattle.vlt_machine.specs.Machine.{Conf, when_found, when_got}
 use Rattle.vlt_values.proofs.Touching.{OrFault}
 use Rattle.vlt_tasks.specs.Moves.{IsRight}
-use Rattle.vlt_statements.proofs.Outside.{IsSameOutside, objects_out}
+use Rattle.vlt_tasks.proofs.Inside.{IsSameOutside, objects_out}
 
 pub record WhenRight {A : Type 0} (x : Found A) (go : A → Conf) : Type 0 where
   pub value : A

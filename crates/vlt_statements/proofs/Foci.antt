@@ -21,7 +21,8 @@ use Rattle.vlt_acts.specs.declared.focus.Focus.{Focus}
 use Rattle.vlt_acts.specs.Acts.{Shows}
 use Rattle.vlt_acts.specs.Focus.{FindsFocus, CanFocus, IsFocus, focused_frame, focused_world, Focuses, FindsEnd, CanEnd, unfocused_world, Unfocuses}
 use Rattle.vlt_objects.proofs.Going.{found_safe}
-use Rattle.vlt_hosts.specs.Hosts.{Outside, ShowsHost}
+use Rattle.vlt_hosts.specs.Hosts.{ShowsHost}
+use Rattle.vlt_steps.specs.Writing.{Outside}
 use Rattle.vlt_hosts.proofs.Writing.{silent}
 use Rattle.vlt_tasks.specs.declared.task.Rules.{Rules}
 use Rattle.vlt_tasks.specs.declared.task.Run.{Run}

@@ -1,31 +1,13 @@
 -- Statements that don't speak with the host change nothing of the world but its objects.
-use Rattle.std.proofs.Common.{◌≡◌, ℕ, Bool, true, false, List, [], ◌∷◌, Option, Ok, Err, if◌then◌else◌, refl}
-use Rattle.vlt_core.specs.Core.{Operand, pure, move, pack, Simple, set, print, put, make, become, release, drop, own, unpack, build, swap, open_into, adopt, Func, Program}
+use Rattle.std.proofs.Common.{ℕ, Bool, true, false, List, [], ◌∷◌, if◌then◌else◌}
+use Rattle.vlt_core.specs.Core.{Operand, Simple, set, print, put, make, become, release, drop, own, unpack, build, swap, open_into, adopt, Func, Program}
 use Rattle.vlt_core.specs.Core as core
 use Rattle.vlt_core.specs.Lookups.{KeyIn}
-use Rattle.vlt_meaning.specs.World.{Value, Owner, Object, World, Frame, Reason, is_full}
-use Rattle.vlt_meaning.specs.Found.{Found}
-use Rattle.vlt_meaning.specs.Step.{Step, with_found, where_so, with_objects, with_made, with_moved, with_released, with_dropped, fill, with_filled}
-use Rattle.vlt_meaning.specs.Operands.{with_operand, with_operands, with_case_packed}
+use Rattle.vlt_meaning.specs.World.{Value, Owner, Object, World, Frame, is_full}
+use Rattle.vlt_meaning.specs.Step.{Step, with_made, with_moved, with_released, with_dropped, fill, with_filled}
+use Rattle.vlt_meaning.specs.Operands.{with_operands, with_case_packed}
 use Rattle.vlt_meaning.specs.Run.{Setup, made_in, swapped, opened, does_simple}
-use Rattle.vlt_tasks.specs.Moves.{world_in}
-
--- all but the objects is as it was
-pub record IsSameOutside (w v : World) : Type 0 where
-  pub fuel : v.fuel ≡ w.fuel
-  pub input : v.input ≡ w.input
-  pub answers : v.answers ≡ w.answers
-  pub taken : v.taken ≡ w.taken
-  pub events : v.events ≡ w.events
-
-pub outside_same : (w : World) → IsSameOutside w w
-outside_same w = record { fuel = refl; input = refl; answers = refl; taken = refl; events = refl }
-
-pub objects_out : (w v : World) (os : List Object) → IsSameOutside w v → IsSameOutside w (with_objects v os)
-objects_out w v os h = record { fuel = h.fuel; input = h.input; answers = h.answers; taken = h.taken; events = h.events }
-
-pub record IsInside (w : World) (a : Step) : Type 0 where
-  pub same : IsSameOutside w (world_in a)
+use Rattle.vlt_tasks.proofs.Inside.{IsSameOutside, outside_same, objects_out, IsInside, found_in, so_in, operand_in}
 
 -- it says nothing to the host, and asks it nothing
 abbrev pub IsSilent : Simple → Type 0
@@ -37,23 +19,13 @@ module _ (w0 : World) where
   abbrev On : (World → Step) → Type 0
   On go = (v : World) → IsSameOutside w0 v → IsInside w0 (go v)
 
-  found_in : {A : Type 0} (x : Found A) (w : World) (go : A → Step) → IsSameOutside w0 w → ((a : A) → IsInside w0 (go a)) → IsInside w0 (with_found x w go)
-  unfolding with_found
-  found_in (Ok a) w go s h = h a
-  found_in (Err o) w go s h = record { same = s }
-
-  so_in : (b : Bool) (reason : Reason) (n : Option ℕ) (w : World) (go : World → Step) → IsSameOutside w0 w → On go → IsInside w0 (where_so b reason n w go)
-  unfolding where_so
-  so_in true reason n w go s h = h w s
-  so_in false reason n w go s h = record { same = s }
-
   if_in : (b : Bool) (x y : Step) → IsInside w0 x → IsInside w0 y → IsInside w0 (if b then x else y)
   if_in true x y h k = h
   if_in false x y h k = k
 
   moved_in : (from : Owner → Bool) (to : Owner) (ns : List ℕ) (w : World) (go : World → Step) → IsSameOutside w0 w → On go → IsInside w0 (with_moved from to ns w go)
   unfolding with_moved
-  moved_in from to ns w go s h = found_in _ w _ s (λ os. h _ (objects_out w0 w os s))
+  moved_in from to ns w go s h = found_in w0 _ w _ s (λ os. h _ (objects_out w0 w os s))
 
   made_to : (heap : ℕ) (o : Object) (w : World) (go : ℕ → World → Step) → IsSameOutside w0 w → ((n : ℕ) → On (go n)) → IsInside w0 (with_made heap o w go)
   unfolding with_made
@@ -61,20 +33,20 @@ module _ (w0 : World) where
 
   released_in : (p : Program) (n : ℕ) (w : World) (go : World → Step) → IsSameOutside w0 w → On go → IsInside w0 (with_released p n w go)
   unfolding with_released
-  released_in p n w go s h = so_in _ _ _ w _ s (λ v t. h _ (objects_out w0 v _ t))
+  released_in p n w go s h = so_in w0 _ _ _ w _ s (λ v t. h _ (objects_out w0 v _ t))
 
   dropped_in : (p : Program) (ns : List ℕ) (w : World) (go : World → Step) → IsSameOutside w0 w → On go → IsInside w0 (with_dropped p ns w go)
   unfolding with_dropped
   dropped_in p [] w go s h = h w s
-  dropped_in p (n ∷ ns) w go s h = found_in _ w _ s (λ m. released_in p n w _ s (λ v t. dropped_in p ns v go t h))
+  dropped_in p (n ∷ ns) w go s h = found_in w0 _ w _ s (λ m. released_in p n w _ s (λ v t. dropped_in p ns v go t h))
 
   fill_in : (f : Func) (v : ℕ) (a : Value) (frame : Frame) (w : World) → IsSameOutside w0 w → IsInside w0 (fill f v a frame w)
   unfolding fill
-  fill_in f v a frame w s = so_in _ _ _ w _ s (λ u t. record { same = t })
+  fill_in f v a frame w s = so_in w0 _ _ _ w _ s (λ u t. record { same = t })
 
   filled_in : (f : Func) (vs : List ℕ) (values : List Value) (frame : Frame) (w : World) (go : Frame → Step) → IsSameOutside w0 w → ((frame : Frame) → IsInside w0 (go frame)) → IsInside w0 (with_filled f vs values frame w go)
   unfolding with_filled
-  filled_in f (v ∷ vs) (a ∷ rest) frame w go s h = so_in _ _ _ w _ s (λ u t. filled_in f vs rest _ u go t h)
+  filled_in f (v ∷ vs) (a ∷ rest) frame w go s h = so_in w0 _ _ _ w _ s (λ u t. filled_in f vs rest _ u go t h)
   filled_in f [] [] frame w go s h = h frame
   filled_in f [] (a ∷ rest) frame w go s h = record { same = s }
   filled_in f (v ∷ vs) [] frame w go s h = record { same = s }
@@ -82,22 +54,16 @@ module _ (w0 : World) where
   abbrev Behind : (Frame → World → Step) → Type 0
   Behind go = (frame : Frame) (w : World) → IsSameOutside w0 w → IsInside w0 (go frame w)
 
-  operand_in : (p : Program) (f : Func) (o : Operand) (frame : Frame) (w : World) (go : Value → Frame → World → Step) → IsSameOutside w0 w → ((a : Value) → Behind (go a)) → IsInside w0 (with_operand p f o frame w go)
-  unfolding with_operand
-  operand_in p f (pure x) frame w go s h = found_in _ w _ s (λ a. h a frame w s)
-  operand_in p f (move v) frame w go s h = found_in _ w _ s (λ a. h a _ w s)
-  operand_in p f (pack x states) frame w go s h = found_in _ w _ s (λ n. h _ frame _ (objects_out w0 w _ s))
-
   operands_in : (p : Program) (f : Func) (os : List Operand) (frame : Frame) (w : World) (go : List Value → Frame → World → Step) → IsSameOutside w0 w → ((a : List Value) → Behind (go a)) → IsInside w0 (with_operands p f os frame w go)
   unfolding with_operands
   operands_in p f [] frame w go s h = h [] frame w s
   operands_in p f (o ∷ os) frame w go s h =
-      operand_in p f o frame w _ s (λ a frame2 v t. operands_in p f os frame2 v _ t (λ rest frame3 u t3. h (a ∷ rest) frame3 u t3))
+      operand_in w0 p f o frame w _ s (λ a frame2 v t. operands_in p f os frame2 v _ t (λ rest frame3 u t3. h (a ∷ rest) frame3 u t3))
 
   packed_in : (ks : List KeyIn) (frame : Frame) (w : World) (go : List ℕ → World → Step) → IsSameOutside w0 w → ((ns : List ℕ) → On (go ns)) → IsInside w0 (with_case_packed ks frame w go)
   unfolding with_case_packed
   packed_in [] frame w go s h = h [] w s
-  packed_in (k ∷ ks) frame w go s h = found_in _ w _ s (λ n. packed_in ks frame _ _ (objects_out w0 w _ s) (λ ns v t. h _ v t))
+  packed_in (k ∷ ks) frame w go s h = found_in w0 _ w _ s (λ n. packed_in ks frame _ _ (objects_out w0 w _ s) (λ ns v t. h _ v t))
 
 -- the world behind a silent statement is the one before it, but for its objects
 pub simple_inside : (r : Setup) (f : Func) (s : Simple) (frame : Frame) (w : World) → IsSilent s → IsInside w (does_simple r f s frame w)

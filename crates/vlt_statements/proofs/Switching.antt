@@ -23,7 +23,8 @@ use Rattle.vlt_values.proofs.Touching.{OrFault, some_fault}
 use Rattle.vlt_acts.specs.Acts.{Shows}
 use Rattle.vlt_objects.specs.Cases.{TellsCase, IsOpened, OpensArm}
 use Rattle.vlt_objects.proofs.Arms.{open_shows, OpenShows}
-use Rattle.vlt_hosts.specs.Hosts.{Outside, ShowsHost}
+use Rattle.vlt_hosts.specs.Hosts.{ShowsHost}
+use Rattle.vlt_steps.specs.Writing.{Outside}
 use Rattle.vlt_tasks.specs.declared.task.Rules.{Rules}
 use Rattle.vlt_tasks.specs.declared.task.Run.{Run}
 use Rattle.vlt_tasks.specs.Own.{AreVars, AreOwnArms}
@@ -33,7 +34,7 @@ use Rattle.vlt_tasks.proofs.Staying.{IsGoing, going, seen_in, IsSameRun, stays_l
 use Rattle.vlt_tasks.proofs.Coming.{Came, wrong_came, missing_came, found_came, came_since}
 use Rattle.vlt_statements.specs.Arms.{arm_for}
 use Rattle.vlt_statements.proofs.Asking.{can_seen}
-use Rattle.vlt_statements.proofs.Outside.{IsSameOutside, outside_same}
+use Rattle.vlt_tasks.proofs.Inside.{IsSameOutside, outside_same}
 use Rattle.vlt_statements.proofs.Finding.{when_right, got_right, StopsWrong, Fills, IsFilling, filling, filling_wrong, IsOutside, opened_outside}
 
 -- ---- the arm of a case

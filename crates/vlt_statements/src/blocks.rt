@@ -5,7 +5,7 @@ ghost use Rattle.vlt_core.specs.Core as core;
 ghost use Rattle.vlt_core.specs.View.{expr_of, block_of, arms_of, arm_of};
 ghost use Rattle.vlt_heap.specs.Shown.{IsSound};
 ghost use Rattle.vlt_meaning.specs.Run.{Setup};
-ghost use Rattle.vlt_hosts.specs.Hosts.{Outside};
+ghost use Rattle.vlt_steps.specs.Writing.{Outside};
 ghost use Rattle.vlt_tasks.specs.declared.task.Task.TheVariants.{Unfocus as UnfocusTask};
 ghost use Rattle.vlt_tasks.specs.Moves.{doing, entering, MayDo, Does, IsRightTask, DoesTask};
 ghost use Rattle.vlt_statements.specs.Arms.{arm_for};
@@ -14,7 +14,8 @@ use vlt_acts::{Focus, begin_focus, end_focus};
 use vlt_base::VarId;
 use vlt_core::{Arm, Block, Expr};
 use vlt_objects::{case_number, open_arm};
-use vlt_tasks::{At, Run, Stop, Task, put};
+use vlt_steps::{Stop, put};
+use vlt_tasks::{At, Run, Task};
 use vlt_values::number;
 
 /// A block comes next.

@@ -2,7 +2,7 @@
 
 ghost use Rattle.std.specs.Prelude.{◌≡◌, true};
 ghost use Rattle.vlt_core.specs.View.{form_of};
-ghost use Rattle.vlt_hosts.specs.Hosts.{Outside};
+ghost use Rattle.vlt_steps.specs.Writing.{Outside};
 ghost use Rattle.vlt_tasks.specs.Moves.{doing, CanDo, DoesFor};
 ghost use Rattle.vlt_statements.specs.Simple.{is_simple, is_quiet};
 
@@ -11,7 +11,8 @@ use vlt_core::Form;
 use vlt_hosts::{input, print};
 use vlt_io::Sink;
 use vlt_objects::{build, drop_value, make, open_into, put, swap};
-use vlt_tasks::{Rules, Run, Stop, or_full, or_halt, or_trap};
+use vlt_steps::Stop;
+use vlt_tasks::{Rules, Run, or_full, or_halt, or_trap};
 
 /// A statement that neither traps nor ends the run.
 fn rearrange(rules: &Rules, form: &Form, run: &mut Run)

@@ -1,9 +1,8 @@
 -- Where a part of a move comes to, from where its step comes to.
-use Rattle.std.proofs.Common.{◌≡◌, ⊎_elim, inl, inr, true, List, ◌++◌, Option, Some, None, Result, Ok, Err, refl, sym, ap, ◌∙◌, subst, ℤ}
-use Rattle.std.proofs.lemmas.Option.{none-some}
+use Rattle.std.proofs.Common.{◌≡◌, ⊎_elim, inl, inr, true, List, Option, Some, None, Result, Ok, Err, refl, sym, ◌∙◌, subst, ℤ}
 use Rattle.vlt_core.specs.Core.{Func}
 use Rattle.vlt_ops.specs.declared.TrapKind.{TrapKind}
-use Rattle.vlt_meaning.specs.World.{World, Frame, Outcome, trap, is_fault}
+use Rattle.vlt_meaning.specs.World.{line_of, World, Frame, Outcome, trap, is_fault}
 use Rattle.vlt_meaning.specs.Found.{Found}
 use Rattle.vlt_meaning.specs.Step.{Step, goes, jumps, leaves, ends}
 use Rattle.vlt_machine.specs.Machine as m
@@ -11,17 +10,17 @@ use Rattle.vlt_machine.specs.Machine.{Conf, at, when_found}
 use Rattle.vlt_machine.specs.Bounds.{IsAt}
 use Rattle.vlt_values.specs.Shown.{IsNumber}
 use Rattle.vlt_values.proofs.Numbers.{Faulty, number_is, trap_is}
-use Rattle.vlt_hosts.specs.declared.halt.Halt.{Halt}
-use Rattle.vlt_hosts.specs.declared.halt.Halt.TheVariants as host
-use Rattle.vlt_hosts.specs.Hosts.{Outside, Wrote, Went, Ended, Cut, Comes}
-use Rattle.vlt_hosts.specs.Hosts as hosts
+use Rattle.vlt_steps.specs.declared.stop.Stop.{Stop}
+use Rattle.vlt_hosts.specs.Hosts.{Comes}
+use Rattle.vlt_steps.specs.Writing.{Outside}
+use Rattle.vlt_hosts.specs.Stops.{Wrote, IsCut}
+use Rattle.vlt_steps.proofs.Writing as writing
 use Rattle.vlt_hosts.proofs.Writing.{silent}
-use Rattle.vlt_tasks.specs.declared.stop.Stop.{Stop}
-use Rattle.vlt_tasks.specs.declared.stop.Stop.TheVariants.{Trap}
+use Rattle.vlt_steps.specs.declared.stop.Stop.TheVariants.{Trap, SinkFault}
 use Rattle.vlt_tasks.specs.declared.task.Run.{Run}
-use Rattle.vlt_tasks.specs.Halting.{outcome_of, stop_for, halted}
+use Rattle.vlt_tasks.specs.Halting.{halted}
 use Rattle.vlt_tasks.specs.Shown.{ShowsConf}
-use Rattle.vlt_tasks.specs.Moves.{GoneOn, IsCut, CameTo}
+use Rattle.vlt_tasks.specs.Moves.{GoneOn, CameTo}
 use Rattle.vlt_tasks.proofs.Staying.{IsSameRun, ShowsThen, stays_left}
 
 -- where a configuration is come to
@@ -36,10 +35,10 @@ wrong_came w before after (Some stop) r c o v e = inl e
 -- what comes since a world with the same events
 module _ (w u : World) (before after : Outside) (r : Run) (same : u.events ≡ w.events) where
   wrote_since : (v : World) → Wrote u v before after → Wrote w v before after
-  wrote_since v h = record { events = h.events; added = h.added ∙ ap (λ l. l ++ h.events) same; grew = h.grew; counted = h.counted }
+  wrote_since v h = writing.wrote_since line_of u.events w.events v.events before after same h
 
   cut_since : (stop : Stop) (v : World) → IsCut u before after stop v → IsCut w before after stop v
-  cut_since stop v h = record { fault = h.fault; events = h.events; added = h.added ∙ ap (λ l. l ++ h.events) same; grew = h.grew; rose = h.rose; counted = h.counted }
+  cut_since stop v h = writing.cut_since line_of SinkFault u.events w.events v.events before after stop same h
 
   gone_since : (c : Conf) (v : World) → GoneOn u before after r c v → GoneOn w before after r c v
   gone_since c v h = record { shown = h.shown; wrote = wrote_since v h.wrote }
@@ -57,17 +56,6 @@ module _ (w u : World) (before after : Outside) (r : Run) (same : u.events ≡ w
 
 -- ---- statements that speak with the host
 
-stop_outcome : (h : Halt) (o : Outcome) → hosts.outcome_of h ≡ Some o → outcome_of (stop_for h) ≡ Some o
-stop_outcome (host.Trapped t) o e = e
-stop_outcome host.HeapEnd o e = e
-stop_outcome host.InputEnd o e = e
-stop_outcome host.AnswersEnd o e = e
-stop_outcome (host.BadAnswer n) o e = e
-stop_outcome host.SinkFault o e = absurd (none-some o e)
-
-pub cut_is : (w v : World) (before after : Outside) (h : Halt) → Cut before after h w v → IsCut w before after (stop_for h) v
-cut_is w v before after h c = record { fault = ap stop_for c.fault; events = c.events; added = c.added; grew = c.grew; rose = c.rose; counted = c.counted }
-
 module _ (old new : Run) (f : Func) (ts : List m.Task) (frame : Frame) (w : World) (before after : Outside) (q : ShowsConf old (at f ts (goes frame w))) (same : IsSameRun old new) where
   -- it goes on where the tables show it
   pub went : (next : Frame) (v : World) → ShowsThen q.items new next frame.depth v → Wrote w v before after → GoneOn w before after new (at f ts (goes next v)) v
@@ -77,14 +65,14 @@ module _ (old new : Run) (f : Func) (ts : List m.Task) (frame : Frame) (w : Worl
   }
 
   -- what the host's part comes to
-  pub spoken_came : (r : Result (Unit {0}) Halt) (a : Step) → w.fuel ≡ new.fuel → IsAt frame.depth a → Comes q.items new.heap new.values new.host before after r w a → CameTo w before after (halted r) new (at f ts a) a
+  pub spoken_came : (r : Result (Unit {0}) Stop) (a : Step) → w.fuel ≡ new.fuel → IsAt frame.depth a → Comes q.items new.heap new.values new.host before after r w a → CameTo w before after (halted r) new (at f ts a) a
   spoken_came (Ok u) (goes next v) fuel d c = went next v (record { tables = c.shows; depth = d; hosts = c.hosts; fuel = c.fuel ∙ fuel }) c.wrote
   spoken_came (Ok u) (ends o v) fuel d c = c
   spoken_came (Ok u) (jumps b next v) fuel d c = absurd c
   spoken_came (Ok u) (leaves b kept v) fuel d c = absurd c
-  spoken_came (Err h) (goes next v) fuel d c = cut_is w v before after h c
+  spoken_came (Err h) (goes next v) fuel d c = c
   spoken_came (Err h) (ends o v) fuel d c =
-      ⊎_elim (λ e. inl e) (λ c. inr (⊎_elim (λ e. inl (record { outcome = stop_outcome h o e.outcome; fuel = e.fuel ∙ fuel; wrote = e.wrote })) (λ k. inr (cut_is w v before after h k)) c)) c
+      ⊎_elim (λ e. inl e) (λ c. inr (⊎_elim (λ e. inl (record { outcome = e.outcome; fuel = e.fuel ∙ fuel; wrote = e.wrote })) (λ k. inr k) c)) c
   spoken_came (Err h) (jumps b next v) fuel d c = absurd c
   spoken_came (Err h) (leaves b kept v) fuel d c = absurd c
 

@@ -1,3 +1,5 @@
+pub mod Sizes
+pub mod Inside
 pub mod Stacks
 pub mod Staying
 pub mod Pushing

@@ -5,7 +5,7 @@ use Rattle.vlt_heap.specs.Items.{Items}
 use Rattle.vlt_meaning.specs.World.{Frame, World}
 use Rattle.vlt_meaning.specs.Step.{Step, goes, jumps, leaves, ends}
 use Rattle.vlt_machine.specs.Machine as m
-use Rattle.vlt_machine.specs.Machine.{Conf, at}
+use Rattle.vlt_machine.specs.Machine.{at}
 use Rattle.vlt_tasks.specs.declared.task.At.{At}
 use Rattle.vlt_tasks.specs.declared.task.At.TheVariants.{Goes, Jumps, Leaves}
 use Rattle.vlt_tasks.specs.declared.task.Task.{Task}

@@ -1,26 +1,24 @@
 -- What a move of a run, or a part of one, asks and comes to.
-use Rattle.std.specs.Prelude.{◌≡◌, ◌⊎◌, ◌≤◌, ℕ, ◌<◌, ◌+◌, ◌*◌, ◌^◌, true, false, List, ◌∷◌, ◌++◌, length, Option, Some, None, vec_capacity}
-use Rattle.vlt_io.specs.Outside.{Rose, GrewByPart}
+use Rattle.std.specs.Prelude.{◌≡◌, ◌⊎◌, ◌≤◌, ℕ, ◌<◌, ◌+◌, ◌*◌, ◌^◌, true, false, List, ◌∷◌, length, Option, Some, None, vec_capacity}
 use Rattle.vlt_core.specs.View.{func_of, program_of}
 use Rattle.vlt_core.specs.Core.{Form, Block, Func, Program}
 use Rattle.vlt_core.specs.Lookups.{fields_of}
 use Rattle.vlt_core.specs.Widths.{greatest}
-use Rattle.vlt_meaning.specs.World.{Event, event_text, Frame, World, Outcome, is_fault}
+use Rattle.vlt_meaning.specs.World.{Frame, World, Outcome, is_fault}
 use Rattle.vlt_meaning.specs.Step.{Step, goes, jumps, leaves, ends}
 use Rattle.vlt_meaning.specs.Run.{Setup}
 use Rattle.vlt_machine.specs.Machine as m
 use Rattle.vlt_machine.specs.Machine.{Conf, at, act, enter_block, moved}
 use Rattle.vlt_machine.specs.Bounds.{tall_of}
 use Rattle.vlt_heap.specs.Shown.{IsSound, IsSameSize, heap_of, slots_of}
-use Rattle.vlt_hosts.specs.Hosts.{Outside, Wrote}
-use Rattle.vlt_tasks.specs.declared.stop.Stop.{Stop}
-use Rattle.vlt_tasks.specs.declared.stop.Stop.TheVariants.{SinkFault}
+use Rattle.vlt_steps.specs.Writing.{Outside}
+use Rattle.vlt_hosts.specs.Stops.{Wrote, IsCut, HasStopped}
+use Rattle.vlt_steps.specs.declared.stop.Stop.{Stop}
 use Rattle.vlt_tasks.specs.declared.task.Task.{Task}
 use Rattle.vlt_tasks.specs.declared.task.Rules.{Rules}
 use Rattle.vlt_tasks.specs.declared.task.Run.{Run}
 use Rattle.vlt_tasks.specs.Sizes.{IsWide, frame_slots, line_length}
 use Rattle.vlt_tasks.specs.Own.{IsOwn, HasOwn, IsOf}
-use Rattle.vlt_tasks.specs.Halting.{outcome_of}
 use Rattle.vlt_tasks.specs.Shown.{setup_of, tasks_left, ShowsWith, ShowsConf}
 
 -- ---- rooms
@@ -68,27 +66,12 @@ pub record GoneOn (w : World) (before after : Outside) (r : Run) (c : Conf) (v :
   pub shown : ShowsConf r c
   pub wrote : Wrote w v before after
 
--- the sink took a part of what is written up to the world v
-pub record IsCut (w : World) (before after : Outside) (stop : Stop) (v : World) : Type 0 where
-  pub fault : stop ≡ SinkFault
-  pub events : List Event
-  pub added : v.events ≡ w.events ++ events
-  pub grew : GrewByPart before.written after.written (event_text events)
-  pub rose : Rose before.faults after.faults
-  pub counted : before.faults ≤ after.faults
-
--- the run ends with this outcome
-pub record HasStopped (w : World) (before after : Outside) (r : Run) (stop : Stop) (o : Outcome) (v : World) : Type 0 where
-  pub outcome : outcome_of stop ≡ Some o
-  pub fuel : v.fuel ≡ r.fuel
-  pub wrote : Wrote w v before after
-
 -- The configuration c, whose step is given beside it. Where the run goes wrong, any answer will do.
 abbrev pub CameTo : World → (before after : Outside) → Option Stop → Run → Conf → Step → Type 0
 CameTo w before after None r c (ends o v) = is_fault o ≡ true
 CameTo w before after None r c a = GoneOn w before after r c (world_in a)
 CameTo w before after (Some stop) r c (ends o v) =
-    (is_fault o ≡ true) ⊎ (HasStopped w before after r stop o v ⊎ IsCut w before after stop v)
+    (is_fault o ≡ true) ⊎ (HasStopped w before after r.fuel stop o v ⊎ IsCut w before after stop v)
 CameTo w before after (Some stop) r c a = IsCut w before after stop (world_in a)
 
 abbrev pub IsRight : Step → Type 0

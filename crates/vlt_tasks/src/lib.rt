@@ -1,4 +1,4 @@
-//! What is left to do in a run of a core program, and how a run stops; tables under way in, the configuration that they show out.
+//! What is left to do in a run of a core program; tables under way in, the configuration that they show out.
 //! Read `vlt_machine/specs/Machine.antt` first, then `specs/Shown.antt` and `specs/Moves.antt`: what a part of a move owes.
 //! The crates of the machine's moves rest on it: `vlt_statements`, `vlt_calls`, `vlt_interp`.
 #![tactic(auto)]
@@ -6,5 +6,5 @@
 mod stop;
 mod task;
 
-pub use stop::{Stop, or_full, or_halt, or_trap, stop_of};
-pub use task::{At, Rules, Run, Task, put};
+pub use stop::{or_full, or_halt, or_trap};
+pub use task::{At, Rules, Run, Task};

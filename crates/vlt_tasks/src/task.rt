@@ -1,7 +1,5 @@
 //! What is left to do.
 
-ghost use Rattle.std.specs.Prelude.{◌≡◌, ◌<◌, ◌≤◌, ◌++◌, ◌∷◌, [], length, vec_capacity};
-
 use vlt_acts::Focus;
 use vlt_core::{Block, Expr, Func, Program, Stmt};
 use vlt_frames::Waiting;
@@ -52,16 +50,4 @@ pub struct Run<'a, 'h> {
     pub values: Values,
     pub heap: Heap,
     pub host: Host<'h>,
-}
-
-/// One task more, for which there is room.
-pub fn put<'a>(tasks: &mut Vec<Task<'a>>, task: Task<'a>)
-    requires room { length tasks.old.items < vec_capacity tasks.old }
-    ensures items { tasks.new.items ≡ tasks.old.items ++ task.entry ∷ [] }
-    ensures room { vec_capacity tasks.old ≤ vec_capacity tasks.new }
-{
-    match tasks.push(task) {
-        Ok(()) => {}
-        Err(_) => unreachable!(),
-    }
 }

@@ -1,11 +1,12 @@
 use Rattle.std.proofs.Common.{◌<◌, subst}
 use Rattle.vlt_core.specs.View.{program_of}
 use Rattle.vlt_core.specs.Widths.{slots_needed}
-use Rattle.vlt_hosts.specs.Hosts.{Outside}
+use Rattle.vlt_steps.specs.Writing.{Outside}
 use Rattle.vlt_numbers.specs.Answers.{lists_of}
 use Rattle.vlt_run.specs.Ends.{EndsRun}
-use Rattle.vlt_run.specs.declared.end.RunEnd.TheVariants.{Stopped}
-use Rattle.vlt_run.proofs.Ending.{fits, stops}
+use Rattle.vlt_steps.specs.declared.end.RunEnd.TheVariants.{Stopped}
+use Rattle.vlt_steps.proofs.Ending.{fits}
+use Rattle.vlt_run.proofs.Ending.{stops}
 use Rattle.vlt_run.proofs.run_over.Goals as goal
 
 pub returns-in-Ok : goal.returns-in-Ok
@@ -18,5 +19,5 @@ returns-in-Ok g c =
     subst (λ input. EndsRun p input lists b before after (Stopped c.go.result)) c.deref.ensures.value (
       fits c.open.result c.in-Ok.machine (16777216 < slots_needed p b.depth b.heap) c.in-Ok.is c.open.ensures.too_wide,
       stops c.in-Ok.machine p b c.deref.result.now lists c.go.result before after
-          c.in-Ok.ensures.program c.in-Ok.ensures.budgets c.in-Ok.ensures.started c.go.ensures.outcome c.go.ensures.text c.go.ensures.cause c.go.ensures.counted,
+          c.in-Ok.ensures.program c.in-Ok.ensures.budgets c.in-Ok.ensures.started c.go.ensures.ended,
     )

@@ -8,7 +8,7 @@ use Rattle.c_memory.specs.Shown.{cells_of}
 use Rattle.c_primitives.specs.Shown.{Shows}
 use Rattle.c_interp.specs.Calling.{numbered_of}
 use Rattle.c_interp.specs.Running.{start_of}
-use Rattle.c_interp.specs.Start.{IsEnded}
+use Rattle.c_interp.specs.Start.{EndsAs}
 use Rattle.c_interp.proofs.Ending.{main_none, main_some, ends_without_main, ends_without_depth, ended_is, start_shown}
 use Rattle.c_interp.proofs.start.run_program.Goals as goal
 
@@ -42,7 +42,7 @@ run-stop-requires g c =
 
 pub returns : goal.returns
 returns g c =
-    subst (λ f. IsEnded (c_run (program_of c.args.s.rules.program.now) f c.args.s.rules.heap c.args.s.rules.depth c.args.input.now (lists_of c.args.answers.now)) (record { written = g.K.Sink.written c.args.sink.now; faults = g.K.Sink.faults c.args.sink.now }) (record { written = g.K.Sink.written c.run-stop.new.sink; faults = g.K.Sink.faults c.run-stop.new.sink }) (record { stop = c.run-stop.result; fuel = c.run-stop.new.world.fuel })) c.new-world.ensures.has_fuel
-    (subst (λ i. IsEnded (c_run (program_of c.args.s.rules.program.now) c.new-world.result.fuel c.args.s.rules.heap c.args.s.rules.depth i (lists_of c.args.answers.now)) (record { written = g.K.Sink.written c.args.sink.now; faults = g.K.Sink.faults c.args.sink.now }) (record { written = g.K.Sink.written c.run-stop.new.sink; faults = g.K.Sink.faults c.run-stop.new.sink }) (record { stop = c.run-stop.result; fuel = c.run-stop.new.world.fuel })) c.new-world.ensures.has_input
-    (subst (λ a. IsEnded (c_run (program_of c.args.s.rules.program.now) c.new-world.result.fuel c.args.s.rules.heap c.args.s.rules.depth c.new-world.result.input.now (lists_of a)) (record { written = g.K.Sink.written c.args.sink.now; faults = g.K.Sink.faults c.args.sink.now }) (record { written = g.K.Sink.written c.run-stop.new.sink; faults = g.K.Sink.faults c.run-stop.new.sink }) (record { stop = c.run-stop.result; fuel = c.run-stop.new.world.fuel })) c.new-world.ensures.has_answers
-    (ended_is _ (start_of c.new-world.result) (record { written = g.K.Sink.written c.args.sink.now; faults = g.K.Sink.faults c.args.sink.now }) (record { written = g.K.Sink.written c.run-stop.new.sink; faults = g.K.Sink.faults c.run-stop.new.sink }) c.run-stop.result c.run-stop.new.world refl c.run-stop.ensures)))
+    subst (λ f. EndsAs (c_run (program_of c.args.s.rules.program.now) f c.args.s.rules.heap c.args.s.rules.depth c.args.input.now (lists_of c.args.answers.now)) (record { written = g.K.Sink.written c.args.sink.now; faults = g.K.Sink.faults c.args.sink.now }) (record { written = g.K.Sink.written c.run-stop.new.sink; faults = g.K.Sink.faults c.run-stop.new.sink }) (record { stop = c.run-stop.result; fuel = c.run-stop.new.world.fuel })) c.new-world.ensures.has_fuel
+    (subst (λ i. EndsAs (c_run (program_of c.args.s.rules.program.now) c.new-world.result.fuel c.args.s.rules.heap c.args.s.rules.depth i (lists_of c.args.answers.now)) (record { written = g.K.Sink.written c.args.sink.now; faults = g.K.Sink.faults c.args.sink.now }) (record { written = g.K.Sink.written c.run-stop.new.sink; faults = g.K.Sink.faults c.run-stop.new.sink }) (record { stop = c.run-stop.result; fuel = c.run-stop.new.world.fuel })) c.new-world.ensures.has_input
+    (subst (λ a. EndsAs (c_run (program_of c.args.s.rules.program.now) c.new-world.result.fuel c.args.s.rules.heap c.args.s.rules.depth c.new-world.result.input.now (lists_of a)) (record { written = g.K.Sink.written c.args.sink.now; faults = g.K.Sink.faults c.args.sink.now }) (record { written = g.K.Sink.written c.run-stop.new.sink; faults = g.K.Sink.faults c.run-stop.new.sink }) (record { stop = c.run-stop.result; fuel = c.run-stop.new.world.fuel })) c.new-world.ensures.has_answers
+    (ended_is (c_run (program_of c.args.s.rules.program.now) c.new-world.result.fuel c.args.s.rules.heap c.args.s.rules.depth c.new-world.result.input.now (lists_of c.new-world.result.answers.now)) (start_of c.new-world.result) (record { written = g.K.Sink.written c.args.sink.now; faults = g.K.Sink.faults c.args.sink.now }) (record { written = g.K.Sink.written c.run-stop.new.sink; faults = g.K.Sink.faults c.run-stop.new.sink }) c.run-stop.result c.run-stop.new.world refl c.run-stop.ensures)))

@@ -4,7 +4,8 @@ use Rattle.c_syntax.specs.C as cc
 use Rattle.c_syntax.specs.View.{stmt_of, stmts_of}
 use Rattle.c_machine.specs.Machine as m
 use Rattle.c_primitives.proofs.Coming.{silent}
-use Rattle.c_interp.specs.declared.stop.CStop.TheVariants.{Done}
+use Rattle.c_interp.specs.declared.stop.CStop.TheVariants.{Stopped}
+use Rattle.vlt_steps.specs.declared.stop.Stop.TheVariants.{Done}
 use Rattle.c_interp.specs.Shown.{caller_of, setup_of, state_of, tasks_of, CameTo, IsPlain}
 use Rattle.c_interp.proofs.Tasks.{popped, pushed_one, shorter}
 use Rattle.c_interp.proofs.Plain.{plain_came}
@@ -111,6 +112,6 @@ returns-in-None g c =
       tasks = omega (arith, c.pop.ensures.capacity);
       slots = omega arith;
       comes = λ things w h made.
-          subst (λ l. CameTo w (record { written = g.K.Sink.written c.args.sink.now; faults = g.K.Sink.faults c.args.sink.now }) (record { written = g.K.Sink.written c.args.sink.now; faults = g.K.Sink.faults c.args.sink.now }) (Some Done) c.pop.new.self.items c.args.frames.now c.args.world.now (m.moved (setup_of c.args.rules.now) (tasks_of l) (state_of c.args.frames.now w))) (sym none)
+          subst (λ l. CameTo w (record { written = g.K.Sink.written c.args.sink.now; faults = g.K.Sink.faults c.args.sink.now }) (record { written = g.K.Sink.written c.args.sink.now; faults = g.K.Sink.faults c.args.sink.now }) (Some (Stopped Done)) c.pop.new.self.items c.args.frames.now c.args.world.now (m.moved (setup_of c.args.rules.now) (tasks_of l) (state_of c.args.frames.now w))) (sym none)
           (inl (record { outcome = refl; fuel = h.fuel; wrote = silent w w (record { written = g.K.Sink.written c.args.sink.now; faults = g.K.Sink.faults c.args.sink.now }) refl }));
     }

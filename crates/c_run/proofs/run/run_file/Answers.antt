@@ -1,17 +1,25 @@
-use Rattle.std.proofs.Common.{subst}
+use Rattle.std.proofs.Common.{Err, refl, sym, ap, ◌∙◌, subst}
 use Rattle.vlt_numbers.specs.Answers.{lists_of}
+use Rattle.vlt_given.specs.Given.{given_by}
+use Rattle.vlt_steps.specs.Writing.{Outside}
+use Rattle.vlt_steps.proofs.Ending.{over_numbers, refused}
 use Rattle.c_syntax.specs.View.{program_of}
-use Rattle.c_primitives.specs.Shown.{Outside}
-use Rattle.c_run.specs.Ends.{EndsRun}
-use Rattle.c_run.proofs.Ending.{over}
+use Rattle.c_run.specs.Ends.{EndsRun, EndsGiven}
 use Rattle.c_run.proofs.run.run_file.Goals as goal
 
-pub returns-in-Ok-read_answers : goal.returns-in-Ok-read_answers
-returns-in-Ok-read_answers g c =
+pub returns-in-Ok : goal.returns-in-Ok
+returns-in-Ok g c =
     let p = program_of c.args.program.now in
-    let lists = lists_of c.in-Ok-read_answers.lists in
+    let given = c.in-Ok.given in
     let before : Outside = record { written = g.K.Sink.written c.args.out.now; faults = g.K.Sink.faults c.args.out.now } in
     let after : Outside = record { written = g.K.Sink.written c.run.new.out; faults = g.K.Sink.faults c.run.new.out } in
-    over p c.args.input.now c.args.answers.now c.in-Ok.numbers.items lists c.args.budgets before after c.run.result
-    c.in-Ok.ensures.ok c.in-Ok-read_answers.ensures.ok
-    (subst (λ ns. EndsRun p ns lists c.args.budgets before after c.run.result) c.deref.ensures.value c.run.ensures)
+    over_numbers (λ numbers answers. EndsRun p numbers answers c.args.budgets before after) (given_by c.args.input.now c.args.answers.now)
+    given.input.items (lists_of given.answers) before after c.run.result c.in-Ok.ensures.ok c.run.ensures
+
+pub returns-in-Err : goal.returns-in-Err
+returns-in-Err g c =
+    let p = program_of c.args.program.now in
+    let before : Outside = record { written = g.K.Sink.written c.args.out.now; faults = g.K.Sink.faults c.args.out.now } in
+    subst (λ e. EndsGiven p (given_by c.args.input.now c.args.answers.now) c.args.budgets before before e) (sym c.end_of.ensures)
+    (refused (λ numbers answers. EndsRun p numbers answers c.args.budgets before before) (given_by c.args.input.now c.args.answers.now) c.in-Err.error before
+    (λ line same. c.read_given.ensures.input line (c.in-Err.is ∙ ap (λ e. Err e) same)) (λ line same. c.read_given.ensures.answers line (c.in-Err.is ∙ ap (λ e. Err e) same)) (λ numbers answers. refl))

@@ -1,4 +1,4 @@
-use Rattle.std.proofs.Common.{◌≡◌, ◌≤◌, inl, inr, length, subst, rules, arith}
+use Rattle.std.proofs.Common.{◌≡◌, subst, rules, arith}
 use Rattle.std.proofs.lemmas.Grind.{common_steps}
 use Rattle.c_reader.specs.Reads.{IsWithin}
 use Rattle.c_reader.specs.declared.error.CError.TheVariants as error

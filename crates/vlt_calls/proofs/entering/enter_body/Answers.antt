@@ -23,8 +23,8 @@ enter-waiting-requires-clause-room c =
 
 pub returns : goal.returns
 returns c = λ b.
-    enters_body c.args.rules.now c.args.run.now (record { func = c.args.callee; tasks = c.put-2.new.tasks; at = c.args.run.now.at; depth = c.args.run.now.depth + 1; fuel = c.args.run.now.fuel; values = c.enter-waiting.new.values; heap = c.args.run.now.heap; host = c.args.run.now.host }) (func_of c.args.callee.now) c.args.target (keys_of c.args.keys.now)
-    c.enter-waiting.result c.as_slice.result c.put.new.tasks.items (record { first = c.put.ensures.items; last = c.put-2.ensures.items; going = refl; depth = refl; fuel = refl; heap = refl; host = refl })
+    enters_body c.args.rules.now c.args.run.now (record { func = c.args.callee; tasks = c.put-2.new.items; at = c.args.run.now.at; depth = c.args.run.now.depth + 1; fuel = c.args.run.now.fuel; values = c.enter-waiting.new.values; heap = c.args.run.now.heap; host = c.args.run.now.host }) (func_of c.args.callee.now) c.args.target (keys_of c.args.keys.now)
+    c.enter-waiting.result c.as_slice.result c.put.new.items.items (record { first = c.put.ensures.items; last = c.put-2.ensures.items; going = refl; depth = refl; fuel = refl; heap = refl; host = refl })
     (record { below = c.enter-waiting.ensures.waits; base = c.enter-waiting.ensures.base; func = c.enter-waiting.ensures.func; target = c.enter-waiting.ensures.target; keys = ap keys_of c.enter-waiting.ensures.keys })
     c.enter-waiting.ensures.running c.enter-waiting.ensures.width c.enter-waiting.ensures.same refl (ap stmts_of c.as_slice.ensures) b (record {
       sound = c.requires.can.ready.room.heap;

@@ -1,5 +1,4 @@
 use Rattle.std.proofs.Common.{refl}
-use Rattle.std.specs.Option.{option_map}
 use Rattle.vlt_core.specs.View.{program_of, func_of, keys_of}
 use Rattle.vlt_calls.proofs.Sizes.{result_fits, value_room, line_room}
 use Rattle.vlt_calls.proofs.Outside.{can_call_out, called_out}

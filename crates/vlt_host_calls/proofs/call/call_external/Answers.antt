@@ -38,7 +38,7 @@ returns-in-Err-heed-clause-calls g c =
     c.call_line.new.line.items (subst (λ n. TellsCall n c.args.values.now (c.len.result - c.args.g.now.params * c.width.result) c.args.g.now.params c.call_line.new.line.items) c.as_slice.ensures c.call_line.ensures.told)
     (subst (Grew (g.K.Sink.written c.args.sink.now) (g.K.Sink.written c.write.new.self)) c.deref.ensures.value c.in-Ok.ensures.ok) c.in-Ok.ensures.counted
     c.requires.lists c.send_taken.new.heap c.send_owned.new.heap c.heed.new.heap c.truncate.new.self c.heed.new.values c.take_answer.new.host c.in-Some.answer.now c.in-Some.ensures.0
-    (subst (λ es. Takes (keys_of c.args.keys.now) (map entry_of es) c.args.values.now c.args.heap.now c.send_taken.new.heap) c.as_slice-2.ensures c.send_taken.ensures.takes) c.send_owned.ensures.hands c.truncate.ensures.cut (c.send_owned.ensures.size.heap ∙ c.send_taken.ensures.size.heap) c.in-Err-heed.halt
+    (subst (λ es. Takes (keys_of c.args.keys.now) (map entry_of es) c.args.values.now c.args.heap.now c.send_taken.new.heap) c.as_slice-2.ensures c.send_taken.ensures.takes) c.send_owned.ensures.hands c.truncate.ensures.cut (c.send_owned.ensures.size.heap ∙ c.send_taken.ensures.size.heap) c.in-Err-heed.stop
     (subst (Heeds (program_of c.args.program.now) (func_of c.args.g.now) (keys_of c.args.keys.now) (c.args.host.now.taken + 1) c.in-Some.answer.now c.truncate.new.self c.heed.new.values c.send_owned.new.heap c.heed.new.heap) c.in-Err-heed.is
     (subst (λ n. Heeds (program_of c.args.program.now) (func_of c.args.g.now) (keys_of c.args.keys.now) n c.in-Some.answer.now c.truncate.new.self c.heed.new.values c.send_owned.new.heap c.heed.new.heap c.heed.result) (ap (λ q. q.taken) c.in-Some.ensures.1) c.heed.ensures.heeds))
 

@@ -1,6 +1,5 @@
 use Rattle.std.proofs.Common.{map, sym, ap, ◌∙◌, subst}
 use Rattle.vlt_core.specs.View.{program_of, func_of, keys_of, case_key_of, case_of}
-use Rattle.vlt_answers.specs.Whole.{HasCaseRead}
 use Rattle.vlt_results.specs.Stated.{SetsCase}
 use Rattle.vlt_host_calls.specs.Heeded.{variant_view}
 use Rattle.vlt_host_calls.proofs.Answered.{case_set}

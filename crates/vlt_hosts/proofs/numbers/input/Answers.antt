@@ -6,7 +6,7 @@ use Rattle.vlt_meaning.specs.Run.{does_simple}
 use Rattle.vlt_values.specs.Filled.{IsFilled, IsSingleSlot}
 use Rattle.vlt_values.specs.Shown.{var_at, IsKept}
 use Rattle.vlt_acts.specs.Acts.{setup}
-use Rattle.vlt_hosts.specs.declared.halt.Halt.TheVariants.{InputEnd}
+use Rattle.vlt_steps.specs.declared.stop.Stop.TheVariants.{InputEnd}
 use Rattle.vlt_hosts.specs.Hosts.{Comes}
 use Rattle.vlt_hosts.proofs.Talking.{more_came, input_came, input_ended}
 use Rattle.vlt_hosts.proofs.numbers.input.Goals as goal

@@ -1,5 +1,4 @@
-use Rattle.std.proofs.Common.{rules, SFits, w64, refl, subst, ◌++◌, codes}
-use Rattle.std.specs.Fmt.{signed_decimal}
+use Rattle.std.proofs.Common.{rules, SFits, w64, refl, subst}
 use Rattle.std.proofs.lemmas.Int.{to_z-of_z}
 use Rattle.vlt_io.specs.Outside.{Grew, GrewByPart}
 use Rattle.vlt_core.specs.View.{expr_of}

@@ -1,4 +1,4 @@
-use Rattle.std.proofs.Common.{◌≡◌, ◌≤◌, ◌+◌, None, map, arith, length, ap, sym, ◌∙◌}
+use Rattle.std.proofs.Common.{None, map, arith, ap, sym, ◌∙◌}
 use Rattle.std.specs.Option.{option_map}
 use Rattle.vlt_core.specs.Core as core
 use Rattle.vlt_core.specs.View.{form_of, expr_of, block_of, arms_of, keys_of, operand_of}

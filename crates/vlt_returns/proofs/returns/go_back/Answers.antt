@@ -1,4 +1,4 @@
-use Rattle.vlt_returns.proofs.Leaving.{left_table, left_below, some_depth, back_does}
+use Rattle.vlt_returns.proofs.Leaving.{left_table, left_below, back_does}
 use Rattle.vlt_returns.proofs.returns.go_back.Goals as goal
 
 pub leave-requires-clause-table : goal.leave-requires-clause-table

@@ -1,4 +1,4 @@
-use Rattle.std.proofs.Common.{◌≡◌, ◌≤◌, ◌^◌, max, map, drop}
+use Rattle.std.proofs.Common.{◌≡◌, max, map, drop}
 use Rattle.vlt_core.specs.View.{case_of}
 use Rattle.vlt_core.specs.Widths.{greatest}
 use Rattle.vlt_tasks.specs.Sizes.{case_parts}

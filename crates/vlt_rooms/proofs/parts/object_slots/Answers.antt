@@ -1,4 +1,4 @@
-use Rattle.std.proofs.Common.{◌≡◌, ◌<◌, ◌*◌, ap, ◌∙◌, subst, sym}
+use Rattle.std.proofs.Common.{◌*◌, ap}
 use Rattle.vlt_core.specs.View.{program_of}
 use Rattle.vlt_rooms.specs.Rooms.{HoldsFields}
 use Rattle.vlt_rooms.proofs.Holding.{some_fitted, found_in, fields_held}

@@ -12,6 +12,6 @@ returns c = λ s b. record {
     tasks = omega (arith, c.put.ensures.room, c.put-2.ensures.room);
     line = omega arith;
   };
-  comes = λ f ts frame w q. block_entered c.args.block.now c.args.run.now (record c.args.run.now { tasks = c.put.new.tasks }) (record c.args.run.now { tasks = c.put-2.new.tasks }) refl refl
+  comes = λ f ts frame w q. block_entered c.args.block.now c.args.run.now (record c.args.run.now { tasks = c.put.new.items }) (record c.args.run.now { tasks = c.put-2.new.items }) refl refl
       c.as_slice.result c.as_slice.ensures c.put.ensures.items c.put-2.ensures.items f ts frame w b q;
 }

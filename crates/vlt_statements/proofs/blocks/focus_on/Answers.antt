@@ -21,7 +21,7 @@ begin_focus-focus-requires-clause-can c = can_focus c.args.y.0 c.args.z.0 (block
 pub returns : goal.returns
 returns c =
     let mid = record c.args.run.now { values = c.begin_focus-focus.new.values; heap = c.begin_focus-focus.new.heap } in
-    let next = record mid { tasks = c.put.new.tasks } in
+    let next = record mid { tasks = c.put.new.items } in
     λ s b. record {
       keeps = keeps_on c.args.run.now next c.enter_block.new.run (record {
         sound = c.begin_focus-focus.ensures.sound;

@@ -7,7 +7,7 @@ use Rattle.vlt_machine.specs.Machine as m
 use Rattle.vlt_machine.specs.Machine.{at, enter_block}
 use Rattle.vlt_values.specs.Shown.{IsNumber}
 use Rattle.vlt_hosts.proofs.Writing.{silent}
-use Rattle.vlt_tasks.specs.declared.stop.Stop.TheVariants.{Trap}
+use Rattle.vlt_steps.specs.declared.stop.Stop.TheVariants.{Trap}
 use Rattle.vlt_tasks.specs.declared.task.Task.TheVariants.{Turn}
 use Rattle.vlt_tasks.proofs.Staying.{going, keeps_all, keeps_on}
 use Rattle.vlt_tasks.proofs.Pushing.{put_shown}
@@ -25,7 +25,7 @@ pub returns-then-z-ne0 : goal.returns-then-z-ne0
 returns-then-z-ne0 c =
     let t : is_true c.in-Ok.z ≡ true = search rules in
     let less = record c.args.run.now { fuel = c.args.run.now.fuel - 1 } in
-    let more = record less { tasks = c.put.new.tasks } in
+    let more = record less { tasks = c.put.new.items } in
     λ s b. record {
       keeps = keeps_on c.args.run.now more c.enter_block.new.run (keeps_still c.args.run.now more c.requires.can.can.ready.room.heap refl refl refl c.put.ensures.room) (c.enter_block.ensures s b).keeps;
       comes = λ f ts frame w q.

@@ -1,7 +1,8 @@
 use Rattle.std.proofs.Common.{rules, Ok, Err, Some, true, SFits, w64, map, ap, sym, ◌∙◌, refl}
 use Rattle.std.proofs.lemmas.Int.{to_z-of_z}
 use Rattle.c_syntax.specs.View.{arg_of}
-use Rattle.c_primitives.specs.declared.halt.Halt.TheVariants.{Broken, BadAnswer}
+use Rattle.c_primitives.specs.declared.halt.Halt.TheVariants.{Broken, Stopped}
+use Rattle.vlt_steps.specs.declared.stop.Stop.TheVariants.{BadAnswer}
 use Rattle.c_primitives.specs.declared.world.Talk.TheVariants.{Reading}
 use Rattle.c_primitives.proofs.Coming.{same_room, none_come, none_breaks}
 use Rattle.c_primitives.proofs.Answering.{ready_reads, room_talk, answer_come, no_answer, answer_breaks}
@@ -26,7 +27,7 @@ pub returns-in-None : goal.returns-in-None
 returns-in-None c = λ b. record {
   ready = c.requires.ready;
   room = same_room c.args.self.now;
-  comes = λ ts w h made. none_come ts c.args.self.now w b b (map arg_of c.args.args.now) (Err (BadAnswer c.args.self.now.taken)) _ (sym c.is_none.ensures ∙ c.if-not-is_none.false) (no_answer ts c.args.self.now w b h c.in-Some.left.now c.in-Some.ensures.reads (λ z. true) c.in-None.ensures);
+  comes = λ ts w h made. none_come ts c.args.self.now w b b (map arg_of c.args.args.now) (Err (Stopped (BadAnswer c.args.self.now.taken))) _ (sym c.is_none.ensures ∙ c.if-not-is_none.false) (no_answer ts c.args.self.now w b h c.in-Some.left.now c.in-Some.ensures.reads (λ z. true) c.in-None.ensures);
 }
 
 pub returns-in_default : goal.returns-in_default

@@ -1,7 +1,8 @@
 use Rattle.std.proofs.Common.{rules, Ok, Err, Some, SFits, w64, map, ap, sym, ◌∙◌, refl}
 use Rattle.std.proofs.lemmas.Int.{to_z-of_z}
 use Rattle.c_syntax.specs.View.{arg_of}
-use Rattle.c_primitives.specs.declared.halt.Halt.TheVariants.{InputEnd}
+use Rattle.c_primitives.specs.declared.halt.Halt.TheVariants.{Stopped}
+use Rattle.vlt_steps.specs.declared.stop.Stop.TheVariants.{InputEnd}
 use Rattle.c_primitives.proofs.Coming.{same_room, none_come, none_breaks}
 use Rattle.c_primitives.proofs.Answering.{ready_input, room_input, read_come, no_input}
 use Rattle.c_values.specs.declared.value.Value.TheVariants.{Number}
@@ -25,5 +26,5 @@ pub returns-in-None : goal.returns-in-None
 returns-in-None c = λ b. record {
   ready = c.requires.ready;
   room = same_room c.args.self.now;
-  comes = λ ts w h made. none_come ts c.args.self.now w b b (map arg_of c.args.args.now) (Err InputEnd) _ (sym c.is_none.ensures ∙ c.if-not-is_none.false) (no_input ts c.args.self.now w b h c.in-None.ensures);
+  comes = λ ts w h made. none_come ts c.args.self.now w b b (map arg_of c.args.args.now) (Err (Stopped InputEnd)) _ (sym c.is_none.ensures ∙ c.if-not-is_none.false) (no_input ts c.args.self.now w b h c.in-None.ensures);
 }

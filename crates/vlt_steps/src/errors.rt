@@ -1,17 +1,20 @@
 //! Why a machine isn't opened.
 
 ghost use Rattle.std.specs.Prelude.{◌≡◌};
-ghost use Rattle.vlt_interp.specs.declared.errors.OpenError.TheVariants.{Memory as NotOpened};
+ghost use Rattle.vlt_steps.specs.declared.errors.OpenError.TheVariants.{Memory as NotOpened};
 
 use std::alloc::{AllocError, AllocFailed};
+use thiserror::Error;
 use vlt_base::Memory;
 
 /// Why a machine isn't opened.
-#[derive(Clone, Copy, Debug, PartialEq, Eq)]
+#[derive(Clone, Copy, Debug, PartialEq, Eq, Error)]
 pub enum OpenError {
     /// Its frames and objects could have more values than limit 13 allows.
+    #[error("the budgets allow more values than a machine may have")]
     TooWide,
     /// There was no memory for it.
+    #[error("there was no memory for the machine")]
     Memory,
 }
 
