@@ -9,4 +9,6 @@ mod BackStmts
 mod Whole
 mod Steps
 mod Refused
+mod Decided
+mod OneRefusal
 pub mod Taking

@@ -95,7 +95,7 @@ pub record Parted (b : Bounds) (xs zs : List Token) (ys last : List Symbol) : Ty
   pub first : after b xs ys ≡ to middle
   pub second : after b zs middle ≡ to last
 
-parted : (b : Bounds) (xs zs : List Token) (ys last : List Symbol) → after b (xs ++ zs) ys ≡ to last → Parted b xs zs ys last
+pub parted : (b : Bounds) (xs zs : List Token) (ys last : List Symbol) → after b (xs ++ zs) ys ≡ to last → Parted b xs zs ys last
 parted b [] zs ys last e = record { middle = ys; first = refl; second = e }
 parted b (x ∷ xs) zs ys last e =
     let m = between (after b (xs ++ zs)) (step b ys x) last e in
@@ -126,12 +126,12 @@ steps_over asked ls n at h c =
       steps = subst (λ s. step c.bounds s h.token ≡ to last.middle) (sym same) last.first;
     }
 
-continues : (asked : Bounds → Type 0) (b : Bounds) (ts : List Token) (zs : List Symbol) → asked b → 1 ≤ b.expressions → after b ts start ≡ to zs → Continues asked ts
+pub continues : (asked : Bounds → Type 0) (b : Bounds) (ts : List Token) (zs : List Symbol) → asked b → 1 ≤ b.expressions → after b ts start ≡ to zs → Continues asked ts
 continues asked b ts zs is some e =
     let q = goes_on b ts zs some e in
     record { bounds = b; is_asked = is; unit = q.unit; within = q.within; more = q.more; spelled = q.spelled }
 
-some_depth : 1 ≤ language.expressions
+pub some_depth : 1 ≤ language.expressions
 some_depth = omega arith
 
 last_of : (ls : List Lexeme) (n : Next) (at : ℕ) (h : StopsAt language start ls n at) → (Continues within_limits (take (suc h.index) (tokens_in ls)) → ⊥) → IsLastOf (tokens_in ls) h.index
@@ -199,7 +199,7 @@ fits_far k n = grind (arith, nat_tests)
 same_stack : (ys zs : List Symbol) → to ys ≡ to zs → ys ≡ zs
 same_stack ys zs e = cc
 
-joined : (b : Bounds) (xs : List Token) (x : Token) (ys zs us : List Symbol) → after b xs ys ≡ to zs → step b zs x ≡ to us → after b (xs ++ x ∷ []) ys ≡ to us
+pub joined : (b : Bounds) (xs : List Token) (x : Token) (ys zs us : List Symbol) → after b xs ys ≡ to zs → step b zs x ≡ to us → after b (xs ++ x ∷ []) ys ≡ to us
 joined b [] x ys zs us e g = subst (λ s. bind (after b []) (step b s x) ≡ to us) (sym (same_stack ys zs e)) (ap (bind (after b [])) g)
 joined b (y ∷ xs) x ys zs us e g =
     let m = between (after b xs) (step b ys y) zs e in

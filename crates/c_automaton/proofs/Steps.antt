@@ -62,10 +62,10 @@ pub record IsWider (b d : Bounds) : Type 0 where
   pub blocks : b.blocks ≤ d.blocks
   pub expressions : b.expressions ≤ d.expressions
 
-wider_test : (m j k : ℕ) → j ≤ k → nat_le m (j - 1) ≡ true → nat_le m (k - 1) ≡ true
+pub wider_test : (m j k : ℕ) → j ≤ k → nat_le m (j - 1) ≡ true → nat_le m (k - 1) ≡ true
 wider_test m j k h e = grind (arith, nat_tests)
 
-still : (p q : Bool) (n : ℕ) (ys zs : List Symbol) → (p ≡ true → q ≡ true) → (if p then to ys else over n) ≡ to zs → (if q then to ys else over n) ≡ to zs
+pub still : (p q : Bool) (n : ℕ) (ys zs : List Symbol) → (p ≡ true → q ≡ true) → (if p then to ys else over n) ≡ to zs → (if q then to ys else over n) ≡ to zs
 still true q n ys zs f e = rw (f refl) e
 still false q n ys zs f e = absurd cc
 

@@ -69,7 +69,7 @@ has_part b (a.more_args n) ys K ts some k = (t.sign s.CloseParen ∷ ts, ([], ts
 has_part b (a.arg n) ys K ts some k = (t.word w.Null ∷ ts, (c.null, ts, null_stands n, refl, k))
 
 -- nothing comes behind
-abbrev IsEnd : Rest
+abbrev pub IsEnd : Rest
 IsEnd ts = ts ≡ []
 
 has_all : (b : Bounds) (ys : List Symbol) → 1 ≤ b.expressions → (ts : List Token) × Spells b ys IsEnd ts
@@ -118,13 +118,34 @@ between f (to ys) zs e = record { middle = ys; first = refl; second = e }
 between f unexpected zs e = absurd cc
 between f (over n) zs e = absurd cc
 
-after_back : (b : Bounds) (xs ts : List Token) (ys zs : List Symbol) (K : Rest) → 1 ≤ b.expressions → after b xs ys ≡ to zs → Spells b zs K ts → Spells b ys K (xs ++ ts)
+pub after_back : (b : Bounds) (xs ts : List Token) (ys zs : List Symbol) (K : Rest) → 1 ≤ b.expressions → after b xs ys ≡ to zs → Spells b zs K ts → Spells b ys K (xs ++ ts)
 after_back b [] ts ys zs K some e k = subst (λ s. Spells b s K ts) (sym (ap stack_in e)) k
 after_back b (x ∷ xs) ts ys zs K some e k =
     let m = between (after b xs) (step b ys x) zs e in
     step_back b ys m.middle K (xs ++ ts) x some m.first (after_back b xs ts m.middle zs K some m.second k)
 
 -- ---- texts
+
+-- these tokens are a text within these bounds
+pub record IsText (b : Bounds) (ts : List Token) : Type 0 where
+  pub unit : TranslationUnit
+  pub within : IsUnit b unit
+  pub spelled : spelling unit ≡ ts
+
+-- what the first stack spells
+pub text_of : (b : Bounds) (ts : List Token) → Spells b start IsEnd ts → IsText b ts
+text_of b ts first =
+    let second = first.2 in
+    let third = second.2 in
+    let main = third.2 in
+    let fifth = main.3 in
+    let q = fifth.2 (omega arith) in
+    record {
+      unit = record { main = main.0; heads = q.0; bodies = q.1 };
+      within = q.3;
+      spelled = sym (first.1 ∙ ap (λ z. t.include ∷ z) (second.1 ∙ ap (λ z. t.line_end ∷ z) (third.1 ∙ ap (λ z. t.define ∷ z)
+          (main.2 ∙ ap (λ z. t.number (pos main.0) ∷ z) (fifth.1 ∙ ap (λ z. t.line_end ∷ z) (q.4 ∙ ap (λ z. heads_then q.0 (bodies_then q.1 z)) q.5))))));
+    }
 
 -- a text within these bounds begins with the tokens
 pub record GoesOn (b : Bounds) (ts : List Token) : Type 0 where
@@ -136,16 +157,5 @@ pub record GoesOn (b : Bounds) (ts : List Token) : Type 0 where
 pub goes_on : (b : Bounds) (ts : List Token) (zs : List Symbol) → 1 ≤ b.expressions → after b ts start ≡ to zs → GoesOn b ts
 goes_on b ts zs some e =
     let all = has_all b zs some in
-    let first = after_back b ts all.0 start zs IsEnd some e all.1 in
-    let second = first.2 in
-    let third = second.2 in
-    let main = third.2 in
-    let fifth = main.3 in
-    let q = fifth.2 (omega arith) in
-    record {
-      unit = record { main = main.0; heads = q.0; bodies = q.1 };
-      within = q.3;
-      more = all.0;
-      spelled = sym (first.1 ∙ ap (λ z. t.include ∷ z) (second.1 ∙ ap (λ z. t.line_end ∷ z) (third.1 ∙ ap (λ z. t.define ∷ z)
-          (main.2 ∙ ap (λ z. t.number (pos main.0) ∷ z) (fifth.1 ∙ ap (λ z. t.line_end ∷ z) (q.4 ∙ ap (λ z. heads_then q.0 (bodies_then q.1 z)) q.5))))));
-    }
+    let whole = text_of b (ts ++ all.0) (after_back b ts all.0 start zs IsEnd some e all.1) in
+    record { unit = whole.unit; within = whole.within; more = all.0; spelled = whole.spelled }

@@ -142,7 +142,7 @@ found v (w ∷ ws) some = let s = sum_by-cons (count v) w ws in by (same_variabl
     by true again s = refl
     by false again s = again (omega (arith, s, some))
 
-same_names : (v : CVar) (xs ys : List CVar) → IsPermutation xs ys → IsTrue (is_one_of v xs) → IsTrue (is_one_of v ys)
+pub same_names : (v : CVar) (xs ys : List CVar) → IsPermutation xs ys → IsTrue (is_one_of v xs) → IsTrue (is_one_of v ys)
 same_names v xs ys order one = found v ys (let k = counted v xs one in let e = sum_by-IsPermutation (count v) xs ys order in omega (arith, k, e))
 
 mutual

@@ -16,45 +16,45 @@ use Rattle.c_kinds_laws.proofs.Declared.{quiet, kept, params_quiet, declarations
 
 -- ---- equal names
 
-bools_same : (a b : Bool) → IsTrue (same_bool a b) → a ≡ b
+pub bools_same : (a b : Bool) → IsTrue (same_bool a b) → a ≡ b
 bools_same true true e = refl
 bools_same true false e = absurd (false≢true e)
 bools_same false true e = absurd (false≢true e)
 bools_same false false e = refl
 
-numbers_same : (m n : ℕ) → IsTrue (m == n) → m ≡ n
+pub numbers_same : (m n : ℕ) → IsTrue (m == n) → m ≡ n
 numbers_same m n e = grind (arith, nat_tests)
 
-and_left : (a b : Bool) → IsTrue (a && b) → IsTrue a
+pub and_left : (a b : Bool) → IsTrue (a && b) → IsTrue a
 and_left true b e = refl
 and_left false b e = absurd (false≢true e)
 
-and_right : (a b : Bool) → IsTrue (a && b) → IsTrue b
+pub and_right : (a b : Bool) → IsTrue (a && b) → IsTrue b
 and_right true b e = e
 and_right false b e = absurd (false≢true e)
 
-names_same : (f g : CName) → IsTrue (same_name f g) → f ≡ g
+pub names_same : (f g : CName) → IsTrue (same_name f g) → f ≡ g
 names_same f g e =
     let b = bools_same f.glue g.glue (and_left _ _ e) in
     let n = numbers_same f.number g.number (and_right _ _ e) in
     ap (λ x. record { glue = x; number = f.number }) b ∙ ap (λ x. record { glue = g.glue; number = x }) n
 
-not_both : (b : Bool) → IsTrue (not b) → IsTrue b → ⊥
+pub not_both : (b : Bool) → IsTrue (not b) → IsTrue b → ⊥
 not_both true h k = false≢true h
 not_both false h k = false≢true k
 
-and_both : (a b : Bool) → IsTrue a → IsTrue b → IsTrue (a && b)
+pub and_both : (a b : Bool) → IsTrue a → IsTrue b → IsTrue (a && b)
 and_both true b h k = k
 and_both false b h k = absurd (false≢true h)
 
-or_right : (a b : Bool) → IsTrue b → IsTrue (a || b)
+pub or_right : (a b : Bool) → IsTrue b → IsTrue (a || b)
 or_right true b e = refl
 or_right false b e = e
 
 -- ---- the names of bodies differ
 
 -- none of the bodies has the name of one before it
-abbrev AreApart : List Head → List Body → Type 0
+abbrev pub AreApart : List Head → List Body → Type 0
 AreApart before [] = Unit {0}
 AreApart before (b ∷ bs) = IsTrue (not (has_name b.head.name before)) × AreApart (b.head ∷ before) bs
 
@@ -77,7 +77,7 @@ bodies_apart heads before (b ∷ bs) w h =
 
 -- ---- the main function
 
-abbrev main_name : ℕ → CName
+abbrev pub main_name : ℕ → CName
 main_name n = record { glue = false; number = n }
 
 -- each body of that name has no parameters
@@ -158,7 +158,7 @@ func_at first [] i g e = absurd (none-some g e)
 func_at first (f ∷ fs) zero g e = ap (λ x. Some x.func) (same_Some (record { func = f; first = first }) g e)
 func_at first (f ∷ fs) (suc i) g e = func_at (first + count_in f.body) fs i g e
 
-heads_quiet : (bodies before hs : List Head) (w : Walk) → (k.heads_judged bodies before hs w).least ≡ None → w.least ≡ None
+pub heads_quiet : (bodies before hs : List Head) (w : Walk) → (k.heads_judged bodies before hs w).least ≡ None → w.least ≡ None
 heads_quiet bodies before [] w h = h
 heads_quiet bodies before (g ∷ gs) w h =
     let first : Walk = k.skip (k.result_width g.result) w in
@@ -180,10 +180,12 @@ main_there places u none =
     let quiet_second : second.least ≡ None = heads_quiet (heads_of u.bodies) [] u.heads second (bodies_good u.heads [] u.bodies third none).before in
     kept (has_main u.main (heads_of u.bodies)) (k.place start - 1) 6 start quiet_second
 
+-- where no rule refuses a text, the names of its bodies differ
+pub names_apart : (places : List ℕ) (u : TranslationUnit) → k.refused places u ≡ None → AreApart [] u.bodies
+names_apart places u none = bodies_apart u.heads [] u.bodies (k.heads_judged (heads_of u.bodies) [] u.heads (behind_main places u)) none
+
 main_is : (places : List ℕ) (u : TranslationUnit) → k.refused places u ≡ None → HaveNoParams u.main u.bodies
-main_is places u none =
-    let third : Walk = k.heads_judged (heads_of u.bodies) [] u.heads (behind_main places u) in
-    main_alone u.main [] u.bodies (bodies_apart u.heads [] u.bodies third none) (main_there places u none)
+main_is places u none = main_alone u.main [] u.bodies (names_apart places u none) (main_there places u none)
 
 pub can_run : (places : List ℕ) (u : TranslationUnit) (p : Program) → k.refused places u ≡ None → IsProgramOf u p → IsRunnable p
 can_run places u p none is = record {

@@ -25,6 +25,11 @@ IsReadAs text (Err EndOfText) = IsRefusedAs text grammar.EndOfText
 IsReadAs text (Err (Limit n)) = IsRefusedAs text (grammar.Limit n)
 IsReadAs text (Err Memory) = Unit {0}
 
+-- why the text stands for no program; want of memory is no reason
+abbrev pub IsUnread : List ℕ → CError → Type 0
+IsUnread text Memory = ⊥
+IsUnread text e = IsReadAs text (Err e)
+
 -- what is told stands in the text, or at its end
 abbrev pub IsWithin : List ℕ → CError → Type 0
 IsWithin text (Unexpected at) = at ≤ length text

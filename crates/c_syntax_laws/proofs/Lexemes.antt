@@ -1,7 +1,7 @@
 -- A text has one list of tokens.
-use Rattle.std.proofs.Common.{◌≡◌, ℕ, suc, ◌+◌, List, [], ◌∷◌, length, refl, sym, ap, ap₂, ◌∙◌, subst, arith}
+use Rattle.std.proofs.Common.{◌≡◌, ℕ, List, [], ◌∷◌, length, refl, sym, ap, ap₂, ◌∙◌, subst, arith}
 use Rattle.c_syntax.specs.Tokens.{Token}
-use Rattle.c_syntax.specs.Text.{Lexeme, Piece, AreTokensOf, AreFirst, IsTokensOf, IsAt, first_pieces, is_blank, past_run, piece}
+use Rattle.c_syntax.specs.Text.{Lexeme, Piece, AreTokensOf, AreFirst, IsTokensOf, IsAt, first_pieces, piece}
 
 first_of : ℕ → List ℕ → ℕ
 first_of d [] = d

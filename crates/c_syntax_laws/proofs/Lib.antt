@@ -1,4 +1,5 @@
-mod Lexemes
+pub mod Lexemes
+pub mod Lexed
 mod Exprs
 mod Stmts
-mod Units
+pub mod Units

@@ -1,5 +1,5 @@
 -- Whole texts are read back from their tokens, so each has one tree.
-use Rattle.std.proofs.Common.{◌≡◌, ◌≤◌, ◌<◌, ℕ, zero, suc, ◌+◌, pos, Bool, true, false, if◌then◌else◌, List, [], ◌∷◌, length, drop, Option, Some, None, refl, sym, ap, ap₂, ◌∙◌, subst, arith}
+use Rattle.std.proofs.Common.{◌≡◌, ◌≤◌, ◌<◌, ℕ, zero, suc, ◌+◌, pos, Bool, true, false, if◌then◌else◌, List, [], ◌∷◌, length, drop, Option, Some, None, refl, sym, ap, ap₂, ◌∙◌, arith}
 use Rattle.std.proofs.lemmas.Option.{same_Some}
 use Rattle.c_syntax.specs.declared.program.CResult.{CResult}
 use Rattle.c_syntax.specs.declared.program.CResult.TheVariants as result
@@ -7,14 +7,13 @@ use Rattle.c_syntax.specs.declared.program.CVar.{CVar}
 use Rattle.c_syntax.specs.declared.program.CName.{CName}
 use Rattle.c_syntax.specs.declared.token.CWord.TheVariants as w
 use Rattle.c_syntax.specs.declared.token.CSign.TheVariants as s
-use Rattle.c_syntax.specs.C.{Stmts}
 use Rattle.c_syntax.specs.Unit.{Declaration, Head, Body, TranslationUnit}
 use Rattle.c_syntax.specs.Tokens as t
 use Rattle.c_syntax.specs.Tokens.{Token}
 use Rattle.c_syntax.specs.Grammar.{AreBodies, language}
-use Rattle.c_syntax.specs.Spelling.{type_then, declaration_then, result_then, more_params_then, params_then, head_then, heads_then, vars_then, stmts_then, body_then, bodies_then, spelling}
-use Rattle.c_syntax.specs.Text.{Lexeme, before_mark}
-use Rattle.c_syntax.specs.Reading.{IsUnitOf, tokens_in}
+use Rattle.c_syntax.specs.Spelling.{type_then, declaration_then, result_then, more_params_then, params_then, head_then, heads_then, vars_then, stmts_then, bodies_then, spelling}
+use Rattle.c_syntax.specs.Text.{before_mark}
+use Rattle.c_syntax.specs.Reading.{tokens_in}
 use Rattle.c_syntax_laws.specs.Laws.{OneUnitIsRead}
 use Rattle.c_syntax_laws.proofs.Lexemes.{one_list}
 use Rattle.c_syntax_laws.proofs.Exprs.{Part, bind}

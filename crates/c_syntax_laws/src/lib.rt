@@ -3,9 +3,14 @@
 //! Rests on it: that `crun` has one reply.
 #![tactic(auto)]
 
-ghost use Rattle.c_syntax_laws.specs.Laws.{OneUnitIsRead};
+ghost use Rattle.c_syntax_laws.specs.Laws.{EachTextHasTokens, OneUnitIsRead};
 
 /// A text is read in at most one way.
 pub fn one_unit_is_read()
     ensures { OneUnitIsRead }
+{}
+
+/// Each text has tokens, whatever its bytes.
+pub fn each_text_has_tokens()
+    ensures { EachTextHasTokens }
 {}

@@ -1,0 +1,6 @@
+mod Numerals
+mod Pieces
+mod Plain
+mod Lexed
+pub mod Units
+pub mod ReadAgain

@@ -1,0 +1,10 @@
+mod Judged
+mod Names
+mod Order
+mod Programs
+mod Reading
+mod Lookups
+mod Unrefused
+mod Readable
+mod Parts
+mod Printed
