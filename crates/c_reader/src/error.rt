@@ -4,19 +4,25 @@ ghost use Rattle.std.specs.Prelude.{◌≡◌};
 
 use c_parser::ParseError;
 use std::alloc::{AllocError, AllocFailed};
+use thiserror::Error;
 use vlt_base::Memory as NoMemory;
 
 /// Why a text stands for no program. A place is the number of bytes before it.
-#[derive(Clone, Copy, Debug, PartialEq, Eq)]
+#[derive(Clone, Copy, Debug, PartialEq, Eq, Error)]
 pub enum CError {
     /// The first token, or what is none, behind which no program goes on.
+    #[error("no program goes on with this token")]
     Unexpected(u32),
     /// Every token is that of a program, and the text ends before one does.
+    #[error("the text ends too soon")]
     EndOfText,
     /// A text of the grammar breaks a rule on its names and types: the least place, and there the least number.
+    #[error("a rule on names and types is broken")]
     Kind { rule: u8, at: u32 },
     /// The limit that each program exceeds which goes on with the text so far: 14 or 15.
+    #[error("there is more than a limit allows")]
     Limit(u8),
+    #[error("there is no memory for the program")]
     Memory,
 }
 
