@@ -15,9 +15,7 @@ use Rattle.c_meaning.specs.Run.{c_run}
 use Rattle.c_machine.specs.Bounds.{slots_needed}
 use Rattle.c_interp.specs.declared.stop.CStop.{CStop}
 use Rattle.c_interp.specs.Halting.{StopsAs}
-use Rattle.c_reader.specs.declared.error.CError.{CError}
-use Rattle.c_reader.specs.declared.error.CError.TheVariants as error
-use Rattle.c_reader.specs.Reads.{IsReadAs}
+use Rattle.c_reader.specs.Reads.{IsUnread}
 use Rattle.c_run.specs.declared.end.CEnd.{CEnd}
 use Rattle.c_run.specs.declared.end.CEnd.TheVariants.{Unread, Ended}
 
@@ -40,11 +38,6 @@ pub record EndsWith (text input answers : List ℕ) (b : Budgets) (before after 
   pub cert : Option Span
   pub reads : IsCProgramOf text program cert
   pub ends : EndsGiven program (given_by input answers) b before after end
-
--- why the text stands for no program; want of memory is no reason
-abbrev pub IsUnread : List ℕ → CError → Type 0
-IsUnread text error.Memory = ⊥
-IsUnread text e = IsReadAs text (Err e)
 
 abbrev pub EndsAs : (text input answers : List ℕ) → Budgets → (before after : Outside) → CEnd → Type 0
 EndsAs text input answers b before after (Unread e) = IsUnread text e × IsUntouched before after

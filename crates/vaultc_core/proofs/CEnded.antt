@@ -2,6 +2,7 @@
 use Rattle.std.proofs.Common.{◌≡◌, ◌⊎◌, inl, inr, ℕ, ◌≤◌, List, [], Option, Some, None, refl, sym, ap, subst, arith}
 use Rattle.std.specs.Prelude.{◌≢◌, codes, MatchOption, IfSome, IfOk, Result, Err}
 use Rattle.std.specs.declared.alloc.AllocError.{AllocError}
+use Rattle.std.proofs.lemmas.Option.{same_Some}
 use Rattle.vlt_base.specs.declared.Budgets.{Budgets}
 use Rattle.vlt_io.specs.Outside.{Rose, Grew, GrewByPart}
 use Rattle.vlt_io.specs.declared.sink.Sink.{Ghosts}
@@ -19,10 +20,10 @@ use Rattle.c_meaning.specs.Run.{c_run}
 use Rattle.c_meaning.specs.World as model
 use Rattle.c_meaning.specs.World.{Outcome, Ran, event_text}
 use Rattle.vlt_steps.specs.Writing.{Outside, IsUntouched}
-use Rattle.c_reader.specs.Reads.{IsReadAs, RefusalsAreInTheText}
+use Rattle.c_reader.specs.Reads.{IsReadAs, IsUnread, RefusalsAreInTheText}
 use Rattle.c_reader.specs.declared.error.CError.{CError}
 use Rattle.c_reader.specs.declared.error.CError.TheVariants as error
-use Rattle.c_run.specs.Ends.{IsUnread, EndsGiven, EndsWith, EndsAs}
+use Rattle.c_run.specs.Ends.{EndsGiven, EndsWith, EndsAs}
 use Rattle.c_run.specs.declared.end.CEnd.{CEnd}
 use Rattle.c_run.specs.declared.end.CEnd.TheVariants.{Unread, Ended}
 use Rattle.vaultc_core.specs.declared.status.TheConstants.{DONE, UNREAD, SINK_FAILED, NO_MEMORY, TRAPPED, OUT_OF_BUDGET, OUT_OF_NUMBERS, UNDEFINED}
@@ -39,7 +40,7 @@ use Rattle.vaultc_core.proofs.Own.{own_c_end}
 some_none : (r : Reply) → Some r ≡ None → ⊥
 some_none r e = cc
 
-none_some : (r : Reply) → None ≡ Some r → ⊥
+pub none_some : (r : Reply) → None ≡ Some r → ⊥
 none_some r e = cc
 
 no_outcome : (o : Outcome) → None ≡ Some o → ⊥
@@ -48,7 +49,7 @@ no_outcome o e = cc
 -- ---- stops and outcomes
 
 -- a stop with a last line is that of an outcome
-outcome_there : (s : CStop) (last : Reply) → stop_reply s ≡ Some last → (o : Outcome) × (outcome_of s ≡ Some o)
+pub outcome_there : (s : CStop) (last : Reply) → stop_reply s ≡ Some last → (o : Outcome) × (outcome_of s ≡ Some o)
 outcome_there (halted.Stopped stop.Done) last e = (model.done, refl)
 outcome_there (halted.Stopped (stop.Trap t)) last e = (model.trap t, refl)
 outcome_there (halted.Stopped stop.FuelEnd) last e = (model.fuel_end, refl)
@@ -61,13 +62,13 @@ outcome_there (halted.Stopped stop.SinkFault) last e = absurd (none_some last e)
 outcome_there (halted.Undefined rule n) last e = (model.undefined rule n, refl)
 
 -- each outcome has a stop with a last line
-record StopFor (o : Outcome) : Type 0 where
-  stop : CStop
-  last : Reply
-  outcome : outcome_of stop ≡ Some o
-  line : stop_reply stop ≡ Some last
+pub record StopFor (o : Outcome) : Type 0 where
+  pub stop : CStop
+  pub last : Reply
+  pub outcome : outcome_of stop ≡ Some o
+  pub line : stop_reply stop ≡ Some last
 
-stop_for : (o : Outcome) → StopFor o
+pub stop_for : (o : Outcome) → StopFor o
 stop_for model.done = record { stop = (halted.Stopped stop.Done); last = reply DONE []; outcome = refl; line = refl }
 stop_for (model.trap t) = record { stop = halted.Stopped (stop.Trap t); last = reply TRAPPED (trap_line t); outcome = refl; line = refl }
 stop_for model.fuel_end = record { stop = (halted.Stopped stop.FuelEnd); last = reply OUT_OF_BUDGET (codes "budget fuel\n"); outcome = refl; line = refl }
@@ -78,11 +79,28 @@ stop_for model.answers_end = record { stop = (halted.Stopped stop.AnswersEnd); l
 stop_for (model.bad_answer n) = record { stop = halted.Stopped (stop.BadAnswer n); last = reply OUT_OF_NUMBERS (bad_answer_line n); outcome = refl; line = refl }
 stop_for (model.undefined rule n) = record { stop = halted.Undefined rule n; last = reply UNDEFINED (undefined_line rule n); outcome = refl; line = refl }
 
+outcome_line : (s : CStop) (o p : Outcome) → outcome_of s ≡ Some o → stop_reply s ≡ Some ((stop_for o).last) → o ≡ p → stop_reply s ≡ Some ((stop_for p).last)
+outcome_line s o p e line same = subst (λ x. stop_reply s ≡ Some ((stop_for x).last)) same line
+
+-- a stop of an outcome has its last line
+pub line_of : (s : CStop) (o : Outcome) → outcome_of s ≡ Some o → stop_reply s ≡ Some ((stop_for o).last)
+unfolding stop_for
+line_of (halted.Stopped stop.Done) o e = outcome_line (halted.Stopped stop.Done) model.done o refl refl (same_Some model.done o e)
+line_of (halted.Stopped (stop.Trap t)) o e = outcome_line (halted.Stopped (stop.Trap t)) (model.trap t) o refl refl (same_Some (model.trap t) o e)
+line_of (halted.Stopped stop.FuelEnd) o e = outcome_line (halted.Stopped stop.FuelEnd) model.fuel_end o refl refl (same_Some model.fuel_end o e)
+line_of (halted.Stopped stop.HeapEnd) o e = outcome_line (halted.Stopped stop.HeapEnd) model.heap_end o refl refl (same_Some model.heap_end o e)
+line_of (halted.Stopped stop.DepthEnd) o e = outcome_line (halted.Stopped stop.DepthEnd) model.depth_end o refl refl (same_Some model.depth_end o e)
+line_of (halted.Stopped stop.InputEnd) o e = outcome_line (halted.Stopped stop.InputEnd) model.input_end o refl refl (same_Some model.input_end o e)
+line_of (halted.Stopped stop.AnswersEnd) o e = outcome_line (halted.Stopped stop.AnswersEnd) model.answers_end o refl refl (same_Some model.answers_end o e)
+line_of (halted.Stopped (stop.BadAnswer n)) o e = outcome_line (halted.Stopped (stop.BadAnswer n)) (model.bad_answer n) o refl refl (same_Some (model.bad_answer n) o e)
+line_of (halted.Stopped stop.SinkFault) o e = absurd cc
+line_of (halted.Undefined rule n) o e = outcome_line (halted.Undefined rule n) (model.undefined rule n) o refl refl (same_Some (model.undefined rule n) o e)
+
 is_cut : (s : CStop) (o : Outcome) → outcome_of s ≡ Some o → s ≡ (halted.Stopped stop.SinkFault) → ⊥
 is_cut s o e same = no_outcome o (subst (λ x. outcome_of x ≡ Some o) same e)
 
 -- the run's outcome, over a sink that takes all
-stops_whole : (ran : Ran) (s : CStop) → outcome_of s ≡ Some ran.outcome → StopsAs ran (took []) (took (event_text ran.world.events)) s
+pub stops_whole : (ran : Ran) (s : CStop) → outcome_of s ≡ Some ran.outcome → StopsAs ran (took []) (took (event_text ran.world.events)) s
 stops_whole ran s e = record {
   outcome = subst (λ x. IfSome x (λ o. o ≡ ran.outcome)) (sym e) refl;
   told = subst (λ x. IsTold x (event_text ran.world.events) (Some []) (Some (event_text ran.world.events))) (sym e) refl;
@@ -110,7 +128,7 @@ untouched : (text input answers : List ℕ) (b : Budgets) (before after : Outsid
 untouched text input answers b before after end same ends =
     record { events = []; ends = ends; grew = untouched_grew before after same; counted = untouched_counted before after same }
 
-of_outcome : (ran : Ran) (before after : Outside) (s : CStop) (o : Outcome) → outcome_of s ≡ Some o → StopsAs ran before after s
+pub of_outcome : (ran : Ran) (before after : Outside) (s : CStop) (o : Outcome) → outcome_of s ≡ Some o → StopsAs ran before after s
     → (outcome_of s ≡ Some ran.outcome) × Grew before.written after.written (event_text ran.world.events)
 of_outcome ran before after s o e stops =
     let same : o ≡ ran.outcome = subst (λ x. IfSome x (λ p. p ≡ ran.outcome)) e stops.outcome in

@@ -7,6 +7,7 @@ pub mod Ended
 pub mod Own
 pub mod RunEnded
 pub mod CEnded
+pub mod CReplies
 pub mod Said
 pub mod Runnable
 pub mod Explained

@@ -26,7 +26,7 @@ use Rattle.vaultc_core.specs.Lines.{Reply, reply}
 use Rattle.vaultc_core.specs.Texts.{IsTooLong, IsTextOf, Refusal, unlexed, unparsed, refusal_reply}
 use Rattle.vaultc_core.specs.Verdicts.{IsProgramOf, check_reply}
 use Rattle.vaultc_core.specs.Sources.{had, unread, too_long, text_in, read_before, read_in, IsOneRead}
-use Rattle.vaultc_core.specs.Replies.{IsReplyToText, bytes_at, IsReplyToRead, IsReplyToCommand, AreOfC, MayReply}
+use Rattle.vaultc_core.specs.Replies.{IsReplyToText, bytes_at, IsReplyToRead, IsReplyToCommand, MayReply}
 use Rattle.vaultc_core.specs.Promised.{IsPromised}
 use Rattle.vaultc_core.proofs.Read.{TextsHaveTicks, text_tree}
 use Rattle.vaultc_core.proofs.Single.{Laws}
@@ -110,5 +110,4 @@ accepts laws g k early late before after command status f files file bytes p tel
     let r = check_reply bytes (accepted p) in
     let read : had (bytes ∷ []) ≡ read_in files (Some (text_in file) ∷ []) = sym (ap (λ o. read_before (text_in file) o (had [])) there ∙ short_before (text_in file) bytes (had []) is.short) in
     let replies : IsReplyToCommand (Some (check file)) files r = subst (λ x. IsReplyToRead (check file) x r) read (accepted_reply file bytes p is follows) in
-    let of_check : AreOfC (Some (check file)) → ⊥ = λ c. c in
-    complete laws g k early late before after command status files r f tells (subst (λ o. AreOfC o → ⊥) (sym is_check) of_check) (subst (λ o. IsReplyToCommand o files r) (sym is_check) replies) store_sound sink_sound
+    complete laws g k early late before after command status files r f tells (subst (λ o. IsReplyToCommand o files r) (sym is_check) replies) store_sound sink_sound

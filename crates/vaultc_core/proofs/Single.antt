@@ -1,4 +1,4 @@
--- A command but `crun` has one reply to what it read.
+-- A command has one reply to what it read.
 use Rattle.std.proofs.Common.{◌≡◌, inl, inr, ℕ, ℤ, ◌++◌, List, Option, Some, None, refl, sym, ap, ◌∙◌, subst}
 use Rattle.vlt_base.specs.declared.Budgets.{Budgets}
 use Rattle.vlt_io.specs.Outside.{Files}
@@ -17,7 +17,9 @@ use Rattle.vaultc_core.specs.Texts.{IsTextOf, refusal_reply}
 use Rattle.vaultc_core.specs.declared.status.TheConstants.{NOT_ACCEPTED}
 use Rattle.vaultc_core.specs.Verdicts.{check_reply, IsExplained}
 use Rattle.vaultc_core.specs.Runs.{IsReplyToRan, IsReplyOverNumbers, IsReplyToProgram}
-use Rattle.vaultc_core.specs.Replies.{IsReplyToVerdict, IsReplyToRun, IsReplyToTree, IsReplyToText, IsReplyToRunText, bytes_at, IsReplyToContents, IsReplyToRead, IsReplyToCommand, GoesOn, AreAlike, RunsC, AreOfC}
+use Rattle.vaultc_core.specs.Replies.{IsReplyToVerdict, IsReplyToRun, IsReplyToTree, IsReplyToText, IsReplyToRunText, bytes_at, IsReplyToContents, IsReplyToRead, IsReplyToCommand, GoesOn, AreAlike}
+use Rattle.c_reader_laws.specs.Laws.{IsReadInOneWay}
+use Rattle.vaultc_core.proofs.CReplies.{one_c_reply}
 use Rattle.vaultc_core.proofs.Read.{TextsHaveTicks, text_tree, one_text, refusals_alike, text_not_refused}
 
 -- ---- replies to a tree
@@ -76,35 +78,36 @@ explained_alike file contents t (verdict.faulty p f x) r q reads is (first, seco
     let line = check_reply (bytes_at contents 0) (verdict.faulty p f x) in
     inr (line, inr (t, reads, (verdict.faulty p f x, is, refl)), refl, goes_on line.text _ r a, goes_on line.text _ q b)
 
--- what is known of trees: of texts, and by the verdicts on them
+-- what is known of trees, of texts and by the verdicts on them, and of C texts
 pub record Laws : Type 0 where
   pub one : HasOneVerdict
   pub ticks : TextsHaveTicks
+  pub c_texts : (text : List ℕ) → IsReadInOneWay text
 
 module _ (laws : Laws) where
-  one_of_tree : (command : Command) (contents : List (List ℕ)) (t : Tree) (r q : Reply) → (RunsC command → ⊥) → IsTextOf t (bytes_at contents 0) → IsTextTree t →
+  one_of_tree : (command : Command) (contents : List (List ℕ)) (t : Tree) (r q : Reply) → IsTextOf t (bytes_at contents 0) → IsTextTree t →
       IsReplyToTree command (bytes_at contents 0) t r → IsReplyToTree command (bytes_at contents 0) t q → AreAlike command (had contents) r q
-  one_of_tree (explain file) contents t r q other reads tree (a, of_a, is_r) (b, of_b, is_q) =
+  one_of_tree (explain file) contents t r q reads tree (a, of_a, is_r) (b, of_b, is_q) =
       let text = bytes_at contents 0 in
       explained_alike file contents t b r q reads of_b (subst (λ v. IsExplained text v r) (laws.one t a b tree of_a of_b) is_r) is_q
-  one_of_tree (check file) contents t r q other reads tree (a, of_a, is_r) (b, of_b, is_q) =
+  one_of_tree (check file) contents t r q reads tree (a, of_a, is_r) (b, of_b, is_q) =
       is_r ∙ ap (check_reply (bytes_at contents 0)) (laws.one t a b tree of_a of_b) ∙ sym is_q
-  one_of_tree (run file taken) contents t r q other reads tree is_r is_q = absurd is_r
-  one_of_tree (fmt file) contents t r q other reads tree is_r is_q = is_r ∙ sym is_q
-  one_of_tree (crun file taken) contents t r q other reads tree is_r is_q = absurd is_r
+  one_of_tree (run file taken) contents t r q reads tree is_r is_q = absurd is_r
+  one_of_tree (fmt file) contents t r q reads tree is_r is_q = is_r ∙ sym is_q
+  one_of_tree (crun file taken) contents t r q reads tree is_r is_q = absurd is_r
 
   -- ---- commands
 
-  one_of_text : (command : Command) (contents : List (List ℕ)) (r q : Reply) → (RunsC command → ⊥) → IsReplyToText command (bytes_at contents 0) r →
+  one_of_text : (command : Command) (contents : List (List ℕ)) (r q : Reply) → IsReplyToText command (bytes_at contents 0) r →
       IsReplyToText command (bytes_at contents 0) q → AreAlike command (had contents) r q
-  one_of_text command contents r q other (inl (d, p, is_r)) (inl (e, n, is_q)) =
+  one_of_text command contents r q (inl (d, p, is_r)) (inl (e, n, is_q)) =
       let bytes = bytes_at contents 0 in
       same_alike command (had contents) r q (is_r ∙ ap (refusal_reply bytes) (refusals_alike bytes d e p n) ∙ sym is_q)
-  one_of_text command contents r q other (inl (d, p, is_r)) (inr (u, n, is_q)) = absurd (text_not_refused (bytes_at contents 0) u d n p)
-  one_of_text command contents r q other (inr (t, p, is_r)) (inl (e, n, is_q)) = absurd (text_not_refused (bytes_at contents 0) t e p n)
-  one_of_text command contents r q other (inr (t, p, is_r)) (inr (u, n, is_q)) =
+  one_of_text command contents r q (inl (d, p, is_r)) (inr (u, n, is_q)) = absurd (text_not_refused (bytes_at contents 0) u d n p)
+  one_of_text command contents r q (inr (t, p, is_r)) (inl (e, n, is_q)) = absurd (text_not_refused (bytes_at contents 0) t e p n)
+  one_of_text command contents r q (inr (t, p, is_r)) (inr (u, n, is_q)) =
       let bytes = bytes_at contents 0 in
-      one_of_tree command contents u r q other n (text_tree laws.ticks bytes u n) (subst (λ x. IsReplyToTree command bytes x r) (one_text bytes t u p n) is_r) is_q
+      one_of_tree command contents u r q n (text_tree laws.ticks bytes u n) (subst (λ x. IsReplyToTree command bytes x r) (one_text bytes t u p n) is_r) is_q
 
   one_of_run : (bytes : List ℕ) (given : Given) (b : Budgets) (r q : Reply) → IsReplyToRunText bytes given b r → IsReplyToRunText bytes given b q → r ≡ q
   one_of_run bytes given b r q (inl (d, p, is_r)) (inl (e, n, is_q)) = is_r ∙ ap (refusal_reply bytes) (refusals_alike bytes d e p n) ∙ sym is_q
@@ -115,25 +118,26 @@ module _ (laws : Laws) where
       let one = laws.one u there.0 is_q.0 (text_tree laws.ticks bytes u n) there.1 is_q.1 in
       one_of_verdict bytes given b is_q.0 r q (subst (λ v. IsReplyToVerdict bytes given b v r) one there.2) is_q.2
 
-  one_of_contents : (command : Command) (contents : List (List ℕ)) (r q : Reply) → (RunsC command → ⊥) → IsReplyToContents command contents r → IsReplyToContents command contents q →
+  one_of_contents : (command : Command) (contents : List (List ℕ)) (r q : Reply) → IsReplyToContents command contents r → IsReplyToContents command contents q →
       AreAlike command (had contents) r q
-  one_of_contents (check file) contents r q other is_r is_q = one_of_text (check file) contents r q other is_r is_q
-  one_of_contents (explain file) contents r q other is_r is_q = one_of_text (explain file) contents r q other is_r is_q
-  one_of_contents (run file taken) contents r q other is_r is_q =
+  one_of_contents (check file) contents r q is_r is_q = one_of_text (check file) contents r q is_r is_q
+  one_of_contents (explain file) contents r q is_r is_q = one_of_text (explain file) contents r q is_r is_q
+  one_of_contents (run file taken) contents r q is_r is_q =
       one_of_run (bytes_at contents 0) (given_by (bytes_at contents 1) (bytes_at contents 2)) taken.budgets r q is_r is_q
-  one_of_contents (fmt file) contents r q other is_r is_q = one_of_text (fmt file) contents r q other is_r is_q
-  one_of_contents (crun file taken) contents r q other is_r is_q = absurd (other tt)
+  one_of_contents (fmt file) contents r q is_r is_q = one_of_text (fmt file) contents r q is_r is_q
+  one_of_contents (crun file taken) contents r q is_r is_q =
+      one_c_reply (laws.c_texts (bytes_at contents 0)) (bytes_at contents 1) (bytes_at contents 2) taken.budgets r q is_r is_q
 
   -- a command has one reply to what it read
-  pub one_of_read : (command : Command) (x : Read) (r q : Reply) → (RunsC command → ⊥) → IsReplyToRead command x r → IsReplyToRead command x q → AreAlike command x r q
-  one_of_read command (had contents) r q other is_r is_q = one_of_contents command contents r q other is_r is_q
-  one_of_read command (unread name) r q other is_r is_q = same_alike command (unread name) r q (is_r ∙ sym is_q)
-  one_of_read command (too_long n) r q other is_r is_q = same_alike command (too_long n) r q (is_r ∙ sym is_q)
+  pub one_of_read : (command : Command) (x : Read) (r q : Reply) → IsReplyToRead command x r → IsReplyToRead command x q → AreAlike command x r q
+  one_of_read command (had contents) r q is_r is_q = one_of_contents command contents r q is_r is_q
+  one_of_read command (unread name) r q is_r is_q = same_alike command (unread name) r q (is_r ∙ sym is_q)
+  one_of_read command (too_long n) r q is_r is_q = same_alike command (too_long n) r q (is_r ∙ sym is_q)
 
   -- words have replies of one status for a store's files
-  pub one_status : (command : Option Command) (files : Files) (r q : Reply) → (AreOfC command → ⊥) → IsReplyToCommand command files r → IsReplyToCommand command files q →
+  pub one_status : (command : Option Command) (files : Files) (r q : Reply) → IsReplyToCommand command files r → IsReplyToCommand command files q →
       r.status ≡ q.status
-  one_status None files r q other is_r is_q = ap (λ z. z.status) (is_r ∙ sym is_q)
-  one_status (Some command) files r q other is_r is_q =
+  one_status None files r q is_r is_q = ap (λ z. z.status) (is_r ∙ sym is_q)
+  one_status (Some command) files r q is_r is_q =
       let x = read_in files (sources_of command) in
-      alike_status command x r q (one_of_read command x r q other is_r is_q)
+      alike_status command x r q (one_of_read command x r q is_r is_q)

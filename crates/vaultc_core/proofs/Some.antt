@@ -30,23 +30,23 @@ use Rattle.vaultc_core.specs.Runs.{IsReplyToRan, IsReplyOverNumbers, IsReplyToPr
 use Rattle.vaultc_core.specs.Sources.{had, unread, too_long}
 use Rattle.vaultc_core.specs.Texts.{refusal_reply}
 use Rattle.vaultc_core.specs.Verdicts.{check_reply, IsExplained}
-use Rattle.vaultc_core.specs.Replies.{IsReplyToCheck, IsReplyToExplain, IsReplyToVerdict, IsReplyToRun, IsReplyByTree, bytes_at, IsReplyToContents, RunsC, HasSomeReply}
+use Rattle.vaultc_core.specs.Replies.{IsReplyToCheck, IsReplyToExplain, IsReplyToVerdict, IsReplyToRun, IsReplyByTree, bytes_at, IsReplyToContents, HasSomeReply}
+use Rattle.c_reader_laws.specs.Laws.{IsReadInOneWay}
+use Rattle.vaultc_core.proofs.CReplies.{over_or_not, some_c_reply}
 use Rattle.vaultc_core.proofs.Read.{TextsHaveTicks, text_tree, read_in_one_way}
 use Rattle.vaultc_core.proofs.RunEnded.{last_there}
 use Rattle.vaultc_core.proofs.Runnable.{OfAccepted}
 
--- what is known of the trees of texts
+-- what is known of the trees of texts, and of C texts
 pub record Laws : Type 0 where
   pub ticks : TextsHaveTicks
   pub fit : ProgramsAreFit
   pub verdicts : HasSomeVerdict
   pub witnesses : (p : Program) (x : FlowFault) → IsWellFormed p → IsFirstFault p x → HasWitness p x
   pub never : OfAccepted NeverGoesWrong
+  pub c_texts : (text : List ℕ) → IsReadInOneWay text
 
 -- ---- runs of programs that never go wrong
-
-over_or_not : (limit n : ℕ) → (limit < n) ⊎ ((limit < n) → ⊥)
-over_or_not limit n = ⊎_elim inl (λ le. inr (λ lt. omega (arith, le, lt))) (cases_lt limit n)
 
 wide_or_not : (p : Program) (b : Budgets) → IsTooWide p b ⊎ (IsTooWide p b → ⊥)
 wide_or_not p b = over_or_not (limit_of VALUE_SLOTS) (slots_needed p b.depth b.heap)
@@ -100,18 +100,19 @@ module _ (laws : Laws) where
 
   -- ---- files
 
-  some_of_contents : (command : Command) (contents : List (List ℕ)) → (RunsC command → ⊥) → Surely ((r : Reply) × IsReplyToContents command contents r)
-  some_of_contents (check file) contents other = let bytes = bytes_at contents 0 in by_tree (IsReplyToCheck bytes) bytes (some_of_check bytes)
-  some_of_contents (explain file) contents other = let bytes = bytes_at contents 0 in by_tree (IsReplyToExplain bytes) bytes (some_of_explain bytes)
-  some_of_contents (fmt file) contents other =
+  some_of_contents : (command : Command) (contents : List (List ℕ)) → Surely ((r : Reply) × IsReplyToContents command contents r)
+  some_of_contents (check file) contents = let bytes = bytes_at contents 0 in by_tree (IsReplyToCheck bytes) bytes (some_of_check bytes)
+  some_of_contents (explain file) contents = let bytes = bytes_at contents 0 in by_tree (IsReplyToExplain bytes) bytes (some_of_explain bytes)
+  some_of_contents (fmt file) contents =
       by_tree (λ t r. r ≡ reply DONE (layout t)) (bytes_at contents 0) (λ t tree. sure (reply DONE (layout t), refl))
-  some_of_contents (run file taken) contents other =
+  some_of_contents (run file taken) contents =
       let bytes = bytes_at contents 0 in
       let given = given_by (bytes_at contents 1) (bytes_at contents 2) in
       by_tree (IsReplyToRun bytes given taken.budgets) bytes (some_of_run bytes given taken.budgets)
-  some_of_contents (crun file taken) contents other = absurd (other tt)
+  some_of_contents (crun file taken) contents =
+      sure (some_c_reply (laws.c_texts (bytes_at contents 0)) (bytes_at contents 1) (bytes_at contents 2) taken.budgets)
 
   pub some_of_read : HasSomeReply
-  some_of_read command (had contents) other = some_of_contents command contents other
-  some_of_read command (unread name) other = sure (unread_reply name, refl)
-  some_of_read command (too_long n) other = sure (over_reply n, refl)
+  some_of_read command (had contents) = some_of_contents command contents
+  some_of_read command (unread name) = sure (unread_reply name, refl)
+  some_of_read command (too_long n) = sure (over_reply n, refl)

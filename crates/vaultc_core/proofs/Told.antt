@@ -10,7 +10,7 @@ use Rattle.vaultc_core.specs.Commands.{Command}
 use Rattle.vaultc_core.specs.Sources.{Read, had, unread, too_long, sources_of, read_in, MayRead}
 use Rattle.vaultc_core.specs.Finishes.{WroteReply, WrotePart, Finishes}
 use Rattle.vaultc_core.specs.Lines.{Reply, reply}
-use Rattle.vaultc_core.specs.Replies.{IsReplyToRead, IsReplyToCommand, AreOfC, IsInside, MayReply, IsUnread}
+use Rattle.vaultc_core.specs.Replies.{IsReplyToRead, IsReplyToCommand, IsInside, MayReply, IsUnread}
 use Rattle.vaultc_core.proofs.Reading.{IsToldAs, told_as, may_fail}
 use Rattle.vaultc_core.proofs.Own.{own_reply}
 use Rattle.vaultc_core.proofs.Single.{Laws, one_status}
@@ -73,11 +73,11 @@ no_fault g k old new before after command status files f tells store_sound sink_
 ]
 
 pub complete : Laws → {S K : Type 0} (g : Ghosts S) (k : sink.Ghosts K) (old new : S) (before after : K) (command : Option Command) (status : ℕ) (files : Files) (r : Reply)
-    → Finishes k (MayReply g old new command) before after status → g.files old ≡ Some files → (AreOfC command → ⊥) → IsReplyToCommand command files r
+    → Finishes k (MayReply g old new command) before after status → g.files old ≡ Some files → IsReplyToCommand command files r
     → (Rose (g.faults old) (g.faults new) → ⊥) → (Rose (k.faults before) (k.faults after) → ⊥) → (status ≡ r.status) ⊎ (status ≡ NO_MEMORY)
-complete laws g k old new before after command status files r f tells other is store_sound sink_sound =
+complete laws g k old new before after command status files r f tells is store_sound sink_sound =
     elim (no_fault g k old new before after command status files f tells store_sound sink_sound) [
-      | inl wrote ↦ inl (one_status laws command files (reply status wrote.0) r other wrote.1 is)
+      | inl wrote ↦ inl (one_status laws command files (reply status wrote.0) r wrote.1 is)
       | inr four ↦ inr four
     ]
 

@@ -87,20 +87,13 @@ AreAlike (explain file) x r q =
     (r ≡ q) ⊎ ((line : Reply) × IsReplyToRead (check file) x line × (line.status ≡ NOT_ACCEPTED) × GoesOn line r × GoesOn line q)
 AreAlike command x r q = r ≡ q
 
--- The command runs a C text. Of these it isn't proved yet that the tree of a text stands for one program, and that no text is
--- refused for two reasons. So one text may have several replies.
-abbrev pub RunsC : Command → Type 0
-RunsC (crun file taken) = Unit {0}
-RunsC command = ⊥
-
--- Every other command has one reply to what it read, but for the paths of `explain`.
+-- Every command has one reply to what it read, but for the paths of `explain`.
 abbrev pub HasOneReply : Type 0
-HasOneReply = (command : Command) (x : Read) (r q : Reply) → (RunsC command → ⊥) → IsReplyToRead command x r → IsReplyToRead command x q →
-    AreAlike command x r q
+HasOneReply = (command : Command) (x : Read) (r q : Reply) → IsReplyToRead command x r → IsReplyToRead command x q → AreAlike command x r q
 
 -- It can't be that it has none: that no reply is one would be absurd.
 abbrev pub HasSomeReply : Type 0
-HasSomeReply = (command : Command) (x : Read) → (RunsC command → ⊥) → Surely ((r : Reply) × IsReplyToRead command x r)
+HasSomeReply = (command : Command) (x : Read) → Surely ((r : Reply) × IsReplyToRead command x r)
 
 -- ---- files that are told
 
@@ -111,11 +104,6 @@ IsReplyToCommand (Some command) files r = IsReplyToRead command (read_in files (
 -- These words and files have this reply.
 abbrev pub IsReplyTo : (words : List (List ℕ)) → Files → Reply → Type 0
 IsReplyTo words files r = IsReplyToCommand (command_of words) files r
-
--- the words are those of `crun`
-abbrev pub AreOfC : Option Command → Type 0
-AreOfC None = ⊥
-AreOfC (Some command) = RunsC command
 
 -- not one of the statuses that come from outside
 abbrev pub IsInside : ℕ → Type 0

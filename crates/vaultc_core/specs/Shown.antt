@@ -26,9 +26,8 @@ use Rattle.vaultc_core.specs.Texts.{Refusal, unlexed, unparsed}
 use Rattle.vlt_base.specs.declared.limits.TheConstants.{SOURCE_BYTES}
 use Rattle.c_interp.specs.declared.stop.CStop.{CStop}
 use Rattle.c_interp.specs.declared.stop.CStop.TheVariants.{Stopped}
-use Rattle.c_reader.specs.Reads.{IsWithin}
+use Rattle.c_reader.specs.Reads.{IsUnread, IsWithin}
 use Rattle.c_reader.specs.declared.error.CError.{CError}
-use Rattle.c_run.specs.Ends.{IsUnread}
 use Rattle.c_run.specs.declared.end.CEnd.{CEnd}
 use Rattle.c_run.specs.declared.end.CEnd.TheVariants as ended
 use Rattle.vaultc_core.specs.CRuns.{end_reply, stop_reply}

@@ -13,7 +13,7 @@ ghost use Rattle.vaultc_core.specs.Lines as lines;
 ghost use Rattle.vaultc_core.specs.declared.status.TheConstants.{DONE, NO_COMMAND, UNREAD, SINK_FAILED, NO_MEMORY};
 ghost use Rattle.vaultc_core.specs.Texts.{AreReadInOneWay};
 ghost use Rattle.vaultc_core.specs.Verdicts.{IsProgramOf};
-ghost use Rattle.vaultc_core.specs.Replies.{AreOfC, HasOneReply, HasSomeReply, IsReplyTo, IsInside, IsUnread, MayReply};
+ghost use Rattle.vaultc_core.specs.Replies.{HasOneReply, HasSomeReply, IsReplyTo, IsInside, IsUnread, MayReply};
 ghost use Rattle.vaultc_core.specs.Sources.{IsOneRead, text_in};
 ghost use Rattle.vaultc_core.specs.Finishes.{Finishes, WrotePart, WroteReply};
 ghost use Rattle.vaultc_core.specs.Promised.{IsPromised};
@@ -30,6 +30,7 @@ pub mod status;
 mod words;
 mod write;
 
+use c_reader_laws::texts_are_read_in_one_way;
 use std::alloc::Global;
 use vlt_check_laws::first_fault_has_witness;
 use vlt_fit_laws::programs_are_fit;
@@ -67,9 +68,8 @@ pub fn vaultc<S: Store, K: Sink>(alloc: Global, words: &[String], store: &mut S,
         ¬ (Rose (K.faults out.old) (K.faults out.new)) →
         WroteReply K.Sink (IsReplyTo (map string_bytes words.now) files) out.old out.new result
         ⊎ (result ≡ NO_MEMORY) }
-    // With no fault, the status of a command but `crun` is that of the reply, unless memory is wanting.
+    // With no fault, the status is that of the reply, unless memory is wanting.
     ensures complete { (files : Files) (r : lines.Reply) → S.files store.old ≡ Some files →
-        ¬ (AreOfC (command_of (map string_bytes words.now))) →
         IsReplyTo (map string_bytes words.now) files r →
         ¬ (Rose (S.faults store.old) (S.faults store.new)) →
         ¬ (Rose (K.faults out.old) (K.faults out.new)) → (result ≡ r.status) ⊎ (result ≡ NO_MEMORY) }
@@ -95,18 +95,20 @@ pub fn vaultc<S: Store, K: Sink>(alloc: Global, words: &[String], store: &mut S,
     accepted_programs_go_right();
     a_tree_has_one_verdict();
     texts_have_ticks();
+    texts_are_read_in_one_way();
     commands::carry_out(alloc, words, store, out)
 }
 
-/// A command but `crun` has one reply to what it read, but that `explain` may tell one path or another.
+/// A command has one reply to what it read, but that `explain` may tell one path or another.
 pub fn a_command_has_one_reply()
     ensures { HasOneReply }
 {
     a_tree_has_one_verdict();
     texts_have_ticks();
+    texts_are_read_in_one_way();
 }
 
-/// It can't be that a command but `crun` has no reply to what it read.
+/// It can't be that a command has no reply to what it read.
 pub fn a_command_has_some_reply()
     ensures { HasSomeReply }
 {
@@ -115,6 +117,7 @@ pub fn a_command_has_some_reply()
     accepted_programs_go_right();
     first_fault_has_witness();
     texts_have_ticks();
+    texts_are_read_in_one_way();
 }
 
 /// All bytes are a text of one tree, or they are refused for one reason.
