@@ -167,15 +167,17 @@ module _ (text input answers : List ℕ) (b : Budgets) (p : Program) (c : Option
   of_numbers ns lists e (inr fits) =
       let ran = c_run p b.fuel b.heap b.depth ns lists in
       let s = stop_for ran.outcome in
-      let events = event_text ran.world.events in
-      (behind events s.last, record {
-        end = Ended (Stopped s.stop);
-        events = events;
-        ends = given_ends (numbers ns lists) e events (Stopped s.stop) (fits, stops_whole ran s.stop s.outcome);
-        last = s.last;
-        last_is = s.line;
-        whole = refl;
-      })
+      let events = event_text ran.world.events in (
+        behind events s.last,
+        record {
+          end = Ended (Stopped s.stop);
+          events = events;
+          ends = given_ends (numbers ns lists) e events (Stopped s.stop) (fits, stops_whole ran s.stop s.outcome);
+          last = s.last;
+          last_is = s.line;
+          whole = refl;
+        },
+      )
 
   of_given : (given : Given) → given_by input answers ≡ given → HasReply text input answers b
   of_given (bad_input line) e = ends_at_once text input answers b (Ended (BadInput line)) (numbers_reply (codes "input") line) (given_ends (bad_input line) e [] (BadInput line) (inl refl, refl)) refl
