@@ -1,0 +1,97 @@
+-- Where a path begins, and what it shows.
+use Rattle.std.proofs.Common.{◌≡◌, ◌∙◌, ◌↔◌, ◌⊎◌, ◌<◌, ◌≤◌, ℕ, ◌+◌, ◌&&◌, ◌==◌, if◌then◌else◌, Bool, true, false, IsTrue, List, [], ◌∷◌, map, drop, drop-cons, add-one, get_or, suc, length, Option, Some, None, slice_get, refl, sym, ap, subst, inl, inr, ⊎_elim, rules, arith}
+use Rattle.vlt_core.specs.Core.{States, Tok, Entry, Func, Program, Stmts}
+use Rattle.vlt_core.specs.Bodies.{flow_of_stmts, body_flow}
+use Rattle.vlt_core.specs.Derives.{start_map, status_at_start}
+use Rattle.vlt_core.specs.Found.{One, one_absent, one_held, one_lent, one_full, Has}
+use Rattle.std.proofs.lemmas.List.{drop_all}
+use Rattle.vlt_core.specs.Faults.{FlowFault, at_row}
+use Rattle.vlt_core.specs.Lookups.{is_held_before, before_set}
+use Rattle.vlt_core.specs.Maps.{Status, Wanted, absent, held, full, Row}
+use Rattle.vlt_core.specs.Witness.{Choice, Refuses, NoJoin, PathMeets, MetStmts, IsWitness, IsWitnessIn}
+use Rattle.vlt_paths.specs.declared.numbers.Numbers.{Numbers}
+use Rattle.vlt_paths.specs.Numbers.{holds}
+use Rattle.vlt_paths.specs.declared.comes.Comes.{Comes}
+use Rattle.vlt_paths.specs.declared.comes.Comes.TheVariants as c
+use Rattle.vlt_paths.specs.Comes.{Brings}
+use Rattle.vlt_paths.specs.Along.{Sought, State, GoesStmts}
+use Rattle.vlt_core.specs.Found.{Exit}
+
+never : IsTrue false → ⊥
+never h = search rules
+
+abbrev pub Starts : Comes → Status → Type 0
+Starts c u = (o : One) → Brings c o ↔ Has u o
+
+pub starts_absent : Starts c.Absent absent
+starts_absent one_absent = (λ h. tt, λ h. search rules)
+starts_absent (one_held s) = (λ h. absurd (never h), λ h. absurd h)
+starts_absent (one_lent s) = (λ h. absurd (never h), λ h. absurd h)
+starts_absent one_full = (λ h. absurd (never h), λ h. absurd h)
+
+pub starts_full : Starts c.Full full
+starts_full one_absent = (λ h. absurd (never h), λ h. absurd h)
+starts_full (one_held s) = (λ h. absurd (never h), λ h. absurd h)
+starts_full (one_lent s) = (λ h. absurd (never h), λ h. absurd h)
+starts_full one_full = (λ h. tt, λ h. search rules)
+
+pub starts_held : (n : Numbers) (states : States) → holds n ≡ states → Starts (c.Held n) (held states)
+starts_held n states e one_absent = (λ h. absurd (never h), λ h. absurd h)
+starts_held n states e (one_held s) = (λ h. subst (λ f. IsTrue (f s)) e h, λ h. subst (λ f. IsTrue (f s)) (sym e) h)
+starts_held n states e (one_lent s) = (λ h. absurd (never h), λ h. absurd h)
+starts_held n states e one_full = (λ h. absurd (never h), λ h. absurd h)
+
+-- ---- entries, one after another
+
+pub record Looked {X : Type 0} (p : Program) (f : Func) (g : X → Entry) (es : List X) (k i : ℕ) : Type 0 where
+  pub same : status_at_start p f (map g (drop i es)) k ≡ status_at_start p f (map g es) k
+
+split_at : {X : Type 0} (xs : List X) (i : ℕ) (x : X) → i < length xs → x ≡ get_or xs i x → drop i xs ≡ x ∷ drop (i + 1) xs
+split_at xs i x lt read = rw add-one (drop-cons xs i x lt ∙ ap (λ y. y ∷ drop (suc i) xs) (sym read))
+
+module _ {X : Type 0} (p : Program) (f : Func) (g : X → Entry) (es : List X) (k i : ℕ) (e : X) (lt : i < length es) (read : e ≡ get_or es i e) (l : Looked p f g es k i) where
+  at_entry : (if is_held_before (g e) && k == (g e).key then held (before_set p f (g e)) else status_at_start p f (map g (drop (i + 1) es)) k) ≡ status_at_start p f (map g es) k
+  at_entry = ap (λ xs. status_at_start p f (map g xs) k) (sym (split_at es i e lt read)) ∙ l.same
+
+  pub looked_held : (is_held_before (g e) && k == (g e).key) ≡ true → held (before_set p f (g e)) ≡ status_at_start p f (map g es) k
+  looked_held t = ap (λ b. if b then held (before_set p f (g e)) else status_at_start p f (map g (drop (i + 1) es)) k) (sym t) ∙ at_entry
+
+  pub looked_more : (is_held_before (g e) && k == (g e).key) ≡ false → Looked p f g es k (i + 1)
+  looked_more t = record { same = ap (λ b. if b then held (before_set p f (g e)) else status_at_start p f (map g (drop (i + 1) es)) k) (sym t) ∙ at_entry }
+
+-- ---- what a path shows
+
+pub shown_row : (p : Program) (f : Func) (t : Tok) (P : Sought) (v u : State) (r : Option Exit) → v.met ≡ false → ((o : One) → v.brings o ↔ Has (start_map p f t) o) → GoesStmts P t (flow_of_stmts p f [] f.body) v u r → IsTrue u.met ↔ PathMeets p f t P NoJoin v.left
+shown_row p f t P v u r none start g = (
+  λ h. ⊎_elim (λ b. absurd (never (subst IsTrue none b))) (λ z. (z.0, (start z.0).0 z.1, inl z.2)) ((g 0).met.0 h),
+  λ h. (g 0).met.1 (⊎_elim (λ z. inr (h.0, (start h.0).1 h.1, z)) (λ z. absurd z.2) h.2),
+)
+
+pub looked_all : {X : Type 0} (p : Program) (f : Func) (g : X → Entry) (es : List X) (k i : ℕ) → length es ≤ i → Looked p f g es k i → absent ≡ status_at_start p f (map g es) k
+looked_all p f g es k i past l = ap (λ xs. status_at_start p f (map g xs) k) (sym (drop_all i es past)) ∙ l.same
+
+-- of a function with a body; and of one without
+pub row_shown : (p : Program) (f : Func) (g at : ℕ) (t : Tok) (found : Status) (wanted : Wanted) (first : List Choice) (b : Bool) → f.external ≡ false → (IsTrue b ↔ PathMeets p f t (Refuses t at wanted) NoJoin first) → IsTrue b ↔ ((f.external ≡ false) × IsWitnessIn p f (record { function = g; at = at; tok = t; kind = at_row found wanted }) first None)
+row_shown p f g at t found wanted first b body e = (λ h. (body, e.0 h), λ x. e.1 x.1)
+
+pub no_row_shown : (p : Program) (f : Func) (x : FlowFault) (first : List Choice) → (IsWitnessIn p f x first None → ⊥) → IsTrue false ↔ ((f.external ≡ false) × IsWitnessIn p f x first None)
+no_row_shown p f x first none = (λ h. absurd (never h), λ y. absurd (none y.1))
+
+pub no_body : (p : Program) (f : Func) (x : FlowFault) (first : List Choice) → f.external ≡ true → IsTrue false ↔ ((f.external ≡ false) × IsWitnessIn p f x first None)
+no_body p f x first e = (λ h. absurd (never h), λ y. absurd (never (subst IsTrue (sym e ∙ y.0) (search rules))))
+
+some_same : (f g : Func) → Some f ≡ Some g → f ≡ g
+some_same f g e = grind arith
+
+none_some : (f : Func) → None ≡ Some f → ⊥
+none_some f e = grind arith
+
+pub judged : (p : Program) (f : Func) (x : FlowFault) (first : List Choice) (second : Option (List Choice)) (b : Bool) → slice_get p.fns x.function ≡ Some f → (IsTrue b ↔ ((f.external ≡ false) × IsWitnessIn p f x first second)) → IsTrue b ↔ IsWitness p x first second
+judged p f x first second b there h = (
+  λ t. let z = h.0 t in record { func = f; there = there; with_body = z.0; shows = z.1 },
+  λ w. let same : w.func ≡ f = some_same w.func f (sym w.there ∙ there) in
+      h.1 (subst (λ f. f.external ≡ false) same w.with_body, subst (λ f. IsWitnessIn p f x first second) same w.shows),
+)
+
+pub judged_none : (p : Program) (x : FlowFault) (first : List Choice) (second : Option (List Choice)) → None ≡ slice_get p.fns x.function → IsTrue false ↔ IsWitness p x first second
+judged_none p x first second e = (λ t. absurd (never t), λ w. absurd (none_some w.func (e ∙ w.there)))

@@ -1,0 +1,9 @@
+pub mod Sets
+pub mod Statuses
+pub mod Tokens
+pub mod Passed
+pub mod Taking
+pub mod Going
+pub mod Walking
+pub mod Choosing
+pub mod Beginning

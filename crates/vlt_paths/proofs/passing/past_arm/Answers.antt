@@ -1,0 +1,5 @@
+use Rattle.vlt_paths.proofs.Taking.{all_past}
+use Rattle.vlt_paths.proofs.passing.past_arm.Goals as goal
+
+pub returns : goal.returns
+returns c = all_past _ _ _ _ c.take_arm-all.ensures

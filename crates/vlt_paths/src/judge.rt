@@ -1,0 +1,129 @@
+//! Whether a path shows a fault.
+
+ghost use Rattle.std.specs.Prelude.{◌≡◌, ◌↔◌, ◌&&◌, ◌==◌, nat_lt, false, IsTrue, None, slice_get};
+ghost use Rattle.std.specs.Option.{option_map, option_copied};
+ghost use Rattle.vlt_core.specs.Core.{a_key};
+ghost use Rattle.vlt_core.specs.Derives.{start_map};
+ghost use Rattle.vlt_core.specs.Found.{One, Has};
+ghost use Rattle.vlt_core.specs.FaultView.{choices_of};
+ghost use Rattle.vlt_core.specs.HeldView.{wanted_of};
+ghost use Rattle.vlt_core.specs.Lookups.{is_before, is_held_before, is_owning_var};
+ghost use Rattle.vlt_core.specs.View.{program_of, func_of, tok_of, mode_of, entry_of};
+ghost use Rattle.vlt_core.specs.Witness.{IsWitness, IsWitnessIn, PathMeets, Refuses, NoJoin};
+ghost use Rattle.vlt_paths.specs.Comes.{Brings};
+ghost use Rattle.vlt_paths.specs.Shown.{fault_view};
+
+use crate::along::go_stmts;
+use crate::comes::{Comes, Wants};
+use crate::numbers::Numbers;
+use crate::point::{Hunt, Point, Sought};
+use vlt_base::{FnId, KeyId, VarId};
+use vlt_core::{Choice, Entry, FaultKind, FlowFault, Func, Mode, Program, Tok, Wanted};
+use vlt_rows::side_states;
+
+/// Whether a key of this mode is held where the body begins.
+fn is_held(mode: Mode) -> bool
+    ensures { result ≡ is_before (mode_of mode) }
+{
+    match mode {
+        Mode::Kept => true,
+        Mode::Taken => true,
+        _ => false,
+    }
+}
+
+/// Whether the entry says that the key is held where the body begins.
+fn is_of_key(e: Entry, key: KeyId) -> bool
+    ensures { result ≡ (is_held_before (entry_of e) && key.0 == (entry_of e).key) }
+{
+    is_held(e.mode) && key.0 == e.key.0
+}
+
+/// What a key comes with where the body begins.
+fn key_start(p: &Program, f: &Func, key: KeyId) -> Comes
+    ensures { (o : One) → Brings result o
+        ↔ Has (start_map (program_of p.now) (func_of f.now) (a_key key.0)) o }
+{
+    for e in f.clause.as_slice() {
+        if is_of_key(*e, key) {
+            return Comes::Held(Numbers::of(side_states(p, f, e.key, e.before)));
+        }
+    }
+    Comes::Absent
+}
+
+/// Whether a variable is full where the body begins.
+fn is_full(f: &Func, v: VarId) -> bool
+    ensures { result ≡ (nat_lt v.0 (func_of f.now).params && is_owning_var (func_of f.now) v.0) }
+{
+    v.0 < f.params && f.is_owning_var(v)
+}
+
+/// What a token comes with where the body begins.
+fn start(p: &Program, f: &Func, tok: Tok) -> Comes
+    ensures { (o : One) → Brings result o
+        ↔ Has (start_map (program_of p.now) (func_of f.now) (tok_of tok)) o }
+{
+    match tok {
+        Tok::Key(key) => key_start(p, f, key),
+        Tok::Var(v) => {
+            if is_full(f, v) {
+                Comes::Full
+            } else {
+                Comes::Absent
+            }
+        }
+    }
+}
+
+/// Whether the path comes to such a row.
+fn shows_row(p: &Program, f: &Func, tok: Tok, at: u32, wanted: Wanted, path: &[Choice]) -> bool
+    ensures { IsTrue result ↔ PathMeets (program_of p.now) (func_of f.now) (tok_of tok)
+        (Refuses (tok_of tok) at (wanted_of wanted)) NoJoin (choices_of path.now) }
+{
+    let row = Some(Sought {
+        at,
+        wants: Wants::of(wanted),
+    });
+    let begin = Point {
+        comes: start(p, f, tok),
+        rest: path,
+        met: false,
+    };
+    let end = go_stmts(p, f, Hunt { tok, row }, false, f.body.as_slice(), begin);
+    end.point.met
+}
+
+/// Whether the path shows the fault in the function.
+fn is_shown_in(p: &Program, f: &Func, fault: &FlowFault, path: &[Choice]) -> bool
+    ensures { IsTrue result ↔ (((func_of f.now).external ≡ false) ×
+        IsWitnessIn (program_of p.now) (func_of f.now) (fault_view fault.now)
+        (choices_of path.now) None) }
+{
+    if f.external {
+        return false;
+    }
+    match fault.kind {
+        FaultKind::Row { wanted, .. } => shows_row(p, f, fault.tok, fault.at, wanted, path),
+        FaultKind::Join { .. } => false,
+    }
+}
+
+fn func_at(p: &Program, fn_id: FnId) -> Option<&Func>
+    ensures { option_map func_of (option_copied result)
+        ≡ slice_get (program_of p.now).fns fn_id.0 }
+{
+    p.fns.get(fn_id.0 as usize)
+}
+
+/// Whether one path alone is a witness of the fault: it comes to a row of the fault's place, token and wanted status, which
+/// refuses what comes. It takes no memory.
+pub fn is_row_witness(p: &Program, fault: &FlowFault, path: &[Choice]) -> bool
+    ensures { IsTrue result ↔ IsWitness (program_of p.now) (fault_view fault.now)
+        (choices_of path.now) None }
+{
+    match func_at(p, fault.fn_id) {
+        None => false,
+        Some(f) => is_shown_in(p, f, fault, path),
+    }
+}

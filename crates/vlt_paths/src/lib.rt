@@ -1,0 +1,13 @@
+//! Paths by their choices: a program, a fault and choices go in, and whether they are a path that shows the fault comes out.
+//! Read of vlt_core `specs/Witness.antt` first, then `specs/Along.antt`.
+//! Whoever is handed a witness tests it here, without the search that found it and without memory.
+#![tactic(auto)]
+
+mod along;
+mod comes;
+mod judge;
+mod numbers;
+mod passing;
+mod point;
+
+pub use judge::is_row_witness;

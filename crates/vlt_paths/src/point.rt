@@ -1,0 +1,69 @@
+//! A path at a point of a body.
+
+ghost use Rattle.std.specs.Prelude.{◌≡◌, ◌∷◌, List, None, IfSome};
+ghost use Rattle.vlt_core.specs.Witness as w;
+ghost use Rattle.vlt_core.specs.FaultView.{pick_of, choices_of};
+
+use crate::comes::{Comes, Wants};
+use vlt_core::{Choice, Pick, Tok};
+
+/// What a path is followed for: a token, and a row that refuses it.
+#[derive(Clone, Copy)]
+pub struct Hunt {
+    pub tok: Tok,
+    pub row: Option<Sought>,
+}
+
+/// A row by its place and what it wants.
+#[derive(Clone, Copy)]
+pub struct Sought {
+    pub at: u32,
+    pub wants: Wants,
+}
+
+/// A path on its way.
+#[derive(Clone, Copy)]
+pub struct Point<'a> {
+    /// What its token comes with.
+    pub comes: Comes,
+    /// The choices that are still to be made.
+    pub rest: &'a [Choice],
+    /// Whether the row was met behind the last choice.
+    pub met: bool,
+}
+
+/// A choice that was made, and the path behind it.
+#[derive(Clone, Copy)]
+pub struct Chosen<'a> {
+    pub pick: Pick,
+    pub point: Point<'a>,
+}
+
+impl<'a> Point<'a> {
+    /// The next choice, if it is one of the statement at this place.
+    pub fn choose(self, at: u32) -> Option<Chosen<'a>>
+        ensures comes { IfSome result (λ x. x.point.comes ≡ self.entry.comes) }
+        ensures met { IfSome result (λ x. x.point.met ≡ self.entry.met) }
+        ensures some { IfSome result (λ x. choices_of self.entry.rest.now
+            ≡ w.choice at (pick_of x.pick) ∷ choices_of x.point.rest.now) }
+        ensures none { result ≡ None → (x : w.Pick) (cs : List w.Choice) →
+            choices_of self.entry.rest.now ≡ w.choice at x ∷ cs → ⊥ }
+    {
+        match self.rest.split_first() {
+            None => None,
+            Some((choice, rest)) => {
+                if choice.at != at {
+                    return None;
+                }
+                Some(Chosen {
+                    pick: choice.pick,
+                    point: Point {
+                        comes: self.comes,
+                        rest,
+                        met: self.met,
+                    },
+                })
+            }
+        }
+    }
+}
