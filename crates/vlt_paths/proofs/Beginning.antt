@@ -1,14 +1,14 @@
 -- Where a path begins, and what it shows.
-use Rattle.std.proofs.Common.{◌≡◌, ◌∙◌, ◌↔◌, ◌⊎◌, ◌<◌, ◌≤◌, ℕ, ◌+◌, ◌&&◌, ◌==◌, if◌then◌else◌, Bool, true, false, IsTrue, List, [], ◌∷◌, map, drop, drop-cons, add-one, get_or, suc, length, Option, Some, None, slice_get, refl, sym, ap, subst, inl, inr, ⊎_elim, rules, arith}
-use Rattle.vlt_core.specs.Core.{States, Tok, Entry, Func, Program, Stmts}
-use Rattle.vlt_core.specs.Bodies.{flow_of_stmts, body_flow}
+use Rattle.std.proofs.Common.{◌≡◌, ◌∙◌, ◌↔◌, ◌<◌, ◌≤◌, ℕ, ◌+◌, ◌&&◌, ◌==◌, if◌then◌else◌, Bool, true, false, IsTrue, List, [], ◌∷◌, map, drop, drop-cons, add-one, get_or, suc, length, Option, Some, None, slice_get, sym, ap, subst, inl, inr, ⊎_elim, rules, arith}
+use Rattle.vlt_core.specs.Core.{States, Tok, Entry, Func, Program}
+use Rattle.vlt_core.specs.Bodies.{flow_of_stmts}
 use Rattle.vlt_core.specs.Derives.{start_map, status_at_start}
 use Rattle.vlt_core.specs.Found.{One, one_absent, one_held, one_lent, one_full, Has}
 use Rattle.std.proofs.lemmas.List.{drop_all}
 use Rattle.vlt_core.specs.Faults.{FlowFault, at_row}
 use Rattle.vlt_core.specs.Lookups.{is_held_before, before_set}
-use Rattle.vlt_core.specs.Maps.{Status, Wanted, absent, held, full, Row}
-use Rattle.vlt_core.specs.Witness.{Choice, Refuses, NoJoin, PathMeets, MetStmts, IsWitness, IsWitnessIn}
+use Rattle.vlt_core.specs.Maps.{Status, Wanted, absent, held, full}
+use Rattle.vlt_core.specs.Witness.{Choice, Refuses, NoJoin, PathMeets, IsWitness, IsWitnessIn}
 use Rattle.vlt_paths.specs.declared.numbers.Numbers.{Numbers}
 use Rattle.vlt_paths.specs.Numbers.{holds}
 use Rattle.vlt_paths.specs.declared.comes.Comes.{Comes}

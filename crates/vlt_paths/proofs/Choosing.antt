@@ -1,5 +1,5 @@
 -- One path of the code at a choice.
-use Rattle.std.proofs.Common.{◌≡◌, ◌∙◌, ◌↔◌, ◌<◌, ℕ, suc, Bool, true, false, ◌&&◌, ◌||◌, ◌++◌, slice_get, IsTrue, rules, map, List, [], ◌∷◌, Option, Some, None, IfSome, length, refl, sym, ap, subst, arith}
+use Rattle.std.proofs.Common.{◌≡◌, ◌∙◌, ◌<◌, ℕ, Bool, true, false, ◌&&◌, ◌||◌, ◌++◌, slice_get, IsTrue, rules, map, List, [], ◌∷◌, Option, Some, None, IfSome, length, refl, sym, ap, subst, arith}
 use Rattle.std.specs.List.{list_any}
 use Rattle.std.proofs.lemmas.List.Folds.{list_any-append}
 use Rattle.vlt_core.proofs.Views.{block_parts, arm_parts}
@@ -31,7 +31,7 @@ use Rattle.vlt_paths.specs.declared.point.Point.{Point}
 use Rattle.vlt_paths.specs.declared.point.Chosen.{Chosen}
 use Rattle.vlt_paths.specs.declared.point.Hunt.{Hunt}
 use Rattle.vlt_paths.specs.Comes.{Brings}
-use Rattle.vlt_paths.specs.Along.{State, Goes, GoesBlock, GoesStmts, GoesArm, GoesTurn, TurnWay, TurnSight, state_of, sought_of, exit_of, turned, IsPast, IsBound, is_step, jump_out, AlongStmts, AlongForm, AlongBlock, AlongTurn, AlongArm}
+use Rattle.vlt_paths.specs.Along.{GoesBlock, GoesStmts, GoesArm, GoesTurn, state_of, sought_of, exit_of, turned, IsPast, IsBound, is_step, jump_out, AlongStmts, AlongForm, AlongBlock, AlongTurn, AlongArm}
 use Rattle.vlt_paths.proofs.Going.{number_of, same_pick, chosen, go_then, go_else, go_neither, go_case, go_no_case, turn_ends, turn_body, no_turn, shorter, go_step, go_return, go_on, go_out, none_some, go_block, block_left, go_focus, focus_lost, loop_last}
 use Rattle.vlt_paths.proofs.Tokens.{any_in_order}
 use Rattle.vlt_paths.proofs.Taking.{gone_past, none_past}

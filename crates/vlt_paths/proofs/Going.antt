@@ -1,11 +1,11 @@
 -- One path through the parts of a body: where it comes out of each, and whether it meets the row that is sought.
-use Rattle.std.proofs.Common.{◌≡◌, ◌∙◌, ◌↔◌, ◌⊎◌, ◌≤◌, ℕ, zero, suc, ◌+◌, Bool, true, false, IsTrue, List, [], ◌∷◌, map, length, Option, Some, None, refl, sym, ap, subst, inl, inr, ⊎_elim, rules, arith}
+use Rattle.std.proofs.Common.{◌≡◌, ◌∙◌, ◌⊎◌, ◌≤◌, ℕ, zero, suc, ◌+◌, Bool, true, false, IsTrue, List, [], ◌∷◌, map, length, Option, Some, None, refl, sym, ap, subst, inl, inr, ⊎_elim, rules, arith}
 use Rattle.vlt_core.specs.Core.{Tok}
 use Rattle.vlt_core.specs.Maps.{Row, gone}
-use Rattle.vlt_core.specs.Flow.{Flow, step, choose, loop, switch, scope, focus, return, jump, Block, block, Stmts, done, next, Arms, no_arms, arm, end_of}
-use Rattle.vlt_core.specs.Found.{One, Exit, to_next, to_break, to_continue, images}
-use Rattle.vlt_core.specs.Faults.{spots, spots_block, spots_stmts, spots_arms}
-use Rattle.vlt_core.specs.Witness.{Pick, then_arm, else_arm, turn, exit, case_arm, Choice, choice, Way, LeadsOn, Turns, Takes, Through, ThroughBlock, ThroughStmts, ThroughArm, Reaches, RowMet, NoJoin, Met, MetBlock, MetStmts, MetArm}
+use Rattle.vlt_core.specs.Flow.{Flow, step, choose, loop, switch, focus, return, jump, Block, block, Stmts, done, next, Arms, arm, end_of}
+use Rattle.vlt_core.specs.Found.{One, Exit, to_next, to_break, to_continue}
+use Rattle.vlt_core.specs.Faults.{spots, spots_block}
+use Rattle.vlt_core.specs.Witness.{Pick, then_arm, else_arm, turn, exit, case_arm, Choice, choice, LeadsOn, Turns, Takes, Through, ThroughBlock, ThroughStmts, ThroughArm, Reaches, RowMet, NoJoin, Met, MetBlock, MetStmts, MetArm}
 use Rattle.vlt_paths.specs.Along.{State, Sought, Passes, Goes, GoesForm, GoesBlock, GoesStmts, GoesArm, BodyWay, TurnWay, TurnSight, GoesTurn, turned}
 use Rattle.vlt_paths.proofs.Passed.{led, leads}
 

@@ -1,12 +1,11 @@
 -- States by their bits below 32 and their bounds from there on.
-use Rattle.std.proofs.Common.{not, ◌≡◌, ◌↔◌, ◌<◌, ◌≤◌, ◌+◌, ◌-◌, ◌^◌, ◌||◌, ◌&&◌, ◌==◌, ℕ, suc, Bool, true, false, IsTrue, nat_lt, nat_le, bit_and, bit_or, max, min, refl, sym, ap, ◌∙◌, subst, ◌⊎◌, inl, inr, ⊎_elim, w32, arith, rules}
+use Rattle.std.proofs.Common.{not, ◌≡◌, ◌↔◌, ◌<◌, ◌≤◌, ◌+◌, ◌-◌, ◌^◌, ◌||◌, ◌&&◌, ◌==◌, ℕ, Bool, true, false, IsTrue, nat_lt, nat_le, bit_and, max, min, refl, sym, ap, ◌∙◌, subst, ◌⊎◌, inl, inr, ⊎_elim, w32, arith, rules}
 use Rattle.std.specs.Int.{bit_at, bit_not}
 use Rattle.std.proofs.lemmas.Nat.Bits.{bit_at_and, bit_at_not, bit_at-lt, bit_at-zero, bit_at_ones}
 use Rattle.std.proofs.lemmas.Bool.Decides.{nat_tests}
 use Rattle.std.proofs.lemmas.Bool.{cases_lt}
 use Rattle.std.proofs.lemmas.Nat.{and_le_l}
-use Rattle.vlt_base.specs.States.{is_bit, has_state}
-use Rattle.vlt_base.specs.declared.states.StateSet.{StateSet}
+use Rattle.vlt_base.specs.States.{is_bit}
 use Rattle.vlt_base.proofs.Sets.{no_bit_above, lowest_state}
 use Rattle.vlt_core.specs.Core.{States}
 use Rattle.vlt_paths.specs.declared.numbers.Numbers.{Numbers}

@@ -9,8 +9,8 @@ use Rattle.vlt_core.specs.Found.{One, Exit, to_next, to_break, to_continue}
 use Rattle.vlt_core.specs.Faults.{spots_block}
 use Rattle.vlt_core.specs.Rows.{arm_rows}
 use Rattle.vlt_core.specs.Witness.{Choice, ThroughArm, MetArm, NoJoin}
-use Rattle.vlt_core.specs.View.{tok_of, form_of, block_of, arm_of, stmt_of, stmts_of, arms_of}
-use Rattle.vlt_core.proofs.Views.{stmt_parts, arm_parts}
+use Rattle.vlt_core.specs.View.{tok_of, form_of, arm_of, stmts_of, arms_of}
+use Rattle.vlt_core.proofs.Views.{stmt_parts}
 use Rattle.vlt_core.specs.declared.program.Stmt.{Stmt}
 use Rattle.vlt_core.specs.declared.program.Arm.{Arm}
 use Rattle.vlt_paths.specs.declared.along.Out.{Out}
@@ -18,7 +18,7 @@ use Rattle.vlt_paths.specs.declared.along.Out.TheVariants as out
 use Rattle.vlt_paths.specs.declared.along.Went.{Went}
 use Rattle.vlt_paths.specs.declared.point.Point.{Point}
 use Rattle.vlt_paths.specs.declared.point.Hunt.{Hunt}
-use Rattle.vlt_paths.specs.Along.{State, Sought, Goes, GoesForm, GoesStmts, GoesArm, Passes, GoesBlock, state_of, sought_of, exit_of, IsBound, AlongForm, AlongStmts, AlongTurn, TurnWay, TurnSight}
+use Rattle.vlt_paths.specs.Along.{State, Sought, Goes, GoesForm, GoesArm, Passes, GoesBlock, state_of, sought_of, exit_of, IsBound, AlongForm, AlongStmts, AlongTurn, TurnWay, TurnSight}
 use Rattle.vlt_paths.proofs.Going.{none_some, go_done, go_next, list_left, loop_more, arm_here, arm_behind}
 
 split_at : {X : Type 0} (xs : List X) (i : ℕ) (x : X) → i < length xs → x ≡ get_or xs i x → drop i xs ≡ x ∷ drop (i + 1) xs

@@ -6,7 +6,6 @@ use Rattle.vlt_core.specs.Core as core
 use Rattle.vlt_core.specs.Maps.{Row, is_tok}
 use Rattle.vlt_core.specs.Flow.{Flow, Block, Stmts, Arms}
 use Rattle.vlt_core.specs.Found.{One, Ones, images, Exit, to_next, to_break, to_continue}
-use Rattle.vlt_core.specs.Witness as w
 use Rattle.vlt_core.specs.Witness.{Choice, choice, turn, exit, Way, LeadsOn, RowMet, NoJoin, Through, ThroughBlock, ThroughStmts, ThroughArm, Met, MetHere, MetBlock, MetStmts, MetArm}
 use Rattle.vlt_core.specs.FaultView.{choices_of}
 use Rattle.vlt_core.specs.View.{tok_of}

@@ -1,12 +1,10 @@
 -- What a path's token comes with, and the points of a path, as plain data.
-use Rattle.std.specs.Prelude.{◌≡◌, ℕ, Bool, true, false, IsTrue, List, Option, Some, None}
+use Rattle.std.specs.Prelude.{◌≡◌, ℕ, Bool, true, false, IsTrue, Option, Some, None}
 use Rattle.vlt_core.specs.Core.{Tok}
 use Rattle.vlt_core.specs.Maps as maps
 use Rattle.vlt_core.specs.Maps.{Row, is_tok}
 use Rattle.vlt_core.specs.Found.{One, one_absent, one_held, one_lent, one_full}
 use Rattle.vlt_core.specs.Witness as w
-use Rattle.vlt_core.specs.FaultView.{choices_of}
-use Rattle.vlt_core.specs.View.{tok_of}
 use Rattle.vlt_paths.specs.Numbers.{holds}
 use Rattle.vlt_paths.specs.declared.comes.Comes.{Comes}
 use Rattle.vlt_paths.specs.declared.comes.Comes.TheVariants as comes
@@ -14,8 +12,6 @@ use Rattle.vlt_paths.specs.declared.comes.Wants.{Wants}
 use Rattle.vlt_paths.specs.declared.comes.Wants.TheVariants as wants
 use Rattle.vlt_paths.specs.declared.comes.Leaves.{Leaves}
 use Rattle.vlt_paths.specs.declared.comes.Leaves.TheVariants as leaves
-use Rattle.vlt_paths.specs.declared.point.Point.{Point}
-use Rattle.vlt_paths.specs.declared.point.Hunt.{Hunt}
 use Rattle.vlt_paths.specs.declared.point.Sought.{Sought}
 
 -- whether the single status is among what comes

@@ -1,12 +1,11 @@
-use Rattle.std.proofs.Common.{◌≡◌, ◌∙◌, ◌++◌, ap, sym, refl, [], arith, subst}
-use Rattle.vlt_core.proofs.Views.{if_form, while_form, switch_form, focus_form, scope_form, jump_form, block_parts, arm_parts}
-use Rattle.vlt_core.specs.View.{program_of, func_of, form_of, block_of, expr_of}
-use Rattle.vlt_core.specs.HeldView.{toks_of}
+use Rattle.std.proofs.Common.{sym, refl, []}
+use Rattle.vlt_core.proofs.Views.{if_form, while_form, switch_form, focus_form, scope_form, jump_form}
+use Rattle.vlt_core.specs.View.{program_of, func_of, block_of, expr_of}
 use Rattle.vlt_core.specs.Bodies.{flow_of_block}
 use Rattle.vlt_core.specs.Rows.{expr_rows}
 use Rattle.vlt_core.specs.Witness.{then_arm, else_arm}
 use Rattle.vlt_paths.proofs.Choosing.{made_choice, then_goes, else_goes, neither_goes, turn_goes, turn_fewer, exit_goes, case_goes, scope_goes, to_end, before_end, arm_goes, end_is, focus_goes, focus_lost_goes, loop_ends, no_case_goes}
-use Rattle.vlt_paths.proofs.Walking.{listing_more, listing_left, listing_ends, looping_first, looping_more, arm_found}
+use Rattle.vlt_paths.proofs.Walking.{listing_more, listing_left, listing_ends, looping_first, looping_more}
 use Rattle.vlt_paths.proofs.along.+along.Goals as goal
 
 pub go_form-returns-in-While : goal.go_form-returns-in-While

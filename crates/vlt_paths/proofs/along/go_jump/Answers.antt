@@ -1,4 +1,3 @@
-use Rattle.std.proofs.Common.{sym, subst}
 use Rattle.vlt_core.specs.View.{func_of}
 use Rattle.vlt_core.specs.Rows.{in_order}
 use Rattle.vlt_paths.proofs.Choosing.{jump_goes}

@@ -1,7 +1,6 @@
 use Rattle.vlt_core.specs.FaultView.{choices_of}
-use Rattle.vlt_core.specs.HeldView.{status_of, wanted_of}
 use Rattle.vlt_core.specs.Maps.{absent}
-use Rattle.vlt_core.specs.View.{program_of, func_of, tok_of}
+use Rattle.vlt_core.specs.View.{program_of, func_of}
 use Rattle.vlt_paths.specs.Shown.{fault_view}
 use Rattle.vlt_paths.proofs.Beginning.{row_shown, no_row_shown, no_body}
 use Rattle.vlt_paths.proofs.judge.is_shown_in.Goals as goal

@@ -1,4 +1,4 @@
-use Rattle.std.proofs.Common.{◌∙◌, ap, length, sym, subst, refl, arith}
+use Rattle.std.proofs.Common.{◌∙◌, ap, length, sym, subst, arith}
 use Rattle.vlt_core.specs.View.{program_of, func_of, entry_of}
 use Rattle.vlt_core.specs.Lookups.{before_set}
 use Rattle.vlt_paths.specs.declared.comes.Comes.TheVariants.{Held, Absent}

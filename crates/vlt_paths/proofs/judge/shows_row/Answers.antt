@@ -1,4 +1,4 @@
-use Rattle.std.proofs.Common.{◌≡◌, ◌↔◌, IsTrue, [], refl, subst}
+use Rattle.std.proofs.Common.{◌↔◌, IsTrue, [], refl, subst}
 use Rattle.vlt_core.specs.FaultView.{choices_of}
 use Rattle.vlt_core.specs.View.{program_of, func_of, tok_of}
 use Rattle.vlt_core.specs.Witness.{Refuses, NoJoin, PathMeets}

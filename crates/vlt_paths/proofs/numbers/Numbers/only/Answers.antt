@@ -1,5 +1,5 @@
 use Rattle.std.proofs.Common.{◌∙◌, ◌==◌}
-use Rattle.vlt_base.specs.States.{is_bit, has_state}
+use Rattle.vlt_base.specs.States.{is_bit}
 use Rattle.vlt_paths.proofs.Sets.{each_same}
 use Rattle.vlt_paths.proofs.numbers.Numbers.only.Goals as goal
 
