@@ -1,4 +1,3 @@
 pub mod Sequences
 pub mod Declarations
 pub mod Places
-pub mod Functions

@@ -1,3 +1,4 @@
 pub mod Placings
 pub mod Sequences
+pub mod Statements
 pub mod Blocks
