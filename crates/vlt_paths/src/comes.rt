@@ -153,7 +153,8 @@ impl Comes {
 
     /// Whether what comes is of the kind that is wanted, in whatever state.
     fn fits(self, wants: Wants) -> bool
-        ensures all { result ≡ true → (o : One) → Brings self o → WantsOne (wants_of wants) o }
+        ensures all { result ≡ true →
+            (o : One) → Brings self o → WantsOne (wants_of wants) o }
         ensures none { result ≡ false → ((n : Numbers) → wants ≡ In n → ⊥) →
             (o : One) → Brings self o → WantsOne (wants_of wants) o → ⊥ }
     {
@@ -168,7 +169,8 @@ impl Comes {
 
     /// Whether something comes that isn't wanted.
     pub fn is_refused(self, wants: Wants) -> bool
-        ensures { IsTrue result ↔ ((o : One) × Brings self o × (WantsOne (wants_of wants) o → ⊥)) }
+        ensures { IsTrue result
+            ↔ ((o : One) × Brings self o × (WantsOne (wants_of wants) o → ⊥)) }
     {
         match wants {
             Wants::In(wanted) => self.is_outside(wanted),
@@ -184,7 +186,8 @@ impl Comes {
 
     /// What is left of it.
     pub fn left_as(self, leaves: Leaves) -> Comes
-        ensures { (q : One) → Brings result q ↔ ((o : One) × Brings self o × LeftBy (leaves_of leaves) o q) }
+        ensures { (q : One) → Brings result q
+            ↔ ((o : One) × Brings self o × LeftBy (leaves_of leaves) o q) }
     {
         if !self.is_some() {
             return Comes::Nothing;

@@ -110,7 +110,8 @@ impl Numbers {
 
     /// Whether some number isn't in the other.
     pub fn exceeds(self, o: Numbers) -> bool
-        ensures { IsTrue result ↔ ((i : ℕ) × IsTrue (holds self i) × (IsTrue (holds o i) → ⊥)) }
+        ensures { IsTrue result
+            ↔ ((i : ℕ) × IsTrue (holds self i) × (IsTrue (holds o i) → ⊥)) }
     {
         if self.mask & !o.mask != 0 {
             return true;
