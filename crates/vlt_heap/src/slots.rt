@@ -121,7 +121,8 @@ pub fn put_kind(kinds: &mut Vec<Kind>, c: u32, kind: Kind)
     requires within { c ≤ length kinds.old.items }
     requires room { c < vec_capacity kinds.old }
     ensures here { slice_get kinds.new.items c ≡ Some kind }
-    ensures others { (d : ℕ) → d ≢ c → slice_get kinds.new.items d ≡ slice_get kinds.old.items d }
+    ensures others { (d : ℕ) → d ≢ c →
+        slice_get kinds.new.items d ≡ slice_get kinds.old.items d }
     ensures long { length kinds.new.items ≡ max (length kinds.old.items) (c + 1) }
     ensures room { vec_capacity kinds.old ≤ vec_capacity kinds.new }
 {
