@@ -2,7 +2,7 @@
 
 ghost use Rattle.std.specs.Prelude.{◌≡◌, ◌≤◌, ◌<◌, ◌+◌, ◌*◌, ◌-◌, ◌++◌, ◌∷◌, ℕ, List, [], filter, length, slice_get, true, MatchOption, Some, None, IfSome, IfOk, IfErr, encode_utf8};
 ghost use Rattle.std.specs.Str.{chars};
-ghost use Rattle.vlt_lexer.specs.Characters.{is_blank, is_digit, is_name_start, value_of, after_line, behind, after_close};
+ghost use Rattle.vlt_lexer.specs.Characters.{is_blank, is_digit, is_name_start, is_name_more, value_of, after_line, behind, after_close};
 ghost use Rattle.vlt_lexer.specs.Steps.{is_in, run, past_run, past_name, spelled, begun, may_begin, keyword_of, sign_of, kind_of, IsNoComment, Holds, IsFound, IsShorter};
 ghost use Rattle.vlt_lexer.specs.Spelling.{word_text, sign_text};
 ghost use Rattle.vlt_lexer.specs.declared.token.TheConstants.Word as words;
@@ -40,7 +40,7 @@ impl Class {
     {
         match self {
             Class::Digit => c.is_ascii_digit(),
-            Class::NameMore => unicode_ident::is_xid_continue(c),
+            Class::NameMore => continues_name(c),
         }
     }
 }
@@ -51,10 +51,25 @@ fn is_blank(c: char) -> bool
     matches!(c, ' ' | '\t' | '\n' | '\r')
 }
 
+// Of an ASCII character both are known without a look into the tables of Unicode.
 fn starts_name(c: char) -> bool
     ensures { result ≡ is_name_start c }
 {
-    c == '_' || unicode_ident::is_xid_start(c)
+    if c.is_ascii() {
+        c.is_ascii_alphabetic() || c == '_'
+    } else {
+        unicode_ident::is_xid_start(c)
+    }
+}
+
+fn continues_name(c: char) -> bool
+    ensures { result ≡ is_name_more c }
+{
+    if c.is_ascii() {
+        c.is_ascii_alphanumeric() || c == '_'
+    } else {
+        unicode_ident::is_xid_continue(c)
+    }
 }
 
 /// The first character, and the text behind it.
