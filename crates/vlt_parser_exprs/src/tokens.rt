@@ -13,9 +13,9 @@ ghost use Rattle.vlt_parser_exprs.specs.Promises.{Advances, Comes, KindComes, Li
 
 use crate::error::ParseError;
 use std::alloc::Global;
-use vlt_base::{Items, Span};
+use vlt_base::Span;
 use vlt_lexer::{Mark, Token, TokenKind, Word};
-use vlt_syntax::Name;
+use vlt_syntax::{Name, NameText};
 
 /// Why nothing goes on with the token at a position.
 pub fn unexpected(tokens: &[Token<'_>], at: usize) -> ParseError
@@ -130,7 +130,7 @@ pub fn name(alloc: Global, tokens: &[Token<'_>], at: usize) -> Result<(Name, usi
 {
     match tokens.get(at) {
         Some(token) if matches!(token.kind, TokenKind::Name) => {
-            let text = Items::from_slice(alloc, token.text)?;
+            let text = NameText::from_slice(alloc, token.text)?;
             Ok((Name { text, at: token.at }, at + 1))
         }
         _ => Err(unexpected(tokens, at)),
@@ -150,7 +150,7 @@ pub fn case_name(
 {
     match tokens.get(at) {
         Some(token) if matches!(token.kind, TokenKind::Tick) => {
-            let text = Items::from_slice(alloc, token.text)?;
+            let text = NameText::from_slice(alloc, token.text)?;
             Ok((Name { text, at: token.at }, at + 1))
         }
         _ => Err(unexpected(tokens, at)),

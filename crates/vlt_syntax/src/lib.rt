@@ -3,8 +3,10 @@
 //! Rests on it: parser, printer, and all that is said of names and types.
 #![tactic(auto)]
 
+mod name_text;
 mod tree;
 
+pub use name_text::NameText;
 pub use tree::{
     Arm, Block, Build, Call, Case, Decl, Else, Entry, Expr, Field, Head, HeaderKey, If, Init,
     KeyStates, Name, Named, Parameter, ResultType, Returned, Right, States, Stmt, Tree, Ty,

@@ -2,6 +2,7 @@
 //!
 //! A span goes from a thing's first byte to behind its last.
 
+use crate::name_text::NameText;
 use vlt_base::{Boxed, Items, Span};
 use vlt_ops::Op;
 
@@ -14,7 +15,7 @@ pub struct Tree {
 /// A name. That of a variant's case has its `'` before it.
 #[derive(Drop)]
 pub struct Name {
-    pub text: Items<u8>,
+    pub text: NameText,
     pub at: Span,
 }
 
