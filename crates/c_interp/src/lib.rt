@@ -13,8 +13,6 @@ mod start;
 mod step;
 mod stop;
 mod task;
-#[cfg(test)]
-mod tests;
 
 pub use machine::CMachine;
 pub use stop::CStop;
