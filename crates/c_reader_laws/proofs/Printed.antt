@@ -10,7 +10,7 @@ use Rattle.c_syntax.specs.Programs.{AreFuncsOf, bodies_of, IsProgramOf}
 use Rattle.c_syntax.specs.Reading.{places_in, IsCProgramOf}
 use Rattle.c_syntax.specs.Canonical.{AreReadable, body_of, AreSorted, IsProgram}
 use Rattle.c_printer_laws.proofs.ReadAgain.{read_again}
-use Rattle.c_reader_laws.specs.Laws.{AreReadAgain}
+use Rattle.c_reader_laws.specs.Laws.{TextsAreReadAgain}
 use Rattle.c_reader_laws.proofs.Unrefused.{kinds_again}
 use Rattle.c_reader_laws.proofs.Readable.{tokens_readable}
 use Rattle.c_reader_laws.proofs.Parts.{readable_again}
@@ -53,5 +53,5 @@ read_programs text p c is =
       fns_sorted = sorted_again (bodies_of false u.bodies) p.fns of.fns;
     }
 
-pub printed : AreReadAgain
+pub printed : TextsAreReadAgain
 printed text p c is = let of = read_programs text p c is in record { is_program = of; again = read_again p of }

@@ -21,5 +21,5 @@ pub record IsReadAgain (p : Program) : Type 0 where
   pub again : ReadsAs (canonical_text p) p
 
 -- so it is with each program that some text stands for
-abbrev pub AreReadAgain : Type 0
-AreReadAgain = (text : List ℕ) (p : Program) (c : Option Span) → IsCProgramOf text p c → IsReadAgain p
+abbrev pub TextsAreReadAgain : Type 0
+TextsAreReadAgain = (text : List ℕ) (p : Program) (c : Option Span) → IsCProgramOf text p c → IsReadAgain p

@@ -4,7 +4,7 @@
 #![tactic(auto)]
 
 ghost use Rattle.std.specs.Prelude.{ℕ, List};
-ghost use Rattle.c_reader_laws.specs.Laws.{AreReadAgain, IsReadInOneWay};
+ghost use Rattle.c_reader_laws.specs.Laws.{TextsAreReadAgain, IsReadInOneWay};
 
 use c_automaton::tokens_are_read_in_one_way;
 
@@ -17,5 +17,5 @@ pub fn texts_are_read_in_one_way()
 
 /// What is printed of a program that some text stands for is a text of the same program.
 pub fn read_programs_are_printed()
-    ensures { AreReadAgain }
+    ensures { TextsAreReadAgain }
 {}
