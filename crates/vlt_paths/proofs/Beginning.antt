@@ -5,16 +5,18 @@ use Rattle.vlt_core.specs.Bodies.{flow_of_stmts}
 use Rattle.vlt_core.specs.Derives.{start_map, status_at_start}
 use Rattle.vlt_core.specs.Found.{One, one_absent, one_held, one_lent, one_full, Has}
 use Rattle.std.proofs.lemmas.List.{drop_all}
-use Rattle.vlt_core.specs.Faults.{FlowFault, at_row}
+use Rattle.vlt_core.specs.Faults.{Spot, IsPresent, FlowFault, at_row, at_join}
 use Rattle.vlt_core.specs.Lookups.{is_held_before, before_set}
 use Rattle.vlt_core.specs.Maps.{Status, Wanted, absent, held, full}
-use Rattle.vlt_core.specs.Witness.{Choice, Refuses, NoJoin, PathMeets, IsWitness, IsWitnessIn}
+use Rattle.vlt_core.specs.Witness.{Choice, Refuses, NoJoin, NoRow, IsJoin, PathMeets, IsWitness, IsWitnessIn}
 use Rattle.vlt_paths.specs.declared.numbers.Numbers.{Numbers}
 use Rattle.vlt_paths.specs.Numbers.{holds}
 use Rattle.vlt_paths.specs.declared.comes.Comes.{Comes}
 use Rattle.vlt_paths.specs.declared.comes.Comes.TheVariants as c
 use Rattle.vlt_paths.specs.Comes.{Brings}
 use Rattle.vlt_paths.specs.Along.{Sought, State, GoesStmts}
+use Rattle.vlt_paths.specs.Pairs.{Two, Sees, IsGone, InStmts, Meet}
+use Rattle.vlt_paths.specs.Shown.{ShowsJoin}
 use Rattle.vlt_core.specs.Found.{Exit}
 
 never : IsTrue false → ⊥
@@ -67,6 +69,19 @@ shown_row p f t P v u r none start g = (
   λ h. (g 0).met.1 (⊎_elim (λ z. inr (h.0, (start h.0).1 h.1, z)) (λ z. absurd z.2) h.2),
 )
 
+module _ (p : Program) (f : Func) (t : Tok) where
+  path_meets : (v : State) → ((o : One) → v.brings o ↔ Has (start_map p f t) o) → (is : One → Type 0) (s : Spot) → Sees v is (InStmts t 0 (flow_of_stmts p f [] f.body)) s ↔ PathMeets p f t NoRow (IsJoin s is) v.left
+  path_meets v start is s = (
+    λ h. (h.0, (start h.0).0 h.1, inl h.2),
+    λ h. (h.0, (start h.0).1 h.1, ⊎_elim (λ z. z) (λ z. absurd z.2) h.2),
+  )
+
+  pub shown_join : (x : Two) (b : Bool) → ((o : One) → x.first.brings o ↔ Has (start_map p f t) o) → ((o : One) → x.second.brings o ↔ Has (start_map p f t) o) → Meet (InStmts t 0 (flow_of_stmts p f [] f.body)) x b → IsTrue b ↔ ShowsJoin p f t x.place x.first.left x.second.left
+  shown_join x b one two m = (
+    λ h. let c = m.same.0 h in (c.0, c.1, (path_meets x.first one IsGone c.0).0 c.2, (path_meets x.second two IsPresent c.0).0 c.3),
+    λ c. m.same.1 (c.0, c.1, (path_meets x.first one IsGone c.0).1 c.2, (path_meets x.second two IsPresent c.0).1 c.3),
+  )
+
 pub looked_all : {X : Type 0} (p : Program) (f : Func) (g : X → Entry) (es : List X) (k i : ℕ) → length es ≤ i → Looked p f g es k i → absent ≡ status_at_start p f (map g es) k
 looked_all p f g es k i past l = ap (λ xs. status_at_start p f (map g xs) k) (sym (drop_all i es past)) ∙ l.same
 
@@ -74,11 +89,14 @@ looked_all p f g es k i past l = ap (λ xs. status_at_start p f (map g xs) k) (s
 pub row_shown : (p : Program) (f : Func) (g at : ℕ) (t : Tok) (found : Status) (wanted : Wanted) (first : List Choice) (b : Bool) → f.external ≡ false → (IsTrue b ↔ PathMeets p f t (Refuses t at wanted) NoJoin first) → IsTrue b ↔ ((f.external ≡ false) × IsWitnessIn p f (record { function = g; at = at; tok = t; kind = at_row found wanted }) first None)
 row_shown p f g at t found wanted first b body e = (λ h. (body, e.0 h), λ x. e.1 x.1)
 
-pub no_row_shown : (p : Program) (f : Func) (x : FlowFault) (first : List Choice) → (IsWitnessIn p f x first None → ⊥) → IsTrue false ↔ ((f.external ≡ false) × IsWitnessIn p f x first None)
-no_row_shown p f x first none = (λ h. absurd (never h), λ y. absurd (none y.1))
+pub join_shown : (p : Program) (f : Func) (g at : ℕ) (t : Tok) (present : Status) (first second : List Choice) (b : Bool) → f.external ≡ false → (IsTrue b ↔ ShowsJoin p f t at first second) → IsTrue b ↔ ((f.external ≡ false) × IsWitnessIn p f (record { function = g; at = at; tok = t; kind = at_join present }) first (Some second))
+join_shown p f g at t present first second b body e = (λ h. (body, e.0 h), λ x. e.1 x.1)
 
-pub no_body : (p : Program) (f : Func) (x : FlowFault) (first : List Choice) → f.external ≡ true → IsTrue false ↔ ((f.external ≡ false) × IsWitnessIn p f x first None)
-no_body p f x first e = (λ h. absurd (never h), λ y. absurd (never (subst IsTrue (sym e ∙ y.0) (search rules))))
+pub not_shown : (p : Program) (f : Func) (x : FlowFault) (first : List Choice) (second : Option (List Choice)) → (IsWitnessIn p f x first second → ⊥) → IsTrue false ↔ ((f.external ≡ false) × IsWitnessIn p f x first second)
+not_shown p f x first second none = (λ h. absurd (never h), λ y. absurd (none y.1))
+
+pub no_body : (p : Program) (f : Func) (x : FlowFault) (first : List Choice) (second : Option (List Choice)) → f.external ≡ true → IsTrue false ↔ ((f.external ≡ false) × IsWitnessIn p f x first second)
+no_body p f x first second e = (λ h. absurd (never h), λ y. absurd (never (subst IsTrue (sym e ∙ y.0) (search rules))))
 
 some_same : (f g : Func) → Some f ≡ Some g → f ≡ g
 some_same f g e = grind arith

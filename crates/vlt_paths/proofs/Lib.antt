@@ -7,3 +7,8 @@ pub mod Going
 pub mod Walking
 pub mod Choosing
 pub mod Beginning
+pub mod Leading
+pub mod Ranges
+pub mod Meeting
+pub mod Joining
+pub mod Pairing

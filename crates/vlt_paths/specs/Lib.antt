@@ -1,4 +1,6 @@
 pub mod Along
+pub mod Legs
+pub mod Pairs
 pub mod Shown
 pub mod Numbers
 pub mod Comes

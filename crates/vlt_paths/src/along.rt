@@ -12,7 +12,8 @@ ghost use Rattle.vlt_core.specs.View.{program_of, func_of, tok_of, expr_of, form
 ghost use Rattle.vlt_core.specs.HeldView.{toks_of};
 ghost use Rattle.vlt_core.specs.FaultView.{choices_of};
 ghost use Rattle.vlt_paths.specs.declared.along.Out.TheVariants.{Continue};
-ghost use Rattle.vlt_paths.specs.Along.{IsBound, AlongForm, AlongBlock, AlongStmts, AlongTurn, exit_of, turned, is_step, jump_out};
+ghost use Rattle.vlt_paths.specs.Along.{state_of, IsBound, AlongForm, AlongBlock, AlongStmts, AlongTurn, exit_of, turned, is_step, jump_out};
+ghost use Rattle.vlt_paths.specs.Legs.{Led, Onward, IsNext};
 
 use crate::passing::{
     is_same_tok, past_arm, past_expr, past_focus, past_focus_end, past_form, past_gone, past_left,
@@ -37,6 +38,18 @@ pub enum Out {
 pub struct Went<'a> {
     pub out: Out,
     pub point: Point<'a>,
+}
+
+impl<'a> Went<'a> {
+    /// The path at the next statement, if it comes there.
+    fn next(self) -> Point<'a>
+        ensures { IsNext self.entry result }
+    {
+        match self.out {
+            Out::Next => self.point,
+            _ => self.point.nowhere(),
+        }
+    }
 }
 
 /// Whether the token is among these.
@@ -241,7 +254,7 @@ fn go_while<'a>(
     }
 }
 
-fn arm_at(arms: &[Arm], position: u8) -> Option<&Arm>
+pub fn arm_at(arms: &[Arm], position: u8) -> Option<&Arm>
     ensures { option_copied result ≡ slice_get arms.now position }
 {
     arms.get(position as usize)
@@ -372,4 +385,21 @@ pub fn go_stmts<'a>(
         out: Out::Next,
         point: here,
     }
+}
+
+/// Behind a statement, at the next one.
+pub fn go_on<'a>(
+    p: &Program,
+    f: &Func,
+    hunt: Hunt,
+    left: bool,
+    form: &Form,
+    at: u32,
+    point: Point<'a>,
+) -> Point<'a>
+    ensures { (ts : List core.Tok) → IsBound hunt ts left → Led (Onward (tok_of hunt.tok) at
+        (flow_of (program_of p.now) (func_of f.now) ts (form_of form.now)))
+        (state_of point.entry) (state_of result) }
+{
+    go_form(p, f, hunt, left, form, at, point).next()
 }

@@ -1,6 +1,6 @@
 //! Whether a path shows a fault.
 
-ghost use Rattle.std.specs.Prelude.{◌≡◌, ◌↔◌, ◌&&◌, ◌==◌, nat_lt, false, IsTrue, None, slice_get};
+ghost use Rattle.std.specs.Prelude.{◌≡◌, ◌↔◌, ◌&&◌, ◌==◌, nat_lt, false, IsTrue, None, Some, slice_get};
 ghost use Rattle.std.specs.Option.{option_map, option_copied};
 ghost use Rattle.vlt_core.specs.Core.{a_key};
 ghost use Rattle.vlt_core.specs.Derives.{start_map};
@@ -11,14 +11,16 @@ ghost use Rattle.vlt_core.specs.Lookups.{is_before, is_held_before, is_owning_va
 ghost use Rattle.vlt_core.specs.View.{program_of, func_of, tok_of, mode_of, entry_of};
 ghost use Rattle.vlt_core.specs.Witness.{IsWitness, IsWitnessIn, PathMeets, Refuses, NoJoin};
 ghost use Rattle.vlt_paths.specs.Comes.{Brings};
-ghost use Rattle.vlt_paths.specs.Shown.{fault_view};
+ghost use Rattle.vlt_paths.specs.Shown.{fault_view, ShowsJoin};
 
 use crate::along::go_stmts;
 use crate::comes::{Comes, Wants};
 use crate::numbers::Numbers;
+use crate::pair::Pair;
 use crate::point::{Hunt, Point, Sought};
+use crate::together::meet_stmts;
 use vlt_base::{FnId, KeyId, VarId};
-use vlt_core::{Choice, Entry, FaultKind, FlowFault, Func, Mode, Program, Tok, Wanted};
+use vlt_core::{Choice, Entry, FaultKind, FlowFault, Func, Mode, Program, Tok, Wanted, Witness};
 use vlt_rows::side_states;
 
 /// Whether a key of this mode is held where the body begins.
@@ -125,5 +127,78 @@ pub fn is_row_witness(p: &Program, fault: &FlowFault, path: &[Choice]) -> bool
     match func_at(p, fault.fn_id) {
         None => false,
         Some(f) => is_shown_in(p, f, fault, path),
+    }
+}
+
+/// Whether both paths come to one join of this place, the first without the token and the second with it.
+fn shows_join(p: &Program, f: &Func, tok: Tok, at: u32, first: &[Choice], second: &[Choice]) -> bool
+    ensures { IsTrue result ↔ ShowsJoin (program_of p.now) (func_of f.now) (tok_of tok) at
+        (choices_of first.now) (choices_of second.now) }
+{
+    let comes = start(p, f, tok);
+    let pair = Pair {
+        place: at,
+        first: Point {
+            comes,
+            rest: first,
+            met: false,
+        },
+        second: Point {
+            comes,
+            rest: second,
+            met: false,
+        },
+    };
+    meet_stmts(
+        p,
+        f,
+        Hunt { tok, row: None },
+        false,
+        f.body.as_slice(),
+        pair,
+    )
+}
+
+/// Whether the paths show the fault in the function.
+fn are_shown_in(
+    p: &Program,
+    f: &Func,
+    fault: &FlowFault,
+    first: &[Choice],
+    second: &[Choice],
+) -> bool
+    ensures { IsTrue result ↔ (((func_of f.now).external ≡ false) ×
+        IsWitnessIn (program_of p.now) (func_of f.now) (fault_view fault.now)
+        (choices_of first.now) (Some (choices_of second.now))) }
+{
+    if f.external {
+        return false;
+    }
+    match fault.kind {
+        FaultKind::Row { .. } => false,
+        FaultKind::Join { .. } => shows_join(p, f, fault.tok, fault.at, first, second),
+    }
+}
+
+/// Whether two paths are a witness of the fault.
+fn is_join_witness(p: &Program, fault: &FlowFault, first: &[Choice], second: &[Choice]) -> bool
+    ensures { IsTrue result ↔ IsWitness (program_of p.now) (fault_view fault.now)
+        (choices_of first.now) (Some (choices_of second.now)) }
+{
+    match func_at(p, fault.fn_id) {
+        None => false,
+        Some(f) => are_shown_in(p, f, fault, first, second),
+    }
+}
+
+/// Whether the choices are those of a witness of the fault: one path to a row that refuses, or two to one join that
+/// disagree there. It takes no memory.
+pub fn is_witness(p: &Program, w: &Witness) -> bool
+    ensures { IsTrue result ↔ IsWitness (program_of p.now) (fault_view w.now.fault)
+        (choices_of w.now.first) (option_map choices_of w.now.second) }
+{
+    match &w.second {
+        None => is_row_witness(p, &w.fault, w.first.as_slice()),
+        Some(second) => is_join_witness(p, &w.fault, w.first.as_slice(), second.as_slice()),
     }
 }

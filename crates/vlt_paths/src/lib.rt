@@ -1,5 +1,5 @@
-//! Paths by their choices: a program, a fault and choices go in, and whether they are a path that shows the fault comes out.
-//! Read of vlt_core `specs/Witness.antt` first, then `specs/Along.antt`.
+//! Paths by their choices: a program, a fault and choices go in, and whether they are paths that show the fault comes out.
+//! Read of vlt_core `specs/Witness.antt` first, then `specs/Along.antt` and `specs/Pairs.antt`.
 //! Whoever is handed a witness tests it here, without the search that found it and without memory.
 #![tactic(auto)]
 
@@ -7,7 +7,9 @@ mod along;
 mod comes;
 mod judge;
 mod numbers;
+mod pair;
 mod passing;
 mod point;
+mod together;
 
-pub use judge::is_row_witness;
+pub use judge::{is_row_witness, is_witness};

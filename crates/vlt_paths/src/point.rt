@@ -1,8 +1,12 @@
 //! A path at a point of a body.
 
-ghost use Rattle.std.specs.Prelude.{◌≡◌, ◌∷◌, List, None, IfSome};
+ghost use Rattle.std.specs.Prelude.{◌≡◌, ◌∷◌, ℕ, List, None, IfSome};
 ghost use Rattle.vlt_core.specs.Witness as w;
+ghost use Rattle.vlt_core.specs.Found.{One};
 ghost use Rattle.vlt_core.specs.FaultView.{pick_of, choices_of};
+ghost use Rattle.vlt_paths.specs.Comes.{Brings};
+ghost use Rattle.vlt_paths.specs.Along.{state_of};
+ghost use Rattle.vlt_paths.specs.Legs.{Led, Takes};
 
 use crate::comes::{Comes, Wants};
 use vlt_core::{Choice, Pick, Tok};
@@ -64,6 +68,49 @@ impl<'a> Point<'a> {
                     },
                 })
             }
+        }
+    }
+
+    /// A path that doesn't come here.
+    pub fn nowhere(self) -> Point<'a>
+        ensures { (o : One) → Brings result.comes o → ⊥ }
+    {
+        Point {
+            comes: Comes::Nothing,
+            rest: &[],
+            met: self.met,
+        }
+    }
+
+    /// Behind this choice, where it is the next one.
+    pub fn take(self, at: u32, pick: Pick) -> Point<'a>
+        ensures { Led (Takes (w.choice at (pick_of pick))) (state_of self.entry) (state_of result) }
+    {
+        match self.choose(at) {
+            None => self.nowhere(),
+            Some(chosen) => {
+                if chosen.pick == pick {
+                    chosen.point
+                } else {
+                    self.nowhere()
+                }
+            }
+        }
+    }
+
+    /// The arm that comes next, where the next choice is one of the switch at this place.
+    pub fn arm(self, at: u32) -> Option<u8>
+        ensures some { IfSome result (λ i. (cs : List w.Choice) ×
+            (choices_of self.entry.rest.now ≡ w.choice at (w.case_arm i) ∷ cs)) }
+        ensures none { result ≡ None → (i : ℕ) (cs : List w.Choice) →
+            choices_of self.entry.rest.now ≡ w.choice at (w.case_arm i) ∷ cs → ⊥ }
+    {
+        match self.choose(at) {
+            None => None,
+            Some(chosen) => match chosen.pick {
+                Pick::Case(position) => Some(position),
+                _ => None,
+            },
         }
     }
 }
