@@ -1,3 +1,4 @@
 pub mod Sequences
 pub mod Declarations
 pub mod Places
+pub mod Functions

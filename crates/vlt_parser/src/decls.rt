@@ -16,13 +16,12 @@ ghost use Rattle.vlt_parser_exprs.specs.Ahead.{ahead, Turns};
 ghost use Rattle.vlt_parser.specs.Declarations.{fields_left, decls_left, can_begin, Ends};
 ghost use Rattle.vlt_parser_exprs.specs.Promises.{Advances, Holds, Lies, MayAdvance, MayBe, Spells, Takes};
 
+use crate::heads::head;
 use std::alloc::Global;
-use vlt_base::{Items, limit};
+use vlt_base::{CASES, DECLARATIONS, DEPTH, FIELDS, Items, STATES, limit};
 use vlt_lexer::{Mark, Token, TokenKind, Word};
 use vlt_parser_exprs::ParseError;
 use vlt_parser_exprs::headers::header;
-use vlt_parser_exprs::heads::head;
-use vlt_parser_exprs::limits::{CASES, DECLS, DEPTH, FIELDS, STATES};
 use vlt_parser_exprs::lists::{allow_one_more, bound, some_listed};
 use vlt_parser_exprs::tokens::{keyword, kind, name, sign, span, unexpected};
 use vlt_parser_exprs::types::{at_states, marked_name, states, ty};
@@ -328,7 +327,7 @@ pub fn decls(alloc: Global, tokens: &[Token<'_>]) -> Result<Items<Decl>, ParseEr
     ensures few { IfOk result (λ x. AtMost language.decls (map decl_of x)) }
     ensures place { Ends (automaton.decls (decls_left 0)) tokens.now result }
 {
-    let most = Some(bound(DECLS));
+    let most = Some(bound(DECLARATIONS));
     let mut decls = Items::new(alloc);
     let mut here = 0;
     while here < tokens.len() {

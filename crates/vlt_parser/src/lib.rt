@@ -10,6 +10,7 @@ ghost use Rattle.vlt_syntax.specs.View.{tree_of};
 ghost use Rattle.vlt_parser.specs.Refusals.{IsRefusedFor};
 
 mod decls;
+mod heads;
 
 use std::alloc::Global;
 use vlt_lexer::Token;

@@ -12,7 +12,7 @@ use Rattle.vlt_syntax.specs.Grammar.{language, level}
 use Rattle.vlt_automaton.specs.Language.{Symbol, Reaction, Thing, Pending, Left, Located, run, followed, settled, gone_on, reaction_behind, may_skip, depth_read, on_sign}
 use Rattle.vlt_parser_exprs.specs.declared.error.ParseError.{ParseError}
 use Rattle.vlt_parser_exprs.specs.declared.error.ParseError.TheVariants.{Limit}
-use Rattle.vlt_parser_exprs.proofs.Runs.{fails_with, begins, operand_takes}
+use Rattle.vlt_parser_exprs.proofs.Runs.{fails_with, begins, name_takes, operand_takes}
 use Rattle.vlt_parser_exprs.specs.Ahead.{Begins, LacksSign, refusal, Fails, BeginsOperator, next_level, level_of, sign_level, sign_in}
 
 pub operand_named : (text : List ℕ) (room : ℕ) (fs : List Pending) (s : List Symbol) (ts rest : List Located) → Begins (t.name text) ts rest
@@ -173,3 +173,7 @@ expr_is s ts = begins (m.thing m.an_expr) (m.operand language.depth m.whole_expr
 pub expr_ended : (depth : ℕ) (s : List Symbol) (ts : List Located) → next_level ts < 2 → run (m.operations depth m.whole_expr ∷ m.end_expr ∷ s) ts ≡ run s ts
 expr_ended depth s [] ends = refl
 expr_ended depth s (x ∷ xs) ends = rw (no_operator depth m.whole_expr x.token ends) refl
+
+-- a field with its value
+pub init_is : (s : List Symbol) (ts : List Located) → run (m.thing m.an_init ∷ s) ts ≡ run (m.name ∷ m.sign mark.Colon ∷ m.thing m.an_expr ∷ s) ts
+init_is s ts = begins (m.thing m.an_init) m.name (m.sign mark.Colon ∷ m.thing m.an_expr ∷ []) refl refl (λ x. refl) name_takes s ts

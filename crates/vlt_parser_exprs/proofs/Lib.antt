@@ -3,6 +3,5 @@ pub mod Separated
 pub mod Placings
 pub mod Runs
 pub mod Expressions
-pub mod Sides
 pub mod Functions
 pub mod Variants

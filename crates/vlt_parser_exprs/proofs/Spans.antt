@@ -3,9 +3,8 @@ use Rattle.std.proofs.Common.{◌≡◌, ℕ, zero, suc, ◌+◌, ◌-◌, List,
 use Rattle.vlt_base.specs.declared.places.Span.{Span}
 use Rattle.vlt_lexer.specs.declared.token.Token.{Token as Placed}
 use Rattle.vlt_lexer.specs.Text.{lexemes}
-use Rattle.vlt_syntax.specs.Tree as s
 use Rattle.vlt_syntax.specs.Tree.{Name}
-use Rattle.vlt_syntax.specs.Places.{name_at, right_at}
+use Rattle.vlt_syntax.specs.Places.{name_at}
 use Rattle.vlt_parser_exprs.specs.Reading.{spans, Stands}
 
 from_of : (tokens : List Placed) (i : ℕ) (d : Placed) → d.at.from ≡ 0 → (slice_index_or tokens i d).at.from ≡ slice_index_or (map (λ l. l.from) (lexemes tokens)) i 0
@@ -36,13 +35,3 @@ one_span tokens i x is =
 
 pub name_stands : (tokens : List Placed) (i : ℕ) (x : Placed) (text : List ℕ) → ((d : Placed) → x ≡ slice_index_or tokens i d) → Stands name_at tokens i (record { text = text; at = x.at }) (i + 1)
 name_stands tokens i x text is = ap (λ at. let n : Name = record { text = text; at = at } in (n, i + 1)) (one_span tokens i x is)
-
-pub input_stands : (tokens : List Placed) (at next : ℕ) (span : Span) → next ≡ at + 1 + 1 + 1 → span ≡ spans tokens at next → Stands right_at tokens at (s.input span) next
-input_stands tokens at next span is same =
-    let three : at + 3 ≡ next = omega (arith, is) in
-    ap (λ n. (s.input (spans tokens at n), n)) three ∙ ap (λ z. (s.input z, next)) (sym same)
-
-pub more_stands : (tokens : List Placed) (at next : ℕ) (span : Span) → next ≡ at + 1 + 1 + 1 → span ≡ spans tokens at next → Stands right_at tokens at (s.more span) next
-more_stands tokens at next span is same =
-    let three : at + 3 ≡ next = omega (arith, is) in
-    ap (λ n. (s.more (spans tokens at n), n)) three ∙ ap (λ z. (s.more z, next)) (sym same)

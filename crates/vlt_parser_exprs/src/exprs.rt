@@ -1,29 +1,28 @@
-//! Expressions, by precedence climbing.
+//! Expressions, by precedence climbing, and fields with their values.
 
 ghost use Rattle.std.specs.Prelude.{◌≡◌, ◌≢◌, ◌∷◌, [], ◌+◌, ◌<◌, ◌≤◌, ℕ, suc, List, IfOk, IfErr, IfSome, IfNone, Some};
 ghost use Rattle.vlt_ops.specs.Operator.{row_of};
 ghost use Rattle.vlt_lexer.specs.declared.token.Mark.TheVariants.{OpenParen};
 ghost use Rattle.vlt_syntax.specs.Tokens.{sign as a_sign};
-ghost use Rattle.vlt_syntax.specs.Tree.{Expr as SeenExpr};
-ghost use Rattle.vlt_syntax.specs.Spelling.{sign_of, operator_of, prefix_of, expr_then};
-ghost use Rattle.vlt_syntax.specs.Grammar.{level, BindsFrom, depth as depth_of, IsExpr, language};
-ghost use Rattle.vlt_syntax.specs.Places.{expr_at};
-ghost use Rattle.vlt_syntax.specs.View.{expr_of};
-ghost use Rattle.vlt_parser_exprs.specs.declared.error.ParseError.TheVariants.{Limit};
+ghost use Rattle.vlt_syntax.specs.Tree.{Expr as SeenExpr, Init as SeenInit, binary as a_binary};
+ghost use Rattle.vlt_syntax.specs.Spelling.{sign_of, operator_of, prefix_of, expr_then, init_then};
+ghost use Rattle.vlt_syntax.specs.Grammar.{level, BindsFrom, depth as depth_of, IsExpr, IsInit, language};
+ghost use Rattle.vlt_syntax.specs.Places.{expr_at, init_at};
+ghost use Rattle.vlt_syntax.specs.View.{expr_of, init_of};
+ghost use Rattle.vlt_parser_exprs.specs.declared.error.ParseError.TheVariants.{Limit, Memory};
 ghost use Rattle.vlt_automaton.specs.Language as automaton;
 ghost use Rattle.vlt_parser_exprs.specs.Reading.{left, Moves, Stands};
 ghost use Rattle.vlt_parser_exprs.specs.Ahead.{ahead, next_level, Begins, Turns};
 ghost use Rattle.vlt_parser_exprs.specs.Promises.{Advances, Holds, Lies, OperatorComes, Spells, Takes};
 
 use crate::error::ParseError;
-use crate::limits::DEPTH;
 use crate::lists::Part;
 use crate::tokens::{behind_sign, kind, name, next_sign, sign, span, unexpected};
 use std::alloc::Global;
-use vlt_base::{Boxed, limit};
+use vlt_base::{Boxed, DEPTH, Span, limit};
 use vlt_lexer::{Mark, Token, TokenKind, Word};
 use vlt_ops::{Op, row};
-use vlt_syntax::Expr;
+use vlt_syntax::{Expr, Init};
 
 /// An expression with its depth, from 1.
 #[derive(Drop)]
@@ -240,6 +239,23 @@ fn unary(
     Ok((Deep { expr, depth }, next))
 }
 
+/// Two expressions with an operator between them.
+#[tactic(auto, using(vlt_syntax::proofs::Viewing::binary_seen))]
+fn binary(alloc: Global, op: Op, left: Expr, right: Expr, at: Span) -> Result<Expr, ParseError>
+    ensures made { IfOk result (λ e. expr_of e ≡
+        a_binary op (expr_of left) (expr_of right) at) }
+    ensures memory { IfErr result (λ e. e ≡ Memory) }
+{
+    let left = Boxed::new(alloc, left)?;
+    let right = Boxed::new(alloc, right)?;
+    Ok(Expr::Binary {
+        op,
+        left,
+        right,
+        at,
+    })
+}
+
 /// The longest expression whose operators outside of operands are of level `least` or above.
 #[tactic(auto, using(crate::proofs::Expressions::operator_goes_on, crate::proofs::Expressions::operator_full, crate::proofs::Expressions::right_ended))]
 #[cycle(expression)]
@@ -270,12 +286,8 @@ fn expression(
         let inside = deeper(first.depth, room)?;
         let (second, behind) = expression(alloc, tokens, here + 1, next.level + 1, inside)?;
         let depth = first.depth.max(second.depth) + 1;
-        let expr = Expr::Binary {
-            op: next.op,
-            left: Boxed::new(alloc, first.expr)?,
-            right: Boxed::new(alloc, second.expr)?,
-            at: span(tokens, at, behind),
-        };
+        let both = span(tokens, at, behind);
+        let expr = binary(alloc, next.op, first.expr, second.expr, both)?;
         first = Deep { expr, depth };
         here = behind;
     }
@@ -310,5 +322,27 @@ impl Part for Expr {
 
     fn part(alloc: Global, tokens: &[Token<'_>], at: usize) -> Result<(Expr, usize), ParseError> {
         expr(alloc, tokens, at)
+    }
+}
+
+impl Part for Init {
+    ghost Seen = { SeenInit };
+
+    ghost view = { init_of };
+
+    ghost spell = { init_then };
+
+    ghost places = { init_at };
+
+    ghost right = { IsInit language };
+
+    ghost thing = { automaton.an_init };
+
+    #[tactic(auto, using(crate::proofs::Expressions::init_is))]
+    fn part(alloc: Global, tokens: &[Token<'_>], at: usize) -> Result<(Init, usize), ParseError> {
+        let (field, next) = name(alloc, tokens, at)?;
+        let next = sign(tokens, next, Mark::Colon)?;
+        let (value, next) = expr(alloc, tokens, next)?;
+        Ok((Init { field, value }, next))
     }
 }

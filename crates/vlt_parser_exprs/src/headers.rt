@@ -10,12 +10,11 @@ ghost use Rattle.vlt_automaton.specs.Language as automaton;
 ghost use Rattle.vlt_parser_exprs.specs.Promises.{Advances, Holds, Lies, MayAdvance, Spells, Takes};
 
 use crate::error::ParseError;
-use crate::limits::{PARAMETERS, PAYLOAD};
 use crate::lists::{Part, bound, enclosed};
 use crate::tokens::{case_name, name, span};
 use crate::types::marked_name;
 use std::alloc::Global;
-use vlt_base::Items;
+use vlt_base::{Items, PARAMETERS, PAYLOADS};
 use vlt_lexer::{Mark, Token};
 use vlt_syntax::{Case, HeaderKey};
 
@@ -61,31 +60,6 @@ pub fn header(
     enclosed(alloc, tokens, at, Mark::Less, Mark::Greater, most)
 }
 
-/// A case of a variant.
-#[tactic(auto, using(crate::proofs::Variants::case_is))]
-fn case(alloc: Global, tokens: &[Token<'_>], at: usize) -> Result<(Case, usize), ParseError>
-    ensures spelled { Spells case_of case_then tokens.now at result }
-    ensures placed { Lies case_of case_at tokens.now at result }
-    ensures right { Holds case_of (IsCase language) result }
-    ensures moves { Advances tokens.now at result }
-    ensures place { Takes (automaton.thing automaton.a_case ∷ []) tokens.now at result }
-{
-    let (name, next) = case_name(alloc, tokens, at)?;
-    let most = Some(bound(PAYLOAD));
-    let (payload, next) = enclosed(alloc, tokens, next, Mark::OpenParen, Mark::CloseParen, most)?;
-    let (keys, next) = enclosed(alloc, tokens, next, Mark::OpenBrace, Mark::CloseBrace, None)?;
-    let at = span(tokens, at, next);
-    Ok((
-        Case {
-            name,
-            payload,
-            keys,
-            at,
-        },
-        next,
-    ))
-}
-
 impl Part for Case {
     ghost Seen = { SeenCase };
 
@@ -99,7 +73,28 @@ impl Part for Case {
 
     ghost thing = { automaton.a_case };
 
+    #[tactic(auto, using(crate::proofs::Variants::case_is))]
     fn part(alloc: Global, tokens: &[Token<'_>], at: usize) -> Result<(Case, usize), ParseError> {
-        case(alloc, tokens, at)
+        let (name, next) = case_name(alloc, tokens, at)?;
+        let most = Some(bound(PAYLOADS));
+        let (payload, next) = enclosed(
+            alloc,
+            tokens,
+            next,
+            Mark::OpenParen,
+            Mark::CloseParen,
+            most,
+        )?;
+        let (keys, next) = enclosed(alloc, tokens, next, Mark::OpenBrace, Mark::CloseBrace, None)?;
+        let at = span(tokens, at, next);
+        Ok((
+            Case {
+                name,
+                payload,
+                keys,
+                at,
+            },
+            next,
+        ))
     }
 }

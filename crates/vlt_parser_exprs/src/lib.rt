@@ -1,16 +1,14 @@
-//! Parts of the parser: from the position of a token a list, a type, an expression, a right side, a head
-//! or a case, and the position behind it.
+//! Parts of the parser: from the position of a token a list, a type, an expression, an entry or a
+//! case, and the position behind it.
 //! Read `specs/Promises.antt` first.
-//! `vlt_parser_stmts` and `vlt_parser` rest on it.
+//! `vlt_parser_simple`, `vlt_parser_stmts` and `vlt_parser` rest on it.
 #![tactic(auto)]
 
 mod error;
 pub mod exprs;
 pub mod headers;
 pub mod heads;
-pub mod limits;
 pub mod lists;
-pub mod rights;
 pub mod tokens;
 pub mod types;
 

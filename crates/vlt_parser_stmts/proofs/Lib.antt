@@ -1,4 +1,3 @@
 pub mod Placings
 pub mod Sequences
-pub mod Statements
 pub mod Blocks

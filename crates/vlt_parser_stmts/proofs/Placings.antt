@@ -6,7 +6,7 @@ use Rattle.vlt_syntax.specs.Tree as s
 use Rattle.vlt_syntax.specs.Places.{expr_at, stmt_at, block_at, if_at, else_at, stmts_at, arms_at}
 use Rattle.vlt_syntax.specs.View.{ArmView, stmts_made, arms_made}
 use Rattle.vlt_parser_exprs.specs.Reading.{spans, Stands}
-use Rattle.vlt_parser_stmts.specs.Statements.{condition_at}
+use Rattle.vlt_parser_simple.specs.Simple.{condition_at}
 use Rattle.vlt_parser_exprs.proofs.Placings.{parts, both}
 
 same_next : (x y : s.Stmt) (xs ys : s.Stmts) → s.next x xs ≡ s.next y ys → (x ≡ y) × (xs ≡ ys)

@@ -1,24 +1,15 @@
 -- What parts of the parser say of statements.
-use Rattle.std.specs.Prelude.{ℕ, List, ◌∷◌}
+use Rattle.std.specs.Prelude.{List, ◌∷◌}
 use Rattle.vlt_lexer.specs.declared.token.Mark.TheVariants as mark
 use Rattle.vlt_lexer.specs.declared.token.Word.TheVariants as word
 use Rattle.vlt_syntax.specs.Tokens.{Token, sign, keyword}
-use Rattle.vlt_syntax.specs.Tree.{Name, Expr, Arms, Stmt}
+use Rattle.vlt_syntax.specs.Tree.{Name, Arms}
 use Rattle.vlt_syntax.specs.Spelling.{name_then}
-use Rattle.vlt_syntax.specs.Grammar.{language, IsStmt}
-use Rattle.vlt_syntax.specs.Places.{Placing, made, ◌◂◌, ◌⊛◌, name_at, expr_at, arms_at}
-
--- a statement of the language that has no block in it, so it may stand at every depth
-abbrev pub IsSimple : Stmt → Type 0
-IsSimple s = (room : ℕ) → IsStmt language room s
+use Rattle.vlt_syntax.specs.Places.{Placing, made, ◌◂◌, ◌⊛◌, name_at, arms_at}
 
 -- `focus`, the variable, `as`, `tracked`, the key in parentheses, and the new name
 abbrev pub focus_then : (variable key alias : Name) → List Token → List Token
 focus_then x k z rest = keyword word.Focus ∷ name_then x (keyword word.As ∷ keyword word.Tracked ∷ sign mark.OpenParen ∷ name_then k (sign mark.CloseParen ∷ name_then z rest))
-
--- an expression with its parentheses
-abbrev pub condition_at : Expr → Placing Expr
-condition_at e = made (λ x. x) ◂ 1 ⊛ expr_at e ◂ 1
 
 -- arms with the closing brace behind them
 abbrev pub rows_at : Arms → Placing Arms

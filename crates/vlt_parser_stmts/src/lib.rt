@@ -1,10 +1,9 @@
-//! Parts of the parser: from the position of a token a block with its statements, and the position
+//! A part of the parser: from the position of a token a block with its statements, and the position
 //! behind it.
 //! Read `vlt_parser_exprs/specs/Promises.antt` first.
 //! `vlt_parser` rests on it.
 #![tactic(auto)]
 
-mod simple;
 mod stmts;
 
 pub use stmts::block;

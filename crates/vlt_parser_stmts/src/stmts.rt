@@ -15,14 +15,13 @@ ghost use Rattle.vlt_parser_exprs.specs.Reading.{left, Stands};
 ghost use Rattle.vlt_parser_stmts.specs.Statements.{focus_then, focus_at, rows_at};
 ghost use Rattle.vlt_parser_exprs.specs.Promises.{Advances, Holds, KindComes, Lies, MayAdvance, Spells, Takes};
 
-use crate::simple::{condition, simple};
 use std::alloc::Global;
-use vlt_base::{Boxed, Items};
+use vlt_base::{Boxed, DEPTH, Items};
 use vlt_lexer::{Mark, Token, TokenKind, Word};
 use vlt_parser_exprs::ParseError;
-use vlt_parser_exprs::limits::DEPTH;
 use vlt_parser_exprs::lists::enclosed;
 use vlt_parser_exprs::tokens::{behind_sign, case_name, keyword, kind, name, sign, span};
+use vlt_parser_simple::simple::{condition, simple};
 use vlt_syntax::{Arm, Block, Else, If, Name, Stmt};
 
 /// Whether one more block may stand here.

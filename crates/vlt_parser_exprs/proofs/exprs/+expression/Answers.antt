@@ -1,7 +1,6 @@
 use Rattle.std.proofs.Common.{◌≡◌, ◌≤◌, ◌+◌, suc, max, Err, [], ◌∷◌, ap, sym, subst, ◌∙◌, rules, arith}
 use Rattle.std.proofs.lemmas.Grind.{common_steps}
 use Rattle.vlt_lexer.specs.declared.token.TokenKind.TheVariants.{Name}
-use Rattle.vlt_syntax.specs.declared.tree.Expr.TheVariants.{Binary}
 use Rattle.vlt_syntax.specs.Tree as s
 use Rattle.vlt_syntax.specs.View.{expr_of}
 use Rattle.vlt_automaton.specs.Language as m
@@ -9,7 +8,7 @@ use Rattle.vlt_automaton.specs.Language.{run}
 use Rattle.vlt_parser_exprs.specs.Ahead.{ahead, refusal, BeginsWith}
 use Rattle.vlt_parser_exprs.proofs.Expressions.{operator_goes_on, right_ended, group_opens, group_stays_open, operand_named}
 use Rattle.vlt_syntax.specs.Grammar.{level}
-use Rattle.vlt_syntax.proofs.Viewing.{unary_seen, binary_seen}
+use Rattle.vlt_syntax.proofs.Viewing.{unary_seen}
 use Rattle.vlt_parser_exprs.proofs.exprs.+expression.Goals as goal
 
 pub unary-returns-clause-binds : goal.unary-returns-clause-binds
@@ -30,8 +29,7 @@ expression-loop-next-preserved t c =
     let right = ahead tokens (c.loop-next.here + 1) in
     let behind = ahead tokens c.in_ok-second.behind in
     let deeper : suc (max first second) ≡ c.max-depth.result + 1 = first_of (search rules, grind (arith, common_steps)) in
-    let seen : expr_of (Binary op c.in_ok-new.field-0 c.in_ok-new-2.field-0 c.span.result) ≡ s.binary op (expr_of c.loop-next.first.expr) (expr_of c.in_ok-second.second.expr) c.span.result =
-    rw (c.in_ok-new.ensures, c.in_ok-new-2.ensures) (binary_seen op c.loop-next.first.expr c.in_ok-second.second.expr c.span.result) in
+    let seen : expr_of c.in_ok-expr.expr ≡ s.binary op (expr_of c.loop-next.first.expr) (expr_of c.in_ok-second.second.expr) c.span-both.result = c.in_ok-expr.ensures.made in
     record {
       spelled = rw seen (first_of (search rules, grind (arith, common_steps)));
       stands = rw seen (first_of (search rules, grind (arith, common_steps)));

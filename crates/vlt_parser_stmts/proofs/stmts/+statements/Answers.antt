@@ -7,6 +7,7 @@ use Rattle.vlt_syntax.specs.Grammar.{AreArms, language}
 use Rattle.vlt_syntax.proofs.Viewing.{while_seen, if_seen}
 use Rattle.vlt_syntax.specs.View.{expr_of, block_of, else_of, stmt_of, stmts_made, arm_of, arms_of, arms_made}
 use Rattle.std.proofs.lemmas.Grind.{common_steps}
+use Rattle.std.proofs.lemmas.Result.{err_from_is_err_and}
 use Rattle.vlt_lexer.specs.declared.token.Word.TheVariants as word
 use Rattle.vlt_lexer.specs.declared.token.Mark.TheVariants as mark
 use Rattle.vlt_automaton.specs.Language as m
@@ -148,6 +149,17 @@ switch-returns-in_err-arms-clause-place t c =
     ∙ c.in_ok-next-3.ensures.place (m.sign mark.OpenBrace ∷ m.arm c.args.room ∷ m.arms c.args.room ∷ s)
     ∙ c.in_ok-next-4.ensures.place (m.arm c.args.room ∷ m.arms c.args.room ∷ s)
     ∙ c.in_err-arms.ensures.place s f told)
+
+pub if_stmt-returns-in_err-otherwise-clause-place : goal.if_stmt-returns-in_err-otherwise-clause-place
+if_stmt-returns-in_err-otherwise-clause-place t c =
+    let places = ahead c.args.tokens.now in
+    let is : c.from_residual-in_err-otherwise.result ≡ Err c.in_err-otherwise.field-0.0 =
+    let told = err_from_is_err_and c.from_residual-in_err-otherwise.result c.from_residual-in_err-otherwise.ensures.1 in told.1 ∙ ap Err told.2 in
+    rw is (λ s f told.
+    stmt_enters (keyword word.If) c.args.room (m.sign mark.OpenParen ∷ m.thing m.an_expr ∷ m.sign mark.CloseParen ∷ m.block c.args.room ∷ m.otherwise c.args.room ∷ []) s (places c.args.at) (places c.in_ok-next.next) refl c.in_ok-enter.ensures.some c.in_ok-next.ensures.takes
+    ∙ c.in_ok-condition.ensures.place (m.block c.args.room ∷ m.otherwise c.args.room ∷ s)
+    ∙ c.in_ok-then_block.ensures.place (m.otherwise c.args.room ∷ s)
+    ∙ c.in_err-otherwise.ensures.place s f told)
 
 pub while_stmt-returns-clause-placed : goal.while_stmt-returns-clause-placed
 while_stmt-returns-clause-placed t c =
