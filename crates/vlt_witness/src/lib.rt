@@ -12,3 +12,4 @@ mod single;
 mod ways;
 
 pub use explain::witness;
+pub use vlt_paths::{is_row_witness, is_witness};
