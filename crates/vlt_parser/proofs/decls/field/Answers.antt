@@ -1,5 +1,6 @@
-use Rattle.std.proofs.Common.{◌≡◌, Err, ◌∷◌, ◌∙◌, rules, arith}
+use Rattle.std.proofs.Common.{◌≡◌, Err, ◌∷◌, ◌∙◌, ap, rules, arith}
 use Rattle.std.proofs.lemmas.Grind.{common_steps}
+use Rattle.std.proofs.lemmas.Result.{err_from_is_err_and}
 use Rattle.vlt_lexer.specs.declared.token.Mark.TheVariants as mark
 use Rattle.vlt_automaton.specs.Language as m
 use Rattle.vlt_parser.proofs.decls.field.Goals as goal
@@ -15,3 +16,10 @@ returns-in_err-name-clause-place c =
     let is : c.from_residual-in_err-name.result ≡ Err c.in_err-name.field-0.0 = first_of (search rules, grind (arith, common_steps)) in
     rw is (λ s f told. c.in_ok-ty.ensures.place (m.name ∷ m.at_states ∷ m.sign mark.Semicolon ∷ s)
     ∙ c.in_err-name.ensures.place (m.at_states ∷ m.sign mark.Semicolon ∷ s) f told)
+
+pub returns-in_err-next-clause-place : goal.returns-in_err-next-clause-place
+returns-in_err-next-clause-place c =
+    let is : c.from_residual-in_err-next.result ≡ Err c.in_err-next.field-0.0 =
+    let told = err_from_is_err_and c.from_residual-in_err-next.result c.from_residual-in_err-next.ensures.1 in told.1 ∙ ap Err told.2 in
+    rw is (λ s f told. c.in_ok-ty.ensures.place (m.name ∷ m.at_states ∷ m.sign mark.Semicolon ∷ s) ∙ c.in_ok-name.ensures.place (m.at_states ∷ m.sign mark.Semicolon ∷ s)
+    ∙ c.in_ok-states.ensures.place (m.sign mark.Semicolon ∷ s) ∙ c.in_err-next.ensures.place s f told)

@@ -1,5 +1,6 @@
-use Rattle.std.proofs.Common.{◌≡◌, Err, ◌∷◌, ◌∙◌, rules, arith}
+use Rattle.std.proofs.Common.{◌≡◌, Err, ◌∷◌, ◌∙◌, ap, rules, arith}
 use Rattle.std.proofs.lemmas.Grind.{common_steps}
+use Rattle.std.proofs.lemmas.Result.{err_from_is_err_and}
 use Rattle.vlt_automaton.specs.Language as m
 use Rattle.vlt_parser.specs.Declarations.{fields_left}
 use Rattle.vlt_parser.proofs.decls.struct_decl.Goals as goal
@@ -13,3 +14,9 @@ pub returns-in_err-release-clause-place : goal.returns-in_err-release-clause-pla
 returns-in_err-release-clause-place c =
     let is : c.from_residual-in_err-release.result ≡ Err c.in_err-release.field-0.0 = first_of (search rules, grind (arith, common_steps)) in
     rw is (λ s f told. c.in_ok-head.ensures.place (m.fields (fields_left 0) ∷ s) ∙ c.in_ok-fields.ensures.place s ∙ c.in_err-release.ensures.place s f told)
+
+pub returns-in_err-next-clause-place : goal.returns-in_err-next-clause-place
+returns-in_err-next-clause-place c =
+    let is : c.from_residual-in_err-next.result ≡ Err c.in_err-next.field-0.0 =
+    let told = err_from_is_err_and c.from_residual-in_err-next.result c.from_residual-in_err-next.ensures.1 in told.1 ∙ ap Err told.2 in
+    rw is (λ s f told. c.in_ok-head.ensures.place (m.fields (fields_left 0) ∷ s) ∙ c.in_ok-fields.ensures.place s ∙ c.in_ok-release.ensures.place s ∙ c.in_err-next.ensures.place s f told)
