@@ -22,7 +22,7 @@ use std::alloc::Global;
 use vlt_base::{Boxed, DEPTH, Span, limit};
 use vlt_lexer::{Mark, Token, TokenKind, Word};
 use vlt_ops::{Op, row};
-use vlt_syntax::{Expr, Init};
+use vlt_syntax::{Expr, Init, Operands};
 
 /// An expression with its depth, from 1.
 #[derive(Drop)]
@@ -246,14 +246,8 @@ fn binary(alloc: Global, op: Op, left: Expr, right: Expr, at: Span) -> Result<Ex
         a_binary op (expr_of left) (expr_of right) at) }
     ensures memory { IfErr result (λ e. e ≡ Memory) }
 {
-    let left = Boxed::new(alloc, left)?;
-    let right = Boxed::new(alloc, right)?;
-    Ok(Expr::Binary {
-        op,
-        left,
-        right,
-        at,
-    })
+    let operands = Boxed::new(alloc, Operands { left, right })?;
+    Ok(Expr::Binary { op, operands, at })
 }
 
 /// The longest expression whose operators outside of operands are of level `least` or above.

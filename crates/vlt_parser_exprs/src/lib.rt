@@ -7,7 +7,7 @@
 mod error;
 pub mod exprs;
 pub mod headers;
-pub mod heads;
+pub mod parameters;
 pub mod lists;
 pub mod tokens;
 pub mod types;

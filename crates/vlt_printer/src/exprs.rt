@@ -10,7 +10,7 @@ use crate::types::write_name;
 use itoa::Buffer;
 use vlt_base::Memory;
 use vlt_ops::row;
-use vlt_syntax::Expr;
+use vlt_syntax::{Expr, Operands};
 
 impl Part for Expr {
     ghost Seen = { SeenExpr };
@@ -49,17 +49,13 @@ pub fn write_expr(out: &mut Vec<u8>, expr: &Expr) -> Result<(), Memory>
             write_text(out, row(*op).sign.as_bytes())?;
             write_expr(out, operand.get())
         }
-        Expr::Binary {
-            op,
-            left,
-            right,
-            ..
-        } => {
-            write_expr(out, left.get())?;
+        Expr::Binary { op, operands, .. } => {
+            let Operands { left, right } = operands.get();
+            write_expr(out, left)?;
             write_text(out, b" ")?;
             write_text(out, row(*op).sign.as_bytes())?;
             write_text(out, b" ")?;
-            write_expr(out, right.get())
+            write_expr(out, right)
         }
     }
 }

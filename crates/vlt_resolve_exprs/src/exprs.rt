@@ -23,7 +23,7 @@ use vlt_core::{FieldDecl, Ty, TypeDecl};
 use vlt_kinds::Kinds;
 use vlt_kinds_names::Found;
 use vlt_ops::{Op, Takes, row};
-use vlt_syntax::{Expr, Name};
+use vlt_syntax::{Expr, Name, Operands};
 
 #[tactic(auto, unfolding(crate::specs::Exprs::expr_place))]
 pub fn place(expr: &Expr) -> u32
@@ -264,14 +264,10 @@ pub fn core_expr(
             let a = core_expr(alloc, kinds, scope, operand.get())?;
             Ok(vlt_core::Expr::Un(*op, Boxed::new(alloc, a)?))
         }
-        Expr::Binary {
-            op,
-            left,
-            right,
-            ..
-        } => {
-            let a = core_expr(alloc, kinds, scope, left.get())?;
-            let b = core_expr(alloc, kinds, scope, right.get())?;
+        Expr::Binary { op, operands, .. } => {
+            let Operands { left, right } = operands.get();
+            let a = core_expr(alloc, kinds, scope, left)?;
+            let b = core_expr(alloc, kinds, scope, right)?;
             Ok(vlt_core::Expr::Bin(*op, Boxed::new(alloc, a)?, Boxed::new(alloc, b)?))
         }
     }
@@ -558,16 +554,12 @@ pub fn check_expr(
             check_unary_given(alloc, kinds, scope, *op, operand.get(), found)?;
             Ok(())
         }
-        Expr::Binary {
-            op,
-            left,
-            right,
-            ..
-        } => {
-            check_expr(alloc, kinds, scope, left.get(), found)?;
-            check_left_given(alloc, kinds, scope, *op, left.get(), found)?;
-            check_expr(alloc, kinds, scope, right.get(), found)?;
-            check_right_given(alloc, kinds, scope, *op, left.get(), right.get(), found)?;
+        Expr::Binary { op, operands, .. } => {
+            let Operands { left, right } = operands.get();
+            check_expr(alloc, kinds, scope, left, found)?;
+            check_left_given(alloc, kinds, scope, *op, left, found)?;
+            check_expr(alloc, kinds, scope, right, found)?;
+            check_right_given(alloc, kinds, scope, *op, left, right, found)?;
             Ok(())
         }
     }

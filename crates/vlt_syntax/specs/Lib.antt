@@ -1,3 +1,4 @@
+pub mod Kept
 pub mod Tokens
 pub mod Tree
 pub mod View

@@ -10,8 +10,9 @@ use Rattle.vlt_syntax.specs.declared.tree.Named.{Named}
 use Rattle.vlt_syntax.specs.declared.tree.Ty.{Ty}
 use Rattle.vlt_syntax.specs.declared.tree.Ty.TheVariants as ty
 use Rattle.vlt_syntax.specs.declared.tree.Expr.{Expr}
-use Rattle.vlt_syntax.specs.declared.tree.Expr.TheOpen.{Expr-F}
-use Rattle.vlt_syntax.specs.declared.tree.Expr.TheFolds.{fold-Expr}
+use Rattle.vlt_syntax.specs.declared.tree.Expr.TheOpen.{Expr-F, Operands-F}
+use Rattle.vlt_syntax.specs.declared.tree.Expr.TheFolds.{fold-Expr, fold-Operands}
+use Rattle.vlt_syntax.specs.declared.tree.Operands.{Operands}
 use Rattle.vlt_syntax.specs.declared.tree.Build.{Build}
 use Rattle.vlt_syntax.specs.declared.tree.Call.{Call}
 use Rattle.vlt_syntax.specs.declared.tree.Init.{Init}
@@ -65,7 +66,11 @@ ty_of (ty.Plain n) = s.plain (named_of n)
 
 -- ---- expressions
 
-abbrev pub expr_step : Expr-F s.Expr → s.Expr
+-- what stands on both sides of an operator
+abbrev pub OperandsView : Type 0
+OperandsView = s.Expr × s.Expr
+
+abbrev pub expr_step : Expr-F s.Expr OperandsView → s.Expr
 expr_step (Expr-F.Number z at) = s.number z at
 expr_step (Expr-F.True at) = s.true at
 expr_step (Expr-F.False at) = s.false at
@@ -73,10 +78,16 @@ expr_step (Expr-F.Variable n) = s.variable (name_of n)
 expr_step (Expr-F.Field x f) = s.field (name_of x) (name_of f)
 expr_step (Expr-F.Group e at) = s.group e at
 expr_step (Expr-F.Unary o e at) = s.unary o e at
-expr_step (Expr-F.Binary o l r at) = s.binary o l r at
+expr_step (Expr-F.Binary o x at) = s.binary o x.0 x.1 at
+
+abbrev pub operands_step : Operands-F s.Expr OperandsView → OperandsView
+operands_step x = (x.left, x.right)
 
 abbrev pub expr_of : Expr → s.Expr
-expr_of = fold-Expr s.Expr expr_step
+expr_of = fold-Expr s.Expr OperandsView expr_step operands_step
+
+abbrev pub operands_of : Operands → OperandsView
+operands_of = fold-Operands s.Expr OperandsView expr_step operands_step
 
 abbrev pub build_of : Build → s.Build
 build_of b = record { case = name_of b.case; payload = map expr_of b.payload; at = b.at }

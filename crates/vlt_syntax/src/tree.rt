@@ -343,6 +343,7 @@ pub struct Init {
     pub value: Expr,
 }
 
+#[cycle(expressions)]
 #[derive(Drop)]
 pub enum Expr {
     Number(i64, Span),
@@ -365,8 +366,15 @@ pub enum Expr {
     /// An operator between its operands.
     Binary {
         op: Op,
-        left: Boxed<Expr>,
-        right: Boxed<Expr>,
+        operands: Boxed<Operands>,
         at: Span,
     },
+}
+
+/// What stands on both sides of an operator.
+#[cycle(expressions)]
+#[derive(Drop)]
+pub struct Operands {
+    pub left: Expr,
+    pub right: Expr,
 }

@@ -3,7 +3,7 @@ use Rattle.std.proofs.lemmas.Grind.{common_steps}
 use Rattle.vlt_automaton.specs.Language as m
 use Rattle.vlt_parser_exprs.specs.Ahead.{ahead}
 use Rattle.vlt_parser_exprs.proofs.Functions.{parameter_is}
-use Rattle.vlt_parser_exprs.proofs.heads.ParameterPart.part.Goals as goal
+use Rattle.vlt_parser_exprs.proofs.parameters.ParameterPart.part.Goals as goal
 
 pub returns-in_err-name-clause-place : goal.returns-in_err-name-clause-place
 returns-in_err-name-clause-place c =

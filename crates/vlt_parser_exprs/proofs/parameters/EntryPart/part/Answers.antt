@@ -4,7 +4,7 @@ use Rattle.vlt_automaton.specs.Language as m
 use Rattle.vlt_automaton.specs.Language.{Symbol, Left, run}
 use Rattle.vlt_parser_exprs.specs.Ahead.{ahead}
 use Rattle.vlt_parser_exprs.proofs.Runs.{instead}
-use Rattle.vlt_parser_exprs.proofs.heads.EntryPart.part.Goals as goal
+use Rattle.vlt_parser_exprs.proofs.parameters.EntryPart.part.Goals as goal
 
 pub returns-in_default-clause-place : goal.returns-in_default-clause-place
 returns-in_default-clause-place c =
