@@ -7,8 +7,8 @@
 mod error;
 pub mod exprs;
 pub mod headers;
-pub mod parameters;
 pub mod lists;
+pub mod parameters;
 pub mod tokens;
 pub mod types;
 
