@@ -20,5 +20,5 @@ pub returns-in_err-named-clause-place : goal.returns-in_err-named-clause-place
 returns-in_err-named-clause-place c =
     let is : c.from_residual-in_err-named.result ≡ Err c.in_err-named.field-0.0 = first_of (search rules, grind (arith, common_steps)) in
     rw is (λ s f told.
-        tracked_keyed s (ahead c.args.tokens.now c.args.at) (ahead c.args.tokens.now c.in-Some.next) c.in-Some.ensures.ahead ∙
-        c.in_ok-key.ensures.place (m.sign mark.CloseParen ∷ m.named ∷ s) ∙ c.in_ok-next.ensures.place (m.named ∷ s) ∙ c.in_err-named.ensures.place s f told)
+    tracked_keyed s (ahead c.args.tokens.now c.args.at) (ahead c.args.tokens.now c.in-Some.next) c.in-Some.ensures.ahead ∙
+    c.in_ok-key.ensures.place (m.sign mark.CloseParen ∷ m.named ∷ s) ∙ c.in_ok-next.ensures.place (m.named ∷ s) ∙ c.in_err-named.ensures.place s f told)
