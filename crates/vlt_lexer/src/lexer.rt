@@ -95,7 +95,8 @@ fn read_text(alloc: Global, text: &str) -> Result<Vec<Token<'_>>, LexError>
     ensures few { IfOk result (λ found. length (lexemes found.items) ≤ limit_of 3) }
     ensures refused { IfErr result (λ e. (e ≡ LexError.Memory) ⊎ IsRefused text.now e) }
 {
-    let mut found = Vec::new(alloc);
+    // With the blanks around it a token has some four bytes.
+    let mut found = Vec::with_capacity(alloc, text.len() / 4)?;
     let mut left = text;
     loop {
         match next_piece(left) {

@@ -99,6 +99,19 @@ fn past(class: Class, text: &str) -> &str
     rest
 }
 
+/// The text behind a name that begins with this character, which stands before the text, if one does.
+fn past_name_from(c: char, after: &str) -> Option<&str>
+    ensures rest { MatchOption result (past_name (c ∷ chars after.now) ≡ None)
+        (λ rest. past_name (c ∷ chars after.now) ≡ Some (chars rest.now)) }
+    ensures shorter { IfSome result (λ rest. length rest.now ≤ length after.now) }
+{
+    if starts_name(c) {
+        Some(past(Class::NameMore, after))
+    } else {
+        None
+    }
+}
+
 /// The text behind the name at its front, if it begins with one.
 fn past_name(text: &str) -> Option<&str>
     ensures rest { MatchOption result (past_name (chars text.now) ≡ None)
@@ -106,11 +119,7 @@ fn past_name(text: &str) -> Option<&str>
     ensures shorter { IfSome result (λ rest. length rest.now < length text.now) }
 {
     let (c, after) = first(text)?;
-    if starts_name(c) {
-        Some(past(Class::NameMore, after))
-    } else {
-        None
-    }
+    past_name_from(c, after)
 }
 
 /// The text behind the line at its front.
@@ -353,7 +362,7 @@ pub fn next_piece(text: &str) -> Result<Option<Piece<'_>>, Stuck>
     {
         return Ok(Some(Piece::Gap(rest)));
     }
-    if let Some(rest) = past_name(text) {
+    if let Some(rest) = past_name_from(c, after) {
         let name = &text.as_bytes()[..text.len() - rest.len()];
         return Ok(Some(Piece::Token(keyword_or_name(name), rest)));
     }

@@ -15,20 +15,20 @@ returns-then-is_blank-clause-found c =
     let is : is_blank c.in-Some.c ≡ true = first_of (search rules, grind (arith, common_steps)) in
     blank (chars c.args.text.now) c.in-Some.c (chars c.in-Some.after.now) c.in-Some.ensures.split.0 is
 
-pub returns-in-Some-past_name-clause-found : goal.returns-in-Some-past_name-clause-found
-returns-in-Some-past_name-clause-found c =
-    let behind : past_name (chars c.args.text.now) ≡ Some (chars c.in-Some-past_name.rest.now) = first_of (search rules, grind (arith, common_steps)) in
-    let found = name_stands (chars c.args.text.now) (chars c.in-Some-past_name.rest.now) behind in
-    let utf8 : IsUtf8 c.in-Some-past_name.rest.now = first_of (search rules, grind (arith, common_steps)) in
-    let bytes = front_bytes c.args.text.now c.in-Some-past_name.rest.now found.0 c.utf8.text utf8 found.1 in
-    let count = length c.args.text.now - length c.in-Some-past_name.rest.now in
+pub returns-in-Some-past_name_from-clause-found : goal.returns-in-Some-past_name_from-clause-found
+returns-in-Some-past_name_from-clause-found c =
+    let behind : past_name (chars c.args.text.now) ≡ Some (chars c.in-Some-past_name_from.rest.now) = first_of (search rules, grind (arith, common_steps)) in
+    let found = name_stands (chars c.args.text.now) (chars c.in-Some-past_name_from.rest.now) behind in
+    let utf8 : IsUtf8 c.in-Some-past_name_from.rest.now = first_of (search rules, grind (arith, common_steps)) in
+    let bytes = front_bytes c.args.text.now c.in-Some-past_name_from.rest.now found.0 c.utf8.text utf8 found.1 in
+    let count = length c.args.text.now - length c.in-Some-past_name_from.rest.now in
     let same = c.keyword_or_name.ensures ∙ ap (λ bs. kind_of (keyword_of bs)) (ap (take count) c.as_bytes.ensures.value ∙ bytes) in
     (found.0, found.1, found.2, subst (λ k. IsOf k found.0) (sym same) (kind_is found.0 found.3))
 
-pub returns-in-Some-past_name-2-clause-found : goal.returns-in-Some-past_name-2-clause-found
-returns-in-Some-past_name-2-clause-found c =
-    let behind : past_name (chars c.in-Some.after.now) ≡ Some (chars c.in-Some-past_name-2.rest.now) = first_of (search rules, grind (arith, common_steps)) in
-    tick_stands (chars c.args.text.now) c.in-Some.c (chars c.in-Some.after.now) (chars c.in-Some-past_name-2.rest.now) c.in-Some.ensures.split.0 c.if-c-eq39.true behind
+pub returns-in-Some-past_name-clause-found : goal.returns-in-Some-past_name-clause-found
+returns-in-Some-past_name-clause-found c =
+    let behind : past_name (chars c.in-Some.after.now) ≡ Some (chars c.in-Some-past_name.rest.now) = first_of (search rules, grind (arith, common_steps)) in
+    tick_stands (chars c.args.text.now) c.in-Some.c (chars c.in-Some.after.now) (chars c.in-Some-past_name.rest.now) c.in-Some.ensures.split.0 c.if-c-eq39.true behind
 
 pub returns-in-Some-sign-clause-found : goal.returns-in-Some-sign-clause-found
 returns-in-Some-sign-clause-found c =
