@@ -10,7 +10,6 @@ ghost use Rattle.vlt_resolve.specs.Elaboration as e;
 ghost use Rattle.vlt_resolve.specs.Refusals.{OnRefused};
 
 use crate::blocks::{block_ends, closing};
-use crate::copies::{copy_func, copy_keys, copy_vars, func_of_head};
 use crate::error::Stop;
 use crate::walk::{passed, walk_stmts};
 use indexmap::IndexMap;
@@ -20,6 +19,7 @@ use vlt_core::rules::NO_END;
 use vlt_core::{Entry, Form, Func, KeyDecl, Mode, Tok, VarDecl};
 use vlt_kinds::Kinds;
 use vlt_kinds_names::Found;
+use vlt_resolve_copies::{copy_func, copy_keys, copy_vars, func_of_head};
 use vlt_resolve_exprs::Scope;
 use vlt_resolve_exprs::limits::{TOO_MANY_KEYS, TOO_MANY_VARIABLES};
 use vlt_resolve_stmts::Around;

@@ -11,7 +11,6 @@ ghost use Rattle.vlt_resolve.specs.Elaboration.{elaborated, told_of, walk_tree};
 ghost use Rattle.vlt_resolve.specs.Refusals.{OnRefused, OnTold, error_seen};
 
 mod blocks;
-mod copies;
 mod error;
 mod functions;
 mod walk;
@@ -22,6 +21,7 @@ use vlt_base::{KEYS, VARIABLES};
 use vlt_core::Program;
 use vlt_kinds::Kinds;
 use vlt_kinds_names::Refusal;
+use vlt_resolve_copies::{copy_decls, copy_sets};
 use vlt_resolve_exprs::limits::{TOO_MANY_KEYS, TOO_MANY_VARIABLES};
 use vlt_syntax::Tree;
 
@@ -32,8 +32,8 @@ fn program(alloc: Heap, tree: &Tree, kinds: &Kinds<'_>) -> Result<Program, Stop>
         ≡ Err r) }
 {
     let fns = functions::walk_decls(alloc, kinds, tree.decls.as_slice())?;
-    let sets = copies::copy_sets(alloc, kinds.file.sets.as_slice())?;
-    let types = copies::copy_decls(alloc, kinds.types.as_slice())?;
+    let sets = copy_sets(alloc, kinds.file.sets.as_slice())?;
+    let types = copy_decls(alloc, kinds.types.as_slice())?;
     let main = functions::main_of(kinds.heads.as_slice())?;
     Ok(Program {
         sets,
