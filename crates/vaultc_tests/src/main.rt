@@ -3,19 +3,6 @@
 //! Nothing rests on it: `vaultc_core::vaultc` has the clauses.
 #![tactic(auto)]
 
-#[cfg(test)]
-mod c_runs;
-#[cfg(test)]
-mod commands;
-#[cfg(test)]
-mod explains;
-#[cfg(test)]
-mod limits;
-#[cfg(test)]
-mod outside;
-#[cfg(test)]
-mod sizes;
-
 use std::alloc::Global;
 use std::io::{self, BufRead, BufReader, ErrorKind, Write};
 use vaultc_core::vaultc;
