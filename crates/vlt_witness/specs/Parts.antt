@@ -20,7 +20,7 @@ use Rattle.vlt_witness.specs.declared.search.Turned.{Turned}
 use Rattle.vlt_witness.specs.Ways.{On, OnSeen}
 use Rattle.vlt_witness.specs.Search.{Joined, Leg, Leads, CanLead, Sight, Meets, CanMeet, IsTable, IsSearched}
 use Rattle.vlt_witness.specs.Aims.{aim_tok, rows_aimed, joins_aimed, JoinHere, RowsHere}
-use Rattle.vlt_witness.specs.Unfit.{NoRows, HasManyArms, HasWideSwitch}
+use Rattle.vlt_witness.specs.Unfit.{NoRows, HasManyArms, HasLongSwitch}
 
 -- what the aim is met by in a statement, a block, statements
 abbrev pub SeenIn : Aim → (at k : ℕ) → Flow → Sight
@@ -125,7 +125,7 @@ abbrev pub LargeForm : (k : ℕ) → Flow → Type 0
 LargeForm k s = IsLarge (k + spots s) (HasPart NoRows HasManyArms s)
 
 abbrev pub LargeBlock : (k : ℕ) → Block → Type 0
-LargeBlock k s = IsLarge (k + spots_block s) (HasWideSwitch s)
+LargeBlock k s = IsLarge (k + spots_block s) (HasLongSwitch s)
 
 abbrev pub LargeStmts : (k : ℕ) → Stmts → Type 0
 LargeStmts k ss = IsLarge (k + spots_stmts ss) (HasPartStmts NoRows HasManyArms ss)

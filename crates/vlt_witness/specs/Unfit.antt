@@ -18,9 +18,9 @@ HasManyArms arms = 2 ^ 8 < arm_count arms
 abbrev pub NoRows : List Row → Type 0
 NoRows rs = ⊥
 
--- some switch of the body has that many arms
-abbrev pub HasWideSwitch : Block → Type 0
-HasWideSwitch = HasPartBlock NoRows HasManyArms
+-- some switch of the body has so many arms
+abbrev pub HasLongSwitch : Block → Type 0
+HasLongSwitch = HasPartBlock NoRows HasManyArms
 
 pub data IsUnfit (p : Program) (f : Func) : Type 0 where
   -- a row names states of which no set has just these
@@ -28,8 +28,8 @@ pub data IsUnfit (p : Program) (f : Func) : Type 0 where
   -- the last key, or variable, has no number of 32 bits
   many_keys : 2 ^ 32 < length f.keys → IsUnfit p f
   many_vars : 2 ^ 32 < length f.vars → IsUnfit p f
-  wide_switch : HasWideSwitch (body_flow p f) → IsUnfit p f
-  -- the rows and joins have no numbers of 64 bits
+  long_switch : HasLongSwitch (body_flow p f) → IsUnfit p f
+  -- the number behind the last row or join has more than 64 bits
   many_spots : 2 ^ 64 ≤ spots_block (body_flow p f) → IsUnfit p f
 
 -- The function of this number has a body that is unfit.
