@@ -16,7 +16,7 @@ use Rattle.vlt_paths.specs.declared.comes.Comes.TheVariants as c
 use Rattle.vlt_paths.specs.Comes.{Brings}
 use Rattle.vlt_paths.specs.Along.{Sought, State, GoesStmts}
 use Rattle.vlt_paths.specs.Pairs.{Two, Sees, IsGone, InStmts, Meet}
-use Rattle.vlt_paths.specs.Shown.{ShowsJoin}
+use Rattle.vlt_paths.specs.Shown.{join_fault}
 use Rattle.vlt_core.specs.Found.{Exit}
 
 never : IsTrue false → ⊥
@@ -76,7 +76,7 @@ module _ (p : Program) (f : Func) (t : Tok) where
     λ h. (h.0, (start h.0).1 h.1, ⊎_elim (λ z. z) (λ z. absurd z.2) h.2),
   )
 
-  pub shown_join : (x : Two) (b : Bool) → ((o : One) → x.first.brings o ↔ Has (start_map p f t) o) → ((o : One) → x.second.brings o ↔ Has (start_map p f t) o) → Meet (InStmts t 0 (flow_of_stmts p f [] f.body)) x b → IsTrue b ↔ ShowsJoin p f t x.place x.first.left x.second.left
+  pub shown_join : (x : Two) (b : Bool) → ((o : One) → x.first.brings o ↔ Has (start_map p f t) o) → ((o : One) → x.second.brings o ↔ Has (start_map p f t) o) → Meet (InStmts t 0 (flow_of_stmts p f [] f.body)) x b → IsTrue b ↔ IsWitnessIn p f (join_fault t x.place) x.first.left (Some x.second.left)
   shown_join x b one two m = (
     λ h. let c = m.same.0 h in (c.0, c.1, (path_meets x.first one IsGone c.0).0 c.2, (path_meets x.second two IsPresent c.0).0 c.3),
     λ c. m.same.1 (c.0, c.1, (path_meets x.first one IsGone c.0).1 c.2, (path_meets x.second two IsPresent c.0).1 c.3),
@@ -89,7 +89,7 @@ looked_all p f g es k i past l = ap (λ xs. status_at_start p f (map g xs) k) (s
 pub row_shown : (p : Program) (f : Func) (g at : ℕ) (t : Tok) (found : Status) (wanted : Wanted) (first : List Choice) (b : Bool) → f.external ≡ false → (IsTrue b ↔ PathMeets p f t (Refuses t at wanted) NoJoin first) → IsTrue b ↔ ((f.external ≡ false) × IsWitnessIn p f (record { function = g; at = at; tok = t; kind = at_row found wanted }) first None)
 row_shown p f g at t found wanted first b body e = (λ h. (body, e.0 h), λ x. e.1 x.1)
 
-pub join_shown : (p : Program) (f : Func) (g at : ℕ) (t : Tok) (present : Status) (first second : List Choice) (b : Bool) → f.external ≡ false → (IsTrue b ↔ ShowsJoin p f t at first second) → IsTrue b ↔ ((f.external ≡ false) × IsWitnessIn p f (record { function = g; at = at; tok = t; kind = at_join present }) first (Some second))
+pub join_shown : (p : Program) (f : Func) (g at : ℕ) (t : Tok) (present : Status) (first second : List Choice) (b : Bool) → f.external ≡ false → (IsTrue b ↔ IsWitnessIn p f (join_fault t at) first (Some second)) → IsTrue b ↔ ((f.external ≡ false) × IsWitnessIn p f (record { function = g; at = at; tok = t; kind = at_join present }) first (Some second))
 join_shown p f g at t present first second b body e = (λ h. (body, e.0 h), λ x. e.1 x.1)
 
 pub not_shown : (p : Program) (f : Func) (x : FlowFault) (first : List Choice) (second : Option (List Choice)) → (IsWitnessIn p f x first second → ⊥) → IsTrue false ↔ ((f.external ≡ false) × IsWitnessIn p f x first second)

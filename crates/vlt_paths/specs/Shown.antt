@@ -1,9 +1,8 @@
--- A fault of the code, as a plain one, and what two paths show of one.
-use Rattle.std.specs.Prelude.{◌≡◌, ℕ, List}
-use Rattle.vlt_core.specs.Core.{Tok, Func, Program}
+-- A fault of the code, as a plain one.
+use Rattle.std.specs.Prelude.{ℕ}
+use Rattle.vlt_core.specs.Core.{Tok}
+use Rattle.vlt_core.specs.Maps.{absent}
 use Rattle.vlt_core.specs.Faults as s
-use Rattle.vlt_core.specs.Found.{one_absent}
-use Rattle.vlt_core.specs.Witness.{Choice, PathMeets, NoRow, IsJoin}
 use Rattle.vlt_core.specs.View.{tok_of}
 use Rattle.vlt_core.specs.FaultView.{kind_of}
 use Rattle.vlt_core.specs.declared.held.FlowFault.{FlowFault}
@@ -11,9 +10,6 @@ use Rattle.vlt_core.specs.declared.held.FlowFault.{FlowFault}
 abbrev pub fault_view : FlowFault → s.FlowFault
 fault_view x = record { function = x.fn_id.0; at = x.at; tok = tok_of x.tok; kind = kind_of x.kind }
 
--- two paths come to one join of the place, the first without the token and the second with it
-abbrev pub ShowsJoin : Program → Func → Tok → (at : ℕ) → (first second : List Choice) → Type 0
-ShowsJoin p f t at first second =
-    (q : s.Spot) × (q.at ≡ at) ×
-    PathMeets p f t NoRow (IsJoin q (λ o. o ≡ one_absent)) first ×
-    PathMeets p f t NoRow (IsJoin q s.IsPresent) second
+-- A fault at a join of this place. In which function, and what is present there, doesn't count for whether paths show it.
+abbrev pub join_fault : Tok → (at : ℕ) → s.FlowFault
+join_fault t at = record { function = 0; at = at; tok = t; kind = s.at_join absent }

@@ -11,7 +11,7 @@ ghost use Rattle.vlt_core.specs.Lookups.{is_before, is_held_before, is_owning_va
 ghost use Rattle.vlt_core.specs.View.{program_of, func_of, tok_of, mode_of, entry_of};
 ghost use Rattle.vlt_core.specs.Witness.{IsWitness, IsWitnessIn, PathMeets, Refuses, NoJoin};
 ghost use Rattle.vlt_paths.specs.Comes.{Brings};
-ghost use Rattle.vlt_paths.specs.Shown.{fault_view, ShowsJoin};
+ghost use Rattle.vlt_paths.specs.Shown.{fault_view, join_fault};
 
 use crate::along::go_stmts;
 use crate::comes::{Comes, Wants};
@@ -132,8 +132,8 @@ pub fn is_row_witness(p: &Program, fault: &FlowFault, path: &[Choice]) -> bool
 
 /// Whether both paths come to one join of this place, the first without the token and the second with it.
 fn shows_join(p: &Program, f: &Func, tok: Tok, at: u32, first: &[Choice], second: &[Choice]) -> bool
-    ensures { IsTrue result ↔ ShowsJoin (program_of p.now) (func_of f.now) (tok_of tok) at
-        (choices_of first.now) (choices_of second.now) }
+    ensures { IsTrue result ↔ IsWitnessIn (program_of p.now) (func_of f.now)
+        (join_fault (tok_of tok) at) (choices_of first.now) (Some (choices_of second.now)) }
 {
     let comes = start(p, f, tok);
     let pair = Pair {

@@ -1,6 +1,7 @@
 pub mod Taken
 pub mod Looping
+pub mod Fitting
 pub mod Collected
-pub mod Building
 pub mod Views
+pub mod Building
 pub mod Named

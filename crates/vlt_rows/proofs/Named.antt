@@ -1,8 +1,11 @@
--- The states that the code has where no set of it has them.
-use Rattle.std.proofs.Common.{◌≡◌, ℕ, Option, None, Some, slice_get, refl, sym, subst}
+-- The states that the code names, and which of them no set of it has.
+use Rattle.std.proofs.Common.{◌≡◌, ◌==◌, ◌≤◌, ℕ, false, Option, None, Some, slice_get, refl, sym, ap, ◌∙◌, subst, arith}
 use Rattle.std.specs.Option.{option_map}
 use Rattle.std.proofs.lemmas.Option.{slice_get-map}
+use Rattle.std.proofs.lemmas.Bool.Decides.{nat_tests}
+use Rattle.vlt_base.specs.States.{has_state}
 use Rattle.vlt_base.specs.declared.states.StateSet.{StateSet}
+use Rattle.vlt_core.proofs.Sets.{none_above}
 use Rattle.vlt_core.specs.Core as core
 use Rattle.vlt_core.specs.Lookups.{no_states, all_states, release_in, release_set, field_states_in, fields_in, permitted_in, states_or_all, states_of_key}
 use Rattle.vlt_core.specs.HeldView.{IsSetOf}
@@ -11,6 +14,13 @@ use Rattle.vlt_core.specs.declared.program.TypeDecl.{TypeDecl}
 use Rattle.vlt_core.specs.declared.program.TypeDecl.TheVariants as decl
 use Rattle.vlt_core.specs.declared.program.FieldDecl.{FieldDecl}
 use Rattle.vlt_core.specs.declared.program.Program.{Program}
+
+pub never_only : (s : StateSet) (n : ℕ) → 32 ≤ n → has_state s ≡ (λ i. i == n) → ⊥
+never_only s n from e =
+    let none : has_state s n ≡ false = none_above s n from in
+    let same : has_state s n ≡ (n == n) = ap (λ f. f n) e in
+    let other : (n == n) ≡ false = sym same ∙ none in
+    grind (arith, nat_tests)
 
 abbrev NoSet : core.States → Type 0
 NoSet states = IsSetOf states None

@@ -1,4 +1,6 @@
 pub mod Wide
 pub mod Taking
-pub mod Pieces
 pub mod FlowView
+pub mod Unfit
+pub mod Pieces
+pub mod Made

@@ -1,6 +1,6 @@
 //! The flow of a body.
 
-ghost use Rattle.std.specs.Prelude.{◌≡◌, ◌++◌, ◌∷◌, [], if◌then◌else◌, length, map, filter, IfOk, OnOk};
+ghost use Rattle.std.specs.Prelude.{◌≡◌, ◌<◌, ◌^◌, ◌++◌, ◌∷◌, [], if◌then◌else◌, length, map, filter, IfOk, OnOk, MatchResult};
 ghost use Rattle.std.specs.List.{list_any, range_with_len};
 ghost use Rattle.vlt_core.specs.Core.{a_key};
 ghost use Rattle.vlt_core.specs.Bodies.{flow_of, flow_of_block, flow_of_stmts, flow_of_arms};
@@ -9,14 +9,16 @@ ghost use Rattle.vlt_core.specs.Maps.{is_tok};
 ghost use Rattle.vlt_core.specs.View.{program_of, func_of, tok_of, form_of, block_of, stmts_of, arms_of};
 ghost use Rattle.vlt_core.specs.HeldView.{toks_of};
 ghost use Rattle.vlt_core.specs.Rows.{tokens_of, in_order};
-ghost use Rattle.vlt_rows.specs.FlowView.{flow_view, block_view, stmts_view, arms_view};
+ghost use Rattle.vlt_rows.specs.FlowView.{block_view};
+ghost use Rattle.vlt_rows.specs.Unfit.{UnfitBy, HasManyTokens, HasNoFlow};
+ghost use Rattle.vlt_rows.specs.Made.{MakesForm, MakesBlock, MakesStmts, MakesArms};
 
 use crate::list::{
     arm_list, expr_list, focus_end_list, focus_list, form_list, return_list, switch_list,
 };
 use crate::sink::RowError;
 use crate::tree::{Flow, FlowArm, FlowBlock, FlowStmt};
-use std::alloc::Global;
+use std::alloc::{AllocError, Global};
 use vlt_base::{Items, KeyId, VarId};
 use vlt_core::{Arm, Block, Form, Func, Program, Stmt, Tok};
 
@@ -42,7 +44,7 @@ fn is_among(t: Tok, toks: &[Tok]) -> bool
 }
 
 /// These tokens in the order of all.
-fn ordered(alloc: Global, all: &[Tok], toks: &[Tok]) -> Result<Items<Tok>, RowError>
+fn ordered(alloc: Global, all: &[Tok], toks: &[Tok]) -> Result<Items<Tok>, AllocError>
     ensures { IfOk result (λ ts.
         toks_of ts ≡ filter (λ t. list_any (is_tok t) (toks_of toks.now)) (toks_of all.now)) }
 {
@@ -56,14 +58,14 @@ fn ordered(alloc: Global, all: &[Tok], toks: &[Tok]) -> Result<Items<Tok>, RowEr
 }
 
 #[tactic(auto, using(crate::proofs::Building::toks_last))]
-fn put(list: &mut Items<Tok>, t: Tok) -> Result<(), RowError>
+fn put(list: &mut Items<Tok>, t: Tok) -> Result<(), AllocError>
     ensures { OnOk result (toks_of list.new ≡ toks_of list.old ++ tok_of t ∷ []) }
 {
     list.push(t)?;
     Ok(())
 }
 
-fn put_if(list: &mut Items<Tok>, t: Tok, wanted: bool) -> Result<(), RowError>
+fn put_if(list: &mut Items<Tok>, t: Tok, wanted: bool) -> Result<(), AllocError>
     ensures { OnOk result (toks_of list.new ≡ toks_of list.old ++
         (if wanted then tok_of t ∷ [] else [])) }
 {
@@ -73,7 +75,9 @@ fn put_if(list: &mut Items<Tok>, t: Tok, wanted: bool) -> Result<(), RowError>
 /// All keys of a function.
 #[tactic(auto, using(crate::proofs::Building::keys_more))]
 fn key_tokens(alloc: Global, f: &Func) -> Result<Items<Tok>, RowError>
-    ensures { IfOk result (λ ts. toks_of ts ≡ map a_key (range_with_len 0 (length f.now.keys))) }
+    ensures { MatchResult result
+        (λ ts. toks_of ts ≡ map a_key (range_with_len 0 (length f.now.keys)))
+        (UnfitBy (2 ^ 32 < length f.now.keys)) }
 {
     let mut list = Items::new(alloc);
     for k in 0..f.keys.len() {
@@ -88,7 +92,8 @@ fn key_tokens(alloc: Global, f: &Func) -> Result<Items<Tok>, RowError>
 /// The tokens of a function, keys first.
 #[tactic(auto, using(crate::proofs::Building::more_vars))]
 fn all_tokens(alloc: Global, f: &Func) -> Result<Items<Tok>, RowError>
-    ensures { IfOk result (λ ts. toks_of ts ≡ tokens_of (func_of f.now)) }
+    ensures { MatchResult result (λ ts. toks_of ts ≡ tokens_of (func_of f.now))
+        (UnfitBy (HasManyTokens (func_of f.now))) }
 {
     let mut list = key_tokens(alloc, f)?;
     for v in 0..f.vars.len() {
@@ -101,7 +106,7 @@ fn all_tokens(alloc: Global, f: &Func) -> Result<Items<Tok>, RowError>
 }
 
 /// The tokens of scopes, with those of one more.
-fn with(alloc: Global, left: &[Tok], bound: &[Tok]) -> Result<Items<Tok>, RowError>
+fn with(alloc: Global, left: &[Tok], bound: &[Tok]) -> Result<Items<Tok>, AllocError>
     ensures { IfOk result (λ ts. toks_of ts ≡ toks_of left.now ++ toks_of bound.now) }
 {
     let mut list = Items::from_slice(alloc, left)?;
@@ -120,8 +125,8 @@ fn flow_form(
     form: &Form,
 ) -> Result<Flow, RowError>
     requires { toks_of tokens.now ≡ tokens_of (func_of f.now) }
-    ensures { IfOk result (λ x.
-        flow_view x ≡ flow_of (program_of p.now) (func_of f.now) (toks_of left.now) (form_of form.now)) }
+    ensures { MakesForm
+        (flow_of (program_of p.now) (func_of f.now) (toks_of left.now) (form_of form.now)) result }
 {
     match form {
         Form::If {
@@ -173,8 +178,8 @@ fn flow_block(
     block: &Block,
 ) -> Result<FlowBlock, RowError>
     requires { toks_of tokens.now ≡ tokens_of (func_of f.now) }
-    ensures { IfOk result (λ x.
-        block_view x ≡ flow_of_block (program_of p.now) (func_of f.now) (toks_of left.now) (block_of block.now)) }
+    ensures { MakesBlock (flow_of_block (program_of p.now) (func_of f.now) (toks_of left.now)
+        (block_of block.now)) result }
 {
     let inside = with(alloc, left, block.bound.as_slice())?;
     Ok(FlowBlock {
@@ -201,8 +206,8 @@ fn flow_stmts(
     stmts: &[Stmt],
 ) -> Result<Items<FlowStmt>, RowError>
     requires { toks_of tokens.now ≡ tokens_of (func_of f.now) }
-    ensures { IfOk result (λ xs.
-        stmts_view xs ≡ flow_of_stmts (program_of p.now) (func_of f.now) (toks_of left.now) (stmts_of stmts.now)) }
+    ensures { MakesStmts (flow_of_stmts (program_of p.now) (func_of f.now) (toks_of left.now)
+        (stmts_of stmts.now)) result }
 {
     let mut list = Items::new(alloc);
     for s in stmts {
@@ -223,8 +228,8 @@ fn flow_arms(
     arms: &[Arm],
 ) -> Result<Items<FlowArm>, RowError>
     requires { toks_of tokens.now ≡ tokens_of (func_of f.now) }
-    ensures { IfOk result (λ xs.
-        arms_view xs ≡ flow_of_arms (program_of p.now) (func_of f.now) (toks_of left.now) v.0 (arms_of arms.now)) }
+    ensures { MakesArms (flow_of_arms (program_of p.now) (func_of f.now) (toks_of left.now) v.0
+        (arms_of arms.now)) result }
 {
     let mut list = Items::new(alloc);
     for arm in arms {
@@ -235,9 +240,12 @@ fn flow_arms(
     Ok(list)
 }
 
-/// The flow of a function's whole body.
+/// The flow of a function's whole body. `Unfit` where one of its rows names states that no set has, or where the function
+/// has more keys or variables than there are numbers.
 pub fn body_flow(alloc: Global, p: &Program, f: &Func) -> Result<FlowBlock, RowError>
-    ensures { IfOk result (λ x. block_view x ≡ s.body_flow (program_of p.now) (func_of f.now)) }
+    ensures { MatchResult result
+        (λ x. block_view x ≡ s.body_flow (program_of p.now) (func_of f.now))
+        (UnfitBy (HasNoFlow (program_of p.now) (func_of f.now))) }
 {
     let tokens = all_tokens(alloc, f)?;
     Ok(FlowBlock {

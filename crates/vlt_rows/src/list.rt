@@ -1,12 +1,12 @@
 //! A list that takes rows, and the lists of each statement's rows.
 
-ghost use Rattle.std.specs.Prelude.{◌≡◌, [], map, IfOk};
+ghost use Rattle.std.specs.Prelude.{◌≡◌, [], map};
 ghost use Rattle.std.specs.Option.{option_map};
 ghost use Rattle.vlt_core.specs.View.{program_of, func_of, form_of, expr_of, operand_of, vars_of};
 ghost use Rattle.vlt_core.specs.HeldView.{toks_of};
 ghost use Rattle.vlt_core.specs.Rows.{expr_rows, arm_rows, return_rows, focus_end_rows, tokens_of};
 ghost use Rattle.vlt_rows.specs.Pieces.{own_rows, switch_rows, focus_rows};
-ghost use Rattle.vlt_rows.specs.FlowView.{rows_view};
+ghost use Rattle.vlt_rows.specs.Unfit.{Lists};
 
 use crate::calls::take_return;
 use crate::expr::take_expr;
@@ -33,28 +33,30 @@ impl RowList {
 }
 
 impl RowSink for RowList {
-    ghost use Rattle.std.specs.Prelude.{◌≡◌, ◌⊎◌, ◌++◌, ◌∷◌, []};
+    ghost use Rattle.std.specs.Prelude.{◌≡◌, ◌++◌, ◌∷◌, []};
     ghost use Rattle.vlt_rows.specs.FlowView.{rows_view};
-    ghost use Rattle.vlt_rows.specs.declared.sink.RowError.TheVariants.{Memory, Unfit};
+    ghost use Rattle.vlt_rows.specs.Unfit.{UnfitBy, IsWide};
 
     ghost takes = { λ r v w. rows_view w.rows ≡ rows_view v.rows ++ r ∷ [] };
 
-    ghost stops = { λ r v e. (e ≡ Memory) ⊎ (e ≡ Unfit) };
+    ghost stops = { λ r v e. UnfitBy (IsWide r) e };
 
     fn take(&mut self, row: Row) -> Result<(), RowError> {
         self.rows.push(row)?;
         Ok(())
     }
 
-    fn take_wide(&mut self, _row: WideRow) -> Result<(), RowError> {
-        Err(RowError::Unfit)
+    fn take_wide(&mut self, row: WideRow) -> Result<(), RowError> {
+        match row.with_set() {
+            Some(row) => self.take(row),
+            None => Err(RowError::Unfit),
+        }
     }
 }
 
 /// The rows of an expression.
 pub fn expr_list(alloc: Global, p: &Program, f: &Func, e: &Expr) -> Result<Items<Row>, RowError>
-    ensures { IfOk result (λ rs. rows_view rs
-        ≡ expr_rows (program_of p.now) (func_of f.now) (expr_of e.now)) }
+    ensures { Lists (expr_rows (program_of p.now) (func_of f.now) (expr_of e.now)) result }
 {
     let mut list = RowList::new(alloc);
     take_expr(p, f, e, &mut list)?;
@@ -63,8 +65,7 @@ pub fn expr_list(alloc: Global, p: &Program, f: &Func, e: &Expr) -> Result<Items
 
 /// The rows of a statement without blocks that goes on to the next one.
 pub fn form_list(alloc: Global, p: &Program, f: &Func, form: &Form) -> Result<Items<Row>, RowError>
-    ensures { IfOk result (λ rs. rows_view rs
-        ≡ own_rows (program_of p.now) (func_of f.now) (form_of form.now)) }
+    ensures { Lists (own_rows (program_of p.now) (func_of f.now) (form_of form.now)) result }
 {
     let mut list = RowList::new(alloc);
     take_form(p, f, form, &mut list)?;
@@ -72,7 +73,7 @@ pub fn form_list(alloc: Global, p: &Program, f: &Func, form: &Form) -> Result<It
 }
 
 pub fn switch_list(alloc: Global, f: &Func, v: VarId) -> Result<Items<Row>, RowError>
-    ensures { IfOk result (λ rs. rows_view rs ≡ switch_rows (func_of f.now) v.0) }
+    ensures { Lists (switch_rows (func_of f.now) v.0) result }
 {
     let mut list = RowList::new(alloc);
     take_switch(f, v, &mut list)?;
@@ -88,8 +89,7 @@ pub fn arm_list(
     case: u8,
     vs: &[VarId],
 ) -> Result<Items<Row>, RowError>
-    ensures { IfOk result (λ rs.
-        rows_view rs ≡ arm_rows (program_of p.now) (func_of f.now) v.0 case (vars_of vs.now)) }
+    ensures { Lists (arm_rows (program_of p.now) (func_of f.now) v.0 case (vars_of vs.now)) result }
 {
     let mut list = RowList::new(alloc);
     take_arm(p, f, v, case, vs, &mut list)?;
@@ -104,8 +104,7 @@ pub fn focus_list(
     y: VarId,
     z: VarId,
 ) -> Result<Items<Row>, RowError>
-    ensures { IfOk result (λ rs. rows_view rs
-        ≡ focus_rows (program_of p.now) (func_of f.now) y.0 z.0) }
+    ensures { Lists (focus_rows (program_of p.now) (func_of f.now) y.0 z.0) result }
 {
     let mut list = RowList::new(alloc);
     take_focus(p, f, y, z, &mut list)?;
@@ -120,8 +119,7 @@ pub fn focus_end_list(
     y: VarId,
     z: VarId,
 ) -> Result<Items<Row>, RowError>
-    ensures { IfOk result (λ rs. rows_view rs
-        ≡ focus_end_rows (program_of p.now) (func_of f.now) y.0 z.0) }
+    ensures { Lists (focus_end_rows (program_of p.now) (func_of f.now) y.0 z.0) result }
 {
     let mut list = RowList::new(alloc);
     take_focus_end(p, f, y, z, &mut list)?;
@@ -137,8 +135,8 @@ pub fn return_list(
     value: &Option<Operand>,
 ) -> Result<Items<Row>, RowError>
     requires { toks_of tokens.now ≡ tokens_of (func_of f.now) }
-    ensures { IfOk result (λ rs.
-        rows_view rs ≡ return_rows (program_of p.now) (func_of f.now) (option_map operand_of value.now)) }
+    ensures { Lists
+        (return_rows (program_of p.now) (func_of f.now) (option_map operand_of value.now)) result }
 {
     let mut list = RowList::new(alloc);
     take_return(p, f, tokens, value, &mut list)?;

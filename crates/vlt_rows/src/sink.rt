@@ -1,10 +1,11 @@
 //! What takes rows.
 
-ghost use Rattle.std.specs.Prelude.{◌≡◌, OnOk, IfErr};
+ghost use Rattle.std.specs.Prelude.{◌≡◌, None, OnOk, IfErr, IfSome};
 ghost use Rattle.vlt_core.specs.HeldView.{row_of};
 ghost use Rattle.vlt_core.specs.Maps.{Row};
 ghost use Rattle.vlt_rows.specs.declared.sink.RowError.TheVariants.{Memory};
 ghost use Rattle.vlt_rows.specs.Wide.{wide_row_of};
+ghost use Rattle.vlt_rows.specs.Unfit.{IsWide};
 
 use crate::states::States;
 use std::alloc::{AllocError, AllocFailed};
@@ -12,7 +13,7 @@ use thiserror::Error;
 use vlt_core::{After, Row, Tok, Wanted};
 use vlt_keyset::TokenFault;
 
-/// A row one of whose sides names states that no set has.
+/// A row one of whose sides names states as the program says them, whether or not there is a set of them.
 #[derive(Clone, Copy)]
 pub enum WideRow {
     /// These are wanted.
@@ -29,14 +30,45 @@ pub enum WideRow {
     },
 }
 
+impl WideRow {
+    /// The row of the set of these states, if there is one.
+    pub fn with_set(self) -> Option<Row>
+        ensures row { IfSome result (λ r. row_of r ≡ wide_row_of self) }
+        ensures wide { result ≡ None → IsWide (wide_row_of self) }
+    {
+        match self {
+            WideRow::Wants { tok, states, after } => {
+                let set = states.set()?;
+                Some(Row {
+                    tok,
+                    wanted: Wanted::In(set),
+                    after,
+                })
+            }
+            WideRow::Leaves {
+                tok,
+                wanted,
+                states,
+            } => {
+                let set = states.set()?;
+                Some(Row {
+                    tok,
+                    wanted,
+                    after: After::Set(set),
+                })
+            }
+        }
+    }
+}
+
 /// Why rows weren't all taken.
 #[derive(Clone, Copy, Debug, PartialEq, Eq, Error)]
 pub enum RowError {
     /// A row isn't passed.
     #[error("a row isn't passed")]
     Refused(TokenFault),
-    /// A row names states that no set has, or a token has no number.
-    #[error("a number stands for nothing")]
+    /// A row names states of which there is no set, or there are more things than numbers.
+    #[error("states have no set, or something no number")]
     Unfit,
     #[error("there was no memory")]
     Memory,

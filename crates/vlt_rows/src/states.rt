@@ -1,8 +1,9 @@
 //! The states that a row names, as many as they are.
 
-ghost use Rattle.std.specs.Prelude.{◌≡◌, ◌==◌, ℕ};
+ghost use Rattle.std.specs.Prelude.{◌≡◌, ◌==◌, nat_lt, ℕ};
 ghost use Rattle.vlt_core.specs.View.{program_of, func_of, states_of};
 ghost use Rattle.vlt_core.specs.Lookups.{release_set, permitted_in, states_or_all, states_of_type, key_type};
+ghost use Rattle.vlt_core.specs.HeldView.{IsSetOf};
 ghost use Rattle.vlt_rows.specs.Wide.{states_named};
 
 use vlt_base::{KeyId, StateSet, TypeId};
@@ -16,6 +17,41 @@ pub enum States {
     Below(usize),
     Only(u8),
     Nothing,
+}
+
+/// The numbers below n, if there are any and all are below 32.
+fn first(n: usize) -> Option<StateSet>
+    ensures { IsSetOf (λ i. nat_lt i n) result }
+{
+    if 1 <= n && n <= 32 {
+        Some(StateSet::first(n as u8))
+    } else {
+        None
+    }
+}
+
+fn only(s: u8) -> Option<StateSet>
+    ensures { IsSetOf (λ i. i == s) result }
+{
+    if s < 32 {
+        Some(StateSet::only(s))
+    } else {
+        None
+    }
+}
+
+impl States {
+    /// The set of just these states, if there is one.
+    pub fn set(self) -> Option<StateSet>
+        ensures { IsSetOf (states_named self) result }
+    {
+        match self {
+            States::Set(set) => Some(set),
+            States::Below(n) => first(n),
+            States::Only(s) => only(s),
+            States::Nothing => None,
+        }
+    }
 }
 
 /// The states in which a field may be touched.

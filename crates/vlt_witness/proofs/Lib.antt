@@ -7,6 +7,7 @@ pub mod Looping
 pub mod Forms
 pub mod Turns
 pub mod Runs
+pub mod Large
 pub mod Ends
 pub mod Starting
 pub mod Showing

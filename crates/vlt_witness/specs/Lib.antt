@@ -1,5 +1,6 @@
 pub mod Ways
 pub mod Search
 pub mod Aims
+pub mod Unfit
 pub mod Parts
 pub mod Shows

@@ -1,5 +1,5 @@
 -- What a search of each kind of part gives.
-use Rattle.std.specs.Prelude.{◌≡◌, ◌⊎◌, ◌+◌, ℕ, Bool, true, false, List, ◌∷◌, length}
+use Rattle.std.specs.Prelude.{◌≡◌, ◌⊎◌, ◌+◌, ◌≤◌, ◌^◌, ℕ, Bool, true, false, List, ◌∷◌, length, Result, MatchResult}
 use Rattle.vlt_core.specs.Core.{Tok}
 use Rattle.vlt_core.specs.Maps.{Row}
 use Rattle.vlt_core.specs.Flow.{Flow, Block, Stmts, Arms, no_arms, arm}
@@ -9,6 +9,8 @@ use Rattle.vlt_core.specs.Witness as w
 use Rattle.vlt_core.specs.Witness.{Choice, choice, case_arm, turn, exit, LeadsOn, Through, ThroughBlock, ThroughStmts, Met, MetHere, MetBlock, MetStmts}
 use Rattle.vlt_core.specs.declared.notes.Pick.{Pick}
 use Rattle.vlt_core.specs.FaultView.{pick_of}
+use Rattle.vlt_rows.specs.declared.sink.RowError.{RowError}
+use Rattle.vlt_rows.specs.Unfit.{UnfitBy, HasPart, HasPartStmts, HasPartArms}
 use Rattle.vlt_witness.specs.declared.aim.Aim.{Aim}
 use Rattle.vlt_witness.specs.declared.seen.Seen.{Seen}
 use Rattle.vlt_witness.specs.declared.ways.Way.{Way}
@@ -18,6 +20,7 @@ use Rattle.vlt_witness.specs.declared.search.Turned.{Turned}
 use Rattle.vlt_witness.specs.Ways.{On, OnSeen}
 use Rattle.vlt_witness.specs.Search.{Joined, Leg, Leads, CanLead, Sight, Meets, CanMeet, IsTable, IsSearched}
 use Rattle.vlt_witness.specs.Aims.{aim_tok, rows_aimed, joins_aimed, JoinHere, RowsHere}
+use Rattle.vlt_witness.specs.Unfit.{NoRows, HasManyArms, HasLongSwitch}
 
 -- what the aim is met by in a statement, a block, statements
 abbrev pub SeenIn : Aim → (at k : ℕ) → Flow → Sight
@@ -110,3 +113,45 @@ pub record IsTurned (a : Aim) (at k : ℕ) (rs : List Row) (s : Block) (r : Turn
 abbrev pub IsLanded : (continues : Bool) → List Way → Jumps → Jumps → Type 0
 IsLanded true ways j j' = (j'.breaks ≡ j.breaks) × Joined (On j.continues) (On ways) (On j'.continues)
 IsLanded false ways j j' = (j'.continues ≡ j.continues) × Joined (On j.breaks) (On ways) (On j'.breaks)
+
+-- ---- a part that is too large
+
+-- The rows and joins would have numbers of more than 64 bits, or this.
+abbrev pub IsLarge : (end : ℕ) → Type 0 → Type 0
+IsLarge end P = (2 ^ 64 ≤ end) ⊎ P
+
+-- a part whose rows and joins are numbered from k on
+abbrev pub LargeForm : (k : ℕ) → Flow → Type 0
+LargeForm k s = IsLarge (k + spots s) (HasPart NoRows HasManyArms s)
+
+abbrev pub LargeBlock : (k : ℕ) → Block → Type 0
+LargeBlock k s = IsLarge (k + spots_block s) (HasLongSwitch s)
+
+abbrev pub LargeStmts : (k : ℕ) → Stmts → Type 0
+LargeStmts k ss = IsLarge (k + spots_stmts ss) (HasPartStmts NoRows HasManyArms ss)
+
+abbrev pub LargeArms : (k : ℕ) → Arms → Type 0
+LargeArms k arms = IsLarge (k + spots_arms arms) (HasManyArms arms ⊎ HasPartArms NoRows HasManyArms arms)
+
+-- ---- a part is searched, or it is too large
+
+abbrev pub SearchesForm : Aim → (at k : ℕ) → Flow → List Way → Jumps → Jumps → List Seen → List Seen → Result Went RowError → Type 0
+SearchesForm a at k s L j j' m m' r = MatchResult r (SearchedForm a at k s L j j' m m') (UnfitBy (LargeForm k s))
+
+abbrev pub SearchesBlock : Aim → (k : ℕ) → Block → List Way → Jumps → Jumps → List Seen → List Seen → Result Went RowError → Type 0
+SearchesBlock a k s L j j' m m' r = MatchResult r (SearchedBlock a k s L j j' m m') (UnfitBy (LargeBlock k s))
+
+abbrev pub SearchesStmts : Aim → (k : ℕ) → Stmts → List Way → Jumps → Jumps → List Seen → List Seen → Result Went RowError → Type 0
+SearchesStmts a k ss L j j' m m' r = MatchResult r (SearchedStmts a k ss L j j' m m') (UnfitBy (LargeStmts k ss))
+
+abbrev pub SearchesWay : Aim → (at : ℕ) → Pick → (k : ℕ) → Block → List Way → Jumps → Jumps → List Seen → List Seen → Result Went RowError → Type 0
+SearchesWay a at pick k s L j j' m m' r = MatchResult r (SearchedWay a at pick k s L j j' m m') (UnfitBy (LargeBlock k s))
+
+abbrev pub SearchesArm : Aim → (at k i : ℕ) → List Row → Block → List Way → Jumps → Jumps → List Seen → List Seen → Result Went RowError → Type 0
+SearchesArm a at k i rs s L j j' m m' r = MatchResult r (SearchedArm a at k i rs s L j j' m m') (UnfitBy (LargeBlock (k + length rs) s))
+
+abbrev pub SearchesArms : Aim → (at k i : ℕ) → Arms → List Way → Jumps → Jumps → List Seen → List Seen → Result Went RowError → Type 0
+SearchesArms a at k i arms L j j' m m' r = MatchResult r (SearchedArms a at k i arms L j j' m m') (UnfitBy (LargeArms k arms))
+
+abbrev pub SearchesTurn : Aim → (at k : ℕ) → List Row → Block → Result Turned RowError → Type 0
+SearchesTurn a at k rs s r = MatchResult r (IsTurned a at k rs s) (UnfitBy (LargeBlock (k + 1 + length rs) s))

@@ -1,5 +1,5 @@
 -- What a search finds: statuses that paths come with, each with the choices of one path.
-use Rattle.std.specs.Prelude.{◌≡◌, ◌⊎◌, ◌<◌, ℕ, Bool, true, false, List, [], ◌∷◌, map, Option, None, Some}
+use Rattle.std.specs.Prelude.{◌≡◌, ◌⊎◌, ◌<◌, ℕ, Bool, true, false, List, [], ◌∷◌, Option, None, Some}
 use Rattle.vlt_core.specs.Found.{One, one_absent, one_held, one_lent, one_full}
 use Rattle.vlt_core.specs.FaultView.{choices_of}
 use Rattle.vlt_core.specs.Witness as w

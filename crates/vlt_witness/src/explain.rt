@@ -1,6 +1,6 @@
 //! The paths that show a fault.
 
-ghost use Rattle.std.specs.Prelude.{◌≡◌, ◌↔◌, false, List, Option, Some, None, IfOk, IfSome, slice_get};
+ghost use Rattle.std.specs.Prelude.{◌≡◌, ◌↔◌, false, List, Option, Some, None, IfOk, IfErr, IfSome, MatchResult, slice_get};
 ghost use Rattle.std.specs.Option.{option_map, option_copied};
 ghost use Rattle.vlt_core.specs.Found.{One, Has};
 ghost use Rattle.vlt_core.specs.Faults.{IsFirstFault};
@@ -13,9 +13,12 @@ ghost use Rattle.vlt_core_laws.specs.Sweep.{In};
 ghost use Rattle.vlt_found.specs.Ones.{many_of};
 ghost use Rattle.vlt_keyset.specs.Held.{map_of};
 ghost use Rattle.vlt_rows.specs.FlowView.{block_view};
+ghost use Rattle.vlt_rows.specs.Unfit.{UnfitBy};
 ghost use Rattle.vlt_check.specs.Checks.{IsWellFormed, fault_of};
 ghost use Rattle.vlt_check_laws.specs.Shown.{HasWitness};
 ghost use Rattle.vlt_witness.specs.Ways.{end_of_join, IsSeen, OnSeen};
+ghost use Rattle.vlt_witness.specs.Unfit.{IsUnfit, IsUnfitAt};
+ghost use Rattle.vlt_witness.specs.Parts.{LargeBlock};
 ghost use Rattle.vlt_witness.specs.Shows.{ArePaths, IsPair, HasNoPair, IsShownRow, IsShownJoin, IsShownBy};
 
 use crate::aim::{Aim, Goal};
@@ -55,7 +58,8 @@ fn start_ones(start: &Held, tok: Tok) -> Ones
 
 /// All that meets the aim in a body, from each of these statuses.
 fn all_paths(alloc: Global, aim: Aim, body: &FlowBlock, ones: Ones) -> Result<Items<Seen>, RowError>
-    ensures { IfOk result (ArePaths aim (block_view body.now) (In (many_of ones))) }
+    ensures { MatchResult result (ArePaths aim (block_view body.now) (In (many_of ones)))
+        (UnfitBy (LargeBlock 0 (block_view body.now))) }
 {
     let mut ways = Items::new(alloc);
     ways.push(Way {
@@ -106,6 +110,7 @@ fn row_paths(
         (first : List w.Choice) (second : Option (List w.Choice)) →
         IsShownRow (block_view body.now) (In (many_of ones)) (tok_of tok) at (wanted_of wanted)
         first second → ⊥) }
+    ensures unfit { IfErr result (UnfitBy (LargeBlock 0 (block_view body.now))) }
 {
     let aim = Aim {
         tok,
@@ -194,6 +199,7 @@ fn join_paths(
         (first : List w.Choice) (second : Option (List w.Choice)) →
         IsShownJoin (block_view body.now) (In (many_of ones)) (tok_of tok) at first second →
         ⊥) }
+    ensures unfit { IfErr result (UnfitBy (LargeBlock 0 (block_view body.now))) }
 {
     let absent = Aim {
         tok,
@@ -226,6 +232,7 @@ fn paths_of(
         (first : List w.Choice) (second : Option (List w.Choice)) →
         IsShownBy (block_view body.now) (In (many_of ones)) (fault_of fault.now) first second →
         ⊥) }
+    ensures unfit { IfErr result (UnfitBy (LargeBlock 0 (block_view body.now))) }
 {
     match fault.kind {
         FaultKind::Row { wanted, .. } => row_paths(alloc, fault.tok, fault.at, wanted, body, ones),
@@ -246,6 +253,8 @@ fn paths_in(
     ensures none { IfOk result (λ r. r ≡ None →
         (first : List w.Choice) (second : Option (List w.Choice)) →
         IsWitnessIn (program_of p.now) (func_of f.now) (fault_of fault.now) first second → ⊥) }
+    ensures unfit { IfErr result
+        (UnfitBy (IsUnfit (program_of p.now) (func_of f.now))) }
 {
     let flow = body_flow(alloc, p, f)?;
     let Ok(start) = start_map_of(alloc, p, f) else {
@@ -279,6 +288,8 @@ fn paths_at(
     ensures none { IfOk result (λ r. r ≡ None →
         (func_of f.now).external ≡ false → (first : List w.Choice) (second : Option (List w.Choice)) →
         IsWitnessIn (program_of p.now) (func_of f.now) (fault_of fault.now) first second → ⊥) }
+    ensures unfit { IfErr result (UnfitBy (((func_of f.now).external ≡ false) ×
+        IsUnfit (program_of p.now) (func_of f.now))) }
 {
     if f.external {
         return Ok(None);
@@ -296,6 +307,8 @@ fn paths_for(alloc: Global, p: &Program, fault: &FlowFault) -> Result<Option<Pat
         (option_map choices_of x.second))) }
     ensures none { IfOk result (λ r. r ≡ None →
         HasWitness (program_of p.now) (fault_of fault.now) → ⊥) }
+    ensures unfit { IfErr result
+        (UnfitBy (IsUnfitAt (program_of p.now) fault.now.fn_id.0)) }
 {
     match func_at(p, fault.fn_id) {
         None => Ok(None),
@@ -303,8 +316,9 @@ fn paths_for(alloc: Global, p: &Program, fault: &FlowFault) -> Result<Option<Pat
     }
 }
 
-/// A witness of a fault, if it has one; the first fault of a program has one. `Unfit` where a number of the program
-/// stands for nothing, or a switch has more than 256 arms.
+/// A witness of a fault, if it has one; the first fault of a program has one. `Unfit` only where the function of the fault
+/// is: its rows and joins, its keys or variables, or the arms of a switch are more than there are numbers, or a row names
+/// states of which there is no set. Any other error is want of memory.
 pub fn witness(alloc: Global, p: &Program, fault: &FlowFault) -> Result<Option<Witness>, RowError>
     ensures shows { IfOk result (λ r.
         IfSome r (λ x. IsWitness (program_of p.now) (fault_of fault.now) (choices_of x.first)
@@ -314,6 +328,8 @@ pub fn witness(alloc: Global, p: &Program, fault: &FlowFault) -> Result<Option<W
         HasWitness (program_of p.now) (fault_of fault.now) → ⊥) }
     ensures first { IfOk result (λ r. r ≡ None → IsWellFormed (program_of p.now) →
         IsFirstFault (program_of p.now) (fault_of fault.now) → ⊥) }
+    ensures unfit { IfErr result
+        (UnfitBy (IsUnfitAt (program_of p.now) fault.now.fn_id.0)) }
 {
     match paths_for(alloc, p, fault)? {
         None => Ok(None),

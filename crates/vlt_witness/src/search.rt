@@ -1,17 +1,18 @@
 //! The search: through each part of a body once, from every status at the head of a loop.
 
-ghost use Rattle.std.specs.Prelude.{◌≡◌, ◌+◌, [], IfOk, OnOk};
+ghost use Rattle.std.specs.Prelude.{◌≡◌, ◌+◌, ◌≤◌, ◌^◌, [], MatchResult, OnOk};
 ghost use Rattle.vlt_core.specs.Flow.{step, choose, loop, switch, scope, focus, return, jump};
 ghost use Rattle.vlt_witness.specs.declared.search.Jumps.{Jumps as JumpsSpec};
 ghost use Rattle.vlt_core.specs.HeldView.{toks_of};
 ghost use Rattle.vlt_rows.specs.FlowView.{flow_view, block_view, stmts_view, arm_view, arms_view, rows_view};
-ghost use Rattle.vlt_witness.specs.Parts.{SearchedForm, SearchedBlock, SearchedStmts, SearchedArm, SearchedArms, SearchedWay, IsLanded, IsTurned};
+ghost use Rattle.vlt_rows.specs.Unfit.{UnfitBy};
+ghost use Rattle.vlt_witness.specs.Parts.{SearchesForm, SearchesBlock, SearchesStmts, SearchesArm, SearchesArms, SearchesWay, IsLanded, SearchesTurn};
 
 use crate::aim::Aim;
 use crate::rows::{gone_rows, pass};
 use crate::seen::{JoinName, Seen, compose_seen, see_join};
 use crate::ways::{Way, chosen, close, compose, every, join};
-use std::alloc::Global;
+use std::alloc::{AllocError, Global};
 use vlt_base::Items;
 use vlt_core::{Pick, Row, Tok};
 use vlt_rows::{Flow, FlowArm, FlowBlock, FlowStmt, RowError};
@@ -32,7 +33,8 @@ pub struct Went {
 
 /// The number behind so many rows and joins.
 fn behind(number: usize, count: usize) -> Result<usize, RowError>
-    ensures { IfOk result (λ n. n ≡ number + count) }
+    ensures { MatchResult result (λ n. n ≡ number + count)
+        (UnfitBy (2 ^ 64 ≤ number + count)) }
 {
     match number.checked_add(count) {
         Some(next) => Ok(next),
@@ -61,8 +63,8 @@ fn search_form(
     jumps: &mut Jumps,
     met: &mut Items<Seen>,
 ) -> Result<Went, RowError>
-    ensures { IfOk result (SearchedForm aim at number (flow_view form.now) ways jumps.old
-        jumps.new met.old met.new) }
+    ensures { SearchesForm aim at number (flow_view form.now) ways jumps.old jumps.new met.old
+        met.new result }
 {
     match form {
         Flow::Step { rows } => search_step(alloc, aim, rows.as_slice(), at, number, ways, met),
@@ -133,8 +135,8 @@ fn search_step(
     ways: Items<Way>,
     met: &mut Items<Seen>,
 ) -> Result<Went, RowError>
-    ensures { IfOk result (λ r. (j : JumpsSpec) →
-        SearchedForm aim at number (step (rows_view rows.now)) ways j j met.old met.new r) }
+    ensures { (j : JumpsSpec) → SearchesForm aim at number (step (rows_view rows.now)) ways j j
+        met.old met.new result }
 {
     let next = pass(alloc, aim, at, rows, ways, met)?;
     Ok(Went {
@@ -153,8 +155,8 @@ fn search_return(
     ways: Items<Way>,
     met: &mut Items<Seen>,
 ) -> Result<Went, RowError>
-    ensures { IfOk result (λ r. (j : JumpsSpec) →
-        SearchedForm aim at number (return (rows_view rows.now)) ways j j met.old met.new r) }
+    ensures { (j : JumpsSpec) → SearchesForm aim at number (return (rows_view rows.now)) ways j j
+        met.old met.new result }
 {
     let _ended = pass(alloc, aim, at, rows, ways, met)?;
     Ok(Went {
@@ -164,7 +166,7 @@ fn search_return(
 }
 
 /// Puts ways to those of a jump.
-fn land(alloc: Global, jumps: &mut Jumps, continues: bool, ways: &[Way]) -> Result<(), RowError>
+fn land(alloc: Global, jumps: &mut Jumps, continues: bool, ways: &[Way]) -> Result<(), AllocError>
     ensures { OnOk result (IsLanded continues ways.now jumps.old jumps.new) }
 {
     if continues {
@@ -187,8 +189,8 @@ fn search_jump(
     jumps: &mut Jumps,
     met: &mut Items<Seen>,
 ) -> Result<Went, RowError>
-    ensures { IfOk result (SearchedForm aim at number (jump continues (toks_of left.now)) ways
-        jumps.old jumps.new met.old met.new) }
+    ensures { SearchesForm aim at number (jump continues (toks_of left.now)) ways jumps.old
+        jumps.new met.old met.new result }
 {
     let rows = gone_rows(alloc, left)?;
     let gone = pass(alloc, aim, at, rows.as_slice(), ways, met)?;
@@ -212,8 +214,8 @@ fn search_way(
     jumps: &mut Jumps,
     met: &mut Items<Seen>,
 ) -> Result<Went, RowError>
-    ensures { IfOk result (SearchedWay aim at pick number (block_view block.now) ways.now
-        jumps.old jumps.new met.old met.new) }
+    ensures { SearchesWay aim at pick number (block_view block.now) ways.now jumps.old jumps.new
+        met.old met.new result }
 {
     let picked = chosen(alloc, ways, at, pick)?;
     search_block(alloc, aim, block, number, picked, jumps, met)
@@ -232,9 +234,8 @@ fn search_if(
     jumps: &mut Jumps,
     met: &mut Items<Seen>,
 ) -> Result<Went, RowError>
-    ensures { IfOk result (SearchedForm aim at number
-        (choose (rows_view rows.now) (block_view then_block.now) (block_view else_block.now)) ways
-        jumps.old jumps.new met.old met.new) }
+    ensures { SearchesForm aim at number (choose (rows_view rows.now) (block_view then_block.now)
+        (block_view else_block.now)) ways jumps.old jumps.new met.old met.new result }
 {
     let passed = pass(alloc, aim, at, rows, ways, met)?;
     let inside = behind(number, rows.len())?;
@@ -293,7 +294,7 @@ fn search_turn(
     at: u32,
     number: usize,
 ) -> Result<Turned, RowError>
-    ensures { IfOk result (IsTurned aim at number (rows_view rows.now) (block_view body.now)) }
+    ensures { SearchesTurn aim at number (rows_view rows.now) (block_view body.now) result }
 {
     let mut met = Items::new(alloc);
     let heads = every(alloc)?;
@@ -340,9 +341,8 @@ fn search_while(
     ways: Items<Way>,
     met: &mut Items<Seen>,
 ) -> Result<Went, RowError>
-    ensures { IfOk result (λ r. (j : JumpsSpec) →
-        SearchedForm aim at number (loop (rows_view rows.now) (block_view body.now)) ways j j
-        met.old met.new r) }
+    ensures { (j : JumpsSpec) → SearchesForm aim at number (loop (rows_view rows.now) (block_view
+        body.now)) ways j j met.old met.new result }
 {
     let turned = search_turn(alloc, aim, rows, body, at, number)?;
     let heads = close(alloc, ways.as_slice(), turned.turn.as_slice())?;
@@ -372,9 +372,8 @@ fn search_switch(
     jumps: &mut Jumps,
     met: &mut Items<Seen>,
 ) -> Result<Went, RowError>
-    ensures { IfOk result (SearchedForm aim at number
-        (switch (rows_view rows.now) (arms_view arms.now) end) ways jumps.old jumps.new met.old
-        met.new) }
+    ensures { SearchesForm aim at number (switch (rows_view rows.now) (arms_view arms.now) end) ways
+        jumps.old jumps.new met.old met.new result }
 {
     let passed = pass(alloc, aim, at, rows, ways, met)?;
     let inside = behind(number, rows.len())?;
@@ -392,7 +391,7 @@ fn search_switch(
 
 /// The position of an arm in a choice.
 fn case_number(position: usize) -> Result<u8, RowError>
-    ensures { IfOk result (λ n. n ≡ position) }
+    ensures { MatchResult result (λ n. n ≡ position) (UnfitBy (2 ^ 8 ≤ position)) }
 {
     match u8::try_from(position) {
         Ok(number) => Ok(number),
@@ -413,8 +412,8 @@ fn search_arm(
     jumps: &mut Jumps,
     met: &mut Items<Seen>,
 ) -> Result<Went, RowError>
-    ensures { IfOk result (SearchedArm aim at number position (arm_view arm.now).0
-        (arm_view arm.now).1 ways.now jumps.old jumps.new met.old met.new) }
+    ensures { SearchesArm aim at number position (arm_view arm.now).0 (arm_view arm.now).1 ways.now
+        jumps.old jumps.new met.old met.new result }
 {
     let picked = chosen(alloc, ways, at, Pick::Case(position))?;
     let passed = pass(alloc, aim, at, arm.rows.as_slice(), picked, met)?;
@@ -433,8 +432,8 @@ fn search_arms(
     jumps: &mut Jumps,
     met: &mut Items<Seen>,
 ) -> Result<Went, RowError>
-    ensures { IfOk result (SearchedArms aim at number 0 (arms_view arms.now) ways.now jumps.old
-        jumps.new met.old met.new) }
+    ensures { SearchesArms aim at number 0 (arms_view arms.now) ways.now jumps.old jumps.new met.old
+        met.new result }
 {
     let mut next = Items::new(alloc);
     let mut spot = number;
@@ -469,9 +468,8 @@ fn search_focus(
     ways: Items<Way>,
     met: &mut Items<Seen>,
 ) -> Result<Went, RowError>
-    ensures { IfOk result (λ r. (j : JumpsSpec) →
-        SearchedForm aim at number (focus (rows_view rows.now) (block_view body.now)
-        (rows_view after.now)) ways j j met.old met.new r) }
+    ensures { (j : JumpsSpec) → SearchesForm aim at number (focus (rows_view rows.now) (block_view
+        body.now) (rows_view after.now)) ways j j met.old met.new result }
 {
     let passed = pass(alloc, aim, at, rows, ways, met)?;
     let mut out = no_jumps(alloc);
@@ -494,8 +492,8 @@ pub fn search_block(
     jumps: &mut Jumps,
     met: &mut Items<Seen>,
 ) -> Result<Went, RowError>
-    ensures { IfOk result (SearchedBlock aim number (block_view block.now) ways jumps.old
-        jumps.new met.old met.new) }
+    ensures { SearchesBlock aim number (block_view block.now) ways jumps.old jumps.new met.old
+        met.new result }
 {
     let end = search_list(alloc, aim, block.stmts.as_slice(), number, ways, jumps, met)?;
     let rows = gone_rows(alloc, block.bound.as_slice())?;
@@ -516,8 +514,8 @@ fn search_list(
     jumps: &mut Jumps,
     met: &mut Items<Seen>,
 ) -> Result<Went, RowError>
-    ensures { IfOk result (SearchedStmts aim number (stmts_view stmts.now) ways jumps.old
-        jumps.new met.old met.new) }
+    ensures { SearchesStmts aim number (stmts_view stmts.now) ways jumps.old jumps.new met.old
+        met.new result }
 {
     let mut next = ways;
     let mut spot = number;

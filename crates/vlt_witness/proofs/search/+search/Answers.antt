@@ -1,7 +1,6 @@
-use Rattle.std.proofs.Common.{◌≡◌, ◌∙◌, ◌<◌, ◌≤◌, ◌+◌, length, refl, sym, ap, subst, arith, IfOk}
-use Rattle.std.proofs.lemmas.Result.{IfOk-weaker}
+use Rattle.std.proofs.Common.{◌≡◌, ◌∙◌, ◌<◌, ◌≤◌, ◌+◌, length, refl, sym, ap, subst, arith}
 use Rattle.std.proofs.lemmas.List.{length-map}
-use Rattle.vlt_core.specs.Flow.{step, loop, scope, focus, return, end_of}
+use Rattle.vlt_core.specs.Flow.{scope, end_of}
 use Rattle.vlt_core.specs.Faults.{spots_block, spots_stmts, spots_arms}
 use Rattle.vlt_core.specs.Witness.{choice}
 use Rattle.vlt_core.specs.HeldView.{row_of, toks_of}
@@ -17,7 +16,8 @@ use Rattle.vlt_witness.specs.declared.search.Jumps.{Jumps}
 use Rattle.vlt_witness.specs.declared.search.Went.{Went}
 use Rattle.vlt_witness.specs.Ways.{On, nothing_found}
 use Rattle.vlt_witness.specs.Search.{Joined, Spreads, By, CanBy}
-use Rattle.vlt_witness.specs.Parts.{SearchedForm, SearchedBlock, SearchedWay, SearchedArm}
+use Rattle.vlt_witness.specs.Parts.{SearchedForm, SearchedBlock, SearchedWay, SearchedArm, SearchesForm, LargeBlock}
+use Rattle.vlt_witness.proofs.Large.{passed_on, answered, choose_rows, choose_first, choose_second, choose_end, turn_head, turn_rows, loop_turn, loop_end, switch_rows, switch_arms, switch_end, arm_rows, focus_rows, focus_body, focus_end, block_stmts, block_end, large_stmt, large_arm, many_arms}
 use Rattle.vlt_witness.proofs.Forms.{searched_choose, searched_block, searched_scope, searched_focus}
 use Rattle.vlt_witness.proofs.Turns.{turned, searched_loop}
 use Rattle.vlt_witness.proofs.Runs.{searched_way, searched_arm, searched_switch, listing_more, listing_ends, arming_more, arming_ends}
@@ -31,8 +31,8 @@ search_way-returns t c =
     let m = c.args.met.now in
     let o = c.search_block.new.met in
     let x = c.in_ok-picked.picked in
-    IfOk-weaker c.search_block.result (SearchedBlock a c.args.number s x j i m o) (SearchedWay a c.args.at c.args.pick c.args.number s c.args.ways.now j i m o)
-    (λ r b. searched_way a (choice c.args.at (pick_of c.args.pick)) c.args.number s c.args.ways.now x j i m o r c.in_ok-picked.ensures b) c.search_block.ensures
+    answered (SearchedBlock a c.args.number s x j i m o) (SearchedWay a c.args.at c.args.pick c.args.number s c.args.ways.now j i m o) c.search_block.result
+    (λ r b. searched_way a (choice c.args.at (pick_of c.args.pick)) c.args.number s c.args.ways.now x j i m o r c.in_ok-picked.ensures b) (λ h. h) c.search_block.ensures
 
 pub search_if-returns : goal.search_if-returns
 search_if-returns t c =
@@ -135,8 +135,8 @@ search_arm-returns t c =
     let b2 : c.len.result ≡ length (out-FlowArm c.args.arm.now).rows = c.len.ensures in
     let n1 : c.in_ok-inside.inside ≡ c.args.number + length rs = omega (arith, b1, b2, long, wide) in
     let inside = rw (← body, n1) at c.search_block.ensures in
-    IfOk-weaker c.search_block.result (SearchedBlock a (c.args.number + length rs) s c.in_ok-passed.passed j i m1 o) (SearchedArm a c.args.at c.args.number c.args.position rs s c.args.ways.now j i m o)
-    (λ r b. searched_arm a c.args.at c.args.number c.args.position rs s c.args.ways.now c.in_ok-picked.picked c.in_ok-passed.passed j i m m1 o r c.in_ok-picked.ensures walks sees b) inside
+    answered (SearchedBlock a (c.args.number + length rs) s c.in_ok-passed.passed j i m1 o) (SearchedArm a c.args.at c.args.number c.args.position rs s c.args.ways.now j i m o) c.search_block.result
+    (λ r b. searched_arm a c.args.at c.args.number c.args.position rs s c.args.ways.now c.in_ok-picked.picked c.in_ok-passed.passed j i m m1 o r c.in_ok-picked.ensures walks sees b) (λ h. h) inside
 
 pub search_arms-returns : goal.search_arms-returns
 search_arms-returns t c =
@@ -208,28 +208,24 @@ search_arms-loop-position-preserved t c =
 pub search_form-returns-in-Step : goal.search_form-returns-in-Step
 search_form-returns-in-Step t c =
     let j = c.args.jumps.now in
-    let f = step (rows_view c.in-Step.rows) in
     let inside = rw c.as_slice.ensures at c.search_step.ensures in
-    subst (λ f. IfOk c.search_step.result (SearchedForm c.args.aim c.args.at c.args.number f c.args.ways j j c.args.met.now c.search_step.new.met)) (sym (step_form c.args.form.now c.in-Step.rows c.in-Step.is))
-    (IfOk-weaker c.search_step.result (λ r. (j : Jumps) → SearchedForm c.args.aim c.args.at c.args.number f c.args.ways j j c.args.met.now c.search_step.new.met r) (SearchedForm c.args.aim c.args.at c.args.number f c.args.ways j j c.args.met.now c.search_step.new.met) (λ r x. x j) inside)
+    subst (λ f. SearchesForm c.args.aim c.args.at c.args.number f c.args.ways j j c.args.met.now c.search_step.new.met c.search_step.result) (sym (step_form c.args.form.now c.in-Step.rows c.in-Step.is)) (inside j)
 
 pub search_form-returns-in-If : goal.search_form-returns-in-If
 search_form-returns-in-If t c =
     let inside = rw c.as_slice-in-If.ensures at c.search_if.ensures in
-    subst (λ f. IfOk c.search_if.result (SearchedForm c.args.aim c.args.at c.args.number f c.args.ways c.args.jumps.now c.search_if.new.jumps c.args.met.now c.search_if.new.met)) (sym (if_form c.args.form.now c.in-If.rows c.in-If.then_block c.in-If.else_block c.in-If.is)) inside
+    subst (λ f. SearchesForm c.args.aim c.args.at c.args.number f c.args.ways c.args.jumps.now c.search_if.new.jumps c.args.met.now c.search_if.new.met c.search_if.result) (sym (if_form c.args.form.now c.in-If.rows c.in-If.then_block c.in-If.else_block c.in-If.is)) inside
 
 pub search_form-returns-in-While : goal.search_form-returns-in-While
 search_form-returns-in-While t c =
     let j = c.args.jumps.now in
-    let f = loop (rows_view c.in-While.rows) (block_view c.in-While.body) in
     let inside = rw c.as_slice-in-While.ensures at c.search_while.ensures in
-    subst (λ f. IfOk c.search_while.result (SearchedForm c.args.aim c.args.at c.args.number f c.args.ways j j c.args.met.now c.search_while.new.met)) (sym (while_form c.args.form.now c.in-While.rows c.in-While.body c.in-While.is))
-    (IfOk-weaker c.search_while.result (λ r. (j : Jumps) → SearchedForm c.args.aim c.args.at c.args.number f c.args.ways j j c.args.met.now c.search_while.new.met r) (SearchedForm c.args.aim c.args.at c.args.number f c.args.ways j j c.args.met.now c.search_while.new.met) (λ r x. x j) inside)
+    subst (λ f. SearchesForm c.args.aim c.args.at c.args.number f c.args.ways j j c.args.met.now c.search_while.new.met c.search_while.result) (sym (while_form c.args.form.now c.in-While.rows c.in-While.body c.in-While.is)) (inside j)
 
 pub search_form-returns-in-Switch : goal.search_form-returns-in-Switch
 search_form-returns-in-Switch t c =
     let inside = rw (c.as_slice-in-Switch.ensures, c.as_slice-in-Switch-2.ensures) at c.search_switch.ensures in
-    subst (λ f. IfOk c.search_switch.result (SearchedForm c.args.aim c.args.at c.args.number f c.args.ways c.args.jumps.now c.search_switch.new.jumps c.args.met.now c.search_switch.new.met)) (sym (switch_form c.args.form.now c.in-Switch.rows c.in-Switch.arms c.in-Switch.end c.in-Switch.is)) inside
+    subst (λ f. SearchesForm c.args.aim c.args.at c.args.number f c.args.ways c.args.jumps.now c.search_switch.new.jumps c.args.met.now c.search_switch.new.met c.search_switch.result) (sym (switch_form c.args.form.now c.in-Switch.rows c.in-Switch.arms c.in-Switch.end c.in-Switch.is)) inside
 
 pub search_form-returns-in-Scope : goal.search_form-returns-in-Scope
 search_form-returns-in-Scope t c =
@@ -239,27 +235,206 @@ search_form-returns-in-Scope t c =
     let i = c.search_block.new.jumps in
     let m = c.args.met.now in
     let o = c.search_block.new.met in
-    subst (λ f. IfOk c.search_block.result (SearchedForm a c.args.at c.args.number f c.args.ways j i m o)) (sym (scope_form c.args.form.now c.in-Scope.body c.in-Scope.is))
-    (IfOk-weaker c.search_block.result (SearchedBlock a c.args.number s c.args.ways j i m o) (SearchedForm a c.args.at c.args.number (scope s) c.args.ways j i m o)
-    (λ r x. searched_scope a c.args.at c.args.number s c.args.ways j i m o r x) c.search_block.ensures)
+    subst (λ f. SearchesForm a c.args.at c.args.number f c.args.ways j i m o c.search_block.result) (sym (scope_form c.args.form.now c.in-Scope.body c.in-Scope.is))
+    (answered (SearchedBlock a c.args.number s c.args.ways j i m o) (SearchedForm a c.args.at c.args.number (scope s) c.args.ways j i m o) c.search_block.result
+    (λ r x. searched_scope a c.args.at c.args.number s c.args.ways j i m o r x) (λ h. h) c.search_block.ensures)
 
 pub search_form-returns-in-Focus : goal.search_form-returns-in-Focus
 search_form-returns-in-Focus t c =
     let j = c.args.jumps.now in
-    let f = focus (rows_view c.in-Focus.rows) (block_view c.in-Focus.body) (rows_view c.in-Focus.after) in
     let inside = rw (c.as_slice-in-Focus.ensures, c.as_slice-in-Focus-2.ensures) at c.search_focus.ensures in
-    subst (λ f. IfOk c.search_focus.result (SearchedForm c.args.aim c.args.at c.args.number f c.args.ways j j c.args.met.now c.search_focus.new.met)) (sym (focus_form c.args.form.now c.in-Focus.rows c.in-Focus.body c.in-Focus.after c.in-Focus.is))
-    (IfOk-weaker c.search_focus.result (λ r. (j : Jumps) → SearchedForm c.args.aim c.args.at c.args.number f c.args.ways j j c.args.met.now c.search_focus.new.met r) (SearchedForm c.args.aim c.args.at c.args.number f c.args.ways j j c.args.met.now c.search_focus.new.met) (λ r x. x j) inside)
+    subst (λ f. SearchesForm c.args.aim c.args.at c.args.number f c.args.ways j j c.args.met.now c.search_focus.new.met c.search_focus.result) (sym (focus_form c.args.form.now c.in-Focus.rows c.in-Focus.body c.in-Focus.after c.in-Focus.is)) (inside j)
 
 pub search_form-returns-in-Return : goal.search_form-returns-in-Return
 search_form-returns-in-Return t c =
     let j = c.args.jumps.now in
-    let f = return (rows_view c.in-Return.rows) in
     let inside = rw c.as_slice-in-Return.ensures at c.search_return.ensures in
-    subst (λ f. IfOk c.search_return.result (SearchedForm c.args.aim c.args.at c.args.number f c.args.ways j j c.args.met.now c.search_return.new.met)) (sym (return_form c.args.form.now c.in-Return.rows c.in-Return.is))
-    (IfOk-weaker c.search_return.result (λ r. (j : Jumps) → SearchedForm c.args.aim c.args.at c.args.number f c.args.ways j j c.args.met.now c.search_return.new.met r) (SearchedForm c.args.aim c.args.at c.args.number f c.args.ways j j c.args.met.now c.search_return.new.met) (λ r x. x j) inside)
+    subst (λ f. SearchesForm c.args.aim c.args.at c.args.number f c.args.ways j j c.args.met.now c.search_return.new.met c.search_return.result) (sym (return_form c.args.form.now c.in-Return.rows c.in-Return.is)) (inside j)
 
 pub search_form-returns-in-Jump : goal.search_form-returns-in-Jump
 search_form-returns-in-Jump t c =
     let inside = rw c.as_slice-in-Jump.ensures at c.search_jump.ensures in
-    subst (λ f. IfOk c.search_jump.result (SearchedForm c.args.aim c.args.at c.args.number f c.args.ways c.args.jumps.now c.search_jump.new.jumps c.args.met.now c.search_jump.new.met)) (sym (jump_form c.args.form.now c.in-Jump.continues c.in-Jump.left c.in-Jump.is)) inside
+    subst (λ f. SearchesForm c.args.aim c.args.at c.args.number f c.args.ways c.args.jumps.now c.search_jump.new.jumps c.args.met.now c.search_jump.new.met c.search_jump.result) (sym (jump_form c.args.form.now c.in-Jump.continues c.in-Jump.left c.in-Jump.is)) inside
+
+-- ---- what isn't searched
+
+pub search_if-returns-in_err-inside : goal.search_if-returns-in_err-inside
+search_if-returns-in_err-inside t c =
+    let long = length-map c.args.rows.now row_of in
+    passed_on _ _ _ c.from_residual-in_err-inside.ensures.1 c.in_err-inside.ensures
+    (λ h. choose_rows c.args.number (rows_view c.args.rows.now) (block_view c.args.then_block.now) (block_view c.args.else_block.now) (omega (arith, h, long)))
+
+pub search_if-returns-in_err-a : goal.search_if-returns-in_err-a
+search_if-returns-in_err-a t c =
+    let rs = rows_view c.args.rows.now in
+    let long = length-map c.args.rows.now row_of in
+    let b1 : c.in_ok-inside.inside ≡ c.args.number + length c.args.rows.now = c.in_ok-inside.ensures in
+    let n1 : c.in_ok-inside.inside ≡ c.args.number + length rs = omega (arith, b1, long) in
+    passed_on _ _ _ c.from_residual-in_err-a.ensures.1 (rw n1 at c.in_err-a.ensures)
+    (λ h. choose_first c.args.number rs (block_view c.args.then_block.now) (block_view c.args.else_block.now) h)
+
+pub search_if-returns-in_err-b : goal.search_if-returns-in_err-b
+search_if-returns-in_err-b t c =
+    let rs = rows_view c.args.rows.now in
+    let u = block_view c.args.then_block.now in
+    let long = length-map c.args.rows.now row_of in
+    let b1 : c.in_ok-inside.inside ≡ c.args.number + length c.args.rows.now = c.in_ok-inside.ensures in
+    let n1 : c.in_ok-inside.inside ≡ c.args.number + length rs = omega (arith, b1, long) in
+    let first = rw n1 at c.in_ok-a.ensures in
+    let n2 : c.in_ok-a.a.number ≡ c.args.number + length rs + spots_block u = first.number in
+    passed_on _ _ _ c.from_residual-in_err-b.ensures.1 (rw n2 at c.in_err-b.ensures)
+    (λ h. choose_second c.args.number rs u (block_view c.args.else_block.now) h)
+
+pub search_if-returns-in_err-behind : goal.search_if-returns-in_err-behind
+search_if-returns-in_err-behind t c =
+    let rs = rows_view c.args.rows.now in
+    let u = block_view c.args.then_block.now in
+    let v = block_view c.args.else_block.now in
+    let long = length-map c.args.rows.now row_of in
+    let b1 : c.in_ok-inside.inside ≡ c.args.number + length c.args.rows.now = c.in_ok-inside.ensures in
+    let n1 : c.in_ok-inside.inside ≡ c.args.number + length rs = omega (arith, b1, long) in
+    let first = rw n1 at c.in_ok-a.ensures in
+    let n2 : c.in_ok-a.a.number ≡ c.args.number + length rs + spots_block u = first.number in
+    let second = rw n2 at c.in_ok-b.ensures in
+    let n3 : c.in_ok-b.b.number ≡ c.args.number + length rs + spots_block u + spots_block v = second.number in
+    passed_on _ _ _ c.from_residual-in_err-behind.ensures.1 (rw n3 at c.in_err-behind.ensures)
+    (λ h. choose_end c.args.number rs u v h)
+
+pub search_turn-returns-in_err-behind : goal.search_turn-returns-in_err-behind
+search_turn-returns-in_err-behind t c =
+    passed_on _ _ _ c.from_residual-in_err-behind.ensures.1 c.in_err-behind.ensures
+    (λ h. turn_head c.args.number (rows_view c.args.rows.now) (block_view c.args.body.now) h)
+
+pub search_turn-returns-in_err-first : goal.search_turn-returns-in_err-first
+search_turn-returns-in_err-first t c =
+    let long = length-map c.args.rows.now row_of in
+    let b1 : c.in_ok-behind.field-0 ≡ c.args.number + 1 = c.in_ok-behind.ensures in
+    passed_on _ _ _ c.from_residual-in_err-first.ensures.1 c.in_err-first.ensures
+    (λ h. turn_rows c.args.number (rows_view c.args.rows.now) (block_view c.args.body.now) (omega (arith, h, long, b1)))
+
+pub search_turn-returns-in_err-end : goal.search_turn-returns-in_err-end
+search_turn-returns-in_err-end t c =
+    let rs = rows_view c.args.rows.now in
+    let long = length-map c.args.rows.now row_of in
+    let b1 : c.in_ok-behind.field-0 ≡ c.args.number + 1 = c.in_ok-behind.ensures in
+    let b2 : c.in_ok-first.first ≡ c.in_ok-behind.field-0 + length c.args.rows.now = c.in_ok-first.ensures in
+    let n1 : c.in_ok-first.first ≡ c.args.number + 1 + length rs = omega (arith, b1, b2, long) in
+    passed_on _ _ _ c.from_residual-in_err-end.ensures.1 (rw n1 at c.in_err-end.ensures) (λ h. h)
+
+pub search_while-returns-in_err-turned : goal.search_while-returns-in_err-turned
+search_while-returns-in_err-turned t c = λ j.
+    passed_on _ _ _ c.from_residual.ensures.1 c.in_err-turned.ensures
+    (λ h. loop_turn c.args.number (rows_view c.args.rows.now) (block_view c.args.body.now) h)
+
+pub search_while-returns-in_err-behind : goal.search_while-returns-in_err-behind
+search_while-returns-in_err-behind t c = λ j.
+    let rs = rows_view c.args.rows.now in
+    let s = block_view c.args.body.now in
+    let n : c.in_ok-turned.turned.number ≡ c.args.number + 1 + length rs + spots_block s = c.in_ok-turned.ensures.number in
+    passed_on _ _ _ c.from_residual-in_err-behind.ensures.1 (rw n at c.in_err-behind.ensures)
+    (λ h. loop_end c.args.number rs s h)
+
+pub search_switch-returns-in_err-inside : goal.search_switch-returns-in_err-inside
+search_switch-returns-in_err-inside t c =
+    let long = length-map c.args.rows.now row_of in
+    passed_on _ _ _ c.from_residual-in_err-inside.ensures.1 c.in_err-inside.ensures
+    (λ h. switch_rows c.args.number (rows_view c.args.rows.now) (arms_view c.args.arms.now) c.args.end (omega (arith, h, long)))
+
+pub search_switch-returns-in_err-went : goal.search_switch-returns-in_err-went
+search_switch-returns-in_err-went t c =
+    let rs = rows_view c.args.rows.now in
+    let long = length-map c.args.rows.now row_of in
+    let b1 : c.in_ok-inside.inside ≡ c.args.number + length c.args.rows.now = c.in_ok-inside.ensures in
+    let n1 : c.in_ok-inside.inside ≡ c.args.number + length rs = omega (arith, b1, long) in
+    passed_on _ _ _ c.from_residual-in_err-went.ensures.1 (rw n1 at c.in_err-went.ensures)
+    (λ h. switch_arms c.args.number rs (arms_view c.args.arms.now) c.args.end h)
+
+pub search_switch-returns-in_err-behind : goal.search_switch-returns-in_err-behind
+search_switch-returns-in_err-behind t c =
+    let rs = rows_view c.args.rows.now in
+    let arms = arms_view c.args.arms.now in
+    let long = length-map c.args.rows.now row_of in
+    let b1 : c.in_ok-inside.inside ≡ c.args.number + length c.args.rows.now = c.in_ok-inside.ensures in
+    let n1 : c.in_ok-inside.inside ≡ c.args.number + length rs = omega (arith, b1, long) in
+    let inside = rw n1 at c.in_ok-went.ensures in
+    let n2 : c.in_ok-went.went.number ≡ c.args.number + length rs + spots_arms arms = inside.number in
+    passed_on _ _ _ c.from_residual-in_err-behind.ensures.1 (rw n2 at c.in_err-behind.ensures)
+    (λ h. switch_end c.args.number rs arms c.args.end h)
+
+pub search_arm-returns-in_err-inside : goal.search_arm-returns-in_err-inside
+search_arm-returns-in_err-inside t c =
+    let rs = (arm_view c.args.arm.now).0 in
+    let parts = arm_parts c.args.arm.now in
+    let rows : rs ≡ rows_view (out-FlowArm c.args.arm.now).rows = ap (λ p. p.0) parts in
+    let long = length-map (out-FlowArm c.args.arm.now).rows row_of in
+    let wide = ap length rows in
+    let b2 : c.len.result ≡ length (out-FlowArm c.args.arm.now).rows = c.len.ensures in
+    passed_on _ _ _ c.from_residual-in_err-inside.ensures.1 c.in_err-inside.ensures
+    (λ h. arm_rows c.args.number rs (arm_view c.args.arm.now).1 (omega (arith, h, b2, long, wide)))
+
+pub search_arms-returns-in_err-case : goal.search_arms-returns-in_err-case
+search_arms-returns-in_err-case t c =
+    let lt : c.loop-position.position < length c.args.arms.now = omega (arith, c.loop-position-test.true) in
+    passed_on _ _ _ c.from_residual.ensures.1 c.in_err-case.ensures
+    (λ h. many_arms c.args.arms.now c.loop-position.position c.args.number lt h)
+
+pub search_arms-returns-in_err-end : goal.search_arms-returns-in_err-end
+search_arms-returns-in_err-end t c =
+    let l = c.loop-position in
+    let lt : l.position < length c.args.arms.now = omega (arith, c.loop-position-test.true) in
+    let x = c.index-arms-position.result in
+    let split = split_at c.args.arms.now l.position x lt c.index-arms-position.is in
+    passed_on _ _ _ c.from_residual-in_err-end.ensures.1 c.in_err-end.ensures
+    (λ h. large_arm c.args.arms.now l.position c.args.number l.spot x split l.invariant.number h)
+
+pub search_focus-returns-in_err-inside : goal.search_focus-returns-in_err-inside
+search_focus-returns-in_err-inside t c = λ j.
+    let long = length-map c.args.rows.now row_of in
+    passed_on _ _ _ c.from_residual-in_err-inside.ensures.1 c.in_err-inside.ensures
+    (λ h. focus_rows c.args.number (rows_view c.args.rows.now) (block_view c.args.body.now) (rows_view c.args.after.now) (omega (arith, h, long)))
+
+pub search_focus-returns-in_err-end : goal.search_focus-returns-in_err-end
+search_focus-returns-in_err-end t c = λ j.
+    let rs = rows_view c.args.rows.now in
+    let long = length-map c.args.rows.now row_of in
+    let b1 : c.in_ok-inside.inside ≡ c.args.number + length c.args.rows.now = c.in_ok-inside.ensures in
+    let n1 : c.in_ok-inside.inside ≡ c.args.number + length rs = omega (arith, b1, long) in
+    passed_on _ _ _ c.from_residual-in_err-end.ensures.1 (rw n1 at c.in_err-end.ensures)
+    (λ h. focus_body c.args.number rs (block_view c.args.body.now) (rows_view c.args.after.now) h)
+
+pub search_focus-returns-in_err-behind : goal.search_focus-returns-in_err-behind
+search_focus-returns-in_err-behind t c = λ j.
+    let rs = rows_view c.args.rows.now in
+    let s = block_view c.args.body.now in
+    let long = length-map c.args.rows.now row_of in
+    let wide = length-map c.args.after.now row_of in
+    let b1 : c.in_ok-inside.inside ≡ c.args.number + length c.args.rows.now = c.in_ok-inside.ensures in
+    let n1 : c.in_ok-inside.inside ≡ c.args.number + length rs = omega (arith, b1, long) in
+    let inside = rw n1 at c.in_ok-end.ensures in
+    let n2 : c.in_ok-end.end.number ≡ c.args.number + length rs + spots_block s = inside.number in
+    passed_on _ _ _ c.from_residual-in_err-behind.ensures.1 c.in_err-behind.ensures
+    (λ h. focus_end c.args.number rs s (rows_view c.args.after.now) (omega (arith, h, n2, wide)))
+
+pub search_block-returns-in_err-end : goal.search_block-returns-in_err-end
+search_block-returns-in_err-end t c =
+    let b = out-FlowBlock c.args.block.now in
+    passed_on _ _ _ c.from_residual.ensures.1 (rw c.as_slice.ensures at c.in_err-end.ensures)
+    (λ h. subst (LargeBlock c.args.number) (sym (block_parts c.args.block.now)) (block_stmts c.args.number (stmts_view b.stmts) (toks_of b.bound) b.end h))
+
+pub search_block-returns-in_err-behind : goal.search_block-returns-in_err-behind
+search_block-returns-in_err-behind t c =
+    let b = out-FlowBlock c.args.block.now in
+    let inside = rw c.as_slice.ensures at c.in_ok-end.ensures in
+    let long = length-map b.bound tok_of in
+    let n : c.in_ok-end.end.number ≡ c.args.number + spots_stmts (stmts_view b.stmts) = inside.number in
+    let b2 : c.len.result ≡ length b.bound = c.len.ensures in
+    passed_on _ _ _ c.from_residual-in_err-behind.ensures.1 c.in_err-behind.ensures
+    (λ h. subst (LargeBlock c.args.number) (sym (block_parts c.args.block.now)) (block_end c.args.number (stmts_view b.stmts) (toks_of b.bound) b.end (omega (arith, h, n, b2, long))))
+
+pub search_list-returns-in_err-went : goal.search_list-returns-in_err-went
+search_list-returns-in_err-went t c =
+    let l = c.loop-s in
+    let lt : l.s-index < length c.args.stmts.now = omega (arith, c.loop-s-test.true) in
+    let split = split_at c.args.stmts.now l.s-index c.s-item.result lt c.s-item.is in
+    passed_on _ _ _ c.from_residual.ensures.1 c.in_err-went.ensures
+    (λ h. large_stmt c.args.stmts.now l.s-index c.args.number l.spot c.s-item.result split l.invariant.number h)

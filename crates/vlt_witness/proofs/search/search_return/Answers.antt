@@ -1,9 +1,10 @@
-use Rattle.std.proofs.Common.{◌≡◌, ◌+◌, length, arith}
+use Rattle.std.proofs.Common.{◌≡◌, ◌+◌, length, inl, arith}
 use Rattle.std.proofs.lemmas.List.{length-map}
 use Rattle.vlt_core.specs.HeldView.{row_of}
 use Rattle.vlt_rows.specs.FlowView.{rows_view}
 use Rattle.vlt_witness.specs.declared.search.Went.{Went}
 use Rattle.vlt_witness.proofs.Forms.{searched_return}
+use Rattle.vlt_witness.proofs.Large.{passed_on}
 use Rattle.vlt_witness.proofs.search.search_return.Goals as goal
 
 pub returns : goal.returns
@@ -12,3 +13,8 @@ returns c = λ j.
     let b : c.in_ok-behind.field-0 ≡ c.args.number + length c.args.rows.now = c.in_ok-behind.ensures in
     let r : Went = record { next = c.new.result; number = c.in_ok-behind.field-0 } in
     searched_return c.args.aim c.args.at c.args.number (rows_view c.args.rows.now) c.args.ways c.in_ok-_ended._ended j c.args.met.now c.pass.new.met r c.in_ok-_ended.ensures.walks c.in_ok-_ended.ensures.sees c.new.ensures (omega (arith, b, long))
+
+pub returns-in_err-behind : goal.returns-in_err-behind
+returns-in_err-behind c = λ j.
+    let long = length-map c.args.rows.now row_of in
+    passed_on _ _ _ c.from_residual-in_err-behind.ensures.1 c.in_err-behind.ensures (λ h. inl (omega (arith, h, long)))

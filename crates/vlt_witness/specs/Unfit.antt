@@ -1,0 +1,40 @@
+-- Why a function's body is unfit for a search.
+use Rattle.std.specs.Prelude.{◌≡◌, ℕ, ◌+◌, ◌<◌, ◌≤◌, ◌^◌, false, List, length, Some, slice_get}
+use Rattle.vlt_core.specs.Core.{Func, Program}
+use Rattle.vlt_core.specs.Maps.{Row}
+use Rattle.vlt_core.specs.Flow.{Block, Arms, no_arms, arm}
+use Rattle.vlt_core.specs.Bodies.{body_flow}
+use Rattle.vlt_core.specs.Faults.{spots_block}
+use Rattle.vlt_rows.specs.Unfit.{HasPartBlock, HasWideRow}
+
+abbrev pub arm_count : Arms → ℕ
+arm_count no_arms = 0
+arm_count (arm rs b rest) = 1 + arm_count rest
+
+-- The last arm has no position of 8 bits.
+abbrev pub HasManyArms : Arms → Type 0
+HasManyArms arms = 2 ^ 8 < arm_count arms
+
+abbrev pub NoRows : List Row → Type 0
+NoRows rs = ⊥
+
+-- some switch of the body has so many arms
+abbrev pub HasLongSwitch : Block → Type 0
+HasLongSwitch = HasPartBlock NoRows HasManyArms
+
+pub data IsUnfit (p : Program) (f : Func) : Type 0 where
+  -- a row names states of which no set has just these
+  wide_row : HasWideRow (body_flow p f) → IsUnfit p f
+  -- the last key, or variable, has no number of 32 bits
+  many_keys : 2 ^ 32 < length f.keys → IsUnfit p f
+  many_vars : 2 ^ 32 < length f.vars → IsUnfit p f
+  long_switch : HasLongSwitch (body_flow p f) → IsUnfit p f
+  -- the number behind the last row or join has more than 64 bits
+  many_spots : 2 ^ 64 ≤ spots_block (body_flow p f) → IsUnfit p f
+
+-- The function of this number has a body that is unfit.
+pub record IsUnfitAt (p : Program) (function : ℕ) : Type 0 where
+  pub func : Func
+  pub there : slice_get p.fns function ≡ Some func
+  pub with_body : func.external ≡ false
+  pub unfit : IsUnfit p func
