@@ -22,7 +22,7 @@ use vlt_reports as reports;
 use vlt_verdict::Verdict;
 use vlt_witness::witness;
 
-/// The paths of the first fault. A number of the program that stands for nothing counts as want of memory, as in the check.
+/// The paths of the first fault. Where its function is unfit for a search, that counts as want of memory.
 fn paths_of(alloc: Global, program: &Program, fault: &FlowFault) -> Result<Witness, AllocError>
     requires well_formed { IsWellFormed (program_of program.now) }
     requires first { IsFirstFault (program_of program.now) (fault_of fault.now) }

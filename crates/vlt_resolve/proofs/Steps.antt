@@ -1,5 +1,5 @@
 -- One function more.
-use Rattle.std.proofs.Common.{◌≡◌, ◌<◌, ◌+◌, ◌∙◌, ℕ, true, if◌then◌else◌, List, [], ◌∷◌, ◌++◌, map, length, drop, get_or, Result, Ok, sym, ap, subst}
+use Rattle.std.proofs.Common.{◌≡◌, ◌<◌, ◌+◌, ◌∙◌, ℕ, true, if◌then◌else◌, List, [], ◌∷◌, ◌++◌, map, length, drop, get_or, Result, Ok, Err, refl, append_assoc, sym, ap, subst}
 use Rattle.std.proofs.lemmas.List.{drop_more, map-append, length-append}
 use Rattle.vlt_kinds_names.specs.declared.found.Refusal.{Refusal}
 use Rattle.vlt_syntax.specs.Tree.{Decl}
@@ -9,12 +9,16 @@ use Rattle.vlt_core.specs.Core.{Func}
 use Rattle.vlt_core.specs.declared.program.Func as made
 use Rattle.vlt_core.specs.View.{func_of}
 use Rattle.vlt_kinds.specs.Kinds.{Kinds}
-use Rattle.vlt_resolve.specs.Walk.{then_do}
+use Rattle.vlt_resolve_walk.specs.Walk.{then_do}
 use Rattle.vlt_resolve.specs.Elaboration.{walk_decls, walk_function, is_function}
-use Rattle.vlt_resolve.proofs.Walking.{behind_funcs, behind_more_funcs}
 
-abbrev Walked : Type 0
-Walked = Result (List Func) Refusal
+-- what was made before, and then these
+abbrev pub behind_funcs : List Func → Result (List Func) Refusal → Result (List Func) Refusal
+behind_funcs made x = then_do x (λ fs. Ok (made ++ fs))
+
+pub behind_more_funcs : (x : Result (List Func) Refusal) (made : List Func) (f : Func) → behind_funcs made (then_do x (λ fs. Ok (f ∷ fs))) ≡ behind_funcs (made ++ f ∷ []) x
+behind_more_funcs (Ok fs) made f = rw append_assoc refl
+behind_more_funcs (Err r) made f = refl
 
 one_more : (k : Kinds) (hs : List Func) (ds : List Decl) (h : Func) (d : Decl) (f : Func) (before : List Func)
     → is_function d ≡ true → walk_function k h d ≡ Ok f

@@ -16,8 +16,8 @@ use Rattle.vlt_kinds.specs.Kinds.{Kinds}
 use Rattle.vlt_resolve_exprs.specs.declared.limits.TheConstants.{TOO_MANY_VARIABLES, TOO_MANY_KEYS}
 use Rattle.vlt_resolve_exprs.specs.Scopes.{Scope, with_name}
 use Rattle.vlt_resolve_stmts.specs.Around.{Around}
-use Rattle.vlt_resolve.specs.Blocks.{block_ends, closing}
-use Rattle.vlt_resolve.specs.Walk.{then_do, unless_refused, walk_stmts}
+use Rattle.vlt_resolve_walk.specs.Blocks.{block_ends, closing}
+use Rattle.vlt_resolve_walk.specs.Walk.{then_do, unless_refused, walk_stmts}
 
 -- ---- the scope that a body begins with
 

@@ -1,4 +1,2 @@
-pub mod Blocks
-pub mod Walk
 pub mod Elaboration
 pub mod Refusals

@@ -1,15 +1,8 @@
--- What a refusal says.
+-- What an error says.
 use Rattle.std.specs.Prelude.{◌≡◌, ℕ, Option, Some, None, Result, Err}
-use Rattle.vlt_kinds_names.specs.declared.found.Refusal.{Refusal}
-use Rattle.vlt_resolve.specs.declared.error.Stop.{Stop}
-use Rattle.vlt_resolve.specs.declared.error.Stop.TheVariants.{Refused}
 use Rattle.vlt_resolve.specs.declared.error.ElabError.{ElabError}
 use Rattle.vlt_resolve.specs.declared.error.ElabError.TheVariants.{Rule, Limit, Memory}
 use Rattle.vlt_resolve.specs.Elaboration.{Told, broken, exceeded}
-
--- a fact for the refusal at which the walk stopped
-pub record OnRefused {A : Type 0} (r : Result A Stop) (p : Refusal → Type 0) : Type 0 where
-  pub holds : (x : Refusal) → r ≡ Err (Refused x) → p x
 
 -- a fact for what is told
 pub record OnTold {A : Type 0} (r : Result A ElabError) (p : Told → Type 0) : Type 0 where

@@ -7,11 +7,8 @@ ghost use Rattle.vlt_kinds_names.specs.Refusals.{least_from, least};
 ghost use Rattle.vlt_kinds.specs.Seen.{kinds_seen};
 ghost use Rattle.vlt_resolve_exprs.specs.Seen.{scope_seen};
 ghost use Rattle.vlt_resolve.specs.Elaboration as e;
-ghost use Rattle.vlt_resolve.specs.Refusals.{OnRefused};
+ghost use Rattle.vlt_resolve_walk.specs.Refusals.{OnRefused};
 
-use crate::blocks::{block_ends, closing};
-use crate::error::Stop;
-use crate::walk::{passed, walk_stmts};
 use indexmap::IndexMap;
 use std::alloc::{AllocError, Global as Heap};
 use vlt_base::{FnId, Items, KeyId, VarId};
@@ -23,6 +20,7 @@ use vlt_resolve_copies::{copy_func, copy_keys, copy_vars, func_of_head};
 use vlt_resolve_exprs::Scope;
 use vlt_resolve_exprs::limits::{TOO_MANY_KEYS, TOO_MANY_VARIABLES};
 use vlt_resolve_stmts::Around;
+use vlt_resolve_walk::{Stop, block_ends, closing, passed, walk_stmts};
 use vlt_syntax::{Block, Decl};
 
 // ---- the scope that a body begins with

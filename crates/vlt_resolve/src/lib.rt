@@ -1,5 +1,5 @@
 //! Elaboration: a tree and the table of its kinds in, the core program out, or the first rule or limit that refuses a body.
-//! Read `specs/Elaboration.antt` first, then `Walk`, `Statements` and `Declarations`.
+//! Read `specs/Elaboration.antt` first.
 //! The check, the runs and the lowering rest on the program that comes out.
 #![tactic(auto)]
 
@@ -8,14 +8,13 @@ ghost use Rattle.vlt_syntax.specs.View.{tree_of};
 ghost use Rattle.vlt_core.specs.View.{program_of};
 ghost use Rattle.vlt_kinds.specs.Seen.{kinds_seen};
 ghost use Rattle.vlt_resolve.specs.Elaboration.{elaborated, told_of, walk_tree};
-ghost use Rattle.vlt_resolve.specs.Refusals.{OnRefused, OnTold, error_seen};
+ghost use Rattle.vlt_resolve.specs.Refusals.{OnTold, error_seen};
+ghost use Rattle.vlt_resolve_walk.specs.Refusals.{OnRefused};
 
-mod blocks;
 mod error;
 mod functions;
-mod walk;
 
-pub use error::{ElabError, Stop};
+pub use error::ElabError;
 use std::alloc::Global as Heap;
 use vlt_base::{KEYS, VARIABLES};
 use vlt_core::Program;
@@ -23,6 +22,7 @@ use vlt_kinds::Kinds;
 use vlt_kinds_names::Refusal;
 use vlt_resolve_copies::{copy_decls, copy_sets};
 use vlt_resolve_exprs::limits::{TOO_MANY_KEYS, TOO_MANY_VARIABLES};
+use vlt_resolve_walk::Stop;
 use vlt_syntax::Tree;
 
 fn program(alloc: Heap, tree: &Tree, kinds: &Kinds<'_>) -> Result<Program, Stop>

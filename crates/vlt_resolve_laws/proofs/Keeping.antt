@@ -21,9 +21,9 @@ use Rattle.vlt_resolve_calls.specs.Builds as b
 use Rattle.vlt_resolve_calls.specs.Builds.{case_at}
 use Rattle.vlt_resolve_stmts.specs.Around.{Around, inside_loop, inside_focus}
 use Rattle.vlt_resolve_stmts.specs.Statements.{simple_refused, simple_became}
-use Rattle.vlt_resolve_stmts.specs.Switches.{arm_names, is_among, case_names, all_among, switch_refused, arm_case, arm_refused, arm_scope, arm_numbers, focus_refused, bound_scope}
-use Rattle.vlt_resolve.specs.Blocks.{ends, block_ends, else_ends, arms_end, end_with, stmt_place, closing, else_closing}
-use Rattle.vlt_resolve.specs.Walk.{late, placed_at, block_made, walk_stmts, walk_stmt, walk_block, walk_else, walk_arms, walk_arm, walk_simple}
+use Rattle.vlt_resolve_switches.specs.Switches.{arm_names, is_among, case_names, all_among, switch_refused, arm_case, arm_refused, arm_scope, arm_numbers, focus_refused, bound_scope}
+use Rattle.vlt_resolve_walk.specs.Blocks.{ends, block_ends, else_ends, arms_end, end_with, stmt_place, closing, else_closing}
+use Rattle.vlt_resolve_walk.specs.Walk.{late, placed_at, block_made, walk_stmts, walk_stmt, walk_block, walk_else, walk_arms, walk_arm, walk_simple}
 use Rattle.vlt_kinds_laws.specs.Declared.{BreakNothing}
 use Rattle.vlt_resolve_laws.specs.Agrees.{Agrees, HasFields}
 use Rattle.vlt_resolve_laws.specs.Steps.{InStep, Grows}

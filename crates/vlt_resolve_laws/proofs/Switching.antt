@@ -28,8 +28,8 @@ use Rattle.vlt_resolve_exprs.specs.Bindings.{several_refused, with_several, seve
 use Rattle.vlt_resolve_calls.specs.Builds as b
 use Rattle.vlt_resolve_calls.specs.Builds.{Case, payload_in, case_at, case_position, case_in, case_of_tick}
 use Rattle.vlt_resolve_stmts.specs.Around.{Around}
-use Rattle.vlt_resolve_stmts.specs.Switches.{arm_names, is_among, are_distinct, case_names, all_among, variant_covered, cases_refused, switch_refused, arm_case, arm_refused, arm_scope, arm_numbers, case_number, focused_refused, focus_refused, bound_scope}
-use Rattle.vlt_resolve.specs.Walk.{walk_stmts, walk_arms, walk_arm}
+use Rattle.vlt_resolve_switches.specs.Switches.{arm_names, is_among, are_distinct, case_names, all_among, variant_covered, cases_refused, switch_refused, arm_case, arm_refused, arm_scope, arm_numbers, case_number, focused_refused, focus_refused, bound_scope}
+use Rattle.vlt_resolve_walk.specs.Walk.{walk_stmts, walk_arms, walk_arm}
 use Rattle.vlt_resolve_laws.specs.Agrees.{HasFields}
 use Rattle.vlt_resolve_laws.specs.Steps.{IsTyped, InStep, Grows}
 use Rattle.vlt_resolve_laws.proofs.Exprs.{typed_name}

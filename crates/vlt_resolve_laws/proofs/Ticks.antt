@@ -20,7 +20,7 @@ use Rattle.vlt_kinds_laws.proofs.Empty.{cons_not_nil, no_right, none_in_each}
 use Rattle.vlt_kinds_laws.proofs.Parts.{each_both, each_other}
 use Rattle.vlt_kinds_laws.proofs.Rows.{each_at, each_in}
 use Rattle.vlt_kinds_laws.proofs.Tables.{same_name, name_itself}
-use Rattle.vlt_resolve_stmts.specs.Switches.{is_among, are_distinct, case_names}
+use Rattle.vlt_resolve_switches.specs.Switches.{is_among, are_distinct, case_names}
 use Rattle.vlt_resolve_laws.specs.WalkSteps.{HasCases}
 use Rattle.vlt_syntax_laws.specs.Ticks.{IsTick, HasTicks}
 

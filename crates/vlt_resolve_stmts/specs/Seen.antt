@@ -1,6 +1,5 @@
 -- What the code knows of a statement's place, as plain data.
-use Rattle.std.specs.Prelude.{ℕ, List, map}
-use Rattle.std.specs.Borrow.{Bor}
+use Rattle.std.specs.Prelude.{map}
 use Rattle.std.specs.Option.{option_map}
 use Rattle.vlt_core.specs.View.{ty_of, entry_of}
 use Rattle.vlt_resolve_stmts.specs.Around as s
@@ -13,6 +12,3 @@ around_seen a = record {
   in_loop = a.in_loop;
   in_focus = a.in_focus;
 }
-
-abbrev pub texts_seen : List (Bor (List ℕ)) → List (List ℕ)
-texts_seen = map (λ n. n.now)

@@ -3,7 +3,7 @@ use Rattle.vlt_syntax.specs.View.{decl_of}
 use Rattle.vlt_core.specs.View.{func_of}
 use Rattle.vlt_kinds.specs.Seen.{kinds_seen}
 use Rattle.vlt_resolve.specs.Elaboration as e
-use Rattle.vlt_resolve.proofs.Walking.{behind_funcs}
+use Rattle.vlt_resolve.proofs.Steps.{behind_funcs}
 use Rattle.vlt_resolve.proofs.functions.walk_decls.Given as goal
 
 abbrev pub invariant-loop-decl : goal.invariant-loop-decl

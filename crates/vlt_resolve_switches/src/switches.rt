@@ -9,8 +9,8 @@ ghost use Rattle.vlt_kinds_names.specs.Refusals.{least_from};
 ghost use Rattle.vlt_kinds.specs.Seen.{kinds_seen};
 ghost use Rattle.vlt_resolve_exprs.specs.Seen.{scope_seen};
 ghost use Rattle.vlt_resolve_calls.specs.Seen.{case_seen};
-ghost use Rattle.vlt_resolve_stmts.specs.Switches as s;
-ghost use Rattle.vlt_resolve_stmts.specs.Seen.{texts_seen};
+ghost use Rattle.vlt_resolve_switches.specs.Switches as s;
+ghost use Rattle.vlt_resolve_switches.specs.Seen.{texts_seen};
 
 use std::alloc::{AllocError, Global as Heap};
 use vlt_base::{Items, KeyId, TypeId, VarId};

@@ -1,8 +1,8 @@
 use Rattle.std.proofs.Common.{◌≡◌, ◌++◌, drop}
 use Rattle.vlt_syntax.specs.View.{arms_of}
-use Rattle.vlt_resolve_stmts.specs.Switches as s
-use Rattle.vlt_resolve_stmts.specs.Seen.{texts_seen}
-use Rattle.vlt_resolve_stmts.proofs.switches.arm_names.Given as goal
+use Rattle.vlt_resolve_switches.specs.Switches as s
+use Rattle.vlt_resolve_switches.specs.Seen.{texts_seen}
+use Rattle.vlt_resolve_switches.proofs.switches.arm_names.Given as goal
 
 abbrev pub invariant-loop-arm : goal.invariant-loop-arm
 invariant-loop-arm l =

@@ -2,7 +2,7 @@
 
 ghost use Rattle.std.specs.Prelude.{◌≡◌};
 ghost use Rattle.vlt_syntax.specs.View as tree;
-ghost use Rattle.vlt_resolve.specs.Blocks as b;
+ghost use Rattle.vlt_resolve_walk.specs.Blocks as b;
 
 use vlt_syntax::{Arm, Block, Else, If, Stmt};
 

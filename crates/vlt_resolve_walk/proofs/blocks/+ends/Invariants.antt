@@ -1,7 +1,7 @@
 use Rattle.std.proofs.Common.{◌≡◌, drop, false}
 use Rattle.vlt_syntax.specs.View.{stmts_of, arms_of}
-use Rattle.vlt_resolve.specs.Blocks as b
-use Rattle.vlt_resolve.proofs.blocks.+ends.Given as goal
+use Rattle.vlt_resolve_walk.specs.Blocks as b
+use Rattle.vlt_resolve_walk.proofs.blocks.+ends.Given as goal
 
 abbrev pub invariant-block_ends-loop-stmt : goal.invariant-block_ends-loop-stmt
 invariant-block_ends-loop-stmt l =

@@ -1,7 +1,7 @@
 use Rattle.std.proofs.Common.{◌≡◌, drop}
-use Rattle.vlt_resolve_stmts.specs.Switches as s
-use Rattle.vlt_resolve_stmts.specs.Seen.{texts_seen}
-use Rattle.vlt_resolve_stmts.proofs.switches.all_among.Given as goal
+use Rattle.vlt_resolve_switches.specs.Switches as s
+use Rattle.vlt_resolve_switches.specs.Seen.{texts_seen}
+use Rattle.vlt_resolve_switches.proofs.switches.all_among.Given as goal
 
 abbrev pub invariant-loop-other : goal.invariant-loop-other
 invariant-loop-other l =

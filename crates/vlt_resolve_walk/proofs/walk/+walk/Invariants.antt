@@ -4,9 +4,9 @@ use Rattle.vlt_core.specs.View.{stmt_of, arm_of, ty_of}
 use Rattle.vlt_kinds.specs.Seen.{kinds_seen}
 use Rattle.vlt_resolve_exprs.specs.Seen.{scope_seen}
 use Rattle.vlt_resolve_stmts.specs.Seen.{around_seen}
-use Rattle.vlt_resolve.specs.Walk.{walk_stmts, walk_arms}
-use Rattle.vlt_resolve.proofs.Walking.{behind, behind_arms}
-use Rattle.vlt_resolve.proofs.walk.+walk.Given as goal
+use Rattle.vlt_resolve_walk.specs.Walk.{walk_stmts, walk_arms}
+use Rattle.vlt_resolve_walk.proofs.Walking.{behind, behind_arms}
+use Rattle.vlt_resolve_walk.proofs.walk.+walk.Given as goal
 
 abbrev pub invariant-walk_stmts-loop-stmt : goal.invariant-walk_stmts-loop-stmt
 invariant-walk_stmts-loop-stmt l =

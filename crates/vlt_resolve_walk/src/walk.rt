@@ -11,14 +11,14 @@ ghost use Rattle.vlt_resolve_exprs.specs.Exprs as e;
 ghost use Rattle.vlt_resolve_exprs.specs.Scopes.{var_ty};
 ghost use Rattle.vlt_resolve_exprs.specs.Seen.{scope_seen, left_with};
 ghost use Rattle.vlt_resolve_calls.specs.Seen.{case_seen, forms_of};
-ghost use Rattle.vlt_resolve.specs.Refusals.{OnRefused};
+ghost use Rattle.vlt_resolve_walk.specs.Refusals.{OnRefused};
 ghost use Rattle.vlt_resolve_stmts.specs.Seen.{around_seen};
 ghost use Rattle.vlt_resolve_stmts.specs.Statements as s;
-ghost use Rattle.vlt_resolve_stmts.specs.Switches as sw;
-ghost use Rattle.vlt_resolve.specs.Walk as w;
+ghost use Rattle.vlt_resolve_switches.specs.Switches as sw;
+ghost use Rattle.vlt_resolve_walk.specs.Walk as w;
 
 use crate::blocks::{closing, else_closing, ends, stmt_place};
-use crate::error::Stop;
+use crate::stop::Stop;
 use std::alloc::{AllocError, Global as Heap};
 use vlt_base::{Items, VarId};
 use vlt_core::rules::BEHIND_END;
@@ -27,10 +27,8 @@ use vlt_kinds::Kinds;
 use vlt_kinds_names::Found;
 use vlt_resolve_calls::{Case, Forms};
 use vlt_resolve_exprs::{Outer, Scope, check_wanted, core_expr, var_number};
-use vlt_resolve_stmts::{
-    Around, arm_case, arm_names, bind_arm, bind_focus, case_number, check_switch, known_ty,
-    next_var, simple,
-};
+use vlt_resolve_stmts::{Around, known_ty, next_var, simple};
+use vlt_resolve_switches::{arm_case, arm_names, bind_arm, bind_focus, case_number, check_switch};
 use vlt_syntax::{Arm, Block, Else, Expr, If, Name, Stmt};
 
 // ---- what was found

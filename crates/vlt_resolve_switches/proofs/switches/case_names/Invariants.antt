@@ -1,8 +1,8 @@
 use Rattle.std.proofs.Common.{◌≡◌, ◌++◌, drop, map}
 use Rattle.vlt_core.specs.View.{case_of}
-use Rattle.vlt_resolve_stmts.specs.Switches as s
-use Rattle.vlt_resolve_stmts.specs.Seen.{texts_seen}
-use Rattle.vlt_resolve_stmts.proofs.switches.case_names.Given as goal
+use Rattle.vlt_resolve_switches.specs.Switches as s
+use Rattle.vlt_resolve_switches.specs.Seen.{texts_seen}
+use Rattle.vlt_resolve_switches.proofs.switches.case_names.Given as goal
 
 abbrev pub invariant-loop-case : goal.invariant-loop-case
 invariant-loop-case l =

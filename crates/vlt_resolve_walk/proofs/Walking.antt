@@ -1,9 +1,9 @@
--- Statements, arms and functions one after another.
+-- Statements and arms one after another.
 use Rattle.std.proofs.Common.{◌≡◌, ℕ, List, [], ◌∷◌, ◌++◌, Result, Ok, Err, refl, append_assoc}
 use Rattle.vlt_kinds_names.specs.declared.found.Refusal.{Refusal}
-use Rattle.vlt_core.specs.Core.{Form, Func, Block}
+use Rattle.vlt_core.specs.Core.{Form, Block}
 use Rattle.vlt_resolve_exprs.specs.Scopes.{Scope}
-use Rattle.vlt_resolve.specs.Walk.{Walked, then_do}
+use Rattle.vlt_resolve_walk.specs.Walk.{Walked, then_do}
 
 -- what was made before, and then these
 abbrev pub behind : List (ℕ × Form) → Walked → Walked
@@ -22,10 +22,3 @@ behind_arms made x = then_do x (λ z. Ok (made ++ z.0, z.1))
 pub behind_more_arms : (x : Result (Arms × Scope) Refusal) (made : Arms) (p : ℕ × List ℕ × Block) → behind_arms made (then_do x (λ z. Ok (p ∷ z.0, z.1))) ≡ behind_arms (made ++ p ∷ []) x
 behind_more_arms (Ok z) made p = rw append_assoc refl
 behind_more_arms (Err r) made p = refl
-
-abbrev pub behind_funcs : List Func → Result (List Func) Refusal → Result (List Func) Refusal
-behind_funcs made x = then_do x (λ fs. Ok (made ++ fs))
-
-pub behind_more_funcs : (x : Result (List Func) Refusal) (made : List Func) (f : Func) → behind_funcs made (then_do x (λ fs. Ok (f ∷ fs))) ≡ behind_funcs (made ++ f ∷ []) x
-behind_more_funcs (Ok fs) made f = rw append_assoc refl
-behind_more_funcs (Err r) made f = refl

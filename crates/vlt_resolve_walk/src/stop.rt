@@ -1,0 +1,22 @@
+//! Why a walk stopped.
+
+ghost use Rattle.std.specs.Prelude.{◌≡◌};
+ghost use Rattle.vlt_resolve_walk.specs.declared.stop.Stop.TheVariants as stop;
+
+use std::alloc::AllocError;
+use vlt_kinds_names::Refusal;
+
+/// Why a walk stopped.
+#[derive(Clone, Copy, Debug, PartialEq, Eq)]
+pub enum Stop {
+    Refused(Refusal),
+    Memory,
+}
+
+impl From<AllocError> for Stop {
+    ghost from_gives = { λ _ e. e ≡ stop.Memory };
+
+    fn from(_error: AllocError) -> Self {
+        Stop::Memory
+    }
+}
