@@ -2,7 +2,7 @@
 use Rattle.std.proofs.Common.{◌≡◌, ◌⊎◌, inl, ℕ, ◌==◌, true, ℤ, List, [], Option, Some, None, refl, sym, ap, ◌∙◌, subst, arith}
 use Rattle.std.proofs.lemmas.Bool.Decides.{nat_tests}
 use Rattle.vlt_numbers.specs.declared.answers.Answers.{Answers}
-use Rattle.vlt_numbers.specs.Answers.{lists_of}
+use Rattle.vlt_numbers.specs.HostAnswers.{lists_of}
 use Rattle.c_syntax.specs.C.{Program}
 use Rattle.c_meaning.specs.World as model
 use Rattle.c_meaning.specs.World.{Event, line_of, first_world, Ran}

@@ -1,7 +1,7 @@
 -- What a run of the machine comes to.
 use Rattle.std.specs.Prelude.{◌≡◌, ◌⊎◌, ◌≤◌, ℕ, ◌+◌, ◌*◌, List, [], length, Option, Some, vec_capacity}
 use Rattle.vlt_rings.specs.Things.{Things}
-use Rattle.vlt_numbers.specs.Answers.{lists_of}
+use Rattle.vlt_numbers.specs.HostAnswers.{lists_of}
 use Rattle.c_syntax.specs.View.{func_of, program_of}
 use Rattle.c_meaning.specs.World as model
 use Rattle.c_meaning.specs.World.{first_world, Ran}

@@ -1,7 +1,7 @@
 //! The start of a run.
 
 ghost use Rattle.std.specs.Prelude.{◌≡◌, ◌≤◌, ◌+◌, ◌*◌, IfOk, IfSome};
-ghost use Rattle.vlt_numbers.specs.Answers.{lists_of};
+ghost use Rattle.vlt_numbers.specs.HostAnswers.{lists_of};
 ghost use Rattle.c_syntax.specs.View.{program_of};
 ghost use Rattle.c_meaning.specs.Run.{c_run};
 ghost use Rattle.c_machine.specs.Bounds as bounds;

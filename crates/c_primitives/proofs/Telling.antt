@@ -10,7 +10,7 @@ use Rattle.vlt_io.specs.Outside.{Rose, Grew, GrewByPart}
 use Rattle.vlt_rings.specs.Things.{Things}
 use Rattle.vlt_numbers.specs.declared.answers.Answers.{Answers}
 use Rattle.vlt_numbers.specs.Ends.{cut_at}
-use Rattle.vlt_numbers.specs.Answers.{lists_of}
+use Rattle.vlt_numbers.specs.HostAnswers.{lists_of}
 use Rattle.c_meaning.specs.World as model
 use Rattle.c_meaning.specs.World.{Told, told_text, told_number, told_block, printed, called, line_of, event_text}
 use Rattle.c_meaning.specs.Primitives.{Effect, breaks_rule, nothing, with_event, tells_number, tells_block, takes_answer, asks}

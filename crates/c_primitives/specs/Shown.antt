@@ -2,7 +2,7 @@
 use Rattle.std.specs.Prelude.{◌≡◌, ◌⊎◌, ◌<◌, ◌≤◌, ℕ, ◌+◌, ◌*◌, ◌-◌, ◌^◌, List, ◌++◌, map, length, drop, Option, Some, Result, Ok, Err, option_map, slice_get, vec_capacity, codes}
 use Rattle.std.specs.List.{flat_map}
 use Rattle.vlt_rings.specs.Things.{Things, KeepMade}
-use Rattle.vlt_numbers.specs.Answers.{lists_of}
+use Rattle.vlt_numbers.specs.HostAnswers.{lists_of}
 use Rattle.c_syntax.specs.declared.program.CPrim.{CPrim}
 use Rattle.c_syntax.specs.declared.program.CCell.{CCell}
 use Rattle.c_syntax.specs.C as c

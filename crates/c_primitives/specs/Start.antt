@@ -1,7 +1,7 @@
 -- The start of a run.
 use Rattle.std.specs.Prelude.{◌≡◌, ◌<◌, ◌≤◌, ℕ, ◌+◌, ◌^◌, ℤ, List, [], replicate, None, vec_capacity}
 use Rattle.vlt_numbers.specs.declared.answers.Answers.{Answers}
-use Rattle.vlt_numbers.specs.Answers.{lists_of}
+use Rattle.vlt_numbers.specs.HostAnswers.{lists_of}
 use Rattle.c_meaning.specs.World.{first_world}
 use Rattle.c_memory.specs.Shown.{IsSound, IsFresh, heap_of, cells_of}
 use Rattle.c_primitives.specs.declared.world.Tables.{Tables}

@@ -1,7 +1,7 @@
 //! The run of a program that is read.
 
 ghost use Rattle.std.specs.Prelude.{◌<◌, ◌-◌, ◌^◌, length};
-ghost use Rattle.vlt_numbers.specs.Answers.{lists_of};
+ghost use Rattle.vlt_numbers.specs.HostAnswers.{lists_of};
 ghost use Rattle.vlt_given.specs.Given.{given_by};
 ghost use Rattle.c_syntax.specs.View.{program_of};
 ghost use Rattle.c_machine.specs.Machine.{IsRunnable};

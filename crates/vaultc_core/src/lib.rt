@@ -58,7 +58,8 @@ pub fn vaultc<S: Store, K: Sink>(alloc: Global, words: &[String], store: &mut S,
     // With the file there, its bytes those of an accepted program, and no fault, `check` gives 0 unless memory is wanting.
     ensures accepts { (files : Files) (file bytes : List ℕ) (p : Program) →
         S.files store.old ≡ Some files →
-        command_of (map string_bytes words.now) ≡ Some (commands.check file) → files file ≡ Some bytes →
+        command_of (map string_bytes words.now) ≡ Some (commands.check file) →
+        files file ≡ Some bytes →
         IsProgramOf bytes p → IsAccepted p →
         ¬ (Rose (S.faults store.old) (S.faults store.new)) →
         ¬ (Rose (K.faults out.old) (K.faults out.new)) → (result ≡ DONE) ⊎ (result ≡ NO_MEMORY) }
@@ -72,13 +73,15 @@ pub fn vaultc<S: Store, K: Sink>(alloc: Global, words: &[String], store: &mut S,
     ensures complete { (files : Files) (r : lines.Reply) → S.files store.old ≡ Some files →
         IsReplyTo (map string_bytes words.now) files r →
         ¬ (Rose (S.faults store.old) (S.faults store.new)) →
-        ¬ (Rose (K.faults out.old) (K.faults out.new)) → (result ≡ r.status) ⊎ (result ≡ NO_MEMORY) }
+        ¬ (Rose (K.faults out.old) (K.faults out.new)) →
+        (result ≡ r.status) ⊎ (result ≡ NO_MEMORY) }
     // The words are no command.
     ensures usage { result ≡ NO_COMMAND → command_of (map string_bytes words.now) ≡ None }
     // Words that are no command have the usage line, or a part of it where the sink failed.
     ensures no_command { command_of (map string_bytes words.now) ≡ None →
         ((result ≡ NO_COMMAND) × Grew (K.written out.old) (K.written out.new) lines.usage)
-        ⊎ ((result ≡ SINK_FAILED) × GrewByPart (K.written out.old) (K.written out.new) lines.usage) }
+        ⊎ ((result ≡ SINK_FAILED) ×
+        GrewByPart (K.written out.old) (K.written out.new) lines.usage) }
     // A file of the command wasn't read, and that is written.
     ensures unread { result ≡ UNREAD →
         (command : commands.Command) × (command_of (map string_bytes words.now) ≡ Some command)

@@ -4,7 +4,7 @@ use Rattle.std.specs.List.{flat_map}
 use Rattle.std.specs.Fmt.{signed_decimal}
 use Rattle.std.proofs.lemmas.Option.{none-some, same_Some, slice_get_within}
 use Rattle.vlt_numbers.specs.declared.answers.Answers.{Answers}
-use Rattle.vlt_numbers.specs.Answers.{lists_of}
+use Rattle.vlt_numbers.specs.HostAnswers.{lists_of}
 use Rattle.vlt_numbers.specs.Ends.{cut_at}
 use Rattle.vlt_heap.specs.declared.slots.Obj.{Obj}
 use Rattle.vlt_heap.specs.declared.slots.Slot.{Slot}

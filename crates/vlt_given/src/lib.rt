@@ -4,7 +4,7 @@
 #![tactic(auto)]
 
 ghost use Rattle.std.specs.Prelude.{◌≡◌, ℕ, ◌-◌, ◌^◌, ◌<◌, length, Err, IfOk};
-ghost use Rattle.vlt_numbers.specs.Answers.{lists_of};
+ghost use Rattle.vlt_numbers.specs.HostAnswers.{lists_of};
 ghost use Rattle.vlt_given.specs.Given.{given_by, numbers, bad_input, bad_answers};
 
 use std::alloc::Global;

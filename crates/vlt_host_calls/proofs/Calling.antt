@@ -8,7 +8,7 @@ use Rattle.std.proofs.lemmas.Bool.{false≢true}
 use Rattle.std.proofs.lemmas.Option.{none-some, same_Some}
 use Rattle.vlt_base.specs.declared.ids.VarId.{VarId}
 use Rattle.vlt_io.specs.Outside.{Rose, Grew, GrewByPart}
-use Rattle.vlt_numbers.specs.Answers.{lists_of}
+use Rattle.vlt_numbers.specs.HostAnswers.{lists_of}
 use Rattle.vlt_core.specs.Core.{Entry, Func, Program}
 use Rattle.vlt_core.specs.Lookups.{is_held_before}
 use Rattle.vlt_rings.proofs.Rows.{row_fits}

@@ -1,6 +1,6 @@
 -- What a statement that speaks with the host comes to: in the tables, in the host's numbers, and in what is written.
 use Rattle.std.specs.Prelude.{◌≡◌, ◌⊎◌, ℕ, true, drop, Result, Ok, Err}
-use Rattle.vlt_numbers.specs.Answers.{lists_of}
+use Rattle.vlt_numbers.specs.HostAnswers.{lists_of}
 use Rattle.vlt_core.specs.Core.{Simple}
 use Rattle.vlt_meaning.specs.World.{World, Frame, is_fault}
 use Rattle.vlt_meaning.specs.Step.{Step, goes, jumps, leaves, ends}

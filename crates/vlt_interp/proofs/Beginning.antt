@@ -9,7 +9,7 @@ use Rattle.std.proofs.lemmas.Bool.{false≢true}
 use Rattle.std.proofs.lemmas.Bool.Decides.{nat_tests}
 use Rattle.vlt_base.specs.declared.Budgets.{Budgets}
 use Rattle.vlt_numbers.specs.declared.answers.Answers.{Answers}
-use Rattle.vlt_numbers.specs.Answers.{lists_of}
+use Rattle.vlt_numbers.specs.HostAnswers.{lists_of}
 use Rattle.vlt_core.specs.declared.program.Program.{Program as CodeProgram}
 use Rattle.vlt_core.specs.declared.program.Func.{Func as CodeFunc}
 use Rattle.vlt_core.specs.declared.program.Stmt.{Stmt}

@@ -1,7 +1,7 @@
 -- A run under way, and how it ends.
 use Rattle.std.specs.Prelude.{◌≡◌, ◌⊎◌, ◌≤◌, false, slice_get}
 use Rattle.vlt_core.specs.View.{program_of}
-use Rattle.vlt_numbers.specs.Answers.{lists_of}
+use Rattle.vlt_numbers.specs.HostAnswers.{lists_of}
 use Rattle.vlt_meaning.specs.World.{World, Ran, is_fault}
 use Rattle.vlt_meaning.specs.Step.{Step}
 use Rattle.vlt_meaning.specs.Run.{start, ended, main_run}

@@ -1,7 +1,7 @@
 //! Whole runs.
 
 ghost use Rattle.vlt_core.specs.View.{program_of};
-ghost use Rattle.vlt_numbers.specs.Answers.{lists_of};
+ghost use Rattle.vlt_numbers.specs.HostAnswers.{lists_of};
 ghost use Rattle.vlt_meaning.specs.Run.{ended};
 ghost use Rattle.vlt_steps.specs.Writing.{Outside};
 ghost use Rattle.vlt_rooms.specs.Start.{IsSet};

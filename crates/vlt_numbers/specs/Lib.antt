@@ -1,3 +1,3 @@
 pub mod Text
 pub mod Ends
-pub mod Answers
+pub mod HostAnswers

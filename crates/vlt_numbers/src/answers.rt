@@ -14,7 +14,7 @@ pub struct Answers {
 }
 
 impl Answers {
-    ghost use Rattle.vlt_numbers.specs.Answers.{lists_of};
+    ghost use Rattle.vlt_numbers.specs.HostAnswers.{lists_of};
 
     /// The numbers of the answer at an index, if there are so many.
     pub fn get(&self, index: usize) -> Option<&[i64]>

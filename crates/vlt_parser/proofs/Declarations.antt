@@ -10,12 +10,12 @@ use Rattle.vlt_automaton.specs.Language as m
 use Rattle.vlt_syntax.specs.Grammar.{language}
 use Rattle.vlt_automaton.specs.Language.{Symbol, Reaction, Thing, Pending, Left, Located, run, followed, settled, gone_on, reaction_behind, may_skip, depth_read, on_sign}
 use Rattle.vlt_automaton.proofs.Sameness.{same_word-refl}
-use Rattle.vlt_lexer.specs.declared.token.Token.{Token as Placed}
+use Rattle.vlt_lexer.specs.declared.token.Token.{Token as CodeToken}
 use Rattle.vlt_parser_exprs.specs.declared.lists.Most.{Most}
 use Rattle.vlt_parser_exprs.specs.declared.error.ParseError.{ParseError}
 use Rattle.vlt_parser_exprs.specs.declared.error.ParseError.TheVariants.{Limit}
 use Rattle.vlt_parser_exprs.proofs.Runs.{fails_with, settled_followed, result_type_takes, skips_followed}
-use Rattle.vlt_parser_exprs.specs.Ahead.{ahead, Begins, refusal, IsFull, Fails, LacksKeyword}
+use Rattle.vlt_parser_exprs.specs.Ahead.{lexemes_from, Begins, refusal, IsFull, Fails, LacksKeyword}
 use Rattle.vlt_parser.specs.Declarations.{takes, can_begin, fields_left, decls_left}
 
 -- a token begins something or is refused
@@ -147,7 +147,7 @@ decls_full n s (x ∷ xs) can full =
     rw can.1 (rw none refl)
 
 -- a position before the end of the tokens
-pub some_ahead : (tokens : List Placed) (at : ℕ) → at < length tokens → (x : Located) × ((xs : List Located) × (ahead tokens at ≡ x ∷ xs))
+pub some_ahead : (tokens : List CodeToken) (at : ℕ) → at < length tokens → (x : Located) × ((xs : List Located) × (lexemes_from tokens at ≡ x ∷ xs))
 some_ahead [] at within = absurd (omega (arith, within))
 some_ahead (y ∷ ys) zero within = (_, (_, refl))
 some_ahead (y ∷ ys) (suc at) within = some_ahead ys at (omega (arith, within))

@@ -1,6 +1,6 @@
 -- The tokens of a text and those of the code.
 use Rattle.std.proofs.Common.{◌≡◌, List, [], ◌∷◌, refl, ap, map}
-use Rattle.vlt_lexer.specs.declared.token.Token.{Token as Placed}
+use Rattle.vlt_lexer.specs.declared.token.Token.{Token as CodeToken}
 use Rattle.vlt_lexer.specs.Text.{lexeme, lexemes}
 use Rattle.vlt_syntax.specs.Tokens.{token_of, tokens_of, tokens_in}
 use Rattle.vlt_automaton.specs.Language as m
@@ -9,13 +9,13 @@ use Rattle.vlt_parser_exprs.specs.declared.error.ParseError.TheVariants as error
 use Rattle.vlt_lexer.specs.Reading.{Lexeme}
 use Rattle.vlt_syntax_laws.proofs.Refused.{refused}
 use Rattle.vlt_parser.specs.Refusals.{IsRefusedFor}
-use Rattle.vlt_parser_exprs.specs.Ahead.{ahead, Fails}
+use Rattle.vlt_parser_exprs.specs.Ahead.{lexemes_from, Fails}
 
-pub tokens_seen : (ts : List Placed) → tokens_in (lexemes ts) ≡ tokens_of ts
+pub tokens_seen : (ts : List CodeToken) → tokens_in (lexemes ts) ≡ tokens_of ts
 tokens_seen [] = refl
 tokens_seen (x ∷ xs) = ap (λ ts. token_of x ∷ ts) (tokens_seen xs)
 
-pub places_seen : (ts : List Placed) → map m.located_of (lexemes ts) ≡ ahead ts 0
+pub places_seen : (ts : List CodeToken) → map m.located_of (lexemes ts) ≡ lexemes_from ts 0
 places_seen [] = refl
 places_seen (x ∷ xs) = ap (λ ts. m.located_of (lexeme x) ∷ ts) (places_seen xs)
 

@@ -2,14 +2,14 @@
 use Rattle.std.specs.Prelude.{◌≡◌, ◌-◌, ℕ, Bool, true, false, List, [], ◌∷◌, Option, Result, Ok, Err}
 use Rattle.vlt_lexer.specs.declared.token.Mark.TheVariants as mark
 use Rattle.vlt_lexer.specs.declared.token.Word.TheVariants as word
-use Rattle.vlt_lexer.specs.declared.token.Token.{Token as Placed}
+use Rattle.vlt_lexer.specs.declared.token.Token.{Token as CodeToken}
 use Rattle.vlt_syntax.specs.Tokens.{Token, sign, keyword}
 use Rattle.vlt_syntax.specs.Tree.{Name, HeaderKey}
 use Rattle.vlt_syntax.specs.Spelling.{name_then, marked_name_then, header_then}
 use Rattle.vlt_syntax.specs.Grammar.{language}
 use Rattle.vlt_syntax.specs.Places.{Placing, made, ◌◂◌, ◌⊛◌, enclosed_at, marked_at, name_at, header_key_at}
 use Rattle.vlt_automaton.specs.Language.{Located, Left, Reaction, take, Symbol, run}
-use Rattle.vlt_parser_exprs.specs.Ahead.{ahead, Fails}
+use Rattle.vlt_parser_exprs.specs.Ahead.{lexemes_from, Fails}
 use Rattle.vlt_parser_exprs.specs.declared.error.ParseError.{ParseError}
 
 -- `struct`, its name, its header, its state set and the opening brace
@@ -37,6 +37,6 @@ abbrev pub decls_left : ℕ → Left
 decls_left n = record { limit = 4; more = language.decls - n }
 
 -- all tokens are what the symbol takes, or are refused as the automaton refuses them
-abbrev pub Ends : {A : Type 0} → Symbol → List Placed → Result A ParseError → Type 0
-Ends symbol tokens (Ok x) = run (symbol ∷ []) (ahead tokens 0) ≡ Ok tt
-Ends symbol tokens (Err e) = Fails (run (symbol ∷ []) (ahead tokens 0)) e
+abbrev pub Ends : {A : Type 0} → Symbol → List CodeToken → Result A ParseError → Type 0
+Ends symbol tokens (Ok x) = run (symbol ∷ []) (lexemes_from tokens 0) ≡ Ok tt
+Ends symbol tokens (Err e) = Fails (run (symbol ∷ []) (lexemes_from tokens 0)) e

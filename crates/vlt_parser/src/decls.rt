@@ -10,9 +10,9 @@ ghost use Rattle.vlt_syntax.specs.Grammar.{AtMost, IsStates, IsField, IsDecl, la
 ghost use Rattle.vlt_syntax.specs.Places.{decl_at, each_at, field_at, release_at};
 ghost use Rattle.vlt_syntax.specs.View.{name_of, states_of, header_key_of, field_of, decl_of};
 ghost use Rattle.vlt_automaton.specs.Language as automaton;
-ghost use Rattle.vlt_parser_exprs.specs.Reading.{left, Stands};
+ghost use Rattle.vlt_parser_exprs.specs.Reading.{tokens_from, Stands};
 ghost use Rattle.vlt_parser.specs.Declarations.{struct_head_then, struct_head_at};
-ghost use Rattle.vlt_parser_exprs.specs.Ahead.{ahead, Turns};
+ghost use Rattle.vlt_parser_exprs.specs.Ahead.{lexemes_from, Turns};
 ghost use Rattle.vlt_parser.specs.Declarations.{fields_left, decls_left, can_begin, Ends};
 ghost use Rattle.vlt_parser_exprs.specs.Promises.{Advances, Holds, Lies, MayAdvance, MayBe, Spells, Takes};
 
@@ -55,7 +55,7 @@ fn field(alloc: Global, tokens: &[Token<'_>], at: usize) -> Result<(Field, usize
 
 /// Whether a type begins here.
 fn begins_ty(tokens: &[Token<'_>], at: usize) -> bool
-    ensures { result ≡ can_begin automaton.start_ty (ahead tokens.now at) }
+    ensures { result ≡ can_begin automaton.start_ty (lexemes_from tokens.now at) }
 {
     matches!(
         kind(tokens, at),
@@ -167,9 +167,9 @@ fn struct_head(
     tokens: &[Token<'_>],
     at: usize,
 ) -> Result<(StructHead, usize), ParseError>
-    ensures spelled { IfOk result (λ x. left tokens.now at ≡
+    ensures spelled { IfOk result (λ x. tokens_from tokens.now at ≡
         struct_head_then (name_of x.0.name) (map header_key_of x.0.params)
-        (option_map name_of x.0.states) (left tokens.now x.1)) }
+        (option_map name_of x.0.states) (tokens_from tokens.now x.1)) }
     ensures placed { IfOk result (λ x. Stands struct_head_at
         tokens.now at
         (name_of x.0.name, map header_key_of x.0.params, option_map name_of x.0.states) x.1) }
@@ -281,7 +281,7 @@ fn function(alloc: Global, tokens: &[Token<'_>], at: usize) -> Result<(Decl, usi
 /// Whether a declaration begins here.
 #[tactic(auto, using(crate::proofs::Declarations::other_begins))]
 fn begins_decl(tokens: &[Token<'_>], at: usize) -> bool
-    ensures { result ≡ can_begin automaton.start_decl (ahead tokens.now at) }
+    ensures { result ≡ can_begin automaton.start_decl (lexemes_from tokens.now at) }
 {
     match kind(tokens, at) {
         Some(

@@ -9,7 +9,7 @@ ghost use Rattle.vlt_syntax.specs.Places.{clause_at, head_at, result_type_at};
 ghost use Rattle.vlt_syntax.specs.View.{entry_of, name_of, result_type_of, head_of};
 ghost use Rattle.vlt_automaton.specs.Language as automaton;
 ghost use Rattle.vlt_parser.specs.Heads.{start_then, start_at};
-ghost use Rattle.vlt_parser_exprs.specs.Reading.{left, Stands};
+ghost use Rattle.vlt_parser_exprs.specs.Reading.{tokens_from, Stands};
 ghost use Rattle.vlt_parser_exprs.specs.Promises.{Advances, Holds, Lies, MayAdvance, MayBe, Spells, Takes};
 
 use std::alloc::Global;
@@ -81,8 +81,9 @@ fn head_start(
     tokens: &[Token<'_>],
     at: usize,
 ) -> Result<(HeadStart, usize), ParseError>
-    ensures spelled { IfOk result (λ x. left tokens.now at ≡
-        start_then (result_type_of x.0.result_type) (name_of x.0.name) (left tokens.now x.1)) }
+    ensures spelled { IfOk result (λ x. tokens_from tokens.now at ≡
+        start_then (result_type_of x.0.result_type) (name_of x.0.name)
+        (tokens_from tokens.now x.1)) }
     ensures placed { IfOk result (λ x. Stands start_at
         tokens.now at (result_type_of x.0.result_type, name_of x.0.name) x.1) }
     ensures right { IfOk result (λ x. IsResultType (result_type_of x.0.result_type)) }

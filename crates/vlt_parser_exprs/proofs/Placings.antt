@@ -1,21 +1,21 @@
 -- Lists whose things are read one by one stand where they are read.
 use Rattle.std.proofs.Common.{◌≡◌, ℕ, ◌+◌, List, [], ◌∷◌, ◌++◌, sym, ap, ◌∙◌, subst, map, append_assoc, ◌≤◌, length, arith}
-use Rattle.vlt_lexer.specs.declared.token.Token.{Token as Placed}
+use Rattle.vlt_lexer.specs.declared.token.Token.{Token as CodeToken}
 use Rattle.vlt_syntax.specs.Places.{Placing, each_at, further_at, listed_at}
 use Rattle.vlt_parser_exprs.specs.Reading.{spans, Stands}
 use Rattle.vlt_parser_exprs.proofs.Separated.{pushed}
 
 -- where one thing stands, and then the others
-first_of_list : {X : Type 0} (place : X → Placing X) (tokens : List Placed) (i j k : ℕ) (x : X) (xs : List X) → Stands place tokens i x j → Stands (further_at place) tokens j xs k → Stands (listed_at place) tokens i (x ∷ xs) k
+first_of_list : {X : Type 0} (place : X → Placing X) (tokens : List CodeToken) (i j k : ℕ) (x : X) (xs : List X) → Stands place tokens i x j → Stands (further_at place) tokens j xs k → Stands (listed_at place) tokens i (x ∷ xs) k
 first_of_list place tokens i j k x xs here behind =
     ap (λ a. let b = further_at place xs (spans tokens) a.1 in (a.0 ∷ b.0, b.1)) here ∙ ap (λ b. (x ∷ b.0, b.1)) behind
 
 -- the rest of the list stands from the second position on, the whole from the first
-abbrev pub StandsOn : {X : Type 0} → (X → Placing X) → List Placed → ℕ → List X → ℕ → Type 0
+abbrev pub StandsOn : {X : Type 0} → (X → Placing X) → List CodeToken → ℕ → List X → ℕ → Type 0
 StandsOn {X} place tokens at items here = (x : X) (xs : List X) (next : ℕ) → Stands (listed_at place) tokens here (x ∷ xs) next → Stands (listed_at place) tokens at (items ++ x ∷ xs) next
 
 -- one more thing and a comma were read
-pub stands_on : {X : Type 0} (place : X → Placing X) (tokens : List Placed) (at here behind next : ℕ) (all items : List X) (item : X)
+pub stands_on : {X : Type 0} (place : X → Placing X) (tokens : List CodeToken) (at here behind next : ℕ) (all items : List X) (item : X)
     → all ≡ items ++ item ∷ [] → StandsOn place tokens at items here → Stands place tokens here item behind → next ≡ behind + 1 → StandsOn place tokens at all next
 stands_on place tokens at here behind next all items item grown before is_item is_comma x xs k rest =
     let further : Stands (further_at place) tokens behind (x ∷ xs) k = subst (λ n. Stands (listed_at place) tokens n (x ∷ xs) k) is_comma rest in
@@ -23,7 +23,7 @@ stands_on place tokens at here behind next all items item grown before is_item i
     (before item (x ∷ xs) k (first_of_list place tokens here behind k item (x ∷ xs) is_item further))
 
 -- the last thing and the closing sign were read
-pub stands_whole : {X : Type 0} (place : X → Placing X) (tokens : List Placed) (at here behind next : ℕ) (all items : List X) (item : X)
+pub stands_whole : {X : Type 0} (place : X → Placing X) (tokens : List CodeToken) (at here behind next : ℕ) (all items : List X) (item : X)
     → all ≡ items ++ item ∷ [] → StandsOn place tokens at items here → Stands place tokens here item behind → next ≡ behind + 1 → Stands (listed_at place) tokens at all next
 stands_whole {X = X} place tokens at here behind next all items item grown before is_item is_closing =
     let none : List X = [] in
@@ -41,7 +41,7 @@ same_cons x y xs ys e = (cc, cc)
 pub both : {X Y : Type 0} (p : X × Y) (x : X) (y : Y) → p.0 ≡ x → p.1 ≡ y → (let q : X × Y = (x, y) in p ≡ q)
 both p x y a b = ap (λ z. (z, p.1)) a ∙ ap (λ z. (x, z)) b
 
-each_append : {X : Type 0} (place : X → Placing X) (tokens : List Placed) (xs : List X) (x : X) (i j k : ℕ) → Stands (each_at place) tokens i xs j → Stands place tokens j x k → Stands (each_at place) tokens i (xs ++ x ∷ []) k
+each_append : {X : Type 0} (place : X → Placing X) (tokens : List CodeToken) (xs : List X) (x : X) (i j k : ℕ) → Stands (each_at place) tokens i xs j → Stands place tokens j x k → Stands (each_at place) tokens i (xs ++ x ∷ []) k
 each_append place tokens [] x i j k e last =
     let same : i ≡ j = ap (λ p. p.1) e in
     ap (λ a. (a.0 ∷ [], a.1)) (ap (λ n. place x (spans tokens) n) same ∙ last)
@@ -54,11 +54,11 @@ each_append place tokens (y ∷ ys) x i j k e last =
     ap (λ z. (z ∷ (each_at place (ys ++ x ∷ []) (spans tokens) a.1).0, (each_at place (ys ++ x ∷ []) (spans tokens) a.1).1)) q.0 ∙ ap (λ r. (y ∷ r.0, r.1)) rest
 
 -- one more thing was read
-pub one_more_stands : {X Y : Type 0} (view : X → Y) (place : Y → Placing Y) (tokens : List Placed) (all items : List X) (item : X) (at here behind : ℕ)
+pub one_more_stands : {X Y : Type 0} (view : X → Y) (place : Y → Placing Y) (tokens : List CodeToken) (all items : List X) (item : X) (at here behind : ℕ)
     → all ≡ items ++ item ∷ [] → Stands (each_at place) tokens at (map view items) here → Stands place tokens here (view item) behind → Stands (each_at place) tokens at (map view all) behind
 one_more_stands view place tokens all items item at here behind grown before is_item =
     subst (λ ys. Stands (each_at place) tokens at ys behind) (sym (pushed view all items item grown)) (each_append place tokens (map view items) (view item) at here behind before is_item)
 
 -- what stands up to a position at the end stands up to the end
-pub stands_end : {X : Type 0} (place : X → Placing X) (tokens : List Placed) (at here : ℕ) (x : X) → Stands place tokens at x here → here ≤ length tokens → length tokens ≤ here → Stands place tokens at x (length tokens)
+pub stands_end : {X : Type 0} (place : X → Placing X) (tokens : List CodeToken) (at here : ℕ) (x : X) → Stands place tokens at x here → here ≤ length tokens → length tokens ≤ here → Stands place tokens at x (length tokens)
 stands_end place tokens at here x is within over = let same : here ≡ length tokens = omega (arith, within, over) in subst (λ n. Stands place tokens at x n) same is

@@ -11,12 +11,12 @@ use Rattle.vlt_automaton.specs.Language as m
 use Rattle.vlt_syntax.specs.Grammar.{language}
 use Rattle.vlt_automaton.specs.Language.{Symbol, Reaction, Thing, Pending, Left, Located, run, followed, settled, gone_on, reaction_behind, may_skip, depth_read, on_sign}
 use Rattle.vlt_automaton.proofs.Sameness.{same_mark-refl}
-use Rattle.vlt_lexer.specs.declared.token.Token.{Token as Placed}
+use Rattle.vlt_lexer.specs.declared.token.Token.{Token as CodeToken}
 use Rattle.vlt_parser_exprs.specs.declared.lists.Most.{Most}
 use Rattle.vlt_parser_exprs.specs.declared.error.ParseError.{ParseError}
 use Rattle.vlt_parser_exprs.specs.declared.error.ParseError.TheVariants.{Limit}
 use Rattle.vlt_parser_exprs.specs.Reading.{IsWithin}
-use Rattle.vlt_parser_exprs.specs.Ahead.{ahead, Begins, LacksSign, refusal, left_of, IsFull, Follows, Fails, refusal_of}
+use Rattle.vlt_parser_exprs.specs.Ahead.{lexemes_from, Begins, LacksSign, refusal, left_of, IsFull, Follows, Fails, refusal_of}
 
 pub fails_with : (v : m.Verdict) (e : ParseError) (f : m.Refusal) → refusal_of e ≡ Some f → v ≡ Err f → Fails v e
 fails_with v e f told is g tells = is ∙ ap Err (some_is f g (sym told ∙ tells))
@@ -29,8 +29,8 @@ pub fails_from : (v w : m.Verdict) (e : ParseError) → v ≡ w → Fails w e �
 fails_from v w e same fails = λ f told. same ∙ fails f told
 
 -- a part that others stand for, from further on
-pub instead : {A : Type 0} (xs ys : List Symbol) (next : A → ℕ) (tokens : List Placed) (at here : ℕ) (r : Result A ParseError)
-    → ((s : List Symbol) → run (xs ++ s) (ahead tokens at) ≡ run (ys ++ s) (ahead tokens here)) → Follows ys next tokens here r → Follows xs next tokens at r
+pub instead : {A : Type 0} (xs ys : List Symbol) (next : A → ℕ) (tokens : List CodeToken) (at here : ℕ) (r : Result A ParseError)
+    → ((s : List Symbol) → run (xs ++ s) (lexemes_from tokens at) ≡ run (ys ++ s) (lexemes_from tokens here)) → Follows ys next tokens here r → Follows xs next tokens at r
 instead xs ys next tokens at here (Ok x) same follows = λ s. same s ∙ follows s
 instead xs ys next tokens at here (Err e) same follows = λ s f told. same s ∙ follows s f told
 

@@ -4,7 +4,7 @@ use Rattle.vlt_ops.specs.declared.Op.{Op}
 use Rattle.vlt_lexer.specs.declared.token.Word.{Word}
 use Rattle.vlt_lexer.specs.declared.token.Mark.{Mark}
 use Rattle.vlt_lexer.specs.declared.token.TokenKind.{TokenKind}
-use Rattle.vlt_lexer.specs.declared.token.Token.{Token as Placed}
+use Rattle.vlt_lexer.specs.declared.token.Token.{Token as CodeToken}
 use Rattle.vlt_lexer.specs.Text.{lexeme}
 use Rattle.vlt_syntax.specs.Tokens as t
 use Rattle.vlt_syntax.specs.Tokens.{Token, token_from}
@@ -16,8 +16,8 @@ use Rattle.vlt_parser_exprs.specs.declared.error.ParseError.{ParseError}
 use Rattle.vlt_parser_exprs.specs.declared.error.ParseError.TheVariants.{Unexpected, EndOfText, Limit, Memory}
 
 -- the tokens from a position on, with their places
-abbrev pub ahead : List Placed → ℕ → List Located
-ahead tokens at = map (λ t. located_of (lexeme t)) (drop at tokens)
+abbrev pub lexemes_from : List CodeToken → ℕ → List Located
+lexemes_from tokens at = map (λ t. located_of (lexeme t)) (drop at tokens)
 
 -- this token comes, and then those
 pub record Begins (t : Token) (ts rest : List Located) : Type 0 where
@@ -83,12 +83,12 @@ Fails v e = (f : Refusal) → refusal_of e ≡ Some f → v ≡ Err f
 
 -- The part takes just what the automaton takes from the first symbols on its stack to the second, whatever lies below them,
 -- or refuses as the automaton does.
-abbrev pub Turns : {A : Type 0} → List Symbol → (A → List Symbol) → (A → ℕ) → List Placed → ℕ → Result A ParseError → Type 0
-Turns before after next tokens at (Ok x) = (s : List Symbol) → run (before ++ s) (ahead tokens at) ≡ run (after x ++ s) (ahead tokens (next x))
-Turns before after next tokens at (Err e) = (s : List Symbol) → Fails (run (before ++ s) (ahead tokens at)) e
+abbrev pub Turns : {A : Type 0} → List Symbol → (A → List Symbol) → (A → ℕ) → List CodeToken → ℕ → Result A ParseError → Type 0
+Turns before after next tokens at (Ok x) = (s : List Symbol) → run (before ++ s) (lexemes_from tokens at) ≡ run (after x ++ s) (lexemes_from tokens (next x))
+Turns before after next tokens at (Err e) = (s : List Symbol) → Fails (run (before ++ s) (lexemes_from tokens at)) e
 
 -- It takes just what the symbols take.
-abbrev pub Follows : {A : Type 0} → List Symbol → (A → ℕ) → List Placed → ℕ → Result A ParseError → Type 0
+abbrev pub Follows : {A : Type 0} → List Symbol → (A → ℕ) → List CodeToken → ℕ → Result A ParseError → Type 0
 Follows symbols next tokens at r = Turns symbols (λ x. []) next tokens at r
 
 -- what is left of a limit behind so many things

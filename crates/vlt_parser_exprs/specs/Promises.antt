@@ -2,24 +2,24 @@
 use Rattle.std.specs.Prelude.{◌≡◌, ◌+◌, ℕ, List, ◌∷◌, Option, IfOk, IfSome, Result}
 use Rattle.vlt_ops.specs.declared.Op.{Op}
 use Rattle.vlt_lexer.specs.declared.token.TokenKind.{TokenKind}
-use Rattle.vlt_lexer.specs.declared.token.Token.{Token as Placed}
+use Rattle.vlt_lexer.specs.declared.token.Token.{Token as CodeToken}
 use Rattle.vlt_syntax.specs.Tokens.{Token}
 use Rattle.vlt_syntax.specs.Places.{Placing}
 use Rattle.vlt_automaton.specs.Language.{Symbol}
-use Rattle.vlt_parser_exprs.specs.Reading.{left, Stands, Moves, Stays}
-use Rattle.vlt_parser_exprs.specs.Ahead.{ahead, Begins, BeginsWith, BeginsOperator, Follows}
+use Rattle.vlt_parser_exprs.specs.Reading.{tokens_from, Stands, Moves, Stays}
+use Rattle.vlt_parser_exprs.specs.Ahead.{lexemes_from, Begins, BeginsWith, BeginsOperator, Follows}
 use Rattle.vlt_parser_exprs.specs.declared.error.ParseError.{ParseError}
 
 -- The thing, as it is viewed, is spelled by the tokens from the position up to the one behind it.
-abbrev pub Spells : {A X : Type 0} → (A → X) → (X → List Token → List Token) → List Placed → ℕ → Result (A × ℕ) ParseError → Type 0
-Spells view spell tokens at r = IfOk r (λ x. left tokens at ≡ spell (view x.0) (left tokens x.1))
+abbrev pub Spells : {A X : Type 0} → (A → X) → (X → List Token → List Token) → List CodeToken → ℕ → Result (A × ℕ) ParseError → Type 0
+Spells view spell tokens at r = IfOk r (λ x. tokens_from tokens at ≡ spell (view x.0) (tokens_from tokens x.1))
 
 -- the same with one token before the position
-abbrev pub SpellsBehind : {A X : Type 0} → Token → (A → X) → (X → List Token → List Token) → List Placed → ℕ → Result (A × ℕ) ParseError → Type 0
-SpellsBehind before view spell tokens at r = IfOk r (λ x. before ∷ left tokens at ≡ spell (view x.0) (left tokens x.1))
+abbrev pub SpellsBehind : {A X : Type 0} → Token → (A → X) → (X → List Token → List Token) → List CodeToken → ℕ → Result (A × ℕ) ParseError → Type 0
+SpellsBehind before view spell tokens at r = IfOk r (λ x. before ∷ tokens_from tokens at ≡ spell (view x.0) (tokens_from tokens x.1))
 
 -- it stands where these tokens do, and so do its parts
-abbrev pub Lies : {A X : Type 0} → (A → X) → (X → Placing X) → List Placed → ℕ → Result (A × ℕ) ParseError → Type 0
+abbrev pub Lies : {A X : Type 0} → (A → X) → (X → Placing X) → List CodeToken → ℕ → Result (A × ℕ) ParseError → Type 0
 Lies view place tokens at r = IfOk r (λ x. Stands place tokens at (view x.0) x.1)
 
 -- it is such a thing of the language
@@ -31,27 +31,27 @@ abbrev pub MayBe : {A X : Type 0} → (A → Option X) → (X → Type 0) → Re
 MayBe view Right r = IfOk r (λ x. IfSome (view x.0) Right)
 
 -- one token or more was taken
-abbrev pub Advances : {A : Type 0} → List Placed → ℕ → Result (A × ℕ) ParseError → Type 0
+abbrev pub Advances : {A : Type 0} → List CodeToken → ℕ → Result (A × ℕ) ParseError → Type 0
 Advances tokens at r = IfOk r (λ x. Moves tokens at x.1)
 
 -- or none
-abbrev pub MayAdvance : {A : Type 0} → List Placed → ℕ → Result (A × ℕ) ParseError → Type 0
+abbrev pub MayAdvance : {A : Type 0} → List CodeToken → ℕ → Result (A × ℕ) ParseError → Type 0
 MayAdvance tokens at r = IfOk r (λ x. Stays tokens at x.1)
 
 -- The automaton takes just these tokens from the symbols on its stack, or refuses as the part does.
-abbrev pub Takes : {A : Type 0} → List Symbol → List Placed → ℕ → Result (A × ℕ) ParseError → Type 0
+abbrev pub Takes : {A : Type 0} → List Symbol → List CodeToken → ℕ → Result (A × ℕ) ParseError → Type 0
 Takes symbols tokens at r = Follows symbols (λ x. x.1) tokens at r
 
 -- ---- what comes
 
 -- this token stands at the position, with the other position behind it
-abbrev pub Comes : Token → List Placed → ℕ → ℕ → Type 0
-Comes t tokens at next = Begins t (ahead tokens at) (ahead tokens next)
+abbrev pub Comes : Token → List CodeToken → ℕ → ℕ → Type 0
+Comes t tokens at next = Begins t (lexemes_from tokens at) (lexemes_from tokens next)
 
 -- a token of this kind stands there
-abbrev pub KindComes : TokenKind → List Placed → ℕ → Type 0
-KindComes kind tokens at = BeginsWith kind (ahead tokens at) (ahead tokens (at + 1))
+abbrev pub KindComes : TokenKind → List CodeToken → ℕ → Type 0
+KindComes kind tokens at = BeginsWith kind (lexemes_from tokens at) (lexemes_from tokens (at + 1))
 
 -- the operator between two operands stands there
-abbrev pub OperatorComes : Op → List Placed → ℕ → Type 0
-OperatorComes op tokens at = BeginsOperator op (ahead tokens at) (ahead tokens (at + 1))
+abbrev pub OperatorComes : Op → List CodeToken → ℕ → Type 0
+OperatorComes op tokens at = BeginsOperator op (lexemes_from tokens at) (lexemes_from tokens (at + 1))

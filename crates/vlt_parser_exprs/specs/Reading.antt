@@ -1,21 +1,21 @@
 -- What a part of the parser says of the tokens before it.
 use Rattle.std.specs.Prelude.{◌≡◌, ◌<◌, ◌≤◌, ℕ, List, length, drop, Option, Some, None}
-use Rattle.vlt_lexer.specs.declared.token.Token.{Token as Placed}
+use Rattle.vlt_lexer.specs.declared.token.Token.{Token as CodeToken}
 use Rattle.vlt_parser_exprs.specs.declared.lists.Most.{Most}
 use Rattle.vlt_syntax.specs.Tokens.{Token, tokens_of}
 use Rattle.vlt_syntax.specs.Places.{Spans, Placing, span_in}
 use Rattle.vlt_lexer.specs.Text.{lexemes}
 
 -- the tokens from a position on
-abbrev pub left : List Placed → ℕ → List Token
-left tokens at = tokens_of (drop at tokens)
+abbrev pub tokens_from : List CodeToken → ℕ → List Token
+tokens_from tokens at = tokens_of (drop at tokens)
 
 -- the span of the tokens from one position up to another
-abbrev pub spans : List Placed → Spans
+abbrev pub spans : List CodeToken → Spans
 spans tokens = span_in (lexemes tokens)
 
 -- The thing has its first token at the first position and its last before the second, and so have its parts theirs.
-abbrev pub Stands : {X : Type 0} → (X → Placing X) → List Placed → ℕ → X → ℕ → Type 0
+abbrev pub Stands : {X : Type 0} → (X → Placing X) → List CodeToken → ℕ → X → ℕ → Type 0
 Stands place tokens at x next = place x (spans tokens) at ≡ (x, next)
 
 -- a position behind another, within the list

@@ -11,8 +11,8 @@ ghost use Rattle.vlt_syntax.specs.Places.{expr_at, init_at};
 ghost use Rattle.vlt_syntax.specs.View.{expr_of, init_of};
 ghost use Rattle.vlt_parser_exprs.specs.declared.error.ParseError.TheVariants.{Limit, Memory};
 ghost use Rattle.vlt_automaton.specs.Language as automaton;
-ghost use Rattle.vlt_parser_exprs.specs.Reading.{left, Moves, Stands};
-ghost use Rattle.vlt_parser_exprs.specs.Ahead.{ahead, next_level, Begins, Turns};
+ghost use Rattle.vlt_parser_exprs.specs.Reading.{tokens_from, Moves, Stands};
+ghost use Rattle.vlt_parser_exprs.specs.Ahead.{lexemes_from, next_level, Begins, Turns};
 ghost use Rattle.vlt_parser_exprs.specs.Promises.{Advances, Holds, Lies, OperatorComes, Spells, Takes};
 
 use crate::error::ParseError;
@@ -94,13 +94,13 @@ struct BinaryOperator {
 /// The operator between two operands that comes next, if it binds at least as tightly as `least`.
 fn operator(tokens: &[Token<'_>], at: usize, least: u8) -> Option<BinaryOperator>
     requires { 1 ≤ least }
-    ensures spelled { IfSome result (λ x. left tokens.now at ≡ a_sign (sign_of x.op) ∷
-        left tokens.now (at + 1)) }
+    ensures spelled { IfSome result (λ x. tokens_from tokens.now at ≡ a_sign (sign_of x.op) ∷
+        tokens_from tokens.now (at + 1)) }
     ensures arity { IfSome result (λ x. (row_of x.op).arity ≡ 2) }
     ensures level { IfSome result (λ x. x.level ≡ level x.op) }
     ensures binds { IfSome result (λ x. (least ≤ level x.op) ×
-        (next_level (ahead tokens.now at) ≡ level x.op)) }
-    ensures none { IfNone result (next_level (ahead tokens.now at) < least) }
+        (next_level (lexemes_from tokens.now at) ≡ level x.op)) }
+    ensures none { IfNone result (next_level (lexemes_from tokens.now at) < least) }
     ensures moves { IfSome result (λ x. Moves tokens.now at (at + 1)) }
     ensures begins { IfSome result (λ x. OperatorComes x.op tokens.now at) }
 {
@@ -144,8 +144,8 @@ fn primary(
     room: usize,
 ) -> Result<(Deep, usize), ParseError>
     requires { 1 ≤ room }
-    ensures spelled { IfOk result (λ x. left tokens.now at ≡
-        expr_then (expr_of x.0.expr) (left tokens.now x.1)) }
+    ensures spelled { IfOk result (λ x. tokens_from tokens.now at ≡
+        expr_then (expr_of x.0.expr) (tokens_from tokens.now x.1)) }
     ensures placed { IfOk result (λ x. Stands expr_at tokens.now at (expr_of x.0.expr) x.1) }
     ensures binds { IfOk result (λ x. (least : ℕ) → least ≤ 11 →
         BindsFrom least (expr_of x.0.expr)) }
@@ -180,9 +180,10 @@ fn group(
     requires room { 1 ≤ room }
     requires behind { Moves tokens.now from at }
     requires one { at ≡ from + 1 }
-    requires opens { Begins (a_sign OpenParen) (ahead tokens.now from) (ahead tokens.now at) }
-    ensures spelled { IfOk result (λ x. a_sign OpenParen ∷ left tokens.now at ≡
-        expr_then (expr_of x.0.expr) (left tokens.now x.1)) }
+    requires opens { Begins (a_sign OpenParen) (lexemes_from tokens.now from)
+        (lexemes_from tokens.now at) }
+    ensures spelled { IfOk result (λ x. a_sign OpenParen ∷ tokens_from tokens.now at ≡
+        expr_then (expr_of x.0.expr) (tokens_from tokens.now x.1)) }
     ensures placed { IfOk result (λ x. Stands expr_at tokens.now from (expr_of x.0.expr) x.1) }
     ensures binds { IfOk result (λ x. (least : ℕ) → BindsFrom least (expr_of x.0.expr)) }
     ensures depth { IfOk result (λ x. x.0.depth ≡ depth_of (expr_of x.0.expr)) }
@@ -210,12 +211,13 @@ fn unary(
     room: usize,
 ) -> Result<(Deep, usize), ParseError>
     requires room { 1 ≤ room }
-    requires here { left tokens.now at ≡ a_sign mark ∷ left tokens.now (at + 1) }
+    requires here { tokens_from tokens.now at ≡ a_sign mark ∷ tokens_from tokens.now (at + 1) }
     requires within { Moves tokens.now at (at + 1) }
-    requires begins { Begins (a_sign mark) (ahead tokens.now at) (ahead tokens.now (at + 1)) }
+    requires begins { Begins (a_sign mark) (lexemes_from tokens.now at)
+        (lexemes_from tokens.now (at + 1)) }
     requires no_group { mark ≢ OpenParen }
-    ensures spelled { IfOk result (λ x. left tokens.now at ≡
-        expr_then (expr_of x.0.expr) (left tokens.now x.1)) }
+    ensures spelled { IfOk result (λ x. tokens_from tokens.now at ≡
+        expr_then (expr_of x.0.expr) (tokens_from tokens.now x.1)) }
     ensures placed { IfOk result (λ x. Stands expr_at tokens.now at (expr_of x.0.expr) x.1) }
     ensures binds { IfOk result (λ x. (least : ℕ) → least ≤ 11 →
         BindsFrom least (expr_of x.0.expr)) }
@@ -262,11 +264,11 @@ fn expression(
 ) -> Result<(Deep, usize), ParseError>
     requires room { 1 ≤ room }
     requires levels { (1 ≤ least) × (least ≤ 11) }
-    ensures spelled { IfOk result (λ x. left tokens.now at ≡
-        expr_then (expr_of x.0.expr) (left tokens.now x.1)) }
+    ensures spelled { IfOk result (λ x. tokens_from tokens.now at ≡
+        expr_then (expr_of x.0.expr) (tokens_from tokens.now x.1)) }
     ensures placed { IfOk result (λ x. Stands expr_at tokens.now at (expr_of x.0.expr) x.1) }
     ensures binds { IfOk result (λ x. BindsFrom least (expr_of x.0.expr)) }
-    ensures stops { IfOk result (λ x. next_level (ahead tokens.now x.1) < least) }
+    ensures stops { IfOk result (λ x. next_level (lexemes_from tokens.now x.1) < least) }
     ensures depth { IfOk result (λ x. x.0.depth ≡ depth_of (expr_of x.0.expr)) }
     ensures within { IfOk result (λ x. (1 ≤ x.0.depth) × (x.0.depth ≤ room)) }
     ensures moves { Advances tokens.now at result }

@@ -1,5 +1,4 @@
-//! Parts of the parser: from the position of a token a list, a type, an expression, an entry or a
-//! case, and the position behind it.
+//! Parts of the parser: from a token's position a list, type, expression, entry or case, and the position behind.
 //! Read `specs/Promises.antt` first.
 //! `vlt_parser_simple`, `vlt_parser_stmts` and `vlt_parser` rest on it.
 #![tactic(auto)]

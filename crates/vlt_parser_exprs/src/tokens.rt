@@ -7,8 +7,8 @@ ghost use Rattle.vlt_syntax.specs.Spelling.{name_then, case_name_then};
 ghost use Rattle.vlt_syntax.specs.View.{name_of};
 ghost use Rattle.vlt_automaton.specs.Language as automaton;
 ghost use Rattle.vlt_syntax.specs.Places.{name_at};
-ghost use Rattle.vlt_parser_exprs.specs.Reading.{left, spans, Moves};
-ghost use Rattle.vlt_parser_exprs.specs.Ahead.{ahead, first_sign, LacksSign, LacksKeyword, refusal, Follows};
+ghost use Rattle.vlt_parser_exprs.specs.Reading.{tokens_from, spans, Moves};
+ghost use Rattle.vlt_parser_exprs.specs.Ahead.{lexemes_from, first_sign, LacksSign, LacksKeyword, refusal, Follows};
 ghost use Rattle.vlt_parser_exprs.specs.Promises.{Advances, Comes, KindComes, Lies, Spells, Takes};
 
 use crate::error::ParseError;
@@ -19,7 +19,7 @@ use vlt_syntax::{Name, NameText};
 
 /// Why nothing goes on with the token at a position.
 pub fn unexpected(tokens: &[Token<'_>], at: usize) -> ParseError
-    ensures { result ≡ refusal (ahead tokens.now at) }
+    ensures { result ≡ refusal (lexemes_from tokens.now at) }
 {
     match tokens.get(at) {
         Some(token) => ParseError::Unexpected(token.at.from),
@@ -29,20 +29,20 @@ pub fn unexpected(tokens: &[Token<'_>], at: usize) -> ParseError
 
 /// What the token at a position is, where there is one.
 pub fn kind(tokens: &[Token<'_>], at: usize) -> Option<TokenKind>
-    ensures here { IfSome result (λ kind. (text : List ℕ) × (left tokens.now at ≡
-        token_from kind text ∷ left tokens.now (at + 1))) }
+    ensures here { IfSome result (λ kind. (text : List ℕ) × (tokens_from tokens.now at ≡
+        token_from kind text ∷ tokens_from tokens.now (at + 1))) }
     ensures within { IfSome result (λ kind. Moves tokens.now at (at + 1)) }
     ensures ahead { IfSome result (λ kind. KindComes kind tokens.now at) }
-    ensures none { IfNone result (ahead tokens.now at ≡ []) }
+    ensures none { IfNone result (lexemes_from tokens.now at ≡ []) }
 {
     Some(tokens.get(at)?.kind)
 }
 
 /// The sign at a position, where there is one.
 pub fn next_sign(tokens: &[Token<'_>], at: usize) -> Option<Mark>
-    ensures which { result ≡ first_sign (ahead tokens.now at) }
+    ensures which { result ≡ first_sign (lexemes_from tokens.now at) }
     ensures here { IfSome result (λ mark.
-        left tokens.now at ≡ a_sign mark ∷ left tokens.now (at + 1)) }
+        tokens_from tokens.now at ≡ a_sign mark ∷ tokens_from tokens.now (at + 1)) }
     ensures within { IfSome result (λ mark. Moves tokens.now at (at + 1)) }
     ensures ahead { IfSome result (λ mark. Comes (a_sign mark) tokens.now at (at + 1)) }
 {
@@ -71,11 +71,11 @@ pub fn span(tokens: &[Token<'_>], from: usize, to: usize) -> Span
 /// The position behind a sign, if it comes next.
 pub fn behind_sign(tokens: &[Token<'_>], at: usize, mark: Mark) -> Option<usize>
     ensures spelled { IfSome result (λ next.
-        left tokens.now at ≡ a_sign mark ∷ left tokens.now next) }
+        tokens_from tokens.now at ≡ a_sign mark ∷ tokens_from tokens.now next) }
     ensures one { IfSome result (λ next. next ≡ at + 1) }
     ensures moves { IfSome result (λ next. Moves tokens.now at next) }
     ensures ahead { IfSome result (λ next. Comes (a_sign mark) tokens.now at next) }
-    ensures lacks { IfNone result (LacksSign mark (ahead tokens.now at)) }
+    ensures lacks { IfNone result (LacksSign mark (lexemes_from tokens.now at)) }
 {
     match tokens.get(at)?.kind {
         TokenKind::Sign(found) if found == mark => Some(at + 1),
@@ -86,13 +86,13 @@ pub fn behind_sign(tokens: &[Token<'_>], at: usize, mark: Mark) -> Option<usize>
 /// The position behind a sign.
 pub fn sign(tokens: &[Token<'_>], at: usize, mark: Mark) -> Result<usize, ParseError>
     ensures spelled { IfOk result (λ next.
-        left tokens.now at ≡ a_sign mark ∷ left tokens.now next) }
+        tokens_from tokens.now at ≡ a_sign mark ∷ tokens_from tokens.now next) }
     ensures one { IfOk result (λ next. next ≡ at + 1) }
     ensures moves { IfOk result (λ next. Moves tokens.now at next) }
     ensures place { Follows (automaton.sign mark ∷ []) (λ next. next) tokens.now at result }
     ensures takes { IfOk result (λ next. Comes (a_sign mark) tokens.now at next) }
     ensures lacks { IfErr result (λ e.
-        (e ≡ refusal (ahead tokens.now at)) × LacksSign mark (ahead tokens.now at)) }
+        (e ≡ refusal (lexemes_from tokens.now at)) × LacksSign mark (lexemes_from tokens.now at)) }
 {
     match behind_sign(tokens, at, mark) {
         Some(next) => Ok(next),
@@ -103,13 +103,14 @@ pub fn sign(tokens: &[Token<'_>], at: usize, mark: Mark) -> Result<usize, ParseE
 /// The position behind a keyword.
 pub fn keyword(tokens: &[Token<'_>], at: usize, word: Word) -> Result<usize, ParseError>
     ensures spelled { IfOk result (λ next.
-        left tokens.now at ≡ a_keyword word ∷ left tokens.now next) }
+        tokens_from tokens.now at ≡ a_keyword word ∷ tokens_from tokens.now next) }
     ensures one { IfOk result (λ next. next ≡ at + 1) }
     ensures moves { IfOk result (λ next. Moves tokens.now at next) }
     ensures place { Follows (automaton.keyword word ∷ []) (λ next. next) tokens.now at result }
     ensures takes { IfOk result (λ next. Comes (a_keyword word) tokens.now at next) }
     ensures lacks { IfErr result (λ e.
-        (e ≡ refusal (ahead tokens.now at)) × LacksKeyword word (ahead tokens.now at)) }
+        (e ≡ refusal (lexemes_from tokens.now at)) ×
+        LacksKeyword word (lexemes_from tokens.now at)) }
 {
     match tokens.get(at) {
         Some(

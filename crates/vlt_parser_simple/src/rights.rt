@@ -10,8 +10,8 @@ ghost use Rattle.vlt_syntax.specs.Grammar.{IsBuild, IsCall, IsRight, IsReturned,
 ghost use Rattle.vlt_syntax.specs.Places.{build_at, call_at, owner_at, returned_at, right_at};
 ghost use Rattle.vlt_syntax.specs.View.{name_of, build_of, call_of, right_of, returned_of};
 ghost use Rattle.vlt_automaton.specs.Language as automaton;
-ghost use Rattle.vlt_parser_exprs.specs.Reading.{left, Moves};
-ghost use Rattle.vlt_parser_exprs.specs.Ahead.{ahead, Begins, BeginsWith, LacksSign, Follows};
+ghost use Rattle.vlt_parser_exprs.specs.Reading.{tokens_from, Moves};
+ghost use Rattle.vlt_parser_exprs.specs.Ahead.{lexemes_from, Begins, BeginsWith, LacksSign, Follows};
 ghost use Rattle.vlt_parser_exprs.specs.Promises.{Advances, Holds, Lies, MayAdvance, Spells, SpellsBehind, Takes};
 
 use std::alloc::Global;
@@ -148,10 +148,11 @@ fn adopt(
 /// Whether a call begins here: a name and a `(`.
 fn begins_call(tokens: &[Token<'_>], at: usize) -> bool
     ensures yes { result ≡ true →
-        (next : ℕ) × Begins (a_sign OpenParen) (ahead tokens.now (at + 1)) (ahead tokens.now next) }
+        (next : ℕ) × Begins (a_sign OpenParen) (lexemes_from tokens.now (at + 1))
+        (lexemes_from tokens.now next) }
     ensures no { result ≡ false →
-        BeginsWith kinds.Name (ahead tokens.now at) (ahead tokens.now (at + 1)) →
-        LacksSign OpenParen (ahead tokens.now (at + 1)) }
+        BeginsWith kinds.Name (lexemes_from tokens.now at) (lexemes_from tokens.now (at + 1)) →
+        LacksSign OpenParen (lexemes_from tokens.now (at + 1)) }
 {
     matches!(kind(tokens, at), Some(TokenKind::Name))
         && behind_sign(tokens, at + 1, Mark::OpenParen).is_some()
@@ -159,8 +160,8 @@ fn begins_call(tokens: &[Token<'_>], at: usize) -> bool
 
 /// The pair of parentheses behind `input` or `more`.
 fn no_arguments(tokens: &[Token<'_>], at: usize) -> Result<usize, ParseError>
-    ensures spelled { IfOk result (λ next. left tokens.now at ≡ a_sign OpenParen ∷
-        a_sign CloseParen ∷ left tokens.now next) }
+    ensures spelled { IfOk result (λ next. tokens_from tokens.now at ≡ a_sign OpenParen ∷
+        a_sign CloseParen ∷ tokens_from tokens.now next) }
     ensures two { IfOk result (λ next. next ≡ at + 1 + 1) }
     ensures moves { IfOk result (λ next. Moves tokens.now at next) }
     ensures place { Follows (automaton.sign OpenParen ∷ automaton.sign CloseParen ∷

@@ -10,7 +10,7 @@ ghost use Rattle.vlt_syntax.specs.Places.{stmt_at};
 ghost use Rattle.vlt_syntax.specs.View.{expr_of, stmt_of};
 ghost use Rattle.vlt_automaton.specs.Language as automaton;
 ghost use Rattle.vlt_parser_simple.specs.Simple.{IsSimple, condition_at};
-ghost use Rattle.vlt_parser_exprs.specs.Ahead.{ahead, BeginsWith};
+ghost use Rattle.vlt_parser_exprs.specs.Ahead.{lexemes_from, BeginsWith};
 ghost use Rattle.vlt_parser_exprs.specs.Promises.{Advances, Holds, Lies, Spells, Takes};
 
 use crate::rights::{call, returned, right};
@@ -133,7 +133,8 @@ fn call_stmt(alloc: Global, tokens: &[Token<'_>], at: usize) -> Result<(Stmt, us
 /// A statement that begins with a name.
 #[tactic(auto, using(crate::proofs::Statements::stmt_assigns, crate::proofs::Statements::stmt_puts, crate::proofs::Statements::stmt_calls, crate::proofs::Statements::stmt_declares, vlt_parser_exprs::proofs::Runs::instead))]
 fn named_stmt(alloc: Global, tokens: &[Token<'_>], at: usize) -> Result<(Stmt, usize), ParseError>
-    requires { BeginsWith kinds.Name (ahead tokens.now at) (ahead tokens.now (at + 1)) }
+    requires { BeginsWith kinds.Name (lexemes_from tokens.now at)
+        (lexemes_from tokens.now (at + 1)) }
     ensures spelled { Spells stmt_of stmt_then tokens.now at result }
     ensures placed { Lies stmt_of stmt_at tokens.now at result }
     ensures right { Holds stmt_of IsSimple result }
@@ -156,7 +157,8 @@ fn print(alloc: Global, tokens: &[Token<'_>], at: usize) -> Result<(Stmt, usize)
     ensures right { Holds stmt_of IsSimple result }
     ensures moves { Advances tokens.now at result }
     ensures place { Takes (automaton.keyword Print ∷ automaton.sign OpenParen ∷
-        automaton.thing automaton.an_expr ∷ automaton.sign CloseParen ∷ automaton.sign Semicolon ∷ [])
+        automaton.thing automaton.an_expr ∷ automaton.sign CloseParen ∷
+        automaton.sign Semicolon ∷ [])
         tokens.now at result }
 {
     let next = keyword(tokens, at, Word::Print)?;
@@ -259,7 +261,8 @@ fn open(alloc: Global, tokens: &[Token<'_>], at: usize) -> Result<(Stmt, usize),
     ensures right { Holds stmt_of IsSimple result }
     ensures moves { Advances tokens.now at result }
     ensures place { Takes (automaton.keyword Open ∷ automaton.name ∷ automaton.keyword Into ∷
-        automaton.sign OpenParen ∷ automaton.name ∷ automaton.further automaton.a_name CloseParen None ∷
+        automaton.sign OpenParen ∷ automaton.name ∷
+        automaton.further automaton.a_name CloseParen None ∷
         automaton.sign Semicolon ∷ []) tokens.now at result }
 {
     let next = keyword(tokens, at, Word::Open)?;

@@ -1,7 +1,7 @@
 -- Statements, arms and what has blocks stand where they are read.
 use Rattle.std.proofs.Common.{◌≡◌, ℕ, ◌+◌, List, [], ◌∷◌, ◌++◌, sym, ap, ◌∙◌, arith}
 use Rattle.vlt_base.specs.declared.places.Span.{Span}
-use Rattle.vlt_lexer.specs.declared.token.Token.{Token as Placed}
+use Rattle.vlt_lexer.specs.declared.token.Token.{Token as CodeToken}
 use Rattle.vlt_syntax.specs.Tree as s
 use Rattle.vlt_syntax.specs.Places.{expr_at, stmt_at, block_at, if_at, else_at, stmts_at, arms_at}
 use Rattle.vlt_syntax.specs.View.{ArmView, stmts_made, arms_made}
@@ -12,7 +12,7 @@ use Rattle.vlt_parser_exprs.proofs.Placings.{parts, both}
 same_next : (x y : s.Stmt) (xs ys : s.Stmts) → s.next x xs ≡ s.next y ys → (x ≡ y) × (xs ≡ ys)
 same_next x y xs ys e = (cc, cc)
 
-pub stmts_append : (tokens : List Placed) (xs : List s.Stmt) (x : s.Stmt) (i j k : ℕ) → Stands stmts_at tokens i (stmts_made xs) j → Stands stmt_at tokens j x k → Stands stmts_at tokens i (stmts_made (xs ++ x ∷ [])) k
+pub stmts_append : (tokens : List CodeToken) (xs : List s.Stmt) (x : s.Stmt) (i j k : ℕ) → Stands stmts_at tokens i (stmts_made xs) j → Stands stmt_at tokens j x k → Stands stmts_at tokens i (stmts_made (xs ++ x ∷ [])) k
 stmts_append tokens [] x i j k e last =
     let same : i ≡ j = ap (λ p. p.1) e in
     ap (λ a. (s.next a.0 s.done, a.1)) (ap (λ n. stmt_at x (spans tokens) n) same ∙ last)
@@ -30,7 +30,7 @@ same_arm c d vs us v u at bt xs ys e =
     let names : c ≡ d = cc in let variables : vs ≡ us = cc in let blocks : v ≡ u = cc in let places : at ≡ bt = cc in
     (cc, λ zs. ap (λ z. s.arm z vs v at zs) names ∙ ap (λ z. s.arm d z v at zs) variables ∙ ap (λ z. s.arm d us z at zs) blocks ∙ ap (λ z. s.arm d us u z zs) places)
 
-pub arms_append : (tokens : List Placed) (xs : List ArmView) (x : ArmView) (i j k : ℕ) → Stands arms_at tokens i (arms_made xs) j → Stands arms_at tokens j (arms_made (x ∷ [])) k → Stands arms_at tokens i (arms_made (xs ++ x ∷ [])) k
+pub arms_append : (tokens : List CodeToken) (xs : List ArmView) (x : ArmView) (i j k : ℕ) → Stands arms_at tokens i (arms_made xs) j → Stands arms_at tokens j (arms_made (x ∷ [])) k → Stands arms_at tokens i (arms_made (xs ++ x ∷ [])) k
 arms_append tokens [] x i j k e last =
     let same : i ≡ j = ap (λ p. p.1) e in
     ap (λ n. arms_at (arms_made (x ∷ [])) (spans tokens) n) same ∙ last
@@ -43,7 +43,7 @@ arms_append tokens (y ∷ ys) x i j k e last =
     let more = arms_at (arms_made (ys ++ x ∷ [])) (spans tokens) first.1 in
     ap (λ z. (z, more.1)) (q.1 more.0) ∙ ap (λ r. (s.arm y.0 y.1 y.2 y.3 r.0, r.1)) rest
 
-pub while_stands : (tokens : List Placed) (at next behind end : ℕ) (e : s.Expr) (b : s.Block) (span : Span) → next ≡ at + 1 → Stands condition_at tokens next e behind → Stands block_at tokens behind b end → span ≡ spans tokens at end
+pub while_stands : (tokens : List CodeToken) (at next behind end : ℕ) (e : s.Expr) (b : s.Block) (span : Span) → next ≡ at + 1 → Stands condition_at tokens next e behind → Stands block_at tokens behind b end → span ≡ spans tokens at end
     → Stands stmt_at tokens at (s.loop e b span) end
 while_stands tokens at next behind end e b span is condition body same =
     let sp = spans tokens in
@@ -53,7 +53,7 @@ while_stands tokens at next behind end e b span is condition body same =
     ∙ ap (λ r. (s.loop e r.0 (sp at r.1), r.1)) body
     ∙ ap (λ z. (s.loop e b z, end)) (sym same)
 
-pub if_stands : (tokens : List Placed) (at next behind last end : ℕ) (e : s.Expr) (b : s.Block) (o : s.Else) (span : Span) → next ≡ at + 1 → Stands condition_at tokens next e behind → Stands block_at tokens behind b last → Stands else_at tokens last o end → span ≡ spans tokens at end
+pub if_stands : (tokens : List CodeToken) (at next behind last end : ℕ) (e : s.Expr) (b : s.Block) (o : s.Else) (span : Span) → next ≡ at + 1 → Stands condition_at tokens next e behind → Stands block_at tokens behind b last → Stands else_at tokens last o end → span ≡ spans tokens at end
     → Stands if_at tokens at (s.choice e b o span) end
 if_stands tokens at next behind last end e b o span is condition body other same =
     let sp = spans tokens in

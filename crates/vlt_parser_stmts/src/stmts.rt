@@ -11,7 +11,7 @@ ghost use Rattle.vlt_syntax.specs.Places.{arms_at, block_at, else_at, if_at, stm
 ghost use Rattle.vlt_syntax.specs.View.{stmt_of, block_of, if_of, else_of, arm_of, arms_of, arms_made, name_of};
 ghost use Rattle.vlt_parser_exprs.specs.declared.error.ParseError.TheVariants.{Limit};
 ghost use Rattle.vlt_automaton.specs.Language as automaton;
-ghost use Rattle.vlt_parser_exprs.specs.Reading.{left, Stands};
+ghost use Rattle.vlt_parser_exprs.specs.Reading.{tokens_from, Stands};
 ghost use Rattle.vlt_parser_stmts.specs.Statements.{focus_then, focus_at, rows_at};
 ghost use Rattle.vlt_parser_exprs.specs.Promises.{Advances, Holds, KindComes, Lies, MayAdvance, Spells, Takes};
 
@@ -49,9 +49,9 @@ fn focus_head(
     tokens: &[Token<'_>],
     at: usize,
 ) -> Result<(FocusHead, usize), ParseError>
-    ensures spelled { IfOk result (λ x. left tokens.now at ≡
+    ensures spelled { IfOk result (λ x. tokens_from tokens.now at ≡
         focus_then (name_of x.0.variable) (name_of x.0.key) (name_of x.0.alias)
-        (left tokens.now x.1)) }
+        (tokens_from tokens.now x.1)) }
     ensures placed { IfOk result (λ x. Stands focus_at
         tokens.now at (name_of x.0.variable, name_of x.0.key, name_of x.0.alias) x.1) }
     ensures moves { Advances tokens.now at result }
@@ -297,8 +297,8 @@ fn arms(
     room: usize,
 ) -> Result<(Items<Arm>, usize), ParseError>
     requires { 1 ≤ room }
-    ensures spelled { IfOk result (λ x. left tokens.now at ≡
-        arms_then (arms_of x.0) (a_sign CloseBrace ∷ left tokens.now x.1)) }
+    ensures spelled { IfOk result (λ x. tokens_from tokens.now at ≡
+        arms_then (arms_of x.0) (a_sign CloseBrace ∷ tokens_from tokens.now x.1)) }
     ensures placed { Lies arms_of rows_at tokens.now at result }
     ensures some { Holds arms_of IsSomeArm result }
     ensures right { Holds arms_of (AreArms language room) result }
@@ -326,8 +326,9 @@ fn arm(
     room: usize,
 ) -> Result<(Arm, usize), ParseError>
     requires { 1 ≤ room }
-    ensures spelled { IfOk result (λ x. left tokens.now at ≡ arms_then (arms_made (arm_of x.0 ∷
-        [])) (left tokens.now x.1)) }
+    ensures spelled { IfOk result (λ x. tokens_from tokens.now at
+        ≡ arms_then (arms_made (arm_of x.0 ∷
+        [])) (tokens_from tokens.now x.1)) }
     ensures placed { IfOk result (λ x. Stands arms_at tokens.now at (arms_made (arm_of x.0 ∷
         [])) x.1) }
     ensures right { IfOk result (λ x. AreArms language room (arms_made (arm_of x.0 ∷ []))) }

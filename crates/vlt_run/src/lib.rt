@@ -4,7 +4,7 @@
 #![tactic(auto)]
 
 ghost use Rattle.std.specs.Prelude.{◌<◌, ◌-◌, ◌^◌, length};
-ghost use Rattle.vlt_numbers.specs.Answers.{lists_of};
+ghost use Rattle.vlt_numbers.specs.HostAnswers.{lists_of};
 ghost use Rattle.vlt_core.specs.View.{program_of};
 ghost use Rattle.vlt_interp.specs.Reached.{IsRunnable};
 ghost use Rattle.vlt_run.specs.Ends.{EndsAs, EndsRun};

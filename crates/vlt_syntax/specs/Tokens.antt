@@ -4,7 +4,7 @@ use Rattle.vlt_lexer.specs.declared.token.Word.{Word}
 use Rattle.vlt_lexer.specs.declared.token.Mark.{Mark}
 use Rattle.vlt_lexer.specs.declared.token.TokenKind.{TokenKind}
 use Rattle.vlt_lexer.specs.declared.token.TokenKind.TheVariants as kind
-use Rattle.vlt_lexer.specs.declared.token.Token.{Token as Placed}
+use Rattle.vlt_lexer.specs.declared.token.Token.{Token as CodeToken}
 use Rattle.vlt_lexer.specs.Reading.{Lexeme}
 
 -- A token. Names have their bytes, ticks theirs with the `'`.
@@ -22,10 +22,10 @@ token_from (kind.Number z) text = number z
 token_from (kind.Keyword w) text = keyword w
 token_from (kind.Sign m) text = sign m
 
-abbrev pub token_of : Placed → Token
+abbrev pub token_of : CodeToken → Token
 token_of t = token_from t.kind t.text.now
 
-abbrev pub tokens_of : List Placed → List Token
+abbrev pub tokens_of : List CodeToken → List Token
 tokens_of = map token_of
 
 -- the tokens of a text, without their places

@@ -1,4 +1,4 @@
--- What the automaton accepts is the spelling of a tree, so tokens have a tree or a refusal.
+-- What the automaton accepts is the spelling of a tree, so tokens have a tree or a refusal, and it refuses what the grammar does.
 use Rattle.std.proofs.Common.{◌≡◌, ◌⊎◌, inl, inr, ℕ, Bool, true, false, if◌then◌else◌, List, [], ◌∷◌, map, refl, sym, ap, subst, ◌∙◌, arith}
 use Rattle.std.specs.Prelude.{Ok, Err, Some, None}
 use Rattle.vlt_base.specs.declared.places.Span.{Span}
@@ -16,6 +16,7 @@ use Rattle.vlt_syntax_laws.proofs.After.{after, onward}
 use Rattle.vlt_syntax_laws.proofs.Anew.{placed_tree}
 use Rattle.vlt_syntax_laws.proofs.Back.{Rest, Part, Spells, operations_end}
 use Rattle.vlt_syntax_laws.proofs.Final.{End, step_back, took}
+use Rattle.vlt_syntax_laws.proofs.OneRefusal.{one_refusal, tree_not_refused}
 use Rattle.vlt_syntax_laws.proofs.Reasons.{reason, IsReason, Takes}
 use Rattle.vlt_syntax_laws.proofs.Refused.{nothing, somewhere, refused}
 use Rattle.vlt_syntax_laws.proofs.Whole.{no_room, the_name}
@@ -64,12 +65,23 @@ whole_tree ts q e wants =
     let w = exactly nothing somewhere ts (start language) q e wants in
     (record { decls = w.0 }, (w.2, w.3), w.4 ∙ ap (each_then decl_then w.0) w.5)
 
+-- tokens that the automaton accepts have a tree, places included
+pub accepted_tree : (ls : List Lexeme) (u : Unit {0}) → run language (start language) (map located_of ls) ≡ Ok u → (x : Tree) × IsPlacedTreeOf ls x
+accepted_tree ls u e =
+    let r : Takes ls (start language) true = subst (λ v. IsReason ls (start language) v) e (reason ls (start language)) in
+    let x = whole_tree (tokens_in ls) r.stack r.all r.ends in
+    (placed ls x.0, placed_tree ls x.0 x.1 x.2)
+
 -- the tokens of a text have a tree, places included, or the grammar refuses them
 pub read_or_refused : (ls : List Lexeme) → ((x : Tree) × IsPlacedTreeOf ls x) ⊎ ((f : Refusal) × IsRefusal ls f)
 read_or_refused ls = by (run language (start language) (map located_of ls)) refl where
   by : (v : Verdict) → run language (start language) (map located_of ls) ≡ v → ((x : Tree) × IsPlacedTreeOf ls x) ⊎ ((f : Refusal) × IsRefusal ls f)
-  by (Ok u) e =
-      let r : Takes ls (start language) true = subst (λ v. IsReason ls (start language) v) e (reason ls (start language)) in
-      let x = whole_tree (tokens_in ls) r.stack r.all r.ends in
-      inl (placed ls x.0, placed_tree ls x.0 x.1 x.2)
+  by (Ok u) e = inl (accepted_tree ls u e)
   by (Err f) e = inr (f, refused ls f e)
+
+-- what the grammar refuses, the automaton refuses for the same reason
+pub refused_alike : (ls : List Lexeme) (f : Refusal) → IsRefusal ls f → run language (start language) (map located_of ls) ≡ Err f
+refused_alike ls f r = by (run language (start language) (map located_of ls)) refl where
+  by : (v : Verdict) → run language (start language) (map located_of ls) ≡ v → v ≡ Err f
+  by (Ok u) e = let x = accepted_tree ls u e in absurd (tree_not_refused ls x.0 f x.1.0 x.1.1 r)
+  by (Err g) e = ap Err (one_refusal ls g f (refused ls g e) r)

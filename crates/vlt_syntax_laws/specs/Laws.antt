@@ -31,6 +31,14 @@ verdict ls = run language (start language) (map located_of ls)
 abbrev pub IsAccepting : List Lexeme → Type 0
 IsAccepting ls = (t : Tree) → IsTree language t → tokens_in ls ≡ spelling t → verdict ls ≡ Ok tt
 
+-- and no others
+abbrev pub IsAcceptingTrees : List Lexeme → Type 0
+IsAcceptingTrees ls = verdict ls ≡ Ok tt → (t : Tree) × IsPlacedTreeOf ls t
+
 -- where it refuses, the grammar does, for the same reason
 abbrev pub IsRefusing : List Lexeme → Type 0
 IsRefusing ls = (f : Refusal) → verdict ls ≡ Err f → IsRefusal ls f
+
+-- and it does wherever the grammar does
+abbrev pub IsRefusingAll : List Lexeme → Type 0
+IsRefusingAll ls = (f : Refusal) → IsRefusal ls f → verdict ls ≡ Err f

@@ -5,7 +5,7 @@
 
 ghost use Rattle.std.specs.Prelude.{List, ◌≡◌, ℕ};
 ghost use Rattle.vlt_lexer.specs.Reading.{Lexeme};
-ghost use Rattle.vlt_syntax_laws.specs.Laws.{HasOneTree, HasOneRefusal, HasTreeOrRefusal, IsNeverBoth, IsAccepting, IsRefusing};
+ghost use Rattle.vlt_syntax_laws.specs.Laws.{HasOneTree, HasOneRefusal, HasTreeOrRefusal, IsNeverBoth, IsAccepting, IsAcceptingTrees, IsRefusing, IsRefusingAll};
 ghost use Rattle.vlt_lexer.specs.Text.{IsTokensOf};
 ghost use Rattle.vlt_syntax.specs.Tokens.{tokens_in};
 ghost use Rattle.vlt_syntax.specs.Tree.{Tree};
@@ -21,10 +21,12 @@ pub fn tokens_are_read_in_one_way()
     ensures never_both { (ls : List Lexeme) → IsNeverBoth ls }
 {}
 
-/// The automaton that reads token by token accepts each tree's tokens, and refuses others as the grammar does.
+/// The automaton that reads token by token accepts the tokens of trees alone, and refuses just what the grammar refuses.
 pub fn automaton_decides()
     ensures accepts { (ls : List Lexeme) → IsAccepting ls }
+    ensures trees { (ls : List Lexeme) → IsAcceptingTrees ls }
     ensures refuses { (ls : List Lexeme) → IsRefusing ls }
+    ensures all { (ls : List Lexeme) → IsRefusingAll ls }
 {}
 
 /// In a tree that a text spells each name of a variant's case begins with a `'`.

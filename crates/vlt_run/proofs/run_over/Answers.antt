@@ -2,7 +2,7 @@ use Rattle.std.proofs.Common.{◌<◌, subst}
 use Rattle.vlt_core.specs.View.{program_of}
 use Rattle.vlt_core.specs.Widths.{slots_needed}
 use Rattle.vlt_steps.specs.Writing.{Outside}
-use Rattle.vlt_numbers.specs.Answers.{lists_of}
+use Rattle.vlt_numbers.specs.HostAnswers.{lists_of}
 use Rattle.vlt_run.specs.Ends.{EndsRun}
 use Rattle.vlt_steps.specs.declared.end.RunEnd.TheVariants.{Stopped}
 use Rattle.vlt_steps.proofs.Ending.{fits}

@@ -1,5 +1,5 @@
 use Rattle.std.proofs.Common.{◌≡◌, ◌≤◌, ◌+◌, vec_capacity, Some, [], refl, subst, sym, ◌∙◌, arith}
-use Rattle.vlt_numbers.specs.Answers.{lists_of}
+use Rattle.vlt_numbers.specs.HostAnswers.{lists_of}
 use Rattle.c_syntax.specs.View.{program_of}
 use Rattle.c_meaning.specs.Run.{main_of, c_run}
 use Rattle.c_machine.specs.Bounds.{block_cells}

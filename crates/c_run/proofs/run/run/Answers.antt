@@ -1,5 +1,5 @@
 use Rattle.std.proofs.Common.{◌<◌, subst}
-use Rattle.vlt_numbers.specs.Answers.{lists_of}
+use Rattle.vlt_numbers.specs.HostAnswers.{lists_of}
 use Rattle.vlt_steps.specs.Writing.{Outside}
 use Rattle.vlt_steps.specs.declared.end.RunEnd.TheVariants.{Stopped}
 use Rattle.vlt_steps.proofs.Ending.{fits}

@@ -1,5 +1,5 @@
 use Rattle.std.proofs.Common.{Err, refl, sym, ap, ◌∙◌, subst}
-use Rattle.vlt_numbers.specs.Answers.{lists_of}
+use Rattle.vlt_numbers.specs.HostAnswers.{lists_of}
 use Rattle.vlt_given.specs.Given.{given_by}
 use Rattle.vlt_steps.specs.Writing.{Outside}
 use Rattle.vlt_steps.proofs.Ending.{over_numbers, refused}

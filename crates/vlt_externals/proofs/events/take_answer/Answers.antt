@@ -1,5 +1,5 @@
 use Rattle.std.proofs.Common.{rules, ◌≡◌, None, Some, refl, arith, slice_get}
-use Rattle.vlt_numbers.specs.Answers.{lists_of}
+use Rattle.vlt_numbers.specs.HostAnswers.{lists_of}
 use Rattle.vlt_externals.proofs.Telling.{drop_at, drop_past, answer_below}
 use Rattle.vlt_externals.proofs.events.take_answer.Goals as goal
 

@@ -1,5 +1,5 @@
 use Rattle.std.proofs.Common.{Some, None, refl, arith}
-use Rattle.vlt_numbers.specs.Answers.{lists_of}
+use Rattle.vlt_numbers.specs.HostAnswers.{lists_of}
 use Rattle.vlt_core.specs.View.{func_of, program_of}
 use Rattle.vlt_tasks.specs.declared.task.At.TheVariants.{Goes as GoesOn}
 use Rattle.vlt_interp.proofs.Beginning.{has_main, main_is, no_depth, start_room, first_running, first_ended}

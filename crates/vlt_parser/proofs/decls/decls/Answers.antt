@@ -6,10 +6,10 @@ use Rattle.vlt_syntax.specs.View.{decl_of}
 use Rattle.std.proofs.lemmas.Grind.{common_steps}
 use Rattle.vlt_automaton.specs.Language as m
 use Rattle.vlt_automaton.specs.Language.{Symbol, run}
-use Rattle.vlt_parser_exprs.specs.Ahead.{ahead}
+use Rattle.vlt_parser_exprs.specs.Ahead.{lexemes_from}
 use Rattle.vlt_parser.specs.Declarations.{can_begin, decls_left}
 use Rattle.vlt_parser.proofs.Declarations.{decls_one, decl_can, decls_stop, some_ahead}
-use Rattle.vlt_parser_exprs.specs.Reading.{left}
+use Rattle.vlt_parser_exprs.specs.Reading.{tokens_from}
 use Rattle.vlt_syntax.specs.Places.{decl_at}
 use Rattle.vlt_parser_exprs.proofs.Placings.{one_more_stands}
 use Rattle.vlt_parser.proofs.Sequences.{one_more, each_more, still_few}
@@ -17,8 +17,8 @@ use Rattle.vlt_parser.proofs.decls.decls.Goals as goal
 
 pub loop-here-preserved : goal.loop-here-preserved
 loop-here-preserved c =
-    let start = left c.args.tokens.now in
-    let places = ahead c.args.tokens.now in
+    let start = tokens_from c.args.tokens.now in
+    let places = lexemes_from c.args.tokens.now in
     let before = c.loop-here.invariant in
     let all = c.push.new.self in
     let pushed : all ≡ c.loop-here.decls ++ c.in_ok-next.next ∷ [] = c.in_ok-push.ensures.ok in
@@ -38,13 +38,13 @@ loop-here-preserved c =
 
 pub returns-then-not-begins_decl-clause-place : goal.returns-then-not-begins_decl-clause-place
 returns-then-not-begins_decl-clause-place c =
-    let here = ahead c.args.tokens.now c.loop-here.here in
+    let here = lexemes_from c.args.tokens.now c.loop-here.here in
     let none : can_begin m.start_decl here ≡ false = first_of (search rules, grind (arith, common_steps)) in
     rw c.unexpected.ensures (λ f told. c.loop-here.invariant.place ∙ decls_stop (length c.loop-here.decls) here (some_ahead c.args.tokens.now c.loop-here.here c.loop-here-test.true) none f told)
 
 pub returns-in_err-next-clause-place : goal.returns-in_err-next-clause-place
 returns-in_err-next-clause-place c =
-    let here = ahead c.args.tokens.now c.loop-here.here in
+    let here = lexemes_from c.args.tokens.now c.loop-here.here in
     let n = length c.loop-here.decls in
     let is : c.from_residual-in_err-next.result ≡ Err c.in_err-next.field-0.0 = first_of (search rules, grind (arith, common_steps)) in
     let begins : can_begin m.start_decl here ≡ true = first_of (search rules, grind (arith, common_steps)) in

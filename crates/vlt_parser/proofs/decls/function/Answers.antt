@@ -3,7 +3,7 @@ use Rattle.std.proofs.lemmas.Grind.{common_steps}
 use Rattle.vlt_syntax.specs.Grammar.{language}
 use Rattle.vlt_automaton.specs.Language as m
 use Rattle.vlt_automaton.specs.Language.{run}
-use Rattle.vlt_parser_exprs.specs.Ahead.{ahead}
+use Rattle.vlt_parser_exprs.specs.Ahead.{lexemes_from}
 use Rattle.vlt_parser.proofs.decls.function.Goals as goal
 
 pub returns-in_err-body-clause-place : goal.returns-in_err-body-clause-place
@@ -12,5 +12,5 @@ returns-in_err-body-clause-place c =
     let deepest : language.depth ≡ c.limit.result = first_of (search rules, grind (arith, common_steps)) in
     rw is (λ s f told.
     c.in_ok-head.ensures.place (m.block language.depth ∷ s)
-    ∙ ap (λ room. run (m.block room ∷ s) (ahead c.args.tokens.now c.in_ok-head.next)) deepest
+    ∙ ap (λ room. run (m.block room ∷ s) (lexemes_from c.args.tokens.now c.in_ok-head.next)) deepest
     ∙ c.in_err-body.ensures.place s f told)

@@ -4,13 +4,13 @@ use Rattle.vlt_lexer.specs.declared.token.Mark.TheVariants as mark
 use Rattle.vlt_syntax.specs.Grammar.{language}
 use Rattle.vlt_automaton.specs.Language as m
 use Rattle.vlt_automaton.specs.Language.{Symbol, Left, run}
-use Rattle.vlt_parser_exprs.specs.Ahead.{ahead, left_of}
+use Rattle.vlt_parser_exprs.specs.Ahead.{lexemes_from, left_of}
 use Rattle.vlt_parser_exprs.proofs.Runs.{bounded_below}
 use Rattle.vlt_parser.proofs.decls.stateset.Goals as goal
 
 pub returns-in_err-states-clause-place : goal.returns-in_err-states-clause-place
 returns-in_err-states-clause-place c =
-    let at = ahead c.args.tokens.now c.in_ok-next-2.next in
+    let at = lexemes_from c.args.tokens.now c.in_ok-next-2.next in
     let bound : left_of (Some c.bound.result) 1 ≡ Some (record { limit = 5; more = language.states - 1 }) = bounded_below c.bound.result 5 language.states c.bound.ensures.limit c.bound.ensures.count in
     let is : c.from_residual-in_err-states.result ≡ Err c.in_err-states.field-0.0 = first_of (search rules, grind (arith, common_steps)) in
     rw is (λ s f told.

@@ -5,7 +5,7 @@ use Rattle.vlt_syntax.specs.Tree as s
 use Rattle.vlt_syntax.specs.View.{expr_of}
 use Rattle.vlt_automaton.specs.Language as m
 use Rattle.vlt_automaton.specs.Language.{run}
-use Rattle.vlt_parser_exprs.specs.Ahead.{ahead, refusal, BeginsWith}
+use Rattle.vlt_parser_exprs.specs.Ahead.{lexemes_from, refusal, BeginsWith}
 use Rattle.vlt_parser_exprs.proofs.Expressions.{operator_goes_on, right_ended, group_opens, group_stays_open, operand_named}
 use Rattle.vlt_syntax.specs.Grammar.{level}
 use Rattle.vlt_syntax.proofs.Viewing.{unary_seen}
@@ -25,9 +25,9 @@ expression-loop-next-preserved t c =
     let first = c.loop-next.first.depth in
     let second = c.in_ok-second.second.depth in
     let inside = c.in_ok-inside.inside in
-    let here = ahead tokens c.loop-next.here in
-    let right = ahead tokens (c.loop-next.here + 1) in
-    let behind = ahead tokens c.in_ok-second.behind in
+    let here = lexemes_from tokens c.loop-next.here in
+    let right = lexemes_from tokens (c.loop-next.here + 1) in
+    let behind = lexemes_from tokens c.in_ok-second.behind in
     let deeper : suc (max first second) ≡ c.max-depth.result + 1 = first_of (search rules, grind (arith, common_steps)) in
     let seen : expr_of c.in_ok-expr.expr ≡ s.binary op (expr_of c.loop-next.first.expr) (expr_of c.in_ok-second.second.expr) c.span-both.result = c.in_ok-expr.ensures.made in
     record {
@@ -54,17 +54,17 @@ pub group-returns-in_err-next-clause-place : goal.group-returns-in_err-next-clau
 group-returns-in_err-next-clause-place t c = λ fs.
     let tokens = c.args.tokens.now in
     let inside = c.in_ok-inside.inside in
-    let next = ahead tokens c.in_ok-inner.next in
+    let next = lexemes_from tokens c.in_ok-inner.next in
     let is : c.from_residual-in_err-next.result ≡ Err (refusal next) = first_of (search rules, grind (arith, common_steps)) in
     rw is (λ s f told.
-    group_opens c.args.room inside fs s (ahead tokens c.args.from) (ahead tokens c.args.at) c.in_ok-inside.ensures.room c.in_ok-inside.ensures.fits c.requires.opens
+    group_opens c.args.room inside fs s (lexemes_from tokens c.args.from) (lexemes_from tokens c.args.at) c.in_ok-inside.ensures.room c.in_ok-inside.ensures.fits c.requires.opens
     ∙ c.in_ok-inner.ensures.place [] (m.close_group fs ∷ s)
     ∙ group_stays_open c.in_ok-inner.inner.depth inside fs s next c.in_ok-inner.ensures.stops c.in_err-next.ensures.lacks.1 f told)
 
 pub primary-returns-in_err-expr-in-Some-Name-clause-place : goal.primary-returns-in_err-expr-in-Some-Name-clause-place
 primary-returns-in_err-expr-in-Some-Name-clause-place t c = λ fs.
     let tokens = c.args.tokens.now in
-    let here = ahead tokens c.args.at in
+    let here = lexemes_from tokens c.args.at in
     let is : c.from_residual.result ≡ Err c.in_err-expr-in-Some-Name.field-0.0 = first_of (search rules, grind (arith, common_steps)) in
-    let named : BeginsWith Name here (ahead tokens (c.args.at + 1)) = subst (λ k. BeginsWith k here (ahead tokens (c.args.at + 1))) c.in-Some-Name.field-0-is c.in-Some-Name.ensures.ahead in
-    rw is (λ s f told. operand_named named.text c.args.room fs s here (ahead tokens (c.args.at + 1)) named.begins ∙ c.in_err-expr-in-Some-Name.ensures.place fs s f told)
+    let named : BeginsWith Name here (lexemes_from tokens (c.args.at + 1)) = subst (λ k. BeginsWith k here (lexemes_from tokens (c.args.at + 1))) c.in-Some-Name.field-0-is c.in-Some-Name.ensures.ahead in
+    rw is (λ s f told. operand_named named.text c.args.room fs s here (lexemes_from tokens (c.args.at + 1)) named.begins ∙ c.in_err-expr-in-Some-Name.ensures.place fs s f told)

@@ -1,6 +1,6 @@
 use Rattle.std.proofs.Common.{[], ◌∷◌}
 use Rattle.vlt_automaton.specs.Language as m
-use Rattle.vlt_parser_exprs.specs.Ahead.{ahead, left_of}
+use Rattle.vlt_parser_exprs.specs.Ahead.{lexemes_from, left_of}
 use Rattle.vlt_parser_exprs.proofs.Runs.{instead, enclosed_some}
 use Rattle.vlt_parser_exprs.proofs.lists.enclosed.Goals as goal
 
@@ -9,4 +9,4 @@ returns-in-Some-clause-place g c =
     let k = g.T.Part.thing in
     let tokens = c.args.tokens.now in
     instead (m.enclosed k c.args.opening c.args.closing (left_of c.args.most 0) ∷ []) (m.thing k ∷ m.further k c.args.closing (left_of c.args.most 1) ∷ []) (λ x. x.1) tokens c.args.at c.in-Some.inside c.some_listed.result
-    (λ s. enclosed_some k c.args.opening c.args.closing c.args.most s (ahead tokens c.args.at) (ahead tokens c.in-Some.inside) c.in-Some.ensures.ahead) c.some_listed.ensures.place
+    (λ s. enclosed_some k c.args.opening c.args.closing c.args.most s (lexemes_from tokens c.args.at) (lexemes_from tokens c.in-Some.inside) c.in-Some.ensures.ahead) c.some_listed.ensures.place

@@ -1,8 +1,8 @@
 use Rattle.std.proofs.Common.{◌≡◌, refl, ap, ◌∙◌, length, ◌+◌, [], ◌∷◌, ◌++◌, map, subst, arith, length-append}
 use Rattle.std.proofs.lemmas.List.{length-map}
-use Rattle.vlt_parser_exprs.specs.Reading.{left, IsWithin}
+use Rattle.vlt_parser_exprs.specs.Reading.{tokens_from, IsWithin}
 use Rattle.vlt_automaton.specs.Language as m
-use Rattle.vlt_parser_exprs.specs.Ahead.{ahead, left_of}
+use Rattle.vlt_parser_exprs.specs.Ahead.{lexemes_from, left_of}
 use Rattle.vlt_parser_exprs.proofs.Runs.{further_one}
 use Rattle.vlt_parser_exprs.proofs.Placings.{stands_on, stands_whole}
 use Rattle.vlt_parser_exprs.proofs.Separated.{pushed, each-pushed, some-pushed, goes_on, closed}
@@ -20,7 +20,7 @@ loop-items-init g c = rw c.new-items.ensures record {
 
 pub loop-items-preserved : goal.loop-items-preserved
 loop-items-preserved g c =
-    let start = left c.args.tokens.now in
+    let start = tokens_from c.args.tokens.now in
     let view = g.T.Part.view in
     let before = c.loop-items.invariant in
     let item = c.in_ok-item.item in
@@ -35,13 +35,13 @@ loop-items-preserved g c =
       few = subst (λ n. IsWithin c.args.most (n + 1)) c.len.ensures c.in_ok-allow_one_more.ensures.within;
       later = omega (arith, before.later, c.in_ok-item.ensures.moves.later, c.in_ok-next.ensures.moves.later);
       place = λ s. before.place s ∙ c.in_ok-item.ensures.place (m.further g.T.Part.thing c.args.closing (left_of c.args.most (length c.loop-items.items + 1)) ∷ s)
-          ∙ further_one g.T.Part.thing c.args.closing c.args.most (length c.loop-items.items + 1) (length all + 1) s (ahead c.args.tokens.now c.in_ok-item.behind) (ahead c.args.tokens.now c.in_ok-next.next)
+          ∙ further_one g.T.Part.thing c.args.closing c.args.most (length c.loop-items.items + 1) (length all + 1) s (lexemes_from c.args.tokens.now c.in_ok-item.behind) (lexemes_from c.args.tokens.now c.in_ok-next.next)
           c.in_default.ensures.lacks c.in_ok-next.ensures.takes (ap (λ n. n + 1) one_longer) (subst (λ n. IsWithin c.args.most (n + 1)) c.len.ensures c.in_ok-allow_one_more.ensures.within);
     }
 
 pub returns-in-Some-clause-spelled : goal.returns-in-Some-clause-spelled
 returns-in-Some-clause-spelled g c =
-    let start = left c.args.tokens.now in
+    let start = tokens_from c.args.tokens.now in
     let view = g.T.Part.view in
     let item = c.in_ok-item.item in
     let all = c.push.new.self in

@@ -12,11 +12,11 @@ use Rattle.vlt_lexer.specs.declared.token.Word.TheVariants as word
 use Rattle.vlt_lexer.specs.declared.token.Mark.TheVariants as mark
 use Rattle.vlt_automaton.specs.Language as m
 use Rattle.vlt_automaton.specs.Language.{Symbol, run}
-use Rattle.vlt_parser_exprs.specs.Ahead.{ahead, BeginsWith}
+use Rattle.vlt_parser_exprs.specs.Ahead.{lexemes_from, BeginsWith}
 use Rattle.vlt_parser_stmts.proofs.Blocks.{arm_is, stmts_one, arms_one, block_is, focus_is, otherwise_some, else_if, else_block, stmt_block, stmt_enters}
-use Rattle.vlt_lexer.specs.declared.token.Token.{Token as Placed}
+use Rattle.vlt_lexer.specs.declared.token.Token.{Token as CodeToken}
 use Rattle.vlt_syntax.specs.Places.{stmts_at, arms_at}
-use Rattle.vlt_parser_exprs.specs.Reading.{left, Stands}
+use Rattle.vlt_parser_exprs.specs.Reading.{tokens_from, Stands}
 use Rattle.vlt_parser_stmts.proofs.Placings.{stmts_append, arms_append, while_stands, if_stands}
 use Rattle.vlt_parser_exprs.proofs.Separated.{pushed}
 use Rattle.vlt_parser_stmts.proofs.Sequences.{stmts_then-append, are_stmts-append, arms_then-append, are_arms-append, some_arm-append}
@@ -24,7 +24,7 @@ use Rattle.vlt_parser_stmts.proofs.stmts.+statements.Goals as goal
 
 pub block-loop-end-preserved : goal.block-loop-end-preserved
 block-loop-end-preserved t c =
-    let start = left c.args.tokens.now in
+    let start = tokens_from c.args.tokens.now in
     let before = c.loop-end.invariant in
     let stmts = map stmt_of c.loop-end.stmts in
     let next = stmt_of c.in_ok-next.next in
@@ -34,7 +34,7 @@ block-loop-end-preserved t c =
       stands = subst (λ xs. Stands stmts_at c.args.tokens.now c.in_ok-inside.inside (stmts_made xs) c.in_ok-next.behind) (sym grown) (stmts_append c.args.tokens.now stmts next c.in_ok-inside.inside c.loop-end.here c.in_ok-next.behind before.stands c.in_ok-next.ensures.placed);
       right = rw grown (are_stmts-append (c.args.room - 1) stmts next before.right c.in_ok-next.ensures.right);
       later = omega (arith, before.later, c.in_ok-next.ensures.moves.later);
-      place = λ s. before.place s ∙ stmts_one (c.args.room - 1) s (ahead c.args.tokens.now c.loop-end.here) c.in_default.ensures.lacks ∙ c.in_ok-next.ensures.place (m.stmts (c.args.room - 1) ∷ s);
+      place = λ s. before.place s ∙ stmts_one (c.args.room - 1) s (lexemes_from c.args.tokens.now c.loop-end.here) c.in_default.ensures.lacks ∙ c.in_ok-next.ensures.place (m.stmts (c.args.room - 1) ∷ s);
     }
 
 -- one more arm was read
@@ -47,14 +47,14 @@ arm_read all arms next start here behind grown before is_next =
 arms_right : (room : ℕ) (all arms : List Arm) (next : Arm) → all ≡ arms ++ next ∷ [] → AreArms language room (arms_of arms) → AreArms language room (arms_made (arm_of next ∷ [])) → AreArms language room (arms_of all)
 arms_right room all arms next grown before is = rw (pushed arm_of all arms next grown) (are_arms-append room (map arm_of arms) (arm_of next) before is)
 
-arms_stand : (tokens : List Placed) (all arms : List Arm) (next : Arm) (at here behind : ℕ) → all ≡ arms ++ next ∷ [] → Stands arms_at tokens at (arms_of arms) here → Stands arms_at tokens here (arms_made (arm_of next ∷ [])) behind
+arms_stand : (tokens : List CodeToken) (all arms : List Arm) (next : Arm) (at here behind : ℕ) → all ≡ arms ++ next ∷ [] → Stands arms_at tokens at (arms_of arms) here → Stands arms_at tokens here (arms_made (arm_of next ∷ [])) behind
     → Stands arms_at tokens at (arms_of all) behind
 arms_stand tokens all arms next at here behind grown before is_next =
     subst (λ xs. Stands arms_at tokens at (arms_made xs) behind) (sym (pushed arm_of all arms next grown)) (arms_append tokens (map arm_of arms) (arm_of next) at here behind before is_next)
 
 pub arms-loop-arms-preserved : goal.arms-loop-arms-preserved
 arms-loop-arms-preserved t c =
-    let start = left c.args.tokens.now in
+    let start = tokens_from c.args.tokens.now in
     let before = c.loop-arms.invariant in
     let next = c.in_ok-next.next in
     record {
@@ -62,12 +62,12 @@ arms-loop-arms-preserved t c =
       stands = arms_stand c.args.tokens.now c.push.new.self c.loop-arms.arms next c.args.at c.loop-arms.here c.in_ok-next.behind c.in_ok-push.ensures.ok before.stands c.in_ok-next.ensures.placed;
       right = arms_right c.args.room c.push.new.self c.loop-arms.arms next c.in_ok-push.ensures.ok before.right c.in_ok-next.ensures.right;
       later = omega (arith, before.later, c.in_ok-next.ensures.moves.later);
-      place = λ s. before.place s ∙ c.in_ok-next.ensures.place (m.arms c.args.room ∷ s) ∙ arms_one c.args.room s (ahead c.args.tokens.now c.in_ok-next.behind) c.in_default.ensures.lacks;
+      place = λ s. before.place s ∙ c.in_ok-next.ensures.place (m.arms c.args.room ∷ s) ∙ arms_one c.args.room s (lexemes_from c.args.tokens.now c.in_ok-next.behind) c.in_default.ensures.lacks;
     }
 
 pub arms-returns-in-Some-clause-spelled : goal.arms-returns-in-Some-clause-spelled
 arms-returns-in-Some-clause-spelled t c =
-    let start = left c.args.tokens.now in
+    let start = tokens_from c.args.tokens.now in
     arm_read c.push.new.self c.loop-arms.arms c.in_ok-next.next (start c.args.at) (start c.loop-arms.here) (start c.in_ok-next.behind) c.in_ok-push.ensures.ok c.loop-arms.invariant.spelled c.in_ok-next.ensures.spelled
     ∙ ap (arms_then (arms_of c.push.new.self)) c.in-Some.ensures.spelled
 
@@ -84,7 +84,7 @@ arms-returns-in-Some-clause-right t c = arms_right c.args.room c.push.new.self c
 
 pub block-returns-in_err-next-clause-place : goal.block-returns-in_err-next-clause-place
 block-returns-in_err-next-clause-place t c =
-    let places = ahead c.args.tokens.now in
+    let places = lexemes_from c.args.tokens.now in
     let is : c.from_residual-in_err-next.result ≡ Err c.in_err-next.field-0.0 = first_of (search rules, grind (arith, common_steps)) in
     rw is (λ s f told.
     block_is c.args.room s (places c.args.at)
@@ -95,7 +95,7 @@ block-returns-in_err-next-clause-place t c =
 
 pub focus-returns-in_err-head-clause-place : goal.focus-returns-in_err-head-clause-place
 focus-returns-in_err-head-clause-place t c =
-    let places = ahead c.args.tokens.now in
+    let places = lexemes_from c.args.tokens.now in
     let is : c.from_residual-in_err-head.result ≡ Err c.in_err-head.field-0.0 = first_of (search rules, grind (arith, common_steps)) in
     rw is (λ s f told.
     focus_is c.args.room s (places c.args.at) (places (c.args.at + 1)) c.in_ok-enter.ensures.some c.requires.begins
@@ -103,7 +103,7 @@ focus-returns-in_err-head-clause-place t c =
 
 pub focus-returns-in_err-body-clause-place : goal.focus-returns-in_err-body-clause-place
 focus-returns-in_err-body-clause-place t c =
-    let places = ahead c.args.tokens.now in
+    let places = lexemes_from c.args.tokens.now in
     let is : c.from_residual-in_err-body.result ≡ Err c.in_err-body.field-0.0 = first_of (search rules, grind (arith, common_steps)) in
     rw is (λ s f told.
     focus_is c.args.room s (places c.args.at) (places (c.args.at + 1)) c.in_ok-enter.ensures.some c.requires.begins
@@ -112,7 +112,7 @@ focus-returns-in_err-body-clause-place t c =
 
 pub otherwise-returns-in_err-choice-clause-place : goal.otherwise-returns-in_err-choice-clause-place
 otherwise-returns-in_err-choice-clause-place t c =
-    let places = ahead c.args.tokens.now in
+    let places = lexemes_from c.args.tokens.now in
     let next = places c.in-Ok.next in
     let behind = places (c.in-Ok.next + 1) in
     let is : c.from_residual.result ≡ Err c.in_err-choice.field-0.0 = first_of (search rules, grind (arith, common_steps)) in
@@ -124,7 +124,7 @@ otherwise-returns-in_err-choice-clause-place t c =
 
 pub otherwise-returns-in_err-last-clause-place : goal.otherwise-returns-in_err-last-clause-place
 otherwise-returns-in_err-last-clause-place t c =
-    let places = ahead c.args.tokens.now in
+    let places = lexemes_from c.args.tokens.now in
     let next = places c.in-Ok.next in
     let is : c.from_residual-in_err-last.result ≡ Err c.in_err-last.field-0.0 = first_of (search rules, grind (arith, common_steps)) in
     let same : (s : List Symbol) → run (m.behind_else c.args.room ∷ s) next ≡ run (m.block c.args.room ∷ s) next = first_of (search (rules, else_block), grind (arith, common_steps)) in
@@ -132,15 +132,15 @@ otherwise-returns-in_err-last-clause-place t c =
 
 pub stmt-returns-in_err-body-in-Some-Sign-OpenBrace-clause-place : goal.stmt-returns-in_err-body-in-Some-Sign-OpenBrace-clause-place
 stmt-returns-in_err-body-in-Some-Sign-OpenBrace-clause-place t c =
-    let here = ahead c.args.tokens.now c.args.at in
-    let behind = ahead c.args.tokens.now (c.args.at + 1) in
+    let here = lexemes_from c.args.tokens.now c.args.at in
+    let behind = lexemes_from c.args.tokens.now (c.args.at + 1) in
     let is : c.from_residual-in_err-body-in-Some-Sign-OpenBrace.result ≡ Err c.in_err-body-in-Some-Sign-OpenBrace.field-0.0 = first_of (search rules, grind (arith, common_steps)) in
     let opens : BeginsWith (kind.Sign mark.OpenBrace) here behind = subst (λ k. BeginsWith k here behind) (c.in-Some-Sign-OpenBrace.field-0-is ∙ ap kind.Sign c.in-Some-Sign-OpenBrace.field-0-0-is) c.in-Some-Sign-OpenBrace.ensures.ahead in
     rw is (λ s f told. stmt_block c.args.room s here behind c.in_ok-enter-in-Some-Sign-OpenBrace.ensures.some opens.begins ∙ c.in_err-body-in-Some-Sign-OpenBrace.ensures.place s f told)
 
 pub switch-returns-in_err-arms-clause-place : goal.switch-returns-in_err-arms-clause-place
 switch-returns-in_err-arms-clause-place t c =
-    let places = ahead c.args.tokens.now in
+    let places = lexemes_from c.args.tokens.now in
     let is : c.from_residual-in_err-arms.result ≡ Err c.in_err-arms.field-0.0 = first_of (search rules, grind (arith, common_steps)) in
     rw is (λ s f told.
     stmt_enters (keyword word.Switch) c.args.room (m.sign mark.OpenParen ∷ m.name ∷ m.sign mark.CloseParen ∷ m.sign mark.OpenBrace ∷ m.arm c.args.room ∷ m.arms c.args.room ∷ []) s (places c.args.at) (places c.in_ok-next.next) refl c.in_ok-enter.ensures.some c.in_ok-next.ensures.takes
@@ -152,7 +152,7 @@ switch-returns-in_err-arms-clause-place t c =
 
 pub if_stmt-returns-in_err-otherwise-clause-place : goal.if_stmt-returns-in_err-otherwise-clause-place
 if_stmt-returns-in_err-otherwise-clause-place t c =
-    let places = ahead c.args.tokens.now in
+    let places = lexemes_from c.args.tokens.now in
     let is : c.from_residual-in_err-otherwise.result ≡ Err c.in_err-otherwise.field-0.0 =
     let told = err_from_is_err_and c.from_residual-in_err-otherwise.result c.from_residual-in_err-otherwise.ensures.1 in told.1 ∙ ap Err told.2 in
     rw is (λ s f told.
@@ -177,7 +177,7 @@ arm-returns-in_err-body-clause-place t c =
     let variables : List Symbol → List Symbol = λ s. m.enclosed m.a_name mark.OpenParen mark.CloseParen None ∷ m.sign mark.Colon ∷ m.block room ∷ s in
     let is : c.from_residual-in_err-body.result ≡ Err c.in_err-body.field-0.0 = first_of (search rules, grind (arith, common_steps)) in
     rw is (λ s f told.
-    arm_is room s (ahead c.args.tokens.now c.args.at)
+    arm_is room s (lexemes_from c.args.tokens.now c.args.at)
     ∙ c.in_ok-next.ensures.place (m.tick ∷ variables s)
     ∙ c.in_ok-case.ensures.place (variables s)
     ∙ c.in_ok-variables.ensures.place (m.sign mark.Colon ∷ m.block room ∷ s)

@@ -4,9 +4,9 @@ use Rattle.vlt_syntax.specs.Grammar.{AreStmts, AreArms, language}
 use Rattle.vlt_syntax.specs.View.{stmts_of, arms_of}
 use Rattle.vlt_automaton.specs.Language as m
 use Rattle.vlt_automaton.specs.Language.{Symbol, run}
-use Rattle.vlt_parser_exprs.specs.Ahead.{ahead}
+use Rattle.vlt_parser_exprs.specs.Ahead.{lexemes_from}
 use Rattle.vlt_syntax.specs.Places.{stmts_at, arms_at}
-use Rattle.vlt_parser_exprs.specs.Reading.{left, Stands}
+use Rattle.vlt_parser_exprs.specs.Reading.{tokens_from, Stands}
 use Rattle.vlt_parser_stmts.proofs.stmts.+statements.Given as goal
 
 abbrev pub decreases-block : goal.decreases-block
@@ -38,11 +38,11 @@ decreases-arm l = 3 * (length l.tokens.now - l.at)
 
 abbrev pub invariant-block-loop-end : goal.invariant-block-loop-end
 invariant-block-loop-end l = record {
-  spelled : left l.tokens l.inside ≡ stmts_then (stmts_of l.stmts) (left l.tokens l.here);
+  spelled : tokens_from l.tokens l.inside ≡ stmts_then (stmts_of l.stmts) (tokens_from l.tokens l.here);
   stands : Stands stmts_at l.tokens l.inside (stmts_of l.stmts) l.here;
   right : AreStmts language (l.room - 1) (stmts_of l.stmts);
   later : l.inside ≤ l.here;
-  place : (s : List Symbol) → run (m.stmts (l.room - 1) ∷ s) (ahead l.tokens l.inside) ≡ run (m.stmts (l.room - 1) ∷ s) (ahead l.tokens l.here);
+  place : (s : List Symbol) → run (m.stmts (l.room - 1) ∷ s) (lexemes_from l.tokens l.inside) ≡ run (m.stmts (l.room - 1) ∷ s) (lexemes_from l.tokens l.here);
 }
 
 abbrev pub decreases-block-loop-end : goal.decreases-block-loop-end
@@ -50,11 +50,11 @@ decreases-block-loop-end l = length l.tokens - l.here
 
 abbrev pub invariant-arms-loop-arms : goal.invariant-arms-loop-arms
 invariant-arms-loop-arms l = record {
-  spelled : left l.tokens l.at ≡ arms_then (arms_of l.arms) (left l.tokens l.here);
+  spelled : tokens_from l.tokens l.at ≡ arms_then (arms_of l.arms) (tokens_from l.tokens l.here);
   stands : Stands arms_at l.tokens l.at (arms_of l.arms) l.here;
   right : AreArms language l.room (arms_of l.arms);
   later : l.at ≤ l.here;
-  place : (s : List Symbol) → run (m.arm l.room ∷ m.arms l.room ∷ s) (ahead l.tokens l.at) ≡ run (m.arm l.room ∷ m.arms l.room ∷ s) (ahead l.tokens l.here);
+  place : (s : List Symbol) → run (m.arm l.room ∷ m.arms l.room ∷ s) (lexemes_from l.tokens l.at) ≡ run (m.arm l.room ∷ m.arms l.room ∷ s) (lexemes_from l.tokens l.here);
 }
 
 abbrev pub decreases-arms-loop-arms : goal.decreases-arms-loop-arms

@@ -1,5 +1,5 @@
 use Rattle.std.proofs.Common.{rules, ◌≡◌, Some, arith, slice_get}
-use Rattle.vlt_numbers.specs.Answers.{lists_of}
+use Rattle.vlt_numbers.specs.HostAnswers.{lists_of}
 use Rattle.c_primitives.proofs.Telling.{answer_below}
 use Rattle.c_primitives.proofs.world.World.take_answer.Goals as goal
 
