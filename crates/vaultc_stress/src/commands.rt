@@ -39,6 +39,7 @@ void main() {
 #[test]
 fn a_file_may_be_of_full_size(rt: HostRuntime) -> Result<(), Fail> {
     for (size, status, text) in [
+        (1_048_575, 0, "accepted 1\n"),
         (1_048_576, 0, "accepted 1\n"),
         (1_048_577, 5, "limit 1 1048576\n"),
     ] {

@@ -265,9 +265,16 @@ fn numbered(
 }
 
 /// Fronts of functions, three forms of which each has a number behind it, how many there are, and what is said.
-const NUMBERED: [(&str, [&str; 3], usize, &str); 4] = [
+const NUMBERED: [(&str, [&str; 3], usize, &str); 6] = [
+    ("void main() {", ["int x", " = ", ""], 255, "accepted 1\n"),
     ("void main() {", ["int x", " = ", ""], 256, "accepted 1\n"),
     ("void main() {", ["int x", " = ", ""], 257, "limit 10 256\n"),
+    (
+        "struct t {} void main() {",
+        ["tracked(K", ") t x", " = new t {}; release x"],
+        255,
+        "accepted 1\n",
+    ),
     (
         "struct t {} void main() {",
         ["tracked(K", ") t x", " = new t {}; release x"],

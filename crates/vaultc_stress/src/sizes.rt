@@ -50,7 +50,7 @@ const EXPLAIN: &[&str] = &["explain", "a.v"];
 const RUN: &[&str] = &["run", "a.v"];
 
 /// What follows 130 structures, with words, a status and what is written.
-const LARGE: [(&str, &[&str], u8, &str); 16] = [
+const LARGE: [(&str, &[&str], u8, &str); 17] = [
     (SOUND_MAIN, CHECK, 0, "accepted 1\n"),
     (SOUND_MAIN, EXPLAIN, 0, "accepted 1\n"),
     (SOUND_MAIN, RUN, 0, "40\n"),
@@ -96,6 +96,12 @@ const LARGE: [(&str, &[&str], u8, &str); 16] = [
         &["run", "a.v", "--heap", "1"],
         10,
         "40\nbudget heap\n",
+    ),
+    (
+        "void main() { print(7); int n = input(); print(n); }",
+        RUN,
+        11,
+        "7\ninput ended\n",
     ),
 ];
 
@@ -147,10 +153,27 @@ fn push_times(text: &mut Vec<u8>, piece: &str, count: usize) -> Result<(), Alloc
 
 /// How many blocks are opened in each other, what stands in the last, how many are closed, and words with a status and what is
 /// written.
-const DEEP: [(usize, &str, usize, &[&str], u8, &str); 14] = [
+const DEEP: [(usize, &str, usize, &[&str], u8, &str); 17] = [
     (60, "", 60, CHECK, 0, "accepted 1\n"),
     (60, "", 60, RUN, 0, ""),
     (60, "print(7);", 60, RUN, 0, "7\n"),
+    (
+        60,
+        "print(9223372036854775807 + 1);",
+        60,
+        RUN,
+        9,
+        "trap 1\n",
+    ),
+    (
+        60,
+        "while (true) { print(7); }",
+        60,
+        &["run", "a.v", "--fuel", "2"],
+        10,
+        "7\n7\nbudget fuel\n",
+    ),
+    (60, "int n = input();", 60, RUN, 11, "input ended\n"),
     (60, "x = 1;", 60, CHECK, 7, "kind 27 1:85\n"),
     (60, "x = 1;", 60, RUN, 7, "kind 27 1:85\n"),
     (60, "", 60, EXPLAIN, 0, "accepted 1\n"),
