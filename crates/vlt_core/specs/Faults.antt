@@ -104,7 +104,7 @@ abbrev pub IsPresent : One → Type 0
 IsPresent one_absent = ⊥
 IsPresent _ = Unit {0}
 
--- A join is faulty where some path comes with the token absent, and some with it present.
+-- At a faulty join one path has lost the token and another still has it.
 abbrev pub IsMixed : Ones → Type 0
 IsMixed S = S one_absent × ((o : One) × IsPresent o × S o)
 

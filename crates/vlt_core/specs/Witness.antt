@@ -168,8 +168,8 @@ IsJoin p is q o = (q ≡ p) × is o
 abbrev pub PathMeets : Program → Func → Tok → ((at : ℕ) → Row → One → Type 0) → (Spot → One → Type 0) → List Choice → Type 0
 PathMeets p f t P Q cs = (o : One) × Has (start_map p f t) o × MetBlock P Q t 0 (body_flow p f) o cs
 
--- One path to a row of the fault's place, token and wanted status, which refuses; or two to one join of its place, on the
--- first of which the token is absent, and on the second present.
+-- For a fault of a row one path to such a row at its place, which refuses what comes; for a fault of a join two paths to one
+-- join at its place: the first has lost the token, the second still has it.
 abbrev pub IsWitnessIn : Program → Func → FlowFault → List Choice → Option (List Choice) → Type 0
 IsWitnessIn p f x first second = by x.kind second
   where

@@ -18,10 +18,10 @@ pub const EXTERN_NOT_ASCII: u8 = 4;
 /// A header key has a global name.
 pub const HEADER_KEY_TAKEN: u8 = 5;
 
-/// The name after a type's `@` is no state set.
+/// `@` is followed by a name under which no state set is declared.
 pub const NOT_A_SET: u8 = 6;
 
-/// The name of a type is no declared type.
+/// A type is named that isn't declared.
 pub const NOT_A_TYPE: u8 = 7;
 
 /// The number of key arguments isn't the header's.
@@ -30,7 +30,7 @@ pub const KEY_COUNT: u8 = 8;
 /// A key in a field's or payload's type isn't one of the header.
 pub const KEY_NOT_IN_HEADER: u8 = 9;
 
-/// `tracked(K)` or `tracked@S` stands before a variant, or `K:` before anything but a struct.
+/// A prefix doesn't suit its type: `tracked(K)` and `tracked@S` are for structs and abstract types, `K:` for structs.
 pub const WRONG_PREFIX: u8 = 10;
 
 /// An owning variant is written without `tracked`, or another variant with it.
@@ -39,10 +39,10 @@ pub const WRONG_OWNERSHIP: u8 = 11;
 /// A struct or an abstract type stands alone.
 pub const BARE_OBJECT: u8 = 12;
 
-/// A state isn't one of the type's set, is listed twice, or stands on a type without a set.
+/// A state isn't in the set that the type has, is said twice in one list, or is said of a type that has no set.
 pub const NOT_A_STATE: u8 = 13;
 
-/// A field is of a `tracked(K)` type or of a keyed variant.
+/// A field has a type that no field may have: `tracked(K)`, or a keyed variant.
 pub const FIELD_TYPE: u8 = 14;
 
 /// A payload is neither int, bool nor guarded, nor an owning struct or abstract type.
@@ -57,7 +57,7 @@ pub const HEADER_TYPE: u8 = 17;
 /// The type of a key argument isn't the header's.
 pub const KEY_ARGUMENT: u8 = 18;
 
-/// A name in a head is repeated, or is a global name; keys may recur as keys.
+/// Two things in a head have one name, or one has a global name. A key may stand there more than once as a key.
 pub const HEAD_NAME: u8 = 19;
 
 /// One key has two types.
@@ -69,8 +69,8 @@ pub const CLAUSE_KEY_AGAIN: u8 = 21;
 /// A key of a clause, a `new` one aside, is in no type of a parameter.
 pub const CLAUSE_KEY_UNBOUND: u8 = 22;
 
-/// A `new` key isn't just the key of a `tracked(K)` result, or there are two of them; or another key of the result is in
-/// no type of a parameter.
+/// `new` stands on a key that isn't the one of a `tracked(K)` result, or on more than one; or the result has a key, no
+/// `new` one, that no parameter's type has.
 pub const RESULT_KEY: u8 = 23;
 
 /// States stand on a key without a type.
@@ -95,7 +95,7 @@ pub const WRONG_TYPE: u8 = 29;
 /// There are too few or too many arguments, payloads or opened variables, or the fields of a `new` aren't the struct's.
 pub const WRONG_COUNT: u8 = 30;
 
-/// Two clause keys of a call stand for one name.
+/// At a call two keys of the callee's clause mean the same key of the caller.
 pub const CLAUSE_KEYS_MEET: u8 = 31;
 
 /// One key of a callee would stand for two names.
