@@ -18,8 +18,8 @@ use Rattle.vlt_fit_laws.specs.Fit.{IsTextTree, ProgramsAreFit}
 use Rattle.vlt_reports.specs.Reports.{fault_line, paths_text}
 use Rattle.vlt_syntax.specs.Tree.{Tree}
 use Rattle.vlt_verdict.proofs.Single.{fit_program}
-use Rattle.vlt_verdict.specs.declared.verdict.Verdict as shown
-use Rattle.vlt_verdict.specs.declared.verdict.Verdict.TheVariants.{Broken, Exceeded, Faulty, Accepted}
+use Rattle.vlt_verdict.specs.declared.Verdict as shown
+use Rattle.vlt_verdict.specs.declared.Verdict.TheVariants.{Broken, Exceeded, Faulty, Accepted}
 use Rattle.vlt_verdict.specs.Seen.{IsSeenAs}
 use Rattle.vlt_verdict.specs.Verdicts.{Verdict, faulty, IsVerdictOf}
 use Rattle.vaultc_core.specs.declared.status.TheConstants.{NOT_ACCEPTED}

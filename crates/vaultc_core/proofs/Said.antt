@@ -8,8 +8,8 @@ use Rattle.vlt_printer.specs.Layout.{layout}
 use Rattle.vlt_syntax.specs.Tree.{Tree}
 use Rattle.vaultc_core.specs.declared.reply.Reply.{Reply}
 use Rattle.vaultc_core.specs.declared.status.TheConstants.{DONE}
-use Rattle.vlt_verdict.specs.declared.verdict.Verdict as shown
-use Rattle.vlt_verdict.specs.declared.verdict.Verdict.TheVariants.{Broken, Exceeded, Faulty, Accepted}
+use Rattle.vlt_verdict.specs.declared.Verdict as shown
+use Rattle.vlt_verdict.specs.declared.Verdict.TheVariants.{Broken, Exceeded, Faulty, Accepted}
 use Rattle.vlt_verdict.specs.Verdicts.{Verdict, refused, faulty, accepted, IsVerdictOf}
 use Rattle.vlt_verdict.specs.Seen.{IsSeenAs}
 use Rattle.vaultc_core.specs.Commands.{Command, check, explain, fmt}

@@ -16,8 +16,8 @@ use Rattle.vlt_core.specs.View as core
 use Rattle.vlt_check.specs.Checks.{IsWellFormed, fault_of}
 use Rattle.vlt_verdict.specs.Verdicts as verdicts
 use Rattle.vlt_verdict.specs.Seen.{IsSeenAs}
-use Rattle.vlt_verdict.specs.declared.verdict.Verdict.{Verdict}
-use Rattle.vlt_verdict.specs.declared.verdict.Verdict.TheVariants as verdict
+use Rattle.vlt_verdict.specs.declared.Verdict.{Verdict}
+use Rattle.vlt_verdict.specs.declared.Verdict.TheVariants as verdict
 use Rattle.vaultc_core.specs.declared.status.TheConstants.{SINK_FAILED, NO_MEMORY}
 use Rattle.vaultc_core.specs.Finishes.{Finishes}
 use Rattle.vaultc_core.specs.Runs.{stop_line, end_line}

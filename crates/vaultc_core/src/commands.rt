@@ -6,7 +6,7 @@ ghost use Rattle.vlt_syntax.specs.View.{tree_of};
 ghost use Rattle.vlt_fit_laws.specs.Fit.{IsTextTree};
 ghost use Rattle.vlt_given.specs.Given.{given_by};
 ghost use Rattle.vlt_verdict.specs.Seen.{IsTellable};
-ghost use Rattle.vlt_verdict.specs.declared.verdict.Verdict.TheVariants.{Accepted};
+ghost use Rattle.vlt_verdict.specs.declared.Verdict.TheVariants.{Accepted};
 ghost use Rattle.vaultc_core.specs.Commands as c;
 ghost use Rattle.vaultc_core.specs.Commands.{command_of};
 ghost use Rattle.vaultc_core.specs.Texts.{IsTooLong, IsTextOf};

@@ -8,8 +8,8 @@ use Rattle.vlt_core.specs.declared.program.Program.{Program}
 use Rattle.vlt_resolve.specs.Elaboration.{broken, exceeded}
 use Rattle.vlt_check.specs.Checks.{fault_of}
 use Rattle.vlt_verdict.specs.Verdicts as v
-use Rattle.vlt_verdict.specs.declared.verdict.Verdict.{Verdict}
-use Rattle.vlt_verdict.specs.declared.verdict.Verdict.TheVariants as verdict
+use Rattle.vlt_verdict.specs.declared.Verdict.{Verdict}
+use Rattle.vlt_verdict.specs.declared.Verdict.TheVariants as verdict
 
 -- the function that the fault is in
 abbrev pub IsFaultyFunction : Program → FlowFault → Func → Type 0

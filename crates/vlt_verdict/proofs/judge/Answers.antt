@@ -6,7 +6,7 @@ use Rattle.vlt_resolve.specs.Elaboration.{broken}
 use Rattle.vlt_check.specs.Checks.{fault_of}
 use Rattle.vlt_verdict.specs.Verdicts.{refused, faulty, accepted}
 use Rattle.vlt_verdict.proofs.Judged.{declarations_refused, told_of, faulty_there}
-use Rattle.vlt_verdict.proofs.verdict.judge.Goals as goal
+use Rattle.vlt_verdict.proofs.judge.Goals as goal
 
 pub returns-in-Err-Rule-clause-is : goal.returns-in-Err-Rule-clause-is
 returns-in-Err-Rule-clause-is c =
