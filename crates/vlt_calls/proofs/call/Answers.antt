@@ -5,7 +5,7 @@ use Rattle.std.proofs.lemmas.List.{length-map}
 use Rattle.std.proofs.lemmas.Option.{slice_get-map}
 use Rattle.vlt_core.specs.View.{func_of, keys_of, operand_of}
 use Rattle.vlt_calls.proofs.Arguing.{callee_there, args_room, can_go_in, call_does, call_traps}
-use Rattle.vlt_calls.proofs.calls.call.Goals as goal
+use Rattle.vlt_calls.proofs.call.Goals as goal
 
 pub unreachable-requires : goal.unreachable-requires
 unreachable-requires g c =

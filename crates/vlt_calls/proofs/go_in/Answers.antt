@@ -4,7 +4,7 @@ use Rattle.vlt_core.specs.View.{func_of, keys_of}
 use Rattle.vlt_steps.specs.Writing.{Outside}
 use Rattle.vlt_calls.specs.Called.{calling_out, entering_body}
 use Rattle.vlt_calls.proofs.Going.{no_fuel, goes_out, goes_in, spent_can, spent_does}
-use Rattle.vlt_calls.proofs.calls.go_in.Goals as goal
+use Rattle.vlt_calls.proofs.go_in.Goals as goal
 
 pub returns-then-run-eq0 : goal.returns-then-run-eq0
 returns-then-run-eq0 g c =
