@@ -5,7 +5,7 @@ use Rattle.vlt_externals.specs.Told.{TellsCall}
 use Rattle.vlt_externals.specs.Sent.{CanTake, Takes}
 use Rattle.vlt_host_calls.specs.Heeded.{Heeds}
 use Rattle.vlt_host_calls.proofs.Calling.{vars_before, args_end, can_take, can_hand, cut_off, no_answer, halts, goes_on, cut_below, all_below}
-use Rattle.vlt_host_calls.proofs.call.call_external.Goals as goal
+use Rattle.vlt_host_calls.proofs.call_external.Goals as goal
 
 pub returns-in-Err-clause-calls : goal.returns-in-Err-clause-calls
 returns-in-Err-clause-calls g c =
