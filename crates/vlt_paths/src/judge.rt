@@ -20,7 +20,7 @@ use crate::pair::Pair;
 use crate::point::{Hunt, Point, Sought};
 use crate::together::meet_stmts;
 use vlt_base::{FnId, KeyId, VarId};
-use vlt_core::{Choice, Entry, FaultKind, FlowFault, Func, Mode, Program, Tok, Wanted, Witness};
+use vlt_core::{Choice, Entry, FaultKind, FlowFault, Func, Mode, Program, Tok, Wanted};
 use vlt_rows::side_states;
 
 /// Whether a key of this mode is held where the body begins.
@@ -97,7 +97,7 @@ fn shows_row(p: &Program, f: &Func, tok: Tok, at: u32, wanted: Wanted, path: &[C
 }
 
 /// Whether the path shows the fault in the function.
-fn is_shown_in(p: &Program, f: &Func, fault: &FlowFault, path: &[Choice]) -> bool
+pub fn is_shown_in(p: &Program, f: &Func, fault: &FlowFault, path: &[Choice]) -> bool
     ensures { IsTrue result ↔ (((func_of f.now).external ≡ false) ×
         IsWitnessIn (program_of p.now) (func_of f.now) (fault_view fault.now)
         (choices_of path.now) None) }
@@ -111,23 +111,11 @@ fn is_shown_in(p: &Program, f: &Func, fault: &FlowFault, path: &[Choice]) -> boo
     }
 }
 
-fn func_at(p: &Program, fn_id: FnId) -> Option<&Func>
+pub fn func_at(p: &Program, fn_id: FnId) -> Option<&Func>
     ensures { option_map func_of (option_copied result)
         ≡ slice_get (program_of p.now).fns fn_id.0 }
 {
     p.fns.get(fn_id.0 as usize)
-}
-
-/// Whether one path alone is a witness of the fault: it comes to a row of the fault's place, token and wanted status, which
-/// refuses what comes. It takes no memory.
-pub fn is_row_witness(p: &Program, fault: &FlowFault, path: &[Choice]) -> bool
-    ensures { IsTrue result ↔ IsWitness (program_of p.now) (fault_view fault.now)
-        (choices_of path.now) None }
-{
-    match func_at(p, fault.fn_id) {
-        None => false,
-        Some(f) => is_shown_in(p, f, fault, path),
-    }
 }
 
 /// Whether both paths come to one join of this place, the first without the token and the second with it.
@@ -181,24 +169,12 @@ fn are_shown_in(
 }
 
 /// Whether two paths are a witness of the fault.
-fn is_join_witness(p: &Program, fault: &FlowFault, first: &[Choice], second: &[Choice]) -> bool
+pub fn is_join_witness(p: &Program, fault: &FlowFault, first: &[Choice], second: &[Choice]) -> bool
     ensures { IsTrue result ↔ IsWitness (program_of p.now) (fault_view fault.now)
         (choices_of first.now) (Some (choices_of second.now)) }
 {
     match func_at(p, fault.fn_id) {
         None => false,
         Some(f) => are_shown_in(p, f, fault, first, second),
-    }
-}
-
-/// Whether the choices are those of a witness of the fault: one path to a row that refuses, or two to one join that
-/// disagree there. It takes no memory.
-pub fn is_witness(p: &Program, w: &Witness) -> bool
-    ensures { IsTrue result ↔ IsWitness (program_of p.now) (fault_view w.now.fault)
-        (choices_of w.now.first) (option_map choices_of w.now.second) }
-{
-    match &w.second {
-        None => is_row_witness(p, &w.fault, w.first.as_slice()),
-        Some(second) => is_join_witness(p, &w.fault, w.first.as_slice(), second.as_slice()),
     }
 }

@@ -1,4 +1,4 @@
-use Rattle.vlt_paths.proofs.judge.is_witness.Goals as goal
+use Rattle.vlt_paths.proofs.is_witness.Goals as goal
 
 pub returns-in-None : goal.returns-in-None
 returns-in-None c = rw c.in-None.is (rw c.as_slice.ensures at c.is_row_witness.ensures)
