@@ -3,7 +3,6 @@
 ghost use Rattle.std.specs.Prelude.{◌≡◌, ◌↔◌, false, List, Option, Some, None, IfOk, IfErr, IfSome, MatchResult, slice_get};
 ghost use Rattle.std.specs.Option.{option_map, option_copied};
 ghost use Rattle.vlt_core.specs.Found.{One, Has};
-ghost use Rattle.vlt_core.specs.Faults.{IsFirstFault};
 ghost use Rattle.vlt_core.specs.Witness as w;
 ghost use Rattle.vlt_core.specs.Witness.{IsWitness, IsWitnessIn};
 ghost use Rattle.vlt_core.specs.HeldView.{wanted_of};
@@ -14,7 +13,7 @@ ghost use Rattle.vlt_found.specs.Ones.{many_of};
 ghost use Rattle.vlt_keyset.specs.Held.{map_of};
 ghost use Rattle.vlt_rows.specs.FlowView.{block_view};
 ghost use Rattle.vlt_rows.specs.Unfit.{UnfitBy};
-ghost use Rattle.vlt_check.specs.Checks.{IsWellFormed, fault_of};
+ghost use Rattle.vlt_check.specs.Checks.{fault_of};
 ghost use Rattle.vlt_check_laws.specs.Shown.{HasWitness};
 ghost use Rattle.vlt_witness.specs.Ways.{end_of_join, IsSeen, OnSeen};
 ghost use Rattle.vlt_witness.specs.Unfit.{IsUnfit, IsUnfitAt};
@@ -28,7 +27,7 @@ use crate::single::Single;
 use crate::ways::Way;
 use std::alloc::{AllocError, Global};
 use vlt_base::{FnId, Items};
-use vlt_core::{Choice, FaultKind, FlowFault, Func, Program, Status, Tok, Wanted, Witness};
+use vlt_core::{Choice, FaultKind, FlowFault, Func, Program, Status, Tok, Wanted};
 use vlt_flow::start_map_of;
 use vlt_found::{Ones, made};
 use vlt_keyset::Held;
@@ -286,7 +285,8 @@ fn paths_at(
         IsWitnessIn (program_of p.now) (func_of f.now) (fault_of fault.now) (choices_of x.first)
         (option_map choices_of x.second))) }
     ensures none { IfOk result (λ r. r ≡ None →
-        (func_of f.now).external ≡ false → (first : List w.Choice) (second : Option (List w.Choice)) →
+        (func_of f.now).external ≡ false →
+        (first : List w.Choice) (second : Option (List w.Choice)) →
         IsWitnessIn (program_of p.now) (func_of f.now) (fault_of fault.now) first second → ⊥) }
     ensures unfit { IfErr result (UnfitBy (((func_of f.now).external ≡ false) ×
         IsUnfit (program_of p.now) (func_of f.now))) }
@@ -301,7 +301,7 @@ fn paths_at(
 }
 
 /// The paths of a witness of the fault, if it has one.
-fn paths_for(alloc: Global, p: &Program, fault: &FlowFault) -> Result<Option<Paths>, RowError>
+pub fn paths_for(alloc: Global, p: &Program, fault: &FlowFault) -> Result<Option<Paths>, RowError>
     ensures shows { IfOk result (λ r.
         IfSome r (λ x. IsWitness (program_of p.now) (fault_of fault.now) (choices_of x.first)
         (option_map choices_of x.second))) }
@@ -313,30 +313,5 @@ fn paths_for(alloc: Global, p: &Program, fault: &FlowFault) -> Result<Option<Pat
     match func_at(p, fault.fn_id) {
         None => Ok(None),
         Some(f) => paths_at(alloc, p, f, fault),
-    }
-}
-
-/// A witness of a fault, if it has one; the first fault of a program has one. `Unfit` only where the function of the fault
-/// is: its rows and joins, its keys or variables, or the arms of a switch are more than there are numbers, or a row names
-/// states of which there is no set. Any other error is want of memory.
-pub fn witness(alloc: Global, p: &Program, fault: &FlowFault) -> Result<Option<Witness>, RowError>
-    ensures shows { IfOk result (λ r.
-        IfSome r (λ x. IsWitness (program_of p.now) (fault_of fault.now) (choices_of x.first)
-        (option_map choices_of x.second))) }
-    ensures fault { IfOk result (λ r. IfSome r (λ x. x.fault ≡ fault.now)) }
-    ensures none { IfOk result (λ r. r ≡ None →
-        HasWitness (program_of p.now) (fault_of fault.now) → ⊥) }
-    ensures first { IfOk result (λ r. r ≡ None → IsWellFormed (program_of p.now) →
-        IsFirstFault (program_of p.now) (fault_of fault.now) → ⊥) }
-    ensures unfit { IfErr result
-        (UnfitBy (IsUnfitAt (program_of p.now) fault.now.fn_id.0)) }
-{
-    match paths_for(alloc, p, fault)? {
-        None => Ok(None),
-        Some(found) => Ok(Some(Witness {
-            fault: *fault,
-            first: found.first,
-            second: found.second,
-        })),
     }
 }

@@ -3,6 +3,17 @@
 //! The `path` lines of `explain` rest on it.
 #![tactic(auto)]
 
+ghost use Rattle.std.specs.Prelude.{◌≡◌, None, IfOk, IfErr, IfSome};
+ghost use Rattle.std.specs.Option.{option_map};
+ghost use Rattle.vlt_core.specs.Faults.{IsFirstFault};
+ghost use Rattle.vlt_core.specs.Witness.{IsWitness};
+ghost use Rattle.vlt_core.specs.View.{program_of};
+ghost use Rattle.vlt_core.specs.FaultView.{choices_of};
+ghost use Rattle.vlt_rows.specs.Unfit.{UnfitBy};
+ghost use Rattle.vlt_check.specs.Checks.{IsWellFormed, fault_of};
+ghost use Rattle.vlt_check_laws.specs.Shown.{HasWitness};
+ghost use Rattle.vlt_witness.specs.Unfit.{IsUnfitAt};
+
 mod aim;
 mod explain;
 mod rows;
@@ -11,5 +22,33 @@ mod seen;
 mod single;
 mod ways;
 
-pub use explain::witness;
+use crate::explain::paths_for;
+use std::alloc::Global;
+use vlt_core::{FlowFault, Program, Witness};
 pub use vlt_paths::{is_row_witness, is_witness};
+use vlt_rows::RowError;
+
+/// A witness of a fault, if it has one; the first fault of a program has one. `Unfit` only where the function of the fault
+/// is: its rows and joins, its keys or variables, or the arms of a switch are more than there are numbers, or a row names
+/// states of which there is no set. Any other error is want of memory.
+pub fn witness(alloc: Global, p: &Program, fault: &FlowFault) -> Result<Option<Witness>, RowError>
+    ensures shows { IfOk result (λ r.
+        IfSome r (λ x. IsWitness (program_of p.now) (fault_of fault.now) (choices_of x.first)
+        (option_map choices_of x.second))) }
+    ensures fault { IfOk result (λ r. IfSome r (λ x. x.fault ≡ fault.now)) }
+    ensures none { IfOk result (λ r. r ≡ None →
+        HasWitness (program_of p.now) (fault_of fault.now) → ⊥) }
+    ensures first { IfOk result (λ r. r ≡ None → IsWellFormed (program_of p.now) →
+        IsFirstFault (program_of p.now) (fault_of fault.now) → ⊥) }
+    ensures unfit { IfErr result
+        (UnfitBy (IsUnfitAt (program_of p.now) fault.now.fn_id.0)) }
+{
+    match paths_for(alloc, p, fault)? {
+        None => Ok(None),
+        Some(found) => Ok(Some(Witness {
+            fault: *fault,
+            first: found.first,
+            second: found.second,
+        })),
+    }
+}

@@ -1,7 +1,7 @@
 use Rattle.vlt_core.specs.View.{program_of}
 use Rattle.vlt_check.specs.Checks.{fault_of}
 use Rattle.vlt_check_laws.proofs.Formed.{formed_shown}
-use Rattle.vlt_witness.proofs.explain.witness.Goals as goal
+use Rattle.vlt_witness.proofs.witness.Goals as goal
 
 pub returns-in-Some-clause-shows : goal.returns-in-Some-clause-shows
 returns-in-Some-clause-shows c = rw c.in-Some.is at c.in_ok-paths_for.ensures.shows
