@@ -1,6 +1,6 @@
 //! Sweeps over a body.
 
-ghost use Rattle.std.specs.Prelude.{◌≡◌, ◌+◌, ◌<◌, ◌^◌, Some, None, IfOk, length};
+ghost use Rattle.std.specs.Prelude.{◌≡◌, ◌+◌, ◌<◌, Some, None, length};
 ghost use Rattle.vlt_core.specs.Flow.{size, size_block, size_stmts, size_arms};
 ghost use Rattle.vlt_core.specs.View.{tok_of};
 ghost use Rattle.vlt_core.specs.HeldView.{toks_of};
@@ -13,7 +13,6 @@ use crate::ones::Ones;
 use crate::pass::{pass_gone, pass_rows};
 use crate::singles::nothing;
 use crate::tables::Tables;
-use std::alloc::{AllocError, Global};
 use vlt_core::{Row, Tok};
 use vlt_rows::{Flow, FlowArm, FlowBlock, FlowStmt};
 
@@ -235,24 +234,4 @@ pub fn spread(kept: &mut Tables, tok: Tok, body: &FlowBlock, m: Ones)
             return;
         }
     }
-}
-
-/// What is found of a token that comes in with these.
-pub fn found(
-    alloc: Global,
-    tok: Tok,
-    body: &FlowBlock,
-    count: usize,
-    m: Ones,
-) -> Result<Tables, AllocError>
-    requires count { count ≡ size_block (block_view body.now) }
-    requires few { count < 2 ^ 63 }
-    ensures found { IfOk result (λ k. IsFoundIn (tok_of tok) (block_view body.now)
-        (In (many_of m)) (stock_of k)) }
-    ensures around { IfOk result (λ k. length k.around ≡ count) }
-    ensures behind { IfOk result (λ k. length k.behind ≡ count) }
-{
-    let mut kept = Tables::open(alloc, count)?;
-    spread(&mut kept, tok, body, m);
-    Ok(kept)
 }

@@ -1,7 +1,7 @@
 use Rattle.std.proofs.Common.{◌≡◌, sym, refl, ◌∙◌, arith, None}
 use Rattle.vlt_core.specs.View.{tok_of}
 use Rattle.vlt_rows.specs.FlowView.{block_view}
-use Rattle.vlt_found.proofs.sweep.found.Goals as goal
+use Rattle.vlt_found.proofs.found.Goals as goal
 
 pub spread-requires : goal.spread-requires
 spread-requires c =
