@@ -4,13 +4,11 @@ ghost use Rattle.std.specs.Prelude.{◌≡◌, ◌<◌, ◌^◌, ◌++◌, ◌�
 ghost use Rattle.std.specs.List.{list_any, range_with_len};
 ghost use Rattle.vlt_core.specs.Core.{a_key};
 ghost use Rattle.vlt_core.specs.Bodies.{flow_of, flow_of_block, flow_of_stmts, flow_of_arms};
-ghost use Rattle.vlt_core.specs.Bodies as s;
 ghost use Rattle.vlt_core.specs.Maps.{is_tok};
 ghost use Rattle.vlt_core.specs.View.{program_of, func_of, tok_of, form_of, block_of, stmts_of, arms_of};
 ghost use Rattle.vlt_core.specs.HeldView.{toks_of};
 ghost use Rattle.vlt_core.specs.Rows.{tokens_of, in_order};
-ghost use Rattle.vlt_rows.specs.FlowView.{block_view};
-ghost use Rattle.vlt_rows.specs.Unfit.{UnfitBy, HasManyTokens, HasNoFlow};
+ghost use Rattle.vlt_rows.specs.Unfit.{UnfitBy, HasManyTokens};
 ghost use Rattle.vlt_rows.specs.Made.{MakesForm, MakesBlock, MakesStmts, MakesArms};
 
 use crate::list::{
@@ -91,7 +89,7 @@ fn key_tokens(alloc: Global, f: &Func) -> Result<Items<Tok>, RowError>
 
 /// The tokens of a function, keys first.
 #[tactic(auto, using(crate::proofs::Building::more_vars))]
-fn all_tokens(alloc: Global, f: &Func) -> Result<Items<Tok>, RowError>
+pub fn all_tokens(alloc: Global, f: &Func) -> Result<Items<Tok>, RowError>
     ensures { MatchResult result (λ ts. toks_of ts ≡ tokens_of (func_of f.now))
         (UnfitBy (HasManyTokens (func_of f.now))) }
 {
@@ -197,7 +195,7 @@ fn flow_block(
 }
 
 #[cycle(build)]
-fn flow_stmts(
+pub fn flow_stmts(
     alloc: Global,
     p: &Program,
     f: &Func,
@@ -238,19 +236,4 @@ fn flow_arms(
         list.push(FlowArm { rows, body })?;
     }
     Ok(list)
-}
-
-/// The flow of a function's whole body. `Unfit` where one of its rows names states that no set has, or where the function
-/// has more keys or variables than there are numbers.
-pub fn body_flow(alloc: Global, p: &Program, f: &Func) -> Result<FlowBlock, RowError>
-    ensures { MatchResult result
-        (λ x. block_view x ≡ s.body_flow (program_of p.now) (func_of f.now))
-        (UnfitBy (HasNoFlow (program_of p.now) (func_of f.now))) }
-{
-    let tokens = all_tokens(alloc, f)?;
-    Ok(FlowBlock {
-        stmts: flow_stmts(alloc, p, f, tokens.as_slice(), &[], f.body.as_slice())?,
-        bound: Items::new(alloc),
-        end: f.end,
-    })
 }

@@ -3,6 +3,12 @@
 //! The check, the witness and the certificate's check rest on it.
 #![tactic(auto)]
 
+ghost use Rattle.std.specs.Prelude.{◌≡◌, MatchResult};
+ghost use Rattle.vlt_core.specs.Bodies as s;
+ghost use Rattle.vlt_core.specs.View.{program_of, func_of};
+ghost use Rattle.vlt_rows.specs.FlowView.{block_view};
+ghost use Rattle.vlt_rows.specs.Unfit.{UnfitBy, HasNoFlow};
+
 mod body;
 mod calls;
 mod expr;
@@ -13,7 +19,7 @@ mod statements;
 mod states;
 mod tree;
 
-pub use body::body_flow;
+use crate::body::{all_tokens, flow_stmts};
 pub use calls::{take_call, take_handed_back, take_return};
 pub use expr::{take_expr, take_operand, take_operands};
 pub use list::{
@@ -25,4 +31,22 @@ pub use statements::{
     take_adopt, take_arm, take_build, take_focus, take_focus_end, take_form, take_switch,
 };
 pub use states::{States, side_states};
+use std::alloc::Global;
 pub use tree::{Flow, FlowArm, FlowBlock, FlowStmt};
+use vlt_base::Items;
+use vlt_core::{Func, Program};
+
+/// The flow of a function's whole body. `Unfit` where one of its rows names states that no set has, or where the function
+/// has more keys or variables than there are numbers.
+pub fn body_flow(alloc: Global, p: &Program, f: &Func) -> Result<FlowBlock, RowError>
+    ensures { MatchResult result
+        (λ x. block_view x ≡ s.body_flow (program_of p.now) (func_of f.now))
+        (UnfitBy (HasNoFlow (program_of p.now) (func_of f.now))) }
+{
+    let tokens = all_tokens(alloc, f)?;
+    Ok(FlowBlock {
+        stmts: flow_stmts(alloc, p, f, tokens.as_slice(), &[], f.body.as_slice())?,
+        bound: Items::new(alloc),
+        end: f.end,
+    })
+}
