@@ -18,7 +18,7 @@ use Rattle.c_syntax.specs.Tokens.{Token}
 use Rattle.c_syntax.specs.Grammar.{Bounds, expr_depth, IsCall}
 use Rattle.c_syntax.specs.Spelling.{prefix_sign, expr_then, arg_token, call_then, stmt_then}
 use Rattle.c_automaton.specs.Automaton as a
-use Rattle.c_automaton.specs.Automaton.{Symbol, blocks_in, parens_in, Reaction, word_number, sign_number, is_string_taker, followed, react_operand, react_inside, react_operation, react_operand_end, react_arg, react_args, react_more_args, react_value, react_return, react_reference, react_otherwise, react_stmts, react_type, react_head, react_behind_head, react_params, react_more_params, react_body, react}
+use Rattle.c_automaton.specs.Automaton.{Symbol, blocks_in, parens_in, Reaction, word_number, sign_number, is_string_taker, with_behind, react_operand, react_inside, react_operation, react_operand_end, react_arg, react_args, react_more_args, react_value, react_return, react_reference, react_otherwise, react_stmts, react_type, react_head, react_behind_head, react_params, react_more_params, react_body, react}
 use Rattle.c_automaton.proofs.Exprs.{MayStand, some_depth}
 use Rattle.c_automaton.proofs.Parts.{Rest, reference, kind_word, Part, Spells, Backs}
 
@@ -42,13 +42,13 @@ back_operand b ys K ts _ = tt
 -- what begins with an operand that one symbol stands behind
 through_variable : (b : Bounds) (y z : Symbol) (r : Bool) (n : ℕ) (ys : List Symbol) (K : Rest) (ts : List Token)
     → (Part b a.operand (z ∷ ys) (Spells b (z ∷ ys) K) (t.variable (record { reference = r; number = n }) ∷ ts) → Part b y ys (Spells b ys K) (t.variable (record { reference = r; number = n }) ∷ ts))
-    → Backs b y ys K ts (t.variable (record { reference = r; number = n })) (followed (if r then a.take (a.operand_end ∷ []) else a.take []) (z ∷ []))
+    → Backs b y ys K ts (t.variable (record { reference = r; number = n })) (with_behind (if r then a.take (a.operand_end ∷ []) else a.take []) (z ∷ []))
 through_variable b y z true n ys K ts f = λ k. f (variable_back b true n (z ∷ ys) K ts k)
 through_variable b y z false n ys K ts f = λ k. f (variable_back b false n (z ∷ ys) K ts k)
 
 pub through : (b : Bounds) (y z : Symbol) (ys : List Symbol) (K : Rest) (ts : List Token) (x : Token)
     → (Part b a.operand (z ∷ ys) (Spells b (z ∷ ys) K) (x ∷ ts) → Part b y ys (Spells b ys K) (x ∷ ts))
-    → Backs b y ys K ts x (followed (react_operand x) (z ∷ []))
+    → Backs b y ys K ts x (with_behind (react_operand x) (z ∷ []))
 through b y z ys K ts (t.number n) f = λ k. f (back_operand b (z ∷ ys) K ts (t.number n) k)
 through b y z ys K ts (t.word w.Null) f = λ k. f (back_operand b (z ∷ ys) K ts (t.word w.Null) k)
 through b y z ys K ts (t.variable v) f = through_variable b y z v.reference v.number ys K ts f
@@ -157,7 +157,7 @@ back_arg b false ys K ts _ = tt
 -- what begins with an argument that another symbol stands behind
 through_arg : (b : Bounds) (y z : Symbol) (n : Bool) (ys : List Symbol) (K : Rest) (ts : List Token) (x : Token)
     → (Part b (a.arg n) (z ∷ ys) (Spells b (z ∷ ys) K) (x ∷ ts) → Part b y ys (Spells b ys K) (x ∷ ts))
-    → Backs b y ys K ts x (followed (react_arg n x) (z ∷ []))
+    → Backs b y ys K ts x (with_behind (react_arg n x) (z ∷ []))
 through_arg b y z n ys K ts (t.number m) f = λ k. f (back_arg b n (z ∷ ys) K ts (t.number m) k)
 through_arg b y z n ys K ts (t.variable v) f = λ k. f (back_arg b n (z ∷ ys) K ts (t.variable v) k)
 through_arg b y z n ys K ts (t.word w.Null) f = λ k. f (back_arg b n (z ∷ ys) K ts (t.word w.Null) k)

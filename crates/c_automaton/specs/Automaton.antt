@@ -114,12 +114,12 @@ pub data Reaction : Type 0 where
   refuse : Reaction
 
 -- these come behind what was taken
-abbrev pub followed : Reaction → List Symbol → Reaction
-followed (take xs) ys = take (xs ++ ys)
-followed (open_block xs) ys = open_block (xs ++ ys)
-followed (open_paren xs) ys = open_paren (xs ++ ys)
-followed skip ys = skip
-followed refuse ys = refuse
+abbrev pub with_behind : Reaction → List Symbol → Reaction
+with_behind (take xs) ys = take (xs ++ ys)
+with_behind (open_block xs) ys = open_block (xs ++ ys)
+with_behind (open_paren xs) ys = open_paren (xs ++ ys)
+with_behind skip ys = skip
+with_behind refuse ys = refuse
 
 abbrev pub taken_if : Bool → Reaction
 taken_if b = if b then take [] else refuse
@@ -142,7 +142,7 @@ react_operand _ = refuse
 abbrev pub react_inside : Token → Reaction
 react_inside (t.operator op.Subtract) = take (operand ∷ closing ∷ [])
 react_inside (t.operator op.Not) = take (operand ∷ closing ∷ [])
-react_inside x = followed (react_operand x) (operation ∷ [])
+react_inside x = with_behind (react_operand x) (operation ∷ [])
 
 abbrev pub react_operation : Token → Reaction
 react_operation (t.operator o) = if (row_of o).arity == 2 then take (operand ∷ closing ∷ []) else refuse
@@ -161,7 +161,7 @@ react_arg b _ = refuse
 
 abbrev pub react_args : Bool → Token → Reaction
 react_args b (t.sign s.CloseParen) = take []
-react_args b x = followed (react_arg b x) (more_args b ∷ [])
+react_args b x = with_behind (react_arg b x) (more_args b ∷ [])
 
 abbrev pub react_more_args : Bool → Token → Reaction
 react_more_args b (t.sign s.CloseParen) = take []
@@ -175,7 +175,7 @@ react_value x = react_operand x
 
 abbrev pub react_return : Token → Reaction
 react_return (t.sign s.Semicolon) = take []
-react_return x = followed (react_operand x) (sign s.Semicolon ∷ [])
+react_return x = with_behind (react_operand x) (sign s.Semicolon ∷ [])
 
 abbrev pub react_reference : Token → Reaction
 react_reference (t.sign s.Arrow) = take (cell_rest (sign s.Assign ∷ operand ∷ sign s.Semicolon ∷ []))

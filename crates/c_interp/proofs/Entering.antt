@@ -67,7 +67,7 @@ module _ (things : Things) (s : World) (w : model.World) (b : Outside) (h : Show
 
   -- a turn of a loop
   pub turned : (r : Setup) (n : ℕ) (body : Stmts) (old new : List Task) (f : Frames) (q : World) → 1 ≤ s.fuel → q.fuel ≡ s.fuel - 1 → AreMadeSlots things f.values.items → tasks_of new ≡ m.list (suc n) body ∷ m.again n body ∷ tasks_of old
-      → CameTo w b b None new f (record s { fuel = q.fuel }) (m.moved r (m.again n body ∷ tasks_of old) (state_of f w))
+      → CameTo w b b None new f (record s { fuel = q.fuel }) (m.move_of r (m.again n body ∷ tasks_of old) (state_of f w))
   turned r n body old new f q some e made pushed =
       spends_one f f new _ (record s { fuel = q.fuel }) None some (record { things = things; world = less; tasks = sym pushed; state = refl; shown = shown_less q e; made = made; wrote = silent w less b refl })
 

@@ -50,11 +50,11 @@ stop_outcome n (halt.Stopped stop) o e = e
 module _ (n : ℕ) (target : Option CVar) (things : Things) (s : World) (w : model.World) (before after : Outside) (ts : List Task) (f : Frames) where
   -- a statement gives a value or none
   pub after_given : (g : Frames) (value : Option Value) (result : Option CStop) (e : Effect) → AreMadeSlots things f.values.items → Comes things s w before after (Ok value) e
-      → ((u : model.World) → IsPlain result ts g u (m.received n target (given_view value) (tasks_of ts) (state_of f u))) → KeepsFrames value f g → CameTo w before after result ts g s (m.after n target e (tasks_of ts) (state_of f w))
+      → ((u : model.World) → IsPlain result ts g u (m.after_receiving n target (given_view value) (tasks_of ts) (state_of f u))) → KeepsFrames value f g → CameTo w before after result ts g s (m.after n target e (tasks_of ts) (state_of f w))
   unfolding m.after
   after_given g value result (gives v u) made c plain kept =
       plain_came w u before after ts g s c.things result _ c.shown (kept.made c.things c.made (slots_kept things c.things c.kept f.values.items made)) c.wrote
-      (subst (λ x. IsPlain result ts g u (m.received n target x (tasks_of ts) (state_of f u))) c.value (plain u))
+      (subst (λ x. IsPlain result ts g u (m.after_receiving n target x (tasks_of ts) (state_of f u))) c.value (plain u))
   after_given g value result (breaks_rule r) made c plain kept = absurd c
   after_given g value result (ends o u) made c plain kept = absurd c
 
@@ -65,7 +65,7 @@ module _ (n : ℕ) (target : Option CVar) (things : Things) (s : World) (w : mod
   unfolding m.after
   after_stop h (gives v u) c = by target v
     where
-      by : (t : Option CVar) (v : Option model.Value) → CameTo w before after (Some (stop_for n h)) ts f s (m.received n t v (tasks_of ts) (state_of f u))
+      by : (t : Option CVar) (v : Option model.Value) → CameTo w before after (Some (stop_for n h)) ts f s (m.after_receiving n t v (tasks_of ts) (state_of f u))
       by None v = cut_at h u c
       by (Some x) None = inr (cut_at h u c)
       by (Some x) (Some a) = cut_at h u c

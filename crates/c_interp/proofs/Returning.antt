@@ -28,11 +28,11 @@ back_is f g k w values base func glue depth =
 
 pub leave_back : (value : Option Value) (k : Caller) (now left first : List Task) (f f0 g h : Frames) (r : Option CStop) (w : model.World) → tasks_of now ≡ m.back (caller_of k) ∷ tasks_of left → f ≡ f0
     → m.leave (given_view value) (tasks_of now) (state_of f w) ≡ m.leave (given_view value) (tasks_of first) (state_of f w) → state_of g w ≡ m.caller_state (caller_of k) (state_of f w)
-    → IsPlain r left h w (m.received k.n k.target (given_view value) (tasks_of left) (state_of g w)) → IsPlain r left h w (m.leave (given_view value) (tasks_of first) (state_of f0 w))
+    → IsPlain r left h w (m.after_receiving k.n k.target (given_view value) (tasks_of left) (state_of g w)) → IsPlain r left h w (m.leave (given_view value) (tasks_of first) (state_of f0 w))
 leave_back value k now left first f f0 g h r w is same before back p =
     subst (λ x. IsPlain r left h w (m.leave (given_view value) (tasks_of first) (state_of x w))) same
     (subst (IsPlain r left h w) (sym (ap (λ l. m.leave (given_view value) l (state_of f w)) is) ∙ before)
-    (subst (λ s. IsPlain r left h w (m.received k.n k.target (given_view value) (tasks_of left) s)) back p))
+    (subst (λ s. IsPlain r left h w (m.after_receiving k.n k.target (given_view value) (tasks_of left) s)) back p))
 
 pub leave_bottom : (value : Option Value) (g : CResult) (now left first : List Task) (f f0 : Frames) (w : model.World) → tasks_of now ≡ m.bottom g ∷ tasks_of left → f ≡ f0
     → m.leave (given_view value) (tasks_of now) (state_of f w) ≡ m.leave (given_view value) (tasks_of first) (state_of f w) → IsPlain (Some (Stopped Done)) left f w (m.leave (given_view value) (tasks_of first) (state_of f0 w))

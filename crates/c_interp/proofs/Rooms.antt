@@ -68,10 +68,10 @@ module _ (r : Rules) (items : List Task) (size : ℕ) (f : Frames) (s : World) (
 
   -- ---- after a move
 
-  falls : (w : model.World) → FallsTo r.count (longest_name (program_of r.program.now)) (measure r.count w.fuel (tasks_of items)) (m.moved (setup_of r) (tasks_of items) (state_of f w))
+  falls : (w : model.World) → FallsTo r.count (longest_name (program_of r.program.now)) (measure r.count w.fuel (tasks_of items)) (m.move_of (setup_of r) (tasks_of items) (state_of f w))
   falls w = moved_falls r.count (longest_name (program_of r.program.now)) (setup_of r) (λ g k is. subst (λ n. IsWithin n (longest_name (program_of r.program.now)) k) (sym room.rules.count) (function_within (program_of r.program.now) g k is)) (tasks_of items) (state_of f w) room.within
 
-  pub room_next : (w v : model.World) (new : List Task) (size' : ℕ) (g : Frames) (q : World) (conf : Conf) → m.moved (setup_of r) (tasks_of items) (state_of f w) ≡ m.goes conf → conf.tasks ≡ tasks_of new → conf.state ≡ state_of g v
+  pub room_next : (w v : model.World) (new : List Task) (size' : ℕ) (g : Frames) (q : World) (conf : Conf) → m.move_of (setup_of r) (tasks_of items) (state_of f w) ≡ m.goes conf → conf.tasks ≡ tasks_of new → conf.state ≡ state_of g v
       → size ≤ size' → vec_capacity f.values ≤ vec_capacity g.values → KeepsRoom s q → IsReady q → HasRoom r new size' g q
   room_next w v new size' g q conf is tasks state more slots keeps ready =
       let p = program_of r.program.now in
@@ -92,7 +92,7 @@ module _ (r : Rules) (items : List Task) (size : ℕ) (f : Frames) (s : World) (
       }
 
   -- the measure of the loop falls
-  pub measure_falls : (w v : model.World) (new : List Task) (g : Frames) (fuel fuel' : ℕ) (conf : Conf) → m.moved (setup_of r) (tasks_of items) (state_of f w) ≡ m.goes conf → conf.tasks ≡ tasks_of new → conf.state ≡ state_of g v → w.fuel ≡ fuel → v.fuel ≡ fuel'
+  pub measure_falls : (w v : model.World) (new : List Task) (g : Frames) (fuel fuel' : ℕ) (conf : Conf) → m.move_of (setup_of r) (tasks_of items) (state_of f w) ≡ m.goes conf → conf.tasks ≡ tasks_of new → conf.state ≡ state_of g v → w.fuel ≡ fuel → v.fuel ≡ fuel'
       → measure r.count fuel' (tasks_of new) < measure r.count fuel (tasks_of items)
   measure_falls w v new g fuel fuel' conf is tasks state e e' =
       let fall = subst (FallsTo r.count (longest_name (program_of r.program.now)) _) is (falls w) in

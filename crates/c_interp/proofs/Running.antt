@@ -35,7 +35,7 @@ module _ (r : Rules) (ran : Ran) (w0 : model.World) (a b c : Outside) (ts new : 
   conf : Conf
   conf = record { tasks = tasks_of ts; state = state_of f running.world }
 
-  leads_on : moves (setup_of r) running.leads.count (m.moved (setup_of r) (tasks_of ts) (state_of f running.world)) ≡ m.stops ran.outcome ran.world
+  leads_on : moves (setup_of r) running.leads.count (m.move_of (setup_of r) (tasks_of ts) (state_of f running.world)) ≡ m.stops ran.outcome ran.world
   leads_on = still_stops (setup_of r) running.leads.count (record { tasks = tasks_of ts; state = state_of f running.world }) ran.outcome ran.world running.leads.is
 
   pub record GoesOn : Type 0 where
@@ -43,10 +43,10 @@ module _ (r : Rules) (ran : Ran) (w0 : model.World) (a b c : Outside) (ts new : 
     pub fits : HasRoom r new size' g q
     pub falls : measure r.count q.fuel (tasks_of new) < measure r.count s.fuel (tasks_of ts)
 
-  pub goes_on : Came size size' f g s q b c None new (λ w. m.moved (setup_of r) (tasks_of ts) (state_of f w)) → GoesOn
-  goes_on came = by (m.moved (setup_of r) (tasks_of ts) (state_of f running.world)) refl (came.comes running.things running.world running.shown running.made) leads_on
+  pub goes_on : Came size size' f g s q b c None new (λ w. m.move_of (setup_of r) (tasks_of ts) (state_of f w)) → GoesOn
+  goes_on came = by (m.move_of (setup_of r) (tasks_of ts) (state_of f running.world)) refl (came.comes running.things running.world running.shown running.made) leads_on
     where
-      by : (x : Next) → m.moved (setup_of r) (tasks_of ts) (state_of f running.world) ≡ x → CameTo running.world b c None new g q x → moves (setup_of r) running.leads.count x ≡ m.stops ran.outcome ran.world → GoesOn
+      by : (x : Next) → m.move_of (setup_of r) (tasks_of ts) (state_of f running.world) ≡ x → CameTo running.world b c None new g q x → moves (setup_of r) running.leads.count x ≡ m.stops ran.outcome ran.world → GoesOn
       by (m.stops o v) is p leads = absurd p
       by (m.goes d) is p leads = record {
         goes = record {
@@ -61,8 +61,8 @@ module _ (r : Rules) (ran : Ran) (w0 : model.World) (a b c : Outside) (ts new : 
         falls = measure_falls r ts size f s room running.world p.world new g s.fuel q.fuel d is p.tasks p.state running.shown.fuel p.shown.fuel;
       }
 
-  pub ends_so : (stop : CStop) → Came size size' f g s q b c (Some stop) new (λ w. m.moved (setup_of r) (tasks_of ts) (state_of f w)) → IsFinished ran w0 a c stop q
-  ends_so stop came = by (m.moved (setup_of r) (tasks_of ts) (state_of f running.world)) (came.comes running.things running.world running.shown running.made) leads_on
+  pub ends_so : (stop : CStop) → Came size size' f g s q b c (Some stop) new (λ w. m.move_of (setup_of r) (tasks_of ts) (state_of f w)) → IsFinished ran w0 a c stop q
+  ends_so stop came = by (m.move_of (setup_of r) (tasks_of ts) (state_of f running.world)) (came.comes running.things running.world running.shown running.made) leads_on
     where
       by : (x : Next) → CameTo running.world b c (Some stop) new g q x → moves (setup_of r) running.leads.count x ≡ m.stops ran.outcome ran.world → IsFinished ran w0 a c stop q
       by (m.goes d) p leads =

@@ -8,7 +8,7 @@ use Rattle.c_syntax.specs.declared.program.CVar.{CVar}
 use Rattle.c_syntax.specs.Kinds.{same_variable}
 use Rattle.c_syntax.specs.View.{func_of}
 use Rattle.c_meaning.specs.World as model
-use Rattle.c_machine.specs.Machine.{looked, filed, names_of, State, vars_in, with_slot}
+use Rattle.c_machine.specs.Machine.{value_under, with_value_under, names_of, State, vars_in, with_slot}
 use Rattle.c_values.specs.declared.value.Value.{Value}
 use Rattle.c_values.specs.declared.value.Value.TheVariants.{Number, Reference}
 use Rattle.c_values.specs.declared.vars.Vars.{Vars as Frame}
@@ -22,8 +22,8 @@ use Rattle.c_interp.specs.Shown.{state_of}
 
 pub vars_are : (f : Frames) (v : Frame) (w : model.World) → names_in v ≡ names_of (func_of f.func.now) → v.values.now ≡ drop f.base f.values.items → shown_vars v ≡ vars_in (state_of f w)
 vars_are f v w names values =
-    ap (λ ns. looked ns (shown_slots v.values.now)) names
-    ∙ ap (looked (names_of (func_of f.func.now))) (ap shown_slots values ∙ sym (drop-map (option_map value_view) f.base f.values.items))
+    ap (λ ns. value_under ns (shown_slots v.values.now)) names
+    ∙ ap (value_under (names_of (func_of f.func.now))) (ap shown_slots values ∙ sym (drop-map (option_map value_view) f.base f.values.items))
 
 get_drop : {A : Type 0} (xs : List A) (b k : ℕ) → slice_get (drop b xs) k ≡ slice_get xs (b + k)
 get_drop xs zero k = let e : k ≡ 0 + k = omega arith in ap (slice_get xs) e
@@ -68,7 +68,7 @@ abbrev filed_at : Option ℕ → List (Option model.Value) → model.Value → L
 filed_at None xs a = xs
 filed_at (Some i) xs a = slice_set xs i (Some a)
 
-filed_is : (vs : List CVar) (xs : List (Option model.Value)) (v : CVar) (a : model.Value) → filed vs xs v a ≡ filed_at (place_in vs v) xs a
+filed_is : (vs : List CVar) (xs : List (Option model.Value)) (v : CVar) (a : model.Value) → with_value_under vs xs v a ≡ filed_at (place_in vs v) xs a
 filed_is [] xs v a = refl
 filed_is (w ∷ vs) [] v a = by (same_variable v w) (place_in vs v)
   where
@@ -82,7 +82,7 @@ filed_is (w ∷ vs) (x ∷ xs) v a = by (same_variable v w) (filed_is vs xs v a)
     more None = refl
     more (Some i) = refl
 
-    by : (t : Bool) → filed vs xs v a ≡ filed_at (place_in vs v) xs a → (if t then Some a ∷ xs else x ∷ filed vs xs v a) ≡ filed_at (if t then Some 0 else option_map suc (place_in vs v)) (x ∷ xs) a
+    by : (t : Bool) → with_value_under vs xs v a ≡ filed_at (place_in vs v) xs a → (if t then Some a ∷ xs else x ∷ with_value_under vs xs v a) ≡ filed_at (if t then Some 0 else option_map suc (place_in vs v)) (x ∷ xs) a
     by true e = refl
     by false e = ap (λ l. x ∷ l) e ∙ more (place_in vs v)
 
@@ -100,7 +100,7 @@ module _ (f g : Frames) (v : CVar) (a : Value) (w : model.World) where
   abbrev slots : List (Option model.Value)
   slots = shown_slots f.values.items
 
-  same_slots : (new : List (Option model.Value)) → new ≡ take f.base slots ++ filed (names_of (func_of f.func.now)) (drop f.base slots) v (value_view a) → record (state_of f w) { slots = new } ≡ with_slot v (value_view a) (state_of f w)
+  same_slots : (new : List (Option model.Value)) → new ≡ take f.base slots ++ with_value_under (names_of (func_of f.func.now)) (drop f.base slots) v (value_view a) → record (state_of f w) { slots = new } ≡ with_slot v (value_view a) (state_of f w)
   same_slots new e = ap {A = List (Option model.Value)} {B = State} (λ l. record (state_of f w) { slots = l }) e
 
   pub set_here : (i : ℕ) (items : List (Option Value)) → place_in (names_of (func_of f.func.now)) v ≡ Some i → items ≡ slice_set f.values.items (f.base + i) (Some a) → record (state_of f w) { slots = shown_slots items } ≡ with_slot v (value_view a) (state_of f w)

@@ -6,7 +6,7 @@ use Rattle.c_syntax.specs.C.{Arg}
 use Rattle.c_meaning.specs.World.{Vars}
 use Rattle.c_meaning.specs.Values.{arg_values}
 use Rattle.c_meaning.specs.Run.{Setup, Numbered, depth_in, has_room}
-use Rattle.c_machine.specs.Machine.{looked, names_of}
+use Rattle.c_machine.specs.Machine.{value_under, names_of}
 use Rattle.c_values.specs.declared.value.Value.{Value}
 use Rattle.c_values.specs.Shown.{value_view, shown_slots, AreMadeSlots}
 use Rattle.c_interp.specs.declared.rules.Found.{Found}
@@ -16,7 +16,7 @@ abbrev pub numbered_of : Found → Numbered
 numbered_of f = record { func = func_of f.func.now; first = f.first }
 
 abbrev pub vars_of : Frames → Vars
-vars_of f = looked (names_of (func_of f.func.now)) (drop f.base (shown_slots f.values.items))
+vars_of f = value_under (names_of (func_of f.func.now)) (drop f.base (shown_slots f.values.items))
 
 -- nothing but the values changed
 pub record AreSame (old new : Frames) : Type 0 where

@@ -37,7 +37,7 @@ pub fn no_value(n: u32) -> Option<CStop>
 /// A value comes to the target of the statement of a number.
 fn receive(n: u32, target: Option<CVar>, value: Option<Value>, frames: &mut Frames) -> Option<CStop>
     ensures comes { (ts : List Task) (w : model.World) →
-        IsPlain result ts frames.new w (m.received n target (given_view value) (tasks_of ts)
+        IsPlain result ts frames.new w (m.after_receiving n target (given_view value) (tasks_of ts)
         (state_of frames.old w)) }
     ensures kept { KeepsFrames value frames.old frames.new }
 {

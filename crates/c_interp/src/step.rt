@@ -181,7 +181,7 @@ fn turn<'a>(
     ensures { (r : run.Setup) (b : Outside) →
         Came (vec_capacity tasks.old) (vec_capacity tasks.new) frames.now frames.now world.old
         world.new b b result tasks.new.items
-        (λ w. m.moved r (m.again n (stmts_of body.now) ∷ tasks_of tasks.old.items)
+        (λ w. m.move_of r (m.again n (stmts_of body.now) ∷ tasks_of tasks.old.items)
         (state_of frames.now w)) }
 {
     if world.fuel == 0 {
@@ -257,7 +257,7 @@ pub fn step<'a, K: Sink>(
         world.old world.new
         (record { written = K.written sink.old; faults = K.faults sink.old })
         (record { written = K.written sink.new; faults = K.faults sink.new }) result
-        tasks.new.items (λ w. m.moved (setup_of rules.now) (tasks_of tasks.old.items)
+        tasks.new.items (λ w. m.move_of (setup_of rules.now) (tasks_of tasks.old.items)
         (state_of frames.old w)) }
 {
     match tasks.pop() {

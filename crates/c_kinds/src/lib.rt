@@ -4,7 +4,7 @@
 #![tactic(auto)]
 
 ghost use Rattle.std.specs.Prelude.{◌≡◌, option_map, IfOk};
-ghost use Rattle.c_syntax.specs.Kinds.{refused};
+ghost use Rattle.c_syntax.specs.Kinds.{unit_refusal};
 ghost use Rattle.c_syntax.specs.Reading.{places_in};
 ghost use Rattle.c_parser.specs.View.{lexemes_of, unit_of};
 ghost use Rattle.c_kinds.specs.View.{refusal_of};
@@ -26,7 +26,7 @@ use walk::Walk;
 /// The least refusal of the names and types of a text: the least place, and there the least number.
 pub fn least_refusal(alloc: Global, written: &Written<'_>) -> Result<Option<Refusal>, Memory>
     ensures { IfOk result (λ r.
-        option_map refusal_of r ≡ refused (places_in (lexemes_of written.now.lexemes.items)) (unit_of written.now.unit)) }
+        option_map refusal_of r ≡ unit_refusal (places_in (lexemes_of written.now.lexemes.items)) (unit_of written.now.unit)) }
 {
     let mut walk = Walk {
         rest: &written.lexemes,

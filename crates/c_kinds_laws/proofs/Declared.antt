@@ -224,7 +224,7 @@ all_declare heads (b ∷ bs) [] h are = absurd are
 all_declare heads (b ∷ bs) (f ∷ fs) h are = (func_declares heads b f h.0 are.0, all_declare heads bs fs h.1 are.1)
 
 -- so it is for a program that a text is read as
-pub kinds_declare : (places : List ℕ) (u : TranslationUnit) (p : Program) → IsProgramOf u p → k.refused places u ≡ None → IsDeclared p
+pub kinds_declare : (places : List ℕ) (u : TranslationUnit) (p : Program) → IsProgramOf u p → k.unit_refusal places u ≡ None → IsDeclared p
 kinds_declare places u p is none =
     let start : Walk = k.skip 2 (k.main_judged u (k.skip 3 (record { places = places; least = None }))) in
     let good = (bodies_good u.heads [] u.bodies (k.heads_judged (k.heads_of u.bodies) [] u.heads start) none).declares in

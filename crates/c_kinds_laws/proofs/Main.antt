@@ -172,7 +172,7 @@ heads_quiet bodies before (g ∷ gs) w h =
 abbrev behind_main : List ℕ → TranslationUnit → Walk
 behind_main places u = k.skip 2 (k.main_judged u (k.skip 3 (record { places = places; least = None })))
 
-pub main_there : (places : List ℕ) (u : TranslationUnit) → k.refused places u ≡ None → IsTrue (has_main u.main (heads_of u.bodies))
+pub main_there : (places : List ℕ) (u : TranslationUnit) → k.unit_refusal places u ≡ None → IsTrue (has_main u.main (heads_of u.bodies))
 main_there places u none =
     let start : Walk = k.skip 3 (record { places = places; least = None }) in
     let second : Walk = behind_main places u in
@@ -181,13 +181,13 @@ main_there places u none =
     kept (has_main u.main (heads_of u.bodies)) (k.place start - 1) 6 start quiet_second
 
 -- where no rule refuses a text, the names of its bodies differ
-pub names_apart : (places : List ℕ) (u : TranslationUnit) → k.refused places u ≡ None → AreApart [] u.bodies
+pub names_apart : (places : List ℕ) (u : TranslationUnit) → k.unit_refusal places u ≡ None → AreApart [] u.bodies
 names_apart places u none = bodies_apart u.heads [] u.bodies (k.heads_judged (heads_of u.bodies) [] u.heads (behind_main places u)) none
 
-main_is : (places : List ℕ) (u : TranslationUnit) → k.refused places u ≡ None → HaveNoParams u.main u.bodies
+main_is : (places : List ℕ) (u : TranslationUnit) → k.unit_refusal places u ≡ None → HaveNoParams u.main u.bodies
 main_is places u none = main_alone u.main [] u.bodies (names_apart places u none) (main_there places u none)
 
-pub can_run : (places : List ℕ) (u : TranslationUnit) (p : Program) → k.refused places u ≡ None → IsProgramOf u p → IsRunnable p
+pub can_run : (places : List ℕ) (u : TranslationUnit) (p : Program) → k.unit_refusal places u ≡ None → IsProgramOf u p → IsRunnable p
 can_run places u p none is = record {
   declared = kinds_declare places u p is none;
   no_params = λ g e.

@@ -139,7 +139,7 @@ module _ (most : ℕ) where
       let before : k.place (k.skip 3 w) - 1 ≤ most = let p = here (k.skip 3 w) third in omega (arith, p) in
       bodies_near u.heads [] u.bodies _ (heads_near (k.heads_of u.bodies) [] u.heads _ (skipped 2 _ (told (k.has_main u.main (k.heads_of u.bodies)) (k.place (k.skip 3 w) - 1) 6 _ before third)))
 
-pub told_within : (places : List ℕ) (u : TranslationUnit) (most : ℕ) (r : Refusal) → AreWithin most places → k.refused places u ≡ Some r → r.at ≤ most
+pub told_within : (places : List ℕ) (u : TranslationUnit) (most : ℕ) (r : Refusal) → AreWithin most places → k.unit_refusal places u ≡ Some r → r.at ≤ most
 told_within places u most r within e =
     let near = unit_near most u (record { places = places; least = None }) (record { places = within; least = tt }) in
     subst (IsWithin most) e near.least

@@ -2,7 +2,7 @@
 use Rattle.std.specs.Prelude.{◌≡◌, ◌≤◌, ℕ, List, [], ◌∷◌, Some, None}
 use Rattle.c_syntax.specs.C.{Program}
 use Rattle.c_syntax.specs.Unit.{TranslationUnit}
-use Rattle.c_syntax.specs.Kinds.{Refusal, refused}
+use Rattle.c_syntax.specs.Kinds.{Refusal, unit_refusal}
 use Rattle.c_syntax.specs.Programs.{IsProgramOf}
 use Rattle.c_machine.specs.Machine.{IsRunnable}
 
@@ -10,7 +10,7 @@ use Rattle.c_machine.specs.Machine.{IsRunnable}
 abbrev pub UnrefusedProgramsCanRun : Type 0
 UnrefusedProgramsCanRun =
     (places : List ℕ) (u : TranslationUnit) (p : Program)
-    → refused places u ≡ None → IsProgramOf u p → IsRunnable p
+    → unit_refusal places u ≡ None → IsProgramOf u p → IsRunnable p
 
 abbrev pub AreWithin : ℕ → List ℕ → Type 0
 AreWithin most [] = Unit {0}
@@ -20,4 +20,4 @@ AreWithin most (place ∷ places) = (place ≤ most) × AreWithin most places
 abbrev pub RefusalsAreWithin : Type 0
 RefusalsAreWithin =
     (places : List ℕ) (u : TranslationUnit) (most : ℕ) (r : Refusal)
-    → AreWithin most places → refused places u ≡ Some r → r.at ≤ most
+    → AreWithin most places → unit_refusal places u ≡ Some r → r.at ≤ most

@@ -16,7 +16,7 @@ use Rattle.c_meaning.specs.World.{Value, World, fuel_end, depth_end, undefined}
 use Rattle.c_meaning.specs.Values.{arg_values}
 use Rattle.c_meaning.specs.Primitives.{Effect, gives, breaks_rule, ends}
 use Rattle.c_meaning.specs.Run.{Setup, Numbered, count_in_stmt, count_in, function_of, depth_in, has_room, can_call}
-use Rattle.c_machine.specs.Machine.{filed, first_values, Task, list, again, back, bottom, State, Next, stops, on, vars_in, frame_in, with_world, with_slot, received, after, with_found, depth_out, caller_state, leave, break_to, continue_to, body_end, spend, callee_state, caller_of, enter, call_found, does_call, act, moved}
+use Rattle.c_machine.specs.Machine.{with_value_under, first_values, Task, list, again, back, bottom, State, Next, stops, on, vars_in, frame_in, with_world, with_slot, after_receiving, after, with_found, depth_out, caller_state, leave, break_to, continue_to, body_end, spend, callee_state, caller_of, enter, call_found, does_call, act, move_of}
 use Rattle.c_machine.specs.Bounds.{cells_in, cells_in_stmt, need, inner, width_of, need_of, cells_of, Sizes, both_widths, width_in, room_in, one_unless, reach, frames, FrameFits, CallersFit, Fits, FitsNext}
 use Rattle.c_machine.proofs.Names.{first_long}
 use Rattle.c_machine.proofs.Leading.{args_long}
@@ -32,18 +32,18 @@ length_reach (again n b ∷ ts) = omega arith
 length_reach (back k ∷ ts) = omega arith
 length_reach (bottom g ∷ ts) = omega arith
 
-filed_same : (vs : List CVar) (xs : List (Option Value)) (v : CVar) (a : Value) → length (filed vs xs v a) ≡ length xs
+filed_same : (vs : List CVar) (xs : List (Option Value)) (v : CVar) (a : Value) → length (with_value_under vs xs v a) ≡ length xs
 filed_same [] xs v a = refl
 filed_same (w ∷ vs) [] v a = refl
 filed_same (w ∷ vs) (x ∷ xs) v a = by (same_variable v w) (filed_same vs xs v a)
   where
-    by : (t : Bool) → length (filed vs xs v a) ≡ length xs → length (if t then Some a ∷ xs else x ∷ filed vs xs v a) ≡ suc (length xs)
+    by : (t : Bool) → length (with_value_under vs xs v a) ≡ length xs → length (if t then Some a ∷ xs else x ∷ with_value_under vs xs v a) ≡ suc (length xs)
     by true e = refl
     by false e = ap suc e
 
 slot_long : (v : CVar) (a : Value) (s : State) → s.base ≤ length s.slots → length (with_slot v a s).slots ≡ length s.slots
 slot_long v a s top =
-    let one = length-append (take s.base s.slots) (filed s.names (drop s.base s.slots) v a) in
+    let one = length-append (take s.base s.slots) (with_value_under s.names (drop s.base s.slots) v a) in
     let two = filed_same s.names (drop s.base s.slots) v a in
     let three = length-take s.base s.slots in
     let four = length-drop s.base s.slots in
@@ -85,7 +85,7 @@ module _ (z : Sizes) (depth : ℕ) where
   world_fits : (w : World) (ts : List Task) (s : State) → Fits z depth ts s → Fits z depth ts (with_world w s)
   world_fits w ts s h = record { frame = h.frame; within = h.within; top = h.top; slots = h.slots; callers = h.callers; small = h.small }
 
-  received_fits : (n : ℕ) (target : Option CVar) (a : Option Value) (ts : List Task) (s : State) → Fits z depth ts s → FitsNext z depth (received n target a ts s)
+  received_fits : (n : ℕ) (target : Option CVar) (a : Option Value) (ts : List Task) (s : State) → Fits z depth ts s → FitsNext z depth (after_receiving n target a ts s)
   received_fits n None a ts s h = h
   received_fits n (Some v) None ts s h = tt
   received_fits n (Some v) (Some a) ts s h =
@@ -284,7 +284,7 @@ module _ (z : Sizes) (depth : ℕ) where
     next_cells n x rest ts s h = let k = h.small.0 in omega (arith, k)
 
     -- each move leaves room
-    pub moved_fits : (ts : List Task) (s : State) → Fits z depth ts s → FitsNext z depth (moved r ts s)
+    pub moved_fits : (ts : List Task) (s : State) → Fits z depth ts s → FitsNext z depth (move_of r ts s)
     unfolding spend
     moved_fits [] s h = tt
     moved_fits (list n c.done ∷ ts) s h = rest_fits n c.done ts s h

@@ -9,7 +9,7 @@ use Rattle.c_syntax.specs.C.{Expr, Arg, Call, Stmt, Stmts, Func}
 use Rattle.c_meaning.specs.World.{Value, World, Event, Outcome}
 use Rattle.c_meaning.specs.Primitives.{Effect, gives, breaks_rule, ends}
 use Rattle.c_meaning.specs.Run.{Setup, Numbered, function_of, has_room, can_call}
-use Rattle.c_machine.specs.Machine.{Task, list, again, back, bottom, State, Next, goes, stops, vars_in, frame_in, with_world, received, after, with_found, leave, break_to, continue_to, body_end, spend, enter, call_found, does_call, act, moved, once, moves}
+use Rattle.c_machine.specs.Machine.{Task, list, again, back, bottom, State, Next, goes, stops, vars_in, frame_in, with_world, after_receiving, after, with_found, leave, break_to, continue_to, body_end, spend, enter, call_found, does_call, act, move_of, once, moves}
 use Rattle.c_machine.proofs.Keeping.{KeepsEffect, primitive_keeps, set_keeps, put_keeps}
 
 -- the events of v are those of w and more
@@ -30,7 +30,7 @@ none w v e = record { events = []; are = e ∙ sym (append-nil w.events) }
 both : (w v u : World) → Adds w v → Adds v u → Adds w u
 both w v u a b = record { events = a.events ++ b.events; are = b.are ∙ ap (λ l. l ++ b.events) a.are ∙ append_assoc w.events a.events b.events }
 
-received_adds : (n : ℕ) (target : Option CVar) (a : Option Value) (ts : List Task) (s : State) → AddsNext s.world (received n target a ts s)
+received_adds : (n : ℕ) (target : Option CVar) (a : Option Value) (ts : List Task) (s : State) → AddsNext s.world (after_receiving n target a ts s)
 received_adds n None a ts s = none s.world s.world refl
 received_adds n (Some v) None ts s = none s.world s.world refl
 received_adds n (Some v) (Some a) ts s = none s.world s.world refl
@@ -105,7 +105,7 @@ module _ (r : Setup) where
   act_adds n (c.return None) ts s = leave_adds None ts s
   act_adds n (c.return (Some e)) ts s = found_adds n _ s _ (λ a. leave_adds (Some a) ts s)
 
-  moved_adds : (ts : List Task) (s : State) → AddsNext s.world (moved r ts s)
+  moved_adds : (ts : List Task) (s : State) → AddsNext s.world (move_of r ts s)
   unfolding spend
   moved_adds [] s = none s.world s.world refl
   moved_adds (list n c.done ∷ ts) s = none s.world s.world refl

@@ -8,7 +8,7 @@ use Rattle.c_syntax.specs.declared.program.CCell.TheVariants as cell
 use Rattle.c_syntax.specs.C.{Expr, Arg}
 use Rattle.c_meaning.specs.Blocks.{Blocks, is_full}
 use Rattle.c_meaning.specs.World.{Value, number, reference, Event, called, Talk, idle, calling, reading, World, Vars}
-use Rattle.c_meaning.specs.Primitives.{Effect, gives, breaks_rule, ends, or_broken, with_blocks, makes_asked, asked_cells, traps, with_event, reads_input, at_index, from_register, begins_call, begins_named, name_told, max_told, tells_number, tells_block, takes_answer, asks, reads_answer, while_reading, back_or_bad, ends_answer, no_args, on_number, on_reference, on_numbers, on_number_and_reference, on_references, primitive_does, set_does, put_does, written}
+use Rattle.c_meaning.specs.Primitives.{Effect, gives, breaks_rule, ends, or_broken, with_blocks, makes_asked, asked_cells, traps, with_event, reads_input, at_index, from_register, begins_call, begins_named, name_told, max_told, tells_number, tells_block, takes_answer, asks, reads_answer, while_reading, back_or_bad, ends_answer, no_args, on_number, on_reference, on_numbers, on_number_and_reference, on_references, primitive_does, set_does, put_does, write_effect}
 
 -- the world v comes after w: the fuel is as it was, and events were added
 pub record Keeps (w v : World) : Type 0 where
@@ -172,7 +172,7 @@ primitive_keeps heap prim.End xs vars w = keep_none w xs _ (keep_end w w.talk)
 pub set_keeps : (e : Expr) (vars : Vars) (w : World) → KeepsEffect w (set_does e vars w)
 set_keeps e vars w = keep_or w _ _ (λ a. same w w refl refl)
 
-written_keeps : (x : CCell) (b : Option ℕ) (a : Value) (w : World) → KeepsEffect w (written x b a w)
+written_keeps : (x : CCell) (b : Option ℕ) (a : Value) (w : World) → KeepsEffect w (write_effect x b a w)
 written_keeps (cell.Number p i) b (number z) w = keep_blocks w _
 written_keeps (cell.Number p i) b (reference q) w = tt
 written_keeps (cell.Reference p i) b (number z) w = tt

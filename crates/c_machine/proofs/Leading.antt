@@ -14,8 +14,8 @@ use Rattle.c_meaning.specs.World.{Value, World, Vars, Outcome, done, fuel_end, d
 use Rattle.c_meaning.specs.Values.{◌>>=◌, value_of, arg_value, arg_values}
 use Rattle.c_meaning.specs.Primitives.{Effect, gives, breaks_rule, ends, set_does, put_does, primitive_does}
 use Rattle.c_meaning.specs.Run as run
-use Rattle.c_meaning.specs.Run.{Step, Frame, Setup, Meaning, Numbered, count_in_stmt, count_in, count_of, function_of, find_in, with_var, bound, depth_in, has_room, can_call, condition, less, does_stmt, does_stmts, ended, first_frame, count_in_all, main_of, number_at, c_run, run_from}
-use Rattle.c_machine.specs.Machine.{looked, filed, names_of, first_values, Task, list, again, back, bottom, State, Next, goes, stops, on, vars_in, frame_in, received, after, with_found, depth_out, caller_state, leave, break_to, continue_to, body_end, spend, callee_state, caller_of, enter, call_found, does_call, returns, act, moved, moves, first_conf, DeclaresTarget, DeclaresStmt, Declares, AllDeclare, IsDeclared}
+use Rattle.c_meaning.specs.Run.{Step, Frame, Setup, Meaning, Numbered, count_in_stmt, count_in, count_of, function_of, find_in, with_var, bound, depth_in, has_room, can_call, condition, less, does_stmt, does_stmts, ran_of, first_frame, count_in_all, main_of, number_at, c_run, run_from}
+use Rattle.c_machine.specs.Machine.{value_under, with_value_under, names_of, first_values, Task, list, again, back, bottom, State, Next, goes, stops, on, vars_in, frame_in, after_receiving, after, with_found, depth_out, caller_state, leave, break_to, continue_to, body_end, spend, callee_state, caller_of, enter, call_found, does_call, returns, act, move_of, moves, first_conf, DeclaresTarget, DeclaresStmt, Declares, AllDeclare, IsDeclared}
 use Rattle.c_machine.proofs.Names.{looked_filed, filed_long, first_looked, first_long, drop_top, take_top}
 use Rattle.c_machine.proofs.Keeping.{KeepsEffect, primitive_keeps, set_keeps, put_keeps}
 
@@ -30,10 +30,10 @@ abbrev pub state_of : Fixed → (below top : List (Option Value)) → World → 
 state_of x below top w = record { slots = below ++ top; base = length below; names = x.names; is_glue = x.is_glue; depth = x.depth; world = w }
 
 abbrev pub frame_of : Fixed → List (Option Value) → Frame
-frame_of x top = record { depth = x.depth; is_glue = x.is_glue; vars = looked x.names top }
+frame_of x top = record { depth = x.depth; is_glue = x.is_glue; vars = value_under x.names top }
 
-vars_here : (x : Fixed) (below top : List (Option Value)) (w : World) → vars_in (state_of x below top w) ≡ looked x.names top
-vars_here x below top w = ap (looked x.names) (drop_top below top)
+vars_here : (x : Fixed) (below top : List (Option Value)) (w : World) → vars_in (state_of x below top w) ≡ value_under x.names top
+vars_here x below top w = ap (value_under x.names) (drop_top below top)
 
 frame_here : (x : Fixed) (below top : List (Option Value)) (w : World) → frame_in (state_of x below top w) ≡ frame_of x top
 frame_here x below top w = ap (λ v. record { depth = x.depth; is_glue = x.is_glue; vars = v }) (vars_here x below top w)
@@ -77,7 +77,7 @@ module _ (r : Setup) where
   pub at_once : (x y : Next) → x ≡ y → Leads x y
   at_once x y e = subst (Leads x) e (here x)
 
-  pub first_move : (ts : List Task) (s : State) (y : Next) → Leads (moved r ts s) y → Leads (on ts s) y
+  pub first_move : (ts : List Task) (s : State) (y : Next) → Leads (move_of r ts s) y → Leads (on ts s) y
   first_move ts s y l = record { on = λ o w e. let k = l.on o w e in record { count = suc k.count; is = k.is } }
 
   pub along : (x y z : Next) → Leads x y → Leads y z → Leads x z
@@ -124,8 +124,8 @@ module _ (r : Setup) where
   led_from (run.leaves a w) x y ts q below n l h = record { fuel = h.fuel; leads = along x y _ l h.leads }
   led_from (run.stops o w) x y ts q below n l h = along x y _ l h
 
-  moved_led : (a : Step) (us : List Task) (s : State) (ts : List Task) (q : Fixed) (below : List (Option Value)) (n : ℕ) → Led a (moved r us s) ts q below n → Led a (on us s) ts q below n
-  moved_led a us s ts q below n h = led_from a (on us s) (moved r us s) ts q below n (first_move us s _ (here _)) h
+  moved_led : (a : Step) (us : List Task) (s : State) (ts : List Task) (q : Fixed) (below : List (Option Value)) (n : ℕ) → Led a (move_of r us s) ts q below n → Led a (on us s) ts q below n
+  moved_led a us s ts q below n h = led_from a (on us s) (move_of r us s) ts q below n (first_move us s _ (here _)) h
 
   -- what comes later
   pub record Sim (k : ℕ) (m : Meaning) : Type 0 where
@@ -171,15 +171,15 @@ module _ (r : Setup) where
 
   -- a value comes to its target
   received_led : (n : ℕ) (target : Option CVar) (a : Option Value) (ts : List Task) (w : World) (q : Fixed) (below top : List (Option Value)) (k : ℕ) → DeclaresTarget q.names target → length top ≡ length q.names → w.fuel ≤ k
-      → Led (run.received n target a (frame_of q top) w) (received n target a ts (state_of q below top w)) ts q below k
+      → Led (run.after_receiving n target a (frame_of q top) w) (after_receiving n target a ts (state_of q below top w)) ts q below k
   received_led n None a ts w q below top k declared long fuel = stays _ w ts q below top k long fuel (here _)
   received_led n (Some v) None ts w q below top k declared long fuel = here _
   received_led n (Some v) (Some a) ts w q below top k declared long fuel = record {
-    top = filed q.names top v a;
+    top = with_value_under q.names top v a;
     is = ap (λ vars. record { depth = q.depth; is_glue = q.is_glue; vars = vars }) (sym (looked_filed q.names top v a declared long));
     long = filed_long q.names top v a long;
     fuel = fuel;
-    leads = at_once _ _ (ap (λ l. on ts (record (state_of q below top w) { slots = l })) (ap (λ l. l ++ filed q.names (drop (length below) (below ++ top)) v a) (take_top below top) ∙ ap (λ l. below ++ filed q.names l v a) (drop_top below top)));
+    leads = at_once _ _ (ap (λ l. on ts (record (state_of q below top w) { slots = l })) (ap (λ l. l ++ with_value_under q.names (drop (length below) (below ++ top)) v a) (take_top below top) ∙ ap (λ l. below ++ with_value_under q.names l v a) (drop_top below top)));
   }
 
   after_led : (n : ℕ) (target : Option CVar) (e : Effect) (ts : List Task) (w : World) (q : Fixed) (below top : List (Option Value)) → DeclaresTarget q.names target → length top ≡ length q.names → KeepsEffect w e
@@ -202,7 +202,7 @@ module _ (r : Setup) where
   leave_same a (again n b ∷ ts) q below top w = leave_same a ts q below top w
   leave_same a (bottom g ∷ ts) q below top w = refl
   leave_same a (back k ∷ ts) q below top w =
-      ap (λ l. received k.n k.target a ts (record { slots = l; base = k.base; names = k.names; is_glue = k.is_glue; depth = depth_out q.is_glue q.depth; world = w })) (take_top below top ∙ sym (take_top below []))
+      ap (λ l. after_receiving k.n k.target a ts (record { slots = l; base = k.base; names = k.names; is_glue = k.is_glue; depth = depth_out q.is_glue q.depth; world = w })) (take_top below top ∙ sym (take_top below []))
 
   -- the caller's state is there again
   caller_back : (n : ℕ) (target : Option CVar) (g : Func) (glue : Bool) (q : Fixed) (below top : List (Option Value)) (w v : World) (values : List (Option Value))
@@ -229,16 +229,16 @@ module _ (r : Setup) where
       next d e = along x _ _ h.leads (first_move (back (caller_of n target g (state_of q below top w)) ∷ ts) callee _ (at_once _ _ (ap (λ y. body_end (count_of r.program) y None (back (caller_of n target g (state_of q below top w)) ∷ ts) callee) e)))
 
       by : (d : CResult) → g.result ≡ d → Led (run.at_end (count_of r.program) n d target (frame_of q top) v) x ts q below k
-      by result.Nothing e = led_from (run.received n target None (frame_of q top) v) x _ ts q below k
-          (along x _ _ (next result.Nothing e) (at_once _ _ (ap (received n target None ts) (caller_back n target g glue q below top w v h.top)))) (received_led n target None ts v q below top k declared long h.fuel)
+      by result.Nothing e = led_from (run.after_receiving n target None (frame_of q top) v) x _ ts q below k
+          (along x _ _ (next result.Nothing e) (at_once _ _ (ap (after_receiving n target None ts) (caller_back n target g glue q below top w v h.top)))) (received_led n target None ts v q below top k declared long h.fuel)
       by result.Number e = next result.Number e
       by result.Reference e = next result.Reference e
   back_led (run.breaks f v) x n target g glue ts q below top w k declared long h = h.leads
   back_led (run.continues f v) x n target g glue ts q below top w k declared long h = h.leads
   back_led (run.stops o v) x n target g glue ts q below top w k declared long h = h
   back_led (run.leaves a v) x n target g glue ts q below top w k declared long h =
-      led_from (run.received n target a (frame_of q top) v) x _ ts q below k
-      (along x _ _ h.leads (at_once _ _ (ap (received n target a ts) (caller_back n target g glue q below top w v [])))) (received_led n target a ts v q below top k declared long h.fuel)
+      led_from (run.after_receiving n target a (frame_of q top) v) x _ ts q below k
+      (along x _ _ h.leads (at_once _ _ (ap (after_receiving n target a ts) (caller_back n target g glue q below top w v [])))) (received_led n target a ts v q below top k declared long h.fuel)
 
   then_done : (a : Step) → run.then_do a (λ f w. run.goes f w) ≡ a
   unfolding run.then_do
@@ -305,7 +305,7 @@ module _ (r : Setup) where
         subst (λ f. Led (run.call_found r m n target glue xs (Some g) (frame_of q top) w) (if can_call glue g.func xs f then with_found n (arg_values xs f.vars) (state_of q below top w) (λ values. enter r n target glue g values ts (state_of q below top w)) else stops (undefined 6 n) w) ts q below w.fuel)
         (sym (frame_here q below top w)) (by (can_call glue g.func xs (frame_of q top)) refl)
       where
-        params : (length g.func.params == length xs) ≡ true → (values : List Value) → arg_values xs (looked q.names top) ≡ Ok values → length g.func.params ≡ length values
+        params : (length g.func.params == length xs) ≡ true → (values : List Value) → arg_values xs (value_under q.names top) ≡ Ok values → length g.func.params ≡ length values
         params e values is = let k = values_long xs _ values is in let j : length g.func.params ≡ length xs = grind (arith, nat_tests) in j ∙ k
 
         left_of : (a b : Bool) → (a && b) ≡ true → a ≡ true
@@ -313,12 +313,12 @@ module _ (r : Setup) where
         left_of false b e = absurd (false≢true e)
 
         by : (t : Bool) → can_call glue g.func xs (frame_of q top) ≡ t
-            → Led (if t then run.with_found n (arg_values xs (looked q.names top)) w (λ values. run.enter r m n target glue g values (frame_of q top) w) else run.stops (undefined 6 n) w)
-            (if t then with_found n (arg_values xs (looked q.names top)) (state_of q below top w) (λ values. enter r n target glue g values ts (state_of q below top w)) else stops (undefined 6 n) w) ts q below w.fuel
+            → Led (if t then run.with_found n (arg_values xs (value_under q.names top)) w (λ values. run.enter r m n target glue g values (frame_of q top) w) else run.stops (undefined 6 n) w)
+            (if t then with_found n (arg_values xs (value_under q.names top)) (state_of q below top w) (λ values. enter r n target glue g values ts (state_of q below top w)) else stops (undefined 6 n) w) ts q below w.fuel
         by false e = here _
-        by true e = found (arg_values xs (looked q.names top)) refl
+        by true e = found (arg_values xs (value_under q.names top)) refl
           where
-            found : (v : Result (List Value) ℕ) → arg_values xs (looked q.names top) ≡ v
+            found : (v : Result (List Value) ℕ) → arg_values xs (value_under q.names top) ≡ v
                 → Led (run.with_found n v w (λ values. run.enter r m n target glue g values (frame_of q top) w)) (with_found n v (state_of q below top w) (λ values. enter r n target glue g values ts (state_of q below top w))) ts q below w.fuel
             found (Err b) is = here _
             found (Ok values) is = enter_led n target glue g values w ts q below top l long declared (bodies g refl) (params (left_of _ _ e) values is)
@@ -327,7 +327,7 @@ module _ (r : Setup) where
         → Led (run.does_call r m n target f (frame_of q top) w) (does_call r n target f ts (state_of q below top w)) ts q below w.fuel
     does_call_led n target (c.primitive p xs) w ts q below top l long declared =
         subst (λ v. Led (run.does_call r m n target (c.primitive p xs) (frame_of q top) w) (after n target (primitive_does r.heap p xs v w) ts (state_of q below top w)) ts q below w.fuel) (sym (vars_here q below top w))
-        (after_led n target (primitive_does r.heap p xs (looked q.names top) w) ts w q below top declared long (primitive_keeps r.heap p xs (looked q.names top) w))
+        (after_led n target (primitive_does r.heap p xs (value_under q.names top) w) ts w q below top declared long (primitive_keeps r.heap p xs (value_under q.names top) w))
     does_call_led n target (c.function f xs) w ts q below top l long declared =
         call_led n target f.glue xs (function_of r.program f) w ts q below top l long declared (λ g is. function_declared declared_program f g is)
 
@@ -335,12 +335,12 @@ module _ (r : Setup) where
     returns_led n None w ts q below top = record { fuel = omega arith; leads = at_once _ _ (leave_same None ts q below top w) }
     returns_led n (Some e) w ts q below top =
         subst (λ v. Led (run.returns n (Some e) (frame_of q top) w) (with_found n (value_of e v w.blocks) (state_of q below top w) (λ a. leave (Some a) ts (state_of q below top w))) ts q below w.fuel) (sym (vars_here q below top w))
-        (found_led n (value_of e (looked q.names top) w.blocks) w (state_of q below top w) _ _ ts q below w.fuel refl (λ a. record { fuel = omega arith; leads = at_once _ _ (leave_same (Some a) ts q below top w) }))
+        (found_led n (value_of e (value_under q.names top) w.blocks) w (state_of q below top w) _ _ ts q below w.fuel refl (λ a. record { fuel = omega arith; leads = at_once _ _ (leave_same (Some a) ts q below top w) }))
 
     -- a turn of a loop
     loop_led : (n : ℕ) (b : Stmts) (w : World) (ts : List Task) (q : Fixed) (below top : List (Option Value)) → w.fuel ≤ k → length top ≡ length q.names → Declares q.names b
         → ((v : World) → v.fuel ≤ k → Led (does_stmts r m (suc n) b (frame_of q top) v) (on (list (suc n) b ∷ again n b ∷ ts) (state_of q below top v)) (again n b ∷ ts) q below v.fuel)
-        → Led (does_stmt r m n (c.loop b) (frame_of q top) w) (moved r (again n b ∷ ts) (state_of q below top w)) ts q below w.fuel
+        → Led (does_stmt r m n (c.loop b) (frame_of q top) w) (move_of r (again n b ∷ ts) (state_of q below top w)) ts q below w.fuel
     unfolding run.spend spend
     loop_led n b w ts q below top l long declared body = by (w.fuel == 0) refl
       where
@@ -359,12 +359,12 @@ module _ (r : Setup) where
           → Led (does_stmt r m n x (frame_of q top) w) (act r n x ts (state_of q below top w)) ts q below w.fuel
       stmt_led n (c.set v e) w ts q below top l long declared =
           subst (λ vars. Led (does_stmt r m n (c.set v e) (frame_of q top) w) (after n (Some v) (set_does e vars w) ts (state_of q below top w)) ts q below w.fuel) (sym (vars_here q below top w))
-          (after_led n (Some v) (set_does e (looked q.names top) w) ts w q below top declared long (set_keeps e (looked q.names top) w))
+          (after_led n (Some v) (set_does e (value_under q.names top) w) ts w q below top declared long (set_keeps e (value_under q.names top) w))
       stmt_led n (c.set_call v f) w ts q below top l long declared = does_call_led n (Some v) f w ts q below top l long declared
       stmt_led n (c.call f) w ts q below top l long declared = does_call_led n None f w ts q below top l long tt
       stmt_led n (c.put x e) w ts q below top l long declared =
           subst (λ vars. Led (does_stmt r m n (c.put x e) (frame_of q top) w) (after n None (put_does x e vars w) ts (state_of q below top w)) ts q below w.fuel) (sym (vars_here q below top w))
-          (after_led n None (put_does x e (looked q.names top) w) ts w q below top tt long (put_keeps x e (looked q.names top) w))
+          (after_led n None (put_does x e (value_under q.names top) w) ts w q below top tt long (put_keeps x e (value_under q.names top) w))
       stmt_led n (c.when e xs) w ts q below top l long declared =
           subst (λ f. Led (does_stmt r m n (c.when e xs) (frame_of q top) w) (with_found n (condition e f w) (state_of q below top w) (λ z. if is_true z then on (list (suc n) xs ∷ ts) (state_of q below top w) else on ts (state_of q below top w))) ts q below w.fuel) (sym (frame_here q below top w))
           (found_led n (condition e (frame_of q top) w) w (state_of q below top w) _ _ ts q below w.fuel refl (λ z. arm (is_true z) (list_led (suc n) xs w ts q below top l long declared)))
@@ -411,7 +411,7 @@ module _ (r : Setup) where
   less_sim declared_program (suc k) = sim_up declared_program k (less r k) (less_sim declared_program k)
 
   -- the end of the run
-  end_is : (a : Step) (g : CResult) (x : Next) (q : Fixed) (k : ℕ) → Led a x (bottom g ∷ []) q [] k → Ends x (ended (count_of r.program) g a).outcome (ended (count_of r.program) g a).world
+  end_is : (a : Step) (g : CResult) (x : Next) (q : Fixed) (k : ℕ) → Led a x (bottom g ∷ []) q [] k → Ends x (ran_of (count_of r.program) g a).outcome (ran_of (count_of r.program) g a).world
   end_is (run.goes f w) result.Nothing x q k h = h.leads.on done w (record { count = 1; is = refl })
   end_is (run.goes f w) result.Number x q k h = h.leads.on (undefined 6 (count_of r.program)) w (record { count = 1; is = refl })
   end_is (run.goes f w) result.Reference x q k h = h.leads.on (undefined 6 (count_of r.program)) w (record { count = 1; is = refl })
@@ -429,7 +429,7 @@ module _ (r : Setup) where
   end_is (run.stops o w) result.Reference x q k h = h.on o w (record { count = 0; is = refl })
 
   abbrev pub main_run : Numbered → World → Ran
-  main_run g w = ended (count_of r.program) g.func.result (does_stmts r (less r w.fuel) g.first g.func.body first_frame w)
+  main_run g w = ran_of (count_of r.program) g.func.result (does_stmts r (less r w.fuel) g.first g.func.body first_frame w)
 
   -- the machine comes to the run's end
   pub machine_runs : IsDeclared r.program → (g : Numbered) (w : World) → Declares (names_of g.func) g.func.body → length g.func.params ≡ 0 → Ends (goes (first_conf g w)) (main_run g w).outcome (main_run g w).world

@@ -12,7 +12,7 @@ use Rattle.c_syntax.specs.C.{Arg, Call, Stmt, Stmts, Func, Program}
 use Rattle.c_meaning.specs.World.{Value}
 use Rattle.c_meaning.specs.Primitives.{Effect, gives, breaks_rule, ends}
 use Rattle.c_meaning.specs.Run.{Setup, Numbered, count_in_stmt, count_in, count_in_all, count_of, find_in, function_of, main_of, number_at, has_room, can_call}
-use Rattle.c_machine.specs.Machine.{Task, list, again, back, bottom, State, Next, goes, stops, vars_in, frame_in, with_world, received, after, with_found, caller_state, leave, break_to, continue_to, body_end, spend, enter, call_found, does_call, act, moved}
+use Rattle.c_machine.specs.Machine.{Task, list, again, back, bottom, State, Next, goes, stops, vars_in, frame_in, with_world, after_receiving, after, with_found, caller_state, leave, break_to, continue_to, body_end, spend, enter, call_found, does_call, act, move_of}
 use Rattle.c_machine.specs.Bounds.{most}
 use Rattle.c_machine.specs.Within.{name_in_stmt, name_of, longest_name, AreWithin, weight, measure, FallsTo}
 use Rattle.c_machine.proofs.Keeping.{KeepsEffect, primitive_keeps, set_keeps, put_keeps}
@@ -54,7 +54,7 @@ module _ (count name : ℕ) where
   less_above a b (goes m) l h = (h.0, (let k = h.1 in omega (arith, l, k)))
   less_above a b (stops o w) l h = tt
 
-  received_falls : (n : ℕ) (target : Option CVar) (a : Option Value) (ts : List Task) (s : State) (above : ℕ) → AreWithin count name ts → measure count s.world.fuel ts < above → FallsTo count name above (received n target a ts s)
+  received_falls : (n : ℕ) (target : Option CVar) (a : Option Value) (ts : List Task) (s : State) (above : ℕ) → AreWithin count name ts → measure count s.world.fuel ts < above → FallsTo count name above (after_receiving n target a ts s)
   received_falls n None a ts s above h l = (h, l)
   received_falls n (Some v) None ts s above h l = tt
   received_falls n (Some v) (Some a) ts s above h l = (h, l)
@@ -166,7 +166,7 @@ module _ (count name : ℕ) where
     pub rest_within : (n : ℕ) (x : Stmt) (rest : Stmts) (ts : List Task) → AreWithin count name (list n (c.next x rest) ∷ ts) → AreWithin count name (list (n + count_in_stmt x) rest ∷ ts)
     rest_within n x rest ts h = ((let k = h.0 in omega (arith, k)), (let k = h.1 in omega (arith, k)), h.2)
 
-    pub moved_falls : (ts : List Task) (s : State) → AreWithin count name ts → FallsTo count name (measure count s.world.fuel ts) (moved r ts s)
+    pub moved_falls : (ts : List Task) (s : State) → AreWithin count name ts → FallsTo count name (measure count s.world.fuel ts) (move_of r ts s)
     unfolding spend
     moved_falls [] s h = tt
     moved_falls (list n c.done ∷ ts) s h = (h.2, omega arith)

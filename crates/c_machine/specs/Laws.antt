@@ -3,7 +3,7 @@ use Rattle.std.specs.Prelude.{◌≡◌, ◌≤◌, ◌+◌, ◌*◌, ℕ, ℤ, 
 use Rattle.c_syntax.specs.C.{Program}
 use Rattle.c_meaning.specs.World.{first_world, Ran}
 use Rattle.c_meaning.specs.Run.{Setup, Numbered, main_of, c_run}
-use Rattle.c_machine.specs.Machine.{Task, State, Next, goes, stops, moved, moves, first_conf, IsDeclared}
+use Rattle.c_machine.specs.Machine.{Task, State, Next, goes, stops, move_of, moves, first_conf, IsDeclared}
 use Rattle.c_machine.specs.Bounds.{sizes_of, tall_of, value_slots, Fits, FitsNext}
 
 -- so many moves lead to the end of the run
@@ -22,7 +22,7 @@ MachineIsTheRun =
 pub record Suffice (r : Setup) (ts : List Task) (s : State) : Type 0 where
   pub tasks : length ts ≤ 2 * r.depth * (tall_of r.program + 1)
   pub slots : length s.slots ≤ r.depth * value_slots r.program
-  pub next : FitsNext (sizes_of r.program) r.depth (moved r ts s)
+  pub next : FitsNext (sizes_of r.program) r.depth (move_of r ts s)
 
 abbrev pub TablesSuffice : Type 0
 TablesSuffice = (r : Setup) (ts : List Task) (s : State) → Fits (sizes_of r.program) r.depth ts s → Suffice r ts s

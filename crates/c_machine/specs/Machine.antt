@@ -14,15 +14,15 @@ use Rattle.c_meaning.specs.Run.{count_in_stmt, count_in, count_of, Numbered, fun
 
 -- ---- the values of a frame, one for each name
 
-abbrev pub looked : List CVar → List (Option Value) → Vars
-looked [] xs u = None
-looked (v ∷ vs) [] u = None
-looked (v ∷ vs) (x ∷ xs) u = if same_variable u v then x else looked vs xs u
+abbrev pub value_under : List CVar → List (Option Value) → Vars
+value_under [] xs u = None
+value_under (v ∷ vs) [] u = None
+value_under (v ∷ vs) (x ∷ xs) u = if same_variable u v then x else value_under vs xs u
 
-abbrev pub filed : List CVar → List (Option Value) → CVar → Value → List (Option Value)
-filed [] xs u a = xs
-filed (v ∷ vs) [] u a = []
-filed (v ∷ vs) (x ∷ xs) u a = if same_variable u v then Some a ∷ xs else x ∷ filed vs xs u a
+abbrev pub with_value_under : List CVar → List (Option Value) → CVar → Value → List (Option Value)
+with_value_under [] xs u a = xs
+with_value_under (v ∷ vs) [] u a = []
+with_value_under (v ∷ vs) (x ∷ xs) u a = if same_variable u v then Some a ∷ xs else x ∷ with_value_under vs xs u a
 
 abbrev pub names_of : Func → List CVar
 names_of f = f.params ++ f.vars
@@ -74,7 +74,7 @@ abbrev pub on : List Task → State → Next
 on ts s = goes (record { tasks = ts; state = s })
 
 abbrev pub vars_in : State → Vars
-vars_in s = looked s.names (drop s.base s.slots)
+vars_in s = value_under s.names (drop s.base s.slots)
 
 abbrev pub frame_in : State → Frame
 frame_in s = record { depth = s.depth; is_glue = s.is_glue; vars = vars_in s }
@@ -83,17 +83,17 @@ abbrev pub with_world : World → State → State
 with_world w s = record s { world = w }
 
 abbrev pub with_slot : CVar → Value → State → State
-with_slot v a s = record s { slots = take s.base s.slots ++ filed s.names (drop s.base s.slots) v a }
+with_slot v a s = record s { slots = take s.base s.slots ++ with_value_under s.names (drop s.base s.slots) v a }
 
 -- ---- moves
 
-abbrev pub received : (n : ℕ) → Option CVar → Option Value → List Task → State → Next
-received n None a ts s = on ts s
-received n (Some v) None ts s = stops (undefined 6 n) s.world
-received n (Some v) (Some a) ts s = on ts (with_slot v a s)
+abbrev pub after_receiving : (n : ℕ) → Option CVar → Option Value → List Task → State → Next
+after_receiving n None a ts s = on ts s
+after_receiving n (Some v) None ts s = stops (undefined 6 n) s.world
+after_receiving n (Some v) (Some a) ts s = on ts (with_slot v a s)
 
 unfoldable pub after : (n : ℕ) → Option CVar → Effect → List Task → State → Next
-after n target (gives a w) ts s = received n target a ts (with_world w s)
+after n target (gives a w) ts s = after_receiving n target a ts (with_world w s)
 after n target (breaks_rule r) ts s = stops (undefined r n) s.world
 after n target (ends o w) ts s = stops o w
 
@@ -120,7 +120,7 @@ abbrev pub leave : Option Value → List Task → State → Next
 leave a [] s = stops done s.world
 leave a (list n ss ∷ ts) s = leave a ts s
 leave a (again n b ∷ ts) s = leave a ts s
-leave a (back k ∷ ts) s = received k.n k.target a ts (caller_state k s)
+leave a (back k ∷ ts) s = after_receiving k.n k.target a ts (caller_state k s)
 leave a (bottom g ∷ ts) s = stops done s.world
 
 abbrev pub break_to : (count : ℕ) → List Task → State → Next
@@ -200,16 +200,16 @@ act r n c.continue ts s = continue_to (count_of r.program) ts s
 act r n (c.return e) ts s = returns n e ts s
 
 -- one move
-abbrev pub moved : Setup → List Task → State → Next
-moved r [] s = stops done s.world
-moved r (list n c.done ∷ ts) s = on ts s
-moved r (list n (c.next x xs) ∷ ts) s = act r n x (list (n + count_in_stmt x) xs ∷ ts) s
-moved r (again n b ∷ ts) s = spend s (λ s. on (list (suc n) b ∷ again n b ∷ ts) s)
-moved r (back k ∷ ts) s = body_end (count_of r.program) k.given None (back k ∷ ts) s
-moved r (bottom g ∷ ts) s = body_end (count_of r.program) g None (bottom g ∷ ts) s
+abbrev pub move_of : Setup → List Task → State → Next
+move_of r [] s = stops done s.world
+move_of r (list n c.done ∷ ts) s = on ts s
+move_of r (list n (c.next x xs) ∷ ts) s = act r n x (list (n + count_in_stmt x) xs ∷ ts) s
+move_of r (again n b ∷ ts) s = spend s (λ s. on (list (suc n) b ∷ again n b ∷ ts) s)
+move_of r (back k ∷ ts) s = body_end (count_of r.program) k.given None (back k ∷ ts) s
+move_of r (bottom g ∷ ts) s = body_end (count_of r.program) g None (bottom g ∷ ts) s
 
 abbrev pub once : Setup → Next → Next
-once r (goes m) = moved r m.tasks m.state
+once r (goes m) = move_of r m.tasks m.state
 once r (stops o w) = stops o w
 
 abbrev pub moves : Setup → ℕ → Next → Next

@@ -16,12 +16,12 @@ Blocks = List (Option Block)
 
 -- ---- what is there
 
-abbrev pub joined : {A : Type 0} → Option (Option A) → Option A
-joined None = None
-joined (Some x) = x
+abbrev pub option_join : {A : Type 0} → Option (Option A) → Option A
+option_join None = None
+option_join (Some x) = x
 
 abbrev pub live_block : Blocks → ℕ → Option Block
-live_block bs n = joined (slice_get bs n)
+live_block bs n = option_join (slice_get bs n)
 
 -- the live block that a reference goes to
 abbrev pub block_at : Blocks → Option ℕ → Option Block
@@ -52,8 +52,8 @@ is_full heap bs = nat_le heap (live_count bs) || nat_le max_made (length bs)
 
 -- ---- changes
 
-abbrev pub changed : ℕ → (Block → Block) → Blocks → Blocks
-changed n change bs = slice_set bs n (option_map change (live_block bs n))
+abbrev pub with_changed_block : ℕ → (Block → Block) → Blocks → Blocks
+with_changed_block n change bs = slice_set bs n (option_map change (live_block bs n))
 
 abbrev pub with_parent : Option ℕ → Block → Block
 with_parent parent b = record b { parent = parent }
@@ -117,12 +117,12 @@ if_there (Some b) go = go b
 abbrev pub write_number : Blocks → Option ℕ → ℕ → ℤ → Result Blocks ℕ
 write_number bs None i z = Err 1
 write_number bs (Some n) i z =
-    if_there (live_block bs n) (λ b. if_within (nat_lt i (length b.numbers)) (changed n (with_number i z) bs))
+    if_there (live_block bs n) (λ b. if_within (nat_lt i (length b.numbers)) (with_changed_block n (with_number i z) bs))
 
 abbrev pub write_reference : Blocks → Option ℕ → ℕ → Option ℕ → Result Blocks ℕ
 write_reference bs None i p = Err 1
 write_reference bs (Some n) i p =
-    if_there (live_block bs n) (λ b. if_within (nat_lt i (length b.references)) (changed n (with_reference i p) bs))
+    if_there (live_block bs n) (λ b. if_within (nat_lt i (length b.references)) (with_changed_block n (with_reference i p) bs))
 
 -- ---- primitives: the blocks after them, or misuse, which is rule 8
 
@@ -135,16 +135,16 @@ abbrev pub is_free : Block → Bool
 is_free b = not b.is_out && not (is_child b)
 
 -- a null child is nothing to own
-abbrev pub owned : Blocks → (child parent : Option ℕ) → Result Blocks ℕ
-owned bs None parent = Ok bs
-owned bs (Some c) None = Err 8
-owned bs (Some c) (Some q) =
+abbrev pub blocks_after_own : Blocks → (child parent : Option ℕ) → Result Blocks ℕ
+blocks_after_own bs None parent = Ok bs
+blocks_after_own bs (Some c) None = Err 8
+blocks_after_own bs (Some c) (Some q) =
     or_8 (passes is_free (live_block bs c) && (not (c == q) && passes (λ b. not (is_child b)) (live_block bs q)))
-    (changed c (with_parent (Some q)) bs)
+    (with_changed_block c (with_parent (Some q)) bs)
 
-abbrev pub disowned : Blocks → (child : Option ℕ) → Result Blocks ℕ
-disowned bs None = Ok bs
-disowned bs (Some c) = or_8 (is_there (live_block bs c)) (changed c (with_parent None) bs)
+abbrev pub blocks_after_disown : Blocks → (child : Option ℕ) → Result Blocks ℕ
+blocks_after_disown bs None = Ok bs
+blocks_after_disown bs (Some c) = or_8 (is_there (live_block bs c)) (with_changed_block c (with_parent None) bs)
 
 abbrev pub some_or_8 : {A : Type 0} → Option A → Result A ℕ
 some_or_8 None = Err 8
@@ -153,16 +153,16 @@ some_or_8 (Some x) = Ok x
 abbrev pub parent_of : Blocks → (child : Option ℕ) → Result ℕ ℕ
 parent_of bs child = some_or_8 (parent_in (block_at bs child))
 
-abbrev pub released : Blocks → Option ℕ → Result Blocks ℕ
-released bs None = Ok bs
-released bs (Some n) = or_8 (passes (λ b. not b.is_out) (live_block bs n)) (without n bs)
+abbrev pub blocks_after_release : Blocks → Option ℕ → Result Blocks ℕ
+blocks_after_release bs None = Ok bs
+blocks_after_release bs (Some n) = or_8 (passes (λ b. not b.is_out) (live_block bs n)) (without n bs)
 
 abbrev pub gone_out : Blocks → Option ℕ → Result Blocks ℕ
 gone_out bs None = Err 8
-gone_out bs (Some n) = or_8 (passes is_free (live_block bs n)) (changed n (with_out true) bs)
+gone_out bs (Some n) = or_8 (passes is_free (live_block bs n)) (with_changed_block n (with_out true) bs)
 
 -- the blocks after the return of one that is out; none where it isn't
 abbrev pub come_back : Blocks → Option ℕ → Result (Option Blocks) ℕ
 come_back bs None = Err 8
 come_back bs (Some n) =
-    Ok (if passes (λ b. b.is_out) (live_block bs n) then Some (changed n (with_out false) bs) else None)
+    Ok (if passes (λ b. b.is_out) (live_block bs n) then Some (with_changed_block n (with_out false) bs) else None)

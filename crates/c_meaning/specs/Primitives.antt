@@ -9,7 +9,7 @@ use Rattle.c_syntax.specs.C as c
 use Rattle.c_syntax.specs.C.{Expr, Arg}
 use Rattle.c_syntax.specs.declared.program.CCell.{CCell}
 use Rattle.c_syntax.specs.declared.program.CCell.TheVariants as cell
-use Rattle.c_meaning.specs.Blocks.{Blocks, new_block, is_full, owned, disowned, parent_of, released, gone_out, come_back, write_number, write_reference}
+use Rattle.c_meaning.specs.Blocks.{Blocks, new_block, is_full, blocks_after_own, blocks_after_disown, parent_of, blocks_after_release, gone_out, come_back, write_number, write_reference}
 use Rattle.c_meaning.specs.World.{Value, number, reference, told_number, told_block, Event, printed, called, idle, calling, reading, Talk, World, Vars, Outcome, trap, heap_end, input_end, answers_end, bad_answer}
 use Rattle.c_meaning.specs.Values.{◌>>=◌, a_number, a_reference, base_in, value_of, arg_value}
 
@@ -199,11 +199,11 @@ begins_named (Some s) w = begins_call s w.talk w
 
 abbrev pub primitive_does : (heap : ℕ) → CPrim → List Arg → Vars → World → Effect
 primitive_does heap prim.New xs vars w = makes_asked heap (asked_cells xs) w
-primitive_does heap prim.Own xs vars w = on_references xs vars (λ p q. with_blocks w (owned w.blocks p q))
-primitive_does heap prim.Disown xs vars w = on_reference xs vars (λ p. with_blocks w (disowned w.blocks p))
+primitive_does heap prim.Own xs vars w = on_references xs vars (λ p q. with_blocks w (blocks_after_own w.blocks p q))
+primitive_does heap prim.Disown xs vars w = on_reference xs vars (λ p. with_blocks w (blocks_after_disown w.blocks p))
 primitive_does heap prim.Parent xs vars w =
     on_reference xs vars (λ p. or_broken (parent_of w.blocks p) (λ n. gives (Some (reference (Some n))) w))
-primitive_does heap prim.Release xs vars w = on_reference xs vars (λ p. with_blocks w (released w.blocks p))
+primitive_does heap prim.Release xs vars w = on_reference xs vars (λ p. with_blocks w (blocks_after_release w.blocks p))
 primitive_does heap prim.Trap xs vars w = on_number xs vars (λ z. traps z w)
 primitive_does heap prim.Print xs vars w = on_number xs vars (λ z. nothing (with_event (printed z) w))
 primitive_does heap prim.Read xs vars w = no_args xs (reads_input w.input w)
@@ -229,10 +229,10 @@ primitive_does heap prim.End xs vars w = no_args xs (ends_answer w.talk w)
 abbrev pub set_does : Expr → Vars → World → Effect
 set_does e vars w = or_broken (value_of e vars w.blocks) (λ a. gives (Some a) w)
 
-abbrev pub written : CCell → Option ℕ → Value → World → Effect
-written (cell.Number p i) b (number z) w = with_blocks w (write_number w.blocks b i z)
-written (cell.Reference p i) b (reference q) w = with_blocks w (write_reference w.blocks b i q)
-written x b a w = breaks_rule 5
+abbrev pub write_effect : CCell → Option ℕ → Value → World → Effect
+write_effect (cell.Number p i) b (number z) w = with_blocks w (write_number w.blocks b i z)
+write_effect (cell.Reference p i) b (reference q) w = with_blocks w (write_reference w.blocks b i q)
+write_effect x b a w = breaks_rule 5
 
 abbrev pub base_of : CCell → ℕ
 base_of (cell.Number p i) = p
@@ -241,4 +241,4 @@ base_of (cell.Reference p i) = p
 -- the `p` variable is read, then the right side, and then the cell is written
 abbrev pub put_does : CCell → Expr → Vars → World → Effect
 put_does x e vars w =
-    or_broken (base_in (base_of x) vars) (λ b. or_broken (value_of e vars w.blocks) (λ a. written x b a w))
+    or_broken (base_in (base_of x) vars) (λ b. or_broken (value_of e vars w.blocks) (λ a. write_effect x b a w))

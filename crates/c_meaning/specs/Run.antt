@@ -73,14 +73,14 @@ abbrev pub with_var : CVar → Value → Frame → Frame
 with_var v a frame = record frame { vars = λ u. if same_variable u v then Some a else frame.vars u }
 
 -- a call that gives nothing is assigned by no program of the kinds
-abbrev pub received : (n : ℕ) → Option CVar → Option Value → Frame → World → Step
-received n None a frame w = goes frame w
-received n (Some v) None frame w = stops (undefined 6 n) w
-received n (Some v) (Some a) frame w = goes (with_var v a frame) w
+abbrev pub after_receiving : (n : ℕ) → Option CVar → Option Value → Frame → World → Step
+after_receiving n None a frame w = goes frame w
+after_receiving n (Some v) None frame w = stops (undefined 6 n) w
+after_receiving n (Some v) (Some a) frame w = goes (with_var v a frame) w
 
 -- n is the number of the statement that runs
 unfoldable pub after : (n : ℕ) → Option CVar → Effect → Frame → World → Step
-after n target (gives a w) frame old = received n target a frame w
+after n target (gives a w) frame old = after_receiving n target a frame w
 after n target (breaks_rule r) frame old = stops (undefined r n) old
 after n target (ends o w) frame old = stops o w
 
@@ -132,7 +132,7 @@ has_room r false depth = nat_lt depth r.depth
 
 -- the end of a body is the end of a function that gives nothing
 abbrev pub at_end : (count : ℕ) → (n : ℕ) → CResult → Option CVar → Frame → World → Step
-at_end count n result.Nothing target frame w = received n target None frame w
+at_end count n result.Nothing target frame w = after_receiving n target None frame w
 at_end count n _ target frame w = stops (undefined 6 count) w
 
 -- the caller goes on; the kinds let no jump leave a body
@@ -140,7 +140,7 @@ unfoldable pub back_in : (count : ℕ) → (n : ℕ) → CResult → Option CVar
 back_in count n given target frame (goes callee w) = at_end count n given target frame w
 back_in count n given target frame (breaks callee w) = stops (undefined 6 count) w
 back_in count n given target frame (continues callee w) = stops (undefined 6 count) w
-back_in count n given target frame (leaves a w) = received n target a frame w
+back_in count n given target frame (leaves a w) = after_receiving n target a frame w
 back_in count n given target frame (stops o w) = stops o w
 
 abbrev pub callee_frame : (glue : Bool) → Func → List Value → Frame → Frame
@@ -217,13 +217,13 @@ less r (suc fuel) = does_stmts r (less r fuel)
 
 -- ---- whole runs
 
-abbrev pub ended : (count : ℕ) → CResult → Step → Ran
-ended count result.Nothing (goes frame w) = record { outcome = done; world = w }
-ended count _ (goes frame w) = record { outcome = undefined 6 count; world = w }
-ended count given (breaks frame w) = record { outcome = undefined 6 count; world = w }
-ended count given (continues frame w) = record { outcome = undefined 6 count; world = w }
-ended count given (leaves a w) = record { outcome = done; world = w }
-ended count given (stops o w) = record { outcome = o; world = w }
+abbrev pub ran_of : (count : ℕ) → CResult → Step → Ran
+ran_of count result.Nothing (goes frame w) = record { outcome = done; world = w }
+ran_of count _ (goes frame w) = record { outcome = undefined 6 count; world = w }
+ran_of count given (breaks frame w) = record { outcome = undefined 6 count; world = w }
+ran_of count given (continues frame w) = record { outcome = undefined 6 count; world = w }
+ran_of count given (leaves a w) = record { outcome = done; world = w }
+ran_of count given (stops o w) = record { outcome = o; world = w }
 
 abbrev pub first_frame : Frame
 first_frame = record { depth = 1; is_glue = false; vars = no_vars }
@@ -232,7 +232,7 @@ abbrev pub run_from : Setup → Option Numbered → World → Ran
 run_from r None w = record { outcome = undefined 6 (count_of r.program); world = w }
 run_from r (Some g) w =
     if r.depth == 0 then record { outcome = depth_end; world = w }
-    else ended (count_of r.program) g.func.result (does_stmts r (less r w.fuel) g.first g.func.body first_frame w)
+    else ran_of (count_of r.program) g.func.result (does_stmts r (less r w.fuel) g.first g.func.body first_frame w)
 
 -- the run of a program within budgets
 abbrev pub c_run : Program → (fuel heap depth : ℕ) → (input : List ℤ) → (answers : List (List ℤ)) → Ran

@@ -65,10 +65,10 @@ truth_of b = do
   Ok (number (bool_number (is_true z)))
 
 -- of the left and the right side; `&&` and `||` ask for the right one only where the left doesn't decide
-abbrev pub combined : Op → ℤ → Result Value ℕ → Result Value ℕ
-combined op.And x b = if is_true x then truth_of b else Ok (number (pos 0))
-combined op.Or x b = if is_true x then Ok (number (pos 1)) else truth_of b
-combined o x b = do
+abbrev pub value_of_both : Op → ℤ → Result Value ℕ → Result Value ℕ
+value_of_both op.And x b = if is_true x then truth_of b else Ok (number (pos 0))
+value_of_both op.Or x b = if is_true x then Ok (number (pos 1)) else truth_of b
+value_of_both o x b = do
   y ← b
   z ← a_number y
   or_rule (applied o x z)
@@ -85,7 +85,7 @@ value_of (c.unary o e) vars bs = do
 value_of (c.binary o a b) vars bs = do
   y ← value_of a vars bs
   x ← a_number y
-  combined o x (value_of b vars bs)
+  value_of_both o x (value_of b vars bs)
 
 -- a text is no value; the kinds let it stand in `vr_call` alone
 abbrev pub arg_value : Arg → Vars → Result Value ℕ

@@ -12,7 +12,7 @@ use Rattle.vlt_rings.specs.Things.{Thing, Things, IsAt, IsLiveAt, IsMadeAt, Keep
 use Rattle.vlt_rings.proofs.Lists.{equal_or_not, get_same, get_other, get_kept, get_last}
 use Rattle.vlt_rings.proofs.Calls.{item_at, kept_new, new_made_at, kept_set, kept_released}
 use Rattle.vlt_rings.proofs.Fresh.{fresh_settled, fresh_holds}
-use Rattle.c_meaning.specs.Blocks.{Block, live_block, joined, changed, new_block, is_full, with_parent, with_out, with_number, with_reference}
+use Rattle.c_meaning.specs.Blocks.{Block, live_block, option_join, with_changed_block, new_block, is_full, with_parent, with_out, with_number, with_reference}
 use Rattle.c_meaning.specs.Blocks as model
 use Rattle.c_memory.specs.declared.cells.Ref.{Ref}
 use Rattle.c_memory.specs.declared.cells.Cell.{Cell}
@@ -148,7 +148,7 @@ same_kept : (ts : Things) → KeepMade ts ts
 same_kept ts c n made = made
 
 pub set_come : (old new : Blocks) (ts : Things) (p : Option Ref) (c i : ℕ) (x : Cell) (change : Block → Block) → IsSound old → Holds old ts → (f : IsFoundAt old ts p c) → i < old.width → OneSet old new (c * old.width + i) x
-    → ((r : Option Ref) → x ≡ Reference r → IsMade ts r) → block_in new f.thing ≡ change (block_in old f.thing) → Come ts new (changed f.number change (blocks_of old ts))
+    → ((r : Option Ref) → x ≡ Reference r → IsMade ts r) → block_in new f.thing ≡ change (block_in old f.thing) → Come ts new (with_changed_block f.number change (blocks_of old ts))
 set_come old new ts p c i x change sound holds f l set ok is = record {
   things = ts;
   holds = record {
@@ -199,12 +199,12 @@ within_of b ts p c holds f = subst (λ d. d < places_in b.places) f.place (place
 
 -- a write within the block
 write_is : (b : Blocks) (ts : Things) (p : Option Ref) (c i : ℕ) (z : ℤ) (f : IsFoundAt b ts p c) → i < (shape_at b.shapes.items c).numbers
-    → model.write_number (blocks_of b ts) (number_of p) i z ≡ Ok (changed f.number (with_number i z) (blocks_of b ts))
+    → model.write_number (blocks_of b ts) (number_of p) i z ≡ Ok (with_changed_block f.number (with_number i z) (blocks_of b ts))
 write_is b ts p c i z f l =
     let here : i < (shape_at b.shapes.items f.thing.place).numbers = subst (λ d. i < (shape_at b.shapes.items d).numbers) (sym f.place) l in
     ap (λ q. model.write_number (blocks_of b ts) q i z) f.is
-    ∙ ap (λ x. model.if_there x (λ y. model.if_within (nat_lt i (length y.numbers)) (changed f.number (with_number i z) (blocks_of b ts)))) (live_at b ts f.number f.thing f.at)
-    ∙ ap (λ t. model.if_within t (changed f.number (with_number i z) (blocks_of b ts))) (ap (nat_lt i) (length_table (shape_at b.shapes.items f.thing.place).numbers _) ∙ is_below i _ here)
+    ∙ ap (λ x. model.if_there x (λ y. model.if_within (nat_lt i (length y.numbers)) (with_changed_block f.number (with_number i z) (blocks_of b ts)))) (live_at b ts f.number f.thing f.at)
+    ∙ ap (λ t. model.if_within t (with_changed_block f.number (with_number i z) (blocks_of b ts))) (ap (nat_lt i) (length_table (shape_at b.shapes.items f.thing.place).numbers _) ∙ is_below i _ here)
 
 pub number_written : (old new : Blocks) (ts : Things) (p : Option Ref) (c i : ℕ) (z : ℤ) → IsSound old → Holds old ts → IsFoundAt old ts p c → i < (shape_at old.shapes.items c).numbers → OneSet old new (c * old.width + i) (Number z)
     → Did ts (Ok tt) (model.write_number (blocks_of old ts) (number_of p) i z) new
@@ -225,16 +225,16 @@ pub number_not_written : (b : Blocks) (ts : Things) (p : Option Ref) (c i : ℕ)
 number_not_written b ts p c i z f l =
     let here : (shape_at b.shapes.items f.thing.place).numbers ≤ i = subst (λ d. (shape_at b.shapes.items d).numbers ≤ i) (sym f.place) l in
     ap (λ q. model.write_number (blocks_of b ts) q i z) f.is
-    ∙ ap (λ x. model.if_there x (λ y. model.if_within (nat_lt i (length y.numbers)) (changed f.number (with_number i z) (blocks_of b ts)))) (live_at b ts f.number f.thing f.at)
-    ∙ ap (λ t. model.if_within t (changed f.number (with_number i z) (blocks_of b ts))) (ap (nat_lt i) (length_table (shape_at b.shapes.items f.thing.place).numbers _) ∙ is_past i _ here)
+    ∙ ap (λ x. model.if_there x (λ y. model.if_within (nat_lt i (length y.numbers)) (with_changed_block f.number (with_number i z) (blocks_of b ts)))) (live_at b ts f.number f.thing f.at)
+    ∙ ap (λ t. model.if_within t (with_changed_block f.number (with_number i z) (blocks_of b ts))) (ap (nat_lt i) (length_table (shape_at b.shapes.items f.thing.place).numbers _) ∙ is_past i _ here)
 
 reference_write_is : (b : Blocks) (ts : Things) (p : Option Ref) (c i : ℕ) (z : Option ℕ) (f : IsFoundAt b ts p c) → i < (shape_at b.shapes.items c).references
-    → model.write_reference (blocks_of b ts) (number_of p) i z ≡ Ok (changed f.number (with_reference i z) (blocks_of b ts))
+    → model.write_reference (blocks_of b ts) (number_of p) i z ≡ Ok (with_changed_block f.number (with_reference i z) (blocks_of b ts))
 reference_write_is b ts p c i z f l =
     let here : i < (shape_at b.shapes.items f.thing.place).references = subst (λ d. i < (shape_at b.shapes.items d).references) (sym f.place) l in
     ap (λ q. model.write_reference (blocks_of b ts) q i z) f.is
-    ∙ ap (λ x. model.if_there x (λ y. model.if_within (nat_lt i (length y.references)) (changed f.number (with_reference i z) (blocks_of b ts)))) (live_at b ts f.number f.thing f.at)
-    ∙ ap (λ t. model.if_within t (changed f.number (with_reference i z) (blocks_of b ts))) (ap (nat_lt i) (length_table (shape_at b.shapes.items f.thing.place).references _) ∙ is_below i _ here)
+    ∙ ap (λ x. model.if_there x (λ y. model.if_within (nat_lt i (length y.references)) (with_changed_block f.number (with_reference i z) (blocks_of b ts)))) (live_at b ts f.number f.thing f.at)
+    ∙ ap (λ t. model.if_within t (with_changed_block f.number (with_reference i z) (blocks_of b ts))) (ap (nat_lt i) (length_table (shape_at b.shapes.items f.thing.place).references _) ∙ is_below i _ here)
 
 pub reference_written : (old new : Blocks) (ts : Things) (p : Option Ref) (c i : ℕ) (r : Option Ref) → IsSound old → Holds old ts → IsMade ts r → IsFoundAt old ts p c → i < (shape_at old.shapes.items c).references
     → OneSet old new (c * old.width + ((shape_at old.shapes.items c).numbers + i)) (Reference r) → Did ts (Ok tt) (model.write_reference (blocks_of old ts) (number_of p) i (number_of r)) new
@@ -255,8 +255,8 @@ pub reference_not_written : (b : Blocks) (ts : Things) (p : Option Ref) (c i : �
 reference_not_written b ts p c i z f l =
     let here : (shape_at b.shapes.items f.thing.place).references ≤ i = subst (λ d. (shape_at b.shapes.items d).references ≤ i) (sym f.place) l in
     ap (λ q. model.write_reference (blocks_of b ts) q i z) f.is
-    ∙ ap (λ x. model.if_there x (λ y. model.if_within (nat_lt i (length y.references)) (changed f.number (with_reference i z) (blocks_of b ts)))) (live_at b ts f.number f.thing f.at)
-    ∙ ap (λ t. model.if_within t (changed f.number (with_reference i z) (blocks_of b ts))) (ap (nat_lt i) (length_table (shape_at b.shapes.items f.thing.place).references _) ∙ is_past i _ here)
+    ∙ ap (λ x. model.if_there x (λ y. model.if_within (nat_lt i (length y.references)) (with_changed_block f.number (with_reference i z) (blocks_of b ts)))) (live_at b ts f.number f.thing f.at)
+    ∙ ap (λ t. model.if_within t (with_changed_block f.number (with_reference i z) (blocks_of b ts))) (ap (nat_lt i) (length_table (shape_at b.shapes.items f.thing.place).references _) ∙ is_past i _ here)
 
 -- ---- primitives
 
@@ -290,7 +290,7 @@ cells_made ts things cells kept made k (Some r) at = kept r.place r.number (made
 
 -- the thing n gets a parent or loses it
 pub parent_come : (old new : Blocks) (ts : Things) (p : Option Ref) (c : ℕ) (f : IsFoundAt old ts p c) (parent : Option ℕ) → SameTables old new → Holds old ts
-    → rings.Holds new.places (slice_set ts f.number (Some (record f.thing { parent = parent }))) → Come ts new (changed f.number (with_parent parent) (blocks_of old ts))
+    → rings.Holds new.places (slice_set ts f.number (Some (record f.thing { parent = parent }))) → Come ts new (with_changed_block f.number (with_parent parent) (blocks_of old ts))
 parent_come old new ts p c f parent same holds now = record {
   things = slice_set ts f.number (Some (record f.thing { parent = parent }));
   holds = record {
@@ -306,15 +306,15 @@ live_found : (b : Blocks) (ts : Things) (p : Option Ref) (c : ℕ) (f : IsFoundA
 live_found b ts p c f test = ap (λ q. model.passes test (model.block_at (blocks_of b ts) q)) (sym f.is)
 
 pub disowned_is : (old new : Blocks) (ts : Things) (p : Option Ref) (c : ℕ) → IsFoundAt old ts p c → SameTables old new → Holds old ts
-    → ((n : ℕ) (t : Thing) → IsAt ts n t → t.place ≡ c → rings.Holds new.places (slice_set ts n (Some (record t { parent = None })))) → Did ts (Ok tt) (model.disowned (blocks_of old ts) (number_of p)) new
+    → ((n : ℕ) (t : Thing) → IsAt ts n t → t.place ≡ c → rings.Holds new.places (slice_set ts n (Some (record t { parent = None })))) → Did ts (Ok tt) (model.blocks_after_disown (blocks_of old ts) (number_of p)) new
 disowned_is old new ts p c f same holds now =
     subst (λ x. Did ts (Ok tt) x new)
-    (sym (ap (model.disowned (blocks_of old ts)) f.is ∙ ap (λ x. model.or_8 (model.is_there x) (changed f.number (with_parent None) (blocks_of old ts))) (live_at old ts f.number f.thing f.at)))
+    (sym (ap (model.blocks_after_disown (blocks_of old ts)) f.is ∙ ap (λ x. model.or_8 (model.is_there x) (with_changed_block f.number (with_parent None) (blocks_of old ts))) (live_at old ts f.number f.thing f.at)))
     (parent_come old new ts p c f None same holds (now f.number f.thing f.at f.place))
 
-pub misused_disown : (b : Blocks) (ts : Things) (p : Option Ref) (n : ℕ) → number_of p ≡ Some n → model.block_at (blocks_of b ts) (number_of p) ≡ None → model.disowned (blocks_of b ts) (number_of p) ≡ Err 8
+pub misused_disown : (b : Blocks) (ts : Things) (p : Option Ref) (n : ℕ) → number_of p ≡ Some n → model.block_at (blocks_of b ts) (number_of p) ≡ None → model.blocks_after_disown (blocks_of b ts) (number_of p) ≡ Err 8
 misused_disown b ts p n is none =
-    ap (model.disowned (blocks_of b ts)) is ∙ ap (λ x. model.or_8 (model.is_there x) (changed n (with_parent None) (blocks_of b ts))) (sym (ap (model.block_at (blocks_of b ts)) is) ∙ none)
+    ap (model.blocks_after_disown (blocks_of b ts)) is ∙ ap (λ x. model.or_8 (model.is_there x) (with_changed_block n (with_parent None) (blocks_of b ts))) (sym (ap (model.block_at (blocks_of b ts)) is) ∙ none)
 
 -- the same place has one number
 same_number : (b : Blocks) (ts : Things) (p q : Option Ref) (c d : ℕ) → Holds b ts → (f : IsFoundAt b ts p c) (g : IsFoundAt b ts q d) → c ≢ d → (f.number == g.number) ≡ false
@@ -336,31 +336,31 @@ one_number b ts p q c d holds f g same = by (equal_or_not f.number g.number)
 
 own_test : (b : Blocks) (ts : Things) (p q : Option Ref) (n m : ℕ) → number_of p ≡ Some n → number_of q ≡ Some m → (x y z : Bool) → model.passes model.is_free (model.block_at (blocks_of b ts) (number_of p)) ≡ x
     → (n == m) ≡ y → model.passes is_root (model.block_at (blocks_of b ts) (number_of q)) ≡ z
-    → model.owned (blocks_of b ts) (number_of p) (number_of q) ≡ model.or_8 (x && (not y && z)) (changed n (with_parent (Some m)) (blocks_of b ts))
+    → model.blocks_after_own (blocks_of b ts) (number_of p) (number_of q) ≡ model.or_8 (x && (not y && z)) (with_changed_block n (with_parent (Some m)) (blocks_of b ts))
 own_test b ts p q n m is_p is_q x y z free same root =
-    ap (λ k. model.owned (blocks_of b ts) k (number_of q)) is_p ∙ ap (model.owned (blocks_of b ts) (Some n)) is_q
-    ∙ ap (λ t. model.or_8 (t && (not (n == m) && model.passes is_root (live_block (blocks_of b ts) m))) (changed n (with_parent (Some m)) (blocks_of b ts)))
+    ap (λ k. model.blocks_after_own (blocks_of b ts) k (number_of q)) is_p ∙ ap (model.blocks_after_own (blocks_of b ts) (Some n)) is_q
+    ∙ ap (λ t. model.or_8 (t && (not (n == m) && model.passes is_root (live_block (blocks_of b ts) m))) (with_changed_block n (with_parent (Some m)) (blocks_of b ts)))
     (ap (λ k. model.passes model.is_free (model.block_at (blocks_of b ts) k)) (sym is_p) ∙ free)
-    ∙ ap (λ t. model.or_8 (x && (not t && model.passes is_root (live_block (blocks_of b ts) m))) (changed n (with_parent (Some m)) (blocks_of b ts))) same
-    ∙ ap (λ t. model.or_8 (x && (not y && t)) (changed n (with_parent (Some m)) (blocks_of b ts)))
+    ∙ ap (λ t. model.or_8 (x && (not t && model.passes is_root (live_block (blocks_of b ts) m))) (with_changed_block n (with_parent (Some m)) (blocks_of b ts))) same
+    ∙ ap (λ t. model.or_8 (x && (not y && t)) (with_changed_block n (with_parent (Some m)) (blocks_of b ts)))
     (ap (λ k. model.passes is_root (model.block_at (blocks_of b ts) k)) (sym is_q) ∙ root)
 
 pub owned_is : (old new : Blocks) (ts : Things) (p q : Option Ref) (c d : ℕ) → IsFoundIf model.is_free old ts p (Some c) → IsFoundIf is_root old ts q (Some d) → c ≢ d → SameTables old new → Holds old ts
     → ((n m : ℕ) (t u : Thing) → IsAt ts n t → t.place ≡ c → IsAt ts m u → u.place ≡ d → rings.Holds new.places (slice_set ts n (Some (record t { parent = Some m }))))
-    → Did ts (Ok tt) (model.owned (blocks_of old ts) (number_of p) (number_of q)) new
+    → Did ts (Ok tt) (model.blocks_after_own (blocks_of old ts) (number_of p) (number_of q)) new
 owned_is old new ts p q c d f g apart same holds now =
     subst (λ x. Did ts (Ok tt) x new) (sym (own_test old ts p q f.0.number g.0.number f.0.is g.0.is true false true f.1 (same_number old ts p q c d holds f.0 g.0 apart) g.1))
     (parent_come old new ts p c f.0 (Some g.0.number) same holds (now f.0.number g.0.number f.0.thing g.0.thing f.0.at f.0.place g.0.at g.0.place))
 
 -- the child can't be owned
-pub misused_child : (b : Blocks) (ts : Things) (p q : Option Ref) (n : ℕ) → number_of p ≡ Some n → model.passes model.is_free (model.block_at (blocks_of b ts) (number_of p)) ≡ false → model.owned (blocks_of b ts) (number_of p) (number_of q) ≡ Err 8
+pub misused_child : (b : Blocks) (ts : Things) (p q : Option Ref) (n : ℕ) → number_of p ≡ Some n → model.passes model.is_free (model.block_at (blocks_of b ts) (number_of p)) ≡ false → model.blocks_after_own (blocks_of b ts) (number_of p) (number_of q) ≡ Err 8
 misused_child b ts p q n is free = by (number_of q) refl
   where
-    by : (m : Option ℕ) → number_of q ≡ m → model.owned (blocks_of b ts) (number_of p) (number_of q) ≡ Err 8
-    by None e = ap (λ k. model.owned (blocks_of b ts) k (number_of q)) is ∙ ap (model.owned (blocks_of b ts) (Some n)) e
+    by : (m : Option ℕ) → number_of q ≡ m → model.blocks_after_own (blocks_of b ts) (number_of p) (number_of q) ≡ Err 8
+    by None e = ap (λ k. model.blocks_after_own (blocks_of b ts) k (number_of q)) is ∙ ap (model.blocks_after_own (blocks_of b ts) (Some n)) e
     by (Some m) e = own_test b ts p q n m is e false (n == m) _ free refl refl
 
-pub misused_parent : (b : Blocks) (ts : Things) (p q : Option Ref) (n : ℕ) → number_of p ≡ Some n → model.passes is_root (model.block_at (blocks_of b ts) (number_of q)) ≡ false → model.owned (blocks_of b ts) (number_of p) (number_of q) ≡ Err 8
+pub misused_parent : (b : Blocks) (ts : Things) (p q : Option Ref) (n : ℕ) → number_of p ≡ Some n → model.passes is_root (model.block_at (blocks_of b ts) (number_of q)) ≡ false → model.blocks_after_own (blocks_of b ts) (number_of p) (number_of q) ≡ Err 8
 misused_parent b ts p q n is root = by (number_of q) refl
   where
     never : (x y : Bool) → (x && (y && false)) ≡ false
@@ -368,13 +368,13 @@ misused_parent b ts p q n is root = by (number_of q) refl
     never true false = refl
     never false y = refl
 
-    by : (m : Option ℕ) → number_of q ≡ m → model.owned (blocks_of b ts) (number_of p) (number_of q) ≡ Err 8
-    by None e = ap (λ k. model.owned (blocks_of b ts) k (number_of q)) is ∙ ap (model.owned (blocks_of b ts) (Some n)) e
-    by (Some m) e = own_test b ts p q n m is e _ (n == m) false refl refl root ∙ ap (λ t. model.or_8 t (changed n (with_parent (Some m)) (blocks_of b ts))) (never _ (not (n == m)))
+    by : (m : Option ℕ) → number_of q ≡ m → model.blocks_after_own (blocks_of b ts) (number_of p) (number_of q) ≡ Err 8
+    by None e = ap (λ k. model.blocks_after_own (blocks_of b ts) k (number_of q)) is ∙ ap (model.blocks_after_own (blocks_of b ts) (Some n)) e
+    by (Some m) e = own_test b ts p q n m is e _ (n == m) false refl refl root ∙ ap (λ t. model.or_8 t (with_changed_block n (with_parent (Some m)) (blocks_of b ts))) (never _ (not (n == m)))
 
-pub misused_self : (b : Blocks) (ts : Things) (p q : Option Ref) (c d : ℕ) → Holds b ts → IsFoundAt b ts p c → IsFoundAt b ts q d → c ≡ d → model.owned (blocks_of b ts) (number_of p) (number_of q) ≡ Err 8
+pub misused_self : (b : Blocks) (ts : Things) (p q : Option Ref) (c d : ℕ) → Holds b ts → IsFoundAt b ts p c → IsFoundAt b ts q d → c ≡ d → model.blocks_after_own (blocks_of b ts) (number_of p) (number_of q) ≡ Err 8
 misused_self b ts p q c d holds f g same =
-    own_test b ts p q f.number g.number f.is g.is _ true _ refl (one_number b ts p q c d holds f g same) refl ∙ ap (λ t. model.or_8 t (changed f.number (with_parent (Some g.number)) (blocks_of b ts))) (never _)
+    own_test b ts p q f.number g.number f.is g.is _ true _ refl (one_number b ts p q c d holds f g same) refl ∙ ap (λ t. model.or_8 t (with_changed_block f.number (with_parent (Some g.number)) (blocks_of b ts))) (never _)
   where
     never : (x : Bool) → (x && false) ≡ false
     never true = refl
@@ -383,10 +383,10 @@ misused_self b ts p q c d holds f g same =
 -- ---- a release
 
 pub released_is : (old new : Blocks) (ts : Things) (p : Option Ref) (c : ℕ) → IsFoundIf is_here old ts p (Some c) → SameTables old new → Holds old ts
-    → ((n : ℕ) (t : Thing) → IsAt ts n t → t.place ≡ c → rings.AreReleased ts n new.places) → Did ts (Ok tt) (model.released (blocks_of old ts) (number_of p)) new
+    → ((n : ℕ) (t : Thing) → IsAt ts n t → t.place ≡ c → rings.AreReleased ts n new.places) → Did ts (Ok tt) (model.blocks_after_release (blocks_of old ts) (number_of p)) new
 released_is old new ts p c f same holds now =
     subst (λ x. Did ts (Ok tt) x new)
-    (sym (ap (model.released (blocks_of old ts)) f.0.is ∙ ap (λ t. model.or_8 t (model.without f.0.number (blocks_of old ts))) (live_found old ts p c f.0 is_here ∙ f.1)))
+    (sym (ap (model.blocks_after_release (blocks_of old ts)) f.0.is ∙ ap (λ t. model.or_8 t (model.without f.0.number (blocks_of old ts))) (live_found old ts p c f.0 is_here ∙ f.1)))
     (record {
       things = r.things;
       holds = record { holds = r.holds; made = subst (λ l. AreMade r.things l.items) (sym same.cells) (cells_made ts r.things old.cells.items (kept_released ts f.0.number new.places r) holds.made) };
@@ -406,13 +406,13 @@ released_is old new ts p c f same holds now =
     each k x at = r.each k x at ∙ ap (λ i. Some (if is_at_or_below (rings.parents_of ts) (f.0.number ∷ []) i then None else x)) (omega arith)
         ∙ ap (λ l. Some (if is_at_or_below l (f.0.number ∷ []) (0 + k) then None else x)) (sym (parents_shown old ts))
 
-pub misused_release : (b : Blocks) (ts : Things) (p : Option Ref) (n : ℕ) → number_of p ≡ Some n → model.passes is_here (model.block_at (blocks_of b ts) (number_of p)) ≡ false → model.released (blocks_of b ts) (number_of p) ≡ Err 8
+pub misused_release : (b : Blocks) (ts : Things) (p : Option Ref) (n : ℕ) → number_of p ≡ Some n → model.passes is_here (model.block_at (blocks_of b ts) (number_of p)) ≡ false → model.blocks_after_release (blocks_of b ts) (number_of p) ≡ Err 8
 misused_release b ts p n is here =
-    ap (model.released (blocks_of b ts)) is ∙ ap (λ t. model.or_8 t (model.without n (blocks_of b ts))) (sym (ap (λ q. model.passes is_here (model.block_at (blocks_of b ts) q)) is) ∙ here)
+    ap (model.blocks_after_release (blocks_of b ts)) is ∙ ap (λ t. model.or_8 t (model.without n (blocks_of b ts))) (sym (ap (λ q. model.passes is_here (model.block_at (blocks_of b ts) q)) is) ∙ here)
 
 -- ---- out and back
 
-out_come : (old new : Blocks) (ts : Things) (p : Option Ref) (c : ℕ) (mark : Bool) (f : IsFoundAt old ts p c) → IsSound old → Holds old ts → IsOutSet c mark old new → Come ts new (changed f.number (with_out mark) (blocks_of old ts))
+out_come : (old new : Blocks) (ts : Things) (p : Option Ref) (c : ℕ) (mark : Bool) (f : IsFoundAt old ts p c) → IsSound old → Holds old ts → IsOutSet c mark old new → Come ts new (with_changed_block f.number (with_out mark) (blocks_of old ts))
 out_come old new ts p c mark f sound holds set = record {
   things = ts;
   holds = record { holds = subst (λ h. rings.Holds h ts) (sym set.others.0) holds.holds; made = subst (λ l. AreMade ts l.items) (sym set.others.1) holds.made };
@@ -440,7 +440,7 @@ out_come old new ts p c mark f sound holds set = record {
 pub out_is : (old new : Blocks) (ts : Things) (p : Option Ref) (c : ℕ) → IsFoundIf model.is_free old ts p (Some c) → IsSound old → Holds old ts → IsOutSet c true old new → Did ts (Ok tt) (model.gone_out (blocks_of old ts) (number_of p)) new
 out_is old new ts p c f sound holds set =
     subst (λ x. Did ts (Ok tt) x new)
-    (sym (ap (model.gone_out (blocks_of old ts)) f.0.is ∙ ap (λ t. model.or_8 t (changed f.0.number (with_out true) (blocks_of old ts))) (live_found old ts p c f.0 model.is_free ∙ f.1)))
+    (sym (ap (model.gone_out (blocks_of old ts)) f.0.is ∙ ap (λ t. model.or_8 t (with_changed_block f.0.number (with_out true) (blocks_of old ts))) (live_found old ts p c f.0 model.is_free ∙ f.1)))
     (out_come old new ts p c true f.0 sound holds set)
 
 pub misused_out : (b : Blocks) (ts : Things) (p : Option Ref) → model.passes model.is_free (model.block_at (blocks_of b ts) (number_of p)) ≡ false → model.gone_out (blocks_of b ts) (number_of p) ≡ Err 8
@@ -448,17 +448,17 @@ misused_out b ts p free = by (number_of p) refl
   where
     by : (n : Option ℕ) → number_of p ≡ n → model.gone_out (blocks_of b ts) (number_of p) ≡ Err 8
     by None e = ap (model.gone_out (blocks_of b ts)) e
-    by (Some n) e = ap (model.gone_out (blocks_of b ts)) e ∙ ap (λ t. model.or_8 t (changed n (with_out true) (blocks_of b ts))) (sym (ap (λ q. model.passes model.is_free (model.block_at (blocks_of b ts) q)) e) ∙ free)
+    by (Some n) e = ap (model.gone_out (blocks_of b ts)) e ∙ ap (λ t. model.or_8 t (with_changed_block n (with_out true) (blocks_of b ts))) (sym (ap (λ q. model.passes model.is_free (model.block_at (blocks_of b ts) q)) e) ∙ free)
 
 pub back_is : (old new : Blocks) (ts : Things) (p : Option Ref) (c : ℕ) → IsFoundIf is_out old ts p (Some c) → IsSound old → Holds old ts → IsOutSet c false old new → DidBack ts (Ok true) (model.come_back (blocks_of old ts) (number_of p)) old new
 back_is old new ts p c f sound holds set =
     subst (λ x. DidBack ts (Ok true) x old new)
-    (sym (ap (model.come_back (blocks_of old ts)) f.0.is ∙ ap (λ t. Ok (if t then Some (changed f.0.number (with_out false) (blocks_of old ts)) else None)) (live_found old ts p c f.0 is_out ∙ f.1)))
+    (sym (ap (model.come_back (blocks_of old ts)) f.0.is ∙ ap (λ t. Ok (if t then Some (with_changed_block f.0.number (with_out false) (blocks_of old ts)) else None)) (live_found old ts p c f.0 is_out ∙ f.1)))
     (out_come old new ts p c false f.0 sound holds set)
 
 pub not_out : (b : Blocks) (ts : Things) (p : Option Ref) (n : ℕ) → number_of p ≡ Some n → model.passes is_out (model.block_at (blocks_of b ts) (number_of p)) ≡ false → model.come_back (blocks_of b ts) (number_of p) ≡ Ok None
 not_out b ts p n is out =
-    ap (model.come_back (blocks_of b ts)) is ∙ ap (λ t. Ok (if t then Some (changed n (with_out false) (blocks_of b ts)) else None)) (sym (ap (λ q. model.passes is_out (model.block_at (blocks_of b ts) q)) is) ∙ out)
+    ap (model.come_back (blocks_of b ts)) is ∙ ap (λ t. Ok (if t then Some (with_changed_block n (with_out false) (blocks_of b ts)) else None)) (sym (ap (λ q. model.passes is_out (model.block_at (blocks_of b ts) q)) is) ∙ out)
 
 pub sound_out : (old new : Blocks) (c : ℕ) (mark : Bool) → IsSound old → IsLiveAt old.places c → IsOutSet c mark old new → IsSound new
 sound_out old new c mark sound live set = record {

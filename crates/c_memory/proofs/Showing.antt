@@ -7,7 +7,7 @@ use Rattle.std.proofs.lemmas.List.Sums.{sum_by-cons}
 use Rattle.vlt_rings.specs.declared.places.Places.{Places}
 use Rattle.vlt_rings.specs.Things as rings
 use Rattle.vlt_rings.specs.Things.{Thing, Things, IsAt, IsMadeAt, count_things}
-use Rattle.c_meaning.specs.Blocks.{Block, live_block, joined, live_count, without_from, without, changed, parent_in}
+use Rattle.c_meaning.specs.Blocks.{Block, live_block, option_join, live_count, without_from, without, with_changed_block, parent_in}
 use Rattle.c_meaning.specs.Blocks as model
 use Rattle.c_memory.specs.declared.cells.Ref.{Ref}
 use Rattle.c_memory.specs.declared.cells.Cell.{Cell}
@@ -22,10 +22,10 @@ pub shown_at : (b : Blocks) (ts : Things) (n : ℕ) (x : Option Thing) → slice
 shown_at b ts n x at = slice_get-map (option_map (block_in b)) ts n ∙ ap (option_map (option_map (block_in b))) at
 
 pub live_at : (b : Blocks) (ts : Things) (n : ℕ) (t : Thing) → IsAt ts n t → live_block (blocks_of b ts) n ≡ Some (block_in b t)
-live_at b ts n t at = ap joined (shown_at b ts n (Some t) at)
+live_at b ts n t at = ap option_join (shown_at b ts n (Some t) at)
 
 pub gone_at : (b : Blocks) (ts : Things) (n : ℕ) → slice_get ts n ≡ Some None → live_block (blocks_of b ts) n ≡ None
-gone_at b ts n at = ap joined (shown_at b ts n None at)
+gone_at b ts n at = ap option_join (shown_at b ts n None at)
 
 pub found_live : (b : Blocks) (ts : Things) (p : Option Ref) (c : ℕ) (f : IsFoundAt b ts p c) → model.block_at (blocks_of b ts) (number_of p) ≡ Some (block_in b f.thing)
 found_live b ts p c f = ap (model.block_at (blocks_of b ts)) f.is ∙ live_at b ts f.number f.thing f.at
@@ -60,13 +60,13 @@ set_back (x ∷ xs) (suc n) y at = ap (λ l. x ∷ l) (set_back xs n y at)
 
 -- the thing n is u now
 pub thing_changed : (old new : Blocks) (ts : Things) (n : ℕ) (t u : Thing) (change : Block → Block) → IsAt ts n t → block_in new u ≡ change (block_in old t) → ((k : ℕ) (v : Thing) → IsAt ts k v → k ≢ n → block_in new v ≡ block_in old v)
-    → blocks_of new (slice_set ts n (Some u)) ≡ changed n change (blocks_of old ts)
+    → blocks_of new (slice_set ts n (Some u)) ≡ with_changed_block n change (blocks_of old ts)
 thing_changed old new ts n t u change at is others =
     map_changed (block_in old) (block_in new) ts n t u _ at (ap (λ z. Some z) is ∙ ap (option_map change) (sym (live_at old ts n t at))) others
 
 -- what is shown of the thing n is changed
 pub block_changed : (old new : Blocks) (ts : Things) (n : ℕ) (t : Thing) (change : Block → Block) → IsAt ts n t → block_in new t ≡ change (block_in old t) → ((k : ℕ) (v : Thing) → IsAt ts k v → k ≢ n → block_in new v ≡ block_in old v)
-    → blocks_of new ts ≡ changed n change (blocks_of old ts)
+    → blocks_of new ts ≡ with_changed_block n change (blocks_of old ts)
 block_changed old new ts n t change at is others =
     ap (blocks_of new) (sym (set_back ts n (Some t) at)) ∙ thing_changed old new ts n t t change at is others
 

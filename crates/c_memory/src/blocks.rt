@@ -4,7 +4,7 @@ ghost use Rattle.std.specs.Prelude.{◌≡◌, ◌≢◌, ◌<◌, ◌≤◌, �
 ghost use Rattle.vlt_rings.specs.Places.{IsSettled};
 ghost use Rattle.vlt_rings.specs.Things.{Thing, Things, IsAt, IsLiveAt};
 ghost use Rattle.vlt_rings.specs.Things as rings;
-ghost use Rattle.c_meaning.specs.Blocks.{is_there, is_free, owned, disowned, parent_of, released, gone_out, come_back, read_number, read_reference, write_number, write_reference};
+ghost use Rattle.c_meaning.specs.Blocks.{is_there, is_free, blocks_after_own, blocks_after_disown, parent_of, blocks_after_release, gone_out, come_back, read_number, read_reference, write_number, write_reference};
 
 use crate::cells::{Cell, Ref, Shape, at, clear, grow_to, put, put_shape};
 use std::alloc::Global;
@@ -309,7 +309,7 @@ impl Blocks {
     pub fn own(&mut self, child: Option<Ref>, parent: Option<Ref>) -> Result<(), u8>
         requires sound { IsSound self.old }
         ensures did { (ts : Things) → Holds self.old ts → IsMade ts child → IsMade ts parent
-            → Did ts result (owned (blocks_of self.old ts) (number_of child) (number_of parent)) self.new }
+            → Did ts result (blocks_after_own (blocks_of self.old ts) (number_of child) (number_of parent)) self.new }
         ensures same { OnErr result (self.new ≡ self.old) }
         ensures heap { heap_of self.new ≡ heap_of self.old }
         ensures cells { cells_of self.new ≡ cells_of self.old }
@@ -339,7 +339,7 @@ impl Blocks {
     pub fn disown(&mut self, child: Option<Ref>) -> Result<(), u8>
         requires sound { IsSound self.old }
         ensures did { (ts : Things) → Holds self.old ts → IsMade ts child →
-            Did ts result (disowned (blocks_of self.old ts) (number_of child)) self.new }
+            Did ts result (blocks_after_disown (blocks_of self.old ts) (number_of child)) self.new }
         ensures same { OnErr result (self.new ≡ self.old) }
         ensures heap { heap_of self.new ≡ heap_of self.old }
         ensures cells { cells_of self.new ≡ cells_of self.old }
@@ -382,7 +382,7 @@ impl Blocks {
     pub fn release(&mut self, p: Option<Ref>) -> Result<(), u8>
         requires sound { IsSound self.old }
         ensures did { (ts : Things) → Holds self.old ts → IsMade ts p →
-            Did ts result (released (blocks_of self.old ts) (number_of p)) self.new }
+            Did ts result (blocks_after_release (blocks_of self.old ts) (number_of p)) self.new }
         ensures same { OnErr result (self.new ≡ self.old) }
         ensures heap { heap_of self.new ≡ heap_of self.old }
         ensures cells { cells_of self.new ≡ cells_of self.old }

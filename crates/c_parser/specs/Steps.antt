@@ -1,7 +1,7 @@
 -- What one step of reading finds. Only private contracts cite this.
 use Rattle.std.specs.Prelude.{◌≡◌, ℕ, Bool, List, ◌∷◌, ◌++◌}
 use Rattle.c_syntax.specs.Tokens as t
-use Rattle.c_syntax.specs.Text.{Lexeme, AreTokensOf, fixed, is_blank, is_run_byte, piece, Piece}
+use Rattle.c_syntax.specs.Text.{Lexeme, AreTokensOf, fixed_piece, is_blank, is_run_byte, piece, Piece}
 use Rattle.c_parser.specs.declared.lex.Class.{Class}
 use Rattle.c_parser.specs.declared.lex.Class.TheVariants as class
 use Rattle.c_parser.specs.declared.lex.Mark.{Mark}
@@ -29,9 +29,9 @@ abbrev pub IsPiece : List ℕ → t.Token → List ℕ → Type 0
 IsPiece bytes token after = IsFirst piece bytes token after
 
 abbrev pub first_piece : First → ℕ → List ℕ → Piece
-first_piece first.Include = fixed t.include
-first_piece first.LineEnd = fixed t.line_end
-first_piece first.Define = fixed t.define
+first_piece first.Include = fixed_piece t.include
+first_piece first.LineEnd = fixed_piece t.line_end
+first_piece first.Define = fixed_piece t.define
 first_piece first.Number = piece
 
 -- behind these tokens stand those of the rest of a text of so many bytes

@@ -2,7 +2,7 @@
 
 ghost use Rattle.std.specs.Prelude.{◌≡◌, ◌≤◌, ◌<◌, ◌+◌, ◌^◌, ◌-◌, ℕ, List, [], ◌∷◌, length, map, MatchOption, Some, None, IfOk, IfSome, OnOk};
 ghost use Rattle.c_syntax.specs.Tokens as t;
-ghost use Rattle.c_syntax.specs.Text.{before_mark, begun, behind, fixed, is_blank, is_digit, is_run_byte, max_number, named, number_of, named_token, Piece, past_run, piece, prim_of, quoted, run, run_token, signed, spelled, with_digit, word_of, digits_after, IsTokensOf, is_text_name};
+ghost use Rattle.c_syntax.specs.Text.{before_mark, first_beginning, behind, fixed_piece, is_blank, is_digit, is_run_byte, max_number, letter_token, number_of, named_token, Piece, past_run, piece, prim_of, quoted_piece, run, run_token, sign_piece, item_with_text, with_digit, word_of, digits_after, IsTokensOf, is_text_name};
 ghost use Rattle.c_syntax.specs.Tokens.{prim_text, word_text, token_text};
 ghost use Rattle.c_parser.specs.View.{token_of, lexemes_of};
 ghost use Rattle.c_parser.specs.Steps.{mark_token, is_in, AreOthers, IsFirst, IsPiece, first_piece};
@@ -175,7 +175,7 @@ fn number(run: &[u8]) -> Option<u64>
 
 /// What a letter with a number is.
 fn named<'a>(letter: u8, number: u64) -> Token<'a>
-    ensures { token_of result ≡ named letter number }
+    ensures { token_of result ≡ letter_token letter number }
 {
     match letter {
         b'n' => Token::Var(CVar {
@@ -197,7 +197,7 @@ fn named<'a>(letter: u8, number: u64) -> Token<'a>
 
 /// The first of the words that is spelled so.
 fn first_word(words: &[CWord], run: &[u8]) -> Option<CWord>
-    ensures { result ≡ spelled word_text words.now run.now }
+    ensures { result ≡ item_with_text word_text words.now run.now }
 {
     for &word in words {
         if word.text().as_bytes() == run {
@@ -209,7 +209,7 @@ fn first_word(words: &[CWord], run: &[u8]) -> Option<CWord>
 
 /// The first of the primitives that is spelled so.
 fn first_primitive(primitives: &[CPrim], run: &[u8]) -> Option<CPrim>
-    ensures { result ≡ spelled prim_text primitives.now run.now }
+    ensures { result ≡ item_with_text prim_text primitives.now run.now }
 {
     for &primitive in primitives {
         if primitive.text().as_bytes() == run {
@@ -274,8 +274,8 @@ fn is_text_name(run: &[u8]) -> bool
 
 /// The token that begins with a quote, behind which this text stands, and what stands behind it.
 fn quoted(text: &[u8]) -> (Token<'_>, &[u8])
-    ensures token { token_of result.0 ≡ (quoted text.now).0 }
-    ensures rest { result.1.now ≡ (quoted text.now).1 }
+    ensures token { token_of result.0 ≡ (quoted_piece text.now).0 }
+    ensures rest { result.1.now ≡ (quoted_piece text.now).1 }
     ensures no_longer { length result.1.now ≤ length text.now }
 {
     let name = run_at(text);
@@ -294,8 +294,8 @@ fn quoted(text: &[u8]) -> (Token<'_>, &[u8])
 /// The first of the signs that begins the text, and what stands behind it.
 fn first_mark<'a>(marks: &[Mark], text: &'a [u8]) -> Option<(Mark, &'a [u8])>
     ensures mark { MatchOption result ((other : Piece) →
-        begun (map mark_token marks.now) text.now other ≡ other) (λ x. (other : Piece) →
-        begun (map mark_token marks.now) text.now other ≡ (mark_token x.0, x.1.now)) }
+        first_beginning (map mark_token marks.now) text.now other ≡ other) (λ x. (other : Piece) →
+        first_beginning (map mark_token marks.now) text.now other ≡ (mark_token x.0, x.1.now)) }
     ensures shorter { IfSome result (λ x. length x.1.now < length text.now) }
 {
     for &mark in marks {
@@ -307,11 +307,11 @@ fn first_mark<'a>(marks: &[Mark], text: &'a [u8]) -> Option<(Mark, &'a [u8])>
 }
 
 /// The sign at the front of a text, and what stands behind it.
-#[tactic(auto, unfolding(c_syntax::specs::Text::signed))]
+#[tactic(auto, unfolding(c_syntax::specs::Text::sign_piece))]
 fn signed<'a>(text: &'a [u8], after: &'a [u8]) -> (Token<'a>, &'a [u8])
     requires { length after.now < length text.now }
-    ensures token { token_of result.0 ≡ (signed text.now after.now).0 }
-    ensures rest { result.1.now ≡ (signed text.now after.now).1 }
+    ensures token { token_of result.0 ≡ (sign_piece text.now after.now).0 }
+    ensures rest { result.1.now ≡ (sign_piece text.now after.now).1 }
     ensures shorter { length result.1.now < length text.now }
 {
     match first_mark(&Mark::ALL, text) {
@@ -374,7 +374,7 @@ fn fixed<'a>(text: &'a [u8], front: &[u8], token: Token<'a>) -> Option<(Token<'a
     requires spelled { front.now ≡ token_text (token_of token) }
     requires some { 0 < length front.now }
     ensures piece { MatchOption result (text.now ≡ [])
-        (λ x. IsFirst (fixed (token_of token.entry)) text.now (token_of x.0) x.1.now) }
+        (λ x. IsFirst (fixed_piece (token_of token.entry)) text.now (token_of x.0) x.1.now) }
     ensures shorter { IfSome result (λ x. length x.1.now < length text.now) }
 {
     let (_, after) = text.split_first()?;

@@ -6,7 +6,7 @@ use Rattle.c_syntax.specs.C.{Expr}
 use Rattle.c_meaning.specs.World as model
 use Rattle.c_meaning.specs.World.{Vars}
 use Rattle.c_meaning.specs.Values.{value_of, base_in}
-use Rattle.c_meaning.specs.Primitives.{Effect, breaks_rule, or_broken, set_does, put_does, base_of, written}
+use Rattle.c_meaning.specs.Primitives.{Effect, breaks_rule, or_broken, set_does, put_does, base_of, write_effect}
 use Rattle.c_memory.specs.declared.cells.Ref.{Ref}
 use Rattle.c_memory.specs.Shown.{number_of, IsMade, blocks_of}
 use Rattle.c_values.specs.declared.value.Value.{Value}
@@ -55,7 +55,7 @@ module _ (ts : Things) (s : World) (w : model.World) (b : Outside) (e : Expr) (v
       by (Err rule) k = absurd k
 
   pub put_come : (t : World) (out : Result (Option Value) Halt) (x : CCell) (q : Result (Option Ref) ℕ) (p : Option Ref) (a : Value) → Shows s ts w → q ≡ Ok p → IsReference ts q (base_in (base_of x) vs) → r ≡ Ok a → IsValue ts r (value_of e vs (blocks_of s.blocks ts))
-      → (IsMade ts p → IsMadeValue ts a → Comes ts t w b b out (written x (number_of p) (value_view a) w)) → Comes ts t w b b out (put_does x e vs w)
+      → (IsMade ts p → IsMadeValue ts a → Comes ts t w b b out (write_effect x (number_of p) (value_view a) w)) → Comes ts t w b b out (put_does x e vs w)
   put_come t out x q p a h is are is_value are_value c = base_come t out x q p _ is are (λ m. value_come t out a _ h is_value are_value (λ n. c m n))
 
   pub put_value_breaks : (x : CCell) (q : Result (Option Ref) ℕ) (p : Option Ref) (rule : ℕ) → Shows s ts w → q ≡ Ok p → IsReference ts q (base_in (base_of x) vs) → r ≡ Err rule → IsValue ts r (value_of e vs (blocks_of s.blocks ts)) → Comes ts s w b b (Err (Broken rule)) (put_does x e vs w)
@@ -65,6 +65,6 @@ pub put_base_breaks : (ts : Things) (s : World) (w : model.World) (b : Outside) 
 unfolding or_broken
 put_base_breaks ts s w b e vs x q rule h is are = by (base_in (base_of x) vs) (subst (λ y. IsReference ts y (base_in (base_of x) vs)) is are)
   where
-    by : (m : Result (Option ℕ) ℕ) → IsReference ts (Err rule) m → Comes ts s w b b (Err (Broken rule)) (or_broken m (λ p. or_broken (value_of e vs w.blocks) (λ a. written x p a w)))
+    by : (m : Result (Option ℕ) ℕ) → IsReference ts (Err rule) m → Comes ts s w b b (Err (Broken rule)) (or_broken m (λ p. or_broken (value_of e vs w.blocks) (λ a. write_effect x p a w)))
     by (Ok n) k = absurd k
     by (Err y) k = subst (λ z. Comes ts s w b b (Err (Broken rule)) (breaks_rule z)) k (breaks ts s w b rule h)

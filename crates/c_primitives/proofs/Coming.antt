@@ -26,7 +26,7 @@ use Rattle.c_primitives.specs.Args.{is_none, one_number, one_reference, two_numb
 use Rattle.c_primitives.specs.declared.world.Talk.{Talk}
 use Rattle.c_primitives.specs.declared.world.Talk.TheVariants.{Idle, Calling, Reading}
 use Rattle.c_primitives.specs.Taking.{IsReading}
-use Rattle.c_primitives.specs.Done.{done_as, parent_as, back_as, trapped, is_reading}
+use Rattle.c_primitives.specs.Done.{done_as, parent_as, back_as, halt_of_trap, is_reading}
 use Rattle.c_primitives.specs.Shown.{Shows, TalkShows, IsReady, KeepsRoom, Comes}
 use Rattle.c_primitives.specs.Stops.{Wrote}
 use Rattle.vlt_steps.specs.Writing.{Outside}
@@ -255,7 +255,7 @@ unfolding no_args
 none_breaks ts s w b [] e h n = absurd (false≢true (sym n))
 none_breaks ts s w b (x ∷ xs) e h n = breaks ts s w b 8 h
 
-pub trap_come : (ts : Things) (s : World) (w : model.World) (b : Outside) (z : ℤ) (out : Halt) → Shows s ts w → out ≡ trapped z → Comes ts s w b b (Err out) (traps z w)
+pub trap_come : (ts : Things) (s : World) (w : model.World) (b : Outside) (z : ℤ) (out : Halt) → Shows s ts w → out ≡ halt_of_trap z → Comes ts s w b b (Err out) (traps z w)
 trap_come ts s w b z out h is = rw is (by (equals z (pos 1)) (equals z (pos 2)))
   where
     by : (x y : Bool) → Comes ts s w b b (Err (if x then Stopped (Trap Overflow) else if y then Stopped (Trap ZeroDivisor) else Broken 8)) (if x then ends (model.trap Overflow) w else if y then ends (model.trap ZeroDivisor) w else breaks_rule 8)

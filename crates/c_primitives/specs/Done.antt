@@ -36,8 +36,8 @@ abbrev pub reference_as : Option (Option Ref) → Result (Option Value) Halt
 reference_as (Some p) = Ok (Some (Reference p))
 reference_as None = Err (Broken 7)
 
-abbrev pub trapped : ℤ → Halt
-trapped z =
+abbrev pub halt_of_trap : ℤ → Halt
+halt_of_trap z =
     if equals z (pos 1) then Stopped (Trap Overflow)
     else if equals z (pos 2) then Stopped (Trap ZeroDivisor)
     else Broken 8

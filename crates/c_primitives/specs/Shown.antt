@@ -9,7 +9,7 @@ use Rattle.c_syntax.specs.C as c
 use Rattle.c_syntax.specs.C.{Arg}
 use Rattle.c_meaning.specs.World as model
 use Rattle.c_meaning.specs.World.{Vars, Told, told_text}
-use Rattle.c_meaning.specs.Primitives.{Effect, gives, breaks_rule, ends, written}
+use Rattle.c_meaning.specs.Primitives.{Effect, gives, breaks_rule, ends, write_effect}
 use Rattle.c_machine.specs.Bounds.{cells_in_call}
 use Rattle.c_machine.specs.Within.{name_in_call}
 use Rattle.c_memory.specs.declared.cells.Ref.{Ref}
@@ -130,4 +130,4 @@ pub record DoesWrite (x : CCell) (p : Option Ref) (a : Value) (old new : World) 
   pub ready : IsReady new
   pub room : KeepsRoom old new
   pub comes : (b : Outside) (ts : Things) (w : model.World) → Shows old ts w → IsMade ts p → IsMadeValue ts a
-      → Comes ts new w b b result (written x (number_of p) (value_view a) w)
+      → Comes ts new w b b result (write_effect x (number_of p) (value_view a) w)

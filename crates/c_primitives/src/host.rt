@@ -35,7 +35,7 @@ fn is_bit(mask: i64, i: i64) -> bool
 
 /// How a run ends that asks for a trap.
 fn trapped(z: i64) -> Halt
-    ensures { result ≡ done.trapped z }
+    ensures { result ≡ done.halt_of_trap z }
 {
     if z == OVERFLOW {
         Halt::Stopped(Stop::Trap(TrapKind::Overflow))

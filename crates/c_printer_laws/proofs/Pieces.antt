@@ -18,7 +18,7 @@ use Rattle.c_syntax.specs.declared.token.CSign.TheVariants as s
 use Rattle.c_syntax.specs.declared.token.TheConstants.CWord as words
 use Rattle.c_syntax.specs.Tokens as t
 use Rattle.c_syntax.specs.Tokens.{Token, word_text, prim_text, token_text}
-use Rattle.c_syntax.specs.Text.{is_blank, is_digit, is_run_byte, run, past_run, max_number, number_of, spelled, word_of, prim_of, named, run_token, is_text_name, piece, signed, before_mark}
+use Rattle.c_syntax.specs.Text.{is_blank, is_digit, is_run_byte, run, past_run, max_number, number_of, item_with_text, word_of, prim_of, letter_token, run_token, is_text_name, piece, sign_piece, before_mark}
 use Rattle.c_syntax.specs.Canonical.{EachIs, IsReadable}
 use Rattle.c_printer_laws.proofs.Numerals.{numeral}
 
@@ -172,7 +172,7 @@ unlike test bs cs other this = by (bytes_eq bs cs) refl
     by false is = is
     by true is = absurd (not_both (test bs) other (ap test ((bytes_eq-Decides bs cs).0 is) ∙ this))
 
-not_spelled : {X : Type 0} (of : X → List ℕ) (test : List ℕ → Bool) (xs : List X) (cs : List ℕ) → list_all (λ x. not (test (of x))) xs ≡ true → test cs ≡ true → spelled of xs cs ≡ None
+not_spelled : {X : Type 0} (of : X → List ℕ) (test : List ℕ → Bool) (xs : List X) (cs : List ℕ) → list_all (λ x. not (test (of x))) xs ≡ true → test cs ≡ true → item_with_text of xs cs ≡ None
 not_spelled of test [] cs all this = refl
 not_spelled of test (x ∷ xs) cs all this =
     let both = and_parts (not (test (of x))) (list_all (λ y. not (test (of y))) xs) all in
@@ -198,7 +198,7 @@ number_run n fits =
       token = subst (λ ds. run_token ds ≡ t.number (pos n)) d.are (rw (no_word starts_digit (decimal n) refl starts, no_prim starts_digit (decimal n) refl starts, d.number) refl);
     }
 
-letter_run : (x : Token) (b n : ℕ) → n ≤ max_number → token_text x ≡ b ∷ decimal n → is_run_byte b ≡ true → ((c : ℕ) (cs : List ℕ) → number_of (b ∷ c ∷ cs) ≡ None) → named b n ≡ x → IsRun x
+letter_run : (x : Token) (b n : ℕ) → n ≤ max_number → token_text x ≡ b ∷ decimal n → is_run_byte b ≡ true → ((c : ℕ) (cs : List ℕ) → number_of (b ∷ c ∷ cs) ≡ None) → letter_token b n ≡ x → IsRun x
 letter_run x b n fits are runs other read =
     let d = numeral n fits in
     let starts : starts_named (b ∷ decimal n) ≡ true = subst (λ ds. EachIs is_digit ds → starts_named (b ∷ ds) ≡ true) (sym d.are) (λ each. each.0) d.digits in
@@ -243,7 +243,7 @@ of_sign x g rest b cs are solid is unmarked =
     record { byte = b; more = cs ++ blank g ∷ rest; begins = ap (λ y. y ++ blank g ∷ rest) are; solid = solid; is = is; unmarked = unmarked }
 
 sign_pieced : (x : CSign) (g : Bool) (rest : List ℕ) → Pieced (t.sign x) g rest
-unfolding signed
+unfolding sign_piece
 sign_pieced s.Arrow g rest = of_sign (t.sign s.Arrow) g rest 45 (62 ∷ []) refl refl refl refl
 sign_pieced s.OpenBrace g rest = of_sign (t.sign s.OpenBrace) g rest 123 [] refl refl refl refl
 sign_pieced s.CloseBrace g rest = of_sign (t.sign s.CloseBrace) g rest 125 [] refl refl refl refl
@@ -266,7 +266,7 @@ is_plain t.stray = false
 is_plain _ = true
 
 operator_pieced : (o : Op) (g : Bool) (rest : List ℕ) → is_plain (t.operator o) ≡ true → Pieced (t.operator o) g rest
-unfolding signed
+unfolding sign_piece
 operator_pieced op.Negate g rest plain = absurd cc
 operator_pieced op.Not true rest plain = of_sign (t.operator op.Not) true rest 33 [] refl refl refl refl
 operator_pieced op.Not false rest plain = of_sign (t.operator op.Not) false rest 33 [] refl refl refl refl

@@ -10,7 +10,7 @@ use Rattle.c_syntax.specs.Text.{Lexeme, mark, before_mark, IsTokensOf}
 use Rattle.c_syntax.specs.Spelling.{functions_then}
 use Rattle.c_syntax.specs.Grammar.{language}
 use Rattle.c_syntax.specs.Reading.{cert_of, places_in, IsUnitOf, IsCProgramOf}
-use Rattle.c_syntax.specs.Canonical.{unit_of, written, canonical_text, IsProgram}
+use Rattle.c_syntax.specs.Canonical.{unit_of, text_of_tokens, canonical_text, IsProgram}
 use Rattle.c_printer_laws.specs.ReadAgain.{ReadsAs, AreReadAgain}
 use Rattle.c_printer_laws.proofs.Plain.{ArePlain, functions_plain}
 use Rattle.c_printer_laws.proofs.Lexed.{first_lines, all_lexed, all_tokens, text_read, text_unmarked}
@@ -22,10 +22,10 @@ tokens_of p = functions_then (unit_of p) []
 
 -- the canonical text, put together from its end
 abbrev text_of : Program → List ℕ
-text_of p = first_lines (unit_of p).main (written (tokens_of p))
+text_of p = first_lines (unit_of p).main (text_of_tokens (tokens_of p))
 
 laid : (p : Program) → canonical_text p ≡ text_of p
-laid p = ap (λ y. include_text ++ 10 ∷ (define_text ++ y)) (append_assoc (decimal (unit_of p).main) (10 ∷ []) (written (tokens_of p)))
+laid p = ap (λ y. include_text ++ 10 ∷ (define_text ++ y)) (append_assoc (decimal (unit_of p).main) (10 ∷ []) (text_of_tokens (tokens_of p)))
 
 plain : (p : Program) → IsProgram p → ArePlain (tokens_of p)
 plain p is = functions_plain language (unit_of p).heads (unit_of p).bodies is.within

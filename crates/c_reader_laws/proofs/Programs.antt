@@ -9,7 +9,7 @@ use Rattle.c_syntax.specs.declared.program.CVar.{CVar}
 use Rattle.c_syntax.specs.declared.program.CResult.{CResult}
 use Rattle.c_syntax.specs.C.{Stmts, Func, Program}
 use Rattle.c_syntax.specs.Unit.{Head, Body, TranslationUnit}
-use Rattle.c_syntax.specs.Kinds.{refused, same_bool, same_name, has_name, is_main, has_main, heads_of, names_of}
+use Rattle.c_syntax.specs.Kinds.{unit_refusal, same_bool, same_name, has_name, is_main, has_main, heads_of, names_of}
 use Rattle.c_syntax.specs.Programs.{IsFuncOf, AreFuncsOf, bodies_of, IsProgramOf}
 use Rattle.c_kinds_laws.proofs.Main.{AreApart, names_apart, main_there, main_name, names_same, and_left, and_right, and_both, or_right, not_both, numbers_same, bools_same}
 use Rattle.c_reader_laws.proofs.Order.{in_order, order_moves, order_sorted, sorted_once}
@@ -99,7 +99,7 @@ one_has n before (b ∷ bs) fs apart are =
         at (suc i) zero f g is also same equal = absurd (none hs (here g (same_Some h g also) equal) are.1 i f is same)
         at (suc i) (suc j) f g is also same equal = ap (λ k. suc k) (again hs are.1 i j f g is also same equal)
 
-pub program_once : (places : List ℕ) (u : TranslationUnit) (p q : Program) → refused places u ≡ None → IsProgramOf u p → IsProgramOf u q → p ≡ q
+pub program_once : (places : List ℕ) (u : TranslationUnit) (p q : Program) → unit_refusal places u ≡ None → IsProgramOf u p → IsProgramOf u q → p ≡ q
 program_once places u p q none is also =
     let glue : p.glue ≡ q.glue = funcs_once (bodies_of true u.bodies) p.glue q.glue is.glue also.glue in
     let fns : p.fns ≡ q.fns = funcs_once (bodies_of false u.bodies) p.fns q.fns is.fns also.fns in
@@ -137,7 +137,7 @@ main_stands n (b ∷ bs) main = by (is_main n b.head) refl main (same_bool false
     by false e m true plain again = let k = again m in (suc k.0, k.1, k.2, k.3)
     by false e m false plain again = again m
 
-pub some_program : (places : List ℕ) (u : TranslationUnit) → refused places u ≡ None → (p : Program) × IsProgramOf u p
+pub some_program : (places : List ℕ) (u : TranslationUnit) → unit_refusal places u ≡ None → (p : Program) × IsProgramOf u p
 some_program places u none =
     let main = main_stands u.main u.bodies (main_there places u none) in (
       record { glue = map func_of (bodies_of true u.bodies); fns = map func_of (bodies_of false u.bodies); main = main.0 },

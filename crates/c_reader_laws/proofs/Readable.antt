@@ -8,7 +8,7 @@ use Rattle.c_syntax.specs.declared.program.CPrim.{CPrim}
 use Rattle.c_syntax.specs.declared.token.CWord.{CWord}
 use Rattle.c_syntax.specs.Tokens as t
 use Rattle.c_syntax.specs.Tokens.{Token, token_text}
-use Rattle.c_syntax.specs.Text.{is_digit, max_number, with_digit, if_some, digits_after, number_of, is_run_byte, run, past_run, behind, word_of, prim_of, token_or, named, named_token, run_token, is_text_name, Piece, piece, piece_or, begun, signs, signed, quoted, quoted_end, fixed, first_pieces, Lexeme, AreTokensOf, AreFirst, IsTokensOf}
+use Rattle.c_syntax.specs.Text.{is_digit, max_number, with_digit, if_some, digits_after, number_of, is_run_byte, run, past_run, behind, word_of, prim_of, token_or, letter_token, named_token, run_token, is_text_name, Piece, piece, piece_or, first_beginning, signs, sign_piece, quoted_piece, quoted_end, fixed_piece, first_pieces, Lexeme, AreTokensOf, AreFirst, IsTokensOf}
 use Rattle.c_syntax.specs.Reading.{tokens_in}
 use Rattle.c_syntax.specs.Canonical.{EachIs, IsReadable, AreReadable}
 
@@ -47,14 +47,14 @@ if_readable : (d : Bool) (x y : Token) → IsReadable x → IsReadable y → IsR
 if_readable true x y p q = p
 if_readable false x y p q = q
 
-named_readable : (b n : ℕ) → n ≤ max_number → IsReadable (named b n)
+named_readable : (b n : ℕ) → n ≤ max_number → IsReadable (letter_token b n)
 named_readable b n fits = if_readable (b == 110) _ _ fits (if_readable (b == 112) _ _ fits (if_readable (b == 102) _ _ fits (if_readable (b == 101) _ _ fits tt)))
 
 name_readable : (cs : List ℕ) → IsReadable (named_token cs)
 name_readable [] = tt
 name_readable (b ∷ bs) = by (number_of bs) refl
   where
-    by : (o : Option ℕ) → number_of bs ≡ o → IsReadable (token_or (option_map (named b) o) t.stray)
+    by : (o : Option ℕ) → number_of bs ≡ o → IsReadable (token_or (option_map (letter_token b) o) t.stray)
     by None e = tt
     by (Some n) e = named_readable b n (number_fits bs n e)
 
@@ -86,7 +86,7 @@ run_each (b ∷ bs) = by (is_run_byte b) refl (run_each bs)
 abbrev chosen : Bool → Piece → Piece → Piece
 chosen d x y = if d then x else y
 
-quoted_readable : (bs : List ℕ) → IsReadable ((quoted bs).0)
+quoted_readable : (bs : List ℕ) → IsReadable ((quoted_piece bs).0)
 quoted_readable bs = by (behind (34 ∷ []) (past_run is_run_byte bs))
   where
     name : (cs after : List ℕ) (d : Bool) → is_text_name cs ≡ d → EachIs is_run_byte cs → IsReadable ((chosen d (t.text cs, after) (t.stray, bs)).0)
@@ -97,29 +97,29 @@ quoted_readable bs = by (behind (34 ∷ []) (past_run is_run_byte bs))
     by None = tt
     by (Some after) = name (run is_run_byte bs) after (is_text_name (run is_run_byte bs)) refl (run_each bs)
 
-begun_readable : (ts : List Token) (bs : List ℕ) (other : Piece) → AreReadable ts → IsReadable (other.0) → IsReadable ((begun ts bs other).0)
+begun_readable : (ts : List Token) (bs : List ℕ) (other : Piece) → AreReadable ts → IsReadable (other.0) → IsReadable ((first_beginning ts bs other).0)
 begun_readable [] bs other are is = is
 begun_readable (x ∷ ts) bs other are is = by (behind (token_text x) bs) (begun_readable ts bs other are.1 is)
   where
-    by : (o : Option (List ℕ)) → IsReadable ((begun ts bs other).0) → IsReadable ((piece_or x o (begun ts bs other)).0)
+    by : (o : Option (List ℕ)) → IsReadable ((first_beginning ts bs other).0) → IsReadable ((piece_or x o (first_beginning ts bs other)).0)
     by None rest = rest
     by (Some after) rest = are.0
 
 signs_readable : AreReadable signs
 signs_readable = (tt, (tt, (tt, (tt, (tt, (tt, (tt, (tt, (tt, (tt, (tt, (tt, (tt, (tt, (tt, (tt, (tt, (tt, (tt, (tt, (tt, (tt, (tt, (tt, (tt, (tt, (tt, tt)))))))))))))))))))))))))))
 
-signed_readable : (b : ℕ) (bs : List ℕ) → IsReadable ((signed (b ∷ bs) bs).0)
-unfolding signed
+signed_readable : (b : ℕ) (bs : List ℕ) → IsReadable ((sign_piece (b ∷ bs) bs).0)
+unfolding sign_piece
 signed_readable b bs = begun_readable signs (b ∷ bs) (t.stray, bs) signs_readable tt
 
 piece_readable : (b : ℕ) (bs : List ℕ) → IsReadable ((piece b bs).0)
 piece_readable b bs = by (is_run_byte b)
   where
-    other : (d : Bool) → IsReadable ((chosen d (quoted bs) (signed (b ∷ bs) bs)).0)
+    other : (d : Bool) → IsReadable ((chosen d (quoted_piece bs) (sign_piece (b ∷ bs) bs)).0)
     other true = quoted_readable bs
     other false = signed_readable b bs
 
-    by : (d : Bool) → IsReadable ((chosen d (run_token (run is_run_byte (b ∷ bs)), past_run is_run_byte (b ∷ bs)) (chosen (b == 34) (quoted bs) (signed (b ∷ bs) bs))).0)
+    by : (d : Bool) → IsReadable ((chosen d (run_token (run is_run_byte (b ∷ bs)), past_run is_run_byte (b ∷ bs)) (chosen (b == 34) (quoted_piece bs) (sign_piece (b ∷ bs) bs))).0)
     by true = run_readable (run is_run_byte (b ∷ bs))
     by false = other (b == 34)
 
@@ -139,7 +139,7 @@ first_readable (p ∷ ps) total [] ls each are = subst (λ xs. AreReadable (toke
 first_readable (p ∷ ps) total (b ∷ bs) [] each are = absurd are
 first_readable (p ∷ ps) total (b ∷ bs) (l ∷ ls) each are = (subst IsReadable (sym are.0.0) (each.0 b bs), first_readable ps total ((p b bs).1) ls each.1 are.1)
 
-fixed_readable : (x : Token) → IsReadable x → (b : ℕ) (bs : List ℕ) → IsReadable ((fixed x b bs).0)
+fixed_readable : (x : Token) → IsReadable x → (b : ℕ) (bs : List ℕ) → IsReadable ((fixed_piece x b bs).0)
 fixed_readable x is b bs = begun_readable (x ∷ []) (b ∷ bs) (t.stray, bs) (is, tt) tt
 
 pub tokens_readable : (bytes : List ℕ) (ls : List Lexeme) → IsTokensOf bytes ls → AreReadable (tokens_in ls)

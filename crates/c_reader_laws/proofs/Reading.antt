@@ -6,7 +6,7 @@ use Rattle.c_syntax.specs.C.{Program}
 use Rattle.c_syntax.specs.Unit.{TranslationUnit}
 use Rattle.c_syntax.specs.Text.{Lexeme, IsTokensOf, before_mark}
 use Rattle.c_syntax.specs.Kinds as k
-use Rattle.c_syntax.specs.Kinds.{refused}
+use Rattle.c_syntax.specs.Kinds.{unit_refusal}
 use Rattle.c_syntax.specs.Reading.{places_in, cert_of, IsUnitOf, IsCProgramOf, IsOfKind}
 use Rattle.c_syntax.specs.Programs.{IsProgramOf}
 use Rattle.c_syntax_laws.proofs.Lexemes.{one_list}
@@ -70,7 +70,7 @@ same_tokens : (text : List ℕ) (ls ms : List Lexeme) → IsTokensOf (before_mar
 same_tokens text ls ms is also = one_list (before_mark text) ls ms is also
 
 abbrev verdict : List Lexeme → TranslationUnit → Option k.Refusal
-verdict ls u = refused (places_in ls) u
+verdict ls u = unit_refusal (places_in ls) u
 
 same_verdict : (text : List ℕ) (ls ms : List Lexeme) (u v : TranslationUnit) → IsUnitOf text ls u → IsUnitOf text ms v → verdict ls u ≡ verdict ms v
 same_verdict text ls ms u v is also = let one = one_unit text ls ms u v is also in ap (λ xs. verdict xs u) one.0 ∙ ap (verdict ms) one.1

@@ -237,7 +237,7 @@ main_right n (x ∷ xs) ys main = or_right (is_main n x) (has_main n (xs ++ ys))
 
 -- ---- the whole
 
-pub kinds_again : (places : List ℕ) (u : TranslationUnit) (p : Program) → k.refused places u ≡ None → IsProgramOf u p → (others : List ℕ) → k.refused others (unit_of p) ≡ None
+pub kinds_again : (places : List ℕ) (u : TranslationUnit) (p : Program) → k.unit_refusal places u ≡ None → IsProgramOf u p → (others : List ℕ) → k.unit_refusal others (unit_of p) ≡ None
 kinds_again places u p none is others =
     let begin : Walk = k.skip 2 (k.main_judged u (k.skip 3 (record { places = places; least = None }))) in
     let behind : Walk = k.heads_judged (heads_of u.bodies) [] u.heads begin in

@@ -11,7 +11,7 @@ use Rattle.c_syntax.specs.Tokens as t
 use Rattle.c_syntax.specs.Tokens.{Token, token_text, include_text, define_text}
 use Rattle.c_syntax.specs.Spelling.{spelling, functions_then}
 use Rattle.c_syntax.specs.Grammar.{language, IsUnit}
-use Rattle.c_syntax.specs.Kinds.{refused}
+use Rattle.c_syntax.specs.Kinds.{unit_refusal}
 use Rattle.c_syntax.specs.Text.{max_number, is_run_byte, is_text_name}
 use Rattle.c_syntax.specs.Programs.{variable_order}
 
@@ -58,12 +58,12 @@ gap (t.sign s.OpenBrace) rest = line_feed
 gap (t.sign s.CloseBrace) rest = if begins_else rest then space else line_feed
 gap _ rest = space
 
-abbrev pub written : List Token → List ℕ
-written [] = []
-written (x ∷ xs) = token_text x ++ gap x xs ++ written xs
+abbrev pub text_of_tokens : List Token → List ℕ
+text_of_tokens [] = []
+text_of_tokens (x ∷ xs) = token_text x ++ gap x xs ++ text_of_tokens xs
 
 abbrev pub canonical_text : Program → List ℕ
-canonical_text p = include_text ++ line_feed ++ define_text ++ decimal (unit_of p).main ++ line_feed ++ written (functions_then (unit_of p) [])
+canonical_text p = include_text ++ line_feed ++ define_text ++ decimal (unit_of p).main ++ line_feed ++ text_of_tokens (functions_then (unit_of p) [])
 
 -- ---- which programs have one that reads as the program
 
@@ -91,7 +91,7 @@ AreSorted (f ∷ fs) = IsSorted variable_order f.vars × AreSorted fs
 pub record IsProgram (p : Program) : Type 0 where
   pub main : (f : Func) × (slice_get p.fns p.main ≡ Some f)
   pub within : IsUnit language (unit_of p)
-  pub kinds : (places : List ℕ) → refused places (unit_of p) ≡ None
+  pub kinds : (places : List ℕ) → unit_refusal places (unit_of p) ≡ None
   pub readable : AreReadable (spelling (unit_of p))
   pub glue_sorted : AreSorted p.glue
   pub fns_sorted : AreSorted p.fns

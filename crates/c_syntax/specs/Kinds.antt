@@ -380,5 +380,5 @@ abbrev pub unit_judged : TranslationUnit → Walk → Walk
 unit_judged u = skip 3 ▹ main_judged u ▹ skip 2 ▹ heads_judged (heads_of u.bodies) [] u.heads ▹ bodies_judged u.heads [] u.bodies
 
 -- the least refusal of a text whose tokens begin at these bytes
-abbrev pub refused : List ℕ → TranslationUnit → Option Refusal
-refused places u = (unit_judged u (record { places = places; least = None })).least
+abbrev pub unit_refusal : List ℕ → TranslationUnit → Option Refusal
+unit_refusal places u = (unit_judged u (record { places = places; least = None })).least

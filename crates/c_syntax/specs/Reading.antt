@@ -7,7 +7,7 @@ use Rattle.c_syntax.specs.Tokens.{Token}
 use Rattle.c_syntax.specs.Spelling.{spelling}
 use Rattle.c_syntax.specs.Grammar.{Bounds, language, IsUnit}
 use Rattle.c_syntax.specs.Text.{Lexeme, IsTokensOf, before_mark}
-use Rattle.c_syntax.specs.Kinds.{refused}
+use Rattle.c_syntax.specs.Kinds.{unit_refusal}
 use Rattle.c_syntax.specs.Programs.{IsProgramOf}
 
 abbrev pub tokens_in : List Lexeme → List Token
@@ -32,7 +32,7 @@ pub record IsCProgramOf (bytes : List ℕ) (p : Program) (cert : Option Span) : 
   pub lexemes : List Lexeme
   pub unit : TranslationUnit
   pub reads : IsUnitOf bytes lexemes unit
-  pub kinds : refused (places_in lexemes) unit ≡ None
+  pub kinds : unit_refusal (places_in lexemes) unit ≡ None
   pub program : IsProgramOf unit p
   pub span : cert ≡ cert_of bytes
 
@@ -41,7 +41,7 @@ pub record IsOfKind (bytes : List ℕ) (rule at : ℕ) : Type 0 where
   pub lexemes : List Lexeme
   pub unit : TranslationUnit
   pub reads : IsUnitOf bytes lexemes unit
-  pub least : refused (places_in lexemes) unit ≡ Some (record { at = at; rule = rule })
+  pub least : unit_refusal (places_in lexemes) unit ≡ Some (record { at = at; rule = rule })
 
 -- ---- texts that aren't of the grammar
 

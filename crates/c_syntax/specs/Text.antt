@@ -63,8 +63,8 @@ number_of (b ∷ []) = digits_after 0 (b ∷ [])
 number_of (b ∷ c ∷ bs) = if b == 48 then None else digits_after 0 (b ∷ c ∷ bs)
 
 -- what a letter with a number is
-abbrev pub named : ℕ → ℕ → Token
-named b n =
+abbrev pub letter_token : ℕ → ℕ → Token
+letter_token b n =
     if b == 110 then variable (record { reference = false; number = n }) else
     if b == 112 then variable (record { reference = true; number = n }) else
     if b == 102 then name (record { glue = false; number = n }) else
@@ -75,19 +75,19 @@ token_or None t = t
 token_or (Some t) _ = t
 
 -- the first item whose text is this one
-abbrev pub spelled : {X : Type 0} → (X → List ℕ) → List X → List ℕ → Option X
-spelled of [] cs = None
-spelled of (x ∷ xs) cs = if bytes_eq (of x) cs then Some x else spelled of xs cs
+abbrev pub item_with_text : {X : Type 0} → (X → List ℕ) → List X → List ℕ → Option X
+item_with_text of [] cs = None
+item_with_text of (x ∷ xs) cs = if bytes_eq (of x) cs then Some x else item_with_text of xs cs
 
 unfoldable pub word_of : List ℕ → Option CWord
-word_of cs = spelled word_text words.ALL cs
+word_of cs = item_with_text word_text words.ALL cs
 
 unfoldable pub prim_of : List ℕ → Option CPrim
-prim_of cs = spelled prim_text prims.ALL cs
+prim_of cs = item_with_text prim_text prims.ALL cs
 
 abbrev pub named_token : List ℕ → Token
 named_token [] = stray
-named_token (b ∷ bs) = token_or (option_map (named b) (number_of bs)) stray
+named_token (b ∷ bs) = token_or (option_map (letter_token b) (number_of bs)) stray
 
 -- what a run of letters, digits and `_` is
 abbrev pub run_token : List ℕ → Token
@@ -112,8 +112,8 @@ abbrev pub quoted_end : List ℕ → Option (List ℕ) → List ℕ → Piece
 quoted_end cs None bs = (stray, bs)
 quoted_end cs (Some after) bs = if is_text_name cs then (text cs, after) else (stray, bs)
 
-abbrev pub quoted : List ℕ → Piece
-quoted bs = quoted_end (run is_run_byte bs) (behind (34 ∷ []) (past_run is_run_byte bs)) bs
+abbrev pub quoted_piece : List ℕ → Piece
+quoted_piece bs = quoted_end (run is_run_byte bs) (behind (34 ∷ []) (past_run is_run_byte bs)) bs
 
 -- all signs, the longer ones first
 abbrev pub signs : List Token
@@ -128,18 +128,18 @@ piece_or t None other = other
 piece_or t (Some after) other = (t, after)
 
 -- the first of these that begins the text; else its first byte is no token
-abbrev pub begun : List Token → List ℕ → Piece → Piece
-begun [] bs other = other
-begun (t ∷ ts) bs other = piece_or t (behind (token_text t) bs) (begun ts bs other)
+abbrev pub first_beginning : List Token → List ℕ → Piece → Piece
+first_beginning [] bs other = other
+first_beginning (t ∷ ts) bs other = piece_or t (behind (token_text t) bs) (first_beginning ts bs other)
 
-unfoldable pub signed : List ℕ → List ℕ → Piece
-signed bs after = begun signs bs (stray, after)
+unfoldable pub sign_piece : List ℕ → List ℕ → Piece
+sign_piece bs after = first_beginning signs bs (stray, after)
 
 -- the token with which a text begins whose first byte is this one and no blank
 abbrev pub piece : ℕ → List ℕ → Piece
 piece b bs =
     if is_run_byte b then (run_token (run is_run_byte (b ∷ bs)), past_run is_run_byte (b ∷ bs)) else
-    if b == 34 then quoted bs else signed (b ∷ bs) bs
+    if b == 34 then quoted_piece bs else sign_piece (b ∷ bs) bs
 
 -- ---- a whole text
 
@@ -158,12 +158,12 @@ AreTokensOf total bs [] = past_run is_blank bs ≡ []
 AreTokensOf total bs (l ∷ ls) = (b : ℕ) × (rest : List ℕ) × (past_run is_blank bs ≡ b ∷ rest) × IsAt total (b ∷ rest) l ((piece b rest).0) × AreTokensOf total ((piece b rest).1) ls
 
 -- the token where this one has to stand
-abbrev pub fixed : Token → ℕ → List ℕ → Piece
-fixed t b bs = begun (t ∷ []) (b ∷ bs) (stray, bs)
+abbrev pub fixed_piece : Token → ℕ → List ℕ → Piece
+fixed_piece t b bs = first_beginning (t ∷ []) (b ∷ bs) (stray, bs)
 
 -- the two first lines have five tokens, without blanks between
 abbrev pub first_pieces : List (ℕ → List ℕ → Piece)
-first_pieces = fixed include ∷ fixed line_end ∷ fixed define ∷ piece ∷ fixed line_end ∷ []
+first_pieces = fixed_piece include ∷ fixed_piece line_end ∷ fixed_piece define ∷ piece ∷ fixed_piece line_end ∷ []
 
 abbrev pub AreFirst : List (ℕ → List ℕ → Piece) → ℕ → List ℕ → List Lexeme → Type 0
 AreFirst [] total bs ls = AreTokensOf total bs ls

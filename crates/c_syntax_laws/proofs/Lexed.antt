@@ -5,7 +5,7 @@ use Rattle.std.proofs.lemmas.Bool.{and_parts}
 use Rattle.std.proofs.lemmas.Option.{same_Some}
 use Rattle.c_syntax.specs.Tokens as t
 use Rattle.c_syntax.specs.Tokens.{Token, include, line_end, define, token_text}
-use Rattle.c_syntax.specs.Text.{Lexeme, Piece, piece, piece_or, begun, signs, signed, quoted, quoted_end, is_text_name, fixed, first_pieces, is_blank, is_run_byte, run, run_token, past_run, behind, IsAt, AreTokensOf, AreFirst}
+use Rattle.c_syntax.specs.Text.{Lexeme, Piece, piece, piece_or, first_beginning, signs, sign_piece, quoted_piece, quoted_end, is_text_name, fixed_piece, first_pieces, is_blank, is_run_byte, run, run_token, past_run, behind, IsAt, AreTokensOf, AreFirst}
 use Rattle.c_syntax_laws.specs.Laws.{EachTextHasTokens}
 
 -- ---- a piece takes a byte at least
@@ -27,18 +27,18 @@ some_text : (cs : List ℕ) → is_some_text cs ≡ true → 1 ≤ length cs
 some_text [] e = absurd cc
 some_text (c ∷ cs) e = omega arith
 
-begun_shorter : (ts : List Token) (bs : List ℕ) (other : Piece) (n : ℕ) → list_all (λ t. is_some_text (token_text t)) ts ≡ true → length bs ≤ suc n → length (other.1) ≤ n → length ((begun ts bs other).1) ≤ n
+begun_shorter : (ts : List Token) (bs : List ℕ) (other : Piece) (n : ℕ) → list_all (λ t. is_some_text (token_text t)) ts ≡ true → length bs ≤ suc n → length (other.1) ≤ n → length ((first_beginning ts bs other).1) ≤ n
 begun_shorter [] bs other n all whole rest = rest
 begun_shorter (t ∷ ts) bs other n all whole rest =
     let both = and_parts (is_some_text (token_text t)) (list_all (λ u. is_some_text (token_text u)) ts) all in
     by (behind (token_text t) bs) refl (some_text (token_text t) both.0) (begun_shorter ts bs other n both.1 whole rest)
   where
-    by : (o : Option (List ℕ)) → behind (token_text t) bs ≡ o → 1 ≤ length (token_text t) → length ((begun ts bs other).1) ≤ n → length ((piece_or t o (begun ts bs other)).1) ≤ n
+    by : (o : Option (List ℕ)) → behind (token_text t) bs ≡ o → 1 ≤ length (token_text t) → length ((first_beginning ts bs other).1) ≤ n → length ((piece_or t o (first_beginning ts bs other)).1) ≤ n
     by None e some others = others
     by (Some after) e some others = let size = behind_shorter (token_text t) bs after e in omega (arith, size, some, whole)
 
-signed_shorter : (b : ℕ) (bs : List ℕ) → length ((signed (b ∷ bs) bs).1) ≤ length bs
-unfolding signed
+signed_shorter : (b : ℕ) (bs : List ℕ) → length ((sign_piece (b ∷ bs) bs).1) ≤ length bs
+unfolding sign_piece
 signed_shorter b bs = begun_shorter signs (b ∷ bs) (t.stray, bs) (length bs) refl (omega arith) (omega arith)
 
 past_shorter : (is : ℕ → Bool) (bs : List ℕ) → length (past_run is bs) ≤ length bs
@@ -52,7 +52,7 @@ past_shorter is (b ∷ bs) = by (is b) (past_shorter is bs)
 abbrev chosen : Bool → Piece → Piece → Piece
 chosen d x y = if d then x else y
 
-quoted_shorter : (bs : List ℕ) → length ((quoted bs).1) ≤ length bs
+quoted_shorter : (bs : List ℕ) → length ((quoted_piece bs).1) ≤ length bs
 quoted_shorter bs = by (behind (34 ∷ []) (past_run is_run_byte bs)) refl
   where
     name : (d : Bool) (cs after : List ℕ) → length after ≤ length bs → length ((chosen d (t.text cs, after) (t.stray, bs)).1) ≤ length bs
@@ -69,15 +69,15 @@ quoted_shorter bs = by (behind (34 ∷ []) (past_run is_run_byte bs)) refl
 piece_shorter : (b : ℕ) (bs : List ℕ) → length ((piece b bs).1) ≤ length bs
 piece_shorter b bs = by (is_run_byte b) refl
   where
-    other : (d : Bool) → length ((chosen d (quoted bs) (signed (b ∷ bs) bs)).1) ≤ length bs
+    other : (d : Bool) → length ((chosen d (quoted_piece bs) (sign_piece (b ∷ bs) bs)).1) ≤ length bs
     other true = quoted_shorter bs
     other false = signed_shorter b bs
 
-    by : (d : Bool) → is_run_byte b ≡ d → length ((chosen d (run_token (run is_run_byte (b ∷ bs)), past_run is_run_byte (b ∷ bs)) (chosen (b == 34) (quoted bs) (signed (b ∷ bs) bs))).1) ≤ length bs
+    by : (d : Bool) → is_run_byte b ≡ d → length ((chosen d (run_token (run is_run_byte (b ∷ bs)), past_run is_run_byte (b ∷ bs)) (chosen (b == 34) (quoted_piece bs) (sign_piece (b ∷ bs) bs))).1) ≤ length bs
     by true e = rw e (past_shorter is_run_byte bs)
     by false e = other (b == 34)
 
-fixed_shorter : (x : Token) → is_some_text (token_text x) ≡ true → (b : ℕ) (bs : List ℕ) → length ((fixed x b bs).1) ≤ length bs
+fixed_shorter : (x : Token) → is_some_text (token_text x) ≡ true → (b : ℕ) (bs : List ℕ) → length ((fixed_piece x b bs).1) ≤ length bs
 fixed_shorter x some b bs = begun_shorter (x ∷ []) (b ∷ bs) (t.stray, bs) (length bs) (rw some refl) (omega arith) (omega arith)
 
 -- ---- tokens one after another

@@ -11,12 +11,12 @@ use Rattle.c_syntax.specs.C.{Expr}
 use Rattle.c_meaning.specs.Blocks.{Blocks, read_number, read_reference}
 use Rattle.c_meaning.specs.World as model
 use Rattle.c_meaning.specs.World.{Vars}
-use Rattle.c_meaning.specs.Values.{◌>>=◌, a_number, a_reference, set_or_5, base_in, cell_value, p_variable, or_rule, combined, value_of}
+use Rattle.c_meaning.specs.Values.{◌>>=◌, a_number, a_reference, set_or_5, base_in, cell_value, p_variable, or_rule, value_of_both, value_of}
 use Rattle.c_memory.specs.declared.cells.Ref.{Ref}
 use Rattle.c_memory.specs.Shown.{number_of, IsMade, IsRead}
 use Rattle.c_values.specs.declared.value.Value.{Value}
 use Rattle.c_values.specs.declared.value.Value.TheVariants.{Number, Reference}
-use Rattle.c_values.specs.Shown.{value_view, IsMadeValue, IsValue, IsReference, IsDecided, operated}
+use Rattle.c_values.specs.Shown.{value_view, IsMadeValue, IsValue, IsReference, IsDecided, operator_value}
 
 -- ---- what an answer says of the value
 
@@ -124,9 +124,9 @@ module _ (ts : Things) (vars : Vars) (bs : Blocks) (o : Op) (e : Expr) (r : Resu
 
   module _ (f : Expr) where
     binary : (x : Result model.Value ℕ) → Result model.Value ℕ
-    binary x = x >>= (λ y. a_number y >>= (λ k. combined o k (value_of f vars bs)))
+    binary x = x >>= (λ y. a_number y >>= (λ k. value_of_both o k (value_of f vars bs)))
 
-    left : (z : ℤ) → r ≡ Ok (Number z) → value_of (c.binary o e f) vars bs ≡ combined o z (value_of f vars bs)
+    left : (z : ℤ) → r ≡ Ok (Number z) → value_of (c.binary o e f) vars bs ≡ value_of_both o z (value_of f vars bs)
     unfolding binary
     left z is = ap binary (value_is ts r (value_of e vars bs) (Number z) part is)
 
@@ -134,20 +134,20 @@ module _ (ts : Things) (vars : Vars) (bs : Blocks) (o : Op) (e : Expr) (r : Resu
     binary_decided z a d is decided some made =
         subst (IsValue ts (Ok a)) (sym (left z is ∙ subst (IsDecided o z) some decided (value_of f vars bs))) (refl, made)
 
-    right : (z : ℤ) (d : Option Value) → r ≡ Ok (Number z) → IsDecided o z d → d ≡ None → value_of (c.binary o e f) vars bs ≡ operated o z (value_of f vars bs)
+    right : (z : ℤ) (d : Option Value) → r ≡ Ok (Number z) → IsDecided o z d → d ≡ None → value_of (c.binary o e f) vars bs ≡ operator_value o z (value_of f vars bs)
     right z d is decided none = left z is ∙ subst (IsDecided o z) none decided (value_of f vars bs)
 
     pub binary_value : (z k : ℤ) (d : Option Value) (q s : Result Value ℕ) → r ≡ Ok (Number z) → IsDecided o z d → d ≡ None → IsValue ts q (value_of f vars bs) → q ≡ Ok (Number k) → IsValue ts s (or_rule (applied o z k)) → IsValue ts s (value_of (c.binary o e f) vars bs)
     binary_value z k d q s is decided none second so h =
-        subst (IsValue ts s) (sym (right z d is decided none ∙ ap (operated o z) (value_is ts q (value_of f vars bs) (Number k) second so))) h
+        subst (IsValue ts s) (sym (right z d is decided none ∙ ap (operator_value o z) (value_is ts q (value_of f vars bs) (Number k) second so))) h
 
     pub binary_other : (z : ℤ) (d : Option Value) (q : Result Value ℕ) (u : Option Ref) → r ≡ Ok (Number z) → IsDecided o z d → d ≡ None → IsValue ts q (value_of f vars bs) → q ≡ Ok (Reference u) → IsValue ts (Err 5) (value_of (c.binary o e f) vars bs)
     binary_other z d q u is decided none second so =
-        subst (IsValue ts (Err 5)) (sym (right z d is decided none ∙ ap (operated o z) (value_is ts q (value_of f vars bs) (Reference u) second so))) refl
+        subst (IsValue ts (Err 5)) (sym (right z d is decided none ∙ ap (operator_value o z) (value_is ts q (value_of f vars bs) (Reference u) second so))) refl
 
     pub binary_rule : (z : ℤ) (d : Option Value) (q : Result Value ℕ) (b : ℕ) → r ≡ Ok (Number z) → IsDecided o z d → d ≡ None → IsValue ts q (value_of f vars bs) → q ≡ Err b → IsValue ts (Err b) (value_of (c.binary o e f) vars bs)
     binary_rule z d q b is decided none second so =
-        subst (IsValue ts (Err b)) (sym (right z d is decided none ∙ ap (operated o z) (rule_is ts q (value_of f vars bs) b second so))) refl
+        subst (IsValue ts (Err b)) (sym (right z d is decided none ∙ ap (operator_value o z) (rule_is ts q (value_of f vars bs) b second so))) refl
 
     pub left_other : (q : Option Ref) → r ≡ Ok (Reference q) → IsValue ts (Err 5) (value_of (c.binary o e f) vars bs)
     unfolding binary

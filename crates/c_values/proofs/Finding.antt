@@ -6,8 +6,8 @@ use Rattle.std.proofs.lemmas.Option.{none-some, slice_get-map}
 use Rattle.c_syntax.specs.declared.program.CVar.{CVar}
 use Rattle.c_syntax.specs.Kinds.{same_variable}
 use Rattle.c_meaning.specs.World as model
-use Rattle.c_meaning.specs.Blocks.{joined}
-use Rattle.c_machine.specs.Machine.{looked}
+use Rattle.c_meaning.specs.Blocks.{option_join}
+use Rattle.c_machine.specs.Machine.{value_under}
 use Rattle.std.specs.Option.{IfSome}
 use Rattle.vlt_rings.specs.Things.{Things}
 use Rattle.c_values.specs.declared.value.Value.{Value}
@@ -82,9 +82,9 @@ in_second (p ∷ ps) vs v e = by (same_variable v p) e (λ h. in_second ps vs v 
 
 abbrev pub value_by : List (Option model.Value) → Option ℕ → Option model.Value
 value_by xs None = None
-value_by xs (Some i) = joined (slice_get xs i)
+value_by xs (Some i) = option_join (slice_get xs i)
 
-pub looked_by : (vs : List CVar) (xs : List (Option model.Value)) (v : CVar) → looked vs xs v ≡ value_by xs (place_in vs v)
+pub looked_by : (vs : List CVar) (xs : List (Option model.Value)) (v : CVar) → value_under vs xs v ≡ value_by xs (place_in vs v)
 looked_by [] xs v = refl
 looked_by (w ∷ vs) [] v = by (same_variable v w) (place_in vs v)
   where
@@ -94,17 +94,17 @@ looked_by (w ∷ vs) [] v = by (same_variable v w) (place_in vs v)
     by false (Some i) = refl
 looked_by (w ∷ vs) (x ∷ xs) v = by (same_variable v w) (place_in vs v) (looked_by vs xs v)
   where
-    by : (t : Bool) (p : Option ℕ) → looked vs xs v ≡ value_by xs p → (if t then x else looked vs xs v) ≡ value_by (x ∷ xs) (if t then Some 0 else option_map suc p)
+    by : (t : Bool) (p : Option ℕ) → value_under vs xs v ≡ value_by xs p → (if t then x else value_under vs xs v) ≡ value_by (x ∷ xs) (if t then Some 0 else option_map suc p)
     by true p e = refl
     by false None e = e
     by false (Some i) e = e
 
 -- ---- what a position shows
 
-joined_map : {A B : Type 0} (f : A → B) (xs : List (Option A)) (i : ℕ) → option_map f (joined (slice_get xs i)) ≡ joined (slice_get (map (option_map f) xs) i)
-joined_map {A = A} f xs i = by (slice_get xs i) ∙ ap joined (sym (slice_get-map (option_map f) xs i))
+joined_map : {A B : Type 0} (f : A → B) (xs : List (Option A)) (i : ℕ) → option_map f (option_join (slice_get xs i)) ≡ option_join (slice_get (map (option_map f) xs) i)
+joined_map {A = A} f xs i = by (slice_get xs i) ∙ ap option_join (sym (slice_get-map (option_map f) xs i))
   where
-    by : (x : Option (Option A)) → option_map f (joined x) ≡ joined (option_map (option_map f) x)
+    by : (x : Option (Option A)) → option_map f (option_join x) ≡ option_join (option_map (option_map f) x)
     by None = refl
     by (Some x) = refl
 
@@ -130,25 +130,25 @@ get_behind xs n m j e = by (nat_le n (length xs)) refl
         get_drop xs m j ∙ past_end xs (m + j) (omega (arith, k)) ∙ sym (past_end xs (n + j) (omega (arith, l)))
 
 module _ {A : Type 0} (f : A → model.Value) (ps vs : List CVar) (values : List (Option A)) (v : CVar) where
-  pub first_shown : (i : ℕ) → place_in ps v ≡ Some i → option_map f (joined (slice_get values i)) ≡ looked (ps ++ vs) (map (option_map f) values) v
+  pub first_shown : (i : ℕ) → place_in ps v ≡ Some i → option_map f (option_join (slice_get values i)) ≡ value_under (ps ++ vs) (map (option_map f) values) v
   first_shown i e = joined_map f values i ∙ ap (value_by (map (option_map f) values)) (in_first ps vs v i e) ∙ sym (looked_by (ps ++ vs) (map (option_map f) values) v)
 
-  pub second_shown : (m j : ℕ) → place_in ps v ≡ None → place_in vs v ≡ Some j → m ≡ min (length ps) (length values) → option_map f (joined (slice_get (drop m values) j)) ≡ looked (ps ++ vs) (map (option_map f) values) v
+  pub second_shown : (m j : ℕ) → place_in ps v ≡ None → place_in vs v ≡ Some j → m ≡ min (length ps) (length values) → option_map f (option_join (slice_get (drop m values) j)) ≡ value_under (ps ++ vs) (map (option_map f) values) v
   second_shown m j e is k =
-      ap (λ x. option_map f (joined x)) (get_behind values (length ps) m j k) ∙ joined_map f values (length ps + j)
+      ap (λ x. option_map f (option_join x)) (get_behind values (length ps) m j k) ∙ joined_map f values (length ps + j)
       ∙ ap (value_by (map (option_map f) values)) (ap (option_map (λ i. length ps + i)) (sym is) ∙ in_second ps vs v e) ∙ sym (looked_by (ps ++ vs) (map (option_map f) values) v)
 
-  pub none_shown : place_in ps v ≡ None → place_in vs v ≡ None → None ≡ looked (ps ++ vs) (map (option_map f) values) v
+  pub none_shown : place_in ps v ≡ None → place_in vs v ≡ None → None ≡ value_under (ps ++ vs) (map (option_map f) values) v
   none_shown e is = sym (looked_by (ps ++ vs) (map (option_map f) values) v ∙ ap (value_by (map (option_map f) values)) (sym (in_second ps vs v e) ∙ ap (option_map (λ i. length ps + i)) is))
 
-pub at_position : {A : Type 0} (xs : List (Option A)) (i : ℕ) (a : A) → joined (slice_get xs i) ≡ Some a → slice_get xs i ≡ Some (Some a)
+pub at_position : {A : Type 0} (xs : List (Option A)) (i : ℕ) (a : A) → option_join (slice_get xs i) ≡ Some a → slice_get xs i ≡ Some (Some a)
 at_position {A = A} xs i a e = by (slice_get xs i) refl e
   where
-    by : (x : Option (Option A)) → slice_get xs i ≡ x → joined x ≡ Some a → slice_get xs i ≡ Some (Some a)
+    by : (x : Option (Option A)) → slice_get xs i ≡ x → option_join x ≡ Some a → slice_get xs i ≡ Some (Some a)
     by None is j = absurd (none-some a j)
     by (Some x) is j = is ∙ ap (λ y. Some y) j
 
-pub at_behind : {A : Type 0} (xs : List (Option A)) (m j : ℕ) (a : A) → joined (slice_get (drop m xs) j) ≡ Some a → slice_get xs (m + j) ≡ Some (Some a)
+pub at_behind : {A : Type 0} (xs : List (Option A)) (m j : ℕ) (a : A) → option_join (slice_get (drop m xs) j) ≡ Some a → slice_get xs (m + j) ≡ Some (Some a)
 at_behind xs m j a e = sym (get_drop xs m j) ∙ at_position (drop m xs) j a e
 
 pub slot_made : (slots : List (Option Value)) (r : Option Value) (k : ℕ) → ((a : Value) → r ≡ Some a → slice_get slots k ≡ Some (Some a)) → IfSome r (λ a. (ts : Things) → AreMadeSlots ts slots → IsMadeValue ts a)

@@ -5,9 +5,9 @@ use Rattle.c_syntax.specs.declared.program.CVar.{CVar}
 use Rattle.vlt_ops.specs.declared.Op.{Op}
 use Rattle.vlt_ops.specs.Operator.{applied}
 use Rattle.c_meaning.specs.World as model
-use Rattle.c_meaning.specs.Values.{◌>>=◌, a_number, or_rule, combined}
+use Rattle.c_meaning.specs.Values.{◌>>=◌, a_number, or_rule, value_of_both}
 use Rattle.c_meaning.specs.World.{Vars}
-use Rattle.c_machine.specs.Machine.{looked}
+use Rattle.c_machine.specs.Machine.{value_under}
 use Rattle.c_memory.specs.declared.cells.Ref.{Ref}
 use Rattle.c_memory.specs.Shown.{number_of, IsMade}
 use Rattle.c_values.specs.declared.value.Value.{Value}
@@ -27,7 +27,7 @@ names_in f = f.params.now ++ f.declared.now
 
 -- the values of variables
 abbrev pub shown_vars : Frame → Vars
-shown_vars f = looked (names_in f) (shown_slots f.values.now)
+shown_vars f = value_under (names_in f) (shown_slots f.values.now)
 
 -- ---- references that were made
 
@@ -62,13 +62,13 @@ pub record IsSlot (ts : Things) (a : Value) (slots : List (Option Value)) : Type
   pub made : AreMadeSlots ts slots → IsMadeValue ts a
 
 -- what the operator gives of both sides
-abbrev pub operated : Op → ℤ → Result model.Value ℕ → Result model.Value ℕ
-operated o x b = do
+abbrev pub operator_value : Op → ℤ → Result model.Value ℕ → Result model.Value ℕ
+operator_value o x b = do
   y ← b
   z ← a_number y
   or_rule (applied o x z)
 
 -- the left side alone gives the value, or the right side is asked for, and the operator gives what is wanted
 abbrev pub IsDecided : Op → ℤ → Option Value → Type 0
-IsDecided o x (Some a) = (b : Result model.Value ℕ) → combined o x b ≡ Ok (value_view a)
-IsDecided o x None = (b : Result model.Value ℕ) → combined o x b ≡ operated o x b
+IsDecided o x (Some a) = (b : Result model.Value ℕ) → value_of_both o x b ≡ Ok (value_view a)
+IsDecided o x None = (b : Result model.Value ℕ) → value_of_both o x b ≡ operator_value o x b

@@ -4,7 +4,7 @@ ghost use Rattle.std.specs.Prelude.{◌≡◌, IfSome};
 ghost use Rattle.vlt_ops.specs.Operator.{applied, is_true};
 ghost use Rattle.vlt_rings.specs.Things.{Things};
 ghost use Rattle.c_syntax.specs.View.{expr_of, arg_of};
-ghost use Rattle.c_meaning.specs.Values.{a_number, a_reference, base_in, cell_value, or_rule, truth_of, combined, value_of, arg_value};
+ghost use Rattle.c_meaning.specs.Values.{a_number, a_reference, base_in, cell_value, or_rule, truth_of, value_of_both, value_of, arg_value};
 ghost use Rattle.c_meaning.specs.Primitives.{number_of as number_value, reference_of as reference_value};
 ghost use Rattle.c_memory.specs.Shown.{IsSound, Holds, blocks_of};
 ghost use Rattle.c_values.specs.Shown.{shown_vars, value_view, AreMadeSlots, IsValue, IsReference, IsDecided, IsMadeValue};

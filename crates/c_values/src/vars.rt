@@ -2,7 +2,7 @@
 
 ghost use Rattle.std.specs.Prelude.{◌≡◌, ◌≤◌, Some, None, IfSome, option_map, length, drop, slice_get};
 ghost use Rattle.vlt_rings.specs.Things.{Things};
-ghost use Rattle.c_meaning.specs.Blocks.{joined};
+ghost use Rattle.c_meaning.specs.Blocks.{option_join};
 ghost use Rattle.c_syntax.specs.Kinds.{same_variable};
 ghost use Rattle.c_values.specs.Places.{place_in};
 
@@ -39,7 +39,7 @@ pub fn find(names: &[CVar], v: CVar) -> Option<usize>
 
 /// The value at a position, if there is one and it is set.
 fn at(values: &[Option<Value>], i: usize) -> Option<Value>
-    ensures { result ≡ joined (slice_get values.now i) }
+    ensures { result ≡ option_join (slice_get values.now i) }
 {
     match values.get(i) {
         Some(value) => *value,

@@ -10,8 +10,8 @@ use Rattle.vlt_lexer.specs.declared.token.TokenKind.{TokenKind}
 use Rattle.vlt_lexer.specs.declared.token.TokenKind.TheVariants as kind
 use Rattle.vlt_lexer.specs.declared.scan.Stuck.{Stuck}
 use Rattle.vlt_lexer.specs.declared.scan.Stuck.TheVariants as stuck
-use Rattle.vlt_lexer.specs.declared.lexer.LexError.{LexError}
-use Rattle.vlt_lexer.specs.declared.lexer.LexError.TheVariants as error
+use Rattle.vlt_lexer.specs.declared.LexError.{LexError}
+use Rattle.vlt_lexer.specs.declared.LexError.TheVariants as error
 use Rattle.vlt_lexer.specs.Characters.{is_blank, is_digit, value_of, behind, or_else, after_line, after_close, width}
 use Rattle.vlt_lexer.specs.Lexemes.{max_number}
 use Rattle.vlt_lexer.specs.Reading.{Lexeme, IsGap, blank, IsToken, Reads, nothing, gap, token, IsStuck}

@@ -13,7 +13,7 @@ use Rattle.vlt_sound.specs.Promise.{NeverGoesWrong, LeavesOnlyItsClause}
 use Rattle.vlt_io.specs.Outside.{Files, IsRead, Rose, Grew}
 use Rattle.vlt_io.specs.declared.sink.Sink as sink
 use Rattle.vlt_io.specs.declared.store.Store.{Ghosts}
-use Rattle.vlt_lexer.specs.declared.lexer.LexError.TheVariants as lex
+use Rattle.vlt_lexer.specs.declared.LexError.TheVariants as lex
 use Rattle.vlt_resolve.specs.Elaboration.{broken, exceeded}
 use Rattle.vlt_syntax.specs.Refusals.{unexpected_at, over_limit, ended}
 use Rattle.vlt_syntax.specs.Tree.{Tree}

@@ -2,7 +2,7 @@
 use Rattle.std.specs.Prelude.{◌≡◌, ◌≤◌, ◌⊎◌, ℕ, Bool, true, false, List, [], ◌∷◌, MatchOption, Option, Some, None, Result, Ok, Err}
 use Rattle.std.specs.Global.{Vec}
 use Rattle.std.specs.declared.alloc.AllocError.{AllocError}
-use Rattle.vlt_lexer.specs.declared.lexer.LexError.TheVariants as lex
+use Rattle.vlt_lexer.specs.declared.LexError.TheVariants as lex
 use Rattle.vlt_parser_exprs.specs.declared.error.ParseError.TheVariants as parse
 use Rattle.vlt_syntax.specs.Refusals.{unexpected_at, over_limit, ended}
 use Rattle.vlt_steps.specs.declared.stop.Stop.{Stop}

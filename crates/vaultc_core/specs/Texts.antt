@@ -3,8 +3,8 @@ use Rattle.std.specs.Prelude.{◌≡◌, ◌<◌, ◌≤◌, ◌⊎◌, ℕ, Lis
 use Rattle.vlt_base.specs.Limits.{limit_of}
 use Rattle.vlt_lexer.specs.Reading.{Lexeme}
 use Rattle.vlt_lexer.specs.Text.{IsTokensOf, IsRefused}
-use Rattle.vlt_lexer.specs.declared.lexer.LexError.{LexError}
-use Rattle.vlt_lexer.specs.declared.lexer.LexError.TheVariants as lex
+use Rattle.vlt_lexer.specs.declared.LexError.{LexError}
+use Rattle.vlt_lexer.specs.declared.LexError.TheVariants as lex
 use Rattle.vlt_syntax.specs.Tree.{Tree}
 use Rattle.vlt_syntax.specs.Grammar.{IsPlacedTreeOf}
 use Rattle.vlt_syntax.specs.Refusals as grammar

@@ -17,7 +17,7 @@ use Rattle.vlt_heap.proofs.Calls.{live_at, root_at, here_at, places_apart}
 use Rattle.vlt_meaning.specs.World.{Value, one, reference, owned, loose, adopted_by, not_empty, no_value, same_object, Object as Thing, World, Frame, Outcome, trap, fault, done, fuel_end, heap_end, depth_end, input_end, answers_end, bad_answer, is_fault, wrong_state}
 use Rattle.vlt_meaning.specs.Found as sd
 use Rattle.vlt_meaning.specs.Found.{Named, or_fault}
-use Rattle.vlt_meaning.specs.Objects.{is_releasable, released, changed, with_owner}
+use Rattle.vlt_meaning.specs.Objects.{is_releasable, objects_after_release, with_changed_object, with_owner}
 use Rattle.vlt_meaning.specs.Objects as model
 use Rattle.vlt_meaning.specs.Values.{value_of, object_of}
 use Rattle.vlt_meaning.specs.Step.{Step, goes, ends, with_found, where_so, with_objects, with_changed, with_released, with_var, fill, is_fillable}
@@ -142,8 +142,8 @@ release_does old new v c w n d x a o k same is e releases =
       };
     }))
   where
-    by : (m : Named) (t : Bool) → HasDone c.items new v (Ok tt) c.frame (with_objects w (released m.number w.objects))
-        → Does c.items new v (Ok tt) (where_so t wrong_state (Some m.number) w (λ w. goes c.frame (with_objects w (released m.number w.objects))))
+    by : (m : Named) (t : Bool) → HasDone c.items new v (Ok tt) c.frame (with_objects w (objects_after_release m.number w.objects))
+        → Does c.items new v (Ok tt) (where_so t wrong_state (Some m.number) w (λ w. goes c.frame (with_objects w (objects_after_release m.number w.objects))))
     by m true has = has
     by m false has = refl
 
@@ -265,7 +265,7 @@ adopt_does old new v u c w n d y x r to a b o q k l same is e is_b e_b within wi
           shows = record {
             items = items;
             holds = hangs c.items m.number s.item c.holds s.at s.place p.number t.item t.at t.place;
-            objects_shown = subst (λ z. ShowObjects items z (changed m.number (with_owner (adopted_by p.number)) w.objects)) (sym kept.width)
+            objects_shown = subst (λ z. ShowObjects items z (with_changed_object m.number (with_owner (adopted_by p.number)) w.objects)) (sym kept.width)
                 (one_shown c.items v.width m.number w.objects s.item (with_parent (Some p.number) s.item) m.object (with_owner (adopted_by p.number)) keep (subst (ShowObjects c.items v.width) (sym same) c.shown) s.at pm.touched.at
                 (record { live = refl; type = s.shown.type; state = s.shown.state; parent = refl; is_out = s.shown.is_out ∙ pm.root.here; cells = s.shown.cells }));
             frame_shown = assigned items v u c.frame y (one (reference m.number)) within (subst (λ z. IsKept z v u) is_to kept)

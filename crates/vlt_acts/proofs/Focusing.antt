@@ -16,7 +16,7 @@ use Rattle.vlt_heap.proofs.Calls.{live_at, root_at, here_at, child_at, places_ap
 use Rattle.vlt_meaning.specs.World.{one, reference, Owner, held, lent, loose, inside, adopted_by, out, gone, is_adopted_by, is_held_under, is_lent_under, above, is_out, Object as Thing, World, Frame, not_guarded, not_held, no_value}
 use Rattle.vlt_meaning.specs.Found as sd
 use Rattle.vlt_meaning.specs.Found.{◌>>=◌, Named, or_fault}
-use Rattle.vlt_meaning.specs.Objects.{object_at, with_owner, changed}
+use Rattle.vlt_meaning.specs.Objects.{object_at, with_owner, with_changed_object}
 use Rattle.vlt_meaning.specs.Values.{held_object, guarded_object, reference_in}
 use Rattle.vlt_meaning.specs.Step.{with_key}
 use Rattle.vlt_meaning_laws.proofs.Keeping.{bound, change_elsewhere}
@@ -124,7 +124,7 @@ focus_does old new v mid u c w y z to same f s o p k is e within wide key is_key
   shows = record {
     items = items;
     holds = changes c.items f.object.number m.item c.holds m.at m.place;
-    objects_shown = subst (λ q. ShowObjects items q (changed f.object.number (with_owner (held c.frame.depth f.key.key)) lent_objects)) (sym width)
+    objects_shown = subst (λ q. ShowObjects items q (with_changed_object f.object.number (with_owner (held c.frame.depth f.key.key)) lent_objects)) (sym width)
         (one_shown c.items v.width f.object.number lent_objects m.item (with_parent None m.item) f.object.object (with_owner (held c.frame.depth f.key.key)) keep
         (owner_shown c.items v.width f.adopter.number w.objects f.adopter.object (lent c.frame.depth f.guard.key) (subst (ShowObjects c.items v.width) (sym same) c.shown) a.at (sym a.root.live) (sym a.root.above) (sym a.root.here))
         m.at (change_elsewhere w.objects f.adopter.number (with_owner (lent c.frame.depth f.guard.key)) f.object.number apart ∙ m.object)
@@ -154,7 +154,7 @@ focus_does old new v mid u c w y z to same f s o p k is e within wide key is_key
     keep = kept_with c.items f.object.number m.item (with_parent None m.item) m.at refl
 
     lent_objects : List Thing
-    lent_objects = changed f.adopter.number (with_owner (lent c.frame.depth f.guard.key)) w.objects
+    lent_objects = with_changed_object f.adopter.number (with_owner (lent c.frame.depth f.guard.key)) w.objects
 
     width : u.width ≡ v.width
     width = kept.width ∙ set.width
@@ -282,7 +282,7 @@ end_does old new v c w o p same f hangs =
     record {
       items = items;
       holds = hangs c.items f.number m.item c.holds m.at m.place f.adopter_number m.parent m.parent_at m.parent_place;
-      objects_shown = owner_shown items v.width f.adopter_number (changed f.number (with_owner (adopted_by f.adopter_number)) w.objects) m.parent_thing (held c.frame.depth f.guard)
+      objects_shown = owner_shown items v.width f.adopter_number (with_changed_object f.number (with_owner (adopted_by f.adopter_number)) w.objects) m.parent_thing (held c.frame.depth f.guard)
           (one_shown c.items v.width f.number w.objects m.item (with_parent (Some f.adopter_number) m.item) m.thing (with_owner (adopted_by f.adopter_number)) keep (subst (ShowObjects c.items v.width) (sym same) c.shown) m.at m.object_at
           (record { live = refl; type = m.shown.type; state = m.shown.state; parent = refl; is_out = m.shown.is_out ∙ m.root.here; cells = m.shown.cells }))
           (change_elsewhere w.objects f.number (with_owner (adopted_by f.adopter_number)) f.adopter_number (λ e. m.other (sym e)) ∙ m.parent_object_at)

@@ -9,7 +9,7 @@ use Rattle.vlt_heap.proofs.Listed.{KeepMade}
 use Rattle.vlt_meaning.specs.World.{Part, number, reference, owned, Value, one, Frame}
 use Rattle.vlt_meaning.specs.Step.{with_var}
 use Rattle.vlt_values.specs.declared.values.Values.{Values}
-use Rattle.vlt_values.specs.Parts.{padded, IsObject, HasPart, HasPartAt, HaveParts, HaveValue}
+use Rattle.vlt_values.specs.Parts.{padded_parts, IsObject, HasPart, HasPartAt, HaveParts, HaveValue}
 use Rattle.vlt_values.specs.Filled.{IsFilled, IsSingleSlot}
 use Rattle.vlt_values.specs.Shown.{var_at, key_at, HasVar, ShowsFrame, IsKept}
 use Rattle.vlt_values.proofs.Padding.{length_padded, single_value}
@@ -32,7 +32,7 @@ parts_kept old new slots k [] keep h = tt
 parts_kept old new slots k (p ∷ ps) keep h = (part_at_kept old new slots k p keep h.0, parts_kept old new slots (suc k) ps keep h.1)
 
 pub value_kept : (old new : Items) (slots : List Slot) (k w : ℕ) (a : Value) → KeepMade old new → HaveValue old slots k w a → HaveValue new slots k w a
-value_kept old new slots k w a keep h = record { narrow = h.narrow; parts = parts_kept old new slots k (padded w a) keep h.parts }
+value_kept old new slots k w a keep h = record { narrow = h.narrow; parts = parts_kept old new slots k (padded_parts w a) keep h.parts }
 
 pub frame_kept : (old new : Items) (values : Values) (frame : Frame) → KeepMade old new → ShowsFrame old values frame → ShowsFrame new values frame
 frame_kept old new values frame keep h = record {
@@ -53,7 +53,7 @@ parts_same items slots news from k w (p ∷ ps) low high same h =
 pub value_same : (items : Items) (slots news : List Slot) (from w : ℕ) (a : Value) → ((j : ℕ) → from ≤ j → j < from + w → slice_get news j ≡ slice_get slots j) → HaveValue items slots from w a → HaveValue items news from w a
 value_same items slots news from w a same h = record {
   narrow = h.narrow;
-  parts = parts_same items slots news from from w (padded w a) (omega arith) (let n = length_padded w a h.narrow in omega (arith, n)) same h.parts;
+  parts = parts_same items slots news from from w (padded_parts w a) (omega arith) (let n = length_padded w a h.narrow in omega (arith, n)) same h.parts;
 }
 
 -- ---- a variable gets a value

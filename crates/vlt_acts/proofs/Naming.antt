@@ -14,7 +14,7 @@ use Rattle.vlt_heap.specs.Items.{Items}
 use Rattle.vlt_meaning.specs.World.{Value, one, of_case, number, reference, owned, Owner, held, lent, loose, inside, adopted_by, out, gone, is_loose, is_gone, is_out, above, Object, World, Frame, trap, fault, done, fuel_end, heap_end, depth_end, input_end, answers_end, bad_answer, missing}
 use Rattle.vlt_meaning.specs.Found as sd
 use Rattle.vlt_meaning.specs.Found.{◌>>=◌, or_fault, Named}
-use Rattle.vlt_meaning.specs.Objects.{owned_at, in_states, with_owner, changed}
+use Rattle.vlt_meaning.specs.Objects.{owned_at, in_states, with_owner, with_changed_object}
 use Rattle.vlt_meaning.specs.Operands.{owned_in}
 use Rattle.vlt_meaning.specs.Step.{Step, goes, with_found, with_changed, with_var, with_key}
 use Rattle.vlt_meaning.specs.Run.{does_simple}
@@ -98,7 +98,7 @@ unpack_does h old mid new c w n d x v to q a b same is within wide front unpacke
           shows = record {
             items = c.items;
             holds = c.holds;
-            objects_shown = subst (λ z. ShowObjects c.items z (changed m (with_owner (held c.frame.depth q.key)) w.objects)) (sym width)
+            objects_shown = subst (λ z. ShowObjects c.items z (with_changed_object m (with_owner (held c.frame.depth q.key)) w.objects)) (sym width)
                 (owner_shown c.items old.width m w.objects o (held c.frame.depth q.key) (subst (ShowObjects c.items old.width) (sym same) c.shown) at_o (sym root.0) (sym root.1) (sym root.2));
             frame_shown = assigned c.items mid new (with_key q.key m (with_var v None c.frame)) x (one (reference m)) (subst (λ z. x < z) (sym set.vars) within) (subst (λ z. IsKept z mid new) is_to kept)
                 (single_at c.items new.slots.items to (var_at mid x) mid.width new.width b (reference m) is_to kept.width (subst (λ z. 1 ≤ z) (sym set.width) wide) ref filled)

@@ -11,7 +11,7 @@ use Rattle.vlt_heap.specs.Items.{Item, Items, IsAt, with_item, without, without_
 use Rattle.vlt_heap.specs.Items as held
 use Rattle.vlt_heap.proofs.Listed.{KeepMade, with_here, kept_without, length_without}
 use Rattle.vlt_meaning.specs.World.{Owner, gone, Object, is_gone, above}
-use Rattle.vlt_meaning.specs.Objects.{changed, changed_in, with_owner, parents_of, is_under, released}
+use Rattle.vlt_meaning.specs.Objects.{with_changed_object, changed_in, with_owner, parents_of, is_under, objects_after_release}
 use Rattle.vlt_meaning_laws.proofs.Lists.{get_numbered}
 use Rattle.vlt_meaning_laws.proofs.Keeping.{change_here, change_elsewhere}
 use Rattle.vlt_values.specs.Shown.{ShowsObject, ShowsIt, ShowObjects}
@@ -35,7 +35,7 @@ it_kept old new w (Some x) o keep h = object_kept old new w x o keep h
 
 -- ---- one object changes
 
-pub length_changed : (os : List Object) (n : ℕ) (change : Object → Object) → length (changed n change os) ≡ length os
+pub length_changed : (os : List Object) (n : ℕ) (change : Object → Object) → length (with_changed_object n change os) ≡ length os
 length_changed os n change = by (slice_get os n)
   where
     by : (x : Option Object) → length (changed_in n change os x) ≡ length os
@@ -43,7 +43,7 @@ length_changed os n change = by (slice_get os n)
     by (Some q) = length-set os n (change q)
 
 pub one_shown : (items : Items) (w n : ℕ) (objects : List Object) (x y : Item) (o : Object) (change : Object → Object) → KeepMade items (with_item n y items) → ShowObjects items w objects → IsAt items n x → slice_get objects n ≡ Some o
-    → ShowsObject items w y (change o) → ShowObjects (with_item n y items) w (changed n change objects)
+    → ShowsObject items w y (change o) → ShowObjects (with_item n y items) w (with_changed_object n change objects)
 one_shown items w n objects x y o change keep h at_x at_o new = record {
   long = length-set items n (Some y) ∙ h.long ∙ sym (length_changed objects n change);
   each = λ m z q at_z at_q. it_kept items (with_item n y items) w z q keep (by m z q at_z at_q (equal_or_not m n));
@@ -52,10 +52,10 @@ one_shown items w n objects x y o change keep h at_x at_o new = record {
     other : (m : ℕ) (z : Option Item) → m ≢ n → slice_get (with_item n y items) m ≡ Some z → slice_get items m ≡ Some z
     other m z d at = sym (get_other items n m (Some y) d) ∙ at
 
-    by : (m : ℕ) (z : Option Item) (q : Object) → slice_get (with_item n y items) m ≡ Some z → slice_get (changed n change objects) m ≡ Some q → (m ≡ n) ⊎ (m ≢ n) → ShowsIt items w z q
+    by : (m : ℕ) (z : Option Item) (q : Object) → slice_get (with_item n y items) m ≡ Some z → slice_get (with_changed_object n change objects) m ≡ Some q → (m ≡ n) ⊎ (m ≢ n) → ShowsIt items w z q
     by m z q at_z at_q (inl e) =
         let a : Some y ≡ z = same_Some (Some y) z (sym (with_here items n x y at_x) ∙ ap (slice_get (with_item n y items)) (sym e) ∙ at_z) in
-        let b : change o ≡ q = same_Some (change o) q (sym (change_here objects n o change at_o) ∙ ap (slice_get (changed n change objects)) (sym e) ∙ at_q) in
+        let b : change o ≡ q = same_Some (change o) q (sym (change_here objects n o change at_o) ∙ ap (slice_get (with_changed_object n change objects)) (sym e) ∙ at_q) in
         subst (λ u. ShowsIt items w u q) a (subst (ShowsObject items w y) b new)
     by m z q at_z at_q (inr d) = h.each m z q (other m z d at_z) (sym (change_elsewhere objects n change m d) ∙ at_q)
 
@@ -65,7 +65,7 @@ length_numbered : {A B : Type 0} (g : ℕ × A → B) (i : ℕ) (xs : List A) �
 length_numbered g i [] = refl
 length_numbered g i (x ∷ xs) = ap suc (length_numbered g (i + 1) xs)
 
-length_released : (n : ℕ) (os : List Object) → length (released n os) ≡ length os
+length_released : (n : ℕ) (os : List Object) → length (objects_after_release n os) ≡ length os
 length_released n os = length_numbered (λ q. if is_under os (n ∷ []) q.0 then with_owner gone q.1 else q.1) 0 os
 
 same_parents : (xs : Items) (os : List Object) → length xs ≡ length os → ((n : ℕ) (x : Option Item) (o : Object) → slice_get xs n ≡ Some x → slice_get os n ≡ Some o → parent_of x ≡ above o.owner) → held.parents_of xs ≡ parents_of os
@@ -97,20 +97,20 @@ get_without out m (x ∷ items) (suc k) z at =
 abbrev released_at : (n : ℕ) → List Object → ℕ × Object → Object
 released_at n os q = if is_under os (n ∷ []) q.0 then with_owner gone q.1 else q.1
 
-get_released : (n : ℕ) (os : List Object) (k : ℕ) (q : Object) → slice_get (released n os) k ≡ Some q → (o : Object) × (slice_get os k ≡ Some o) × (released_at n os (k, o) ≡ q)
+get_released : (n : ℕ) (os : List Object) (k : ℕ) (q : Object) → slice_get (objects_after_release n os) k ≡ Some q → (o : Object) × (slice_get os k ≡ Some o) × (released_at n os (k, o) ≡ q)
 get_released n os k q at = by (slice_get os k) refl (sym (get_numbered (released_at n os) 0 os k) ∙ at)
   where
     by : (x : Option Object) → slice_get os k ≡ x → option_map (λ o. released_at n os (0 + k, o)) (slice_get os k) ≡ Some q → (o : Object) × (slice_get os k ≡ Some o) × (released_at n os (k, o) ≡ q)
     by None e h = absurd (none-some q (sym (ap (option_map (λ o. released_at n os (0 + k, o))) e) ∙ h))
     by (Some o) e h = (o, e, ap (λ j. released_at n os (j, o)) (omega arith) ∙ same_Some _ q (sym (ap (option_map (λ o. released_at n os (0 + k, o))) e) ∙ h))
 
-pub release_shown : (items : Items) (w n : ℕ) (objects : List Object) → ShowObjects items w objects → ShowObjects (without n items) w (released n objects)
+pub release_shown : (items : Items) (w n : ℕ) (objects : List Object) → ShowObjects items w objects → ShowObjects (without n items) w (objects_after_release n objects)
 release_shown items w n objects h = record {
   long = length_without (is_at_or_below (held.parents_of items) (n ∷ [])) 0 items ∙ h.long ∙ sym (length_released n objects);
   each = λ k z q at_z at_q. it_kept items (without n items) w z q (kept_without items n) (each k z q at_z at_q);
 }
   where
-    each : (k : ℕ) (z : Option Item) (q : Object) → slice_get (without n items) k ≡ Some z → slice_get (released n objects) k ≡ Some q → ShowsIt items w z q
+    each : (k : ℕ) (z : Option Item) (q : Object) → slice_get (without n items) k ≡ Some z → slice_get (objects_after_release n objects) k ≡ Some q → ShowsIt items w z q
     each k z q at_z at_q =
         let a = get_without (is_at_or_below (held.parents_of items) (n ∷ [])) 0 items k z at_z in
         let b = get_released n objects k q at_q in

@@ -114,11 +114,11 @@ pub data Reaction : Type 0 where
   refuse : Reaction
   exceed : ℕ → Reaction
 
-abbrev pub followed : Reaction → List Symbol → Reaction
-followed (take xs) ys = take (xs ++ ys)
-followed skip ys = skip
-followed refuse ys = refuse
-followed (exceed n) ys = exceed n
+abbrev pub with_behind : Reaction → List Symbol → Reaction
+with_behind (take xs) ys = take (xs ++ ys)
+with_behind skip ys = skip
+with_behind refuse ys = refuse
+with_behind (exceed n) ys = exceed n
 
 -- the second alternative, where the token begins no such thing as the first is
 abbrev pub or_else : Reaction → Reaction → Reaction
@@ -170,7 +170,7 @@ abbrev pub start_states : Token → Reaction
 start_states x = on_sign mark.OpenBrace x (take (name ∷ further a_name mark.CloseBrace None ∷ [])) (start_name x)
 
 abbrev pub start_key : Token → Reaction
-start_key x = followed (start_name x) (at_states ∷ [])
+start_key x = with_behind (start_name x) (at_states ∷ [])
 
 abbrev pub start_ty : Token → Reaction
 start_ty (t.keyword word.Int) = take []
@@ -182,7 +182,7 @@ start_ty _ = refuse
 abbrev pub react_tracked : Token → Reaction
 react_tracked x =
     on_sign mark.OpenParen x (take (name ∷ sign mark.CloseParen ∷ named ∷ []))
-    (on_sign mark.At x (take (states ∷ named ∷ [])) (followed (start_name x) named_rest))
+    (on_sign mark.At x (take (states ∷ named ∷ [])) (with_behind (start_name x) named_rest))
 
 abbrev pub react_type_name : Token → Reaction
 react_type_name x =
@@ -259,12 +259,12 @@ whole_expr b = level_from lowest b.depth ∷ []
 
 -- an expression of its own
 abbrev pub start_expr : Bounds → Token → Reaction
-start_expr b x = followed (start_operand b.depth (whole_expr b) x) (end_expr ∷ [])
+start_expr b x = with_behind (start_operand b.depth (whole_expr b) x) (end_expr ∷ [])
 
 -- ---- right sides
 
 abbrev pub start_build : Token → Reaction
-start_build x = followed (start_tick x) (enclosed an_expr mark.OpenParen mark.CloseParen None ∷ [])
+start_build x = with_behind (start_tick x) (enclosed an_expr mark.OpenParen mark.CloseParen None ∷ [])
 
 abbrev pub start_right : Bounds → Token → Reaction
 start_right b (t.keyword word.Input) = take (sign mark.OpenParen ∷ sign mark.CloseParen ∷ [])
@@ -279,7 +279,7 @@ abbrev pub react_right_name : Bounds → Token → Reaction
 react_right_name b x =
     on_sign mark.OpenParen x (take (listed an_expr mark.CloseParen None ∷ []))
     (on_sign mark.Dot x (take (name ∷ operations 1 (whole_expr b) ∷ end_expr ∷ []))
-    (followed (react_operations 1 (whole_expr b) x) (end_expr ∷ [])))
+    (with_behind (react_operations 1 (whole_expr b) x) (end_expr ∷ [])))
 
 abbrev pub react_returned : Bounds → Token → Reaction
 react_returned b x = on_sign mark.Semicolon x skip (on_tick x (start_build x) (start_expr b x))
@@ -295,8 +295,8 @@ abbrev pub behind_if : ℕ → List Symbol
 behind_if room = sign mark.OpenParen ∷ thing an_expr ∷ sign mark.CloseParen ∷ block room ∷ otherwise room ∷ []
 
 -- behind the type of a declaration
-abbrev pub declared : List Symbol
-declared = name ∷ sign mark.Assign ∷ right ∷ sign mark.Semicolon ∷ []
+abbrev pub declaration_tail : List Symbol
+declaration_tail = name ∷ sign mark.Assign ∷ right ∷ sign mark.Semicolon ∷ []
 
 -- a statement without blocks
 abbrev pub start_simple : Token → Reaction
@@ -309,7 +309,7 @@ start_simple (t.keyword word.Become) = take (name ∷ sign mark.At ∷ name ∷ 
 start_simple (t.keyword word.Swap) = take (name ∷ sign mark.Dot ∷ name ∷ sign mark.Comma ∷ name ∷ sign mark.Semicolon ∷ [])
 start_simple (t.keyword word.Open) = take (name ∷ keyword word.Into ∷ sign mark.OpenParen ∷ name ∷ further a_name mark.CloseParen None ∷ sign mark.Semicolon ∷ [])
 start_simple (t.name text) = take (behind_stmt_name ∷ [])
-start_simple x = followed (start_ty x) declared
+start_simple x = with_behind (start_ty x) declaration_tail
 
 abbrev pub start_stmt : ℕ → Token → Reaction
 start_stmt room (t.sign mark.OpenBrace) = enter room (stmts (room - 1) ∷ [])
@@ -323,8 +323,8 @@ abbrev pub react_stmt_name : Token → Reaction
 react_stmt_name (t.sign mark.Assign) = take (right ∷ sign mark.Semicolon ∷ [])
 react_stmt_name (t.sign mark.Dot) = take (name ∷ sign mark.Assign ∷ thing an_expr ∷ sign mark.Semicolon ∷ [])
 react_stmt_name (t.sign mark.OpenParen) = take (listed an_expr mark.CloseParen None ∷ sign mark.Semicolon ∷ [])
-react_stmt_name (t.sign mark.Colon) = take (named ∷ declared)
-react_stmt_name (t.sign mark.Less) = take (name ∷ further a_name mark.Greater None ∷ declared)
+react_stmt_name (t.sign mark.Colon) = take (named ∷ declaration_tail)
+react_stmt_name (t.sign mark.Less) = take (name ∷ further a_name mark.Greater None ∷ declaration_tail)
 react_stmt_name (t.name text) = take (sign mark.Assign ∷ right ∷ sign mark.Semicolon ∷ [])
 react_stmt_name _ = refuse
 
@@ -346,7 +346,7 @@ abbrev pub start_result_type : Token → Reaction
 start_result_type x = on_keyword word.Void x (take []) (start_ty x)
 
 abbrev pub start_head : Bounds → Token → Reaction
-start_head b x = followed (start_result_type x) (head_rest b)
+start_head b x = with_behind (start_result_type x) (head_rest b)
 
 abbrev pub start_entry : Token → Reaction
 start_entry (t.sign mark.Minus) = take (thing a_key ∷ [])
@@ -379,14 +379,14 @@ start_decl b (t.keyword word.Abstract) = take behind_abstract
 start_decl b (t.keyword word.Struct) = take (behind_struct b)
 start_decl b (t.keyword word.Variant) = take (behind_variant b)
 start_decl b (t.keyword word.Extern) = take behind_extern
-start_decl b x = followed (start_head b x) (block b.depth ∷ [])
+start_decl b x = with_behind (start_head b x) (block b.depth ∷ [])
 
 -- where one more thing begins, it must be allowed
-abbrev pub counted : Left → Reaction → (Left → List Symbol) → Reaction
-counted left (take xs) rest = if left.more == 0 then exceed left.limit else take (xs ++ rest (record { limit = left.limit; more = left.more - 1 }))
-counted left skip rest = skip
-counted left refuse rest = refuse
-counted left (exceed n) rest = exceed n
+abbrev pub within_count : Left → Reaction → (Left → List Symbol) → Reaction
+within_count left (take xs) rest = if left.more == 0 then exceed left.limit else take (xs ++ rest (record { limit = left.limit; more = left.more - 1 }))
+within_count left skip rest = skip
+within_count left refuse rest = refuse
+within_count left (exceed n) rest = exceed n
 
 -- behind the last field: the states in which an object may be released, if they are given, and the closing brace
 abbrev pub react_behind_fields : Token → Reaction
@@ -398,14 +398,14 @@ react_behind_fields x =
 
 abbrev pub start_thing : Bounds → Thing → Token → Reaction
 start_thing b a_name x = start_name x
-start_thing b a_param x = followed (start_name x) (marked_name mark.Colon ∷ [])
+start_thing b a_param x = with_behind (start_name x) (marked_name mark.Colon ∷ [])
 start_thing b a_ty x = start_ty x
 start_thing b a_key x = start_key x
-start_thing b a_case x = followed (start_tick x) (enclosed a_ty mark.OpenParen mark.CloseParen (Some (record { limit = 8; more = b.payload })) ∷ enclosed a_key mark.OpenBrace mark.CloseBrace None ∷ [])
-start_thing b a_parameter x = followed (start_ty x) (name ∷ [])
+start_thing b a_case x = with_behind (start_tick x) (enclosed a_ty mark.OpenParen mark.CloseParen (Some (record { limit = 8; more = b.payload })) ∷ enclosed a_key mark.OpenBrace mark.CloseBrace None ∷ [])
+start_thing b a_parameter x = with_behind (start_ty x) (name ∷ [])
 start_thing b an_entry x = start_entry x
 start_thing b an_expr x = start_expr b x
-start_thing b an_init x = followed (start_name x) (sign mark.Colon ∷ thing an_expr ∷ [])
+start_thing b an_init x = with_behind (start_name x) (sign mark.Colon ∷ thing an_expr ∷ [])
 start_thing b a_result_type x = start_result_type x
 start_thing b a_simple x = start_simple x
 start_thing b (a_stmt room) x = start_stmt room x
@@ -432,12 +432,12 @@ reaction b (sign m) x = on_sign m x (take []) refuse
 reaction b (keyword w) x = on_keyword w x (take []) refuse
 reaction b (thing k) x = start_thing b k x
 reaction b (further k closing left) x = react_further k closing left x
-reaction b (listed k closing left) x = on_sign closing x (take []) (followed (start_thing b k x) (further k closing (less left) ∷ []))
+reaction b (listed k closing left) x = on_sign closing x (take []) (with_behind (start_thing b k x) (further k closing (less left) ∷ []))
 reaction b (enclosed k opening closing left) x = on_sign opening x (take (thing k ∷ further k closing (less left) ∷ [])) skip
 reaction b (marked_name m) x = on_sign m x (take (name ∷ [])) skip
 reaction b states x = start_states x
 reaction b at_states x = on_sign mark.At x (take (states ∷ [])) skip
-reaction b named x = followed (start_name x) named_rest
+reaction b named x = with_behind (start_name x) named_rest
 reaction b behind_tracked x = react_tracked x
 reaction b behind_type_name x = react_type_name x
 reaction b (operand room fs) x = start_operand room fs x
@@ -450,19 +450,19 @@ reaction b right x = start_right b x
 reaction b behind_right_name x = react_right_name b x
 reaction b returned x = react_returned b x
 reaction b (block room) x = start_block room x
-reaction b (stmts room) x = on_sign mark.CloseBrace x (take []) (followed (start_stmt room x) (stmts room ∷ []))
+reaction b (stmts room) x = on_sign mark.CloseBrace x (take []) (with_behind (start_stmt room x) (stmts room ∷ []))
 reaction b behind_stmt_name x = react_stmt_name x
 reaction b (otherwise room) x = on_keyword word.Else x (take (behind_else room ∷ [])) skip
 reaction b (behind_else room) x = on_keyword word.If x (enter (room - 1) (behind_if (room - 1))) (start_block room x)
 reaction b (arm room) x = start_arm room x
-reaction b (arms room) x = on_sign mark.CloseBrace x (take []) (followed (start_arm room x) (arms room ∷ []))
+reaction b (arms room) x = on_sign mark.CloseBrace x (take []) (with_behind (start_arm room x) (arms room ∷ []))
 reaction b entry_states x = on_sign mark.At x (take (states ∷ arrow_states ∷ [])) skip
 reaction b arrow_states x = on_sign mark.Arrow x (take (states ∷ [])) skip
 reaction b clause x = on_sign mark.OpenBracket x (take (listed an_entry mark.CloseBracket None ∷ [])) skip
 reaction b head x = start_head b x
-reaction b (fields left) x = or_else (counted left (start_ty x) (λ rest. name ∷ at_states ∷ sign mark.Semicolon ∷ fields rest ∷ [])) (react_behind_fields x)
+reaction b (fields left) x = or_else (within_count left (start_ty x) (λ rest. name ∷ at_states ∷ sign mark.Semicolon ∷ fields rest ∷ [])) (react_behind_fields x)
 reaction b behind_fields x = react_behind_fields x
-reaction b (decls left) x = counted left (start_decl b x) (λ rest. decls rest ∷ [])
+reaction b (decls left) x = within_count left (start_decl b x) (λ rest. decls rest ∷ [])
 
 pub data Next : Type 0 where
   to : List Symbol → Next
@@ -480,16 +480,16 @@ abbrev pub reaction_behind : Bounds → ℕ → Symbol → Token → Reaction
 reaction_behind b depth (close_group fs) x = on_sign mark.CloseParen x (take (behind_operand (suc depth) fs ∷ [])) refuse
 reaction_behind b depth y x = reaction b y x
 
-abbrev pub settled : Reaction → List Symbol → (Unit {0} → Next) → Next
-settled (take xs) s below = to (xs ++ s)
-settled skip s below = below tt
-settled refuse s below = unexpected
-settled (exceed n) s below = over n
+abbrev pub next_after : Reaction → List Symbol → (Unit {0} → Next) → Next
+next_after (take xs) s below = to (xs ++ s)
+next_after skip s below = below tt
+next_after refuse s below = unexpected
+next_after (exceed n) s below = over n
 
 -- what the token does with the stack: a symbol of which nothing comes leaves it to the next
 abbrev pub step_behind : Bounds → ℕ → List Symbol → Token → Next
 step_behind b depth [] x = unexpected
-step_behind b depth (y ∷ s) x = settled (reaction_behind b depth y x) s (λ u. step_behind b (depth_read y) s x)
+step_behind b depth (y ∷ s) x = next_after (reaction_behind b depth y x) s (λ u. step_behind b (depth_read y) s x)
 
 abbrev pub step : Bounds → List Symbol → Token → Next
 step b s x = step_behind b 0 s x
@@ -519,15 +519,15 @@ may_end (y ∷ s) = if may_skip y then may_end s else false
 abbrev pub Verdict : Type 0
 Verdict = Result (Unit {0}) Refusal
 
-abbrev pub gone_on : (List Symbol → Verdict) → ℕ → Next → Verdict
-gone_on rest at (to s) = rest s
-gone_on rest at unexpected = Err (unexpected_at at)
-gone_on rest at (over n) = Err (over_limit n)
+abbrev pub go_on_with : (List Symbol → Verdict) → ℕ → Next → Verdict
+go_on_with rest at (to s) = rest s
+go_on_with rest at unexpected = Err (unexpected_at at)
+go_on_with rest at (over n) = Err (over_limit n)
 
 -- reads the tokens with this on the stack
 abbrev pub run_over : Bounds → List Located → List Symbol → Verdict
 run_over b [] s = if may_end s then Ok tt else Err ended
-run_over b (x ∷ xs) s = gone_on (run_over b xs) x.at (step b s x.token)
+run_over b (x ∷ xs) s = go_on_with (run_over b xs) x.at (step b s x.token)
 
 abbrev pub run : Bounds → List Symbol → List Located → Verdict
 run b s xs = run_over b xs s

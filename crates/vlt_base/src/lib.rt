@@ -17,9 +17,11 @@ pub use places::{Span, place};
 pub use sqlite_items::{Boxed, Items};
 pub use states::StateSet;
 use std::alloc::{AllocError, AllocFailed};
+use thiserror::Error;
 
 /// There was no memory for what was asked.
-#[derive(Clone, Copy, Debug, PartialEq, Eq)]
+#[derive(Clone, Copy, Debug, PartialEq, Eq, Error)]
+#[error("there was no memory")]
 pub struct Memory;
 
 impl From<AllocError> for Memory {
@@ -35,7 +37,8 @@ impl<T: Drop> From<AllocFailed<T>> for Memory {
 }
 
 /// A run has as many live objects as its budget allows.
-#[derive(Clone, Copy, Debug, PartialEq, Eq)]
+#[derive(Clone, Copy, Debug, PartialEq, Eq, Error)]
+#[error("as many objects are live as the budget allows")]
 pub struct HeapEnd;
 
 /// What a run may use.

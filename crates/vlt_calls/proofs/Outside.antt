@@ -25,7 +25,7 @@ use Rattle.vlt_host_calls.specs.Called.{IsCall, CanCall as CanCallOut, Calls}
 use Rattle.vlt_tasks.specs.declared.task.Rules.{Rules}
 use Rattle.vlt_tasks.specs.declared.task.Run.{Run}
 use Rattle.vlt_tasks.specs.Own.{IsVar, IsKey}
-use Rattle.vlt_tasks.specs.Halting.{halted}
+use Rattle.vlt_tasks.specs.Halting.{stop_of_result}
 use Rattle.vlt_tasks.specs.Shown.{tasks_left, ShowsTasks}
 use Rattle.vlt_tasks.specs.Moves.{CameTo}
 use Rattle.vlt_tasks.proofs.Stacks.{tasks_kept}
@@ -124,7 +124,7 @@ module _ (old new : Run) (f : Func) (ts : List m.Task) (g : Func) (args : List V
   }
 
   pub out_came : (r : Result (Unit {0}) Stop) → IfOk r (λ u. length new.values.slots.items + g.params * old.values.width ≡ length old.values.slots.items) → (a : Step) → IsAt frame.depth a → Comes q.items new.heap new.values new.host before after r w a
-      → CameTo w before after (halted r) new (at f ts a) a
+      → CameTo w before after (stop_of_result r) new (at f ts a) a
   out_came (Ok u) long (goes next v) d c = went_out next v long d c
   out_came (Ok u) long (ends o v) d c = c
   out_came (Ok u) long (jumps b next v) d c = absurd c
@@ -137,7 +137,7 @@ module _ (old new : Run) (f : Func) (ts : List m.Task) (g : Func) (args : List V
 
 module _ (rules : Rules) (old new : Run) (g : Func) (target : Option VarId) (keys : List ℕ) (external : g.external ≡ true) (can : CanGoIn (calling_out (option_map (λ v. v.0) target) keys g) g (option_map (λ v. v.0) target) keys rules old)
     (before after : Outside) (beside : IsSameBeside old new) (below : IsSameBelow old.values new.values) where
-  pub called_out : (r : Result (Unit {0}) Stop) (stop : Option Stop) → stop ≡ halted r → IsSound new.heap → IsSameSize old.heap new.heap → vec_capacity old.host.line ≤ vec_capacity new.host.line
+  pub called_out : (r : Result (Unit {0}) Stop) (stop : Option Stop) → stop ≡ stop_of_result r → IsSound new.heap → IsSameSize old.heap new.heap → vec_capacity old.host.line ≤ vec_capacity new.host.line
       → IfOk r (λ u. length new.values.slots.items + g.params * old.values.width ≡ length old.values.slots.items) → Calls (program_of rules.program.now) g target keys old.heap new.heap old.values new.values old.host new.host before after r
       → DoesIn (calling_out (option_map (λ v. v.0) target) keys g) g keys rules old new before after stop
   called_out r stop is sound size line long calls = record {

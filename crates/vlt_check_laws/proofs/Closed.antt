@@ -1,7 +1,7 @@
 -- What is found in a body of tokens and states that its tests don't tell apart is the same.
 use Rattle.std.proofs.Common.{◌≡◌, ℕ, zero, suc, Bool, true, false, List, [], ◌∷◌, ◌++◌, map, refl, sym, ◌∙◌, subst, inl, inr, ⊎_elim}
 use Rattle.vlt_core.specs.Core.{Tok}
-use Rattle.vlt_core.specs.Maps.{Wanted, wants_absent, wants_held, wants_in, wants_lent, wants_full, After, becomes_absent, becomes_held, stays, becomes_full, becomes_lent, comes_back, Row, is_tok, gone}
+use Rattle.vlt_core.specs.Maps.{Wanted, wants_absent, wants_held, wants_in, wants_lent, wants_full, After, becomes_absent, becomes_held, stays, becomes_full, becomes_lent, comes_back, Row, is_tok, away_row}
 use Rattle.vlt_core.specs.Flow.{Flow, step, choose, loop, switch, scope, focus, return, jump, Block, block, Stmts, done, next, Arms, no_arms, arm}
 use Rattle.vlt_core.specs.Found.{One, one_absent, one_held, one_lent, one_full, Ones, WantsOne, LeftBy, image_if, image, images, both, turns, heads, Exit, to_next, to_break, to_continue, jumps, out, out_block, out_stmts, out_arms, head_of}
 use Rattle.vlt_core_laws.specs.Shown.{Every}
@@ -33,10 +33,10 @@ abbrev mutual
   tests (scope s) = tests_block s
   tests (focus rs s es) = tests_rows rs ++ (tests_block s ++ tests_rows es)
   tests (return rs) = tests_rows rs
-  tests (jump c left) = tests_rows (map gone left)
+  tests (jump c left) = tests_rows (map away_row left)
 
   pub tests_block : Block → List Test
-  tests_block (block ss bound end) = tests_stmts ss ++ tests_rows (map gone bound)
+  tests_block (block ss bound end) = tests_stmts ss ++ tests_rows (map away_row bound)
 
   pub tests_stmts : Stmts → List Test
   tests_stmts done = []
@@ -207,10 +207,10 @@ module _ (xs : List Test) where
         let l = keeps_right xs (tests_rows rs) _ k in
         block_closed s (λ t. images t rs (S t)) to_continue (keeps_left xs (tests_block s) (tests_rows es) l) (rows_closed rs S (keeps_left xs (tests_rows rs) _ k) c)
     form_closed (return rs) S x k c = none_closed
-    form_closed (jump b left) S x k c = jumps_closed b x (λ t. images t (map gone left) (S t)) (rows_closed (map gone left) S k c)
+    form_closed (jump b left) S x k c = jumps_closed b x (λ t. images t (map away_row left) (S t)) (rows_closed (map away_row left) S k c)
 
     pub block_closed : (s : Block) (S : Every) (x : Exit) → Keeps xs (tests_block s) → IsClosed S → IsClosed (λ t. out_block t s (S t) x)
-    block_closed (block ss bound end) S to_next k c = rows_closed (map gone bound) (λ t. out_stmts t ss (S t) to_next) (keeps_right xs (tests_stmts ss) _ k) (stmts_closed ss S to_next (keeps_left xs (tests_stmts ss) _ k) c)
+    block_closed (block ss bound end) S to_next k c = rows_closed (map away_row bound) (λ t. out_stmts t ss (S t) to_next) (keeps_right xs (tests_stmts ss) _ k) (stmts_closed ss S to_next (keeps_left xs (tests_stmts ss) _ k) c)
     block_closed (block ss bound end) S to_break k c = stmts_closed ss S to_break (keeps_left xs (tests_stmts ss) _ k) c
     block_closed (block ss bound end) S to_continue k c = stmts_closed ss S to_continue (keeps_left xs (tests_stmts ss) _ k) c
 

@@ -1,7 +1,7 @@
 -- Some path leads to what is found.
 use Rattle.std.proofs.Common.{◌⊎◌, ℕ, zero, suc, true, false, List, ◌∷◌, map, refl, inl, inr, ⊎_elim}
 use Rattle.vlt_core.specs.Core.{Tok}
-use Rattle.vlt_core.specs.Maps.{Row, gone}
+use Rattle.vlt_core.specs.Maps.{Row, away_row}
 use Rattle.vlt_core.specs.Flow.{Flow, step, choose, loop, switch, scope, focus, return, jump, Block, block, Stmts, done, next, Arms, no_arms, arm}
 use Rattle.vlt_core.specs.Found.{One, Ones, images, both, turns, Exit, to_next, to_break, to_continue, out, out_block, out_stmts, out_arms, head_of}
 use Rattle.vlt_core.specs.Witness.{Choice, choice, then_arm, else_arm, turn, exit, case_arm, LeadsOn, Turns, Through, ThroughBlock, ThroughStmts, ThroughArm}
@@ -140,7 +140,7 @@ mutual
   lead_form (focus rs s es) t at S to_break q ds j w = absurd ((no_jump_block s t (images t rs S) q j.2).0 w)
   lead_form (focus rs s es) t at S to_continue q ds j w = absurd ((no_jump_block s t (images t rs S) q j.2).1 w)
   lead_form (return rs) t at S x q ds j w = absurd w
-  lead_form (jump true left) t at S to_continue q ds j w = let z = source t (map gone left) S q w in record {
+  lead_form (jump true left) t at S to_continue q ds j w = let z = source t (map away_row left) S q w in record {
     start = z.start;
     comes = z.comes;
     choices = ds;
@@ -148,7 +148,7 @@ mutual
   }
   lead_form (jump true left) t at S to_next q ds j w = absurd w
   lead_form (jump true left) t at S to_break q ds j w = absurd w
-  lead_form (jump false left) t at S to_break q ds j w = let z = source t (map gone left) S q w in record {
+  lead_form (jump false left) t at S to_break q ds j w = let z = source t (map away_row left) S q w in record {
     start = z.start;
     comes = z.comes;
     choices = ds;
@@ -160,7 +160,7 @@ mutual
   pub lead_block : (s : Block) (t : Tok) (S : Ones) (x : Exit) (q : One) (ds : List Choice) → IsTameBlock s → out_block t s S x q →
       Path S (λ o cs. ThroughBlock t s o cs x q ds)
   lead_block (block ss bound end) t S to_next q ds j w =
-      let e = source t (map gone bound) (out_stmts t ss S to_next) q w in
+      let e = source t (map away_row bound) (out_stmts t ss S to_next) q w in
       let z = lead_stmts ss t S to_next e.start ds j e.comes in
       record { start = z.start; comes = z.comes; choices = z.choices; fact = (e.start, z.fact, e.leads) }
   lead_block (block ss bound end) t S to_break q ds j w = let z = lead_stmts ss t S to_break q ds j w in record {

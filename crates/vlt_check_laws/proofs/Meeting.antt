@@ -1,7 +1,7 @@
 -- Some path comes to each row and to each join of which something is found.
 use Rattle.std.proofs.Common.{◌≡◌, ◌+◌, ℕ, zero, suc, Bool, true, false, List, [], ◌∷◌, map, length, refl, ap, subst, inl, inr, ⊎_elim}
 use Rattle.vlt_core.specs.Core.{Tok}
-use Rattle.vlt_core.specs.Maps.{Row, is_tok, gone}
+use Rattle.vlt_core.specs.Maps.{Row, is_tok, away_row}
 use Rattle.vlt_core.specs.Flow.{Flow, step, choose, loop, switch, scope, focus, return, jump, Block, block, Stmts, done, next, Arms, no_arms, arm, end_of}
 use Rattle.vlt_core.specs.Found.{One, Ones, image, images, to_next, out, out_block, out_stmts, head_of}
 use Rattle.vlt_core.specs.Faults.{If, Spot, row_spot, spots, spots_block, spots_stmts, RowAt, SpotAt, SpotAtBlock, SpotAtStmts, SpotAtArms}
@@ -156,13 +156,13 @@ module _ (R : Row → Ones → Type 0) (J : Ones → Type 0) (P : (at : ℕ) →
         let o = source t rs S z.start z.comes in
         record { start = o.start; comes = o.comes; choices = z.choices; fact = inr (inr (z.start, o.leads, (e.start, z.fact, e.met))) })) x
     form (return rs) at k S j x = rows_path at k rs S _ (λ o y. y) x
-    form (jump c left) at k S j x = rows_path at k (map gone left) S _ (λ o y. y) x
+    form (jump c left) at k S j x = rows_path at k (map away_row left) S _ (λ o y. y) x
 
     pub body : (s : Block) (k : ℕ) (S : Ones) → IsTameBlock s → SpotAtBlock R J p t k s S → Path S (λ o cs. MetBlock P Q t k s o cs)
     body (block ss bound end) k S j x = ⊎_elim
         (λ y. let z = list ss k S j y in record { start = z.start; comes = z.comes; choices = z.choices; fact = inl z.fact })
         (λ y.
-        let e = row_path end (k + spots_stmts ss) (map gone bound) (out_stmts t ss S to_next) y in
+        let e = row_path end (k + spots_stmts ss) (map away_row bound) (out_stmts t ss S to_next) y in
         let z = lead_stmts ss t S to_next e.start [] j e.comes in
         record { start = z.start; comes = z.comes; choices = z.choices; fact = inr (e.start, z.fact, e.met) }) x
 

@@ -1,7 +1,7 @@
 -- A path to a join comes with what is found there.
 use Rattle.std.proofs.Common.{◌+◌, ℕ, zero, suc, List, [], ◌∷◌, map, length, sym, inl, inr, ⊎_elim}
 use Rattle.vlt_core.specs.Core.{Tok}
-use Rattle.vlt_core.specs.Maps.{Row, gone}
+use Rattle.vlt_core.specs.Maps.{Row, away_row}
 use Rattle.vlt_core.specs.Flow.{Flow, step, choose, loop, switch, scope, focus, return, jump, Block, block, Stmts, done, next, Arms, no_arms, arm, end_of}
 use Rattle.vlt_core.specs.Found.{One, Ones, images, to_next, out, head_of}
 use Rattle.vlt_core.specs.Faults.{Spot, spots, spots_block, SpotAt, SpotAtBlock, SpotAtStmts, SpotAtArms}
@@ -46,11 +46,11 @@ module _ (p : Spot) (is : One → Type 0) (t : Tok) where
         (λ y. inr (inl (met_block s (k + length rs) (images t rs S) y.0 cs (lead t rs S o y.0 h y.1) y.2)))
         (λ y. absurd (no_row (end_of s) es y.2.0 y.2.2))) w
     met (return rs) at k S o cs h w = absurd (no_row at rs o w.1)
-    met (jump c left) at k S o cs h w = absurd (no_row at (map gone left) o w.1)
+    met (jump c left) at k S o cs h w = absurd (no_row at (map away_row left) o w.1)
 
     pub met_block : (s : Block) (k : ℕ) (S : Ones) (o : One) (cs : List Choice) → S o → MetBlock NoRow (IsJoin p is) t k s o cs →
         SpotAtBlock Never (Holds is) p t k s S
-    met_block (block ss bound end) k S o cs h w = ⊎_elim (λ y. inl (met_stmts ss k S o cs h y)) (λ y. absurd (no_row end (map gone bound) y.0 y.2)) w
+    met_block (block ss bound end) k S o cs h w = ⊎_elim (λ y. inl (met_stmts ss k S o cs h y)) (λ y. absurd (no_row end (map away_row bound) y.0 y.2)) w
 
     met_stmts : (ss : Stmts) (k : ℕ) (S : Ones) (o : One) (cs : List Choice) → S o → MetStmts NoRow (IsJoin p is) t k ss o cs →
         SpotAtStmts Never (Holds is) p t k ss S

@@ -1,7 +1,7 @@
 -- What a path comes out with is found there.
 use Rattle.std.proofs.Common.{◌⊎◌, ℕ, zero, suc, Bool, true, false, List, map, sym, subst, inl, inr, ⊎_elim}
 use Rattle.vlt_core.specs.Core.{Tok}
-use Rattle.vlt_core.specs.Maps.{Row, gone}
+use Rattle.vlt_core.specs.Maps.{Row, away_row}
 use Rattle.vlt_core.specs.Flow.{Flow, step, choose, loop, switch, scope, focus, return, jump, Block, block, Stmts, done, next, Arms, no_arms, arm}
 use Rattle.vlt_core.specs.Found.{One, Ones, images, Exit, to_next, to_break, to_continue, jumps, out, out_block, out_stmts, out_arms, head_of}
 use Rattle.vlt_core.specs.Witness.{Choice, only, LeadsOn, Turns, Takes, Through, ThroughBlock, ThroughStmts, ThroughArm, Reaches}
@@ -66,12 +66,12 @@ mutual
       let p = through_block s t (images t rs S) v.0 v.2.0 cs ds to_next (lead t rs S o v.0 h v.1) v.2.1 in
       subst (λ x. out t (focus rs s es) S x q) (sym w.0) (lead t es (out_block t s (images t rs S) to_next) v.2.0 q p v.2.2)
   through_out (return rs) t at S o q cs ds x h w = absurd w
-  through_out (jump c left) t at S o q cs ds x h w = taken c x (images t (map gone left) S) q w.0 (lead t (map gone left) S o q h w.1)
+  through_out (jump c left) t at S o q cs ds x h w = taken c x (images t (map away_row left) S) q w.0 (lead t (map away_row left) S o q h w.1)
 
   pub through_block : (s : Block) (t : Tok) (S : Ones) (o q : One) (cs ds : List Choice) (x : Exit) → S o →
       ThroughBlock t s o cs x q ds → out_block t s S x q
   through_block (block ss bound end) t S o q cs ds to_next h w =
-      lead t (map gone bound) (out_stmts t ss S to_next) w.0 q (through_stmts ss t S o w.0 cs ds to_next h w.1) w.2
+      lead t (map away_row bound) (out_stmts t ss S to_next) w.0 q (through_stmts ss t S o w.0 cs ds to_next h w.1) w.2
   through_block (block ss bound end) t S o q cs ds to_break h w = through_stmts ss t S o q cs ds to_break h w
   through_block (block ss bound end) t S o q cs ds to_continue h w = through_stmts ss t S o q cs ds to_continue h w
 

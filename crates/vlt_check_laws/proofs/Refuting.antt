@@ -1,7 +1,7 @@
 -- Where an annotation holds, no path comes to a row that refuses, and no two to a join that is mixed.
 use Rattle.std.proofs.Common.{◌≡◌, ◌+◌, ◌⊎◌, ℕ, zero, suc, List, [], ◌∷◌, map, length, Option, None, Some, refl, sym, subst, inl, ⊎_elim}
 use Rattle.vlt_core.specs.Core.{Tok, Func, Program}
-use Rattle.vlt_core.specs.Maps.{HeldMap, Wanted, Row, row_passed, CanPass, passed, IsBelow, is_tok, gone}
+use Rattle.vlt_core.specs.Maps.{HeldMap, Wanted, Row, row_passed, CanPass, map_after, IsBelow, is_tok, away_row}
 use Rattle.vlt_core.specs.Flow.{Flow, step, choose, loop, switch, scope, focus, return, jump, Block, block, Stmts, done, next, Arms, no_arms, arm, end_of, size, size_block}
 use Rattle.vlt_core.specs.Bodies.{body_flow}
 use Rattle.vlt_core.specs.Derives.{start_map}
@@ -20,7 +20,7 @@ use Rattle.vlt_check_laws.proofs.Meets.{Never, Holds, met_block}
 only_in : (h : HeldMap) (t : Tok) (o : One) → Has (h t) o → IsIn (only o) (h t)
 only_in h t o p = record { each = λ q e. subst (Has (h t)) (sym e) p }
 
-passed_has : (t : Tok) (rs : List Row) (h : HeldMap) (o q : One) → Has (h t) o → LeadsOn t rs o q → Has (passed rs h t) q
+passed_has : (t : Tok) (rs : List Row) (h : HeldMap) (o q : One) → Has (h t) o → LeadsOn t rs o q → Has (map_after rs h t) q
 passed_has t rs h o q p w = (images_in t rs (only o) h (only_in h t o p)).each q w
 
 -- the map that a part leads to, where a path comes out of it
@@ -47,7 +47,7 @@ module _ (t : Tok) (place : ℕ) (w : Wanted) where
 
   -- a turn leads from the map at the head to that map
   pub record Turned (rs : List Row) (s : Block) (i : HeldMap) : Type 0 where
-    pub turn : (m r : One) (es fs : List Choice) → Has (passed rs i t) m →
+    pub turn : (m r : One) (es fs : List Choice) → Has (map_after rs i t) m →
         (ThroughBlock t s m es to_next r fs ⊎ ThroughBlock t s m es to_continue r fs) → Has (i t) r
 
   reached : (rs : List Row) (s : Block) (i : HeldMap) → Turned rs s i → (at n : ℕ) (o q : One) (cs ds : List Choice) → Has (i t) o →
@@ -56,14 +56,14 @@ module _ (t : Tok) (place : ℕ) (w : Wanted) where
   reached rs s i f at (suc n) o q cs ds h x =
       reached rs s i f at n x.2.2.0 q x.2.2.1.0 ds (f.turn x.0 x.2.2.0 x.2.0 x.2.2.1.0 (passed_has t rs i o x.0 h x.1) x.2.2.1.1) x.2.2.1.2
 
-  turned : (rs : List Row) (s : Block) (a : Notes) (n : ℕ) → IsLocalBlock a (Some n) (n + 1) (passed rs (a.around n)) s →
-      When (leads_block a (n + 1) (passed rs (a.around n)) s) (λ m. IsBelow m (a.around n)) → Turned rs s (a.around n)
+  turned : (rs : List Row) (s : Block) (a : Notes) (n : ℕ) → IsLocalBlock a (Some n) (n + 1) (map_after rs (a.around n)) s →
+      When (leads_block a (n + 1) (map_after rs (a.around n)) s) (λ m. IsBelow m (a.around n)) → Turned rs s (a.around n)
   turned rs s a n d below = record {
     turn = λ m r es fs h x.
-        let is = only_in (passed rs (a.around n)) t m h in
-        let out = (local_out_block s t a (Some n) (n + 1) (passed rs (a.around n)) (only m) is d).0 in
+        let is = only_in (map_after rs (a.around n)) t m h in
+        let out = (local_out_block s t a (Some n) (n + 1) (map_after rs (a.around n)) (only m) is d).0 in
         ⊎_elim
-        (λ y. let l = led (leads_block a (n + 1) (passed rs (a.around n)) s) (λ m. IsBelow m (a.around n)) t r (out.next r (through_block s t (only m) m r es fs to_next refl y)) below in has_below (l.map t) (a.around n t) r (l.fact.each t) l.has)
+        (λ y. let l = led (leads_block a (n + 1) (map_after rs (a.around n)) s) (λ m. IsBelow m (a.around n)) t r (out.next r (through_block s t (only m) m r es fs to_next refl y)) below in has_below (l.map t) (a.around n t) r (l.fact.each t) l.has)
         (λ y. out.continues r (through_block s t (only m) m r es fs to_continue refl y)) x;
   }
 
@@ -73,37 +73,37 @@ module _ (t : Tok) (place : ℕ) (w : Wanted) where
     form (step rs) at k a l n h o cs p d x = rows at rs h o p d x.1
     form (choose rs u v) at k a l n h o cs p d x = ⊎_elim (λ y. rows at rs h o p d.0 y.1) (⊎_elim
         (λ y. let q = passed_has t rs h o y.0 p y.1 in ⊎_elim
-        (λ z. body u (k + length rs) a l (n + 1) (passed rs h) y.0 y.2.0 q d.1 z.1)
-        (λ z. body v (k + length rs + spots_block u) a l (n + 1 + size_block u) (passed rs h) y.0 y.2.0 q d.2 z.1) y.2.1)
+        (λ z. body u (k + length rs) a l (n + 1) (map_after rs h) y.0 y.2.0 q d.1 z.1)
+        (λ z. body v (k + length rs + spots_block u) a l (n + 1 + size_block u) (map_after rs h) y.0 y.2.0 q d.2 z.1) y.2.1)
         (λ y. y.2)) x
     form (loop rs s) at k a l n h o cs p d x = ⊎_elim (λ y.
         let i = a.around n in let q = y.1.0 in let ds = y.1.1.0 in
         let start = has_below (h t) (i t) o (d.0.each t) p in
         let here = reached rs s i (turned rs s a n d.3 d.4) at y.0 o q cs ds start y.1.1.1 in
         ⊎_elim (λ z. z.1) (⊎_elim (λ z. rows at rs i q here d.1 z.1)
-        (λ z. body s (k + 1 + length rs) a (Some n) (n + 1) (passed rs i) z.0 z.2.0 (passed_has t rs i q z.0 here z.1) d.3 z.2.2)) y.1.1.2)
+        (λ z. body s (k + 1 + length rs) a (Some n) (n + 1) (map_after rs i) z.0 z.2.0 (passed_has t rs i q z.0 here z.1) d.3 z.2.2)) y.1.1.2)
         (λ y. y.2) x
     form (switch rs arms end) at k a l n h o cs p d x = ⊎_elim (λ y. rows at rs h o p d.0 y.1) (⊎_elim
-        (λ y. ways arms at (k + length rs) y.2.0 a l (n + 1) (passed rs h) (a.behind n) y.0 y.2.1.0 (passed_has t rs h o y.0 p y.1) d.1 y.2.1.2)
+        (λ y. ways arms at (k + length rs) y.2.0 a l (n + 1) (map_after rs h) (a.behind n) y.0 y.2.1.0 (passed_has t rs h o y.0 p y.1) d.1 y.2.1.2)
         (λ y. y.2)) x
     form (scope s) at k a l n h o cs p d x = body s k a l (n + 1) h o cs p d x
     form (focus rs s es) at k a l n h o cs p d x = ⊎_elim (λ y. rows at rs h o p d.0 y.1) (⊎_elim
-        (λ y. body s (k + length rs) a l (n + 1) (passed rs h) y.0 cs (passed_has t rs h o y.0 p y.1) d.1 y.2)
+        (λ y. body s (k + length rs) a l (n + 1) (map_after rs h) y.0 cs (passed_has t rs h o y.0 p y.1) d.1 y.2)
         (λ y.
-        let is = only_in (passed rs h) t y.0 (passed_has t rs h o y.0 p y.1) in
-        let out = (local_out_block s t a l (n + 1) (passed rs h) (only y.0) is d.1).0 in
-        let m = led (leads_block a (n + 1) (passed rs h) s) (CanPass es) t y.2.0 (out.next y.2.0 (through_block s t (only y.0) y.0 y.2.0 cs [] to_next refl y.2.1)) d.2 in
+        let is = only_in (map_after rs h) t y.0 (passed_has t rs h o y.0 p y.1) in
+        let out = (local_out_block s t a l (n + 1) (map_after rs h) (only y.0) is d.1).0 in
+        let m = led (leads_block a (n + 1) (map_after rs h) s) (CanPass es) t y.2.0 (out.next y.2.0 (through_block s t (only y.0) y.0 y.2.0 cs [] to_next refl y.2.1)) d.2 in
         rows (end_of s) es m.map y.2.0 m.has m.fact y.2.2)) x
     form (return rs) at k a l n h o cs p d x = rows at rs h o p d x.1
-    form (jump c left) at k a l n h o cs p d x = rows at (map gone left) h o p d.0 x.1
+    form (jump c left) at k a l n h o cs p d x = rows at (map away_row left) h o p d.0 x.1
 
     pub body : (s : Block) (k : ℕ) (a : Notes) (l : Option ℕ) (n : ℕ) (h : HeldMap) (o : One) (cs : List Choice) → Has (h t) o →
         IsLocalBlock a l n h s → MetBlock (Refuses t place w) NoJoin t k s o cs → ⊥
     body (block ss bound end) k a l n h o cs p d x = ⊎_elim (λ y. list ss k a l n h o cs p d.0 y)
         (λ y.
         let out = (local_out_stmts ss t a l n h (only o) (only_in h t o p) d.0).0 in
-        let m = led (leads_stmts a n h ss) (CanPass (map gone bound)) t y.0 (out.next y.0 (through_stmts ss t (only o) o y.0 cs [] to_next refl y.1)) d.1 in
-        rows end (map gone bound) m.map y.0 m.has m.fact y.2) x
+        let m = led (leads_stmts a n h ss) (CanPass (map away_row bound)) t y.0 (out.next y.0 (through_stmts ss t (only o) o y.0 cs [] to_next refl y.1)) d.1 in
+        rows end (map away_row bound) m.map y.0 m.has m.fact y.2) x
 
     list : (ss : Stmts) (k : ℕ) (a : Notes) (l : Option ℕ) (n : ℕ) (h : HeldMap) (o : One) (cs : List Choice) → Has (h t) o →
         IsLocalStmts a l n h ss → MetStmts (Refuses t place w) NoJoin t k ss o cs → ⊥
@@ -118,7 +118,7 @@ module _ (t : Tok) (place : ℕ) (w : Wanted) where
         IsLocalArms a l n h arms b → MetArm (Refuses t place w) NoJoin t at k i arms o cs → ⊥
     ways no_arms at k i a l n h b o cs p d x = x
     ways (arm rs s rest) at k zero a l n h b o cs p d x = ⊎_elim (λ y. rows at rs h o p d.0 y.1)
-        (λ y. body s (k + length rs) a l n (passed rs h) y.0 cs (passed_has t rs h o y.0 p y.1) d.1 y.2) x
+        (λ y. body s (k + length rs) a l n (map_after rs h) y.0 cs (passed_has t rs h o y.0 p y.1) d.1 y.2) x
     ways (arm rs s rest) at k (suc i) a l n h b o cs p d x = ways rest at (k + length rs + spots_block s) i a l (n + size_block s) h b o cs p d.3 x
 
 -- ---- joins

@@ -1,7 +1,7 @@
 -- What is told of a faulty row or join is there, surely.
 use Rattle.std.proofs.Common.{◌≡◌, ◌+◌, ◌||◌, ℕ, zero, suc, Bool, true, false, List, [], ◌∷◌, ◌++◌, map, length, refl, sym, ap, ◌∙◌, ◌⊎◌, inl, inr, ⊎_elim}
 use Rattle.vlt_core.specs.Core.{Tok, Func, Program}
-use Rattle.vlt_core.specs.Maps.{Wanted, wants_absent, wants_held, wants_in, wants_lent, wants_full, After, becomes_absent, becomes_held, stays, becomes_full, becomes_lent, comes_back, Row, Kind, is_absent, is_held, is_lent, is_full, is_tok, gone}
+use Rattle.vlt_core.specs.Maps.{Wanted, wants_absent, wants_held, wants_in, wants_lent, wants_full, After, becomes_absent, becomes_held, stays, becomes_full, becomes_lent, comes_back, Row, Kind, is_absent, is_held, is_lent, is_full, is_tok, away_row}
 use Rattle.vlt_core.specs.Flow.{Flow, step, choose, loop, switch, scope, focus, return, jump, Block, block, Stmts, done, next, Arms, no_arms, arm, end_of}
 use Rattle.vlt_core.specs.Bodies.{body_flow}
 use Rattle.vlt_core.specs.Derives.{start_map}
@@ -190,13 +190,13 @@ module _ (xs : List Test) (t : Tok) where
           (some_either _ _ _ _ (λ y. some_block s (is_tok t w.0.0 || b) (n + length rs) (λ a. images a rs (S a)) j w.1 h.1 m y)
           (λ y. some_rows (is_tok t w.0.0 || b) (end_of s) (n + length rs + spots_block s) es (λ a. out_block a s (images a rs (S a)) to_next) (keeps_right xs (tests_block s) (tests_rows es) l) (block_sound (is_tok t w.0.0 || b) s (λ a. images a rs (S a)) j w.1 h.1 m) y)) x
       some_spot (return rs) b at n S k w h c x = some_rows b at n rs S k c x
-      some_spot (jump e left) b at n S k w h c x = some_rows b at n (map gone left) S k c x
+      some_spot (jump e left) b at n S k w h c x = some_rows b at n (map away_row left) S k c x
 
       some_block : (s : Block) (b : Bool) (n : ℕ) (S : Every) → Keeps xs (tests_block s) → IsTameBlock s → HasFilledBlock s → IsSound b S → SpotAtBlock IsUnwanted IsMixed p t n s (S t) → Surely (Some (λ kind. SpotAtBlock (TellsRow kind) (TellsJoin kind) p t n s (S t)))
       some_block (block ss bound end) b n S k w h c x =
           let j = keeps_left xs (tests_stmts ss) _ k in
           some_either _ _ _ _ (λ y. some_stmt ss b n S j w h c y)
-          (λ y. some_rows b end (n + spots_stmts ss) (map gone bound) (λ a. out_stmts a ss (S a) to_next) (keeps_right xs (tests_stmts ss) _ k) (stmts_sound b ss S j w h c) y) x
+          (λ y. some_rows b end (n + spots_stmts ss) (map away_row bound) (λ a. out_stmts a ss (S a) to_next) (keeps_right xs (tests_stmts ss) _ k) (stmts_sound b ss S j w h c) y) x
 
       some_stmt : (ss : Stmts) (b : Bool) (n : ℕ) (S : Every) → Keeps xs (tests_stmts ss) → IsTameStmts ss → HasFilledStmts ss → IsSound b S → SpotAtStmts IsUnwanted IsMixed p t n ss (S t) → Surely (Some (λ kind. SpotAtStmts (TellsRow kind) (TellsJoin kind) p t n ss (S t)))
       some_stmt done b n S k w h c x = absurd x

@@ -1,7 +1,7 @@
 -- What is so of a spot is so of it with weaker facts on rows and joins.
 use Rattle.std.proofs.Common.{◌+◌, ℕ, Bool, true, false, List, [], ◌∷◌, map, length, inl, inr, ⊎_elim}
 use Rattle.vlt_core.specs.Core.{Tok}
-use Rattle.vlt_core.specs.Maps.{Row, is_tok, gone}
+use Rattle.vlt_core.specs.Maps.{Row, is_tok, away_row}
 use Rattle.vlt_core.specs.Flow.{Flow, step, choose, loop, switch, scope, focus, return, jump, Block, block, Stmts, done, next, Arms, no_arms, arm, end_of}
 use Rattle.vlt_core.specs.Found.{Ones, image, images, out, out_block, out_stmts, to_next, head_of}
 use Rattle.vlt_core.specs.Faults.{If, Spot, spots, spots_block, spots_stmts, RowAt, SpotAt, SpotAtBlock, SpotAtStmts, SpotAtArms}
@@ -34,11 +34,11 @@ module _ (P R : Row → Ones → Type 0) (Q J : Ones → Type 0) (f : (r : Row) 
         (λ y. inr (inl (wide_block s (n + length rs) (images t rs S) y)))
         (λ y. inr (inr (wide_rows (end_of s) (n + length rs + spots_block s) es (out_block t s (images t rs S) to_next) y)))) x
     wide (return rs) at n S x = wide_rows at n rs S x
-    wide (jump c left) at n S x = wide_rows at n (map gone left) S x
+    wide (jump c left) at n S x = wide_rows at n (map away_row left) S x
 
     pub wide_block : (s : Block) (n : ℕ) (S : Ones) → SpotAtBlock P Q p t n s S → SpotAtBlock R J p t n s S
     wide_block (block ss bound end) n S x = ⊎_elim (λ y. inl (wide_stmts ss n S y))
-        (λ y. inr (wide_rows end (n + spots_stmts ss) (map gone bound) (out_stmts t ss S to_next) y)) x
+        (λ y. inr (wide_rows end (n + spots_stmts ss) (map away_row bound) (out_stmts t ss S to_next) y)) x
 
     wide_stmts : (ss : Stmts) (n : ℕ) (S : Ones) → SpotAtStmts P Q p t n ss S → SpotAtStmts R J p t n ss S
     wide_stmts done n S x = x

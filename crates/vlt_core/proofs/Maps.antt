@@ -1,7 +1,7 @@
 -- Statuses, maps and rows.
 use Rattle.std.proofs.Common.{◌≡◌, ◌↔◌, ◌++◌, ℕ, Bool, true, false, IsTrue, cond, List, [], ◌∷◌, refl, sym, ap, ◌∙◌, subst}
 use Rattle.vlt_core.specs.Core.{States, Tok}
-use Rattle.vlt_core.specs.Maps.{Wanted, wants_absent, wants_held, wants_in, wants_lent, wants_full, After, becomes_absent, becomes_held, stays, becomes_full, becomes_lent, comes_back, Row, Status, absent, held, lent, full, HeldMap, IsWithin, Kind, is_absent, is_held, is_lent, is_full, kind_of, states_of, IsWanted, changed, is_tok, row_passed, CanPass, passed, IsStatusBelow, IsBelow}
+use Rattle.vlt_core.specs.Maps.{Wanted, wants_absent, wants_held, wants_in, wants_lent, wants_full, After, becomes_absent, becomes_held, stays, becomes_full, becomes_lent, comes_back, Row, Status, absent, held, lent, full, HeldMap, IsWithin, Kind, is_absent, is_held, is_lent, is_full, kind_of, states_of, IsWanted, status_after, is_tok, row_passed, CanPass, map_after, IsStatusBelow, IsBelow}
 
 pub within_refl : (a : States) → IsWithin a a
 within_refl a = record { each = λ s p. p }
@@ -36,31 +36,31 @@ abbrev unlent_kind : Kind → Kind
 unlent_kind is_lent = is_held
 unlent_kind k = k
 
-lends_kind : (s : Status) → kind_of (changed becomes_lent s) ≡ lent_kind (kind_of s)
+lends_kind : (s : Status) → kind_of (status_after becomes_lent s) ≡ lent_kind (kind_of s)
 lends_kind absent = refl
 lends_kind (held s) = refl
 lends_kind (lent s) = refl
 lends_kind full = refl
 
-lends_states : (s : Status) → states_of (changed becomes_lent s) ≡ states_of s
+lends_states : (s : Status) → states_of (status_after becomes_lent s) ≡ states_of s
 lends_states absent = refl
 lends_states (held s) = refl
 lends_states (lent s) = refl
 lends_states full = refl
 
-unlends_kind : (s : Status) → kind_of (changed comes_back s) ≡ unlent_kind (kind_of s)
+unlends_kind : (s : Status) → kind_of (status_after comes_back s) ≡ unlent_kind (kind_of s)
 unlends_kind absent = refl
 unlends_kind (held s) = refl
 unlends_kind (lent s) = refl
 unlends_kind full = refl
 
-unlends_states : (s : Status) → states_of (changed comes_back s) ≡ states_of s
+unlends_states : (s : Status) → states_of (status_after comes_back s) ≡ states_of s
 unlends_states absent = refl
 unlends_states (held s) = refl
 unlends_states (lent s) = refl
 unlends_states full = refl
 
-pub changed_below : (a : After) (s u : Status) → IsStatusBelow s u → IsStatusBelow (changed a s) (changed a u)
+pub changed_below : (a : After) (s u : Status) → IsStatusBelow s u → IsStatusBelow (status_after a s) (status_after a u)
 changed_below becomes_absent s u p = status_refl absent
 changed_below (becomes_held t) s u p = status_refl (held t)
 changed_below stays s u p = p
@@ -77,7 +77,7 @@ changed_below comes_back s u p = record {
 pub row_below : (r : Row) (h k : HeldMap) → IsBelow h k → IsBelow (row_passed r h) (row_passed r k)
 row_below r h k p = record { each = λ t. at_token t (is_tok t r.tok) }
   where
-    at_token : (t : Tok) (b : Bool) → IsStatusBelow (cond b (changed r.after (h r.tok)) (h t)) (cond b (changed r.after (k r.tok)) (k t))
+    at_token : (t : Tok) (b : Bool) → IsStatusBelow (cond b (status_after r.after (h r.tok)) (h t)) (cond b (status_after r.after (k r.tok)) (k t))
     at_token t true = changed_below r.after (h r.tok) (k r.tok) (p.each r.tok)
     at_token t false = p.each t
 
@@ -86,6 +86,6 @@ pub can_below : (rs : List Row) (h k : HeldMap) → IsBelow h k → CanPass rs k
 can_below [] h k p can = tt
 can_below (r ∷ rs) h k p can = (wanted_below r.wanted (h r.tok) (k r.tok) (p.each r.tok) can.0, can_below rs (row_passed r h) (row_passed r k) (row_below r h k p) can.1)
 
-pub passed_below : (rs : List Row) (h k : HeldMap) → IsBelow h k → IsBelow (passed rs h) (passed rs k)
+pub passed_below : (rs : List Row) (h k : HeldMap) → IsBelow h k → IsBelow (map_after rs h) (map_after rs k)
 passed_below [] h k p = p
 passed_below (r ∷ rs) h k p = passed_below rs (row_passed r h) (row_passed r k) (row_below r h k p)

@@ -1,7 +1,7 @@
 -- Where a body breaks the rules on keys, and which fault is told: the first, by place.
 use Rattle.std.specs.Prelude.{◌≡◌, ℕ, ◌+◌, ◌<◌, ◌≤◌, Bool, true, false, List, [], ◌∷◌, map, length, ◌⊎◌, Some, slice_get}
 use Rattle.vlt_core.specs.Core.{Tok, a_key, a_var, Func, Program}
-use Rattle.vlt_core.specs.Maps.{Status, Wanted, Row, is_tok, gone}
+use Rattle.vlt_core.specs.Maps.{Status, Wanted, Row, is_tok, away_row}
 use Rattle.vlt_core.specs.Flow.{Flow, step, choose, loop, switch, scope, focus, return, jump, Block, block, Stmts, done, next, Arms, no_arms, arm, end_of}
 use Rattle.vlt_core.specs.Bodies.{body_flow}
 use Rattle.vlt_core.specs.Derives.{start_map}
@@ -82,11 +82,11 @@ module _ (P : Row → Ones → Type 0) (Q : Ones → Type 0) (p : Spot) (t : Tok
         (SpotAtBlock (n + length rs) s (images t rs S) ⊎
         RowAt (end_of s) (n + length rs + spots_block s) es (out_block t s (images t rs S) to_next))
     SpotAt at n (return rs) S = RowAt at n rs S
-    SpotAt at n (jump continues left) S = RowAt at n (map gone left) S
+    SpotAt at n (jump continues left) S = RowAt at n (map away_row left) S
 
     pub SpotAtBlock : (n : ℕ) → Block → Ones → Type 0
     SpotAtBlock n (block ss bound end) S =
-        SpotAtStmts n ss S ⊎ RowAt end (n + spots_stmts ss) (map gone bound) (out_stmts t ss S to_next)
+        SpotAtStmts n ss S ⊎ RowAt end (n + spots_stmts ss) (map away_row bound) (out_stmts t ss S to_next)
 
     pub SpotAtStmts : (n : ℕ) → Stmts → Ones → Type 0
     SpotAtStmts n done S = ⊥

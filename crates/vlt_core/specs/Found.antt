@@ -2,7 +2,7 @@
 -- what it wants and stops the rest; a row of another token stops nothing.
 use Rattle.std.specs.Prelude.{◌≡◌, ℕ, zero, suc, Bool, true, false, IsTrue, List, [], ◌∷◌, map, ◌⊎◌}
 use Rattle.vlt_core.specs.Core.{Tok}
-use Rattle.vlt_core.specs.Maps.{Status, absent, held, lent, full, Wanted, wants_absent, wants_held, wants_in, wants_lent, wants_full, After, becomes_absent, becomes_held, stays, becomes_full, becomes_lent, comes_back, Row, is_tok, gone}
+use Rattle.vlt_core.specs.Maps.{Status, absent, held, lent, full, Wanted, wants_absent, wants_held, wants_in, wants_lent, wants_full, After, becomes_absent, becomes_held, stays, becomes_full, becomes_lent, comes_back, Row, is_tok, away_row}
 use Rattle.vlt_core.specs.Flow.{Flow, step, choose, loop, switch, scope, focus, return, jump, Block, block, Stmts, done, next, Arms, no_arms, arm}
 
 -- a status of an object in one state
@@ -99,10 +99,10 @@ abbrev mutual
   out t (focus rs s es) S to_next o = images t es (out_block t s (images t rs S) to_next) o
   out t (focus rs s es) S x o = out_block t s (images t rs S) x o
   out t (return rs) S x o = ⊥
-  out t (jump continues left) S x o = jumps continues x (images t (map gone left) S) o
+  out t (jump continues left) S x o = jumps continues x (images t (map away_row left) S) o
 
   pub out_block : Tok → Block → Ones → Exit → Ones
-  out_block t (block ss bound end) S to_next o = images t (map gone bound) (out_stmts t ss S to_next) o
+  out_block t (block ss bound end) S to_next o = images t (map away_row bound) (out_stmts t ss S to_next) o
   out_block t (block ss bound end) S x o = out_stmts t ss S x o
 
   pub out_stmts : Tok → Stmts → Ones → Exit → Ones

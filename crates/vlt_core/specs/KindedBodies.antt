@@ -8,7 +8,7 @@ use Rattle.vlt_core.specs.Rows.{in_order}
 use Rattle.vlt_core.specs.Types.{decl_of, is_variant}
 use Rattle.vlt_core.specs.KindedHeads.{Rules, unless, when_some, are_apart, keys_of_parameters, head_keys}
 use Rattle.vlt_core.specs.declared.rules.TheConstants as rule
-use Rattle.vlt_core.specs.KindedScopes.{Ids, Around, entered, left_behind, with_key, with_var, own_key, use_broken, binding_broken}
+use Rattle.vlt_core.specs.KindedScopes.{Ids, Around, at_block_start, left_behind, with_key, with_var, own_key, use_broken, binding_broken}
 use Rattle.vlt_core.specs.KindedOperands.{misfit, value_broken}
 use Rattle.vlt_core.specs.KindedStatements.{tracked_type, variant_args, payload_types, case_broken, is_variant_type, wanted_of, is_guarded_type, is_tracked_type, objects_apart, guarded_object, simple_broken, ids_after}
 use Rattle.vlt_core.specs.KindedCalls.{with_call_target, call_broken, return_broken}
@@ -120,7 +120,7 @@ module _ (p : Program) (f : Func) where
     ids_behind (jump continues) ids = ids
 
     pub ids_behind_block : Block → Ids → Ids
-    ids_behind_block (block ss bound end) ids = left_behind ids (ids_behind_stmts ss (entered ids))
+    ids_behind_block (block ss bound end) ids = left_behind ids (ids_behind_stmts ss (at_block_start ids))
 
     pub ids_behind_stmts : Stmts → Ids → Ids
     ids_behind_stmts done ids = ids
@@ -133,7 +133,7 @@ module _ (p : Program) (f : Func) where
   -- what a block's list breaks, which begins with the tokens `extra`
   abbrev pub list_broken : (extra : List Tok) → Ids → Block → Rules
   list_broken extra ids (block ss bound end) =
-      tokens_broken f bound (extra ++ (ids_behind_stmts ss (entered ids)).bound)
+      tokens_broken f bound (extra ++ (ids_behind_stmts ss (at_block_start ids)).bound)
 
   abbrev mutual
     pub arms_broken : Ids → (v : ℕ) → Arms → Rules
@@ -167,7 +167,7 @@ module _ (p : Program) (f : Func) where
     form_rows around ids form = []
 
     pub block_rows : Around → Ids → Block → List Rules
-    block_rows around ids (block ss bound end) = stmts_rows around (entered ids) false ss
+    block_rows around ids (block ss bound end) = stmts_rows around (at_block_start ids) false ss
 
     pub stmts_rows : Around → Ids → (ended : Bool) → Stmts → List Rules
     stmts_rows around ids ended done = []

@@ -7,7 +7,7 @@ use Rattle.vlt_core.specs.Types.{lies_within, same_keys, same_object, same_ty, w
 use Rattle.vlt_core.specs.KindedHeads.{Rules, unless, when_some, has, are_apart, parameters_of, keys_of_parameters, new_keys}
 use Rattle.vlt_core.specs.declared.rules.TheConstants as rule
 use Rattle.vlt_core.specs.KindedScopes.{Ids, with_binding, with_target, own_key, use_broken, binding_broken, target_broken}
-use Rattle.vlt_core.specs.KindedOperands.{field_type, is_owning_some, packed, operand_broken, operands_broken}
+use Rattle.vlt_core.specs.KindedOperands.{field_type, is_owning_some, as_owning, operand_broken, operands_broken}
 use Rattle.vlt_core.specs.KindedStatements.{is_tracked_type}
 
 -- ---- calls
@@ -30,7 +30,7 @@ argument_type p f (pack x states) = of_type (var_type f x)
   where
     of_type : Option Ty → Option Ty
     of_type None = None
-    of_type (Some ty) = packed states ty
+    of_type (Some ty) = as_owning states ty
 
 -- the types are the same but for their keys
 abbrev pub same_but_keys : (wanted given : Ty) → Bool

@@ -126,9 +126,9 @@ move_broken None (Some t) = unless (is_owning t) rule.WRONG_TYPE
 move_broken (Some w) (Some t) = unless (is_owning t && fits_owning w t) rule.WRONG_TYPE
 
 -- a reference's object, in these states, as an owning value
-abbrev pub packed : States → Ty → Option Ty
-packed states (tracked k t args) = Some (owning states t args)
-packed states ty = None
+abbrev pub as_owning : States → Ty → Option Ty
+as_owning states (tracked k t args) = Some (owning states t args)
+as_owning states ty = None
 
 abbrev pub pack_broken : Program → (wanted given : Option Ty) → States → Rules
 pack_broken p w None states = []

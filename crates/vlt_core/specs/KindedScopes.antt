@@ -23,8 +23,8 @@ pub record Around : Type 0 where
   pub returns : Bool
 
 -- a block begins, and ends
-abbrev pub entered : Ids → Ids
-entered ids = record ids { bound = [] }
+abbrev pub at_block_start : Ids → Ids
+at_block_start ids = record ids { bound = [] }
 
 abbrev pub left_behind : (before last : Ids) → Ids
 left_behind before last = record last { vars = before.vars; keys = before.keys; bound = before.bound }

@@ -1,7 +1,7 @@
 -- Annotations: a map for each loop's head, and one behind each loop and each choice; and whether they hold everywhere.
 use Rattle.std.specs.Prelude.{ℕ, ◌+◌, Bool, true, false, ◌||◌, List, map, Option, Some, None}
 use Rattle.vlt_core.specs.Core.{Func, Program}
-use Rattle.vlt_core.specs.Maps.{HeldMap, Row, CanPass, passed, IsBelow, gone}
+use Rattle.vlt_core.specs.Maps.{HeldMap, Row, CanPass, map_after, IsBelow, away_row}
 use Rattle.vlt_core.specs.Flow.{Flow, step, choose, loop, switch, scope, focus, return, jump, Block, block, Stmts, done, next, Arms, no_arms, arm, size, size_block, passes_block, passes_arms}
 use Rattle.vlt_core.specs.Bodies.{body_flow}
 use Rattle.vlt_core.specs.Derives.{start_map}
@@ -27,22 +27,22 @@ only_if false m = None
 
 abbrev pub rows_passed : List Row → Option HeldMap → Option HeldMap
 rows_passed rs None = None
-rows_passed rs (Some m) = Some (passed rs m)
+rows_passed rs (Some m) = Some (map_after rs m)
 
 -- the map that a statement leads to, if it can be passed
 abbrev mutual
   pub leads : Notes → ℕ → HeldMap → Flow → Option HeldMap
-  leads a n h (step rs) = Some (passed rs h)
+  leads a n h (step rs) = Some (map_after rs h)
   leads a n h (choose rs s t) = only_if (passes_block s || passes_block t) (a.behind n)
   leads a n h (loop rs s) = Some (a.behind n)
   leads a n h (switch rs arms end) = only_if (passes_arms arms) (a.behind n)
   leads a n h (scope s) = leads_block a (n + 1) h s
-  leads a n h (focus rs s es) = rows_passed es (leads_block a (n + 1) (passed rs h) s)
+  leads a n h (focus rs s es) = rows_passed es (leads_block a (n + 1) (map_after rs h) s)
   leads a n h (return rs) = None
   leads a n h (jump continues left) = None
 
   pub leads_block : Notes → ℕ → HeldMap → Block → Option HeldMap
-  leads_block a n h (block ss bound end) = rows_passed (map gone bound) (leads_stmts a n h ss)
+  leads_block a n h (block ss bound end) = rows_passed (map away_row bound) (leads_stmts a n h ss)
 
   pub leads_stmts : Notes → ℕ → HeldMap → Stmts → Option HeldMap
   leads_stmts a n h done = Some h
@@ -61,29 +61,29 @@ abbrev mutual
   IsLocal a l n h (step rs) = CanPass rs h
   IsLocal a l n h (choose rs s t) =
       CanPass rs h ×
-      IsLocalBlock a l (n + 1) (passed rs h) s ×
-      IsLocalBlock a l (n + 1 + size_block s) (passed rs h) t ×
-      When (leads_block a (n + 1) (passed rs h) s) (λ m. IsBelow m (a.behind n)) ×
-      When (leads_block a (n + 1 + size_block s) (passed rs h) t) (λ m. IsBelow m (a.behind n))
+      IsLocalBlock a l (n + 1) (map_after rs h) s ×
+      IsLocalBlock a l (n + 1 + size_block s) (map_after rs h) t ×
+      When (leads_block a (n + 1) (map_after rs h) s) (λ m. IsBelow m (a.behind n)) ×
+      When (leads_block a (n + 1 + size_block s) (map_after rs h) t) (λ m. IsBelow m (a.behind n))
   IsLocal a l n h (loop rs s) =
       IsBelow h (a.around n) ×
       CanPass rs (a.around n) ×
-      IsBelow (passed rs (a.around n)) (a.behind n) ×
-      IsLocalBlock a (Some n) (n + 1) (passed rs (a.around n)) s ×
-      When (leads_block a (n + 1) (passed rs (a.around n)) s) (λ m. IsBelow m (a.around n))
-  IsLocal a l n h (switch rs arms end) = CanPass rs h × IsLocalArms a l (n + 1) (passed rs h) arms (a.behind n)
+      IsBelow (map_after rs (a.around n)) (a.behind n) ×
+      IsLocalBlock a (Some n) (n + 1) (map_after rs (a.around n)) s ×
+      When (leads_block a (n + 1) (map_after rs (a.around n)) s) (λ m. IsBelow m (a.around n))
+  IsLocal a l n h (switch rs arms end) = CanPass rs h × IsLocalArms a l (n + 1) (map_after rs h) arms (a.behind n)
   IsLocal a l n h (scope s) = IsLocalBlock a l (n + 1) h s
   IsLocal a l n h (focus rs s es) =
       CanPass rs h ×
-      IsLocalBlock a l (n + 1) (passed rs h) s ×
-      When (leads_block a (n + 1) (passed rs h) s) (CanPass es)
+      IsLocalBlock a l (n + 1) (map_after rs h) s ×
+      When (leads_block a (n + 1) (map_after rs h) s) (CanPass es)
   IsLocal a l n h (return rs) = CanPass rs h
   IsLocal a l n h (jump continues left) =
-      CanPass (map gone left) h × Meets a l continues (passed (map gone left) h)
+      CanPass (map away_row left) h × Meets a l continues (map_after (map away_row left) h)
 
   pub IsLocalBlock : Notes → Option ℕ → ℕ → HeldMap → Block → Type 0
   IsLocalBlock a l n h (block ss bound end) =
-      IsLocalStmts a l n h ss × When (leads_stmts a n h ss) (CanPass (map gone bound))
+      IsLocalStmts a l n h ss × When (leads_stmts a n h ss) (CanPass (map away_row bound))
 
   pub IsLocalStmts : Notes → Option ℕ → ℕ → HeldMap → Stmts → Type 0
   IsLocalStmts a l n h done = Unit {0}
@@ -94,8 +94,8 @@ abbrev mutual
   IsLocalArms a l n h no_arms k = Unit {0}
   IsLocalArms a l n h (arm rs s rest) k =
       CanPass rs h ×
-      IsLocalBlock a l n (passed rs h) s ×
-      When (leads_block a n (passed rs h) s) (λ m. IsBelow m k) ×
+      IsLocalBlock a l n (map_after rs h) s ×
+      When (leads_block a n (map_after rs h) s) (λ m. IsBelow m k) ×
       IsLocalArms a l (n + size_block s) h rest k
 
 -- ---- functions

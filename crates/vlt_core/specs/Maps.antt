@@ -80,15 +80,15 @@ IsWanted (wants_in states) s = (kind_of s ≡ is_held) × IsWithin (states_of s)
 IsWanted wants_lent s = kind_of s ≡ is_lent
 IsWanted wants_full s = kind_of s ≡ is_full
 
-abbrev pub changed : After → Status → Status
-changed becomes_absent s = absent
-changed (becomes_held states) s = held states
-changed stays s = s
-changed becomes_full s = full
-changed becomes_lent (held states) = lent states
-changed becomes_lent s = s
-changed comes_back (lent states) = held states
-changed comes_back s = s
+abbrev pub status_after : After → Status → Status
+status_after becomes_absent s = absent
+status_after (becomes_held states) s = held states
+status_after stays s = s
+status_after becomes_full s = full
+status_after becomes_lent (held states) = lent states
+status_after becomes_lent s = s
+status_after comes_back (lent states) = held states
+status_after comes_back s = s
 
 abbrev pub is_tok : Tok → Tok → Bool
 is_tok (a_key k) (a_key j) = k == j
@@ -97,7 +97,7 @@ is_tok _ _ = false
 
 -- the map after a row, which changes its token alone
 abbrev pub row_passed : Row → HeldMap → HeldMap
-row_passed r h t = if is_tok t r.tok then changed r.after (h r.tok) else h t
+row_passed r h t = if is_tok t r.tok then status_after r.after (h r.tok) else h t
 
 -- the map passes the rows, one after another
 abbrev pub CanPass : List Row → HeldMap → Type 0
@@ -105,10 +105,10 @@ CanPass [] h = Unit {0}
 CanPass (r ∷ rs) h = IsWanted r.wanted (h r.tok) × CanPass rs (row_passed r h)
 
 -- the map after the rows
-abbrev pub passed : List Row → HeldMap → HeldMap
-passed [] h = h
-passed (r ∷ rs) h = passed rs (row_passed r h)
+abbrev pub map_after : List Row → HeldMap → HeldMap
+map_after [] h = h
+map_after (r ∷ rs) h = map_after rs (row_passed r h)
 
 -- the row that wants a token away
-abbrev pub gone : Tok → Row
-gone t = record { tok = t; wanted = wants_absent; after = becomes_absent }
+abbrev pub away_row : Tok → Row
+away_row t = record { tok = t; wanted = wants_absent; after = becomes_absent }

@@ -3,7 +3,7 @@ use Rattle.std.specs.Prelude.{ℕ, ◌==◌, if◌then◌else◌, List, [], ◌�
 use Rattle.std.specs.List.{flat_map, list_any, range_with_len}
 use Rattle.vlt_core.specs.Core.{States, Expr, var, field, unary, binary, Operand, pure, move, pack, Tok, a_key, a_var, Simple, set, input, print, put, make, become, release, drop, own, unpack, build, swap, open_into, adopt, Form, simple, call, choose, loop, switch, focus, scope, return, jump, Entry, Func, Program}
 use Rattle.vlt_core.specs.Lookups.{first_state, Reference, reference_of, guarded_of, variant_of, case_keys, is_owning_var, owning_vars, owning_states, permitted_in, release_set, after_set, is_held_before, is_held_after, is_new, is_given_back, states_or_all}
-use Rattle.vlt_core.specs.Maps.{Wanted, wants_absent, wants_held, wants_in, wants_lent, wants_full, After, becomes_absent, becomes_held, stays, becomes_full, becomes_lent, comes_back, Row, is_tok, gone}
+use Rattle.vlt_core.specs.Maps.{Wanted, wants_absent, wants_held, wants_in, wants_lent, wants_full, After, becomes_absent, becomes_held, stays, becomes_full, becomes_lent, comes_back, Row, is_tok, away_row}
 
 -- ---- rows on references and variables
 
@@ -103,7 +103,7 @@ given_back_rows p f =
 -- behind these, each token of the function is absent
 abbrev pub return_rows : Program → Func → Option Operand → List Row
 return_rows p f value =
-    on_option value (operand_rows p f) ++ new_rows p f value ++ given_back_rows p f ++ map gone (tokens_of f)
+    on_option value (operand_rows p f) ++ new_rows p f value ++ given_back_rows p f ++ map away_row (tokens_of f)
 
 -- ---- statements
 
@@ -145,7 +145,7 @@ rows_of p f left (focus y z b) =
     on_key (reference_of f z) (λ r. row (a_key r.key) wants_absent (becomes_held (release_set p r.type)))
 rows_of p f left (scope b) = []
 rows_of p f left (return value) = return_rows p f value
-rows_of p f left (jump continues) = map gone (in_order f left)
+rows_of p f left (jump continues) = map away_row (in_order f left)
 
 -- the rows of an arm, before its block
 abbrev pub arm_rows : Program → Func → (v case : ℕ) → (vs : List ℕ) → List Row

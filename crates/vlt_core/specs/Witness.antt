@@ -1,7 +1,7 @@
 -- Paths through a body that show a fault: one to a row, or two to a join.
 use Rattle.std.specs.Prelude.{◌≡◌, ◌⊎◌, ℕ, zero, suc, ◌+◌, Bool, true, false, List, [], ◌∷◌, map, length, Option, Some, None, slice_get}
 use Rattle.vlt_core.specs.Core.{Tok, Func, Program}
-use Rattle.vlt_core.specs.Maps.{Wanted, Row, is_tok, gone}
+use Rattle.vlt_core.specs.Maps.{Wanted, Row, is_tok, away_row}
 use Rattle.vlt_core.specs.Flow.{Flow, step, choose, loop, switch, scope, focus, return, jump, Block, block, Stmts, done, next, Arms, no_arms, arm, end_of}
 use Rattle.vlt_core.specs.Bodies.{body_flow}
 use Rattle.vlt_core.specs.Derives.{start_map}
@@ -66,10 +66,10 @@ abbrev mutual
   Through t at (focus rs s es) o cs x q ds =
       (x ≡ to_next) × ((m : One) × LeadsOn t rs o m × ((r : One) × ThroughBlock t s m cs to_next r ds × LeadsOn t es r q))
   Through t at (return rs) o cs x q ds = ⊥
-  Through t at (jump continues left) o cs x q ds = Takes continues x × LeadsOn t (map gone left) o q × (ds ≡ cs)
+  Through t at (jump continues left) o cs x q ds = Takes continues x × LeadsOn t (map away_row left) o q × (ds ≡ cs)
 
   pub ThroughBlock : Tok → Block → Way
-  ThroughBlock t (block ss bound end) o cs to_next q ds = (m : One) × ThroughStmts t ss o cs to_next m ds × LeadsOn t (map gone bound) m q
+  ThroughBlock t (block ss bound end) o cs to_next q ds = (m : One) × ThroughStmts t ss o cs to_next m ds × LeadsOn t (map away_row bound) m q
   ThroughBlock t (block ss bound end) o cs x q ds = ThroughStmts t ss o cs x q ds
 
   pub ThroughStmts : Tok → Stmts → Way
@@ -131,11 +131,11 @@ module _ (P : (at : ℕ) → Row → One → Type 0) (Q : Spot → One → Type 
         (((m : One) × LeadsOn t rs o m × MetBlock (k + length rs) s m cs) ⊎
         ((m : One) × LeadsOn t rs o m × ((q : One) × ThroughBlock t s m cs to_next q [] × RowMet (end_of s) es q)))
     Met at k (return rs) o cs = MetHere at rs o cs
-    Met at k (jump continues left) o cs = MetHere at (map gone left) o cs
+    Met at k (jump continues left) o cs = MetHere at (map away_row left) o cs
 
     pub MetBlock : (k : ℕ) → Block → One → List Choice → Type 0
     MetBlock k (block ss bound end) o cs =
-        MetStmts k ss o cs ⊎ ((q : One) × ThroughStmts t ss o cs to_next q [] × RowMet end (map gone bound) q)
+        MetStmts k ss o cs ⊎ ((q : One) × ThroughStmts t ss o cs to_next q [] × RowMet end (map away_row bound) q)
 
     pub MetStmts : (k : ℕ) → Stmts → One → List Choice → Type 0
     MetStmts k done o cs = ⊥

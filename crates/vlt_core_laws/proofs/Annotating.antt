@@ -2,7 +2,7 @@
 use Rattle.std.proofs.Common.{◌≡◌, ◌≢◌, ◌<◌, ◌≤◌, ◌+◌, ℕ, Bool, true, false, IsTrue, nat_eq, cond, List, map, Option, Some, None, refl, sym, ap, ◌∙◌, subst, arith, ◌||◌, ⊎_elim}
 use Rattle.std.proofs.lemmas.Bool.{cases_lt}
 use Rattle.std.proofs.lemmas.Bool.Decides.{nat_tests}
-use Rattle.vlt_core.specs.Maps.{Row, HeldMap, CanPass, passed, IsBelow, gone}
+use Rattle.vlt_core.specs.Maps.{Row, HeldMap, CanPass, map_after, IsBelow, away_row}
 use Rattle.vlt_core.specs.Flow.{Flow, step, choose, loop, switch, scope, focus, return, jump, Block, block, Stmts, done, next, Arms, no_arms, arm, size, size_block, size_stmts, size_arms, passes_block, passes_arms}
 use Rattle.vlt_core.specs.Local.{Notes, Then, When, Meets, only_if, rows_passed, leads, leads_block, leads_stmts, IsLocal, IsLocalBlock, IsLocalStmts, IsLocalArms}
 use Rattle.vlt_core.specs.Derives.{toward, Derives, DerivesBlock, DerivesStmts, DerivesArms}
@@ -98,9 +98,9 @@ lies_can : (o : Option HeldMap) (rs : List Row) (m : HeldMap) → Lies o (Some m
 lies_can None rs m p c = tt
 lies_can (Some x) rs m p c = can_below rs x m p c
 
-lies_end : (o : Option HeldMap) (rs : List Row) (m k : HeldMap) → Lies o (Some m) → IsBelow (passed rs m) k → Lies (rows_passed rs o) (Some k)
+lies_end : (o : Option HeldMap) (rs : List Row) (m k : HeldMap) → Lies o (Some m) → IsBelow (map_after rs m) k → Lies (rows_passed rs o) (Some k)
 lies_end None rs m k p c = tt
-lies_end (Some x) rs m k p c = map_trans (passed rs x) (passed rs m) k (passed_below rs x m p) c
+lies_end (Some x) rs m k p c = map_trans (map_after rs x) (map_after rs m) k (passed_below rs x m p) c
 
 lies_only : (b : Bool) (m k : HeldMap) → IsBelow m k → Lies (only_if b m) (Some k)
 lies_only true m k p = p
@@ -126,12 +126,12 @@ mutual
       IsMade l n (n + size s) h k g (λ a. IsLocal a l n h s) (λ a. leads a n h s)
   form_made (step rs) inside b c h k l n g j fit away d = record { notes = g; same = but_refl g n (n + 1); holds = d.0; leads = d.1 }
   form_made (return rs) inside b c h k l n g j fit away d = record { notes = g; same = but_refl g n (n + 1); holds = d; leads = tt }
-  form_made (jump continues left) inside b c h k l n g j fit away d = record { notes = g; same = but_refl g n (n + 1); holds = (d.0, (fit j).each continues (passed (map gone left) h) d.1); leads = tt }
+  form_made (jump continues left) inside b c h k l n g j fit away d = record { notes = g; same = but_refl g n (n + 1); holds = (d.0, (fit j).each continues (map_after (map away_row left) h) d.1); leads = tt }
   form_made (scope s) inside b c h k l n g j fit away d =
       let f = block_made s inside b c h k l (n + 1) g j fit (λ i u v. away i (omega arith) (omega arith)) d in
       record { notes = f.notes; same = but_wider g f.notes _ _ n (n + (1 + size_block s)) f.same (omega arith) (omega arith); holds = f.holds; leads = f.leads }
   form_made (focus rs s es) inside b c h k l n g j fit away d =
-      let f = block_made s inside b c (passed rs h) d.1.0 l (n + 1) g j fit (λ i u v. away i (omega arith) (omega arith)) d.1.1 in
+      let f = block_made s inside b c (map_after rs h) d.1.0 l (n + 1) g j fit (λ i u v. away i (omega arith) (omega arith)) d.1.1 in
       record {
         notes = f.notes;
         same = but_wider g f.notes _ _ n (n + (1 + size_block s)) f.same (omega arith) (omega arith);
@@ -139,9 +139,9 @@ mutual
         leads = lies_end _ es d.1.0 k f.leads d.1.3;
       }
   form_made (choose rs u v) inside b c h k l n g j fit away d =
-      let f = block_made u inside b c (passed rs h) k l (n + 1) g j.0 fit (λ i x y. away i (omega arith) (omega arith)) d.1 in
+      let f = block_made u inside b c (map_after rs h) k l (n + 1) g j.0 fit (λ i x y. away i (omega arith) (omega arith)) d.1 in
       let first = but_meets g f.notes (n + 1) (n + 1 + size_block u) l f.same (λ i x y. away i (omega arith) (omega arith)) in
-      let e = block_made v inside b c (passed rs h) k l (n + 1 + size_block u) f.notes j.1 (λ x. fit_grown g f.notes l b c first (fit x)) (λ i x y. away i (omega arith) (omega arith)) d.2 in
+      let e = block_made v inside b c (map_after rs h) k l (n + 1 + size_block u) f.notes j.1 (λ x. fit_grown g f.notes l b c first (fit x)) (λ i x y. away i (omega arith) (omega arith)) d.2 in
       let a = put_notes e.notes n k k in
       let put = put_but e.notes n (n + (1 + (size_block u + size_block v))) k k (omega arith) in
       let grown = but_meets e.notes a n (n + (1 + (size_block u + size_block v))) l put away in
@@ -154,16 +154,16 @@ mutual
         same = but_trans g e.notes a n (n + (1 + (size_block u + size_block v))) (but_trans g f.notes e.notes n (n + (1 + (size_block u + size_block v))) (but_wider g f.notes _ _ n (n + (1 + (size_block u + size_block v))) f.same (omega arith) (omega arith)) (but_wider f.notes e.notes _ _ n (n + (1 + (size_block u + size_block v))) e.same (omega arith) (omega arith))) put;
         holds = (
           d.0,
-          local_block_grown u f.notes a l (n + 1) (passed rs h) on_first (meets_chain f.notes e.notes a l same grown) f.holds,
-          local_block_grown v e.notes a l (n + 1 + size_block u) (passed rs h) on_second grown e.holds,
-          when_same _ _ _ (λ m. IsBelow m (a.behind n)) (leads_block_same u f.notes a (n + 1) (passed rs h) on_first) (λ m p. subst (IsBelow m) (sym behind) p) (lies_when _ k f.leads),
-          when_same _ _ _ (λ m. IsBelow m (a.behind n)) (leads_block_same v e.notes a (n + 1 + size_block u) (passed rs h) on_second) (λ m p. subst (IsBelow m) (sym behind) p) (lies_when _ k e.leads),
+          local_block_grown u f.notes a l (n + 1) (map_after rs h) on_first (meets_chain f.notes e.notes a l same grown) f.holds,
+          local_block_grown v e.notes a l (n + 1 + size_block u) (map_after rs h) on_second grown e.holds,
+          when_same _ _ _ (λ m. IsBelow m (a.behind n)) (leads_block_same u f.notes a (n + 1) (map_after rs h) on_first) (λ m p. subst (IsBelow m) (sym behind) p) (lies_when _ k f.leads),
+          when_same _ _ _ (λ m. IsBelow m (a.behind n)) (leads_block_same v e.notes a (n + 1 + size_block u) (map_after rs h) on_second) (λ m p. subst (IsBelow m) (sym behind) p) (lies_when _ k e.leads),
         );
         leads = lies_only (passes_block u || passes_block v) (a.behind n) k (subst (λ m. IsBelow m k) (sym behind) (map_refl k));
       }
   form_made (loop rs s) inside b c h k l n g j fit away d =
       let first = put_notes g n d.0 k in
-      let f = block_made s true k d.0 (passed rs d.0) d.0 (Some n) (n + 1) first j (λ x. fit_loop first n k d.0 (put_same g n d.0 k)) (λ i x y. omega arith) d.4 in
+      let f = block_made s true k d.0 (map_after rs d.0) d.0 (Some n) (n + 1) first j (λ x. fit_loop first n k d.0 (put_same g n d.0 k)) (λ i x y. omega arith) d.4 in
       let around = (f.same.before n (omega arith)).0 ∙ (put_same g n d.0 k).0 in
       let behind = (f.same.before n (omega arith)).1 ∙ (put_same g n d.0 k).1 in
       record {
@@ -172,14 +172,14 @@ mutual
         holds = (
           subst (IsBelow h) (sym around) d.1,
           subst (CanPass rs) (sym around) d.2,
-          subst (λ x. IsBelow (passed rs x) (f.notes.behind n)) (sym around) (subst (IsBelow (passed rs d.0)) (sym behind) d.3),
-          subst (λ x. IsLocalBlock f.notes (Some n) (n + 1) (passed rs x) s) (sym around) f.holds,
-          subst (λ x. When (leads_block f.notes (n + 1) (passed rs x) s) (λ m. IsBelow m x)) (sym around) (lies_when _ d.0 f.leads),
+          subst (λ x. IsBelow (map_after rs x) (f.notes.behind n)) (sym around) (subst (IsBelow (map_after rs d.0)) (sym behind) d.3),
+          subst (λ x. IsLocalBlock f.notes (Some n) (n + 1) (map_after rs x) s) (sym around) f.holds,
+          subst (λ x. When (leads_block f.notes (n + 1) (map_after rs x) s) (λ m. IsBelow m x)) (sym around) (lies_when _ d.0 f.leads),
         );
         leads = subst (λ m. IsBelow m k) (sym behind) (map_refl k);
       }
   form_made (switch rs arms end) inside b c h k l n g j fit away d =
-      let f = arms_made arms inside b c (passed rs h) k l (n + 1) g j fit (λ i x y. away i (omega arith) (omega arith)) d.1 in
+      let f = arms_made arms inside b c (map_after rs h) k l (n + 1) g j fit (λ i x y. away i (omega arith) (omega arith)) d.1 in
       let a = put_notes f.notes n k k in
       let put = put_but f.notes n (n + (1 + size_arms arms)) k k (omega arith) in
       let grown = but_meets f.notes a n (n + (1 + size_arms arms)) l put away in
@@ -188,7 +188,7 @@ mutual
       record {
         notes = a;
         same = but_trans g f.notes a n (n + (1 + size_arms arms)) (but_wider g f.notes _ _ n (n + (1 + size_arms arms)) f.same (omega arith) (omega arith)) put;
-        holds = (d.0, subst (IsLocalArms a l (n + 1) (passed rs h) arms) (sym behind) (local_arms_grown arms f.notes a l (n + 1) (passed rs h) k on grown f.holds));
+        holds = (d.0, subst (IsLocalArms a l (n + 1) (map_after rs h) arms) (sym behind) (local_arms_grown arms f.notes a l (n + 1) (map_after rs h) k on grown f.holds));
         leads = lies_only (passes_arms arms) (a.behind n) k (subst (λ m. IsBelow m k) (sym behind) (map_refl k));
       }
 
@@ -199,8 +199,8 @@ mutual
       record {
         notes = f.notes;
         same = f.same;
-        holds = (f.holds, lies_can _ (map gone bound) d.0 f.leads d.2);
-        leads = lies_end _ (map gone bound) d.0 k f.leads d.3;
+        holds = (f.holds, lies_can _ (map away_row bound) d.0 f.leads d.2);
+        leads = lies_end _ (map away_row bound) d.0 k f.leads d.3;
       }
 
   pub stmts_made : (ss : Stmts) (inside : Bool) (b c h k : HeldMap) (l : Option ℕ) (n : ℕ) (g : Notes) → IsJumpingStmts inside ss → (IsTrue inside → IsFit g l b c) → ((i : ℕ) → n ≤ i → i < n + size_stmts ss → IsAway i l) → DerivesStmts b c h ss k →
@@ -225,7 +225,7 @@ mutual
       IsMade l n (n + size_arms arms) h k g (λ a. IsLocalArms a l n h arms k) (λ a. Some k)
   arms_made no_arms inside b c h k l n g j fit away d = record { notes = g; same = but_refl g n (n + 0); holds = tt; leads = map_refl k }
   arms_made (arm rs s rest) inside b c h k l n g j fit away d =
-      let f = block_made s inside b c (passed rs h) k l n g j.0 fit (λ i x y. away i x (omega arith)) d.1 in
+      let f = block_made s inside b c (map_after rs h) k l n g j.0 fit (λ i x y. away i x (omega arith)) d.1 in
       let first = but_meets g f.notes n (n + size_block s) l f.same (λ i x y. away i x (omega arith)) in
       let e = arms_made rest inside b c h k l (n + size_block s) f.notes j.1 (λ x. fit_grown g f.notes l b c first (fit x)) (λ i x y. away i (omega arith) (omega arith)) d.2 in
       let same = but_meets f.notes e.notes (n + size_block s) (n + size_block s + size_arms rest) l e.same (λ i x y. away i (omega arith) (omega arith)) in
@@ -233,6 +233,6 @@ mutual
       record {
         notes = e.notes;
         same = but_trans g f.notes e.notes n (n + (size_block s + size_arms rest)) (but_wider g f.notes _ _ n (n + (size_block s + size_arms rest)) f.same (omega arith) (omega arith)) (but_wider f.notes e.notes _ _ n (n + (size_block s + size_arms rest)) e.same (omega arith) (omega arith));
-        holds = (d.0, local_block_grown s f.notes e.notes l n (passed rs h) on same f.holds, when_same _ _ _ (λ m. IsBelow m k) (leads_block_same s f.notes e.notes n (passed rs h) on) (λ m p. p) (lies_when _ k f.leads), e.holds);
+        holds = (d.0, local_block_grown s f.notes e.notes l n (map_after rs h) on same f.holds, when_same _ _ _ (λ m. IsBelow m k) (leads_block_same s f.notes e.notes n (map_after rs h) on) (λ m p. p) (lies_when _ k f.leads), e.holds);
         leads = map_refl k;
       }

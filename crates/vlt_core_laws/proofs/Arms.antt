@@ -5,7 +5,7 @@ use Rattle.std.specs.List.{flat_map}
 use Rattle.std.proofs.lemmas.List.Concat.{flat_map-cons}
 use Rattle.vlt_core.specs.Core.{Ty, Tok, a_var, Expr, number, truth, var, field, unary, binary, Operand, pure, move, pack, Func, Program}
 use Rattle.vlt_core.specs.Lookups.{var_type, reference_of, guarded_of, is_new, is_given_back}
-use Rattle.vlt_core.specs.Maps.{Row, gone}
+use Rattle.vlt_core.specs.Maps.{Row, away_row}
 use Rattle.vlt_core.specs.Rows.{on_option, touch_rows, expr_rows, operand_rows, returned_row, new_rows, given_back_rows, tokens_of, return_rows}
 use Rattle.vlt_core.specs.KindedHeads.{unless, has}
 use Rattle.vlt_core.specs.KindedScopes.{Ids, with_var, binding_broken, keys_broken, fresh_broken}
@@ -62,11 +62,11 @@ returned_filled p f None e = tt
 
 pub return_filled : (p : Program) (f : Func) (value : Option Operand) → AreFilled (return_rows p f value)
 return_filled p f value = all_filled_rows (return_rows p f value)
-    (all_both Filled _ (map gone (tokens_of f))
+    (all_both Filled _ (map away_row (tokens_of f))
     (all_both Filled _ (given_back_rows p f)
     (all_both Filled (on_option value (operand_rows p f)) (new_rows p f value) (option_rows Filled value _ (λ o e. operand_filled p f o)) (all_flat (returned_row p f value) (filter is_new f.clause) (returned_filled p f value)))
     (all_mapped Filled _ (filter is_given_back f.clause) (λ e. (tt, tt))))
-    (all_mapped Filled gone (tokens_of f) (λ t. (tt, tt))))
+    (all_mapped Filled away_row (tokens_of f) (λ t. (tt, tt))))
 
 -- ---- the variables of an arm
 

@@ -4,7 +4,7 @@ use Rattle.vlt_core.specs.Core.{Tok, a_var, Func, Program}
 use Rattle.vlt_core.specs.Lookups.{is_owning_var}
 use Rattle.vlt_core.specs.Flow as flow
 use Rattle.vlt_core.specs.Flow.{passes, passes_block}
-use Rattle.vlt_core.specs.KindedScopes.{Ids, entered, left_behind}
+use Rattle.vlt_core.specs.KindedScopes.{Ids, at_block_start, left_behind}
 use Rattle.vlt_core.specs.KindedBodies.{tokens_broken}
 use Rattle.vlt_core_laws.specs.Scoped.{is_bound, with_bound, IsScoped, IsScopedBlock, IsScopedStmts, IsScopedArms}
 use Rattle.vlt_core_laws.specs.Tame.{IsTame, IsTameBlock, IsTameStmts, IsTameArms}
@@ -63,7 +63,7 @@ pub record Enters (f : Func) (ids ids0 : Ids) (extra : List Tok) : Type 0 where
   pub made : (t : Tok) → is_bound extra t ≡ true → was ids0 t ≡ true
 
 module _ (p : Program) (f : Func) (g : Tok → Bool) (left : List Tok) (ids ids0 : Ids) (extra listed : List Tok) (last : Ids)
-    (point : Point f g left ids) (enters : Enters f ids ids0 extra) (q : Goes f (entered ids0) last) (lists : tokens_broken f listed (extra ++ last.bound) ≡ [])
+    (point : Point f g left ids) (enters : Enters f ids ids0 extra) (q : Goes f (at_block_start ids0) last) (lists : tokens_broken f listed (extra ++ last.bound) ≡ [])
     (apart : Apart f g ids (left_behind ids last)) where
   -- a listed token is new
   listed_new : (t : Tok) → is_bound listed t ≡ true → (was ids t ≡ false) × (was last t ≡ true)
@@ -81,7 +81,7 @@ module _ (p : Program) (f : Func) (g : Tok → Bool) (left : List Tok) (ids ids0
   pub listed_out : (t : Tok) → is_bound listed t ≡ true → g t ≡ false
   listed_out t b = let new = listed_new t b in apart t (listed_token t b) new.0 new.1 (not_bound t new.0)
 
-  pub inner_apart : Apart f (with_bound g listed) (entered ids0) last
+  pub inner_apart : Apart f (with_bound g listed) (at_block_start ids0) last
   inner_apart t k w0 w1 nb =
       let w = was_not (was ids t) (was ids0 t) (enters.grows t) w0 in
       both_false (g t) (is_bound listed t) (apart t k w w1 (not_bound t w))
@@ -93,7 +93,7 @@ module _ (p : Program) (f : Func) (g : Tok → Bool) (left : List Tok) (ids ids0
   pub extra_listed : (t : Tok) → IsToken f t → is_bound extra t ≡ true → is_bound listed t ≡ true
   extra_listed t k b = made_listed f listed (extra ++ last.bound) lists t k (bound_left extra last.bound t b)
 
-  pub inner_point : Covers f (with_bound g listed) ids0 → AreTyped f ids0 → Point f (with_bound g listed) (left ++ listed) (entered ids0)
+  pub inner_point : Covers f (with_bound g listed) ids0 → AreTyped f ids0 → Point f (with_bound g listed) (left ++ listed) (at_block_start ids0)
   inner_point c t0 = record {
     covers = record { keys = c.keys; vars = c.vars };
     typed = record { each = t0.each };

@@ -1,7 +1,7 @@
 -- Annotations that agree on the statements of a part, and maps below others.
 use Rattle.std.proofs.Common.{◌≡◌, ◌<◌, ◌≤◌, ◌+◌, ℕ, Bool, true, false, List, map, Option, Some, None, refl, ap, subst, arith, rules, ◌||◌, ◌&&◌, MatchBool}
 use Rattle.std.specs.Prelude.{IsSome}
-use Rattle.vlt_core.specs.Maps.{Row, HeldMap, CanPass, passed, IsBelow, gone}
+use Rattle.vlt_core.specs.Maps.{Row, HeldMap, CanPass, map_after, IsBelow, away_row}
 use Rattle.vlt_core.specs.Flow.{Flow, step, choose, loop, switch, scope, focus, return, jump, Block, block, Stmts, done, next, Arms, no_arms, arm, size, size_block, size_stmts, size_arms, passes, passes_block, passes_stmts, passes_arms}
 use Rattle.vlt_core.specs.Local.{Notes, Then, When, only_if, rows_passed, leads, leads_block, leads_stmts, Meets, IsLocal, IsLocalBlock, IsLocalStmts, IsLocalArms}
 use Rattle.vlt_core.proofs.Maps.{map_refl, map_trans, can_below, passed_below}
@@ -30,12 +30,12 @@ mutual
   leads_same (switch rs arms end) a b n h e = ap (only_if (passes_arms arms)) (e.behind n (omega arith) (omega arith))
   leads_same (scope s) a b n h e = leads_block_same s a b (n + 1) h (same_part a b _ _ _ _ e (omega arith) (omega arith))
   leads_same (focus rs s es) a b n h e =
-      ap (rows_passed es) (leads_block_same s a b (n + 1) (passed rs h) (same_part a b _ _ _ _ e (omega arith) (omega arith)))
+      ap (rows_passed es) (leads_block_same s a b (n + 1) (map_after rs h) (same_part a b _ _ _ _ e (omega arith) (omega arith)))
   leads_same (return rs) a b n h e = refl
   leads_same (jump continues left) a b n h e = refl
 
   pub leads_block_same : (s : Block) (a b : Notes) (n : ℕ) (h : HeldMap) → IsSameOn a b n (n + size_block s) → leads_block a n h s ≡ leads_block b n h s
-  leads_block_same (block ss bound end) a b n h e = ap (rows_passed (map gone bound)) (leads_stmts_same ss a b n h e)
+  leads_block_same (block ss bound end) a b n h e = ap (rows_passed (map away_row bound)) (leads_stmts_same ss a b n h e)
 
   pub leads_stmts_same : (ss : Stmts) (a b : Notes) (n : ℕ) (h : HeldMap) → IsSameOn a b n (n + size_stmts ss) → leads_stmts a n h ss ≡ leads_stmts b n h ss
   leads_stmts_same done a b n h e = refl
@@ -76,10 +76,10 @@ mutual
       let et = same_part a b _ _ (n + 1 + size_block s) (n + 1 + size_block s + size_block t) e (omega arith) (omega arith) in
       let k = e.behind n (omega arith) (omega arith) in (
         d.0,
-        local_block_grown s a b l (n + 1) (passed rs h) es g d.1,
-        local_block_grown t a b l (n + 1 + size_block s) (passed rs h) et g d.2,
-        when_same _ _ _ _ (leads_block_same s a b (n + 1) (passed rs h) es) (λ m p. subst (IsBelow m) k p) d.3,
-        when_same _ _ _ _ (leads_block_same t a b (n + 1 + size_block s) (passed rs h) et) (λ m p. subst (IsBelow m) k p) d.4,
+        local_block_grown s a b l (n + 1) (map_after rs h) es g d.1,
+        local_block_grown t a b l (n + 1 + size_block s) (map_after rs h) et g d.2,
+        when_same _ _ _ _ (leads_block_same s a b (n + 1) (map_after rs h) es) (λ m p. subst (IsBelow m) k p) d.3,
+        when_same _ _ _ _ (leads_block_same t a b (n + 1 + size_block s) (map_after rs h) et) (λ m p. subst (IsBelow m) k p) d.4,
       )
   local_grown (loop rs s) a b l n h e g d =
       let es = same_part a b _ _ (n + 1) (n + 1 + size_block s) e (omega arith) (omega arith) in
@@ -87,23 +87,23 @@ mutual
       let k = e.behind n (omega arith) (omega arith) in (
         subst (IsBelow h) i d.0,
         subst (CanPass rs) i d.1,
-        subst (λ x. IsBelow (passed rs (b.around n)) x) k (subst (λ x. IsBelow (passed rs x) (a.behind n)) i d.2),
-        subst (λ x. IsLocalBlock b (Some n) (n + 1) (passed rs x) s) i (local_block_grown s a b (Some n) (n + 1) (passed rs (a.around n)) es (same_grown a b _ _ n e (omega arith) (omega arith)) d.3),
-        subst (λ x. When (leads_block b (n + 1) (passed rs x) s) (λ m. IsBelow m x)) i (when_same _ _ _ (λ m. IsBelow m (a.around n)) (leads_block_same s a b (n + 1) (passed rs (a.around n)) es) (λ m p. p) d.4),
+        subst (λ x. IsBelow (map_after rs (b.around n)) x) k (subst (λ x. IsBelow (map_after rs x) (a.behind n)) i d.2),
+        subst (λ x. IsLocalBlock b (Some n) (n + 1) (map_after rs x) s) i (local_block_grown s a b (Some n) (n + 1) (map_after rs (a.around n)) es (same_grown a b _ _ n e (omega arith) (omega arith)) d.3),
+        subst (λ x. When (leads_block b (n + 1) (map_after rs x) s) (λ m. IsBelow m x)) i (when_same _ _ _ (λ m. IsBelow m (a.around n)) (leads_block_same s a b (n + 1) (map_after rs (a.around n)) es) (λ m p. p) d.4),
       )
   local_grown (switch rs arms end) a b l n h e g d = (
     d.0,
-    subst (IsLocalArms b l (n + 1) (passed rs h) arms) (e.behind n (omega arith) (omega arith)) (local_arms_grown arms a b l (n + 1) (passed rs h) (a.behind n) (same_part a b _ _ _ _ e (omega arith) (omega arith)) g d.1),
+    subst (IsLocalArms b l (n + 1) (map_after rs h) arms) (e.behind n (omega arith) (omega arith)) (local_arms_grown arms a b l (n + 1) (map_after rs h) (a.behind n) (same_part a b _ _ _ _ e (omega arith) (omega arith)) g d.1),
   )
   local_grown (scope s) a b l n h e g d = local_block_grown s a b l (n + 1) h (same_part a b _ _ _ _ e (omega arith) (omega arith)) g d
   local_grown (focus rs s es) a b l n h e g d =
       let part = same_part a b _ _ (n + 1) (n + 1 + size_block s) e (omega arith) (omega arith) in (
         d.0,
-        local_block_grown s a b l (n + 1) (passed rs h) part g d.1,
-        when_same _ _ _ _ (leads_block_same s a b (n + 1) (passed rs h) part) (λ m p. p) d.2,
+        local_block_grown s a b l (n + 1) (map_after rs h) part g d.1,
+        when_same _ _ _ _ (leads_block_same s a b (n + 1) (map_after rs h) part) (λ m p. p) d.2,
       )
   local_grown (return rs) a b l n h e g d = d
-  local_grown (jump continues left) a b l n h e g d = (d.0, g.each continues (passed (map gone left) h) d.1)
+  local_grown (jump continues left) a b l n h e g d = (d.0, g.each continues (map_after (map away_row left) h) d.1)
 
   pub local_block_grown : (s : Block) (a b : Notes) (l : Option ℕ) (n : ℕ) (h : HeldMap) → IsSameOn a b n (n + size_block s) → IsGrownAt a b l → IsLocalBlock a l n h s → IsLocalBlock b l n h s
   local_block_grown (block ss bound end) a b l n h e g d =
@@ -122,8 +122,8 @@ mutual
   local_arms_grown (arm rs s rest) a b l n h k e g d =
       let es = same_part a b _ _ n (n + size_block s) e (omega arith) (omega arith) in (
         d.0,
-        local_block_grown s a b l n (passed rs h) es g d.1,
-        when_same _ _ _ _ (leads_block_same s a b n (passed rs h) es) (λ m p. p) d.2,
+        local_block_grown s a b l n (map_after rs h) es g d.1,
+        when_same _ _ _ _ (leads_block_same s a b n (map_after rs h) es) (λ m p. p) d.2,
         local_arms_grown rest a b l (n + size_block s) h k (same_part a b _ _ _ _ e (omega arith) (omega arith)) g d.3,
       )
 
@@ -158,8 +158,8 @@ mutual
   local_below (step rs) a l n h k p d = (can_below rs h k p d, passed_below rs h k p)
   local_below (choose rs s t) a l n h k p d =
       let q = passed_below rs h k p in
-      let u = local_block_below s a l (n + 1) (passed rs h) (passed rs k) q d.1 in
-      let v = local_block_below t a l (n + 1 + size_block s) (passed rs h) (passed rs k) q d.2 in (
+      let u = local_block_below s a l (n + 1) (map_after rs h) (map_after rs k) q d.1 in
+      let v = local_block_below t a l (n + 1 + size_block s) (map_after rs h) (map_after rs k) q d.2 in (
         (
           can_below rs h k p d.0,
           u.0,
@@ -171,20 +171,20 @@ mutual
       )
   local_below (loop rs s) a l n h k p d = ((map_trans h k (a.around n) p d.0, d.1, d.2, d.3, d.4), map_refl (a.behind n))
   local_below (switch rs arms end) a l n h k p d =
-      let u = local_arms_below arms a l (n + 1) (passed rs h) (passed rs k) (a.behind n) (passed_below rs h k p) d.1 in
+      let u = local_arms_below arms a l (n + 1) (map_after rs h) (map_after rs k) (a.behind n) (passed_below rs h k p) d.1 in
       ((can_below rs h k p d.0, u), lies_refl (leads a n h (switch rs arms end)))
   local_below (scope s) a l n h k p d = local_block_below s a l (n + 1) h k p d
   local_below (focus rs s es) a l n h k p d =
-      let u = local_block_below s a l (n + 1) (passed rs h) (passed rs k) (passed_below rs h k p) d.1 in
+      let u = local_block_below s a l (n + 1) (map_after rs h) (map_after rs k) (passed_below rs h k p) d.1 in
       ((can_below rs h k p d.0, u.0, when_below _ _ _ u.1 (λ m m' x y. can_below es m m' x y) d.2), lies_rows es _ _ u.1)
   local_below (return rs) a l n h k p d = (can_below rs h k p d, tt)
   local_below (jump continues left) a l n h k p d =
-      ((can_below (map gone left) h k p d.0, meets_below a l continues _ _ (passed_below (map gone left) h k p) d.1), tt)
+      ((can_below (map away_row left) h k p d.0, meets_below a l continues _ _ (passed_below (map away_row left) h k p) d.1), tt)
 
   pub local_block_below : (s : Block) (a : Notes) (l : Option ℕ) (n : ℕ) (h k : HeldMap) → IsBelow h k → IsLocalBlock a l n k s → IsLocalBlock a l n h s × Lies (leads_block a n h s) (leads_block a n k s)
   local_block_below (block ss bound end) a l n h k p d =
       let u = local_stmts_below ss a l n h k p d.0 in
-      ((u.0, when_below _ _ _ u.1 (λ m m' x y. can_below (map gone bound) m m' x y) d.1), lies_rows (map gone bound) _ _ u.1)
+      ((u.0, when_below _ _ _ u.1 (λ m m' x y. can_below (map away_row bound) m m' x y) d.1), lies_rows (map away_row bound) _ _ u.1)
 
   pub local_stmts_below : (ss : Stmts) (a : Notes) (l : Option ℕ) (n : ℕ) (h k : HeldMap) → IsBelow h k → IsLocalStmts a l n k ss → IsLocalStmts a l n h ss × Lies (leads_stmts a n h ss) (leads_stmts a n k ss)
   local_stmts_below done a l n h k p d = (tt, p)
@@ -196,7 +196,7 @@ mutual
   pub local_arms_below : (arms : Arms) (a : Notes) (l : Option ℕ) (n : ℕ) (h k e : HeldMap) → IsBelow h k → IsLocalArms a l n k arms e → IsLocalArms a l n h arms e
   local_arms_below no_arms a l n h k e p d = tt
   local_arms_below (arm rs s rest) a l n h k e p d =
-      let u = local_block_below s a l n (passed rs h) (passed rs k) (passed_below rs h k p) d.1 in
+      let u = local_block_below s a l n (map_after rs h) (map_after rs k) (passed_below rs h k p) d.1 in
       (can_below rs h k p d.0, u.0, when_below _ _ _ u.1 (λ m m' x y. map_trans m m' e x y) d.2, local_arms_below rest a l (n + size_block s) h k e p d.3)
 
 -- ---- what can be passed
@@ -228,12 +228,12 @@ mutual
   leads_some (loop rs s) a n h = search rules
   leads_some (switch rs arms end) a n h = only_some (passes_arms arms) (a.behind n)
   leads_some (scope s) a n h = leads_block_some s a (n + 1) h
-  leads_some (focus rs s es) a n h = rows_some es (passes_block s) _ (leads_block_some s a (n + 1) (passed rs h))
+  leads_some (focus rs s es) a n h = rows_some es (passes_block s) _ (leads_block_some s a (n + 1) (map_after rs h))
   leads_some (return rs) a n h = refl
   leads_some (jump continues left) a n h = refl
 
   pub leads_block_some : (s : Block) (a : Notes) (n : ℕ) (h : HeldMap) → MatchBool (passes_block s) (IsSome (leads_block a n h s)) (leads_block a n h s ≡ None)
-  leads_block_some (block ss bound end) a n h = rows_some (map gone bound) (passes_stmts ss) _ (leads_stmts_some ss a n h)
+  leads_block_some (block ss bound end) a n h = rows_some (map away_row bound) (passes_stmts ss) _ (leads_stmts_some ss a n h)
 
   pub leads_stmts_some : (ss : Stmts) (a : Notes) (n : ℕ) (h : HeldMap) → MatchBool (passes_stmts ss) (IsSome (leads_stmts a n h ss)) (leads_stmts a n h ss ≡ None)
   leads_stmts_some done a n h = search rules

@@ -1,7 +1,7 @@
 -- What is so of a spot depends on what comes to the part alone, where it does for rows and joins.
 use Rattle.std.proofs.Common.{◌+◌, ℕ, Bool, true, false, List, [], ◌∷◌, map, length, inl, inr, ⊎_elim}
 use Rattle.vlt_core.specs.Core.{Tok}
-use Rattle.vlt_core.specs.Maps.{Row, gone, is_tok}
+use Rattle.vlt_core.specs.Maps.{Row, away_row, is_tok}
 use Rattle.vlt_core.specs.Flow.{Flow, step, choose, loop, switch, scope, focus, return, jump, Block, block, Stmts, done, next, Arms, no_arms, arm, end_of}
 use Rattle.vlt_core.specs.Found.{One, one_absent, Ones, image, images, out, out_block, out_stmts, to_next, head_of}
 use Rattle.vlt_core.specs.Faults.{If, Spot, spots, spots_block, spots_stmts, RowAt, SpotAt, SpotAtBlock, SpotAtStmts, SpotAtArms, IsMixed, IsUnwanted, FaultKind, at_row, at_join, StandsFor, present_of, TellsRow, TellsJoin}
@@ -76,12 +76,12 @@ module _ (P : Row → Ones → Type 0) (Q : Ones → Type 0) (rows : OfFoundRows
         (λ y. inr (inr (rows_same p (end_of s) (c + length rs + spots_block s) t es (out_block t s (images t rs S) to_next) (out_block t s (images t rs T) to_next)
         ((smooth_block s t to_next).more (images t rs S) (images t rs T) u) ((smooth_block s t to_next).more (images t rs T) (images t rs S) v) y)))) x
     same_spot (return rs) p t at c S T f g x = rows_same p at c t rs S T f g x
-    same_spot (jump d left) p t at c S T f g x = rows_same p at c t (map gone left) S T f g x
+    same_spot (jump d left) p t at c S T f g x = rows_same p at c t (map away_row left) S T f g x
 
     pub same_spot_block : (s : Block) (p : Spot) (t : Tok) (c : ℕ) (S T : Ones) → ((o : One) → S o → T o) → ((o : One) → T o → S o) → SpotAtBlock P Q p t c s S → SpotAtBlock P Q p t c s T
     same_spot_block (block ss bound end) p t c S T f g x = ⊎_elim
         (λ y. inl (same_spot_stmts ss p t c S T f g y))
-        (λ y. inr (rows_same p end (c + spots_stmts ss) t (map gone bound) (out_stmts t ss S to_next) (out_stmts t ss T to_next) ((smooth_stmts ss t to_next).more S T f) ((smooth_stmts ss t to_next).more T S g) y)) x
+        (λ y. inr (rows_same p end (c + spots_stmts ss) t (map away_row bound) (out_stmts t ss S to_next) (out_stmts t ss T to_next) ((smooth_stmts ss t to_next).more S T f) ((smooth_stmts ss t to_next).more T S g) y)) x
 
     same_spot_stmts : (ss : Stmts) (p : Spot) (t : Tok) (c : ℕ) (S T : Ones) → ((o : One) → S o → T o) → ((o : One) → T o → S o) → SpotAtStmts P Q p t c ss S → SpotAtStmts P Q p t c ss T
     same_spot_stmts done p t c S T f g x = x

@@ -2,7 +2,7 @@
 use Rattle.std.proofs.Common.{◌≡◌, ◌+◌, ℕ, Bool, true, false, IsTrue, MatchBool, cond, List, [], ◌∷◌, map, Option, Some, None, refl, sym, ap, ◌∙◌, subst, rules, ◌⊎◌, ◌||◌, inl, inr, ⊎_elim}
 use Rattle.std.specs.Prelude.{IsSome}
 use Rattle.vlt_core.specs.Core.{Tok, a_key, a_var}
-use Rattle.vlt_core.specs.Maps.{Row, Status, absent, held, lent, full, is_absent, is_held, is_lent, is_full, kind_of, HeldMap, is_tok, changed, row_passed, CanPass, passed, IsBelow, gone}
+use Rattle.vlt_core.specs.Maps.{Row, Status, absent, held, lent, full, is_absent, is_held, is_lent, is_full, kind_of, HeldMap, is_tok, status_after, row_passed, CanPass, map_after, IsBelow, away_row}
 use Rattle.vlt_core.specs.Flow.{Flow, step, choose, loop, switch, scope, focus, return, jump, Block, block, Stmts, done, next, Arms, no_arms, arm, size, size_block, passes, passes_block, passes_arms}
 use Rattle.vlt_core.specs.Local.{Notes, Then, When, Meets, only_if, rows_passed, leads, leads_block, leads_stmts, IsLocal, IsLocalBlock, IsLocalStmts, IsLocalArms}
 use Rattle.vlt_core.specs.Derives.{toward, Derives, DerivesBlock, DerivesStmts, DerivesArms, IsDerived}
@@ -39,11 +39,11 @@ out_below g h k p a = record { each = λ t e. absent_kind (k t) (sym (ap kind_of
 row_out : (g : Tok → Bool) (r : Row) (h : HeldMap) → g r.tok ≡ true → IsAbsentOut g h → IsAbsentOut g (row_passed r h)
 row_out g r h p a = record { each = λ t e. at t e (is_tok t r.tok) refl }
   where
-    at : (t : Tok) → g t ≡ false → (b : Bool) → is_tok t r.tok ≡ b → cond b (changed r.after (h r.tok)) (h t) ≡ absent
+    at : (t : Tok) → g t ≡ false → (b : Bool) → is_tok t r.tok ≡ b → cond b (status_after r.after (h r.tok)) (h t) ≡ absent
     at t e true s = true_false (g t) (ap g (same_is t r.tok s) ∙ p) e
     at t e false s = a.each t e
 
-rows_out : (g : Tok → Bool) (rs : List Row) (h : HeldMap) → AreInScope g rs → IsAbsentOut g h → IsAbsentOut g (passed rs h)
+rows_out : (g : Tok → Bool) (rs : List Row) (h : HeldMap) → AreInScope g rs → IsAbsentOut g h → IsAbsentOut g (map_after rs h)
 rows_out g [] h p a = a
 rows_out g (r ∷ rs) h p a = rows_out g rs (row_passed r h) p.1 (row_out g r h p.0 a)
 
@@ -58,24 +58,24 @@ out_within : (s : Block) (g : Tok → Bool) (h : HeldMap) → IsAbsentOut g h �
 out_within (block ss bound end) g h a = out_wider g bound h a
 
 -- behind a focus its own token is absent
-out_focus : (g : Tok → Bool) (x : Tok) (es : List Row) (m : HeldMap) → LeavesAbsent x es → IsAbsentOut (with_bound g (x ∷ [])) (passed es m) → IsAbsentOut g (passed es m)
+out_focus : (g : Tok → Bool) (x : Tok) (es : List Row) (m : HeldMap) → LeavesAbsent x es → IsAbsentOut (with_bound g (x ∷ [])) (map_after es m) → IsAbsentOut g (map_after es m)
 out_focus g x es m leaves a = record { each = λ t e. at t e (is_tok t x) refl }
   where
-    at : (t : Tok) → g t ≡ false → (b : Bool) → is_tok t x ≡ b → passed es m t ≡ absent
-    at t e true s = ap (passed es m) (same_is t x s) ∙ leaves m
+    at : (t : Tok) → g t ≡ false → (b : Bool) → is_tok t x ≡ b → map_after es m t ≡ absent
+    at t e true s = ap (map_after es m) (same_is t x s) ∙ leaves m
     at t e false s = a.each t (ap (λ b. b || (is_tok t x || false)) e ∙ ap (λ b. b || false) s)
 
-gone_absent : (bound : List Tok) (m : HeldMap) (t : Tok) → (m t ≡ absent) ⊎ (is_bound bound t ≡ true) → passed (map gone bound) m t ≡ absent
+gone_absent : (bound : List Tok) (m : HeldMap) (t : Tok) → (m t ≡ absent) ⊎ (is_bound bound t ≡ true) → map_after (map away_row bound) m t ≡ absent
 gone_absent [] m t (inl e) = e
 gone_absent [] m t (inr e) = true_false false e refl
-gone_absent (u ∷ us) m t p = gone_absent us (row_passed (gone u) m) t (at (is_tok t u) p)
+gone_absent (u ∷ us) m t p = gone_absent us (row_passed (away_row u) m) t (at (is_tok t u) p)
   where
     at : (b : Bool) → (m t ≡ absent) ⊎ ((b || is_bound us t) ≡ true) → (cond b absent (m t) ≡ absent) ⊎ (is_bound us t ≡ true)
     at true p = inl refl
     at false (inl e) = inl e
     at false (inr e) = inr e
 
-gone_out : (g : Tok → Bool) (bound : List Tok) (m : HeldMap) → IsAbsentOut (with_bound g bound) m → IsAbsentOut g (passed (map gone bound) m)
+gone_out : (g : Tok → Bool) (bound : List Tok) (m : HeldMap) → IsAbsentOut (with_bound g bound) m → IsAbsentOut g (map_after (map away_row bound) m)
 gone_out g bound m a = record { each = λ t e. gone_absent bound m t (at t e (is_bound bound t) refl) }
   where
     at : (t : Tok) → g t ≡ false → (b : Bool) → is_bound bound t ≡ b → (m t ≡ absent) ⊎ (is_bound bound t ≡ true)
@@ -83,13 +83,13 @@ gone_out g bound m a = record { each = λ t e. gone_absent bound m t (at t e (is
     at t e false s = inl (a.each t (ap (λ x. x || is_bound bound t) e ∙ s))
 
 -- rows of tokens that are absent anyway
-gone_can : (bound : List Tok) (k : HeldMap) → ((t : Tok) → is_bound bound t ≡ true → k t ≡ absent) → CanPass (map gone bound) k × IsBelow (passed (map gone bound) k) k
+gone_can : (bound : List Tok) (k : HeldMap) → ((t : Tok) → is_bound bound t ≡ true → k t ≡ absent) → CanPass (map away_row bound) k × IsBelow (map_after (map away_row bound) k) k
 gone_can [] k p = (tt, map_refl k)
 gone_can (u ∷ us) k p =
     let here : k u ≡ absent = p u (ap (λ b. b || is_bound us u) (same_self u)) in
-    let same : row_passed (gone u) k ≡ k = λ i t. at t (is_tok t u) refl here i in
+    let same : row_passed (away_row u) k ≡ k = λ i t. at t (is_tok t u) refl here i in
     let rest = gone_can us k (λ t e. p t (ap (λ b. is_tok t u || b) e ∙ or_true (is_tok t u))) in
-    ((ap kind_of here, subst (CanPass (map gone us)) (sym same) rest.0), subst (λ h. IsBelow (passed (map gone us) h) k) (sym same) rest.1)
+    ((ap kind_of here, subst (CanPass (map away_row us)) (sym same) rest.0), subst (λ h. IsBelow (map_after (map away_row us) h) k) (sym same) rest.1)
   where
     same_self : (u : Tok) → is_tok u u ≡ true
     same_self (a_key i) = search rules
@@ -122,7 +122,7 @@ only_when : (g : Tok → Bool) (p : Bool) (k : HeldMap) → (p ≡ true → IsAb
 only_when g true k a = a refl
 only_when g false k a = tt
 
-when_rows : (P Q : HeldMap → Type 0) (rs : List Row) (o : Option HeldMap) → ((m : HeldMap) → P m → Q (passed rs m)) → When o P → When (rows_passed rs o) Q
+when_rows : (P Q : HeldMap → Type 0) (rs : List Row) (o : Option HeldMap) → ((m : HeldMap) → P m → Q (map_after rs m)) → When o P → When (rows_passed rs o) Q
 when_rows P Q rs None f w = tt
 when_rows P Q rs (Some m) f w = f m w
 
@@ -140,22 +140,22 @@ mutual
   form_out (choose rs u v) g a l n h w p d =
       let q = rows_out g rs h w.0 p in
       only_out g (passes_block u) (passes_block v) (a.behind n)
-      (way_out g (passes_block u) _ (a.behind n) (leads_block_some u a (n + 1) (passed rs h)) (block_out u g a l (n + 1) (passed rs h) w.1 (out_within u g (passed rs h) q) d.1) d.3)
-      (way_out g (passes_block v) _ (a.behind n) (leads_block_some v a (n + 1 + size_block u) (passed rs h)) (block_out v g a l (n + 1 + size_block u) (passed rs h) w.2 (out_within v g (passed rs h) q) d.2) d.4)
-  form_out (loop rs s) g a l n h w p d = out_below g (passed rs (a.around n)) (a.behind n) d.2 (rows_out g rs (a.around n) w.0 (out_below g h (a.around n) d.0 p))
-  form_out (switch rs arms end) g a l n h w p d = only_when g (passes_arms arms) (a.behind n) (arms_out arms g a l (n + 1) (passed rs h) (a.behind n) w.1 (rows_out g rs h w.0 p) d.1)
+      (way_out g (passes_block u) _ (a.behind n) (leads_block_some u a (n + 1) (map_after rs h)) (block_out u g a l (n + 1) (map_after rs h) w.1 (out_within u g (map_after rs h) q) d.1) d.3)
+      (way_out g (passes_block v) _ (a.behind n) (leads_block_some v a (n + 1 + size_block u) (map_after rs h)) (block_out v g a l (n + 1 + size_block u) (map_after rs h) w.2 (out_within v g (map_after rs h) q) d.2) d.4)
+  form_out (loop rs s) g a l n h w p d = out_below g (map_after rs (a.around n)) (a.behind n) d.2 (rows_out g rs (a.around n) w.0 (out_below g h (a.around n) d.0 p))
+  form_out (switch rs arms end) g a l n h w p d = only_when g (passes_arms arms) (a.behind n) (arms_out arms g a l (n + 1) (map_after rs h) (a.behind n) w.1 (rows_out g rs h w.0 p) d.1)
   form_out (scope s) g a l n h w p d = block_out s g a l (n + 1) h w (out_within s g h p) d
   form_out (focus rs s es) g a l n h w p d =
       let f = with_bound g (w.0 ∷ []) in
       let q = rows_out f rs h w.1 (out_wider g (w.0 ∷ []) h p) in
       when_rows (IsAbsentOut f) (IsAbsentOut g) es _ (λ m q. out_focus g w.0 es m w.5 (rows_out f es m w.4 q))
-      (block_out s f a l (n + 1) (passed rs h) w.2 (out_within s f (passed rs h) q) d.1)
+      (block_out s f a l (n + 1) (map_after rs h) w.2 (out_within s f (map_after rs h) q) d.1)
   form_out (return rs) g a l n h w p d = tt
   form_out (jump c left) g a l n h w p d = tt
 
   pub block_out : (s : Block) (g : Tok → Bool) (a : Notes) (l : Option ℕ) (n : ℕ) (h : HeldMap) → IsScopedBlock g s → IsAbsentOut (within g s) h → IsLocalBlock a l n h s → When (leads_block a n h s) (IsAbsentOut g)
   block_out (block ss bound end) g a l n h w p d =
-      when_rows (IsAbsentOut (with_bound g bound)) (IsAbsentOut g) (map gone bound) _ (λ m q. gone_out g bound m q) (stmts_out ss (with_bound g bound) a l n h w.1 p d.0)
+      when_rows (IsAbsentOut (with_bound g bound)) (IsAbsentOut g) (map away_row bound) _ (λ m q. gone_out g bound m q) (stmts_out ss (with_bound g bound) a l n h w.1 p d.0)
 
   pub stmts_out : (ss : Stmts) (g : Tok → Bool) (a : Notes) (l : Option ℕ) (n : ℕ) (h : HeldMap) → IsScopedStmts g ss → IsAbsentOut g h → IsLocalStmts a l n h ss → When (leads_stmts a n h ss) (IsAbsentOut g)
   stmts_out done g a l n h w p d = p
@@ -166,7 +166,7 @@ mutual
   pub arms_out : (arms : Arms) (g : Tok → Bool) (a : Notes) (l : Option ℕ) (n : ℕ) (h k : HeldMap) → IsScopedArms g arms → IsAbsentOut g h → IsLocalArms a l n h arms k → passes_arms arms ≡ true → IsAbsentOut g k
   arms_out no_arms g a l n h k w p d e = true_false false e refl
   arms_out (arm rs s rest) g a l n h k w p d e = ⊎_elim
-      (way_out g (passes_block s) _ k (leads_block_some s a n (passed rs h)) (block_out s g a l n (passed rs h) w.1 (rows_out (within g s) rs h w.0 (out_within s g h p)) d.1) d.2)
+      (way_out g (passes_block s) _ k (leads_block_some s a n (map_after rs h)) (block_out s g a l n (map_after rs h) w.1 (rows_out (within g s) rs h w.0 (out_within s g h p)) d.1) d.2)
       (arms_out rest g a l (n + size_block s) h k w.2 p d.3)
       (or_cases (passes_block s) (passes_arms rest) e)
 
@@ -202,7 +202,7 @@ when_lies None k w = tt
 when_lies (Some m) k w = w
 
 -- the end of a focus, which something comes to
-focus_end : (A : HeldMap → Type 0) (D : HeldMap → Type 0) (es : List Row) (k : HeldMap) (b : Bool) (o : Option HeldMap) → MatchBool b (IsSome o) (o ≡ None) → b ≡ true → When o A → When o (CanPass es) → Lies (rows_passed es o) (Some k) → ((m : HeldMap) → A m → Lies o (Some m) → D m) → (m : HeldMap) × D m × CanPass es m × IsBelow (passed es m) k
+focus_end : (A : HeldMap → Type 0) (D : HeldMap → Type 0) (es : List Row) (k : HeldMap) (b : Bool) (o : Option HeldMap) → MatchBool b (IsSome o) (o ≡ None) → b ≡ true → When o A → When o (CanPass es) → Lies (rows_passed es o) (Some k) → ((m : HeldMap) → A m → Lies o (Some m) → D m) → (m : HeldMap) × D m × CanPass es m × IsBelow (map_after es m) k
 focus_end A D es k true None p e a c l go = absurd (no_some p)
   where
     no_some : IsSome {T = HeldMap} None → ⊥
@@ -211,7 +211,7 @@ focus_end A D es k true (Some m) p e a c l go = (m, go m a (map_refl m), c, l)
 focus_end A D es k false o p e a c l go = true_false false e refl
 
 -- the end of a block: the list's map, or the map behind the block where the list ends
-block_end : (A : HeldMap → Type 0) (D : HeldMap → Type 0) (bound : List Tok) (k : HeldMap) (o : Option HeldMap) → When o A → A k → When o (CanPass (map gone bound)) → Lies (rows_passed (map gone bound) o) (Some k) → CanPass (map gone bound) k × IsBelow (passed (map gone bound) k) k → ((m : HeldMap) → A m → Lies o (Some m) → D m) → (m : HeldMap) × D m × CanPass (map gone bound) m × IsBelow (passed (map gone bound) m) k
+block_end : (A : HeldMap → Type 0) (D : HeldMap → Type 0) (bound : List Tok) (k : HeldMap) (o : Option HeldMap) → When o A → A k → When o (CanPass (map away_row bound)) → Lies (rows_passed (map away_row bound) o) (Some k) → CanPass (map away_row bound) k × IsBelow (map_after (map away_row bound) k) k → ((m : HeldMap) → A m → Lies o (Some m) → D m) → (m : HeldMap) × D m × CanPass (map away_row bound) m × IsBelow (map_after (map away_row bound) m) k
 block_end A D bound k None a ak c l e go = (k, go k ak tt, e.0, e.1)
 block_end A D bound k (Some m) a ak c l e go = (m, go m a (map_refl m), c, l)
 
@@ -245,16 +245,16 @@ mutual
   form_derives (scope s) g a l n b c h k w p q t d lies = block_derives s g a l (n + 1) b c h k w (out_within s g h p) q t d lies
   form_derives (focus rs s es) g a l n b c h k w p q t d lies =
       let f = with_bound g (w.0 ∷ []) in
-      let r = out_within s f (passed rs h) (rows_out f rs h w.1 (out_wider g (w.0 ∷ []) h p)) in (
+      let r = out_within s f (map_after rs h) (rows_out f rs h w.1 (out_wider g (w.0 ∷ []) h p)) in (
         d.0,
-        focus_end (IsAbsentOut f) (DerivesBlock b c (passed rs h) s) es k (passes_block s) _ (leads_block_some s a (n + 1) (passed rs h)) w.3 (block_out s f a l (n + 1) (passed rs h) w.2 r d.1) d.2 lies
-            (λ m x y. block_derives s f a l (n + 1) b c (passed rs h) m w.2 r x t d.1 y),
+        focus_end (IsAbsentOut f) (DerivesBlock b c (map_after rs h) s) es k (passes_block s) _ (leads_block_some s a (n + 1) (map_after rs h)) w.3 (block_out s f a l (n + 1) (map_after rs h) w.2 r d.1) d.2 lies
+            (λ m x y. block_derives s f a l (n + 1) b c (map_after rs h) m w.2 r x t d.1 y),
       )
   form_derives (choose rs u v) g a l n b c h k w p q t d lies =
       let r = rows_out g rs h w.0 p in (
         d.0,
-        block_derives u g a l (n + 1) b c (passed rs h) k w.1 (out_within u g (passed rs h) r) q t d.1 (lies_way (passes_block u) _ (a.behind n) k (leads_block_some u a (n + 1) (passed rs h)) d.3 (only_left (passes_block u) (passes_block v) (a.behind n) k lies)),
-        block_derives v g a l (n + 1 + size_block u) b c (passed rs h) k w.2 (out_within v g (passed rs h) r) q t d.2 (lies_way (passes_block v) _ (a.behind n) k (leads_block_some v a (n + 1 + size_block u) (passed rs h)) d.4 (only_right (passes_block u) (passes_block v) (a.behind n) k lies)),
+        block_derives u g a l (n + 1) b c (map_after rs h) k w.1 (out_within u g (map_after rs h) r) q t d.1 (lies_way (passes_block u) _ (a.behind n) k (leads_block_some u a (n + 1) (map_after rs h)) d.3 (only_left (passes_block u) (passes_block v) (a.behind n) k lies)),
+        block_derives v g a l (n + 1 + size_block u) b c (map_after rs h) k w.2 (out_within v g (map_after rs h) r) q t d.2 (lies_way (passes_block v) _ (a.behind n) k (leads_block_some v a (n + 1 + size_block u) (map_after rs h)) d.4 (only_right (passes_block u) (passes_block v) (a.behind n) k lies)),
       )
   form_derives (loop rs s) g a l n b c h k w p q t d lies =
       let i = a.around n in
@@ -262,11 +262,11 @@ mutual
         i,
         d.0,
         d.1,
-        map_trans (passed rs i) (a.behind n) k d.2 lies,
-        block_derives s g a (Some n) (n + 1) k i (passed rs i) i w.1 (out_within s g (passed rs i) (rows_out g rs i w.0 r)) r (loop_target a n k lies) d.3 (when_lies _ i d.4),
+        map_trans (map_after rs i) (a.behind n) k d.2 lies,
+        block_derives s g a (Some n) (n + 1) k i (map_after rs i) i w.1 (out_within s g (map_after rs i) (rows_out g rs i w.0 r)) r (loop_target a n k lies) d.3 (when_lies _ i d.4),
       )
   form_derives (switch rs arms end) g a l n b c h k w p q t d lies =
-      (d.0, arms_derives arms g a l (n + 1) b c (passed rs h) (a.behind n) k w.1 (rows_out g rs h w.0 p) q t d.1 (only_below (passes_arms arms) (a.behind n) k lies))
+      (d.0, arms_derives arms g a l (n + 1) b c (map_after rs h) (a.behind n) k w.1 (rows_out g rs h w.0 p) q t d.1 (only_below (passes_arms arms) (a.behind n) k lies))
 
   pub block_derives : (s : Block) (g : Tok → Bool) (a : Notes) (l : Option ℕ) (n : ℕ) (b c h k : HeldMap) → IsScopedBlock g s → IsAbsentOut (within g s) h → IsAbsentOut g k → IsTarget a l b c → IsLocalBlock a l n h s → Lies (leads_block a n h s) (Some k) → DerivesBlock b c h s k
   block_derives (block ss bound end) g a l n b c h k w p q t d lies =
@@ -285,7 +285,7 @@ mutual
   arms_derives no_arms g a l n b c h m k w p q t d below = tt
   arms_derives (arm rs s rest) g a l n b c h m k w p q t d below = (
     d.0,
-    block_derives s g a l n b c (passed rs h) k w.1 (rows_out (within g s) rs h w.0 (out_within s g h p)) q t d.1 (lies_way (passes_block s) _ m k (leads_block_some s a n (passed rs h)) d.2 (λ e. below (ap (λ x. x || passes_arms rest) e))),
+    block_derives s g a l n b c (map_after rs h) k w.1 (rows_out (within g s) rs h w.0 (out_within s g h p)) q t d.1 (lies_way (passes_block s) _ m k (leads_block_some s a n (map_after rs h)) d.2 (λ e. below (ap (λ x. x || passes_arms rest) e))),
     arms_derives rest g a l (n + size_block s) b c h m k w.2 p q t d.3 (λ e. below (ap (λ x. passes_block s || x) e ∙ or_true (passes_block s))),
   )
 

@@ -5,7 +5,7 @@ use Rattle.vlt_core.specs.Core.{Tok, Func, Program}
 use Rattle.vlt_core.specs.Flow.{passes, passes_block, passes_stmts, passes_arms}
 use Rattle.vlt_core.specs.Bodies.{flow_of, flow_of_block, flow_of_stmts, flow_of_arms}
 use Rattle.vlt_core.specs.KindedHeads.{unless}
-use Rattle.vlt_core.specs.KindedScopes.{Ids, Around, entered, left_behind}
+use Rattle.vlt_core.specs.KindedScopes.{Ids, Around, at_block_start, left_behind}
 use Rattle.vlt_core.specs.KindedBodies.{in_focus, with_focus, with_vars, ends, block_ends, list_ends, arms_end, ids_behind, ids_behind_block, row_broken, form_rows, block_rows, stmts_rows, arms_rows}
 use Rattle.vlt_core.specs.declared.rules.TheConstants as rule
 use Rattle.vlt_core_laws.specs.Arms.{IsSomeArm, HasArms, HasArmsBlock, HasArmsStmts, HasArmsArms}
@@ -45,7 +45,7 @@ module _ (p : Program) (f : Func) where
     passes_form (core.jump continues) left around ids j r a e rows = not_both around.jumps (unless_holds around.jumps rule.WRONG_JUMP e) j
 
     pub passing : (b : core.Block) (left : List Tok) (around : Around) (ids : Ids) → around.jumps ≡ false → around.returns ≡ false → HasArmsBlock b → EachEmpty (block_rows p f around ids b) → passes_block (flow_of_block p f left b) ≡ true
-    passing (core.block ss bound end) left around ids j r a rows = passing_stmts ss (left ++ bound) around (entered ids) false j r a rows
+    passing (core.block ss bound end) left around ids j r a rows = passing_stmts ss (left ++ bound) around (at_block_start ids) false j r a rows
 
     passing_stmts : (ss : core.Stmts) (left : List Tok) (around : Around) (ids : Ids) (ended : Bool) → around.jumps ≡ false → around.returns ≡ false → HasArmsStmts ss → EachEmpty (stmts_rows p f around ids ended ss) → passes_stmts (flow_of_stmts p f left ss) ≡ true
     passing_stmts core.done left around ids ended j r a rows = refl
@@ -87,7 +87,7 @@ module _ (p : Program) (f : Func) where
     ends_form (core.jump continues) left around ids h rows e = refl
 
     pub ends_block : (b : core.Block) (left : List Tok) (around : Around) (ids : Ids) → HasArmsBlock b → EachEmpty (block_rows p f around ids b) → passes_block (flow_of_block p f left b) ≡ false → block_ends b ≡ true
-    ends_block (core.block ss bound end) left around ids h rows e = ends_stmts ss (left ++ bound) around (entered ids) false h rows e
+    ends_block (core.block ss bound end) left around ids h rows e = ends_stmts ss (left ++ bound) around (at_block_start ids) false h rows e
 
     ends_stmts : (ss : core.Stmts) (left : List Tok) (around : Around) (ids : Ids) (ended : Bool) → HasArmsStmts ss → EachEmpty (stmts_rows p f around ids ended ss) → passes_stmts (flow_of_stmts p f left ss) ≡ false → list_ends ended ss ≡ true
     ends_stmts core.done left around ids ended h rows e = not_both true refl e

@@ -1,7 +1,7 @@
 -- Where nothing is faulty, the notes that show what is found are local.
 use Rattle.std.proofs.Common.{◌≡◌, ◌+◌, ◌||◌, ◌&&◌, ℕ, zero, Bool, true, false, IsTrue, List, [], ◌∷◌, map, Option, Some, None, refl, sym, ap, ◌∙◌, subst, cond, ◌⊎◌, inl, inr, ⊎_elim, rules}
 use Rattle.vlt_core.specs.Core.{Tok, a_key, a_var}
-use Rattle.vlt_core.specs.Maps.{Wanted, wants_absent, wants_held, wants_in, wants_lent, wants_full, After, becomes_absent, becomes_held, stays, becomes_full, becomes_lent, comes_back, Row, Status, absent, held, lent, full, HeldMap, kind_of, states_of, IsWanted, changed, is_tok, row_passed, CanPass, passed, IsStatusBelow, IsBelow, gone}
+use Rattle.vlt_core.specs.Maps.{Wanted, wants_absent, wants_held, wants_in, wants_lent, wants_full, After, becomes_absent, becomes_held, stays, becomes_full, becomes_lent, comes_back, Row, Status, absent, held, lent, full, HeldMap, kind_of, states_of, IsWanted, status_after, is_tok, row_passed, CanPass, map_after, IsStatusBelow, IsBelow, away_row}
 use Rattle.vlt_core.specs.Flow.{Flow, step, choose, loop, switch, scope, focus, return, jump, Block, block, Stmts, done, next, Arms, no_arms, arm, size, size_block, passes, passes_block, passes_stmts, passes_arms}
 use Rattle.vlt_core.specs.Local.{Notes, Then, When, Meets, only_if, rows_passed, leads, leads_block, leads_stmts, IsLocal, IsLocalBlock, IsLocalStmts, IsLocalArms}
 use Rattle.vlt_core.specs.Found.{One, one_absent, one_held, one_lent, one_full, Ones, Has, WantsOne, LeftBy, image_if, image, images, Exit, to_next, to_break, to_continue, jumps, out, out_block, out_stmts, out_arms, head_of}
@@ -62,7 +62,7 @@ all_wanted wants_full (lent s) o h f = absurd (subst (WantsOne wants_full) (kind
 all_wanted wants_full full o h f = refl
 
 -- each thing that the changed status stands for is left of one that the status stood for
-left_back : (a : After) (u : Status) (o : One) → Has (changed a u) o → ((x : One) × Has u x) → (x : One) × Has u x × LeftBy a x o
+left_back : (a : After) (u : Status) (o : One) → Has (status_after a u) o → ((x : One) × Has u x) → (x : One) × Has u x × LeftBy a x o
 left_back becomes_absent u o h some = (some.0, some.1, kind_absent absent refl o h)
 left_back (becomes_held s) u o h some = let k = kind_held (held s) refl o h in (some.0, some.1, (k.0, k.2, k.1))
 left_back stays u o h some = (o, h, refl)
@@ -113,7 +113,7 @@ row_full t r S h fill e wants = record {
   some = at_some (is_tok t r.tok) refl;
 }
   where
-    at_back : (b : Bool) → is_tok t r.tok ≡ b → (o : One) → Has (cond b (changed r.after (h r.tok)) (h t)) o → image_if b r (S t) o
+    at_back : (b : Bool) → is_tok t r.tok ≡ b → (o : One) → Has (cond b (status_after r.after (h r.tok)) (h t)) o → image_if b r (S t) o
     at_back true q o x =
         let same = same_is t r.tok q in
         let y = left_back r.after (h r.tok) o x (let z = (e r.tok).some in (z.0, (e r.tok).there z.0 z.1)) in
@@ -128,7 +128,7 @@ row_full t r S h fill e wants = record {
         (y.0, (z.0, z.1, wants z.0 (subst (λ k. Has (h k) z.0) same ((e t).there z.0 z.1)), y.1))
     at_some false q = (e t).some
 
-pub rows_full : (rs : List Row) (S : Every) (h : HeldMap) → AreFilled rs → AreFull h S → ((t : Tok) → HasRowFault t rs (S t) → ⊥) → CanPass rs h × AreFull (passed rs h) (λ t. images t rs (S t))
+pub rows_full : (rs : List Row) (S : Every) (h : HeldMap) → AreFilled rs → AreFull h S → ((t : Tok) → HasRowFault t rs (S t) → ⊥) → CanPass rs h × AreFull (map_after rs h) (λ t. images t rs (S t))
 rows_full [] S h fill e never = (tt, λ t. record { there = (e t).there; back = (e t).back; some = (e t).some })
 rows_full (r ∷ rs) S h fill e never =
     let own = λ (x : IsRowFault true r (S r.tok)). never r.tok (inl (subst (λ b. IsRowFault b r (S r.tok)) (sym (same_self r.tok)) x)) in
@@ -230,7 +230,7 @@ or_elim : (b c : Bool) (A : Type 0) → (b ≡ true → A) → (c ≡ true → A
 or_elim true c A f g e = f refl
 or_elim false c A f g e = g e
 
-pub gone_filled : (ts : List Tok) → AreFilled (map gone ts)
+pub gone_filled : (ts : List Tok) → AreFilled (map away_row ts)
 gone_filled [] = tt
 gone_filled (t ∷ ts) = (tt, tt, gone_filled ts)
 
@@ -261,8 +261,8 @@ mutual
   faultless (step rs) a l n h S j fill w e k never = let r = rows_full rs S h fill e never in (r.0, (refl, λ t. record { there = (r.1 t).there; back = (r.1 t).back; some = (r.1 t).some }))
   faultless (choose rs u v) a l n h S j fill w e k never =
       let r = rows_full rs S h fill.0 e (λ t x. never t (inl x)) in
-      let p = faultless_block u a l (n + 1) (passed rs h) (λ t. images t rs (S t)) j.0 fill.1 w.1 r.1 (record { breaks = λ t o z. k.breaks t o (inl z); continues = λ t o z. k.continues t o (inl z) }) (λ t x. never t (inr (inl x))) in
-      let q = faultless_block v a l (n + 1 + size_block u) (passed rs h) (λ t. images t rs (S t)) j.1 fill.2 w.2 r.1 (record { breaks = λ t o z. k.breaks t o (inr z); continues = λ t o z. k.continues t o (inr z) }) (λ t x. never t (inr (inr (inl x)))) in
+      let p = faultless_block u a l (n + 1) (map_after rs h) (λ t. images t rs (S t)) j.0 fill.1 w.1 r.1 (record { breaks = λ t o z. k.breaks t o (inl z); continues = λ t o z. k.continues t o (inl z) }) (λ t x. never t (inr (inl x))) in
+      let q = faultless_block v a l (n + 1 + size_block u) (map_after rs h) (λ t. images t rs (S t)) j.1 fill.2 w.2 r.1 (record { breaks = λ t o z. k.breaks t o (inr z); continues = λ t o z. k.continues t o (inr z) }) (λ t x. never t (inr (inr (inl x)))) in
       let V = λ (t : Tok). out t (choose rs u v) (S t) to_next in (
         (
           r.0,
@@ -281,12 +281,12 @@ mutual
       let head : AreFull (a.around n) (λ t. head_of t rs s (S t)) = λ t. record { there = (w.0 t).there; back = (w.0 t).back; some = let z = (e t).some in (z.0, (zero, z.1)) } in
       let r = rows_full rs (λ t. head_of t rs s (S t)) (a.around n) fill.0 head (λ t x. never t (inr (inl x))) in
       let closed = λ (t : Tok). heads_closed _ (smooth_round t rs s) (S t) in
-      let p = faultless_block s a (Some n) (n + 1) (passed rs (a.around n)) (λ t. images t rs (head_of t rs s (S t))) j fill.1 w.2 r.1
+      let p = faultless_block s a (Some n) (n + 1) (map_after rs (a.around n)) (λ t. images t rs (head_of t rs s (S t))) j fill.1 w.2 r.1
       (record { breaks = λ t o z. (w.1 t).there o (inr z); continues = λ t o z. (w.0 t).there o (closed t o (inr z)) }) (λ t x. never t (inr (inr (inl x)))) in (
         (
           map_below h (a.around n) S e (λ t o z. (w.0 t).there o (zero, z)),
           r.0,
-          map_below (passed rs (a.around n)) (a.behind n) (λ t. images t rs (head_of t rs s (S t))) r.1 (λ t o z. (w.1 t).there o (inl z)),
+          map_below (map_after rs (a.around n)) (a.behind n) (λ t. images t rs (head_of t rs s (S t))) r.1 (λ t o z. (w.1 t).there o (inl z)),
           p.0,
           below_if (passes_block s) _ (a.around n) (λ t. out_block t s (images t rs (head_of t rs s (S t))) to_next) (λ t. head_of t rs s (S t)) p.1 (λ x. w.0) (λ t o z. closed t o (inl z)),
         ),
@@ -294,23 +294,23 @@ mutual
       )
   faultless (switch rs arms end) a l n h S j fill w e k never =
       let r = rows_full rs S h fill.0 e (λ t x. never t (inl x)) in
-      let p = faultless_arms arms a l (n + 1) (passed rs h) (λ t. images t rs (S t)) (a.behind n) (λ t. out t (switch rs arms end) (S t) to_next) j fill.1 w.1 r.1 (record { breaks = k.breaks; continues = k.continues }) (λ t x. never t (inr (inl x))) w.0 (λ t o z. z) in
+      let p = faultless_arms arms a l (n + 1) (map_after rs h) (λ t. images t rs (S t)) (a.behind n) (λ t. out t (switch rs arms end) (S t) to_next) j fill.1 w.1 r.1 (record { breaks = k.breaks; continues = k.continues }) (λ t x. never t (inr (inl x))) w.0 (λ t o z. z) in
       ((r.0, p.0), one_gives (passes_arms arms) (a.behind n) (λ t. out t (switch rs arms end) (S t) to_next) p.1 w.0)
   faultless (scope s) a l n h S j fill w e k never = let p = faultless_block s a l (n + 1) h S j fill w e (record { breaks = k.breaks; continues = k.continues }) never in (p.0, gives_same (passes_block s) _ _ _ p.1 (λ t o z. z) (λ t o z. z))
   faultless (focus rs s es) a l n h S j fill w e k never =
       let r = rows_full rs S h fill.0 e (λ t x. never t (inl x)) in
-      let p = faultless_block s a l (n + 1) (passed rs h) (λ t. images t rs (S t)) j fill.1 w r.1 (record { breaks = k.breaks; continues = k.continues }) (λ t x. never t (inr (inl x))) in
+      let p = faultless_block s a l (n + 1) (map_after rs h) (λ t. images t rs (S t)) j fill.1 w r.1 (record { breaks = k.breaks; continues = k.continues }) (λ t x. never t (inr (inl x))) in
       let q = rows_gives es (passes_block s) _ (λ t. out_block t s (images t rs (S t)) to_next) fill.2 p.1 (λ t x. never t (inr (inr x))) in
       ((r.0, p.0, q.0), gives_same (passes_block s) _ _ _ q.1 (λ t o z. z) (λ t o z. z))
   faultless (return rs) a l n h S j fill w e k never = ((rows_full rs S h fill e never).0, refl)
   faultless (jump c left) a l n h S j fill w e k never =
-      let r = rows_full (map gone left) S h (gone_filled left) e never in
-      ((r.0, jump_meets c a l (passed (map gone left) h) (λ t. images t (map gone left) (S t)) j r.1 (record { breaks = k.breaks; continues = k.continues })), refl)
+      let r = rows_full (map away_row left) S h (gone_filled left) e never in
+      ((r.0, jump_meets c a l (map_after (map away_row left) h) (λ t. images t (map away_row left) (S t)) j r.1 (record { breaks = k.breaks; continues = k.continues })), refl)
 
   pub faultless_block : (s : Block) (a : Notes) (l : Option ℕ) (n : ℕ) (h : HeldMap) (S : Every) → IsJumpingBlock (inside l) s → HasFilledBlock s → ShowsBlock a n S s → AreFull h S → Keeps a l (λ t. out_block t s (S t)) → ((t : Tok) → HasFaultBlock t s (S t) → ⊥) → IsLocalBlock a l n h s × Gives (passes_block s) (leads_block a n h s) (λ t. out_block t s (S t) to_next)
   faultless_block (block ss bound end) a l n h S j fill w e k never =
       let p = faultless_stmts ss a l n h S j fill w e (record { breaks = k.breaks; continues = k.continues }) (λ t x. never t (inl x)) in
-      let q = rows_gives (map gone bound) (passes_stmts ss) _ (λ t. out_stmts t ss (S t) to_next) (gone_filled bound) p.1 (λ t x. never t (inr x)) in
+      let q = rows_gives (map away_row bound) (passes_stmts ss) _ (λ t. out_stmts t ss (S t) to_next) (gone_filled bound) p.1 (λ t x. never t (inr x)) in
       ((p.0, q.0), gives_same (passes_stmts ss) _ _ _ q.1 (λ t o z. z) (λ t o z. z))
 
   faultless_stmts : (ss : Stmts) (a : Notes) (l : Option ℕ) (n : ℕ) (h : HeldMap) (S : Every) → IsJumpingStmts (inside l) ss → HasFilledStmts ss → ShowsStmts a n S ss → AreFull h S → Keeps a l (λ t. out_stmts t ss (S t)) → ((t : Tok) → HasFaultStmts t ss (S t) → ⊥) → IsLocalStmts a l n h ss × Gives (passes_stmts ss) (leads_stmts a n h ss) (λ t. out_stmts t ss (S t) to_next)
@@ -325,7 +325,7 @@ mutual
   faultless_arms no_arms a l n h S b V j fill w e k never g f = (tt, λ x. absurd (not_both false refl x))
   faultless_arms (arm rs s rest) a l n h S b V j fill w e k never g f =
       let r = rows_full rs S h fill.0 e (λ t x. never t (inl x)) in
-      let p = faultless_block s a l n (passed rs h) (λ t. images t rs (S t)) j.0 fill.1 w.0 r.1 (record { breaks = λ t o z. k.breaks t o (inl z); continues = λ t o z. k.continues t o (inl z) }) (λ t x. never t (inr (inl x))) in
+      let p = faultless_block s a l n (map_after rs h) (λ t. images t rs (S t)) j.0 fill.1 w.0 r.1 (record { breaks = λ t o z. k.breaks t o (inl z); continues = λ t o z. k.continues t o (inl z) }) (λ t x. never t (inr (inl x))) in
       let q = faultless_arms rest a l (n + size_block s) h S b V j.1 fill.2 w.1 e (record { breaks = λ t o z. k.breaks t o (inr z); continues = λ t o z. k.continues t o (inr z) }) (λ t x. never t (inr (inr x))) (λ x. g (or_right (passes_block s) (passes_arms rest) x)) (λ t o z. f t o (inr z)) in (
         (r.0, p.0, below_if (passes_block s) _ b (λ t. out_block t s (images t rs (S t)) to_next) V p.1 (λ x. g (or_left (passes_block s) (passes_arms rest) x)) (λ t o z. f t o (inl z)), q.0),
         or_elim (passes_block s) (passes_arms rest) _ (some_if (passes_block s) _ (λ t. out_block t s (images t rs (S t)) to_next) V p.1 (λ t o z. f t o (inl z))) q.1,

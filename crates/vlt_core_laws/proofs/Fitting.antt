@@ -4,13 +4,13 @@ use Rattle.std.specs.Prelude.{nat_lt, slice_get, filter}
 use Rattle.vlt_core.specs.Core as core
 use Rattle.vlt_core.specs.Core.{Tok, a_key, a_var, Func, Program}
 use Rattle.vlt_core.specs.Lookups.{is_owning_var, variant_of}
-use Rattle.vlt_core.specs.Maps.{Row, is_tok, gone, wants_absent}
+use Rattle.vlt_core.specs.Maps.{Row, is_tok, away_row, wants_absent}
 use Rattle.vlt_core.specs.Rows.{in_order, arm_rows, empty_row, fill_rows}
 use Rattle.vlt_core.specs.Flow as flow
 use Rattle.vlt_core.specs.Flow.{passes}
 use Rattle.vlt_core.specs.Bodies.{flow_of, flow_of_block, flow_of_stmts, flow_of_arms}
 use Rattle.vlt_core.specs.KindedHeads.{unless, has}
-use Rattle.vlt_core.specs.KindedScopes.{Ids, Around, entered, left_behind, own_key, with_key, with_var, with_tokens, with_binding, binding_broken, use_broken}
+use Rattle.vlt_core.specs.KindedScopes.{Ids, Around, at_block_start, left_behind, own_key, with_key, with_var, with_tokens, with_binding, binding_broken, use_broken}
 use Rattle.vlt_core.specs.KindedOperands.{expr_broken}
 use Rattle.vlt_core.specs.KindedBodies.{in_loop, in_focus, with_focus, with_vars, owning_toks, ends, ids_behind, ids_behind_block, ids_behind_stmts, ids_behind_arms, list_broken, switch_broken, arm_vars_broken, arm_broken, arms_broken, focus_broken, row_broken, form_rows, block_rows, stmts_rows, arms_rows}
 use Rattle.vlt_core.specs.declared.rules.TheConstants as rule
@@ -35,7 +35,7 @@ use Rattle.vlt_core_laws.proofs.Focus.{Focused, focused, focus_rows, focus_bound
 use Rattle.vlt_core_laws.proofs.Arms.{ArmVars, arm_vars, return_filled}
 use Rattle.vlt_core_laws.proofs.Body.{Point, Apart, Final, Fine, FineBlock, FineStmts, FineArms, Enters, both_false, listed_out, inner_apart, inner_final, inner_point, extra_listed}
 
-gone_scope : (g : Tok → Bool) (ts : List Tok) → ((t : Tok) → is_bound ts t ≡ true → g t ≡ true) → AreInScope g (map gone ts)
+gone_scope : (g : Tok → Bool) (ts : List Tok) → ((t : Tok) → is_bound ts t ≡ true → g t ≡ true) → AreInScope g (map away_row ts)
 gone_scope g [] q = tt
 gone_scope g (t ∷ ts) q = (q t (or_left _ (is_bound ts t) (tok_self t)), gone_scope g ts (λ u b. q u (or_right _ (is_bound ts u) b)))
 
@@ -237,9 +237,9 @@ module _ (p : Program) (f : Func) (ranged : (v k : ℕ) → has (type_keys f v) 
     block_fine : (b : core.Block) (around : Around) (ids ids0 : Ids) (extra left : List Tok) (g : Tok → Bool) → HasArmsBlock b → list_broken p f extra ids0 b ≡ [] → EachEmpty (block_rows p f around ids0 b) → Point f g left ids →
         Enters f ids ids0 extra → Covers f (within g (flow_of_block p f left b)) ids0 → AreTyped f ids0 → Apart f g ids (left_behind ids (ids_behind_block p f b ids0)) → FineBlock g (flow_of_block p f left b)
     block_fine (core.block ss bound end) around ids ids0 extra left g a e rows pt enters c t0 apart =
-        let last = ids_behind_stmts p f ss (entered ids0) in
-        let q = stmts_go p f ranged ss around (entered ids0) false rows in
-        let s = stmts_fine ss around (entered ids0) false (left ++ bound) (with_bound g bound) a rows
+        let last = ids_behind_stmts p f ss (at_block_start ids0) in
+        let q = stmts_go p f ranged ss around (at_block_start ids0) false rows in
+        let s = stmts_fine ss around (at_block_start ids0) false (left ++ bound) (with_bound g bound) a rows
         (inner_point p f g left ids ids0 extra bound last pt enters q e apart c t0)
         (inner_apart p f g left ids ids0 extra bound last pt enters q e apart)
         (inner_final p f g left ids ids0 extra bound last pt enters q e apart) in
@@ -298,8 +298,8 @@ module _ (p : Program) (f : Func) (ranged : (v k : ℕ) → has (type_keys f v) 
         Point f g left ids → ArmVars f ids (with_vars f vs ids) vs → Apart f g ids (left_behind ids (ids_behind_block p f b (with_vars f vs ids))) → KeysIn g f v → FineArm g (arm_rows p f v c vs) (flow_of_block p f left b)
     arm_fine (core.block ss bound end) c vs v around ids left g a lists rows pt x apart keys =
         let ids1 = with_vars f vs ids in
-        let last = ids_behind_stmts p f ss (entered ids1) in
-        let q = stmts_go p f ranged ss around (entered ids1) false rows in
+        let last = ids_behind_stmts p f ss (at_block_start ids1) in
+        let q = stmts_go p f ranged ss around (at_block_start ids1) false rows in
         let enters = arm_enters vs ids x in
         let g2 = with_bound g bound in
         let listed = λ (w : ℕ) (m : has vs w ≡ true) (o : is_owning_var f w ≡ true). or_right (g (a_var w)) (is_bound bound (a_var w))
@@ -313,7 +313,7 @@ module _ (p : Program) (f : Func) (ranged : (v k : ℕ) → has (type_keys f v) 
         (option_rows (Good g2) (variant_of f v) _ (λ ty e. case_keys_rows p ty c (Good g2) _
         (λ d k i y at m from. let some = h.listed ty.type c i d y at from in made_good g2 k wants_absent y.states tt (or_left (g (a_key k)) (is_bound bound (a_key k)) (keys k (variant_keys f v ty e k m))) some.state some.has)))
         (all_filled (Good g2) f vs (λ w m o. fill_good g2 w (listed w m o))) in
-        let s = stmts_fine ss around (entered ids1) false (left ++ bound) g2 a rows
+        let s = stmts_fine ss around (at_block_start ids1) false (left ++ bound) g2 a rows
         (inner_point p f g left ids ids1 (owning_toks f vs) bound last pt enters q lists apart covers (x.typed pt.typed))
         (inner_apart p f g left ids ids1 (owning_toks f vs) bound last pt enters q lists apart)
         (inner_final p f g left ids ids1 (owning_toks f vs) bound last pt enters q lists apart) in

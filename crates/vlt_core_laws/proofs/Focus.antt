@@ -4,7 +4,7 @@ use Rattle.std.specs.Prelude.{nat_lt}
 use Rattle.std.specs.Option.{option_map}
 use Rattle.vlt_core.specs.Core.{Ty, int, bool, tracked, owning, guarded, variant, owning_variant, Tok, a_key, Func, Program}
 use Rattle.vlt_core.specs.Lookups.{var_type, owns, is_owning_var, Reference, tracked_in, guarded_in, reference_of, guarded_of, release_set}
-use Rattle.vlt_core.specs.Maps.{Row, absent, is_tok, row_passed, changed, wants_absent, wants_held, wants_in, wants_lent, becomes_absent, becomes_held, becomes_lent, comes_back}
+use Rattle.vlt_core.specs.Maps.{Row, absent, is_tok, row_passed, status_after, wants_absent, wants_held, wants_in, wants_lent, becomes_absent, becomes_held, becomes_lent, comes_back}
 use Rattle.vlt_core.specs.Rows.{row, on_key}
 use Rattle.vlt_core.specs.KindedHeads.{has}
 use Rattle.vlt_core.specs.KindedScopes.{Ids, with_key, tracked_key, own_key, use_broken, binding_broken}
@@ -84,8 +84,8 @@ left_absent p a b h = by (is_tok (a_key b.key) (a_key a.key)) refl
     gone_key k e = ap (λ t. if is_tok t (a_key b.key) then absent else h t) (ap a_key e) ∙ ap (λ c. if c then absent else h (a_key b.key)) (tok_self (a_key b.key))
 
     by : (c : Bool) → is_tok (a_key b.key) (a_key a.key) ≡ c →
-        (if c then changed comes_back (row_passed (row (a_key b.key) (wants_in (release_set p b.type)) becomes_absent) h (a_key a.key)) else row_passed (row (a_key b.key) (wants_in (release_set p b.type)) becomes_absent) h (a_key b.key)) ≡ absent
-    by true same = ap (changed comes_back) (gone_key a.key (sym (same_number b.key a.key same)))
+        (if c then status_after comes_back (row_passed (row (a_key b.key) (wants_in (release_set p b.type)) becomes_absent) h (a_key a.key)) else row_passed (row (a_key b.key) (wants_in (release_set p b.type)) becomes_absent) h (a_key b.key)) ≡ absent
+    by true same = ap (status_after comes_back) (gone_key a.key (sym (same_number b.key a.key same)))
     by false other = gone_key b.key refl
 
 focus_rows_by : (p : Program) (h : HasStates p) (g : Tok → Bool) (a b : Reference) → g (a_key a.key) ≡ true → g (a_key b.key) ≡ true →

@@ -3,7 +3,7 @@ use Rattle.std.proofs.Common.{◌≡◌, ◌+◌, ℕ, zero, suc, Bool, true, fa
 use Rattle.std.specs.Prelude.{IsSome}
 use Rattle.vlt_core_laws.proofs.Changes.{leads_block_some}
 use Rattle.vlt_core.specs.Core.{Tok, a_key, a_var}
-use Rattle.vlt_core.specs.Maps.{Wanted, wants_absent, wants_held, wants_in, wants_lent, wants_full, After, becomes_absent, becomes_held, stays, becomes_full, becomes_lent, comes_back, Row, Status, absent, held, lent, full, HeldMap, is_absent, is_held, is_lent, is_full, kind_of, states_of, IsWanted, changed, is_tok, row_passed, CanPass, passed, IsStatusBelow, IsBelow, gone}
+use Rattle.vlt_core.specs.Maps.{Wanted, wants_absent, wants_held, wants_in, wants_lent, wants_full, After, becomes_absent, becomes_held, stays, becomes_full, becomes_lent, comes_back, Row, Status, absent, held, lent, full, HeldMap, is_absent, is_held, is_lent, is_full, kind_of, states_of, IsWanted, status_after, is_tok, row_passed, CanPass, map_after, IsStatusBelow, IsBelow, away_row}
 use Rattle.vlt_core.specs.Flow.{Flow, step, choose, loop, switch, scope, focus, return, jump, Block, block, Stmts, done, next, Arms, no_arms, arm, size, size_block, passes_block, passes_arms}
 use Rattle.vlt_core.specs.Local.{Notes, Then, When, Meets, only_if, rows_passed, leads, leads_block, leads_stmts, IsLocal, IsLocalBlock, IsLocalStmts, IsLocalArms}
 use Rattle.vlt_core.specs.Found.{One, one_absent, one_held, one_lent, one_full, Ones, Has, WantsOne, LeftBy, image_if, image, images, both, turns, Exit, to_next, to_break, to_continue, jumps, out, out_block, out_stmts, out_arms, head_of}
@@ -93,7 +93,7 @@ wants_one (wants_in w) u o p h = let k = kind_held u p.0 o h in subst (WantsOne 
 wants_one wants_lent u o p h = subst (WantsOne wants_lent) (sym (kind_lent u p o h).1) tt
 wants_one wants_full u o p h = subst (WantsOne wants_full) (sym (kind_full u p o h)) tt
 
-pub left_in : (a : After) (u : Status) (o o' : One) → Has u o → LeftBy a o o' → Has (changed a u) o'
+pub left_in : (a : After) (u : Status) (o o' : One) → Has u o → LeftBy a o o' → Has (status_after a u) o'
 left_in becomes_absent u o o' h e = subst (Has absent) (sym e) tt
 left_in (becomes_held s) u o o' h e = subst (Has (held s)) (sym e.2) e.1
 left_in stays u o o' h e = subst (Has u) (sym e) h
@@ -150,7 +150,7 @@ same_is (a_var i) (a_key j) e = absurd (never e)
 pub image_in : (t : Tok) (r : Row) (S : Ones) (h : HeldMap) → IsIn S (h t) → IsIn (image t r S) (row_passed r h t)
 image_in t r S h p = record { each = at (is_tok t r.tok) refl }
   where
-    at : (b : Bool) → is_tok t r.tok ≡ b → (o : One) → image_if b r S o → Has (cond b (changed r.after (h r.tok)) (h t)) o
+    at : (b : Bool) → is_tok t r.tok ≡ b → (o : One) → image_if b r S o → Has (cond b (status_after r.after (h r.tok)) (h t)) o
     at true e o x = left_in r.after (h r.tok) x.0 o (subst (λ k. Has (h k) x.0) (same_is t r.tok e) (p.each x.0 x.1)) x.3
     at false e o x = p.each o x
 
@@ -161,7 +161,7 @@ row_fault_none t r S h p w = at (is_tok t r.tok) refl
     at true e x = x.0.2 (wants_one r.wanted (h r.tok) x.0.0 w (subst (λ k. Has (h k) x.0.0) (same_is t r.tok e) (p.each x.0.0 x.0.1)))
     at false e x = x
 
-pub images_in : (t : Tok) (rs : List Row) (S : Ones) (h : HeldMap) → IsIn S (h t) → IsIn (images t rs S) (passed rs h t)
+pub images_in : (t : Tok) (rs : List Row) (S : Ones) (h : HeldMap) → IsIn S (h t) → IsIn (images t rs S) (map_after rs h t)
 images_in t [] S h p = p
 images_in t (r ∷ rs) S h p = images_in t rs (image t r S) (row_passed r h) (image_in t r S h p)
 
@@ -403,15 +403,15 @@ mutual
       exits t rs s es S f to_continue x y = f to_continue x y
   empty_out (return rs) t S p = (λ e x y. y, rows_fault_empty t rs S p)
   empty_out (jump c left) t S p =
-      (λ e x y. jumps_empty c e (images t (map gone left) S) (images_empty t (map gone left) S p) x y, rows_fault_empty t (map gone left) S p)
+      (λ e x y. jumps_empty c e (images t (map away_row left) S) (images_empty t (map away_row left) S p) x y, rows_fault_empty t (map away_row left) S p)
 
   pub empty_block : (s : Block) (t : Tok) (S : Ones) → ((x : One) → S x → ⊥) → ((e : Exit) (x : One) → out_block t s S e x → ⊥) × (HasFaultBlock t s S → ⊥)
   empty_block (block ss bound end) t S p =
       let f = empty_stmts ss t S p in
-      (exits t ss bound end S f.0, ⊎_elim f.1 (rows_fault_empty t (map gone bound) (out_stmts t ss S to_next) (f.0 to_next)))
+      (exits t ss bound end S f.0, ⊎_elim f.1 (rows_fault_empty t (map away_row bound) (out_stmts t ss S to_next) (f.0 to_next)))
     where
       exits : (t : Tok) (ss : Stmts) (bound : List Tok) (end : ℕ) (S : Ones) → ((e : Exit) (x : One) → out_stmts t ss S e x → ⊥) → (e : Exit) (x : One) → out_block t (block ss bound end) S e x → ⊥
-      exits t ss bound end S f to_next x y = images_empty t (map gone bound) (out_stmts t ss S to_next) (f to_next) x y
+      exits t ss bound end S f to_next x y = images_empty t (map away_row bound) (out_stmts t ss S to_next) (f to_next) x y
       exits t ss bound end S f to_break x y = f to_break x y
       exits t ss bound end S f to_continue x y = f to_continue x y
 
@@ -470,10 +470,10 @@ mutual
   )
   local_out (choose rs u v) t a l n h S p d =
       let q = images_in t rs S h p in
-      let f = local_out_block u t a l (n + 1) (passed rs h) (images t rs S) q d.1 in
-      let g = local_out_block v t a l (n + 1 + size_block u) (passed rs h) (images t rs S) q d.2 in
-      let first = λ (x : One) (y : out_block t u (images t rs S) to_next x). only_left (passes_block u) (passes_block v) (a.behind n) t x (passes_has (passes_block u) _ t x (leads_block_some u a (n + 1) (passed rs h)) (f.0.next x y)) (has_through _ (a.behind n) t x (f.0.next x y) d.3) in
-      let second = λ (x : One) (y : out_block t v (images t rs S) to_next x). only_right (passes_block u) (passes_block v) (a.behind n) t x (passes_has (passes_block v) _ t x (leads_block_some v a (n + 1 + size_block u) (passed rs h)) (g.0.next x y)) (has_through _ (a.behind n) t x (g.0.next x y) d.4) in
+      let f = local_out_block u t a l (n + 1) (map_after rs h) (images t rs S) q d.1 in
+      let g = local_out_block v t a l (n + 1 + size_block u) (map_after rs h) (images t rs S) q d.2 in
+      let first = λ (x : One) (y : out_block t u (images t rs S) to_next x). only_left (passes_block u) (passes_block v) (a.behind n) t x (passes_has (passes_block u) _ t x (leads_block_some u a (n + 1) (map_after rs h)) (f.0.next x y)) (has_through _ (a.behind n) t x (f.0.next x y) d.3) in
+      let second = λ (x : One) (y : out_block t v (images t rs S) to_next x). only_right (passes_block u) (passes_block v) (a.behind n) t x (passes_has (passes_block v) _ t x (leads_block_some v a (n + 1 + size_block u) (map_after rs h)) (g.0.next x y)) (has_through _ (a.behind n) t x (g.0.next x y) d.4) in
       let behind = λ (x : One) (y : out t (choose rs u v) S to_next x). ⊎_elim (first x) (second x) y in (
         record {
           next = behind;
@@ -484,41 +484,41 @@ mutual
       )
   local_out (loop rs s) t a l n h S p d =
       let i = a.around n in
-      let step = λ (T : Ones) (q : IsIn T (i t)). local_out_block s t a (Some n) (n + 1) (passed rs i) (images t rs T) (images_in t rs T i q) d.3 in
+      let step = λ (T : Ones) (q : IsIn T (i t)). local_out_block s t a (Some n) (n + 1) (map_after rs i) (images t rs T) (images_in t rs T i q) d.3 in
       let round = λ (T : Ones) (q : IsIn T (i t)). (let r : IsIn (both (out_block t s (images t rs T) to_next) (out_block t s (images t rs T) to_continue)) (i t) = record { each = λ x y. ⊎_elim (λ z. has_through _ i t x ((step T q).0.next x z) d.4) ((step T q).0.continues x) y } in r) in
       let top : IsIn (head_of t rs s S) (i t) = record { each = λ x y. (turns_in t _ S (i t) (in_below S (h t) (i t) (d.0.each t) p) round y.0).each x y.1 } in
       let inner = step (head_of t rs s S) top in
       let rows = images_in t rs (head_of t rs s S) i top in
-      let behind = λ (x : One) (y : out t (loop rs s) S to_next x). ⊎_elim (λ z. has_below (passed rs i t) (a.behind n t) x (d.2.each t) (rows.each x z)) (inner.0.breaks x) y in (
+      let behind = λ (x : One) (y : out t (loop rs s) S to_next x). ⊎_elim (λ z. has_below (map_after rs i t) (a.behind n t) x (d.2.each t) (rows.each x z)) (inner.0.breaks x) y in (
         record { next = behind; breaks = λ x y. absurd y; continues = λ x y. absurd y },
         ⊎_elim (mixed_none (head_of t rs s S) (i t) top) (⊎_elim (rows_fault_none t rs (head_of t rs s S) i top d.1) (⊎_elim inner.1 (mixed_none (out t (loop rs s) S to_next) (a.behind n t) (record { each = behind })))),
       )
   local_out (switch rs arms end) t a l n h S p d =
-      let g = local_out_arms arms t a l (n + 1) (passed rs h) (images t rs S) (a.behind n) (images_in t rs S h p) d.1 in (
+      let g = local_out_arms arms t a l (n + 1) (map_after rs h) (images t rs S) (a.behind n) (images_in t rs S h p) d.1 in (
         g.0,
         ⊎_elim (rows_fault_none t rs S h p d.0) (⊎_elim g.1 (mixed_none (out t (switch rs arms end) S to_next) (a.behind n t) (record { each = λ x y. only_has (passes_arms arms) (a.behind n) t x (g.0.next x y) }))),
       )
   local_out (scope s) t a l n h S p d = local_out_block s t a l (n + 1) h S p d
   local_out (focus rs s es) t a l n h S p d =
-      let f = local_out_block s t a l (n + 1) (passed rs h) (images t rs S) (images_in t rs S h p) d.1 in (
+      let f = local_out_block s t a l (n + 1) (map_after rs h) (images t rs S) (images_in t rs S h p) d.1 in (
         record { next = rows_has es (out_block t s (images t rs S) to_next) _ t f.0.next; breaks = f.0.breaks; continues = f.0.continues },
         ⊎_elim (rows_fault_none t rs S h p d.0) (⊎_elim f.1 (ends_fault_none t es (out_block t s (images t rs S) to_next) _ f.0.next d.2)),
       )
   local_out (return rs) t a l n h S p d = (record { next = λ x y. y; breaks = λ x y. absurd y; continues = λ x y. absurd y }, rows_fault_none t rs S h p d)
   local_out (jump true left) t a l n h S p d = (
-    record { next = λ x y. y; breaks = λ x y. absurd y; continues = λ x y. meets_has a l true _ t x d.1 ((images_in t (map gone left) S h p).each x y) },
-    rows_fault_none t (map gone left) S h p d.0,
+    record { next = λ x y. y; breaks = λ x y. absurd y; continues = λ x y. meets_has a l true _ t x d.1 ((images_in t (map away_row left) S h p).each x y) },
+    rows_fault_none t (map away_row left) S h p d.0,
   )
   local_out (jump false left) t a l n h S p d = (
-    record { next = λ x y. y; continues = λ x y. absurd y; breaks = λ x y. meets_has a l false _ t x d.1 ((images_in t (map gone left) S h p).each x y) },
-    rows_fault_none t (map gone left) S h p d.0,
+    record { next = λ x y. y; continues = λ x y. absurd y; breaks = λ x y. meets_has a l false _ t x d.1 ((images_in t (map away_row left) S h p).each x y) },
+    rows_fault_none t (map away_row left) S h p d.0,
   )
 
   pub local_out_block : (s : Block) (t : Tok) (a : Notes) (l : Option ℕ) (n : ℕ) (h : HeldMap) (S : Ones) → IsIn S (h t) → IsLocalBlock a l n h s → IsOut t a l (out_block t s S) (leads_block a n h s) × (HasFaultBlock t s S → ⊥)
   local_out_block (block ss bound end) t a l n h S p d =
       let f = local_out_stmts ss t a l n h S p d.0 in (
-        record { next = rows_has (map gone bound) (out_stmts t ss S to_next) _ t f.0.next; breaks = f.0.breaks; continues = f.0.continues },
-        ⊎_elim f.1 (ends_fault_none t (map gone bound) (out_stmts t ss S to_next) _ f.0.next d.1),
+        record { next = rows_has (map away_row bound) (out_stmts t ss S to_next) _ t f.0.next; breaks = f.0.breaks; continues = f.0.continues },
+        ⊎_elim f.1 (ends_fault_none t (map away_row bound) (out_stmts t ss S to_next) _ f.0.next d.1),
       )
 
   pub local_out_stmts : (ss : Stmts) (t : Tok) (a : Notes) (l : Option ℕ) (n : ℕ) (h : HeldMap) (S : Ones) → IsIn S (h t) → IsLocalStmts a l n h ss → IsOut t a l (out_stmts t ss S) (leads_stmts a n h ss) × (HasFaultStmts t ss S → ⊥)
@@ -530,10 +530,10 @@ mutual
   pub local_out_arms : (arms : Arms) (t : Tok) (a : Notes) (l : Option ℕ) (n : ℕ) (h : HeldMap) (S : Ones) (k : HeldMap) → IsIn S (h t) → IsLocalArms a l n h arms k → IsOut t a l (out_arms t arms S) (only_if (passes_arms arms) k) × (HasFaultArms t arms S → ⊥)
   local_out_arms no_arms t a l n h S k p d = (record { next = λ x y. y; breaks = λ x y. absurd y; continues = λ x y. absurd y }, λ f. f)
   local_out_arms (arm rs s rest) t a l n h S k p d =
-      let f = local_out_block s t a l n (passed rs h) (images t rs S) (images_in t rs S h p) d.1 in
+      let f = local_out_block s t a l n (map_after rs h) (images t rs S) (images_in t rs S h p) d.1 in
       let g = local_out_arms rest t a l (n + size_block s) h S k p d.3 in (
         record {
-          next = λ x y. ⊎_elim (λ z. only_left (passes_block s) (passes_arms rest) k t x (passes_has (passes_block s) _ t x (leads_block_some s a n (passed rs h)) (f.0.next x z)) (has_through _ k t x (f.0.next x z) d.2))
+          next = λ x y. ⊎_elim (λ z. only_left (passes_block s) (passes_arms rest) k t x (passes_has (passes_block s) _ t x (leads_block_some s a n (map_after rs h)) (f.0.next x z)) (has_through _ k t x (f.0.next x z) d.2))
               (λ z. only_rest (passes_block s) (passes_arms rest) k t x (g.0.next x z)) y;
           breaks = λ x y. ⊎_elim (f.0.breaks x) (g.0.breaks x) y;
           continues = λ x y. ⊎_elim (f.0.continues x) (g.0.continues x) y;

@@ -4,7 +4,7 @@ use Rattle.std.specs.Prelude.{nat_lt, length, slice_get}
 use Rattle.vlt_core.specs.Core as core
 use Rattle.vlt_core.specs.Core.{Ty, Tok, Simple, Func, Program, set, input, print, put, make, become, release, drop, own, unpack, build, swap, open_into, adopt}
 use Rattle.vlt_core.specs.KindedHeads.{unless, has}
-use Rattle.vlt_core.specs.KindedScopes.{Ids, Around, entered, left_behind, with_key, with_var, with_binding, with_target, own_key, binding_broken, target_broken}
+use Rattle.vlt_core.specs.KindedScopes.{Ids, Around, at_block_start, left_behind, with_key, with_var, with_binding, with_target, own_key, binding_broken, target_broken}
 use Rattle.vlt_core.specs.KindedOperands.{misfit}
 use Rattle.vlt_core.specs.KindedStatements.{with_bindings, opened_broken, simple_broken, ids_after}
 use Rattle.vlt_core.specs.KindedCalls.{is_fresh_call, with_call_target, call_target_broken, call_broken}
@@ -111,7 +111,7 @@ module _ (p : Program) (f : Func) (ranged : (v k : ℕ) → has (type_keys f v) 
     form_goes (core.jump continues) around ids e rows = stays f ids
 
     pub block_goes : (b : core.Block) (around : Around) (ids : Ids) → EachEmpty (block_rows p f around ids b) → Goes f ids (ids_behind_block p f b ids)
-    block_goes (core.block ss bound end) around ids rows = leaves f ids (ids_behind_stmts p f ss (entered ids)) (λ t w. (stmts_go ss around (entered ids) false rows).grows t w)
+    block_goes (core.block ss bound end) around ids rows = leaves f ids (ids_behind_stmts p f ss (at_block_start ids)) (λ t w. (stmts_go ss around (at_block_start ids) false rows).grows t w)
 
     pub stmts_go : (ss : core.Stmts) (around : Around) (ids : Ids) (ended : Bool) → EachEmpty (stmts_rows p f around ids ended ss) → Goes f ids (ids_behind_stmts p f ss ids)
     stmts_go core.done around ids ended rows = stays f ids

@@ -3,7 +3,7 @@ use Rattle.std.proofs.Common.{◌≡◌, ℕ, Bool, true, false, not, List, [], 
 use Rattle.vlt_core.specs.Core as core
 use Rattle.vlt_core.specs.Core.{Tok, Func, Program}
 use Rattle.vlt_core.specs.KindedHeads.{unless}
-use Rattle.vlt_core.specs.KindedScopes.{Ids, Around, entered, left_behind}
+use Rattle.vlt_core.specs.KindedScopes.{Ids, Around, at_block_start, left_behind}
 use Rattle.vlt_core.specs.KindedBodies.{in_loop, in_focus, with_focus, with_vars, ends, ids_behind, ids_behind_block, row_broken, form_rows, block_rows, stmts_rows, arms_rows}
 use Rattle.vlt_core.specs.Flow as flow
 use Rattle.vlt_core.specs.Bodies.{flow_of, flow_of_block, flow_of_stmts, flow_of_arms}
@@ -57,7 +57,7 @@ module _ (p : Program) (f : Func) where
 
     pub jumping_block : (b : core.Block) (left : List Tok) (around : Around) (ids : Ids) → EachEmpty (block_rows p f around ids b) →
         IsJumpingBlock around.jumps (flow_of_block p f left b)
-    jumping_block (core.block ss bound end) left around ids rows = jumping_stmts ss (left ++ bound) around (entered ids) false rows
+    jumping_block (core.block ss bound end) left around ids rows = jumping_stmts ss (left ++ bound) around (at_block_start ids) false rows
 
     pub jumping_stmts : (ss : core.Stmts) (left : List Tok) (around : Around) (ids : Ids) (ended : Bool) → EachEmpty (stmts_rows p f around ids ended ss) →
         IsJumpingStmts around.jumps (flow_of_stmts p f left ss)

@@ -1,7 +1,7 @@
 -- What is found of a token is of one kind where nothing is mixed, so notes can show it.
 use Rattle.std.proofs.Common.{◌≡◌, ◌+◌, ◌||◌, ℕ, zero, suc, Bool, true, false, IsTrue, List, [], ◌∷◌, map, None, refl, sym, subst, inl, inr, ⊎_elim, rules}
 use Rattle.vlt_core.specs.Core.{Tok, a_key, a_var}
-use Rattle.vlt_core.specs.Maps.{Wanted, wants_absent, wants_held, wants_in, wants_lent, wants_full, After, becomes_absent, becomes_held, stays, becomes_full, becomes_lent, comes_back, Row, Status, is_tok, gone, HeldMap}
+use Rattle.vlt_core.specs.Maps.{Wanted, wants_absent, wants_held, wants_in, wants_lent, wants_full, After, becomes_absent, becomes_held, stays, becomes_full, becomes_lent, comes_back, Row, Status, is_tok, away_row, HeldMap}
 use Rattle.vlt_core.specs.Flow.{Flow, step, choose, loop, switch, scope, focus, return, jump, Block, block, Stmts, done, next, Arms, no_arms, arm, size, size_block}
 use Rattle.vlt_core.specs.Local.{Notes, IsLocalBlock}
 use Rattle.vlt_core_laws.specs.Scoped.{IsJumping, IsJumpingBlock, IsJumpingStmts, IsJumpingArms}
@@ -67,7 +67,7 @@ rows_good t (r ∷ rs) b S p f g o x = rows_good t rs b (image t r S) p.2 f.2 (a
     at true e o x = good_left b t r x.0 o p.0 p.1 (subst (IsOwnKind r.after) (sym (same_is t r.tok e)) f.1) (g x.0 x.1) x.2 x.3
     at false e o x = g o x
 
-gone_plain : (bound : List Tok) → ArePlain (map gone bound)
+gone_plain : (bound : List Tok) → ArePlain (map away_row bound)
 gone_plain [] = tt
 gone_plain (u ∷ us) = (tt, tt, gone_plain us)
 
@@ -254,10 +254,10 @@ mutual
   good_form (focus rs s es) t b S w f p to_break o y = absurd ((jump_none_block s t (images t rs S) o w.2).0 y)
   good_form (focus rs s es) t b S w f p to_continue o y = absurd ((jump_none_block s t (images t rs S) o w.2).1 y)
   good_form (return rs) t b S w f p x o y = absurd y
-  good_form (jump c left) t b S w f p x o y = jumps_keep c x (images t (map gone left) S) (IsGood b t) (rows_good t (map gone left) b S (gone_plain left) (gone_filled left) p) o y
+  good_form (jump c left) t b S w f p x o y = jumps_keep c x (images t (map away_row left) S) (IsGood b t) (rows_good t (map away_row left) b S (gone_plain left) (gone_filled left) p) o y
 
   pub good_block : (s : Block) (t : Tok) (b : Bool) (S : Ones) → IsTameBlock s → HasFilledBlock s → ((o : One) → S o → IsGood b t o) → (x : Exit) (o : One) → out_block t s S x o → IsGood b t o
-  good_block (block ss bound end) t b S w f p to_next o y = rows_good t (map gone bound) b (out_stmts t ss S to_next) (gone_plain bound) (gone_filled bound) (good_stmts ss t b S w f p to_next) o y
+  good_block (block ss bound end) t b S w f p to_next o y = rows_good t (map away_row bound) b (out_stmts t ss S to_next) (gone_plain bound) (gone_filled bound) (good_stmts ss t b S w f p to_next) o y
   good_block (block ss bound end) t b S w f p to_break o y = good_stmts ss t b S w f p to_break o y
   good_block (block ss bound end) t b S w f p to_continue o y = good_stmts ss t b S w f p to_continue o y
 

@@ -1,7 +1,7 @@
 -- What comes out of a part: more comes of more, and each thing comes of one thing.
 use Rattle.std.proofs.Common.{◌≡◌, ℕ, zero, suc, Bool, true, false, List, [], ◌∷◌, map, refl, sym, subst, inl, inr, ⊎_elim}
 use Rattle.vlt_core.specs.Core.{Tok}
-use Rattle.vlt_core.specs.Maps.{Row, is_tok, gone}
+use Rattle.vlt_core.specs.Maps.{Row, is_tok, away_row}
 use Rattle.vlt_core.specs.Flow.{Flow, step, choose, loop, switch, scope, focus, return, jump, Block, block, Stmts, done, next, Arms, no_arms, arm}
 use Rattle.vlt_core.specs.Found.{One, Ones, image_if, image, images, both, turns, heads, Exit, to_next, to_break, to_continue, jumps, out, out_block, out_stmts, out_arms}
 
@@ -106,10 +106,10 @@ mutual
   smooth_form (focus rs s es) t to_break = let g = smooth_after (λ S. out_block t s S to_break) (images t rs) (smooth_images t rs) (smooth_block s t to_break) in record { more = g.more; one = g.one }
   smooth_form (focus rs s es) t to_continue = let g = smooth_after (λ S. out_block t s S to_continue) (images t rs) (smooth_images t rs) (smooth_block s t to_continue) in record { more = g.more; one = g.one }
   smooth_form (return rs) t x = record { more = λ S T f o p. p; one = λ S o p. absurd p }
-  smooth_form (jump c left) t x = let g = smooth_after (jumps c x) (images t (map gone left)) (smooth_images t (map gone left)) (smooth_jumps c x) in record { more = g.more; one = g.one }
+  smooth_form (jump c left) t x = let g = smooth_after (jumps c x) (images t (map away_row left)) (smooth_images t (map away_row left)) (smooth_jumps c x) in record { more = g.more; one = g.one }
 
   pub smooth_block : (s : Block) (t : Tok) (x : Exit) → Smooth (λ S. out_block t s S x)
-  smooth_block (block ss bound end) t to_next = let g = smooth_after (images t (map gone bound)) _ (smooth_stmts ss t to_next) (smooth_images t (map gone bound)) in record { more = g.more; one = g.one }
+  smooth_block (block ss bound end) t to_next = let g = smooth_after (images t (map away_row bound)) _ (smooth_stmts ss t to_next) (smooth_images t (map away_row bound)) in record { more = g.more; one = g.one }
   smooth_block (block ss bound end) t to_break = let g = smooth_stmts ss t to_break in record { more = g.more; one = g.one }
   smooth_block (block ss bound end) t to_continue = let g = smooth_stmts ss t to_continue in record { more = g.more; one = g.one }
 

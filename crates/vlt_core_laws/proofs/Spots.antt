@@ -1,7 +1,7 @@
 -- Something is faulty just where some spot is.
 use Rattle.std.proofs.Common.{◌+◌, ℕ, List, [], ◌∷◌, map, length, refl, inl, inr, ⊎_elim}
 use Rattle.vlt_core.specs.Core.{Tok}
-use Rattle.vlt_core.specs.Maps.{Row, gone}
+use Rattle.vlt_core.specs.Maps.{Row, away_row}
 use Rattle.vlt_core.specs.Flow.{Flow, step, choose, loop, switch, scope, focus, return, jump, Block, block, Stmts, done, next, Arms, no_arms, arm, end_of}
 use Rattle.vlt_core.specs.Found.{Ones, image, images, out, out_block, out_stmts, to_next, head_of}
 use Rattle.vlt_core_laws.specs.Faulted.{HasRowFault, HasFault, HasFaultBlock, HasFaultStmts, HasFaultArms}
@@ -30,12 +30,12 @@ mutual
       (λ y. let z = some_spot_block s t (c + length rs) (images t rs S) y in (z.0, inr (inl z.1)))
       (λ y. let z = rows_spot (end_of s) (c + length rs + spots_block s) t es (out_block t s (images t rs S) to_next) y in (z.0, inr (inr z.1)))) x
   some_spot (return rs) t at c S x = rows_spot at c t rs S x
-  some_spot (jump d left) t at c S x = rows_spot at c t (map gone left) S x
+  some_spot (jump d left) t at c S x = rows_spot at c t (map away_row left) S x
 
   pub some_spot_block : (s : Block) (t : Tok) (c : ℕ) (S : Ones) → HasFaultBlock t s S → (p : Spot) × SpotAtBlock IsUnwanted IsMixed p t c s S
   some_spot_block (block ss bound end) t c S x = ⊎_elim
       (λ y. let z = some_spot_stmts ss t c S y in (z.0, inl z.1))
-      (λ y. let z = rows_spot end (c + spots_stmts ss) t (map gone bound) (out_stmts t ss S to_next) y in (z.0, inr z.1)) x
+      (λ y. let z = rows_spot end (c + spots_stmts ss) t (map away_row bound) (out_stmts t ss S to_next) y in (z.0, inr z.1)) x
 
   some_spot_stmts : (ss : Stmts) (t : Tok) (c : ℕ) (S : Ones) → HasFaultStmts t ss S → (p : Spot) × SpotAtStmts IsUnwanted IsMixed p t c ss S
   some_spot_stmts done t c S x = absurd x
@@ -73,12 +73,12 @@ mutual
       (λ y. inr (inl (faulty_block s p t (n + length rs) (images t rs S) y)))
       (λ y. inr (inr (rows_faulty p (end_of s) (n + length rs + spots_block s) t es (out_block t s (images t rs S) to_next) y)))) x
   faulty (return rs) p t at n S x = rows_faulty p at n t rs S x
-  faulty (jump c left) p t at n S x = rows_faulty p at n t (map gone left) S x
+  faulty (jump c left) p t at n S x = rows_faulty p at n t (map away_row left) S x
 
   pub faulty_block : (s : Block) (p : Spot) (t : Tok) (n : ℕ) (S : Ones) → SpotAtBlock IsUnwanted IsMixed p t n s S → HasFaultBlock t s S
   faulty_block (block ss bound end) p t n S x = ⊎_elim
       (λ y. inl (faulty_stmts ss p t n S y))
-      (λ y. inr (rows_faulty p end (n + spots_stmts ss) t (map gone bound) (out_stmts t ss S to_next) y)) x
+      (λ y. inr (rows_faulty p end (n + spots_stmts ss) t (map away_row bound) (out_stmts t ss S to_next) y)) x
 
   faulty_stmts : (ss : Stmts) (p : Spot) (t : Tok) (n : ℕ) (S : Ones) → SpotAtStmts IsUnwanted IsMixed p t n ss S → HasFaultStmts t ss S
   faulty_stmts done p t n S x = absurd x

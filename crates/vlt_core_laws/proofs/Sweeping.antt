@@ -1,7 +1,7 @@
 -- A sweep keeps all that comes to a join, and nothing else.
 use Rattle.std.proofs.Common.{◌≡◌, ◌↔◌, ◌+◌, ◌<◌, ◌≤◌, ℕ, zero, suc, Bool, true, false, List, map, Option, Some, None, refl, sym, subst, inl, inr, ⊎_elim, arith}
 use Rattle.vlt_core.specs.Core.{Tok}
-use Rattle.vlt_core.specs.Maps.{Row, gone}
+use Rattle.vlt_core.specs.Maps.{Row, away_row}
 use Rattle.vlt_core.specs.Flow.{Flow, step, choose, loop, switch, scope, focus, return, jump, Block, block, Stmts, done, next, Arms, no_arms, arm, size, size_block, size_stmts, size_arms}
 use Rattle.vlt_core.specs.Found.{One, Ones, images, both, turns, out, out_block, out_stmts, out_arms, Exit, to_next, to_break, to_continue, jumps, head_of}
 use Rattle.vlt_core_laws.specs.Sweep.{Many, In, Stock, IsMore, IsImage, IntoHead, IntoExit, Lands, Swept, SweptBlock, SweptStmts, SweptArms, found_head, found_head_block, found_head_stmts, found_head_arms, found_exit, found_exit_block, found_exit_stmts, found_exit_arms, IsFoundIn, IsReached}
@@ -142,13 +142,13 @@ mutual
       record { next = image_in t es (out_block t s (images t rs S) to_next) w.2 r w.4 q.next; breaks = q.breaks; continues = q.continues; heads = q.heads; exits = q.exits }
   holds (return rs) t l n k m k' r k0 S w a b f = record { next = λ o x. absurd x; breaks = λ o x. absurd x; continues = λ o x. absurd x; heads = λ i o x. absurd x; exits = λ i o x. absurd x }
   holds (jump c left) t l n k m k' r k0 S w a b f =
-      let q = jump_held c l w.0 r k k' k0 (images t (map gone left) S) (image_in t (map gone left) S m w.0 w.1 f) w.2 b in
+      let q = jump_held c l w.0 r k k' k0 (images t (map away_row left) S) (image_in t (map away_row left) S m w.0 w.1 f) w.2 b in
       record { next = q.next; breaks = q.breaks; continues = q.continues; heads = q.heads; exits = q.exits }
 
   pub holds_block : (s : Block) (t : Tok) (l : Option ℕ) (n : ℕ) (k : Stock) (m : Many) (k' : Stock) (r : Many) (k0 : Stock) (S : Ones) → SweptBlock t s l n k m k' r → IsMore k0 k → IsMore k' k0 → ((o : One) → S o → In m o) → IsHeld l r k0 (out_block t s S) (found_head_block t s n S) (found_exit_block t s n S)
   holds_block (block ss bound end) t l n k m k' r k0 S w a b f =
       let q = holds_stmts ss t l n k m k' w.0 k0 S w.1 a b f in
-      record { next = image_in t (map gone bound) (out_stmts t ss S to_next) w.0 r w.2 q.next; breaks = q.breaks; continues = q.continues; heads = q.heads; exits = q.exits }
+      record { next = image_in t (map away_row bound) (out_stmts t ss S to_next) w.0 r w.2 q.next; breaks = q.breaks; continues = q.continues; heads = q.heads; exits = q.exits }
 
   holds_stmts : (ss : Stmts) (t : Tok) (l : Option ℕ) (n : ℕ) (k : Stock) (m : Many) (k' : Stock) (r : Many) (k0 : Stock) (S : Ones) → SweptStmts t ss l n k m k' r → IsMore k0 k → IsMore k' k0 → ((o : One) → S o → In m o) → IsHeld l r k0 (out_stmts t ss S) (found_head_stmts t ss n S) (found_exit_stmts t ss n S)
   holds_stmts done t l n k m k' r k0 S w a b f = record { next = λ o x. subst (λ m. In m o) (sym w.1) (f o x); breaks = λ o x. absurd x; continues = λ o x. absurd x; heads = λ i o x. absurd x; exits = λ i o x. absurd x }
@@ -286,14 +286,14 @@ mutual
       record { under = p.under; comes = of_image t es (out_block t s (images t rs P) to_next) w.2 r w.4 p.comes }
   sound (return rs) A B t l n k m k' r P w z u f j = record { under = under_same A B k k' w.0 u; comes = λ o v. absurd (w.1.none o v) }
   sound (jump c left) A B t l n k m k' r P w z u f j = record {
-    under = under_jump A B l c w.0 k k' (images t (map gone left) P) w.2 u (of_image t (map gone left) P m w.0 w.1 f) (record { breaks = j.breaks; continues = j.continues });
+    under = under_jump A B l c w.0 k k' (images t (map away_row left) P) w.2 u (of_image t (map away_row left) P m w.0 w.1 f) (record { breaks = j.breaks; continues = j.continues });
     comes = λ o v. absurd (w.3.none o v);
   }
 
   sound_block : (s : Block) (A B : ℕ → Ones) (t : Tok) (l : Option ℕ) (n : ℕ) (k : Stock) (m : Many) (k' : Stock) (r : Many) (P : Ones) → SweptBlock t s l n k m k' r → FitsBlock A B t s n P → IsUnder A B k → ((o : One) → In m o → P o) → MayOut A B l (out_block t s P) → IsSound A B k' r (out_block t s P to_next)
   sound_block (block ss bound end) A B t l n k m k' r P w z u f j =
       let p = sound_stmts ss A B t l n k m k' w.0 P w.1 z u f (record { breaks = j.breaks; continues = j.continues }) in
-      record { under = p.under; comes = of_image t (map gone bound) (out_stmts t ss P to_next) w.0 r w.2 p.comes }
+      record { under = p.under; comes = of_image t (map away_row bound) (out_stmts t ss P to_next) w.0 r w.2 p.comes }
 
   sound_stmts : (ss : Stmts) (A B : ℕ → Ones) (t : Tok) (l : Option ℕ) (n : ℕ) (k : Stock) (m : Many) (k' : Stock) (r : Many) (P : Ones) → SweptStmts t ss l n k m k' r → FitsStmts A B t ss n P → IsUnder A B k → ((o : One) → In m o → P o) → MayOut A B l (out_stmts t ss P) → IsSound A B k' r (out_stmts t ss P to_next)
   sound_stmts done A B t l n k m k' r P w z u f j = record { under = under_same A B k k' w.0 u; comes = λ o v. f o (subst (λ m. In m o) w.1 v) }

@@ -2,7 +2,7 @@
 use Rattle.std.proofs.Common.{◌≡◌, ◌+◌, ◌≤◌, ◌<◌, ◌⊎◌, ℕ, Bool, true, false, List, [], ◌∷◌, map, length, inl, inr, ⊎_elim, ap, arith}
 use Rattle.std.proofs.lemmas.List.{length-map}
 use Rattle.vlt_core.specs.Core.{Tok}
-use Rattle.vlt_core.specs.Maps.{Row, gone, is_tok}
+use Rattle.vlt_core.specs.Maps.{Row, away_row, is_tok}
 use Rattle.vlt_core.specs.Flow.{Flow, step, choose, loop, switch, scope, focus, return, jump, Block, block, Stmts, done, next, Arms, no_arms, arm, end_of}
 use Rattle.vlt_core.specs.Found.{Ones, image, images, out, out_block, out_stmts, to_next, head_of}
 use Rattle.vlt_core.specs.Faults.{If, Spot, head_spot, row_spot, join_spot, spots, spots_block, spots_stmts, spots_arms, RowAt, SpotAt, SpotAtBlock, SpotAtStmts, SpotAtArms}
@@ -57,16 +57,16 @@ module _ (P : Row → Ones → Type 0) (Q : Ones → Type 0) (p : Spot) (t : Tok
         (λ y. widened k (k + length es) n (n + spots (focus rs s es)) p.number (omega arith) (omega arith) (rows_between (end_of s) k es (out_block t s (images t rs S) to_next) y))) x
     form_between (return rs) at n S x = rows_between at n rs S x
     form_between (jump c left) at n S x =
-        let same : length (map gone left) ≡ length left = length-map left gone in
-        widened n (n + length (map gone left)) n (n + length left) p.number (omega arith) (omega (arith, same)) (rows_between at n (map gone left) S x)
+        let same : length (map away_row left) ≡ length left = length-map left away_row in
+        widened n (n + length (map away_row left)) n (n + length left) p.number (omega arith) (omega (arith, same)) (rows_between at n (map away_row left) S x)
 
     pub block_between : (s : Block) (n : ℕ) (S : Ones) → SpotAtBlock P Q p t n s S → Between n (n + spots_block s) p.number
     block_between (block ss bound end) n S x =
         let m = n + spots_stmts ss in
-        let same : length (map gone bound) ≡ length bound = length-map bound gone in
+        let same : length (map away_row bound) ≡ length bound = length-map bound away_row in
         ⊎_elim
         (λ y. widened n m n (n + (spots_stmts ss + length bound)) p.number (omega arith) (omega arith) (stmts_between ss n S y))
-        (λ y. widened m (m + length (map gone bound)) n (n + (spots_stmts ss + length bound)) p.number (omega arith) (omega (arith, same)) (rows_between end m (map gone bound) (out_stmts t ss S to_next) y)) x
+        (λ y. widened m (m + length (map away_row bound)) n (n + (spots_stmts ss + length bound)) p.number (omega arith) (omega (arith, same)) (rows_between end m (map away_row bound) (out_stmts t ss S to_next) y)) x
 
     pub stmts_between : (ss : Stmts) (n : ℕ) (S : Ones) → SpotAtStmts P Q p t n ss S → Between n (n + spots_stmts ss) p.number
     stmts_between done n S x = absurd x
@@ -181,14 +181,14 @@ module _ (P R : Row → Ones → Type 0) (Q J : Ones → Type 0) (p : Spot) (t :
         (parts n m (k + length es) (rows_between P Q p t at n rs S) (sum_between m k (k + length es) (omega arith) (omega arith) (block_between P Q p t s m T) (rows_between P Q p t (end_of s) k es U))
         (rows_between R J p t at n rs S) (sum_between m k (k + length es) (omega arith) (omega arith) (block_between R J p t s m T) (rows_between R J p t (end_of s) k es U)) x y)
     form_together (return rs) at n S x y = rows_together at n rs S x y
-    form_together (jump c left) at n S x y = rows_together at n (map gone left) S x y
+    form_together (jump c left) at n S x y = rows_together at n (map away_row left) S x y
 
     pub block_together : (s : Block) (n : ℕ) (S : Ones) → SpotAtBlock P Q p t n s S → SpotAtBlock R J p t n s S → SpotAtBlock Both Joined p t n s S
     block_together (block ss bound end) n S x y =
-        let m = n + spots_stmts ss in let k = m + length (map gone bound) in let T = out_stmts t ss S to_next in
-        ⊎_elim (λ z. inl (stmts_together ss n S z.0 z.1)) (λ z. inr (rows_together end m (map gone bound) T z.0 z.1))
-        (parts n m k (stmts_between P Q p t ss n S) (rows_between P Q p t end m (map gone bound) T)
-        (stmts_between R J p t ss n S) (rows_between R J p t end m (map gone bound) T) x y)
+        let m = n + spots_stmts ss in let k = m + length (map away_row bound) in let T = out_stmts t ss S to_next in
+        ⊎_elim (λ z. inl (stmts_together ss n S z.0 z.1)) (λ z. inr (rows_together end m (map away_row bound) T z.0 z.1))
+        (parts n m k (stmts_between P Q p t ss n S) (rows_between P Q p t end m (map away_row bound) T)
+        (stmts_between R J p t ss n S) (rows_between R J p t end m (map away_row bound) T) x y)
 
     pub stmts_together : (ss : Stmts) (n : ℕ) (S : Ones) → SpotAtStmts P Q p t n ss S → SpotAtStmts R J p t n ss S → SpotAtStmts Both Joined p t n ss S
     stmts_together done n S x y = x

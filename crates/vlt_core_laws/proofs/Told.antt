@@ -1,7 +1,7 @@
 -- What is told of a row or a join is told in one way, and the first spot is one.
 use Rattle.std.proofs.Common.{◌≡◌, ◌+◌, ◌<◌, ◌⊎◌, ℕ, Bool, true, false, IsTrue, List, [], ◌∷◌, map, inl, inr, ⊎_elim, refl, sym, ◌∙◌, subst, arith}
 use Rattle.vlt_core.specs.Core.{States, Tok, a_key, a_var}
-use Rattle.vlt_core.specs.Maps.{Status, absent, held, lent, full, Row, is_tok, gone}
+use Rattle.vlt_core.specs.Maps.{Status, absent, held, lent, full, Row, is_tok, away_row}
 use Rattle.vlt_core.specs.Flow.{Flow, step, choose, loop, switch, scope, focus, return, jump, Block, block, Stmts, done, next, Arms, no_arms, arm}
 use Rattle.vlt_core.specs.Found.{One, one_absent, one_held, one_lent, one_full, Ones, Has, image}
 use Rattle.vlt_core.specs.Faults.{If, Spot, RowAt, SpotAt, SpotAtBlock, SpotAtStmts, SpotAtArms, IsNoLaterTok, IsNoLater, FaultKind, at_row, at_join, StandsFor, present_of, TellsRow, TellsJoin}
@@ -97,10 +97,10 @@ module _ (P : Row → Ones → Type 0) (Q : Ones → Type 0) (p : Spot) (t : Tok
     some_form (focus rs s es) at n S x =
         ⊎_elim (λ y. some_row at n rs S y) (⊎_elim (λ y. some_block s _ _ y) (λ y. some_row _ _ es _ y)) x
     some_form (return rs) at n S x = some_row at n rs S x
-    some_form (jump c left) at n S x = some_row at n (map gone left) S x
+    some_form (jump c left) at n S x = some_row at n (map away_row left) S x
 
     pub some_block : (s : Block) (n : ℕ) (S : Ones) → SpotAtBlock P Q p t n s S → Some
-    some_block (block ss bound end) n S x = ⊎_elim (λ y. some_stmt ss n S y) (λ y. some_row end _ (map gone bound) _ y) x
+    some_block (block ss bound end) n S x = ⊎_elim (λ y. some_stmt ss n S y) (λ y. some_row end _ (map away_row bound) _ y) x
 
     some_stmt : (ss : Stmts) (n : ℕ) (S : Ones) → SpotAtStmts P Q p t n ss S → Some
     some_stmt done n S x = absurd x

@@ -1,7 +1,7 @@
 -- Whether some row or join of a part is faulty for a token, without its place.
 use Rattle.std.specs.Prelude.{Bool, List, [], ◌∷◌, map, ◌⊎◌}
 use Rattle.vlt_core.specs.Core.{Tok}
-use Rattle.vlt_core.specs.Maps.{Row, is_tok, gone}
+use Rattle.vlt_core.specs.Maps.{Row, is_tok, away_row}
 use Rattle.vlt_core.specs.Flow.{Flow, step, choose, loop, switch, scope, focus, return, jump, Block, block, Stmts, done, next, Arms, no_arms, arm}
 use Rattle.vlt_core.specs.Found.{Ones, image, images, out, out_block, out_stmts, to_next, head_of}
 use Rattle.vlt_core.specs.Faults.{If, IsMixed, IsUnwanted}
@@ -28,10 +28,10 @@ abbrev mutual
   HasFault t (focus rs s es) S =
       HasRowFault t rs S ⊎ (HasFaultBlock t s (images t rs S) ⊎ HasRowFault t es (out_block t s (images t rs S) to_next))
   HasFault t (return rs) S = HasRowFault t rs S
-  HasFault t (jump c left) S = HasRowFault t (map gone left) S
+  HasFault t (jump c left) S = HasRowFault t (map away_row left) S
 
   pub HasFaultBlock : Tok → Block → Ones → Type 0
-  HasFaultBlock t (block ss bound end) S = HasFaultStmts t ss S ⊎ HasRowFault t (map gone bound) (out_stmts t ss S to_next)
+  HasFaultBlock t (block ss bound end) S = HasFaultStmts t ss S ⊎ HasRowFault t (map away_row bound) (out_stmts t ss S to_next)
 
   pub HasFaultStmts : Tok → Stmts → Ones → Type 0
   HasFaultStmts t done S = ⊥

@@ -1,7 +1,7 @@
 -- Bodies whose jumps stand in loops, and whose rows name only tokens in scope.
 use Rattle.std.specs.Prelude.{◌≡◌, Bool, true, false, IsTrue, List, [], ◌∷◌, map, ◌||◌, None}
 use Rattle.vlt_core.specs.Core.{Tok}
-use Rattle.vlt_core.specs.Maps.{HeldMap, absent, Row, is_tok, gone, passed}
+use Rattle.vlt_core.specs.Maps.{HeldMap, absent, Row, is_tok, away_row, map_after}
 use Rattle.vlt_core.specs.Flow.{Flow, step, choose, loop, switch, scope, focus, return, jump, Block, block, Stmts, done, next, Arms, no_arms, arm, passes, passes_block}
 use Rattle.vlt_core.specs.Local.{Notes, IsLocalBlock}
 
@@ -46,7 +46,7 @@ within g (block ss bound end) = with_bound g bound
 
 -- behind these rows the token is absent
 abbrev pub LeavesAbsent : Tok → List Row → Type 0
-LeavesAbsent x rs = (h : HeldMap) → passed rs h x ≡ absent
+LeavesAbsent x rs = (h : HeldMap) → map_after rs h x ≡ absent
 
 -- Rows name tokens in scope, those of returns aside; a block binds new ones, and an arm's rows may name them; a focus has a
 -- token of its own, which is absent behind it, and doesn't end; no statement stands behind one that ends.
@@ -61,7 +61,7 @@ abbrev mutual
       (x : Tok) × AreInScope (with_bound g (x ∷ [])) rs × IsScopedBlock (with_bound g (x ∷ [])) s × (passes_block s ≡ true) ×
       AreInScope (with_bound g (x ∷ [])) es × LeavesAbsent x es
   IsScoped g (return rs) = Unit {0}
-  IsScoped g (jump continues left) = AreInScope g (map gone left)
+  IsScoped g (jump continues left) = AreInScope g (map away_row left)
 
   pub IsScopedBlock : (Tok → Bool) → Block → Type 0
   IsScopedBlock g (block ss bound end) = ((t : Tok) → is_bound bound t ≡ true → g t ≡ false) × IsScopedStmts (with_bound g bound) ss

@@ -1,7 +1,7 @@
 -- A sweep over a body for one token: what comes to each join is united with what is kept there.
 use Rattle.std.specs.Prelude.{◌≡◌, ◌↔◌, ℕ, ◌+◌, Bool, true, false, IsTrue, List, map, Option, Some, None, ◌⊎◌}
 use Rattle.vlt_core.specs.Core.{Tok}
-use Rattle.vlt_core.specs.Maps.{Row, gone}
+use Rattle.vlt_core.specs.Maps.{Row, away_row}
 use Rattle.vlt_core.specs.Flow.{Flow, step, choose, loop, switch, scope, focus, return, jump, Block, block, Stmts, done, next, Arms, no_arms, arm, size, size_block}
 use Rattle.vlt_core.specs.Found.{One, Ones, images, out, to_next, head_of}
 
@@ -72,10 +72,10 @@ abbrev mutual
   Swept t (scope s) l n k m k' r = SweptBlock t s l (n + 1) k m k' r
   Swept t (focus rs s es) l n k m k' r = (p : Many) × IsImage t rs m p × (e : Many) × SweptBlock t s l (n + 1) k p k' e × IsImage t es e r
   Swept t (return rs) l n k m k' r = (k' ≡ k) × IsNothing r
-  Swept t (jump continues left) l n k m k' r = (p : Many) × IsImage t (map gone left) m p × Lands l continues p k k' × IsNothing r
+  Swept t (jump continues left) l n k m k' r = (p : Many) × IsImage t (map away_row left) m p × Lands l continues p k k' × IsNothing r
 
   pub SweptBlock : Tok → Block → Option ℕ → ℕ → Stock → Many → Stock → Many → Type 0
-  SweptBlock t (block ss bound end) l n k m k' r = (e : Many) × SweptStmts t ss l n k m k' e × IsImage t (map gone bound) e r
+  SweptBlock t (block ss bound end) l n k m k' r = (e : Many) × SweptStmts t ss l n k m k' e × IsImage t (map away_row bound) e r
 
   pub SweptStmts : Tok → Stmts → Option ℕ → ℕ → Stock → Many → Stock → Many → Type 0
   SweptStmts t done l n k m k' r = (k' ≡ k) × (r ≡ m)

@@ -4,7 +4,7 @@ use Rattle.std.specs.List.{range_with_len}
 use Rattle.std.specs.Option.{option_map}
 use Rattle.vlt_core.specs.Core.{States, Tok, Program}
 use Rattle.vlt_core.specs.Bodies.{body_flow}
-use Rattle.vlt_core.specs.Maps.{Row, Wanted, wants_absent, wants_held, wants_in, wants_lent, wants_full, After, becomes_absent, becomes_held, stays, becomes_full, becomes_lent, comes_back, gone}
+use Rattle.vlt_core.specs.Maps.{Row, Wanted, wants_absent, wants_held, wants_in, wants_lent, wants_full, After, becomes_absent, becomes_held, stays, becomes_full, becomes_lent, comes_back, away_row}
 use Rattle.vlt_core.specs.Flow.{Flow, step, choose, loop, switch, scope, focus, return, jump, Block, block, Stmts, done, next, Arms, no_arms, arm}
 
 pub data Word : Type 0 where
@@ -42,23 +42,23 @@ pub record Shown : Type 0 where
 abbrev pub row : Tok → Word → Word → Shown
 row t w a = record { tok = t; wanted = w; after = a }
 
-abbrev pub shown : List Row → List Shown
-shown = map (λ r. row r.tok (wanted_shown r.wanted) (after_shown r.after))
+abbrev pub shown_rows : List Row → List Shown
+shown_rows = map (λ r. row r.tok (wanted_shown r.wanted) (after_shown r.after))
 
 -- the rows of the statements of a body; returns and jumps are left out
 abbrev mutual
   pub rows_in : Flow → List (List Shown)
-  rows_in (step rs) = shown rs ∷ []
-  rows_in (choose rs a b) = shown rs ∷ rows_in_block a ++ rows_in_block b
-  rows_in (loop rs b) = shown rs ∷ rows_in_block b
-  rows_in (switch rs arms end) = shown rs ∷ rows_in_arms arms
+  rows_in (step rs) = shown_rows rs ∷ []
+  rows_in (choose rs a b) = shown_rows rs ∷ rows_in_block a ++ rows_in_block b
+  rows_in (loop rs b) = shown_rows rs ∷ rows_in_block b
+  rows_in (switch rs arms end) = shown_rows rs ∷ rows_in_arms arms
   rows_in (scope b) = [] ∷ rows_in_block b
-  rows_in (focus rs b es) = shown rs ∷ rows_in_block b ++ shown es ∷ []
+  rows_in (focus rs b es) = shown_rows rs ∷ rows_in_block b ++ shown_rows es ∷ []
   rows_in (return rs) = []
   rows_in (jump continues left) = []
 
   pub rows_in_block : Block → List (List Shown)
-  rows_in_block (block ss bound end) = rows_in_stmts ss ++ shown (map gone bound) ∷ []
+  rows_in_block (block ss bound end) = rows_in_stmts ss ++ shown_rows (map away_row bound) ∷ []
 
   pub rows_in_stmts : Stmts → List (List Shown)
   rows_in_stmts done = []
@@ -66,7 +66,7 @@ abbrev mutual
 
   pub rows_in_arms : Arms → List (List Shown)
   rows_in_arms no_arms = []
-  rows_in_arms (arm rs b rest) = shown rs ∷ rows_in_block b ++ rows_in_arms rest
+  rows_in_arms (arm rs b rest) = shown_rows rs ∷ rows_in_block b ++ rows_in_arms rest
 
 -- those of a whole body
 abbrev pub body_rows : Block → List (List Shown)

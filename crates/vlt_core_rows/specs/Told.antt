@@ -7,7 +7,7 @@ use Rattle.vlt_meaning.specs.Step.{with_found, where_so, spend, first_input, wit
 use Rattle.vlt_meaning.specs.Operands.{with_operand, with_operands, with_case_packed, with_case_opened}
 use Rattle.vlt_meaning.specs.Calls.{back_in, with_returned}
 use Rattle.vlt_meaning.specs.Externals.{with_pieces, with_fresh, with_result, call_external}
-use Rattle.vlt_meaning.specs.Run.{run, made_in, swapped, opened, call_body, call_by, left_function, unfocused, focus_end}
+use Rattle.vlt_meaning.specs.Run.{run, made_in, swap_step, open_step, call_body, call_by, left_function, focus_end_step, focus_end}
 
 -- ---- programs
 
@@ -34,13 +34,13 @@ abbrev pub ran_call : List ℕ → List Part → Event
 ran_call name args = called name (map one args)
 
 -- in an event's text references and owned objects are written alike
-abbrev pub shown : Value → Value
-shown (one (owned n)) = one (reference n)
-shown a = a
+abbrev pub shown_value : Value → Value
+shown_value (one (owned n)) = one (reference n)
+shown_value a = a
 
 abbrev pub event_shown : Event → Event
 event_shown (printed z) = printed z
-event_shown (called name args) = called name (map shown args)
+event_shown (called name args) = called name (map shown_value args)
 
 -- how a run ends, its events, and the fuel that is left
 pub record Told : Type 0 where
@@ -70,8 +70,8 @@ pub record Case : Type 0 where
 unfoldable pub told_run : Program → Case → Told
 unfolding with_found where_so spend first_input with_input first_answer with_answer with_made with_moved with_released
     with_dropped fill with_filled deliver then_do then_turn left_block with_operand with_operands with_case_packed
-    with_case_opened back_in with_returned with_pieces with_fresh with_result call_external made_in swapped opened
-    call_body call_by left_function unfocused focus_end
+    with_case_opened back_in with_returned with_pieces with_fresh with_result call_external made_in swap_step open_step
+    call_body call_by left_function focus_end_step focus_end
 told_run p c = told_of (run p c.budgets.fuel c.budgets.heap c.budgets.depth c.input c.answers)
 
 -- each of the runs is as it is told

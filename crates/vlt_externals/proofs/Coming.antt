@@ -16,7 +16,7 @@ use Rattle.vlt_heap.specs.Shown.{Holds, Changes, Tells, IsThereOrGone, TakesBack
 use Rattle.vlt_heap.proofs.Listed.{kept_with}
 use Rattle.vlt_meaning.specs.World.{Owner, held, lent, loose, inside, adopted_by, out, gone, is_gone, is_out, above, Object as Thing, Frame, fault, missing, not_owned}
 use Rattle.vlt_meaning.specs.Found.{Found, ◌>>=◌, or_fault, Named, if_so}
-use Rattle.vlt_meaning.specs.Objects.{named_in, with_owner, with_state, changed, changed_in, moved}
+use Rattle.vlt_meaning.specs.Objects.{named_in, with_owner, with_state, with_changed_object, changed_in, objects_after_move}
 use Rattle.vlt_meaning.specs.Calls.{caller_object}
 use Rattle.vlt_meaning.specs.Externals.{is_given, come_back}
 use Rattle.vlt_meaning_laws.proofs.Keeping.{change_here, change_elsewhere}
@@ -47,16 +47,16 @@ known items width c n objects shown made =
     record { item = x.item; at = x.at; object = o.item; object_at = o.at; shown = shown.each n x.item o.item x.at o.at }
 
 abbrev pub come_to : (n : ℕ) → Owner → List Thing → Bool → Found (List Thing)
-come_to n owner objects b = if b then Ok (changed n (with_owner owner) objects) else Err (fault not_owned (Some n))
+come_to n owner objects b = if b then Ok (with_changed_object n (with_owner owner) objects) else Err (fault not_owned (Some n))
 
 -- one object is moved where its owner passes the test
-pub moved_at : (from : Owner → Bool) (to : Owner) (n : ℕ) (objects : List Thing) (x : Thing) (b : Bool) → slice_get objects n ≡ Some x → from x.owner ≡ b → moved from to (n ∷ []) objects ≡ come_to n to objects b
+pub moved_at : (from : Owner → Bool) (to : Owner) (n : ℕ) (objects : List Thing) (x : Thing) (b : Bool) → slice_get objects n ≡ Some x → from x.owner ≡ b → objects_after_move from to (n ∷ []) objects ≡ come_to n to objects b
 moved_at from to n objects x b at is =
-    ap (λ y. (named_in n y >>= (λ m. if_so (from m.object.owner) not_owned m)) >>= (λ m. Ok (changed n (with_owner to) objects))) at
-    ∙ ap (λ t. if_so t not_owned (record { number = n; object = x }) >>= (λ m. Ok (changed n (with_owner to) objects))) is
+    ap (λ y. (named_in n y >>= (λ m. if_so (from m.object.owner) not_owned m)) >>= (λ m. Ok (with_changed_object n (with_owner to) objects))) at
+    ∙ ap (λ t. if_so t not_owned (record { number = n; object = x }) >>= (λ m. Ok (with_changed_object n (with_owner to) objects))) is
     ∙ by b
   where
-    by : (b : Bool) → (if_so b not_owned (record { number = n; object = x }) >>= (λ m. Ok (changed n (with_owner to) objects))) ≡ come_to n to objects b
+    by : (b : Bool) → (if_so b not_owned (record { number = n; object = x }) >>= (λ m. Ok (with_changed_object n (with_owner to) objects))) ≡ come_to n to objects b
     by true = refl
     by false = refl
 
@@ -90,13 +90,13 @@ pub record IsKeeper (to : Owner) : Type 0 where
   pub here : is_out to ≡ false
 
 pub one_back : (old new : Heap) (items : Items) (width : ℕ) (objects : List Thing) (o : Obj) (n : ℕ) (to : Owner) (b : Bool) → IsKeeper to → Holds old items → ShowObjects items width objects → IsMadeAt items o.0 n → TakesBack b o n old new
-    → IsOneBack items new width b (moved is_out to (n ∷ []) objects)
+    → IsOneBack items new width b (objects_after_move is_out to (n ∷ []) objects)
 one_back old new items width objects o n to b keeper holds shown made back = by b (back items holds)
   where
     k : Known items width objects n
     k = known items width o.0 n objects shown made
 
-    by : (b : Bool) → CameBack b items n o.0 old new → IsOneBack items new width b (moved is_out to (n ∷ []) objects)
+    by : (b : Bool) → CameBack b items n o.0 old new → IsOneBack items new width b (objects_after_move is_out to (n ∷ []) objects)
     by true q =
         let s = subst (λ y. ShowsIt items width y k.object) (same_Some k.item (Some q.0) (sym k.at ∙ q.1)) k.shown in
         let keep = kept_with items n q.0 (with_out false q.0) q.1 refl in
@@ -120,15 +120,15 @@ one_back old new items width objects o n to b keeper holds shown made back = by 
 -- ---- an entry
 
 given_is : (keys : List ℕ) (frame : Frame) (e : Entry) (es : List Entry) (objects : List Thing) (k n : ℕ) → is_given e ≡ true → slice_get keys e.key ≡ Some k → frame.keys k ≡ Some n
-    → come_back keys frame (e ∷ es) objects ≡ (moved is_out (held frame.depth k) (n ∷ []) objects >>= (λ back. come_back keys frame es back))
+    → come_back keys frame (e ∷ es) objects ≡ (objects_after_move is_out (held frame.depth k) (n ∷ []) objects >>= (λ back. come_back keys frame es back))
 given_is keys frame e es objects k n given key named =
-    ap (λ b. if b then (or_fault missing (slice_get keys e.key) >>= (λ k. or_fault missing (frame.keys k) >>= (λ n. moved is_out (held frame.depth k) (n ∷ []) objects >>= (λ back. come_back keys frame es back)))) else come_back keys frame es objects) given
-    ∙ ap (λ x. or_fault missing x >>= (λ k. or_fault missing (frame.keys k) >>= (λ n. moved is_out (held frame.depth k) (n ∷ []) objects >>= (λ back. come_back keys frame es back)))) key
-    ∙ ap (λ x. or_fault missing x >>= (λ n. moved is_out (held frame.depth k) (n ∷ []) objects >>= (λ back. come_back keys frame es back))) named
+    ap (λ b. if b then (or_fault missing (slice_get keys e.key) >>= (λ k. or_fault missing (frame.keys k) >>= (λ n. objects_after_move is_out (held frame.depth k) (n ∷ []) objects >>= (λ back. come_back keys frame es back)))) else come_back keys frame es objects) given
+    ∙ ap (λ x. or_fault missing x >>= (λ k. or_fault missing (frame.keys k) >>= (λ n. objects_after_move is_out (held frame.depth k) (n ∷ []) objects >>= (λ back. come_back keys frame es back)))) key
+    ∙ ap (λ x. or_fault missing x >>= (λ n. objects_after_move is_out (held frame.depth k) (n ∷ []) objects >>= (λ back. come_back keys frame es back))) named
 
 pub not_given : (keys : List ℕ) (frame : Frame) (e : Entry) (es : List Entry) (objects : List Thing) → is_given e ≡ false → come_back keys frame (e ∷ es) objects ≡ come_back keys frame es objects
 not_given keys frame e es objects given =
-    ap (λ b. if b then (or_fault missing (slice_get keys e.key) >>= (λ k. or_fault missing (frame.keys k) >>= (λ n. moved is_out (held frame.depth k) (n ∷ []) objects >>= (λ back. come_back keys frame es back)))) else come_back keys frame es objects) given
+    ap (λ b. if b then (or_fault missing (slice_get keys e.key) >>= (λ k. or_fault missing (frame.keys k) >>= (λ n. objects_after_move is_out (held frame.depth k) (n ∷ []) objects >>= (λ back. come_back keys frame es back)))) else come_back keys frame es objects) given
 
 module _ (old new : Heap) (values : Values) (keys : List ℕ) (e : Entry) (k : ℕ) (a : Slot) (given : is_given e ≡ true) (key : slice_get keys e.key ≡ Some k) (slot : IsSlotAt values.slots.items (key_at values k) a) where
   named_key : (c : Seen old values) (n : IsNamed keys c.frame e) → c.frame.keys k ≡ Some n.number
@@ -143,7 +143,7 @@ module _ (old new : Heap) (values : Values) (keys : List ℕ) (e : Entry) (k : �
       let ref = slot_is c n in
       let same = same_object (sym is ∙ ref.is) in
       let one = one_back old new c.items values.width c.objects o n.number (held c.frame.depth k) b (record { live = refl; root = refl; here = refl }) c.holds c.shown (subst (λ q. IsMadeAt c.items q.0 n.number) (sym same.0) ref.made) (subst (λ i. TakesBack b o i old new) same.1 back) in
-      subst (AreBack c.items new values c.frame b) (sym (given_is keys c.frame e [] c.objects k n.number given key (named_key c n))) (by c (moved is_out (held c.frame.depth k) (n.number ∷ []) c.objects) one)
+      subst (AreBack c.items new values c.frame b) (sym (given_is keys c.frame e [] c.objects k n.number given key (named_key c n))) (by c (objects_after_move is_out (held c.frame.depth k) (n.number ∷ []) c.objects) one)
     where
       by : (c : Seen old values) (x : Found (List Thing)) → IsOneBack c.items new values.width b x → AreBack c.items new values c.frame b (x >>= (λ back. Ok back))
       by c (Ok objects) h = (h.0, all_shown old new values c objects h.1)
@@ -166,18 +166,18 @@ come_split keys frame e es objects = by (is_given e)
     last (Ok back) = refl
     last (Err o) = refl
 
-    named : (k : ℕ) (x : Option ℕ) → (or_fault missing x >>= (λ n. moved is_out (held frame.depth k) (n ∷ []) objects >>= (λ back. come_back keys frame es back)))
-        ≡ ((or_fault missing x >>= (λ n. moved is_out (held frame.depth k) (n ∷ []) objects >>= (λ back. Ok back))) >>= (λ back. come_back keys frame es back))
+    named : (k : ℕ) (x : Option ℕ) → (or_fault missing x >>= (λ n. objects_after_move is_out (held frame.depth k) (n ∷ []) objects >>= (λ back. come_back keys frame es back)))
+        ≡ ((or_fault missing x >>= (λ n. objects_after_move is_out (held frame.depth k) (n ∷ []) objects >>= (λ back. Ok back))) >>= (λ back. come_back keys frame es back))
     named k None = refl
-    named k (Some n) = last (moved is_out (held frame.depth k) (n ∷ []) objects)
+    named k (Some n) = last (objects_after_move is_out (held frame.depth k) (n ∷ []) objects)
 
-    keyed : (x : Option ℕ) → (or_fault missing x >>= (λ k. or_fault missing (frame.keys k) >>= (λ n. moved is_out (held frame.depth k) (n ∷ []) objects >>= (λ back. come_back keys frame es back))))
-        ≡ ((or_fault missing x >>= (λ k. or_fault missing (frame.keys k) >>= (λ n. moved is_out (held frame.depth k) (n ∷ []) objects >>= (λ back. Ok back)))) >>= (λ back. come_back keys frame es back))
+    keyed : (x : Option ℕ) → (or_fault missing x >>= (λ k. or_fault missing (frame.keys k) >>= (λ n. objects_after_move is_out (held frame.depth k) (n ∷ []) objects >>= (λ back. come_back keys frame es back))))
+        ≡ ((or_fault missing x >>= (λ k. or_fault missing (frame.keys k) >>= (λ n. objects_after_move is_out (held frame.depth k) (n ∷ []) objects >>= (λ back. Ok back)))) >>= (λ back. come_back keys frame es back))
     keyed None = refl
     keyed (Some k) = named k (frame.keys k)
 
-    by : (b : Bool) → (if b then (or_fault missing (slice_get keys e.key) >>= (λ k. or_fault missing (frame.keys k) >>= (λ n. moved is_out (held frame.depth k) (n ∷ []) objects >>= (λ back. come_back keys frame es back)))) else come_back keys frame es objects)
-        ≡ ((if b then (or_fault missing (slice_get keys e.key) >>= (λ k. or_fault missing (frame.keys k) >>= (λ n. moved is_out (held frame.depth k) (n ∷ []) objects >>= (λ back. Ok back)))) else Ok objects) >>= (λ back. come_back keys frame es back))
+    by : (b : Bool) → (if b then (or_fault missing (slice_get keys e.key) >>= (λ k. or_fault missing (frame.keys k) >>= (λ n. objects_after_move is_out (held frame.depth k) (n ∷ []) objects >>= (λ back. come_back keys frame es back)))) else come_back keys frame es objects)
+        ≡ ((if b then (or_fault missing (slice_get keys e.key) >>= (λ k. or_fault missing (frame.keys k) >>= (λ n. objects_after_move is_out (held frame.depth k) (n ∷ []) objects >>= (λ back. Ok back)))) else Ok objects) >>= (λ back. come_back keys frame es back))
     by true = keyed (slice_get keys e.key)
     by false = refl
 
@@ -209,7 +209,7 @@ back_none h values keys c named = (refl, shows_same h values c)
 
 -- ---- states
 
-length_changed : (objects : List Thing) (n : ℕ) (change : Thing → Thing) → length (changed n change objects) ≡ length objects
+length_changed : (objects : List Thing) (n : ℕ) (change : Thing → Thing) → length (with_changed_object n change objects) ≡ length objects
 length_changed objects n change = by (slice_get objects n)
   where
     by : (x : Option Thing) → length (changed_in n change objects x) ≡ length objects
@@ -217,16 +217,16 @@ length_changed objects n change = by (slice_get objects n)
     by (Some q) = length-set objects n (change q)
 
 -- an object that is gone may have any state
-gone_shown : (items : Items) (width n s : ℕ) (objects : List Thing) → ShowObjects items width objects → slice_get items n ≡ Some None → (x : Thing) → slice_get objects n ≡ Some x → ShowObjects items width (changed n (with_state s) objects)
+gone_shown : (items : Items) (width n s : ℕ) (objects : List Thing) → ShowObjects items width objects → slice_get items n ≡ Some None → (x : Thing) → slice_get objects n ≡ Some x → ShowObjects items width (with_changed_object n (with_state s) objects)
 gone_shown items width n s objects h none_at x at = record {
   long = h.long ∙ sym (length_changed objects n (with_state s));
   each = λ m y q at_y at_q. by m y q at_y at_q (equal_or_not m n);
 }
   where
-    by : (m : ℕ) (y : Option Item) (q : Thing) → slice_get items m ≡ Some y → slice_get (changed n (with_state s) objects) m ≡ Some q → (m ≡ n) ⊎ (m ≢ n) → ShowsIt items width y q
+    by : (m : ℕ) (y : Option Item) (q : Thing) → slice_get items m ≡ Some y → slice_get (with_changed_object n (with_state s) objects) m ≡ Some q → (m ≡ n) ⊎ (m ≢ n) → ShowsIt items width y q
     by m y q at_y at_q (inl e) =
         let none : None ≡ y = same_Some None y (sym none_at ∙ ap (slice_get items) (sym e) ∙ at_y) in
-        let same : with_state s x ≡ q = same_Some (with_state s x) q (sym (change_here objects n x (with_state s) at) ∙ ap (slice_get (changed n (with_state s) objects)) (sym e) ∙ at_q) in
+        let same : with_state s x ≡ q = same_Some (with_state s x) q (sym (change_here objects n x (with_state s) at) ∙ ap (slice_get (with_changed_object n (with_state s) objects)) (sym e) ∙ at_q) in
         subst (λ z. ShowsIt items width z q) none (subst (λ z. is_gone z.owner ≡ true) same (h.each n None x none_at at))
     by m y q at_y at_q (inr d) = h.each m y q at_y (sym (change_elsewhere objects n (with_state s) m d) ∙ at_q)
 
@@ -245,7 +245,7 @@ module _ (old new : Heap) (values : Values) (key s : ℕ) (a : Slot) (slot : IsS
       let k = known c.items values.width o.0 n c.objects c.shown made in
       let sh = subst (λ y. ShowsIt c.items values.width y k.object) (same_Some k.item (Some t.0) (sym k.at ∙ at)) k.shown in
       let keep = kept_with c.items n t.0 (item_state s t.0) at refl in
-      all_shown old new values c (changed n (with_state s) c.objects) (record {
+      all_shown old new values c (with_changed_object n (with_state s) c.objects) (record {
         items = with_item n (item_state s t.0) c.items;
         holds = changes c.items n t.0 c.holds at t.2;
         shown = one_shown c.items values.width n c.objects t.0 (item_state s t.0) k.object (with_state s) keep c.shown at k.object_at
@@ -261,7 +261,7 @@ module _ (old new : Heap) (values : Values) (key s : ℕ) (a : Slot) (slot : IsS
       let made : IsMadeAt c.items o.0 n = subst (λ q. IsMadeAt c.items q.0 n) (sym same.0) ref.made in
       let t = tells c.items c.holds (subst (IsMadeAt c.items o.0) (sym same.1) made) in
       let k = known c.items values.width o.0 n c.objects c.shown made in
-      subst (λ h. Shows c.items h values c.frame (changed n (with_state s) c.objects)) (sym quiet) (record {
+      subst (λ h. Shows c.items h values c.frame (with_changed_object n (with_state s) c.objects)) (sym quiet) (record {
         items = c.items;
         holds = c.holds;
         objects_shown = gone_shown c.items values.width n s c.objects c.shown (ap (slice_get c.items) (sym same.1) ∙ t) k.object k.object_at;

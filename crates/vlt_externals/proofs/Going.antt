@@ -16,7 +16,7 @@ use Rattle.vlt_heap.proofs.Listed.{kept_with}
 use Rattle.vlt_heap.proofs.Calls.{live_at, root_at, here_at}
 use Rattle.vlt_meaning.specs.World.{Owner, held, lent, loose, inside, adopted_by, out, gone, is_gone, is_out, above, is_at, is_loose, Object as Thing, Frame, not_owned}
 use Rattle.vlt_meaning.specs.Found.{Found, ◌>>=◌, Named}
-use Rattle.vlt_meaning.specs.Objects.{object_at, owned_at, with_owner, changed, moved}
+use Rattle.vlt_meaning.specs.Objects.{object_at, owned_at, with_owner, with_changed_object, objects_after_move}
 use Rattle.vlt_meaning.specs.Calls.{caller_object}
 use Rattle.vlt_meaning.specs.Externals.{is_taken, taken_objects}
 use Rattle.vlt_meaning_laws.proofs.Keeping.{bound, err-ok}
@@ -99,7 +99,7 @@ pub record IsMoved (from : Owner → Bool) (to : Owner) (n : ℕ) (objects after
   pub object : Thing
   pub at : slice_get objects n ≡ Some object
   pub passes : from object.owner ≡ true
-  pub is : changed n (with_owner to) objects ≡ after
+  pub is : with_changed_object n (with_owner to) objects ≡ after
 
 abbrev objects_or : List Thing → Found (List Thing) → List Thing
 objects_or d (Ok xs) = xs
@@ -108,19 +108,19 @@ objects_or d (Err o) = d
 pub same_found : (xs ys : List Thing) → ◌≡◌ {A = Found (List Thing)} (Ok xs) (Ok ys) → xs ≡ ys
 same_found xs ys e = ap (objects_or xs) e
 
-pub moved_one : (from : Owner → Bool) (to : Owner) (n : ℕ) (objects after : List Thing) → moved from to (n ∷ []) objects ≡ Ok after → IsMoved from to n objects after
+pub moved_one : (from : Owner → Bool) (to : Owner) (n : ℕ) (objects after : List Thing) → objects_after_move from to (n ∷ []) objects ≡ Ok after → IsMoved from to n objects after
 moved_one from to n objects after e =
     let a = bound (owned_at from objects n) _ after e in
     let b = bound (object_at objects n) _ a.0 a.1 in
     let s = so_is (from b.0.object.owner) not_owned b.0 a.0 b.2 in
     record { object = b.0.object; at = (object_is objects n b.0 b.1).1; passes = s.0; is = same_found _ _ a.2 }
 
-pub moved_append : (from : Owner → Bool) (to : Owner) (xs ys : List ℕ) (objects after : List Thing) → moved from to (xs ++ ys) objects ≡ Ok after → (mid : List Thing) × (moved from to xs objects ≡ Ok mid) × (moved from to ys mid ≡ Ok after)
+pub moved_append : (from : Owner → Bool) (to : Owner) (xs ys : List ℕ) (objects after : List Thing) → objects_after_move from to (xs ++ ys) objects ≡ Ok after → (mid : List Thing) × (objects_after_move from to xs objects ≡ Ok mid) × (objects_after_move from to ys mid ≡ Ok after)
 moved_append from to [] ys objects after e = (objects, refl, e)
 moved_append from to (n ∷ xs) ys objects after e =
     let a = bound (owned_at from objects n) _ after e in
-    let r = moved_append from to xs ys (changed n (with_owner to) objects) after a.2 in
-    (r.0, subst (λ q. (q >>= (λ m. moved from to xs (changed n (with_owner to) objects))) ≡ Ok r.0) (sym a.1) r.1, r.2)
+    let r = moved_append from to xs ys (with_changed_object n (with_owner to) objects) after a.2 in
+    (r.0, subst (λ q. (q >>= (λ m. objects_after_move from to xs (with_changed_object n (with_owner to) objects))) ≡ Ok r.0) (sym a.1) r.1, r.2)
 
 pub at_root : (d : ℕ) (o : Owner) → is_at d o ≡ true → (is_gone o ≡ false) × (above o ≡ None) × (is_out o ≡ false)
 at_root d (held e j) h = (refl, refl, refl)
@@ -160,7 +160,7 @@ record IsTakenAt (items : Items) (keys : List ℕ) (frame : Frame) (objects : Li
   number : ℕ
   root : IsRootAt objects number
   made : IsMadeAt items o.0 number
-  is : changed number (with_owner out) objects ≡ after
+  is : with_changed_object number (with_owner out) objects ≡ after
 
 module _ (h : Heap) (values : Values) (keys : List ℕ) (e : Entry) (k : ℕ) (a : Slot) (taken : is_taken e ≡ true) (key : slice_get keys e.key ≡ Some k) (slot : IsSlotAt values.slots.items (key_at values k) a) where
   -- the key's slot goes to the object
@@ -175,7 +175,7 @@ module _ (h : Heap) (values : Values) (keys : List ℕ) (e : Entry) (k : ℕ) (a
       let ref = slot_is c n in
       let same = same_object (sym is ∙ ref.is) in
       let list : taken_objects keys c.frame (e ∷ []) ≡ n.number ∷ [] = taken_is keys c.frame e [] taken ∙ append-nil _ ∙ ap option_to_list n.is in
-      let r = moved_one (is_at c.frame.depth) out n.number c.objects after (ap (λ ns. moved (is_at c.frame.depth) out ns c.objects) (sym list) ∙ went) in
+      let r = moved_one (is_at c.frame.depth) out n.number c.objects after (ap (λ ns. objects_after_move (is_at c.frame.depth) out ns c.objects) (sym list) ∙ went) in
       let root = at_root c.frame.depth r.object.owner r.passes in
       record { number = n.number; root = record { object = r.object; at = r.at; live = root.0; root = root.1; here = root.2 }; made = subst (λ q. IsMadeAt c.items q.0 n.number) (sym same.0) ref.made; is = r.is }
 
@@ -203,7 +203,7 @@ takes_missing h values keys e taken key c after named went =
 taken_split : (keys : List ℕ) (frame : Frame) (e : Entry) (es : List Entry) (objects after : List Thing) → taken_out keys (e ∷ es) frame objects ≡ Ok after → (mid : List Thing) × (taken_out keys (e ∷ []) frame objects ≡ Ok mid) × (taken_out keys es frame mid ≡ Ok after)
 taken_split keys frame e es objects after went =
     let r = moved_append (is_at frame.depth) out (if is_taken e then option_to_list (caller_object keys frame e) else []) (taken_objects keys frame es) objects after went in
-    (r.0, ap (λ ns. moved (is_at frame.depth) out ns objects) (append-nil _) ∙ r.1, r.2)
+    (r.0, ap (λ ns. objects_after_move (is_at frame.depth) out ns objects) (append-nil _) ∙ r.1, r.2)
 
 pub can_first : (h : Heap) (values : Values) (keys : List ℕ) (e : Entry) (es : List Entry) → CanTake h values keys (e ∷ es) → CanTake h values keys (e ∷ [])
 can_first h values keys e es can =
@@ -227,11 +227,11 @@ can_skip h values keys e es free can = record {
   seen = can.seen;
   named = can.named.1;
   after = can.after;
-  is = ap (λ ns. moved (is_at can.seen.frame.depth) out ns can.seen.objects) (sym (not_taken keys can.seen.frame e es free)) ∙ can.is;
+  is = ap (λ ns. objects_after_move (is_at can.seen.frame.depth) out ns can.seen.objects) (sym (not_taken keys can.seen.frame e es free)) ∙ can.is;
 }
 
 pub takes_skip : (old new : Heap) (values : Values) (keys : List ℕ) (e : Entry) (es : List Entry) → is_taken e ≡ false → Takes keys es values old new → Takes keys (e ∷ es) values old new
-takes_skip old new values keys e es free takes c after named went = takes c after named.1 (ap (λ ns. moved (is_at c.frame.depth) out ns c.objects) (sym (not_taken keys c.frame e es free)) ∙ went)
+takes_skip old new values keys e es free takes c after named went = takes c after named.1 (ap (λ ns. objects_after_move (is_at c.frame.depth) out ns c.objects) (sym (not_taken keys c.frame e es free)) ∙ went)
 
 pub takes_none : (h : Heap) (values : Values) (keys : List ℕ) → Takes keys [] values h h
 takes_none h values keys c after named went = subst (λ os. Shows c.items h values c.frame os) (same_found c.objects after went) (shows_same h values c)

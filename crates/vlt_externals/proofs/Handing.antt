@@ -8,7 +8,7 @@ use Rattle.vlt_heap.specs.declared.slots.Slot.TheVariants.{Number, Object, Owned
 use Rattle.vlt_heap.specs.declared.heap.Heap.{Heap}
 use Rattle.vlt_heap.specs.Items.{Items, IsMadeAt}
 use Rattle.vlt_meaning.specs.World.{Part, number, reference, owned, objects_in_part, objects_in, Value, one, of_case, is_loose, out, Object as Thing}
-use Rattle.vlt_meaning.specs.Objects.{with_owner, changed, moved}
+use Rattle.vlt_meaning.specs.Objects.{with_owner, with_changed_object, objects_after_move}
 use Rattle.vlt_values.specs.declared.values.Values.{Values}
 use Rattle.vlt_values.specs.Parts.{HasPart}
 use Rattle.vlt_values.specs.Shown.{Seen}
@@ -44,9 +44,9 @@ record IsOwnedAt (items : Items) (objects : List Thing) (o : Obj) (after : List 
   number : ℕ
   root : IsRootAt objects number
   made : IsMadeAt items o.0 number
-  is : changed number (with_owner out) objects ≡ after
+  is : with_changed_object number (with_owner out) objects ≡ after
 
-owned_part : (items : Items) (p : Part) (a : Slot) (o : Obj) (m : ℕ) (objects after : List Thing) → a ≡ Owned o m → HasPart items p a → moved is_loose out (objects_in_part p) objects ≡ Ok after → IsOwnedAt items objects o after
+owned_part : (items : Items) (p : Part) (a : Slot) (o : Obj) (m : ℕ) (objects after : List Thing) → a ≡ Owned o m → HasPart items p a → objects_after_move is_loose out (objects_in_part p) objects ≡ Ok after → IsOwnedAt items objects o after
 owned_part items (number z) a o m objects after is part went = absurd (none-some (o, m) (ap owned_of (sym part ∙ is)))
 owned_part items (reference n) a o m objects after is part went = absurd (none-some (o, m) (ap owned_of (sym part.is ∙ is)))
 owned_part items (owned n) a o m objects after is part went =
@@ -56,8 +56,8 @@ owned_part items (owned n) a o m objects after is part went =
     record { number = n; root = record { object = r.object; at = r.at; live = root.0; root = root.1; here = root.2 }; made = subst (λ q. IsMadeAt items q.0 n) (ap (λ q. q.0) same) part.made; is = r.is }
 
 module _ (h : Heap) (values : Values) (from : ℕ) (a : Slot) (slot : IsSlotAt values.slots.items from a) where
-  part_out : (p : Part) (rest : List Value) (objects after : List Thing) → length (one p ∷ rest) ≡ 1 → owned_out (one p ∷ rest) objects ≡ Ok after → moved is_loose out (objects_in_part p) objects ≡ Ok after
-  part_out p [] objects after l went = ap (λ ns. moved is_loose out ns objects) (sym (append-nil (objects_in_part p))) ∙ went
+  part_out : (p : Part) (rest : List Value) (objects after : List Thing) → length (one p ∷ rest) ≡ 1 → owned_out (one p ∷ rest) objects ≡ Ok after → objects_after_move is_loose out (objects_in_part p) objects ≡ Ok after
+  part_out p [] objects after l went = ap (λ ns. objects_after_move is_loose out ns objects) (sym (append-nil (objects_in_part p))) ∙ went
   part_out p (b ∷ rest) objects after l went = absurd (omega (arith, l))
 
   hand_at : (c : Seen h values) (args : List Value) (after : List Thing) (o : Obj) (m : ℕ) → a ≡ Owned o m → AreArgs c.items values from 1 args → owned_out args c.objects ≡ Ok after → IsOwnedAt c.items c.objects o after
@@ -80,7 +80,7 @@ module _ (h : Heap) (values : Values) (from : ℕ) (a : Slot) (slot : IsSlotAt v
   hands_nothing none c (of_case d ps keys ∷ rest) after are went = absurd are.single
   hands_nothing none c (one p ∷ rest) after are went =
       let e = nothing_owned c.items p a none (first_is c.items values from 1 p rest a are slot) in
-      subst (λ os. Shows c.items h values c.frame os) (same_found c.objects after (ap (λ ns. moved is_loose out ns c.objects) (sym e) ∙ part_out p rest c.objects after are.count_is went)) (shows_same h values c)
+      subst (λ os. Shows c.items h values c.frame os) (same_found c.objects after (ap (λ ns. objects_after_move is_loose out ns c.objects) (sym e) ∙ part_out p rest c.objects after are.count_is went)) (shows_same h values c)
 
 -- ---- one argument, then the others
 
@@ -95,7 +95,7 @@ args_rest items values from m (one p) rest are = record { count_is = (let l = ar
 owned_split : (a : Value) (rest : List Value) (objects after : List Thing) → owned_out (a ∷ rest) objects ≡ Ok after → (mid : List Thing) × (owned_out (a ∷ []) objects ≡ Ok mid) × (owned_out rest mid ≡ Ok after)
 owned_split a rest objects after went =
     let r = moved_append is_loose out (objects_in a) (flat_map objects_in rest) objects after went in
-    (r.0, ap (λ ns. moved is_loose out ns objects) (append-nil (objects_in a)) ∙ r.1, r.2)
+    (r.0, ap (λ ns. objects_after_move is_loose out ns objects) (append-nil (objects_in a)) ∙ r.1, r.2)
 
 -- what it takes of the first one and of the others
 record Split (h : Heap) (values : Values) (from m : ℕ) (c : Seen h values) (args : List Value) (after : List Thing) : Type 0 where

@@ -7,7 +7,7 @@ use Rattle.vlt_heap.specs.Items.{Items, with_state as item_state}
 use Rattle.vlt_heap.specs.Shown.{Changes, Tells}
 use Rattle.vlt_meaning.specs.World.{Object, Frame}
 use Rattle.vlt_meaning.specs.Found.{Found}
-use Rattle.vlt_meaning.specs.Objects.{with_state, changed}
+use Rattle.vlt_meaning.specs.Objects.{with_state, with_changed_object}
 use Rattle.vlt_meaning.specs.Externals.{is_given, come_back}
 use Rattle.vlt_values.specs.declared.values.Values.{Values}
 use Rattle.vlt_values.specs.Shown.{Seen}
@@ -43,4 +43,4 @@ IsStateSet o n s old new = HasSet o n s old new ⊎ (Tells false o n old × (new
 abbrev pub Becomes : (key state : ℕ) → Values → (old new : Heap) → Type 0
 Becomes k s values old new =
     (c : Seen old values) (n : ℕ) → c.frame.keys k ≡ Some n →
-    Shows c.items new values c.frame (changed n (with_state s) c.objects)
+    Shows c.items new values c.frame (with_changed_object n (with_state s) c.objects)

@@ -9,7 +9,7 @@ use Rattle.vlt_heap.specs.Items.{Items, IsMadeAt}
 use Rattle.vlt_heap.specs.Shown.{Holds}
 use Rattle.vlt_meaning.specs.World.{Value, objects_in, Object, is_at, is_loose, out, Frame}
 use Rattle.vlt_meaning.specs.Found.{Found}
-use Rattle.vlt_meaning.specs.Objects.{with_owner, changed, moved}
+use Rattle.vlt_meaning.specs.Objects.{with_owner, with_changed_object, objects_after_move}
 use Rattle.vlt_meaning.specs.Calls.{caller_object}
 use Rattle.vlt_meaning.specs.Externals.{taken_objects}
 use Rattle.vlt_values.specs.declared.values.Values.{Values}
@@ -42,7 +42,7 @@ pub record CanGo (heap : Heap) (o : Obj) : Type 0 where
 abbrev pub Goes : Obj → (old new : Heap) → Type 0
 Goes o old new =
     (items : Items) (width : ℕ) (objects : List Object) (n : ℕ) → Holds old items → ShowObjects items width objects →
-    IsRootAt objects n → IsMadeAt items o.0 n → ShowsAll items new width (changed n (with_owner out) objects)
+    IsRootAt objects n → IsMadeAt items o.0 n → ShowsAll items new width (with_changed_object n (with_owner out) objects)
 
 -- ---- the objects of the keys that are taken
 
@@ -57,7 +57,7 @@ AreNamed keys frame [] = Unit {0}
 AreNamed keys frame (e ∷ es) = (is_held_before e ≡ true → IsNamed keys frame e) × AreNamed keys frame es
 
 abbrev pub taken_out : (keys : List ℕ) → List Entry → Frame → List Object → Found (List Object)
-taken_out keys es frame objects = moved (is_at frame.depth) out (taken_objects keys frame es) objects
+taken_out keys es frame objects = objects_after_move (is_at frame.depth) out (taken_objects keys frame es) objects
 
 -- they can go, for some frame and objects that the tables show
 pub record CanTake (heap : Heap) (values : Values) (keys : List ℕ) (es : List Entry) : Type 0 where
@@ -75,7 +75,7 @@ Takes keys es values old new =
 -- ---- the objects that arguments own
 
 abbrev pub owned_out : List Value → List Object → Found (List Object)
-owned_out args objects = moved is_loose out (flat_map objects_in args) objects
+owned_out args objects = objects_after_move is_loose out (flat_map objects_in args) objects
 
 pub record CanHand (heap : Heap) (values : Values) (from count : ℕ) : Type 0 where
   pub seen : Seen heap values

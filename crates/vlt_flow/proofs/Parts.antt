@@ -3,7 +3,7 @@ use Rattle.std.proofs.Common.{◌≡◌, ◌≢◌, ◌<◌, ◌+◌, ◌^◌, �
 use Rattle.std.specs.Prelude.{IsSome}
 use Rattle.std.proofs.lemmas.Bool.{cases_lt}
 use Rattle.vlt_core.specs.Core.{Tok}
-use Rattle.vlt_core.specs.Maps.{Row, HeldMap, IsBelow, CanPass, passed, gone}
+use Rattle.vlt_core.specs.Maps.{Row, HeldMap, IsBelow, CanPass, map_after, away_row}
 use Rattle.vlt_core.specs.Flow.{step, choose, switch, scope, focus, return, jump, Block, block, Stmts, Arms, size_block, size_stmts, size_arms, passes_block, passes_arms}
 use Rattle.vlt_core.specs.Local.{Notes, When, only_if, rows_passed, leads_block, IsLocalBlock, IsLocalArms}
 use Rattle.vlt_core.proofs.Maps.{map_refl, map_trans, can_below, passed_below}
@@ -14,8 +14,8 @@ use Rattle.vlt_flow.proofs.Framing.{no_some, grown_below, grown_some, frame_refl
 
 -- ---- maps below
 
-pub inside_below : (rs : List Row) (h i k : HeldMap) → Passes rs h i → IsBelow h k → IsBelow i (passed rs k)
-inside_below rs h i k p below = subst (λ g. IsBelow g (passed rs k)) (sym p.after) (passed_below rs h k below)
+pub inside_below : (rs : List Row) (h i k : HeldMap) → Passes rs h i → IsBelow h k → IsBelow i (map_after rs k)
+inside_below rs h i k p below = subst (λ g. IsBelow g (map_after rs k)) (sym p.after) (passed_below rs h k below)
 
 pub above_self : (o : Option Statuses) → Above o (map_in o)
 above_self None = tt
@@ -78,14 +78,14 @@ jump_walked l n c left h x y p = record {
   leads = refl;
   local = (p.can, p.into);
   frame = p.frame n (n + 1);
-  least = λ a k below loc u. (p.least a (meets_below a l c _ _ (passed_below (map gone left) h k below) loc.1) u, tt);
+  least = λ a k below loc u. (p.least a (meets_below a l c _ _ (passed_below (map away_row left) h k below) loc.1) u, tt);
 }
 
 pub jump_none : (l : Option ℕ) (n : ℕ) (c : Bool) (left : List Tok) (h : HeldMap) (x : Marks) → HasNoJump l c left h x → HasNone (form_part l n (jump c left)) h x
 jump_none l n c left h x never a k below loc u =
-    never a (can_below (map gone left) h k below loc.0) (meets_below a l c _ _ (passed_below (map gone left) h k below) loc.1) u
+    never a (can_below (map away_row left) h k below loc.0) (meets_below a l c _ _ (passed_below (map away_row left) h k below) loc.1) u
 
-pub jump_around : (i : ℕ) (left : List Tok) (h : HeldMap) (xs : Statuses) (x y : Marks) → Passes (map gone left) h (map_of xs) → IsPutAround i xs x y → IsJump (Some i) true left h x y
+pub jump_around : (i : ℕ) (left : List Tok) (h : HeldMap) (xs : Statuses) (x y : Marks) → Passes (map away_row left) h (map_of xs) → IsPutAround i xs x y → IsJump (Some i) true left h x y
 jump_around i left h xs x y p q = record {
   can = p.can;
   into = subst (λ g. IsBelow g (map_in (slot y.around i))) p.after (into_in _ _ _ q.into);
@@ -93,7 +93,7 @@ jump_around i left h xs x y p q = record {
   least = λ a below u. under_around i xs x y a q (subst (λ g. IsBelow g (a.around i)) (sym p.after) below) u;
 }
 
-pub jump_behind : (i : ℕ) (left : List Tok) (h : HeldMap) (xs : Statuses) (x y : Marks) → Passes (map gone left) h (map_of xs) → IsPutBehind i xs x y → IsJump (Some i) false left h x y
+pub jump_behind : (i : ℕ) (left : List Tok) (h : HeldMap) (xs : Statuses) (x y : Marks) → Passes (map away_row left) h (map_of xs) → IsPutBehind i xs x y → IsJump (Some i) false left h x y
 jump_behind i left h xs x y p q = record {
   can = p.can;
   into = subst (λ g. IsBelow g (map_in (slot y.behind i))) p.after (into_in _ _ _ q.into);
@@ -101,13 +101,13 @@ jump_behind i left h xs x y p q = record {
   least = λ a below u. under_behind i xs x y a q (subst (λ g. IsBelow g (a.behind i)) (sym p.after) below) u;
 }
 
-pub jump_around_none : (i : ℕ) (left : List Tok) (h : HeldMap) (xs : Statuses) (x : Marks) → Passes (map gone left) h (map_of xs) → ((m : HeldMap) → Above (slot x.around i) m → IsBelow (map_of xs) m → ⊥) → HasNoJump (Some i) true left h x
+pub jump_around_none : (i : ℕ) (left : List Tok) (h : HeldMap) (xs : Statuses) (x : Marks) → Passes (map away_row left) h (map_of xs) → ((m : HeldMap) → Above (slot x.around i) m → IsBelow (map_of xs) m → ⊥) → HasNoJump (Some i) true left h x
 jump_around_none i left h xs x p never a can below u = never (a.around i) (u.around i) (subst (λ g. IsBelow g (a.around i)) (sym p.after) below)
 
-pub jump_behind_none : (i : ℕ) (left : List Tok) (h : HeldMap) (xs : Statuses) (x : Marks) → Passes (map gone left) h (map_of xs) → ((m : HeldMap) → Above (slot x.behind i) m → IsBelow (map_of xs) m → ⊥) → HasNoJump (Some i) false left h x
+pub jump_behind_none : (i : ℕ) (left : List Tok) (h : HeldMap) (xs : Statuses) (x : Marks) → Passes (map away_row left) h (map_of xs) → ((m : HeldMap) → Above (slot x.behind i) m → IsBelow (map_of xs) m → ⊥) → HasNoJump (Some i) false left h x
 jump_behind_none i left h xs x p never a can below u = never (a.behind i) (u.behind i) (subst (λ g. IsBelow g (a.behind i)) (sym p.after) below)
 
-pub jump_rows_none : (l : Option ℕ) (c : Bool) (left : List Tok) (h : HeldMap) (x : Marks) → (CanPass (map gone left) h → ⊥) → HasNoJump l c left h x
+pub jump_rows_none : (l : Option ℕ) (c : Bool) (left : List Tok) (h : HeldMap) (x : Marks) → (CanPass (map away_row left) h → ⊥) → HasNoJump l c left h x
 jump_rows_none l c left h x never a can below u = never can
 
 pub jump_outside_none : (c : Bool) (left : List Tok) (h : HeldMap) (x : Marks) → HasNoJump None c left h x
@@ -144,7 +144,7 @@ focus_walked l n rs s es h xs x y o r p w q =
       local = (p.can, subst (λ g. IsLocalBlock (notes_of y) l (n + 1) g s) p.after w.local, left_can es o r _ e q);
       frame = frame_wider l None (n + 1) (n + 1 + size_block s) n (n + (1 + size_block s)) x y (omega arith) (omega arith) w.frame;
       least = λ a k below loc u.
-          let v = w.least a (passed rs k) (inside_below rs h (map_of xs) k p below) loc.1 u in
+          let v = w.least a (map_after rs k) (inside_below rs h (map_of xs) k p below) loc.1 u in
           (v.0, left_lies es o r _ q v.1);
     }
 
@@ -152,11 +152,11 @@ pub focus_rows_none : (l : Option ℕ) (n : ℕ) (rs : List Row) (s : Block) (es
 focus_rows_none l n rs s es h x never a k below loc u = never (can_below rs h k below loc.0)
 
 pub focus_body_none : (l : Option ℕ) (n : ℕ) (rs : List Row) (s : Block) (es : List Row) (h i : HeldMap) (x : Marks) → Passes rs h i → HasNone (block_part l (n + 1) s) i x → HasNone (form_part l n (focus rs s es)) h x
-focus_body_none l n rs s es h i x p never a k below loc u = never a (passed rs k) (inside_below rs h i k p below) loc.1 u
+focus_body_none l n rs s es h i x p never a k below loc u = never a (map_after rs k) (inside_below rs h i k p below) loc.1 u
 
 pub focus_end_none : (l : Option ℕ) (n : ℕ) (rs : List Row) (s : Block) (es : List Row) (h : HeldMap) (xs : Statuses) (x y : Marks) (o : Option Statuses) → Passes rs h (map_of xs) → IsWalked (block_part l (n + 1) s) l (n + 1) (n + 1 + size_block s) (map_of xs) x y o → NoLeft es o → HasNone (form_part l n (focus rs s es)) h x
 focus_end_none l n rs s es h xs x y o p w never a k below loc u =
-    let v = w.least a (passed rs k) (inside_below rs h (map_of xs) k p below) loc.1 u in
+    let v = w.least a (map_after rs k) (inside_below rs h (map_of xs) k p below) loc.1 u in
     left_never es o _ never v.1 loc.2
 
 pub scope_walked : (l : Option ℕ) (n : ℕ) (s : Block) (h : HeldMap) (x y : Marks) (r : Option Statuses) → IsWalked (block_part l (n + 1) s) l (n + 1) (n + 1 + size_block s) h x y r → IsWalked (form_part l n (scope s)) l n (n + (1 + size_block s)) h x y r
@@ -171,20 +171,20 @@ pub scope_none : (l : Option ℕ) (n : ℕ) (s : Block) (h : HeldMap) (x : Marks
 scope_none l n s h x never = never
 
 -- a block: its list, and the rows of its end
-pub block_walked : (l : Option ℕ) (n : ℕ) (ss : Stmts) (bound : List Tok) (end : ℕ) (h : HeldMap) (x y : Marks) (o r : Option Statuses) → IsWalked (stmts_part l n ss) l n (n + size_stmts ss) h x y o → IsLeft (map gone bound) o r → IsWalked (block_part l n (block ss bound end)) l n (n + size_stmts ss) h x y r
+pub block_walked : (l : Option ℕ) (n : ℕ) (ss : Stmts) (bound : List Tok) (end : ℕ) (h : HeldMap) (x y : Marks) (o r : Option Statuses) → IsWalked (stmts_part l n ss) l n (n + size_stmts ss) h x y o → IsLeft (map away_row bound) o r → IsWalked (block_part l n (block ss bound end)) l n (n + size_stmts ss) h x y r
 block_walked l n ss bound end h x y o r w q = record {
-  leads = left_leads (map gone bound) o r _ w.leads q;
-  local = (w.local, left_can (map gone bound) o r _ w.leads q);
+  leads = left_leads (map away_row bound) o r _ w.leads q;
+  local = (w.local, left_can (map away_row bound) o r _ w.leads q);
   frame = w.frame;
-  least = λ a k below loc u. let v = w.least a k below loc.0 u in (v.0, left_lies (map gone bound) o r _ q v.1);
+  least = λ a k below loc u. let v = w.least a k below loc.0 u in (v.0, left_lies (map away_row bound) o r _ q v.1);
 }
 
 pub block_list_none : (l : Option ℕ) (n : ℕ) (ss : Stmts) (bound : List Tok) (end : ℕ) (h : HeldMap) (x : Marks) → HasNone (stmts_part l n ss) h x → HasNone (block_part l n (block ss bound end)) h x
 block_list_none l n ss bound end h x never a k below loc u = never a k below loc.0 u
 
-pub block_end_none : (l : Option ℕ) (n : ℕ) (ss : Stmts) (bound : List Tok) (end : ℕ) (h : HeldMap) (x y : Marks) (o : Option Statuses) → IsWalked (stmts_part l n ss) l n (n + size_stmts ss) h x y o → NoLeft (map gone bound) o → HasNone (block_part l n (block ss bound end)) h x
+pub block_end_none : (l : Option ℕ) (n : ℕ) (ss : Stmts) (bound : List Tok) (end : ℕ) (h : HeldMap) (x y : Marks) (o : Option Statuses) → IsWalked (stmts_part l n ss) l n (n + size_stmts ss) h x y o → NoLeft (map away_row bound) o → HasNone (block_part l n (block ss bound end)) h x
 block_end_none l n ss bound end h x y o w never a k below loc u =
-    let v = w.least a k below loc.0 u in left_never (map gone bound) o _ never v.1 loc.1
+    let v = w.least a k below loc.0 u in left_never (map away_row bound) o _ never v.1 loc.1
 
 -- ---- ways of a choice
 
@@ -280,8 +280,8 @@ choose_walked l n rs s t h xs x y z r room p first second place =
       frame = frame_choice l n (n + 1) (n + (1 + (size_block s + size_block t))) n x z (omega arith) (omega arith) (omega arith) (frame_trans l (Some n) _ _ x y z f1 f2);
       least = λ a k below loc u.
           let b = inside_below rs h (map_of xs) k p below in
-          let v = first.least a (passed rs k) b loc.1 loc.3 u in
-          let w = second.least a (passed rs k) b loc.2 loc.4 v in
+          let v = first.least a (map_after rs k) b loc.1 loc.3 u in
+          let w = second.least a (map_after rs k) b loc.2 loc.4 v in
           (w, place_lies z n (passes_block s || passes_block t) r (a.behind n) place (w.behind n));
     }
 
@@ -289,12 +289,12 @@ pub choose_rows_none : (l : Option ℕ) (n : ℕ) (rs : List Row) (s t : Block) 
 choose_rows_none l n rs s t h x never a k below loc u = never (can_below rs h k below loc.0)
 
 pub choose_first_none : (l : Option ℕ) (n : ℕ) (rs : List Row) (s t : Block) (h i : HeldMap) (x : Marks) → Passes rs h i → HasNoWay l n (n + 1) s i x → HasNone (form_part l n (choose rs s t)) h x
-choose_first_none l n rs s t h i x p never a k below loc u = never a (passed rs k) (inside_below rs h i k p below) loc.1 loc.3 u
+choose_first_none l n rs s t h i x p never a k below loc u = never a (map_after rs k) (inside_below rs h i k p below) loc.1 loc.3 u
 
 pub choose_second_none : (l : Option ℕ) (n : ℕ) (rs : List Row) (s t : Block) (h i : HeldMap) (x y : Marks) → Passes rs h i → IsJoinedWay l n (n + 1) s i x y → HasNoWay l n (n + 1 + size_block s) t i y → HasNone (form_part l n (choose rs s t)) h x
 choose_second_none l n rs s t h i x y p first never a k below loc u =
     let b = inside_below rs h i k p below in
-    never a (passed rs k) b loc.2 loc.4 (first.least a (passed rs k) b loc.1 loc.3 u)
+    never a (map_after rs k) b loc.2 loc.4 (first.least a (map_after rs k) b loc.1 loc.3 u)
 
 pub switch_walked : (l : Option ℕ) (n : ℕ) (rs : List Row) (arms : Arms) (end : ℕ) (h : HeldMap) (xs : Statuses) (x z : Marks) (r : Option Statuses) →
     Passes rs h (map_of xs) → IsJoinedArms l n arms (map_of xs) x z → IsPlace z n (passes_arms arms) r →
@@ -304,7 +304,7 @@ switch_walked l n rs arms end h xs x z r p w place = record {
   local = (p.can, subst (λ g. IsLocalArms (notes_of z) l (n + 1) g arms (map_in (slot z.behind n))) p.after w.local);
   frame = frame_choice l n (n + 1) (n + (1 + size_arms arms)) n x z (omega arith) (omega arith) (omega arith) (frame_wider l (Some n) _ _ (n + 1) (n + (1 + size_arms arms)) x z (omega arith) (omega arith) w.frame);
   least = λ a k below loc u.
-      let v = w.least a (passed rs k) (inside_below rs h (map_of xs) k p below) loc.1 u in
+      let v = w.least a (map_after rs k) (inside_below rs h (map_of xs) k p below) loc.1 u in
       (v, place_lies z n (passes_arms arms) r (a.behind n) place (v.behind n));
 }
 
@@ -312,7 +312,7 @@ pub switch_rows_none : (l : Option ℕ) (n : ℕ) (rs : List Row) (arms : Arms) 
 switch_rows_none l n rs arms end h x never a k below loc u = never (can_below rs h k below loc.0)
 
 pub switch_arms_none : (l : Option ℕ) (n : ℕ) (rs : List Row) (arms : Arms) (end : ℕ) (h i : HeldMap) (x : Marks) → Passes rs h i → HasNoArms l n arms i x → HasNone (form_part l n (switch rs arms end)) h x
-switch_arms_none l n rs arms end h i x p never a k below loc u = never a (passed rs k) (inside_below rs h i k p below) loc.1 u
+switch_arms_none l n rs arms end h i x p never a k below loc u = never a (map_after rs k) (inside_below rs h i k p below) loc.1 u
 
 -- ---- a whole body
 

@@ -2,7 +2,7 @@
 use Rattle.std.proofs.Common.{Result, Ok, Err, ◌≡◌, ◌<◌, ◌≤◌, ◌+◌, ◌↔◌, ℕ, List, [], ◌∷◌, map, length, drop, drop-cons, add-one, get_or, suc, refl, sym, ap, ◌∙◌, subst}
 use Rattle.std.specs.Result.{IsErrAnd}
 use Rattle.std.proofs.lemmas.List.{drop_all}
-use Rattle.vlt_core.specs.Maps.{Row, HeldMap, CanPass, passed}
+use Rattle.vlt_core.specs.Maps.{Row, HeldMap, CanPass, map_after}
 use Rattle.vlt_flow.specs.declared.errors.Stop.{Stop}
 use Rattle.vlt_flow.specs.declared.errors.Stop.TheVariants.{Refused, Memory}
 use Rattle.vlt_flow.specs.Walks.{OnRefused, Passes}
@@ -29,7 +29,7 @@ memory_only (Err x) gives = record { holds = λ e. absurd (never x gives e) }
 -- the first i of the things were passed, whose rows these are
 pub record Going {X : Type 0} (f : X → Row) (xs : List X) (h : HeldMap) (i : ℕ) (cur : HeldMap) : Type 0 where
   pub can : CanPass (map f xs) h ↔ CanPass (map f (drop i xs)) cur
-  pub after : passed (map f (drop i xs)) cur ≡ passed (map f xs) h
+  pub after : map_after (map f (drop i xs)) cur ≡ map_after (map f xs) h
 
 pub split_at : {X : Type 0} (xs : List X) (i : ℕ) (x : X) → i < length xs → x ≡ get_or xs i x → drop i xs ≡ x ∷ drop (i + 1) xs
 split_at xs i x lt read = rw add-one (drop-cons xs i x lt ∙ ap (λ y. y ∷ drop (suc i) xs) (sym read))
@@ -37,13 +37,13 @@ split_at xs i x lt read = rw add-one (drop-cons xs i x lt ∙ ap (λ y. y ∷ dr
 pub going_more : {X : Type 0} (f : X → Row) (xs : List X) (h : HeldMap) (i : ℕ) (cur new : HeldMap) (x : X) → drop i xs ≡ x ∷ drop (i + 1) xs → Going f xs h i cur → Passes (f x ∷ []) cur new → Going f xs h (i + 1) new
 going_more f xs h i cur new x split g p =
     let can = subst (λ l. CanPass (map f xs) h ↔ CanPass (map f l) cur) split g.can in
-    let after = subst (λ l. passed (map f l) cur ≡ passed (map f xs) h) split g.after in
+    let after = subst (λ l. map_after (map f l) cur ≡ map_after (map f xs) h) split g.after in
     record {
       can = (
         λ t. subst (CanPass (map f (drop (i + 1) xs))) (sym p.after) (can.0 t).1,
         λ t. can.1 (p.can.0, subst (CanPass (map f (drop (i + 1) xs))) p.after t),
       );
-      after = ap (passed (map f (drop (i + 1) xs))) p.after ∙ after;
+      after = ap (map_after (map f (drop (i + 1) xs))) p.after ∙ after;
     }
 
 pub going_stops : {X : Type 0} (f : X → Row) (xs : List X) (h : HeldMap) (i : ℕ) (cur : HeldMap) (x : X) → drop i xs ≡ x ∷ drop (i + 1) xs → Going f xs h i cur → (CanPass (f x ∷ []) cur → ⊥) → CanPass (map f xs) h → ⊥
@@ -56,7 +56,7 @@ going_ends f xs h i cur past g =
     let all : drop i xs ≡ [] = drop_all i xs past in
     record {
       can = g.can.1 (subst (λ l. CanPass (map f l) cur) (sym all) tt);
-      after = subst (λ l. passed (map f l) cur ≡ passed (map f xs) h) all g.after;
+      after = subst (λ l. map_after (map f l) cur ≡ map_after (map f xs) h) all g.after;
     }
 
 pub map_twice : {X Y Z : Type 0} (g : Y → Z) (f : X → Y) (xs : List X) → map (λ x. g (f x)) xs ≡ map g (map f xs)

@@ -2,7 +2,7 @@
 use Rattle.std.proofs.Common.{◌≡◌, ◌<◌, ◌≤◌, ◌+◌, ◌^◌, ◌||◌, ⊎_elim, ℕ, List, [], ◌∷◌, drop, length, Bool, true, false, Option, Some, None, refl, sym, ap, ◌∙◌, subst, arith, rules}
 use Rattle.std.specs.Prelude.{IsSome}
 use Rattle.std.proofs.lemmas.List.{drop_all}
-use Rattle.vlt_core.specs.Maps.{Row, HeldMap, IsBelow, CanPass, passed}
+use Rattle.vlt_core.specs.Maps.{Row, HeldMap, IsBelow, CanPass, map_after}
 use Rattle.vlt_core.specs.Flow.{loop, arm, next, Block, Stmts, size, size_block, size_stmts, size_arms, passes_block, passes_arms}
 use Rattle.vlt_core.specs.Local.{Notes, When, Then, leads, leads_block, leads_stmts, IsLocal, IsLocalBlock, IsLocalStmts, IsLocalArms}
 use Rattle.vlt_rows.specs.FlowView.{flow_view, block_view, arms_view, stmts_view, rows_view}
@@ -40,14 +40,14 @@ room_inside n m x y before inside room le e p = record {
 
 -- what a local annotation says of a turn
 turn_under : (rs : List Row) (s : Block) (n m : ℕ) (before inside : Statuses) (x y z : Marks) (r : Option Statuses) → slot x.around n ≡ Some before → Passes rs (map_of before) (map_of inside) → IsPutBehind n inside x y → IsWalked (block_part (Some n) (n + 1) s) (Some n) (n + 1) m (map_of inside) y z r →
-    (a : Notes) (l : Option ℕ) (h : HeldMap) → IsLocal a l n h (loop rs s) → IsUnder x a → IsUnder z a × Lies (maybe_map r) (leads_block a (n + 1) (passed rs (a.around n)) s)
+    (a : Notes) (l : Option ℕ) (h : HeldMap) → IsLocal a l n h (loop rs s) → IsUnder x a → IsUnder z a × Lies (maybe_map r) (leads_block a (n + 1) (map_after rs (a.around n)) s)
 turn_under rs s n m before inside x y z r e p put w a l h loc u =
     let low : IsBelow (map_of before) (a.around n) = subst (λ o. Above o (a.around n)) e (u.around n) in
     let b = inside_below rs (map_of before) (map_of inside) (a.around n) p low in
     let v = under_behind n inside x y a put (map_trans (map_of inside) _ (a.behind n) b loc.2) u in
-    w.least a (passed rs (a.around n)) b loc.3 v
+    w.least a (map_after rs (a.around n)) b loc.3 v
 
-turn_exit : (rs : List Row) (n m : ℕ) (before inside : Statuses) (x y z : Marks) → Passes rs (map_of before) (map_of inside) → IsPutBehind n inside x y → IsFrame (Some n) None (n + 1) m y z → IsBelow (passed rs (map_of before)) (map_in (slot z.behind n))
+turn_exit : (rs : List Row) (n m : ℕ) (before inside : Statuses) (x y z : Marks) → Passes rs (map_of before) (map_of inside) → IsPutBehind n inside x y → IsFrame (Some n) None (n + 1) m y z → IsBelow (map_after rs (map_of before)) (map_in (slot z.behind n))
 turn_exit rs n m before inside x y z p put f =
     subst (λ g. IsBelow g (map_in (slot z.behind n))) p.after (map_trans (map_of inside) (map_in (slot y.behind n)) (map_in (slot z.behind n)) (into_in _ _ _ put.into) (grown_below _ _ put.into.some f.loop.behind))
 
@@ -93,7 +93,7 @@ turn_exit_none rs s n before inside x e p never a l h loc u =
 pub turn_body_none : (rs : List Row) (s : Block) (n : ℕ) (before inside : Statuses) (x y : Marks) → slot x.around n ≡ Some before → Passes rs (map_of before) (map_of inside) → IsPutBehind n inside x y → HasNone (block_part (Some n) (n + 1) s) (map_of inside) y → HasNoTurn rs s n x
 turn_body_none rs s n before inside x y e p put never a l h loc u =
     let b = inside_below rs (map_of before) (map_of inside) (a.around n) p (subst (λ o. Above o (a.around n)) e (u.around n)) in
-    never a (passed rs (a.around n)) b loc.3 (under_behind n inside x y a put (map_trans (map_of inside) _ (a.behind n) b loc.2) u)
+    never a (map_after rs (a.around n)) b loc.3 (under_behind n inside x y a put (map_trans (map_of inside) _ (a.behind n) b loc.2) u)
 
 pub turn_back_none : (rs : List Row) (s : Block) (n m : ℕ) (before inside back : Statuses) (x y z : Marks) → slot x.around n ≡ Some before → Passes rs (map_of before) (map_of inside) → IsPutBehind n inside x y → IsWalked (block_part (Some n) (n + 1) s) (Some n) (n + 1) m (map_of inside) y z (Some back) → ((m : HeldMap) → Above (slot z.around n) m → IsBelow (map_of back) m → ⊥) → HasNoTurn rs s n x
 turn_back_none rs s n m before inside back x y z e p put w never a l h loc u =
@@ -134,9 +134,9 @@ turned rs s n before x cur new some t p e =
       grown = grown_below _ _ some whole.frame.loop.around;
       some = p.some;
       can = subst (CanPass rs) same p.can;
-      exit = subst (λ g. IsBelow (passed rs g) (map_in (slot new.behind n))) same p.exit;
-      local = subst (λ g. IsLocalBlock (notes_of new) (Some n) (n + 1) (passed rs g) s) same p.local;
-      back = subst (λ g. When (leads_block (notes_of new) (n + 1) (passed rs g) s) (λ m. IsBelow m (map_in (slot new.around n)))) same p.back;
+      exit = subst (λ g. IsBelow (map_after rs g) (map_in (slot new.behind n))) same p.exit;
+      local = subst (λ g. IsLocalBlock (notes_of new) (Some n) (n + 1) (map_after rs g) s) same p.local;
+      back = subst (λ g. When (leads_block (notes_of new) (n + 1) (map_after rs g) s) (λ m. IsBelow m (map_in (slot new.around n)))) same p.back;
       frame = whole.frame;
       least = whole.least;
     }
@@ -256,7 +256,7 @@ arming_more l n arms h x i at cur new p a inside e room g pass way =
       least = λ b j below loc u.
           let v = g.least b j below loc u in
           let w = subst (λ t. IsLocalArms b l at j t (b.behind n)) split v.1 in
-          (way.least b (passed (rows_view (out-FlowArm a).rows) j) (inside_below (rows_view (out-FlowArm a).rows) h inside j pass below) w.1 w.2 v.0, w.3);
+          (way.least b (map_after (rows_view (out-FlowArm a).rows) j) (inside_below (rows_view (out-FlowArm a).rows) h inside j pass below) w.1 w.2 v.0, w.3);
     }
   where
     or_assoc : (p q r : Bool) → ((p || q) || r) ≡ (p || (q || r))
@@ -298,7 +298,7 @@ pub arming_way_none : (l : Option ℕ) (n : ℕ) (arms : List FlowArm) (h : Held
 arming_way_none l n arms h x i at cur p a inside e g pass never b j below loc u =
     let v = g.least b j below loc u in
     let w = subst (λ t. IsLocalArms b l at j t (b.behind n)) (arms_split arms i a e) v.1 in
-    never b (passed (rows_view (out-FlowArm a).rows) j) (inside_below (rows_view (out-FlowArm a).rows) h inside j pass below) w.1 w.2 v.0
+    never b (map_after (rows_view (out-FlowArm a).rows) j) (inside_below (rows_view (out-FlowArm a).rows) h inside j pass below) w.1 w.2 v.0
 
 -- ---- lists
 

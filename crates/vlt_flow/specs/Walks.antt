@@ -1,7 +1,7 @@
 -- What a walk keeps, and what it gives.
 use Rattle.std.specs.Prelude.{◌≡◌, ◌≢◌, ◌<◌, ◌≤◌, ◌+◌, ◌^◌, ℕ, Bool, true, false, List, Option, Some, None, IsSome, ◌⊎◌, length, map, slice_index_or, Result, Err}
 use Rattle.vlt_core.specs.Core.{Tok, Func, Program}
-use Rattle.vlt_core.specs.Maps.{Row, HeldMap, IsBelow, CanPass, passed, gone}
+use Rattle.vlt_core.specs.Maps.{Row, HeldMap, IsBelow, CanPass, map_after, away_row}
 use Rattle.vlt_core.specs.Flow.{loop as while_form, choose, Flow, Block, Stmts, Arms, size, size_block, size_arms}
 use Rattle.vlt_core.specs.Local.{Notes, When, Meets, leads, leads_block, leads_stmts, IsLocal, IsLocalBlock, IsLocalStmts, IsLocalArms, IsLocalIn}
 use Rattle.vlt_core.specs.Maps as maps
@@ -19,7 +19,7 @@ pub record OnRefused {A : Type 0} (r : Result A Stop) (p : Type 0) : Type 0 wher
 -- the rows were passed
 pub record Passes (rs : List Row) (old new : HeldMap) : Type 0 where
   pub can : CanPass rs old
-  pub after : new ≡ passed rs old
+  pub after : new ≡ map_after rs old
 
 -- the maps kept so far, by statement: at the heads of loops, and behind loops and choices
 pub record Marks : Type 0 where
@@ -162,13 +162,13 @@ NoLeft rs (Some h) = CanPass rs (map_of h) → ⊥
 
 -- a jump to the loop l
 pub record IsJump (l : Option ℕ) (continues : Bool) (left : List Tok) (h : HeldMap) (old new : Marks) : Type 0 where
-  pub can : CanPass (map gone left) h
-  pub into : Meets (notes_of new) l continues (passed (map gone left) h)
+  pub can : CanPass (map away_row left) h
+  pub into : Meets (notes_of new) l continues (map_after (map away_row left) h)
   pub frame : (n m : ℕ) → IsFrame l None n m old new
-  pub least : (a : Notes) → Meets a l continues (passed (map gone left) h) → IsUnder old a → IsUnder new a
+  pub least : (a : Notes) → Meets a l continues (map_after (map away_row left) h) → IsUnder old a → IsUnder new a
 
 abbrev pub HasNoJump : (l : Option ℕ) (continues : Bool) (left : List Tok) (h : HeldMap) (old : Marks) → Type 0
-HasNoJump l continues left h old = (a : Notes) → CanPass (map gone left) h → Meets a l continues (passed (map gone left) h) → IsUnder old a → ⊥
+HasNoJump l continues left h old = (a : Notes) → CanPass (map away_row left) h → Meets a l continues (map_after (map away_row left) h) → IsUnder old a → ⊥
 
 -- there is room for the statements from n up to m, which are ways of the choice k
 pub record HasRoomFor (x : Marks) (l : Option ℕ) (k n m : ℕ) : Type 0 where
@@ -179,10 +179,10 @@ pub record HasRoomFor (x : Marks) (l : Option ℕ) (k n m : ℕ) : Type 0 where
 -- a turn of a loop: its rows, its body, and the way back
 pub record IsTurn (rs : List Row) (s : Block) (n m : ℕ) (before : Statuses) (old new : Marks) : Type 0 where
   pub can : CanPass rs (map_of before)
-  pub exit : IsBelow (passed rs (map_of before)) (map_in (slot new.behind n))
+  pub exit : IsBelow (map_after rs (map_of before)) (map_in (slot new.behind n))
   pub some : IsSome (slot new.behind n)
-  pub local : IsLocalBlock (notes_of new) (Some n) (n + 1) (passed rs (map_of before)) s
-  pub back : When (leads_block (notes_of new) (n + 1) (passed rs (map_of before)) s) (λ m. IsBelow m (map_in (slot new.around n)))
+  pub local : IsLocalBlock (notes_of new) (Some n) (n + 1) (map_after rs (map_of before)) s
+  pub back : When (leads_block (notes_of new) (n + 1) (map_after rs (map_of before)) s) (λ m. IsBelow m (map_in (slot new.around n)))
   pub frame : IsFrame (Some n) None (n + 1) m old new
   pub least : (a : Notes) (l : Option ℕ) (h : HeldMap) → IsLocal a l n h (while_form rs s) → IsUnder old a → IsUnder new a
 
@@ -194,9 +194,9 @@ pub record IsTurned (rs : List Row) (s : Block) (n : ℕ) (old new : Marks) : Ty
   pub grown : IsBelow (map_in (slot old.around n)) (map_in (slot new.around n))
   pub some : IsSome (slot new.behind n)
   pub can : CanPass rs (map_in (slot new.around n))
-  pub exit : IsBelow (passed rs (map_in (slot new.around n))) (map_in (slot new.behind n))
-  pub local : IsLocalBlock (notes_of new) (Some n) (n + 1) (passed rs (map_in (slot new.around n))) s
-  pub back : When (leads_block (notes_of new) (n + 1) (passed rs (map_in (slot new.around n))) s) (λ m. IsBelow m (map_in (slot new.around n)))
+  pub exit : IsBelow (map_after rs (map_in (slot new.around n))) (map_in (slot new.behind n))
+  pub local : IsLocalBlock (notes_of new) (Some n) (n + 1) (map_after rs (map_in (slot new.around n))) s
+  pub back : When (leads_block (notes_of new) (n + 1) (map_after rs (map_in (slot new.around n))) s) (λ m. IsBelow m (map_in (slot new.around n)))
   pub frame : IsFrame (Some n) None (n + 1) (n + 1 + size_block s) old new
   pub least : (a : Notes) (l : Option ℕ) (h : HeldMap) → IsLocal a l n h (while_form rs s) → IsUnder old a → IsUnder new a
 

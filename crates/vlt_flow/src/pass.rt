@@ -4,7 +4,7 @@ ghost use Rattle.std.specs.Prelude.{◌≡◌, ◌∷◌, [], map, OnOk, IfOk};
 ghost use Rattle.vlt_core.specs.View.{tok_of};
 ghost use Rattle.vlt_core.specs.HeldView.{row_of, toks_of};
 ghost use Rattle.vlt_rows.specs.FlowView.{rows_view};
-ghost use Rattle.vlt_core.specs.Maps.{CanPass, gone};
+ghost use Rattle.vlt_core.specs.Maps.{CanPass, away_row};
 ghost use Rattle.vlt_keyset.specs.Held.{map_of};
 ghost use Rattle.vlt_flow.specs.Walks.{OnRefused, Passes};
 
@@ -34,9 +34,9 @@ pub fn pass_rows(held: &mut Held, rows: &[Row]) -> Result<(), Stop>
 }
 
 pub fn pass_gone(held: &mut Held, toks: &[Tok]) -> Result<(), Stop>
-    ensures ok { OnOk result (Passes (map gone (toks_of toks.now)) (map_of held.old)
+    ensures ok { OnOk result (Passes (map away_row (toks_of toks.now)) (map_of held.old)
         (map_of held.new)) }
-    ensures refused { OnRefused result (CanPass (map gone (toks_of toks.now))
+    ensures refused { OnRefused result (CanPass (map away_row (toks_of toks.now))
         (map_of held.old) → ⊥) }
 {
     for tok in toks {

@@ -2,7 +2,7 @@
 
 ghost use Rattle.std.specs.Prelude.{◌≡◌, ◌||◌, ◌+◌, ◌<◌, Some, None, IsSome, IfOk, OnOk, length, map};
 ghost use Rattle.vlt_core.specs.Flow.{size, size_block, size_stmts, size_arms};
-ghost use Rattle.vlt_core.specs.Maps.{CanPass, gone};
+ghost use Rattle.vlt_core.specs.Maps.{CanPass, away_row};
 ghost use Rattle.vlt_core.specs.Flow.{passes_block, passes_arms};
 ghost use Rattle.vlt_core.specs.HeldView.{toks_of};
 ghost use Rattle.vlt_rows.specs.FlowView.{flow_view, block_view, stmts_view, arms_view, rows_view};
@@ -101,9 +101,9 @@ fn leave_rows(walked: Walked, rows: &[Row]) -> Result<Walked, Stop>
 }
 
 fn leave_gone(walked: Walked, toks: &[Tok]) -> Result<Walked, Stop>
-    ensures ok { IfOk result (λ w. IsLeft (map gone (toks_of toks.now)) walked.held w.held) }
+    ensures ok { IfOk result (λ w. IsLeft (map away_row (toks_of toks.now)) walked.held w.held) }
     ensures at { IfOk result (λ w. w.at ≡ walked.at) }
-    ensures refused { OnRefused result (NoLeft (map gone (toks_of toks.now)) walked.held) }
+    ensures refused { OnRefused result (NoLeft (map away_row (toks_of toks.now)) walked.held) }
 {
     let Walked { held, at } = walked;
     match held {

@@ -4,7 +4,7 @@ ghost use Rattle.std.specs.Prelude.{map};
 ghost use Rattle.vlt_core.specs.View.{tok_of};
 ghost use Rattle.vlt_core.specs.HeldView.{row_of, toks_of};
 ghost use Rattle.vlt_rows.specs.FlowView.{rows_view};
-ghost use Rattle.vlt_core.specs.Maps.{gone};
+ghost use Rattle.vlt_core.specs.Maps.{away_row};
 ghost use Rattle.vlt_core_laws.specs.Sweep.{IsImage};
 ghost use Rattle.vlt_found.specs.Ones.{many_of};
 ghost use Rattle.vlt_found.specs.Passes.{IsMoved};
@@ -35,7 +35,7 @@ pub fn pass_rows(tok: Tok, rows: &[Row], m: Ones) -> Ones
 }
 
 pub fn pass_gone(tok: Tok, toks: &[Tok], m: Ones) -> Ones
-    ensures { IsImage (tok_of tok) (map gone (toks_of toks.now)) (many_of m) (many_of result) }
+    ensures { IsImage (tok_of tok) (map away_row (toks_of toks.now)) (many_of m) (many_of result) }
 {
     let mut cur = m;
     for t in toks {

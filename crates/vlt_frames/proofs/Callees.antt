@@ -11,13 +11,13 @@ use Rattle.vlt_heap.specs.declared.heap.Heap.{Heap}
 use Rattle.vlt_heap.specs.Items.{Items}
 use Rattle.vlt_meaning.specs.World.{Value, reference, Owner, held, Object, World, Frame, missing, wrong_state}
 use Rattle.vlt_meaning.specs.Found.{Found, ◌>>=◌, or_fault, Named}
-use Rattle.vlt_meaning.specs.Objects.{with_owner, changed, in_states}
+use Rattle.vlt_meaning.specs.Objects.{with_owner, with_changed_object, in_states}
 use Rattle.vlt_meaning.specs.Values.{held_object}
 use Rattle.vlt_meaning.specs.Calls.{caller_object, passed_object, passed_objects, changed_if, handed_over, is_new_key, callee_key, callee_frame}
 use Rattle.vlt_meaning_laws.proofs.Keeping.{bound, err-ok, change_here, change_elsewhere}
 use Rattle.vlt_values.specs.declared.values.Values.{Values}
 use Rattle.vlt_values.specs.Parts.{HasPartAt, HaveValue}
-use Rattle.vlt_values.specs.Shown.{framed, var_at, key_at, HasVar, ShowObjects, ShowsFrame, Seen, IsGrown}
+use Rattle.vlt_values.specs.Shown.{with_frame, var_at, key_at, HasVar, ShowObjects, ShowsFrame, Seen, IsGrown}
 use Rattle.vlt_values.specs.Pushed.{HaveValues, Shows}
 use Rattle.vlt_values.proofs.Touching.{IsRoot, IsHeld, held_is, so_is, some_is}
 use Rattle.vlt_values.proofs.Pushing.{owner_shown}
@@ -30,20 +30,20 @@ use Rattle.vlt_frames.proofs.Standing.{stands_same}
 
 -- ---- objects that another frame holds
 
-pub root_held : (objects : List Object) (d k m n : ℕ) → IsRootAt objects m → IsRootAt (changed n (with_owner (held d k)) objects) m
+pub root_held : (objects : List Object) (d k m n : ℕ) → IsRootAt objects m → IsRootAt (with_changed_object n (with_owner (held d k)) objects) m
 root_held objects d k m n r = by (equal_or_not m n)
   where
-    by : (m ≡ n) ⊎ (m ≢ n) → IsRootAt (changed n (with_owner (held d k)) objects) m
+    by : (m ≡ n) ⊎ (m ≢ n) → IsRootAt (with_changed_object n (with_owner (held d k)) objects) m
     by (inl e) = record {
       object = with_owner (held d k) r.object;
-      at = ap (slice_get (changed n (with_owner (held d k)) objects)) e ∙ change_here objects n r.object (with_owner (held d k)) (ap (slice_get objects) (sym e) ∙ r.at);
+      at = ap (slice_get (with_changed_object n (with_owner (held d k)) objects)) e ∙ change_here objects n r.object (with_owner (held d k)) (ap (slice_get objects) (sym e) ∙ r.at);
       live = refl;
       root = refl;
       here = refl;
     }
     by (inr d2) = record { object = r.object; at = change_elsewhere objects n (with_owner (held d k)) m d2 ∙ r.at; live = r.live; root = r.root; here = r.here }
 
-pub held_shown : (items : Items) (w : ℕ) (objects : List Object) (d k n : ℕ) → ShowObjects items w objects → IsRootAt objects n → ShowObjects items w (changed n (with_owner (held d k)) objects)
+pub held_shown : (items : Items) (w : ℕ) (objects : List Object) (d k n : ℕ) → ShowObjects items w objects → IsRootAt objects n → ShowObjects items w (with_changed_object n (with_owner (held d k)) objects)
 held_shown items w objects d k n h r = owner_shown items w n objects r.object (held d k) h r.at (sym r.live) (sym r.root) (sym r.here)
 
 handed_root : (keys : List ℕ) (frame : Frame) (es : List Entry) (objects : List Object) (m : ℕ) → IsRootAt objects m → IsRootAt (handed_over keys frame es objects) m
@@ -141,7 +141,7 @@ callee_shown items old new f g keys args frame did count values h = record {
 
 pub entered_so : (old one two three : Values) (f g : Func) (keys : List ℕ) (base n : ℕ) → IsRunning old f (g.params * old.width) → g.params ≤ length g.vars → base ≡ length old.slots.items - g.params * old.width → n ≡ length g.vars
     → IsGrown old one → length one.slots.items ≡ max (length old.slots.items) (base + n * old.width) → IsGrown one two → AreNamed keys one (length one.slots.items) two → length one.slots.items ≤ length two.slots.items → IsGrown two three
-    → IsEntered old (framed three base n) f g keys
+    → IsEntered old (with_frame three base n) f g keys
 entered_so old one two three f g keys base n running params is_base is_n first long second named more third = record {
   base = low;
   vars = is_n;
@@ -171,7 +171,7 @@ entered_so old one two three f g keys base n running params is_base is_n first l
     wide : length old.slots.items ≤ length one.slots.items
     wide = omega (arith, long)
 
-    ends : key_at (framed three base n) 0 ≡ length one.slots.items
+    ends : key_at (with_frame three base n) 0 ≡ length one.slots.items
     ends = let w : n * three.width ≡ n * old.width = ap (λ m. n * m) width in let r = reach in omega (arith, w, r)
 
 pub entered : (h : Heap) (old new : Values) (c : Seen h old) (w : World) (f g : Func) (keys : List ℕ) (args : List Value) → IsEntered old new f g keys → IsCall f g keys h old c w args → HasEntered f g keys h old new c w args
@@ -182,7 +182,7 @@ entered h old new c w f g keys args did call = record {
     frame_shown = callee_shown c.items old new f g keys args c.frame did call.count call.values_at c.fits;
   };
   stands = stands_same c.items old new f old.base c.frame did.width (λ j l. did.same j (let long = did.long in omega (arith, l, long))) (record {
-    shown = subst (λ n. ShowsFrame c.items (framed old old.base n) c.frame) did.count c.fits;
+    shown = subst (λ n. ShowsFrame c.items (with_frame old old.base n) c.frame) did.count c.fits;
     names = call.names;
   });
 }

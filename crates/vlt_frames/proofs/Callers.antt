@@ -15,7 +15,7 @@ use Rattle.vlt_heap.specs.declared.heap.Heap.{Heap}
 use Rattle.vlt_heap.specs.Items.{Items}
 use Rattle.vlt_meaning.specs.World.{reference, Value, one, held, Object, World, Frame, Outcome, trap, fault, done, fuel_end, heap_end, depth_end, input_end, answers_end, bad_answer, missing, no_value, not_empty, left_behind, is_fault}
 use Rattle.vlt_meaning.specs.Found.{Found, ◌>>=◌, or_fault, Named}
-use Rattle.vlt_meaning.specs.Objects.{with_owner, changed, in_states}
+use Rattle.vlt_meaning.specs.Objects.{with_owner, with_changed_object, in_states}
 use Rattle.vlt_meaning.specs.Values.{held_object, object_of, value_of}
 use Rattle.vlt_meaning.specs.Calls.{entries_after, Binding, binding, bindings, with_names, with_holders, back_in, with_returned, new_object, returned_object, returned_objects, holds_only, is_emptied}
 use Rattle.vlt_meaning.specs.Step.{Step, goes, leaves, ends, with_found, where_so, with_var, with_key, with_objects, deliver, fill, is_fillable}
@@ -26,7 +26,7 @@ use Rattle.vlt_machine.specs.Machine.{Caller}
 use Rattle.vlt_machine.proofs.Gots.{operand_step}
 use Rattle.vlt_values.specs.declared.values.Values.{Values}
 use Rattle.vlt_values.specs.Parts.{HasPartAt, HaveValue}
-use Rattle.vlt_values.specs.Shown.{IsTable, framed, var_at, key_at, ShowObjects, ShowsFrame, Seen, IsKept, IsCut, AreApart}
+use Rattle.vlt_values.specs.Shown.{IsTable, with_frame, var_at, key_at, ShowObjects, ShowsFrame, Seen, IsKept, IsCut, AreApart}
 use Rattle.vlt_values.specs.Filled.{IsFilled}
 use Rattle.vlt_values.specs.Pushed.{Shows, HasPushed, IsPushed}
 use Rattle.vlt_values.proofs.Touching.{OrFault, then_fault, so_fault, held_fault, object_of_fault, object_of_is, held_is, so_is}
@@ -221,7 +221,7 @@ some_given h old new c w s f o r func program base width low long pushed =
 
 -- ---- back in the caller
 
-roots_held : (objects : List Object) (d k n : ℕ) (ns : List ℕ) → AreRoots objects ns → AreRoots (changed n (with_owner (held d k)) objects) ns
+roots_held : (objects : List Object) (d k n : ℕ) (ns : List ℕ) → AreRoots objects ns → AreRoots (with_changed_object n (with_owner (held d k)) objects) ns
 roots_held objects d k n [] h = tt
 roots_held objects d k n (m ∷ ns) h = (root_held objects d k m n h.0, roots_held objects d k n ns h.1)
 
@@ -233,7 +233,7 @@ holders_shown items width d keys (e ∷ es) (n ∷ ns) objects roots h = by (λ 
     by : ((os : List Object) → AreRoots os ns → ShowObjects items width os → ShowObjects items width (with_holders d (bindings keys es ns) os)) → (x : Option ℕ)
         → ShowObjects items width (with_holders d (option_to_list (option_map (binding n) x) ++ bindings keys es ns) objects)
     by rest None = rest objects roots.1 h
-    by rest (Some k) = rest (changed n (with_owner (held d k)) objects) (roots_held objects d k n ns roots.1) (held_shown items width objects d k n h roots.0)
+    by rest (Some k) = rest (with_changed_object n (with_owner (held d k)) objects) (roots_held objects d k n ns roots.1) (held_shown items width objects d k n h roots.0)
 
 equal_is : (j k : ℕ) → (j == k) ≡ true → j ≡ k
 equal_is j k e = grind (arith, nat_tests)
@@ -269,8 +269,8 @@ cut_place end old new f cut count below = record {
 
 pub record AreNamed (w : Waiting) (g : Func) (old mid : Values) : Type 0 where
   pub below : IsBelow w old.width old.base
-  pub named : IsNamed old.base (framed old w.base w.vars) mid
-  pub names : Names (entries_after g) (keys_of w.keys.now) old.base (key_at old 0) (value_at old) (framed old w.base w.vars) mid
+  pub named : IsNamed old.base (with_frame old w.base w.vars) mid
+  pub names : Names (entries_after g) (keys_of w.keys.now) old.base (key_at old 0) (value_at old) (with_frame old w.base w.vars) mid
 
 abbrev named_frame : (w : Waiting) (g : Func) (kept : List ℕ) → Frame → Frame
 named_frame w g kept frame = with_names (bindings (keys_of w.keys.now) (entries_after g) kept) frame
@@ -280,7 +280,7 @@ named_world w g kept frame v = with_objects v (with_holders frame.depth (binding
 
 module _ (items : Items) (w : Waiting) (g : Func) (old mid new : Values) (a : Option Value) (kept : List ℕ) (v : World) (frame : Frame) (did : AreNamed w g old mid) (left : HasLeft items old g a kept v) (stands : Stands items old (func_of w.func.now) w.base frame) where
   names_shown : ShowsFrame items mid (named_frame w g kept frame)
-  names_shown = did.names items frame kept left.slots (subst (λ n. ShowsFrame items (framed old w.base n) frame) (sym did.below.vars) stands.shown)
+  names_shown = did.names items frame kept left.slots (subst (λ n. ShowsFrame items (with_frame old w.base n) frame) (sym did.below.vars) stands.shown)
 
   objects_shown : ShowObjects items old.width (named_world w g kept frame v).objects
   objects_shown = holders_shown items old.width frame.depth (keys_of w.keys.now) (entries_after g) kept v.objects left.roots left.objects
@@ -372,20 +372,20 @@ back_of items w g old new a kept v k waits is = subst goal waits.is is waits.sta
 
 -- ---- what the parts of the code ask
 
-pub keys_below : (w : Waiting) (old : Values) → IsBelow w old.width old.base → KeysBelow (keys_of w.keys.now) old.base (framed old w.base w.vars)
+pub keys_below : (w : Waiting) (old : Values) → IsBelow w old.width old.base → KeysBelow (keys_of w.keys.now) old.base (with_frame old w.base w.vars)
 keys_below w old below i k at =
     let l = below.keys i k at in
     let e = below.ends in
     let count : w.vars * old.width ≡ length (func_of w.func.now).vars * old.width = ap (λ n. n * old.width) below.vars in
     omega (arith, l, e, count)
 
-pub mid_table : (w : Waiting) (old mid : Values) → IsTable old → IsBelow w old.width old.base → IsNamed old.base (framed old w.base w.vars) mid → IsTable mid
+pub mid_table : (w : Waiting) (old mid : Values) → IsTable old → IsBelow w old.width old.base → IsNamed old.base (with_frame old w.base w.vars) mid → IsTable mid
 mid_table w old mid table below named =
     let e = below.ends in
     let count : w.vars * old.width ≡ length (func_of w.func.now).vars * old.width = ap (λ n. n * old.width) below.vars in
     rw (named.base, named.vars, named.width, named.long) (omega (arith, e, count, table))
 
-pub mid_target : (w : Waiting) (old mid : Values) → IsBelow w old.width old.base → IsNamed old.base (framed old w.base w.vars) mid → IfSome w.target (λ v. v.0 < mid.vars)
+pub mid_target : (w : Waiting) (old mid : Values) → IsBelow w old.width old.base → IsNamed old.base (with_frame old w.base w.vars) mid → IfSome w.target (λ v. v.0 < mid.vars)
 mid_target w old mid below named = subst (λ n. IfSome w.target (λ v. v.0 < n)) (sym named.vars) below.target
 
 pub record HasGone (w : Waiting) (old new : Values) : Type 0 where
@@ -394,7 +394,7 @@ pub record HasGone (w : Waiting) (old new : Values) : Type 0 where
   pub width : new.width ≡ old.width
   pub same : (k : ℕ) → k < w.base → slice_get new.slots.items k ≡ slice_get old.slots.items k
 
-pub has_gone : (w : Waiting) (old mid last new : Values) → IsTable old → IsBelow w old.width old.base → IsNamed old.base (framed old w.base w.vars) mid → IsSameFrame mid last → IsCut old.base last new → HasGone w old new
+pub has_gone : (w : Waiting) (old mid last new : Values) → IsTable old → IsBelow w old.width old.base → IsNamed old.base (with_frame old w.base w.vars) mid → IsSameFrame mid last → IsCut old.base last new → HasGone w old new
 has_gone w old mid last new table below named same cut = record {
   running = record {
     vars = cut.vars ∙ same.vars ∙ named.vars ∙ below.vars;
@@ -413,7 +413,7 @@ has_gone w old mid last new table below named same cut = record {
     width : new.width ≡ old.width
     width = cut.width ∙ same.width ∙ named.width
 
-pub named_so : (w : Waiting) (g : Func) (old run mid : Values) (es : List Entry) (from value : ℕ) → run ≡ framed old w.base w.vars → from ≡ key_at old 0 → value ≡ value_at old → es ≡ g.clause → IsBelow w old.width old.base
+pub named_so : (w : Waiting) (g : Func) (old run mid : Values) (es : List Entry) (from value : ℕ) → run ≡ with_frame old w.base w.vars → from ≡ key_at old 0 → value ≡ value_at old → es ≡ g.clause → IsBelow w old.width old.base
     → ((top : ℕ) → KeysBelow (keys_of w.keys.now) top run → IsNamed top run mid) → ((top : ℕ) → KeysBelow (keys_of w.keys.now) top run → Names (filter is_held_after es) (keys_of w.keys.now) top from value run mid) → AreNamed w g old mid
 named_so w g old run mid es from value is_run is_from is_value is_es below named names = record {
   below = below;

@@ -16,7 +16,7 @@ use Rattle.vlt_machine.specs.Got.{Got, got, stopped, found_in, then_got, operand
 use Rattle.vlt_machine.specs.Machine.{Caller}
 use Rattle.vlt_values.specs.declared.values.Values.{Values}
 use Rattle.vlt_values.specs.Parts.{HasPartAt}
-use Rattle.vlt_values.specs.Shown.{framed, var_at, key_at, HasVar, ShowsFrame}
+use Rattle.vlt_values.specs.Shown.{with_frame, var_at, key_at, HasVar, ShowsFrame}
 use Rattle.vlt_acts.proofs.Keeping.{frame_kept, value_same}
 use Rattle.vlt_frames.specs.declared.waiting.Waiting.{Waiting}
 use Rattle.vlt_frames.specs.Frames.{frame_end, IsRunning, NamesOwn, Stands, caller_of, IsBelow, Waits, AllWait}
@@ -48,7 +48,7 @@ frame_same items old new f frame same names h = record {
 
 pub stands_same : (items : Items) (old new : Values) (f : Func) (base : ℕ) (frame : Frame) → new.width ≡ old.width → ((j : ℕ) → j < frame_end old.width base f → slice_get new.slots.items j ≡ slice_get old.slots.items j) → Stands items old f base frame → Stands items new f base frame
 stands_same items old new f base frame width slots h = record {
-  shown = frame_same items (framed old base (length f.vars)) (framed new base (length f.vars)) f frame (record { base = refl_of base; vars = refl_of (length f.vars); width = width; count = refl_of (length f.vars); slots = slots }) h.names h.shown;
+  shown = frame_same items (with_frame old base (length f.vars)) (with_frame new base (length f.vars)) f frame (record { base = refl_of base; vars = refl_of (length f.vars); width = width; count = refl_of (length f.vars); slots = slots }) h.names h.shown;
   names = h.names;
 }
   where
@@ -57,7 +57,7 @@ stands_same items old new f base frame width slots h = record {
 
 pub stands_kept : (old new : Items) (values : Values) (f : Func) (base : ℕ) (frame : Frame) → KeepMade old new → Stands old values f base frame → Stands new values f base frame
 stands_kept old new values f base frame keep h = record {
-  shown = frame_kept old new (framed values base (length f.vars)) frame keep h.shown;
+  shown = frame_kept old new (with_frame values base (length f.vars)) frame keep h.shown;
   names = h.names;
 }
 

@@ -7,7 +7,7 @@ use Rattle.vlt_heap.specs.Items.{Items}
 use Rattle.vlt_meaning.specs.World.{Frame}
 use Rattle.vlt_machine.specs.Machine.{Caller}
 use Rattle.vlt_values.specs.declared.values.Values.{Values}
-use Rattle.vlt_values.specs.Shown.{framed, ShowsFrame}
+use Rattle.vlt_values.specs.Shown.{with_frame, ShowsFrame}
 use Rattle.vlt_frames.specs.declared.waiting.Waiting.{Waiting}
 
 -- where the slots of a frame end that begins there
@@ -25,7 +25,7 @@ NamesOwn f frame = (k n : ℕ) → frame.keys k ≡ Some n → k < length f.keys
 
 -- a frame of the function is shown by the slots from a position on
 pub record Stands (items : Items) (values : Values) (f : Func) (base : ℕ) (frame : Frame) : Type 0 where
-  pub shown : ShowsFrame items (framed values base (length f.vars)) frame
+  pub shown : ShowsFrame items (with_frame values base (length f.vars)) frame
   pub names : NamesOwn f frame
 
 -- ---- callers

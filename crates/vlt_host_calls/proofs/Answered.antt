@@ -12,7 +12,7 @@ use Rattle.vlt_heap.specs.Items.{Items, IsMadeAt}
 use Rattle.vlt_heap.specs.Shown.{heap_of}
 use Rattle.vlt_meaning.specs.World.{Object as Thing, Frame, Outcome, bad_answer, heap_end, is_out, loose, missing}
 use Rattle.vlt_meaning.specs.Found.{Found, ◌>>=◌, or_fault}
-use Rattle.vlt_meaning.specs.Objects.{moved}
+use Rattle.vlt_meaning.specs.Objects.{objects_after_move}
 use Rattle.vlt_meaning.specs.Calls.{entries_after}
 use Rattle.vlt_meaning.specs.HostAnswers.{Result as Given, case_with, Piece, Answer, then_reads, case_read, variant_read, result_read, answer_of}
 use Rattle.vlt_meaning.specs.Externals.{come_back, objects_of_keys, keys_of_case, case_objects, case_states, entry_states, with_states, with_answered, Fitting, or_bad}
@@ -31,7 +31,7 @@ use Rattle.vlt_results.specs.Stated.{SetsEntries, ComesLoose, SetsCase, AreCaseO
 use Rattle.vlt_results.specs.Results.{AreBefore, Made, result_made, IsResultMade, PutsResult}
 use Rattle.vlt_results.proofs.Readings.{case_is}
 use Rattle.vlt_results.proofs.Casing.{objects_are}
-use Rattle.vlt_host_calls.specs.Heeded.{ListsKeys, ComesIn, SetsResult, heeded, IsHeeded, Heeds}
+use Rattle.vlt_host_calls.specs.Heeded.{ListsKeys, ComesIn, SetsResult, made_of_answer, IsHeeded, Heeds}
 use Rattle.vlt_host_calls.proofs.Keys.{are_given, are_held, cases_named}
 
 -- ---- the case that an answer gives
@@ -55,7 +55,7 @@ module _ (p : Program) (g : Func) (keys : List ℕ) (rs : List ℤ) where
 
   pub none_in : (h : Heap) (values : Values) → None ≡ variant_in g.result → ComesIn p g keys rs values h h true
   none_in h values none c given names read =
-      subst (λ o. AreBack c.items h values c.frame true (moved is_out loose (objects_of_keys keys c.frame (keys_of_case p o given)) c.objects)) none (refl, shows_same h values c)
+      subst (λ o. AreBack c.items h values c.frame true (objects_after_move is_out loose (objects_of_keys keys c.frame (keys_of_case p o given)) c.objects)) none (refl, shows_same h values c)
 
   pub none_set : (h : Heap) (values : Values) → None ≡ variant_in g.result → SetsResult p g keys rs values h h
   none_set h values none c given names read =
@@ -77,8 +77,8 @@ module _ (p : Program) (g : Func) (keys : List ℕ) (rs : List ℤ) where
       case_in old new values b comes c given names read =
           let q = case_is p v.type rs left n d given number decl (sym (read_as_variant p g.result v rs is) ∙ read) in
           let o = names v is n d decl in
-          subst (λ z. AreBack c.items new values c.frame b (moved is_out loose (case_objects p g keys c.frame z) c.objects)) q.is
-          (subst (λ ns. AreBack c.items new values c.frame b (moved is_out loose ns c.objects)) (sym (case_objects_are v n d q.states q.pieces c.frame o.numbers is decl o.are))
+          subst (λ z. AreBack c.items new values c.frame b (objects_after_move is_out loose (case_objects p g keys c.frame z) c.objects)) q.is
+          (subst (λ ns. AreBack c.items new values c.frame b (objects_after_move is_out loose ns c.objects)) (sym (case_objects_are v n d q.states q.pieces c.frame o.numbers is decl o.are))
           (comes c o.numbers o.are))
 
       pub case_set : (old new : Heap) (values : Values) → SetsCase keys v.args d.keys left values old new → SetsResult p g keys rs values old new
@@ -108,10 +108,10 @@ module _ (p : Program) (g : Func) (keys : List ℕ) (n b : ℕ) (frame : Frame) 
   after_back a x = at_end (x >>= (λ all. Ok (record { answer = a; objects = all })))
 
   abbrev pub after_answer : Answer → Found (List Thing) → Found Made
-  after_answer a x = at_end (x >>= (λ back. moved is_out loose (case_objects p g keys frame a.result) back >>= (λ all. Ok (record { answer = a; objects = all }))))
+  after_answer a x = at_end (x >>= (λ back. objects_after_move is_out loose (case_objects p g keys frame a.result) back >>= (λ all. Ok (record { answer = a; objects = all }))))
 
   abbrev pub from_answer : Option Answer → List Thing → Found Made
-  from_answer x objects = at_end (or_fault missing x >>= (λ a. come_back keys frame g.clause objects >>= (λ back. moved is_out loose (case_objects p g keys frame a.result) back >>= (λ all. Ok (record { answer = a; objects = all })))))
+  from_answer x objects = at_end (or_fault missing x >>= (λ a. come_back keys frame g.clause objects >>= (λ back. objects_after_move is_out loose (case_objects p g keys frame a.result) back >>= (λ all. Ok (record { answer = a; objects = all })))))
 
 module _ (p : Program) (g : Func) (keys : List ℕ) (n : ℕ) (zs : List ℤ) (old : Values) (h : Heap) (lists : ListsKeys p g keys) where
   bad_end : (items : Items) (heap : Heap) (values : Values) (to : ℕ) → IsHeeded items heap values to (Err (BadAnswer n)) (Err (bad_answer n))
@@ -124,7 +124,7 @@ module _ (p : Program) (g : Func) (keys : List ℕ) (n : ℕ) (zs : List ℤ) (o
 
   module _ (rs : List ℤ) (fits : Fits p g zs rs) where
     read_on : (c : Seen h old) (last : Heap) (new : Values) (r : Result (Unit {0}) Stop) → IsHeeded c.items last new (length old.slots.items) r (after_answer p g keys n (heap_of h) c.frame fits.answer (come_back keys c.frame g.clause c.objects))
-        → IsHeeded c.items last new (length old.slots.items) r (heeded (heap_of h) p g keys n c.frame zs c.objects)
+        → IsHeeded c.items last new (length old.slots.items) r (made_of_answer (heap_of h) p g keys n c.frame zs c.objects)
     read_on c last new r k = subst (λ x. IsHeeded c.items last new (length old.slots.items) r (from_answer p g keys n (heap_of h) c.frame x c.objects)) (sym fits.is) k
 
     pub not_back : (new : Values) (between last : Heap) → ComesBack keys g.clause old h between false → Heeds p g keys n zs old new h last (Err (BadAnswer n))
@@ -138,8 +138,8 @@ module _ (p : Program) (g : Func) (keys : List ℕ) (n : ℕ) (zs : List ℤ) (o
     module _ (one : Heap) (comes : ComesBack keys g.clause old h one true) where
       -- the objects of the clause's keys are back
       back_on : (c : Seen h old) (last : Heap) (new : Values) (r : Result (Unit {0}) Stop) → NamesKeys g keys c.frame
-          → ((back : List Thing) (s : Shows c.items one old c.frame back) → IsHeeded c.items last new (length old.slots.items) r (after_back p g keys n (heap_of h) c.frame fits.answer (moved is_out loose (case_objects p g keys c.frame fits.answer.result) back)))
-          → IsHeeded c.items last new (length old.slots.items) r (heeded (heap_of h) p g keys n c.frame zs c.objects)
+          → ((back : List Thing) (s : Shows c.items one old c.frame back) → IsHeeded c.items last new (length old.slots.items) r (after_back p g keys n (heap_of h) c.frame fits.answer (objects_after_move is_out loose (case_objects p g keys c.frame fits.answer.result) back)))
+          → IsHeeded c.items last new (length old.slots.items) r (made_of_answer (heap_of h) p g keys n c.frame zs c.objects)
       back_on c last new r known go =
           read_on c last new r (by (come_back keys c.frame g.clause c.objects) (comes c (are_given p g keys c.frame lists known)))
         where
@@ -149,7 +149,7 @@ module _ (p : Program) (g : Func) (keys : List ℕ) (n : ℕ) (zs : List ℤ) (o
 
       pub not_in : (new : Values) (between last : Heap) → ComesIn p g keys rs old one between false → Heeds p g keys n zs old new h last (Err (BadAnswer n))
       not_in new between last comes_in c known = back_on c last new (Err (BadAnswer n)) known (λ back s.
-          by s.items (moved is_out loose (case_objects p g keys c.frame fits.answer.result) back)
+          by s.items (objects_after_move is_out loose (case_objects p g keys c.frame fits.answer.result) back)
           (comes_in (seen_after h one old c back s) fits.answer.result (cases_named p g keys c.frame lists known) fits.result))
         where
           by : (items : Items) (x : Found (List Thing)) → AreBack items between old c.frame false x → IsHeeded c.items last new (length old.slots.items) (Err (BadAnswer n)) (after_back p g keys n (heap_of h) c.frame fits.answer x)
@@ -203,12 +203,12 @@ module _ (p : Program) (g : Func) (keys : List ℕ) (n : ℕ) (zs : List ℤ) (o
             by c items keep (Err o) (inr k) = inl k
 
         pub all_heeded : Heeds p g keys n zs old new h last (made_or_ended r)
-        all_heeded c known = subst (λ j. IsHeeded c.items last new j (made_or_ended r) (heeded (heap_of h) p g keys n c.frame zs c.objects)) is_to (back_to c known)
+        all_heeded c known = subst (λ j. IsHeeded c.items last new j (made_or_ended r) (made_of_answer (heap_of h) p g keys n c.frame zs c.objects)) is_to (back_to c known)
           where
-            back_to : (c : Seen h old) → NamesKeys g keys c.frame → IsHeeded c.items last new to (made_or_ended r) (heeded (heap_of h) p g keys n c.frame zs c.objects)
-            back_to c known = subst (λ j. IsHeeded c.items last new j (made_or_ended r) (heeded (heap_of h) p g keys n c.frame zs c.objects)) (sym is_to)
+            back_to : (c : Seen h old) → NamesKeys g keys c.frame → IsHeeded c.items last new to (made_or_ended r) (made_of_answer (heap_of h) p g keys n c.frame zs c.objects)
+            back_to c known = subst (λ j. IsHeeded c.items last new j (made_or_ended r) (made_of_answer (heap_of h) p g keys n c.frame zs c.objects)) (sym is_to)
                 (back_on c last new (made_or_ended r) known (λ back s.
-                by c known back s (moved is_out loose (case_objects p g keys c.frame fits.answer.result) back)
+                by c known back s (objects_after_move is_out loose (case_objects p g keys c.frame fits.answer.result) back)
                 (comes_in (seen_after h one old c back s) fits.answer.result (cases_named p g keys c.frame lists known) fits.result)))
               where
                 by : (c : Seen h old) (known : NamesKeys g keys c.frame) (back : List Thing) (s : Shows c.items one old c.frame back) (x : Found (List Thing)) → AreBack s.items two old c.frame true x

@@ -45,7 +45,7 @@ use Rattle.vlt_externals.specs.Told.{AreArgs, TellsCall}
 use Rattle.vlt_externals.specs.Sent.{AreNamed, taken_out, CanTake, Takes, owned_out, CanHand, Hands}
 use Rattle.vlt_externals.proofs.Going.{seen_after}
 use Rattle.vlt_results.specs.Results.{AreBefore, Made}
-use Rattle.vlt_host_calls.specs.Heeded.{ListsKeys, heeded, HasHeeded, IsHeeded, Heeds, IsSameBelow}
+use Rattle.vlt_host_calls.specs.Heeded.{ListsKeys, made_of_answer, HasHeeded, IsHeeded, Heeds, IsSameBelow}
 use Rattle.vlt_host_calls.specs.Called.{IsCall, CanCall, Calls}
 use Rattle.vlt_host_calls.proofs.Keys.{are_named}
 use Rattle.vlt_host_calls.proofs.Leading.{LeadsOn, answered, then_heed, then_hand, then_take, delivered_leads, external_leads}
@@ -176,7 +176,7 @@ module _ (p : Program) (g : Func) (target : Option VarId) (keys : List ℕ) (h :
   cut_off last new after part rose counted c w args call =
       external_leads (Comes c.items last new after start end (Err SinkFault) w) (λ o v bad. inl bad) (heap_of h) c.program c.func (option_map (λ v. v.0) target) keys g args c.frame w (passed_fault c.program g keys c.frame w.objects g.clause)
       (λ none. inr (inr (one (with_event w (called g.name args)) refl)))
-      (λ zs rest first second at taken handed. by rest second (heeded (heap_of h) c.program g keys (w.taken + 1) c.frame zs second))
+      (λ zs rest first second at taken handed. by rest second (made_of_answer (heap_of h) c.program g keys (w.taken + 1) c.frame zs second))
     where
       one : (v : World) → v.events ≡ w.events ++ called g.name args ∷ [] → IsCutOff w start end SinkFault v
       one v added = one_cut w v (called g.name args) start end added (subst (GrewByPart start.written end.written) (line_is c w args call) part) rose counted
@@ -229,12 +229,12 @@ module _ (p : Program) (g : Func) (target : Option VarId) (keys : List ℕ) (h :
           cut_kept : (a n : ℕ) → IsMadeAt c.items a n → IsMadeAt shows_out.items a n
           cut_kept a n made = shows_out.kept a n (shows_sent.kept a n made)
 
-          heeded_so : (r : Result (Unit {0}) Stop) → Heeds p g keys (host.taken + 1) zs cut two out_heap last r → IsHeeded shows_out.items last two from r (heeded (heap_of h) c.program g keys (w.taken + 1) c.frame zs second)
+          heeded_so : (r : Result (Unit {0}) Stop) → Heeds p g keys (host.taken + 1) zs cut two out_heap last r → IsHeeded shows_out.items last two from r (made_of_answer (heap_of h) c.program g keys (w.taken + 1) c.frame zs second)
           heeded_so r heeds =
-              subst (λ k. IsHeeded shows_out.items last two k r (heeded (heap_of h) c.program g keys (w.taken + 1) c.frame zs second)) cuts.long
-              (subst (λ b. IsHeeded shows_out.items last two (length cut.slots.items) r (heeded b c.program g keys (w.taken + 1) c.frame zs second)) budget
-              (subst (λ q. IsHeeded shows_out.items last two (length cut.slots.items) r (heeded (heap_of out_heap) q g keys (w.taken + 1) c.frame zs second)) (sym call.program)
-              (subst (λ n. IsHeeded shows_out.items last two (length cut.slots.items) r (heeded (heap_of out_heap) p g keys (n + 1) c.frame zs second)) (sym call.hosts.taken)
+              subst (λ k. IsHeeded shows_out.items last two k r (made_of_answer (heap_of h) c.program g keys (w.taken + 1) c.frame zs second)) cuts.long
+              (subst (λ b. IsHeeded shows_out.items last two (length cut.slots.items) r (made_of_answer b c.program g keys (w.taken + 1) c.frame zs second)) budget
+              (subst (λ q. IsHeeded shows_out.items last two (length cut.slots.items) r (made_of_answer (heap_of out_heap) q g keys (w.taken + 1) c.frame zs second)) (sym call.program)
+              (subst (λ n. IsHeeded shows_out.items last two (length cut.slots.items) r (made_of_answer (heap_of out_heap) p g keys (n + 1) c.frame zs second)) (sym call.hosts.taken)
               (heeds cut_seen call.known))))
 
         -- the answer is the one that was taken
@@ -252,8 +252,8 @@ module _ (p : Program) (g : Func) (target : Option VarId) (keys : List ℕ) (h :
           (λ none. absurd (some_left (sym taken ∙ sym call.hosts.answers ∙ none)))
           (λ xs rest first second at took handed.
           let same = answers_are c w args call xs rest at in
-          by (shows_out c w args call first second took handed).items rest second (heeded (heap_of h) c.program g keys (w.taken + 1) c.frame xs second)
-          (subst (λ ys. IsHeeded (shows_out c w args call first second took handed).items last two from (Err k) (heeded (heap_of h) c.program g keys (w.taken + 1) c.frame ys second)) same.0 (heeded_so c w args call first second took handed (Err k) heeds)))
+          by (shows_out c w args call first second took handed).items rest second (made_of_answer (heap_of h) c.program g keys (w.taken + 1) c.frame xs second)
+          (subst (λ ys. IsHeeded (shows_out c w args call first second took handed).items last two from (Err k) (made_of_answer (heap_of h) c.program g keys (w.taken + 1) c.frame ys second)) same.0 (heeded_so c w args call first second took handed (Err k) heeds)))
         where
           some_left : {z : List ℤ} {zs : List (List ℤ)} → z ∷ zs ≡ [] → ⊥
           some_left e = absurd (omega (arith, ap length e))
@@ -275,8 +275,8 @@ module _ (p : Program) (g : Func) (target : Option VarId) (keys : List ℕ) (h :
           (λ none. absurd (some_left (sym taken ∙ sym call.hosts.answers ∙ none)))
           (λ xs rest first second at took handed.
           let q = answers_are c w args call xs rest at in
-          by (shows_out c w args call first second took handed).items rest second (q.1 ∙ rw (answers, count) refl) (cut_kept c w args call first second took handed) (heeded (heap_of h) c.program g keys (w.taken + 1) c.frame xs second)
-          (subst (λ ys. IsHeeded (shows_out c w args call first second took handed).items last two from (Ok tt) (heeded (heap_of h) c.program g keys (w.taken + 1) c.frame ys second)) q.0 (heeded_so c w args call first second took handed (Ok tt) heeds)))
+          by (shows_out c w args call first second took handed).items rest second (q.1 ∙ rw (answers, count) refl) (cut_kept c w args call first second took handed) (made_of_answer (heap_of h) c.program g keys (w.taken + 1) c.frame xs second)
+          (subst (λ ys. IsHeeded (shows_out c w args call first second took handed).items last two from (Ok tt) (made_of_answer (heap_of h) c.program g keys (w.taken + 1) c.frame ys second)) q.0 (heeded_so c w args call first second took handed (Ok tt) heeds)))
         where
           some_left : {z : List ℤ} {zs : List (List ℤ)} → z ∷ zs ≡ [] → ⊥
           some_left e = absurd (omega (arith, ap length e))

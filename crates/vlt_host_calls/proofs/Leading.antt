@@ -13,7 +13,7 @@ use Rattle.vlt_values.proofs.Touching.{OrFault}
 use Rattle.vlt_objects.proofs.Going.{moved_fault}
 use Rattle.vlt_externals.specs.Sent.{taken_out, owned_out}
 use Rattle.vlt_results.specs.Results.{pieces_made, variant_made, Made, fresh_made, result_made}
-use Rattle.vlt_host_calls.specs.Heeded.{heeded}
+use Rattle.vlt_host_calls.specs.Heeded.{made_of_answer}
 
 -- what is found is gone on from, with these objects; else the run ends, whatever objects there are
 abbrev pub Leads : {A : Type 0} → (Step → Type 0) → (A → World → Step) → World → Found (A × List Thing) → Type 0
@@ -117,7 +117,7 @@ module _ (P : Step → Type 0) where
 
   -- ---- what an answer says
 
-  pub heeded_leads : (b : ℕ) (p : Program) (g : Func) (keys : List ℕ) (n : ℕ) (frame : Frame) (zs : List ℤ) (w : World) (go : Option Value → Frame → World → Step) → LeadsOn P go w (heeded b p g keys n frame zs w.objects)
+  pub heeded_leads : (b : ℕ) (p : Program) (g : Func) (keys : List ℕ) (n : ℕ) (frame : Frame) (zs : List ℤ) (w : World) (go : Option Value → Frame → World → Step) → LeadsOn P go w (made_of_answer b p g keys n frame zs w.objects)
       → P (with_found (or_bad n (fitting p g keys frame zs w.objects)) w (λ q. with_result b p g keys q.answer.states q.answer.result frame (with_objects w (with_answered p g keys frame q.answer q.objects)) go))
   unfolding with_found
   heeded_leads b p g keys n frame zs w go k = by (or_bad n (fitting p g keys frame zs w.objects)) k
@@ -156,7 +156,7 @@ module _ (P : Step → Type 0) where
     module _ (b : ℕ) (p : Program) (f : Func) (target : Option ℕ) (keys : List ℕ) (g : Func) (args : List Value) (frame : Frame) (w : World) (fine : OrFault (passed_objects p g keys frame w.objects g.clause)) where
       pub external_leads : (w.answers ≡ [] → P (ends answers_end (with_event w (called g.name args))))
           → ((zs : List ℤ) (rest : List (List ℤ)) (first second : List Thing) → w.answers ≡ zs ∷ rest → taken_out keys g.clause frame w.objects ≡ Ok first → owned_out args first ≡ Ok second
-          → LeadsOn P (deliver f target) (answered (called g.name args) w rest second) (heeded b p g keys (w.taken + 1) frame zs second))
+          → LeadsOn P (deliver f target) (answered (called g.name args) w rest second) (made_of_answer b p g keys (w.taken + 1) frame zs second))
           → P (call_external b p f target keys g args frame w)
       unfolding call_external with_answer first_answer with_moved
       external_leads none some =

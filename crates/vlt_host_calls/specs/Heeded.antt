@@ -9,7 +9,7 @@ use Rattle.vlt_core.specs.View.{keys_of}
 use Rattle.vlt_core.specs.Lookups.{VariantOf, is_new, variant_in, case_at}
 use Rattle.vlt_meaning.specs.World.{Value, Object, Frame, Outcome, is_fault, is_out, loose}
 use Rattle.vlt_meaning.specs.Found.{Found, ◌>>=◌}
-use Rattle.vlt_meaning.specs.Objects.{moved}
+use Rattle.vlt_meaning.specs.Objects.{objects_after_move}
 use Rattle.vlt_meaning.specs.Calls.{is_new_key}
 use Rattle.vlt_meaning.specs.HostAnswers.{Result as Given, result_read}
 use Rattle.vlt_meaning.specs.Externals.{case_objects, case_states, fitting, or_bad, with_answered}
@@ -56,7 +56,7 @@ variant_view (Some q) = Some (record { type = q.0.0; args = keys_of q.1.now })
 abbrev pub ComesIn : Program → Func → (keys : List ℕ) → (result : List ℤ) → Values → (old new : Heap) → Bool → Type 0
 ComesIn p g keys rs values old new b =
     (c : Seen old values) (given : Given) → NamesCases p g keys c.frame → result_read p g.result rs ≡ Some (given, []) →
-    AreBack c.items new values c.frame b (moved is_out loose (case_objects p g keys c.frame given) c.objects)
+    AreBack c.items new values c.frame b (objects_after_move is_out loose (case_objects p g keys c.frame given) c.objects)
 
 -- they get their states
 abbrev pub SetsResult : Program → Func → (keys : List ℕ) → (result : List ℤ) → Values → (old new : Heap) → Type 0
@@ -67,8 +67,8 @@ SetsResult p g keys rs values old new =
 -- ---- the whole answer
 
 -- what comes of an answer, the position of which is this one
-abbrev pub heeded : (budget : ℕ) → Program → Func → (keys : List ℕ) → (position : ℕ) → Frame → (numbers : List ℤ) → List Object → Found Made
-heeded b p g keys n frame zs objects = do
+abbrev pub made_of_answer : (budget : ℕ) → Program → Func → (keys : List ℕ) → (position : ℕ) → Frame → (numbers : List ℤ) → List Object → Found Made
+made_of_answer b p g keys n frame zs objects = do
   q ← or_bad n (fitting p g keys frame zs objects)
   result_made b p g keys q.answer.states q.answer.result frame (with_answered p g keys frame q.answer q.objects)
 
@@ -92,7 +92,7 @@ IsHeeded before heap values to r (Err o) = (is_fault o ≡ true) ⊎ HasHalted r
 abbrev pub Heeds : Program → Func → (keys : List ℕ) → (position : ℕ) → List ℤ → (old new : Values) → (before after : Heap) → Result (Unit {0}) Stop → Type 0
 Heeds p g keys n zs old new before after r =
     (c : Seen before old) → NamesKeys g keys c.frame →
-    IsHeeded c.items after new (length old.slots.items) r (heeded (heap_of before) p g keys n c.frame zs c.objects)
+    IsHeeded c.items after new (length old.slots.items) r (made_of_answer (heap_of before) p g keys n c.frame zs c.objects)
 
 -- the frame stands where it stood, all below it is as it was, and there is as much room
 pub record IsSameBelow (old new : Values) : Type 0 where

@@ -19,7 +19,7 @@ use Rattle.vlt_heap.specs.Items.{Items}
 use Rattle.vlt_meaning.specs.World as model
 use Rattle.vlt_meaning.specs.World.{line_of, is_fault}
 use Rattle.vlt_meaning.specs.Step.{ends}
-use Rattle.vlt_meaning.specs.Run.{Setup, first_frame, start, ended, main_run, run}
+use Rattle.vlt_meaning.specs.Run.{Setup, first_frame, start, ran_of, main_run, run}
 use Rattle.vlt_meaning.specs.Does.{does}
 use Rattle.vlt_machine.specs.Machine as m
 use Rattle.vlt_machine.specs.Machine.{Conf, at, first_conf}
@@ -52,7 +52,7 @@ use Rattle.vlt_interp.proofs.Fitting.{frame_fits}
 
 -- a program that never goes wrong has a first function
 pub has_main : (p : Program) → IsRunnable p → slice_get p.fns p.main ≡ None → ⊥
-has_main p h none = false≢true (sym (h.never 0 0 1 [] []) ∙ ap (λ o. is_fault (ended (main_run (record { program = p; heap = 0; depth = 1 }) 0 o (start 0 [] []))).outcome) none)
+has_main p h none = false≢true (sym (h.never 0 0 1 [] []) ∙ ap (λ o. is_fault (ran_of (main_run (record { program = p; heap = 0; depth = 1 }) 0 o (start 0 [] []))).outcome) none)
 
 -- the first function, where the code finds it
 pub main_is : (p : CodeProgram) (o : Option CodeFunc) → o ≡ slice_get p.fns p.main.0 → slice_get (program_of p).fns (program_of p).main ≡ option_map func_of o
@@ -64,7 +64,7 @@ no_depth p b input answers x none =
     let zero : (b.depth == 0) ≡ true = grind (arith, nat_tests) in
     let w = start b.fuel input answers in
     let r : Setup = record { program = program_of p; heap = b.heap; depth = b.depth } in
-    let is : run_within p b input answers ≡ ended (ends model.depth_end w) = ap (λ t. ended (if t then ends model.depth_end w else main_run r b.fuel (slice_get (program_of p).fns (program_of p).main) w)) zero in
+    let is : run_within p b input answers ≡ ran_of (ends model.depth_end w) = ap (λ t. ran_of (if t then ends model.depth_end w else main_run r b.fuel (slice_get (program_of p).fns (program_of p).main) w)) zero in
     subst (λ y. EndsAs y x x (record { stop = DepthEnd; fuel = b.fuel })) (sym is)
     (finished_ends outcome_of SinkFault refl line_of x x model.depth_end w.fuel w.events DepthEnd b.fuel (inl (record { outcome = refl; fuel = refl; wrote = silent w w x refl })))
 
@@ -133,13 +133,13 @@ module _ (b : Budgets) (s : Start) (input : Bor (List ℤ)) (answers : Bor Answe
     goal_is = ap (λ o. main_run (setup_in rules begun) b.fuel o (start_of begun)) is_main
 
     -- a run of some depth is that of main
-    ran_is : run_within program.now b input.now (lists_of answers.now) ≡ ended (goal_of rules begun)
+    ran_is : run_within program.now b input.now (lists_of answers.now) ≡ ran_of (goal_of rules begun)
     ran_is =
         let some : (b.depth == 0) ≡ false = grind (arith, nat_tests) in
         let w = start b.fuel input.now (lists_of answers.now) in
         let r : Setup = record { program = program_of program.now; heap = b.heap; depth = b.depth } in
-        ap (λ t. ended (if t then ends model.depth_end w else main_run r b.fuel (slice_get (program_of program.now).fns (program_of program.now).main) w)) some
-        ∙ ap (λ h. ended (main_run (setup_of rules h) b.fuel (slice_get (program_of program.now).fns (program_of program.now).main) w)) (sym set.budget)
+        ap (λ t. ran_of (if t then ends model.depth_end w else main_run r b.fuel (slice_get (program_of program.now).fns (program_of program.now).main) w)) some
+        ∙ ap (λ h. ran_of (main_run (setup_of rules h) b.fuel (slice_get (program_of program.now).fns (program_of program.now).main) w)) (sym set.budget)
 
     begun_running : (x : Outside) → IsRunning rules (goal_of rules begun) (start_of begun) x x begun
     begun_running x = record {
@@ -157,9 +157,9 @@ module _ (b : Budgets) (s : Start) (input : Bor (List ℤ)) (answers : Bor Answe
     pub first_running : (x : Outside) → IsRunning rules (goal_of rules run) (start_of run) x x run
     first_running x = subst (λ r. IsRunning rules (goal_of rules r) (start_of r) x x r) (sym run_is) (begun_running x)
 
-    pub first_ended : (before after : Outside) (stop : Stop) (last : Run) → IsFinished (ended (goal_of rules run)) (start_of run) before after stop last → EndsAs (run_within program.now b input.now (lists_of answers.now)) before after (record { stop = stop; fuel = last.fuel })
+    pub first_ended : (before after : Outside) (stop : Stop) (last : Run) → IsFinished (ran_of (goal_of rules run)) (start_of run) before after stop last → EndsAs (run_within program.now b input.now (lists_of answers.now)) before after (record { stop = stop; fuel = last.fuel })
     first_ended before after stop last h =
-        let k = subst (λ r. IsFinished (ended (goal_of rules r)) (start_of r) before after stop last) run_is h in
+        let k = subst (λ r. IsFinished (ran_of (goal_of rules r)) (start_of r) before after stop last) run_is h in
         subst (λ y. EndsAs y before after (record { stop = stop; fuel = last.fuel })) (sym ran_is)
-        (let ran = ended (goal_of rules begun) in
+        (let ran = ran_of (goal_of rules begun) in
         finished_ends outcome_of SinkFault refl line_of before after ran.outcome ran.world.fuel ran.world.events stop last.fuel k)

@@ -7,12 +7,12 @@ use Rattle.vlt_meaning.specs.World.{Value, one, World, Frame, missing, Reason}
 use Rattle.vlt_meaning.specs.Found.{Found, or_fault}
 use Rattle.vlt_meaning.specs.Values.{held_object, guarded_object, number_of}
 use Rattle.vlt_meaning.specs.Step.{Step, goes, jumps, leaves, ends}
-use Rattle.vlt_meaning.specs.Operands.{Case, case_in, emptied}
+use Rattle.vlt_meaning.specs.Operands.{Case, case_in, with_empty_variable}
 use Rattle.vlt_meaning.specs.Calls.{passed_objects}
 use Rattle.vlt_meaning.specs.Run.{Setup}
 use Rattle.vlt_meaning_laws.proofs.Keeping.{err-ok}
 use Rattle.vlt_machine.specs.Got.{Got, got, stopped, operands_got, opened_got, filled_got}
-use Rattle.vlt_machine.specs.Machine.{Task, list, closing, turn, unfocus, back, Conf, at, when_found, when_got, when_so, spending, enter_block, enter_arm, enter_body, enter_by, enter, turn_on, act, list_moves, turn_moves, moved_in, moved}
+use Rattle.vlt_machine.specs.Machine.{Task, list, closing, turn, unfocus, back, Conf, at, when_found, when_got, when_so, spending, enter_block, enter_arm, enter_body, enter_by, enter, turn_on, act, list_moves, turn_moves, moved_in, after_move}
 use Rattle.vlt_tasks.specs.Own.{IsOf}
 use Rattle.vlt_interp.specs.Owned.{HoldsIn}
 
@@ -115,7 +115,7 @@ module _ (r : Setup) (L : Func → Stmts → Type 0) (F : Func → Form → Type
   act_holds f (switch v arms end) ts frame w s h =
       found_holds (or_fault missing (variant_of f v)) f ts w _ s (λ t is.
       found_holds (case_in (frame.vars v)) f ts w _ s (λ c is2.
-      got_holds (opened_got (case_keys r.program t c.number) c.keys frame w) f ts _ s (λ u same w2. arm_holds f c arms ts (emptied f v frame) w2 s (k.switch_in f v arms end h))))
+      got_holds (opened_got (case_keys r.program t c.number) c.keys frame w) f ts _ s (λ u same w2. arm_holds f c arms ts (with_empty_variable f v frame) w2 s (k.switch_in f v arms end h))))
   act_holds f (focus y z body) ts frame w s h =
       found_holds (or_fault missing (guarded_of f y)) f ts w _ s (λ g is.
       found_holds (or_fault missing (reference_of f z)) f ts w _ s (λ q is2.
@@ -158,7 +158,7 @@ module _ (r : Setup) (L : Func → Stmts → Type 0) (F : Func → Form → Type
   move_holds f (back c ∷ ts) a s = record { func = s.tasks.0; tasks = s.tasks.1 }
 
   -- each move keeps it
-  pub moved_holds : (c : Conf) → Holds c → Holds (moved r c)
+  pub moved_holds : (c : Conf) → Holds c → Holds (after_move r c)
   moved_holds c h = move_holds c.func c.tasks c.step h
 
   -- and it holds where a function begins

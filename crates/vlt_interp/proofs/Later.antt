@@ -10,7 +10,7 @@ use Rattle.vlt_meaning_laws.specs.Keeping.{world_after}
 use Rattle.vlt_meaning_laws.specs.Laws.{does_one}
 use Rattle.vlt_meaning_laws.proofs.Equations.{only_adds}
 use Rattle.vlt_meaning_laws.proofs.Moves.{IsKept, To, back_to, left_to, focus_to, form_to}
-use Rattle.vlt_machine.specs.Machine.{Task, list, closing, turn, unfocus, back, Conf, moved}
+use Rattle.vlt_machine.specs.Machine.{Task, list, closing, turn, unfocus, back, Conf, after_move}
 use Rattle.vlt_machine.proofs.Finishing.{finishes, ending, moves_end}
 
 -- events were only added
@@ -82,9 +82,9 @@ ends_stay r f (turn e b ∷ ts) o w = ends_stay r f ts o w
 ends_stay r f (unfocus g q m n ∷ ts) o w = ends_stay r f ts o w
 ends_stay r f (back k ∷ ts) o w = ends_stay r k.func ts o w
 
-pub moved_end : (r : Setup) (c : Conf) → ending r (moved r c) ≡ ending r c
+pub moved_end : (r : Setup) (c : Conf) → ending r (after_move r c) ≡ ending r c
 moved_end r c = moves_end r 1 c
 
 -- where a move ends the run, the run comes to that end
-pub ends_there : (r : Setup) (c : Conf) (o : Outcome) (w : World) → (moved r c).step ≡ ends o w → ending r c ≡ ends o w
-ends_there r c o w e = sym (moved_end r c) ∙ ap (finishes r (moved r c).func (moved r c).tasks) e ∙ ends_stay r (moved r c).func (moved r c).tasks o w
+pub ends_there : (r : Setup) (c : Conf) (o : Outcome) (w : World) → (after_move r c).step ≡ ends o w → ending r c ≡ ends o w
+ends_there r c o w e = sym (moved_end r c) ∙ ap (finishes r (after_move r c).func (after_move r c).tasks) e ∙ ends_stay r (after_move r c).func (after_move r c).tasks o w

@@ -6,10 +6,10 @@ use Rattle.vlt_core.specs.View.{program_of}
 use Rattle.vlt_core.specs.Core.{Func, Program}
 use Rattle.vlt_meaning.specs.World.{line_of, World, is_fault}
 use Rattle.vlt_meaning.specs.Step.{Step, goes, jumps, leaves, ends}
-use Rattle.vlt_meaning.specs.Run.{Setup, first_frame, start, ended}
+use Rattle.vlt_meaning.specs.Run.{Setup, first_frame, start, ran_of}
 use Rattle.vlt_meaning_laws.specs.Keeping.{world_after}
 use Rattle.vlt_machine.specs.Machine as m
-use Rattle.vlt_machine.specs.Machine.{Conf, at, moved, moves, first_conf}
+use Rattle.vlt_machine.specs.Machine.{Conf, at, after_move, moves, first_conf}
 use Rattle.vlt_machine.specs.Bounds.{Fits}
 use Rattle.vlt_machine.specs.Laws.{LeadsTo}
 use Rattle.vlt_machine.proofs.Fitting.{suffices, first_fits}
@@ -41,9 +41,9 @@ use Rattle.vlt_interp.proofs.Weighing.{size_of, IsSmallList, IsSmall, IsSmallBlo
 
 -- ---- what holds of all that a run comes to
 
-last_move : (r : Setup) (n : ℕ) (c : Conf) → moves r (suc n) c ≡ moved r (moves r n c)
+last_move : (r : Setup) (n : ℕ) (c : Conf) → moves r (suc n) c ≡ after_move r (moves r n c)
 last_move r zero c = refl
-last_move r (suc n) c = last_move r n (moved r c)
+last_move r (suc n) c = last_move r n (after_move r c)
 
 pub own_closed : (p : Program) → HasOwn p → IsClosed p (AreOwn p) (IsOwn p) (IsOwnBlock p) (AreOwnArms p)
 own_closed p h = record {
@@ -63,12 +63,12 @@ own_closed p h = record {
 
 module _ (r : Setup) (c : Conf) (reached : IsReached r c) where
   -- what holds at the start and after each move
-  along : (P : Conf → Type 0) → ((d : Conf) → P d → P (moved r d)) → P (first_conf reached.main (first_frame 1) (start reached.fuel reached.input reached.answers)) → P c
+  along : (P : Conf → Type 0) → ((d : Conf) → P d → P (after_move r d)) → P (first_conf reached.main (first_frame 1) (start reached.fuel reached.input reached.answers)) → P c
   along P next first = subst P reached.is (go reached.count (first_conf reached.main (first_frame 1) (start reached.fuel reached.input reached.answers)) first)
     where
       go : (n : ℕ) (d : Conf) → P d → P (moves r n d)
       go zero d h = h
-      go (suc n) d h = go n (moved r d) (next d h)
+      go (suc n) d h = go n (after_move r d) (next d h)
 
   reached_own : HasOwn r.program → IsOwnConf r.program c
   reached_own h =
@@ -86,7 +86,7 @@ module _ (r : Setup) (c : Conf) (reached : IsReached r c) where
   reached_fits : 1 ≤ r.depth → Fits r c
   reached_fits deep = along (Fits r) (λ d h. (suffices r d h).next) (first_fits r reached.main r.program.main (first_frame 1) (start reached.fuel reached.input reached.answers) reached.is_main refl deep)
 
-  reached_next : IsReached r (moved r c)
+  reached_next : IsReached r (after_move r c)
   reached_next = record {
     main = reached.main;
     is_main = reached.is_main;
@@ -94,7 +94,7 @@ module _ (r : Setup) (c : Conf) (reached : IsReached r c) where
     input = reached.input;
     answers = reached.answers;
     count = suc reached.count;
-    is = last_move r reached.count (first_conf reached.main (first_frame 1) (start reached.fuel reached.input reached.answers)) ∙ ap (moved r) reached.is;
+    is = last_move r reached.count (first_conf reached.main (first_frame 1) (start reached.fuel reached.input reached.answers)) ∙ ap (after_move r) reached.is;
   }
 
 -- ---- where it ends
@@ -113,15 +113,15 @@ same_world (jumps c frame w) = refl
 same_world (leaves x kept w) = refl
 same_world (ends o w) = refl
 
-ended_world : (a : Step) → (ended a).world ≡ world_after a
+ended_world : (a : Step) → (ran_of a).world ≡ world_after a
 ended_world (goes frame w) = refl
 ended_world (jumps c frame w) = refl
 ended_world (leaves x kept w) = refl
 ended_world (ends o w) = refl
 
 -- a run that goes right ends in no fault
-right_moved : (r : Setup) (c : Conf) (goal : Step) → ending r c ≡ goal → is_fault (ended goal).outcome ≡ false → IsRight (moved r c).step
-right_moved r c goal e right o w is = subst (λ a. is_fault (ended a).outcome ≡ false) (sym e ∙ ends_there r c o w is) right
+right_moved : (r : Setup) (c : Conf) (goal : Step) → ending r c ≡ goal → is_fault (ran_of goal).outcome ≡ false → IsRight (after_move r c).step
+right_moved r c goal e right o w is = subst (λ a. is_fault (ran_of a).outcome ≡ false) (sym e ∙ ends_there r c o w is) right
 
 -- the fuel of what is shown
 shown_fuel : (items : _) (r : Run) (f : Func) (x : At) (a : Step) → ShowsStep items r f x a → (world_after a).fuel ≡ r.fuel
@@ -164,13 +164,13 @@ module _ (rules : Rules) (goal : Step) (w0 : World) (a b c : Outside) (old new :
       absurd (omega (arith, n, k, l))
   some_task t ts is (u ∷ vs) e P h = h u vs e
 
-  leads_next : (u : m.Task) (vs : List m.Task) → running.conf.tasks ≡ u ∷ vs → LeadsTo (setup_in rules old) (moved (setup_in rules old) running.conf) goal
+  leads_next : (u : m.Task) (vs : List m.Task) → running.conf.tasks ≡ u ∷ vs → LeadsTo (setup_in rules old) (after_move (setup_in rules old) running.conf) goal
   leads_next u vs e = by running.leads.count running.leads.tasks running.leads.step
     where
       filled : (u : m.Task) (vs ts : List m.Task) → ts ≡ u ∷ vs → ts ≡ [] → ⊥
       filled u vs ts e none = let k = ap length e in let l = ap length none in omega (arith, k, l)
 
-      by : (n : ℕ) → (moves (setup_in rules old) n running.conf).tasks ≡ [] → (moves (setup_in rules old) n running.conf).step ≡ goal → LeadsTo (setup_in rules old) (moved (setup_in rules old) running.conf) goal
+      by : (n : ℕ) → (moves (setup_in rules old) n running.conf).tasks ≡ [] → (moves (setup_in rules old) n running.conf).step ≡ goal → LeadsTo (setup_in rules old) (after_move (setup_in rules old) running.conf) goal
       by zero none is = absurd (filled u vs running.conf.tasks e none)
       by (suc n) none is = record { count = n; tasks = none; step = is }
 
@@ -179,7 +179,7 @@ module _ (rules : Rules) (goal : Step) (w0 : World) (a b c : Outside) (old new :
     pub falls : measure (program_of rules.program.now) rules.depth new.fuel (tasks_left new) < measure (program_of rules.program.now) rules.depth old.fuel (tasks_left old)
 
   -- a step that went on
-  gone : (x : Step) → IsRight x → CameTo (world_in running.conf.step) b c None new (moved (setup_in rules old) running.conf) x → GoneOn (world_in running.conf.step) b c new (moved (setup_in rules old) running.conf) (world_in x)
+  gone : (x : Step) → IsRight x → CameTo (world_in running.conf.step) b c None new (after_move (setup_in rules old) running.conf) x → GoneOn (world_in running.conf.step) b c new (after_move (setup_in rules old) running.conf) (world_in x)
   gone (ends o w) right h = absurd (false≢true (sym (right o w refl) ∙ h))
   gone (goes frame w) right h = h
   gone (jumps k frame w) right h = h
@@ -191,10 +191,10 @@ module _ (rules : Rules) (goal : Step) (w0 : World) (a b c : Outside) (old new :
       let y = shown_fuel q.items r d.func r.at d.step q.step in
       ap (λ n. n * (most_left (program_of rules.program.now) rules.depth + 1) + tasks_weight (tasks_left r)) (sym y) ∙ ap (λ n. fuel_in d * (most_left (program_of rules.program.now) rules.depth + 1) + n) x
 
-  goes_so : (u : m.Task) (vs : List m.Task) → running.conf.tasks ≡ u ∷ vs → Keeps old new → GoneOn (world_in running.conf.step) b c new (moved (setup_in rules old) running.conf) (world_in (moved (setup_in rules old) running.conf).step) → GoesOnSo
+  goes_so : (u : m.Task) (vs : List m.Task) → running.conf.tasks ≡ u ∷ vs → Keeps old new → GoneOn (world_in running.conf.step) b c new (after_move (setup_in rules old) running.conf) (world_in (after_move (setup_in rules old) running.conf).step) → GoesOnSo
   goes_so u vs e keeps h =
       let s = setup_in rules old in
-      let next = moved s running.conf in
+      let next = after_move s running.conf in
       let same : setup_in rules new ≡ s = ap (setup_of rules) keeps.size.heap in
       let reached = reached_next s running.conf running.reached in
       let fall = moved_falls s running.conf u vs e (suffices s next (suffices s running.conf fine.fits).next).tasks (reached_small s next reached) in
@@ -219,63 +219,63 @@ module _ (rules : Rules) (goal : Step) (w0 : World) (a b c : Outside) (old new :
       by : (ts : List Task) → tasks_left old ≡ ts → Moves ts rules old new b c None → GoesOnSo
       by [] is h = absurd (none-some Done h.done)
       by (t ∷ ts) is h = some_task t ts is running.conf.tasks refl GoesOnSo (λ u vs e.
-          goes_so u vs e h.keeps (gone (moved (setup_in rules old) running.conf).step fine.right (h.comes running.conf (subst (λ l. ShowsWith l old running.conf) is running.shown) fine)))
+          goes_so u vs e h.keeps (gone (after_move (setup_in rules old) running.conf).step fine.right (h.comes running.conf (subst (λ l. ShowsWith l old running.conf) is running.shown) fine)))
 
   -- ---- its end
 
-  goal_world : world_after goal ≡ (ended goal).world
+  goal_world : world_after goal ≡ (ran_of goal).world
   goal_world = sym (ended_world goal)
 
-  cut_so : (stop : Stop) (v : World) → IsCut (world_in running.conf.step) b c stop v → Adds v (ended goal).world → IsFinished (ended goal) w0 a c stop new
-  cut_so stop v k more = inr (writing.cut_both line_of SinkFault w0.events (world_in running.conf.step).events v.events (ended goal).world.events more.events a b c stop running.wrote k more.are)
+  cut_so : (stop : Stop) (v : World) → IsCut (world_in running.conf.step) b c stop v → Adds v (ran_of goal).world → IsFinished (ran_of goal) w0 a c stop new
+  cut_so stop v k more = inr (writing.cut_both line_of SinkFault w0.events (world_in running.conf.step).events v.events (ran_of goal).world.events more.events a b c stop running.wrote k more.are)
 
-  from_next : (x : Step) → (moved (setup_in rules old) running.conf).step ≡ x → Adds (world_in x) (ended goal).world
+  from_next : (x : Step) → (after_move (setup_in rules old) running.conf).step ≡ x → Adds (world_in x) (ran_of goal).world
   from_next x is =
       let s = setup_in rules old in
-      let next = moved s running.conf in
+      let next = after_move s running.conf in
       let adds = ending_adds s next in
-      let there : world_after (ending s next) ≡ (ended goal).world = ap world_after (moved_end s running.conf ∙ to_goal) ∙ goal_world in
+      let there : world_after (ending s next) ≡ (ran_of goal).world = ap world_after (moved_end s running.conf ∙ to_goal) ∙ goal_world in
       let here : world_after next.step ≡ world_in x = ap world_after is ∙ sym (same_world x) in
-      subst (λ w. Adds w (ended goal).world) here (subst (Adds (world_after next.step)) there adds)
+      subst (λ w. Adds w (ran_of goal).world) here (subst (Adds (world_after next.step)) there adds)
 
-  stops_so : (stop : Stop) (x : Step) → (moved (setup_in rules old) running.conf).step ≡ x → CameTo (world_in running.conf.step) b c (Some stop) new (moved (setup_in rules old) running.conf) x → IsFinished (ended goal) w0 a c stop new
+  stops_so : (stop : Stop) (x : Step) → (after_move (setup_in rules old) running.conf).step ≡ x → CameTo (world_in running.conf.step) b c (Some stop) new (after_move (setup_in rules old) running.conf) x → IsFinished (ran_of goal) w0 a c stop new
   stops_so stop (goes frame w) is h = cut_so stop w h (from_next (goes frame w) is)
   stops_so stop (jumps k frame w) is h = cut_so stop w h (from_next (jumps k frame w) is)
   stops_so stop (leaves x kept w) is h = cut_so stop w h (from_next (leaves x kept w) is)
   stops_so stop (ends o w) is h =
       let at_end : ends o w ≡ goal = sym (ends_there (setup_in rules old) running.conf o w is) ∙ to_goal in
-      let out : o ≡ (ended goal).outcome = ap (λ y. (ended y).outcome) at_end in
-      let there : w ≡ (ended goal).world = ap (λ y. (ended y).world) at_end in
+      let out : o ≡ (ran_of goal).outcome = ap (λ y. (ran_of y).outcome) at_end in
+      let there : w ≡ (ran_of goal).world = ap (λ y. (ran_of y).world) at_end in
       ⊎_elim
       (λ f. absurd (false≢true (sym (fine.right o w is) ∙ f)))
       (λ k. ⊎_elim
       (λ (e : HasStopped (world_in running.conf.step) b c new.fuel stop o w). inl (record {
         outcome = e.outcome ∙ ap (λ y. Some y) out;
         fuel = ap (λ y. y.fuel) (sym there) ∙ e.fuel;
-        wrote = writing.wrote_both line_of w0.events (world_in running.conf.step).events (ended goal).world.events a b c running.wrote (subst (λ y. Wrote (world_in running.conf.step) y b c) there e.wrote);
+        wrote = writing.wrote_both line_of w0.events (world_in running.conf.step).events (ran_of goal).world.events a b c running.wrote (subst (λ y. Wrote (world_in running.conf.step) y b c) there e.wrote);
       }))
       (λ k. cut_so stop w k (from_next (ends o w) is))
       k)
       h
 
   -- with nothing left main was left
-  over_so : (stop : Stop) → IsOver new old b c (Some stop) → running.conf.tasks ≡ [] → IsFinished (ended goal) w0 a c stop new
+  over_so : (stop : Stop) → IsOver new old b c (Some stop) → running.conf.tasks ≡ [] → IsFinished (ran_of goal) w0 a c stop new
   over_so stop h none = by running.conf.step running.shown.step running.wrote (done_is (setup_in rules old) running.conf.func running.conf.tasks running.conf.step none)
     where
-      by : (x : Step) → ShowsStep running.shown.items old running.conf.func old.at x → Wrote w0 (world_in x) a b → ending (setup_in rules old) running.conf ≡ x → IsFinished (ended goal) w0 a c stop new
-      by (goes frame w) q wrote e = absurd (false≢true (sym (subst (λ y. is_fault (ended y).outcome ≡ false) (sym to_goal ∙ e) running.right)))
-      by (jumps k frame w) q wrote e = absurd (false≢true (sym (subst (λ y. is_fault (ended y).outcome ≡ false) (sym to_goal ∙ e) running.right)))
+      by : (x : Step) → ShowsStep running.shown.items old running.conf.func old.at x → Wrote w0 (world_in x) a b → ending (setup_in rules old) running.conf ≡ x → IsFinished (ran_of goal) w0 a c stop new
+      by (goes frame w) q wrote e = absurd (false≢true (sym (subst (λ y. is_fault (ran_of y).outcome ≡ false) (sym to_goal ∙ e) running.right)))
+      by (jumps k frame w) q wrote e = absurd (false≢true (sym (subst (λ y. is_fault (ran_of y).outcome ≡ false) (sym to_goal ∙ e) running.right)))
       by (ends o w) q wrote e = absurd (not_ended running.shown.items old running.conf.func old.at o w q)
       by (leaves x kept w) q wrote e =
           let at_end : leaves x kept w ≡ goal = sym e ∙ to_goal in
           let stop_is : stop ≡ Done = same_Some stop Done h.done in
           inl (record {
-            outcome = ap outcome_of stop_is ∙ ap (λ y. Some (ended y).outcome) at_end;
-            fuel = ap (λ y. (ended y).world.fuel) (sym at_end) ∙ shown_fuel running.shown.items old running.conf.func old.at (leaves x kept w) q ∙ sym h.fuel;
-            wrote = subst (λ o. Wrote w0 (ended goal).world a o) (sym h.silent) (subst (λ y. Wrote w0 y a b) (ap (λ y. (ended y).world) at_end) wrote);
+            outcome = ap outcome_of stop_is ∙ ap (λ y. Some (ran_of y).outcome) at_end;
+            fuel = ap (λ y. (ran_of y).world.fuel) (sym at_end) ∙ shown_fuel running.shown.items old running.conf.func old.at (leaves x kept w) q ∙ sym h.fuel;
+            wrote = subst (λ o. Wrote w0 (ran_of goal).world a o) (sym h.silent) (subst (λ y. Wrote w0 y a b) (ap (λ y. (ran_of y).world) at_end) wrote);
           })
 
-  pub ends_so : (stop : Stop) → Moves (tasks_left old) rules old new b c (Some stop) → IsFinished (ended goal) w0 a c stop new
+  pub ends_so : (stop : Stop) → Moves (tasks_left old) rules old new b c (Some stop) → IsFinished (ran_of goal) w0 a c stop new
   ends_so stop h = by (tasks_left old) refl h
     where
       empty : (us : List m.Task) → tasks_left old ≡ [] → running.conf.tasks ≡ us → running.conf.tasks ≡ []
@@ -286,6 +286,6 @@ module _ (rules : Rules) (goal : Step) (w0 : World) (a b c : Outside) (old new :
           let l = ap length e in
           absurd (omega (arith, n, k, l))
 
-      by : (ts : List Task) → tasks_left old ≡ ts → Moves ts rules old new b c (Some stop) → IsFinished (ended goal) w0 a c stop new
+      by : (ts : List Task) → tasks_left old ≡ ts → Moves ts rules old new b c (Some stop) → IsFinished (ran_of goal) w0 a c stop new
       by [] is h = over_so stop h (empty running.conf.tasks is refl)
-      by (t ∷ ts) is h = stops_so stop (moved (setup_in rules old) running.conf).step refl (h.comes running.conf (subst (λ l. ShowsWith l old running.conf) is running.shown) fine)
+      by (t ∷ ts) is h = stops_so stop (after_move (setup_in rules old) running.conf).step refl (h.comes running.conf (subst (λ l. ShowsWith l old running.conf) is running.shown) fine)

@@ -13,7 +13,7 @@ use Rattle.vlt_meaning.specs.World.{Frame, World, left_behind}
 use Rattle.vlt_meaning.specs.Step.{Step, goes, jumps, leaves, ends, where_so, left_block, are_unused}
 use Rattle.vlt_meaning.specs.Run.{Setup}
 use Rattle.vlt_machine.specs.Machine as m
-use Rattle.vlt_machine.specs.Machine.{at, list_moves, moved}
+use Rattle.vlt_machine.specs.Machine.{at, list_moves, after_move}
 use Rattle.vlt_machine.specs.Bounds.{tall_of, frames}
 use Rattle.vlt_machine.proofs.Fitting.{suffices}
 use Rattle.vlt_steps.specs.Writing.{Outside}
@@ -72,7 +72,7 @@ left_came b r f bound us (ends o w) q = stays_here b r f us (ends o w) q
 pub closing_goes : (rules : Rules) (r : Run) (b : Outside) → CanDoTask Closing rules r → GoesTask Closing rules r r b b None
 closing_goes rules r b can = record {
   keeps = keeps_all r can.room.heap;
-  comes = by_closing r (tasks_left r) (λ c. IsFine (setup_in rules r) c → CameTo (world_in c.step) b b None r (moved (setup_in rules r) c) (moved (setup_in rules r) c).step)
+  comes = by_closing r (tasks_left r) (λ c. IsFine (setup_in rules r) c → CameTo (world_in c.step) b b None r (after_move (setup_in rules r) c) (after_move (setup_in rules r) c).step)
       (λ f bound us a q fine. left_came b r f bound us a (behind_closing r (tasks_left r) f (m.closing bound) us a q));
 }
 
@@ -134,7 +134,7 @@ list_over s b r f us (ends o w) q = stays_here b r f us (ends o w) q
 pub list_ends : (rules : Rules) (r : Run) (ss : Bor (List Stmt)) (b : Outside) → ss.now ≡ [] → CanDoTask (Listed ss) rules r → GoesTask (Listed ss) rules r r b b None
 list_ends rules r ss b none can = record {
   keeps = keeps_all r can.room.heap;
-  comes = by_list r (tasks_left r) ss (λ c. IsFine (setup_in rules r) c → CameTo (world_in c.step) b b None r (moved (setup_in rules r) c) (moved (setup_in rules r) c).step)
+  comes = by_list r (tasks_left r) ss (λ c. IsFine (setup_in rules r) c → CameTo (world_in c.step) b b None r (after_move (setup_in rules r) c) (after_move (setup_in rules r) c).step)
       (λ f ts us a e q fine. subst (λ xs. Came (world_in a) b b None r (list_moves (setup_in rules r) f xs us a)) (ap stmts_of (sym none) ∙ e) (list_over (setup_in rules r) b r f us a (behind_list r (tasks_left r) ss f (m.list ts) us a q)));
 }
 
@@ -150,7 +150,7 @@ leave_passes s f (next place form rest) us x kept w = refl
 pub list_jumps : (rules : Rules) (r : Run) (ss : Bor (List Stmt)) (b : Outside) (k : Bool) → r.at ≡ Jumps k → CanDoTask (Listed ss) rules r → GoesTask (Listed ss) rules r r b b None
 list_jumps rules r ss b k is can = record {
   keeps = keeps_all r can.room.heap;
-  comes = by_list r (tasks_left r) ss (λ c. IsFine (setup_in rules r) c → CameTo (world_in c.step) b b None r (moved (setup_in rules r) c) (moved (setup_in rules r) c).step)
+  comes = by_list r (tasks_left r) ss (λ c. IsFine (setup_in rules r) c → CameTo (world_in c.step) b b None r (after_move (setup_in rules r) c) (after_move (setup_in rules r) c).step)
       (λ f ts us a e q. by_jumps q.items r f (λ x. ShowsConf r (at f us x) → IsFine (setup_in rules r) (at f (m.list ts ∷ us) x) → Came (world_in x) b b None r (list_moves (setup_in rules r) f ts us x)) r.at k is
       (λ c frame w h here fine. subst (λ y. Came w b b None r y) (sym (jump_passes (setup_in rules r) f ts us c frame w)) (stays_here b r f us (jumps c frame w) here)) a q.step (behind_list r (tasks_left r) ss f (m.list ts) us a q));
 }
@@ -158,7 +158,7 @@ list_jumps rules r ss b k is can = record {
 pub list_leaves : (rules : Rules) (r : Run) (ss : Bor (List Stmt)) (b : Outside) → r.at ≡ Leaves → CanDoTask (Listed ss) rules r → GoesTask (Listed ss) rules r r b b None
 list_leaves rules r ss b is can = record {
   keeps = keeps_all r can.room.heap;
-  comes = by_list r (tasks_left r) ss (λ c. IsFine (setup_in rules r) c → CameTo (world_in c.step) b b None r (moved (setup_in rules r) c) (moved (setup_in rules r) c).step)
+  comes = by_list r (tasks_left r) ss (λ c. IsFine (setup_in rules r) c → CameTo (world_in c.step) b b None r (after_move (setup_in rules r) c) (after_move (setup_in rules r) c).step)
       (λ f ts us a e q. by_leaves q.items r f (λ x. ShowsConf r (at f us x) → IsFine (setup_in rules r) (at f (m.list ts ∷ us) x) → Came (world_in x) b b None r (list_moves (setup_in rules r) f ts us x)) r.at is
       (λ x kept w h here fine. subst (λ y. Came w b b None r y) (sym (leave_passes (setup_in rules r) f ts us x kept w)) (stays_here b r f us (leaves x kept w) here)) a q.step (behind_list r (tasks_left r) ss f (m.list ts) us a q));
 }

@@ -15,7 +15,7 @@ use Rattle.vlt_meaning.specs.Step.{Step, goes, jumps, leaves}
 use Rattle.vlt_meaning.specs.Calls.{back_in}
 use Rattle.vlt_meaning.specs.Run.{Setup}
 use Rattle.vlt_machine.specs.Machine as m
-use Rattle.vlt_machine.specs.Machine.{Conf, at, turn_moves, turn_on, moved}
+use Rattle.vlt_machine.specs.Machine.{Conf, at, turn_moves, turn_on, after_move}
 use Rattle.vlt_frames.specs.declared.waiting.Waiting.{Waiting}
 use Rattle.vlt_steps.specs.Writing.{Outside}
 use Rattle.vlt_steps.specs.declared.stop.Stop.{Stop}
@@ -93,7 +93,7 @@ module _ (rules : Rules) (old mid : Run) (ss rest : Bor (List Stmt)) (x : Stmt) 
   pub list_acts : (new : Run) (before after : Outside) (result : Option Stop) → Acts (form_of x.form) rules put new before after result → GoesTask (Listed ss) rules old new before after result
   list_acts new before after result acts = record {
     keeps = keeps_on old put new put_keeps acts.keeps;
-    comes = from_list (λ c. IsFine (setup_in rules old) c → CameTo (world_in c.step) before after result new (moved (setup_in rules old) c) (moved (setup_in rules old) c).step) (λ f us frame w q fine.
+    comes = from_list (λ c. IsFine (setup_in rules old) c → CameTo (world_in c.step) before after result new (after_move (setup_in rules old) c) (after_move (setup_in rules old) c).step) (λ f us frame w q fine.
         acts.comes f (m.list (stmts_of rest.now) ∷ us) frame w (put_front f us frame w q) (known f us frame w fine).known);
   }
 
@@ -162,7 +162,7 @@ module _ (rules : Rules) (r : Run) (e : Bor CodeExpr) (b : Bor CodeBlock) (can :
   pub goes_turn : r.at ≡ GoesOn → (new : Run) (x : Outside) (result : Option Stop) → ((s : Setup) → Does (doing (loop (expr_of e.now) (block_of b.now))) s r new x x result) → GoesTask (Turn e b) rules r new x x result
   goes_turn is new x result does = record {
     keeps = (does (setup_in rules r)).keeps;
-    comes = by_turn r (tasks_left r) e b (λ c. IsFine (setup_in rules r) c → CameTo (world_in c.step) x x result new (moved (setup_in rules r) c) (moved (setup_in rules r) c).step) (λ f d body us a t q.
+    comes = by_turn r (tasks_left r) e b (λ c. IsFine (setup_in rules r) c → CameTo (world_in c.step) x x result new (after_move (setup_in rules r) c) (after_move (setup_in rules r) c).step) (λ f d body us a t q.
         by_goes q.items r f (λ y. ShowsWith (Turn e b ∷ tasks_left r) r (at f (m.turn d body ∷ us) y) → IsFine (setup_in rules r) (at f (m.turn d body ∷ us) y) → Came (world_in y) x x result new (turn_moves (setup_in rules r) f d body us y)) r.at is
         (λ frame w old q fine. subst (Came w x x result new) (sym (turned_is (setup_in rules r) f d body us frame w t)) ((does (setup_in rules r)).comes f us frame w (behind_turn r (tasks_left r) e b f _ us (goes frame w) q))) a q.step q);
   }
@@ -190,7 +190,7 @@ module _ (rules : Rules) (r : Run) (e : Bor CodeExpr) (b : Bor CodeBlock) (can :
   pub jumps_turn : r.at ≡ Jumps true → (new : Run) (x : Outside) (result : Option Stop) → ((s : Setup) → Does (doing (loop (expr_of e.now) (block_of b.now))) s on_run new x x result) → GoesTask (Turn e b) rules r new x x result
   jumps_turn is new x result does = record {
     keeps = on_keeps new (does (setup_in rules r)).keeps;
-    comes = from_jump true is (λ c. IsFine (setup_in rules r) c → CameTo (world_in c.step) x x result new (moved (setup_in rules r) c) (moved (setup_in rules r) c).step) (λ f d body us frame w t q runs fine.
+    comes = from_jump true is (λ c. IsFine (setup_in rules r) c → CameTo (world_in c.step) x x result new (after_move (setup_in rules r) c) (after_move (setup_in rules r) c).step) (λ f d body us frame w t q runs fine.
         subst (Came w x x result new) (sym (turned_is (setup_in rules r) f d body us frame w t)) ((does (setup_in rules r)).comes f us frame w (on_shown f d body us (jumps true frame w) frame w q runs)));
   }
 
@@ -198,14 +198,14 @@ module _ (rules : Rules) (r : Run) (e : Bor CodeExpr) (b : Bor CodeBlock) (can :
   pub jumps_out : r.at ≡ Jumps false → (x : Outside) → GoesTask (Turn e b) rules r on_run x x None
   jumps_out is x = record {
     keeps = on_keeps on_run (keeps_all on_run can.room.heap);
-    comes = from_jump false is (λ c. IsFine (setup_in rules r) c → CameTo (world_in c.step) x x None on_run (moved (setup_in rules r) c) (moved (setup_in rules r) c).step) (λ f d body us frame w t q runs fine.
+    comes = from_jump false is (λ c. IsFine (setup_in rules r) c → CameTo (world_in c.step) x x None on_run (after_move (setup_in rules r) c) (after_move (setup_in rules r) c).step) (λ f d body us frame w t q runs fine.
         stays_here x on_run f us (goes frame w) (on_shown f d body us (jumps false frame w) frame w q runs));
   }
 
   pub leaves_loop : r.at ≡ Leaves → (x : Outside) → GoesTask (Turn e b) rules r r x x None
   leaves_loop is x = record {
     keeps = keeps_all r can.room.heap;
-    comes = by_turn r (tasks_left r) e b (λ c. IsFine (setup_in rules r) c → CameTo (world_in c.step) x x None r (moved (setup_in rules r) c) (moved (setup_in rules r) c).step) (λ f d body us a t q.
+    comes = by_turn r (tasks_left r) e b (λ c. IsFine (setup_in rules r) c → CameTo (world_in c.step) x x None r (after_move (setup_in rules r) c) (after_move (setup_in rules r) c).step) (λ f d body us a t q.
         by_leaves q.items r f (λ y. ShowsWith (Turn e b ∷ tasks_left r) r (at f (m.turn d body ∷ us) y) → IsFine (setup_in rules r) (at f (m.turn d body ∷ us) y) → Came (world_in y) x x None r (turn_moves (setup_in rules r) f d body us y)) r.at is
         (λ z kept w old q fine. stays_here x r f us (leaves z kept w) (behind_turn r (tasks_left r) e b f _ us (leaves z kept w) q)) a q.step q);
   }

@@ -7,7 +7,7 @@ use Rattle.vlt_core.specs.Widths.{greatest}
 use Rattle.vlt_heap.specs.Items.{Items}
 use Rattle.vlt_meaning.specs.Run.{Setup}
 use Rattle.vlt_machine.specs.Machine as m
-use Rattle.vlt_machine.specs.Machine.{Conf, moved}
+use Rattle.vlt_machine.specs.Machine.{Conf, after_move}
 use Rattle.vlt_machine.specs.Bounds.{tall_of}
 use Rattle.vlt_machine.proofs.Halting.{fuel_in, form_weight, block_weight, list_weight, arms_weight, weight, move_shrinks}
 use Rattle.vlt_values.specs.declared.values.Values.{Values}
@@ -170,12 +170,12 @@ falls_by k n n' m m' few s =
     s
 
 -- each move falls
-pub moved_falls : (r : Setup) (c : Conf) (t : m.Task) (ts : List m.Task) → c.tasks ≡ t ∷ ts → length (moved r c).tasks ≤ r.depth * (tall_of r.program + 1) → HoldsIn (IsSmallList (size_of r.program)) (IsSmall (size_of r.program)) r.program (moved r c).func (moved r c).tasks
-    → fuel_in (moved r c) * (most_left r.program r.depth + 1) + weight (moved r c).tasks < fuel_in c * (most_left r.program r.depth + 1) + weight c.tasks
+pub moved_falls : (r : Setup) (c : Conf) (t : m.Task) (ts : List m.Task) → c.tasks ≡ t ∷ ts → length (after_move r c).tasks ≤ r.depth * (tall_of r.program + 1) → HoldsIn (IsSmallList (size_of r.program)) (IsSmall (size_of r.program)) r.program (after_move r c).func (after_move r c).tasks
+    → fuel_in (after_move r c) * (most_left r.program r.depth + 1) + weight (after_move r c).tasks < fuel_in c * (most_left r.program r.depth + 1) + weight c.tasks
 moved_falls r c t ts is few small =
-    let a = light r.program (moved r c).func (moved r c).tasks small.tasks in
-    let b : length (moved r c).tasks * size_of r.program ≤ most_left r.program r.depth = mul-le-mul_right (size_of r.program) few in
-    falls_by (most_left r.program r.depth) (fuel_in c) (fuel_in (moved r c)) (weight c.tasks) (weight (moved r c).tasks) (omega (arith, a, b)) (shrinks r c t ts is)
+    let a = light r.program (after_move r c).func (after_move r c).tasks small.tasks in
+    let b : length (after_move r c).tasks * size_of r.program ≤ most_left r.program r.depth = mul-le-mul_right (size_of r.program) few in
+    falls_by (most_left r.program r.depth) (fuel_in c) (fuel_in (after_move r c)) (weight c.tasks) (weight (after_move r c).tasks) (omega (arith, a, b)) (shrinks r c t ts is)
   where
-    shrinks : (r : Setup) (c : Conf) (t : m.Task) (ts : List m.Task) → c.tasks ≡ t ∷ ts → (fuel_in (moved r c) < fuel_in c) ⊎ ((fuel_in (moved r c) ≤ fuel_in c) × (weight (moved r c).tasks < weight c.tasks))
+    shrinks : (r : Setup) (c : Conf) (t : m.Task) (ts : List m.Task) → c.tasks ≡ t ∷ ts → (fuel_in (after_move r c) < fuel_in c) ⊎ ((fuel_in (after_move r c) ≤ fuel_in c) × (weight (after_move r c).tasks < weight c.tasks))
     shrinks r c t ts is = subst (λ us. (fuel_in (m.moved_in r c.func us c.step) < fuel_in c) ⊎ ((fuel_in (m.moved_in r c.func us c.step) ≤ fuel_in c) × (weight (m.moved_in r c.func us c.step).tasks < weight us))) (sym is) (move_shrinks r c.func t ts c.step)

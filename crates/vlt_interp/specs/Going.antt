@@ -6,7 +6,7 @@ use Rattle.vlt_meaning.specs.World.{Frame, World}
 use Rattle.vlt_meaning.specs.Step.{goes}
 use Rattle.vlt_meaning.specs.Run.{Setup}
 use Rattle.vlt_machine.specs.Machine as m
-use Rattle.vlt_machine.specs.Machine.{Conf, at, moved}
+use Rattle.vlt_machine.specs.Machine.{Conf, at, after_move}
 use Rattle.vlt_machine.specs.Bounds.{Fits}
 use Rattle.vlt_heap.specs.Shown.{heap_of}
 use Rattle.vlt_steps.specs.Writing.{Outside}
@@ -28,7 +28,7 @@ setup_in rules r = setup_of rules (heap_of r.heap)
 
 -- the move from there doesn't go wrong, and the stack fits
 pub record IsFine (s : Setup) (c : Conf) : Type 0 where
-  pub right : IsRight (moved s c).step
+  pub right : IsRight (after_move s c).step
   pub fits : Fits s c
   pub own : IsOwnConf s.program c
   pub knows : KnowsNext s.program c
@@ -52,7 +52,7 @@ CanDoTask t rules r = CanGo (t ∷ tasks_left r) rules r
 pub record Goes (tasks : List Task) (s : Setup) (old new : Run) (before after : Outside) (result : Option Stop) : Type 0 where
   pub keeps : Keeps old new
   pub comes : (c : Conf) → ShowsWith tasks old c → IsFine s c →
-      CameTo (world_in c.step) before after result new (moved s c) (moved s c).step
+      CameTo (world_in c.step) before after result new (after_move s c) (after_move s c).step
 
 abbrev pub GoesTask : Task → Rules → (old new : Run) → (before after : Outside) → Option Stop → Type 0
 GoesTask t rules old new before after result = Goes (t ∷ tasks_left old) (setup_in rules old) old new before after result

@@ -4,7 +4,7 @@ use Rattle.vlt_core.specs.View.{program_of}
 use Rattle.vlt_numbers.specs.HostAnswers.{lists_of}
 use Rattle.vlt_meaning.specs.World.{World, Ran, is_fault}
 use Rattle.vlt_meaning.specs.Step.{Step}
-use Rattle.vlt_meaning.specs.Run.{start, ended, main_run}
+use Rattle.vlt_meaning.specs.Run.{start, ran_of, main_run}
 use Rattle.vlt_machine.specs.Machine.{Conf}
 use Rattle.vlt_machine.specs.Laws.{LeadsTo}
 use Rattle.vlt_steps.specs.Writing.{Outside}
@@ -34,7 +34,7 @@ pub record IsRunning (rules : Rules) (goal : Step) (w : World) (before after : O
   pub shown : ShowsConf r conf
   pub reached : IsReached (setup_in rules r) conf
   pub leads : LeadsTo (setup_in rules r) conf goal
-  pub right : is_fault (ended goal).outcome ≡ false
+  pub right : is_fault (ran_of goal).outcome ≡ false
   pub wrote : Wrote w (world_in conf.step) before after
 
 -- the run came to its end, or the sink took a part of what it writes

@@ -2,7 +2,7 @@
 
 ghost use Rattle.vlt_core.specs.View.{program_of};
 ghost use Rattle.vlt_numbers.specs.HostAnswers.{lists_of};
-ghost use Rattle.vlt_meaning.specs.Run.{ended};
+ghost use Rattle.vlt_meaning.specs.Run.{ran_of};
 ghost use Rattle.vlt_steps.specs.Writing.{Outside};
 ghost use Rattle.vlt_rooms.specs.Start.{IsSet};
 ghost use Rattle.vlt_interp.specs.Reached.{IsRunnable};
@@ -24,7 +24,7 @@ use vlt_tasks::{At, Rules, Run, Task};
 fn finish<'a, K: Sink>(rules: &Rules<'a>, run: &mut Run<'a, '_>, sink: &mut K) -> Stop
     requires start { (b : Outside) → IsRunning rules.now (goal_of rules.now run.old)
         (start_of run.old) b b run.old }
-    ensures { IsFinished (ended (goal_of rules.now run.old)) (start_of run.old)
+    ensures { IsFinished (ran_of (goal_of rules.now run.old)) (start_of run.old)
         (record { written = K.written sink.old; faults = K.faults sink.old })
         (record { written = K.written sink.new; faults = K.faults sink.new }) result run.new }
 {

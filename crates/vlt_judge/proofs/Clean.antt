@@ -1,7 +1,7 @@
 -- In a body in which a token is lent in a focus alone, what is found present at a spot is of one kind.
 use Rattle.std.proofs.Common.{◌≡◌, ◌+◌, ◌||◌, ℕ, zero, suc, Bool, true, false, List, [], ◌∷◌, map, length, refl, sym, ap, ◌∙◌, subst, ◌⊎◌, inl, inr, ⊎_elim}
 use Rattle.vlt_core.specs.Core.{Tok}
-use Rattle.vlt_core.specs.Maps.{Wanted, wants_absent, wants_held, wants_in, wants_lent, wants_full, After, becomes_absent, becomes_held, stays, becomes_full, becomes_lent, comes_back, Row, Kind, is_absent, is_held, is_lent, is_full, is_tok, gone}
+use Rattle.vlt_core.specs.Maps.{Wanted, wants_absent, wants_held, wants_in, wants_lent, wants_full, After, becomes_absent, becomes_held, stays, becomes_full, becomes_lent, comes_back, Row, Kind, is_absent, is_held, is_lent, is_full, is_tok, away_row}
 use Rattle.vlt_core.specs.Flow.{Flow, step, choose, loop, switch, scope, focus, return, jump, Block, block, Stmts, done, next, Arms, no_arms, arm, end_of}
 use Rattle.vlt_core.specs.Found.{One, one_absent, one_held, one_lent, one_full, Ones, WantsOne, LeftBy, image_if, image, images, both, turns, Exit, to_next, to_continue, out, out_block, out_stmts, head_of}
 use Rattle.vlt_core.specs.Faults.{Spot, If, IsMixed, IsPresent, present_of, spots, spots_block, spots_stmts, RowAt, SpotAt, SpotAtBlock, SpotAtStmts, SpotAtArms}
@@ -158,13 +158,13 @@ module _ (P P' : Row → Ones → Type 0) (Q Q' : Ones → Type 0) (f : (r : Row
           (λ y. inr (inl (clean_block s (is_tok t w.0.0 || b) (n + length rs) (images t rs S) w.1 h.1 m y)))
           (λ y. inr (inr (clean_rows p (end_of s) (n + length rs + spots_block s) t es (out_block t s (images t rs S) to_next) (good_clean (is_tok t w.0.0 || b) t (out_block t s (images t rs S) to_next) after) y)))) x
       clean_spot (return rs) b at n S w h k x = clean_rows p at n t rs S (good_clean b t S k) x
-      clean_spot (jump c left) b at n S w h k x = clean_rows p at n t (map gone left) S (good_clean b t S k) x
+      clean_spot (jump c left) b at n S w h k x = clean_rows p at n t (map away_row left) S (good_clean b t S k) x
 
       pub clean_block : (s : Block) (b : Bool) (n : ℕ) (S : Ones) → IsTameBlock s → HasFilledBlock s → ((o : One) → S o → IsGood b t o) → SpotAtBlock P Q p t n s S → SpotAtBlock P' Q' p t n s S
       clean_block (block ss bound end) b n S w h k x =
           let after = good_block (block ss [] 0) t b S w h k to_next in
           ⊎_elim (λ y. inl (clean_stmts ss b n S w h k y))
-          (λ y. inr (clean_rows p end (n + spots_stmts ss) t (map gone bound) (out_stmts t ss S to_next) (good_clean b t (out_stmts t ss S to_next) (λ o z. after o z)) y)) x
+          (λ y. inr (clean_rows p end (n + spots_stmts ss) t (map away_row bound) (out_stmts t ss S to_next) (good_clean b t (out_stmts t ss S to_next) (λ o z. after o z)) y)) x
 
       clean_stmts : (ss : Stmts) (b : Bool) (n : ℕ) (S : Ones) → IsTameStmts ss → HasFilledStmts ss → ((o : One) → S o → IsGood b t o) → SpotAtStmts P Q p t n ss S → SpotAtStmts P' Q' p t n ss S
       clean_stmts done b n S w h k x = x

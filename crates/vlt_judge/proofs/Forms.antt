@@ -1,7 +1,7 @@
 -- Each form from the judged parts of it: the room and the tables of the parts, and the whole.
 use Rattle.std.proofs.Common.{◌≡◌, ◌<◌, ◌+◌, ◌^◌, ℕ, Bool, true, false, List, map, length, refl, sym, ap, ◌∙◌, subst, arith, Option}
 use Rattle.vlt_core.specs.Core.{Tok}
-use Rattle.vlt_core.specs.Maps.{Row, gone}
+use Rattle.vlt_core.specs.Maps.{Row, away_row}
 use Rattle.vlt_core.specs.Flow.{choose, loop, switch, scope, focus, return, jump, Block, block, Stmts, Arms, end_of, size, size_block, size_arms}
 use Rattle.vlt_core.specs.Found.{One, Ones, images, jumps, out, out_block, out_stmts, to_next, head_of}
 use Rattle.vlt_core.specs.Faults.{spots, spots_block, spots_arms}
@@ -55,10 +55,10 @@ no_jump : (c : Bool) (S : Ones) (o : One) → jumps c to_next S o → ⊥
 no_jump true S o x = x
 no_jump false S o x = x
 
-pub jump_judged : (t : Tok) (at : ℕ) (c : Bool) (left : List Tok) (from : Point) (x : Option Blame) (len : ℕ) (r : Judged) → len ≡ length left → FirstOfRows t at from.spot (map gone left) (at_point from) x → IsBehindAll x len from r → IsJudged t at (jump c left) from r
+pub jump_judged : (t : Tok) (at : ℕ) (c : Bool) (left : List Tok) (from : Point) (x : Option Blame) (len : ℕ) (r : Judged) → len ≡ length left → FirstOfRows t at from.spot (map away_row left) (at_point from) x → IsBehindAll x len from r → IsJudged t at (jump c left) from r
 jump_judged t at c left from x len r same f b = record {
   first = subst (λ y. FirstOfForm t at from.spot (jump c left) (at_point from) y) (sym b.first) f;
-  just = record { there = λ o y. absurd (b.none o y); back = λ o y. absurd (no_jump c (images t (map gone left) (at_point from)) o y) };
+  just = record { there = λ o y. absurd (b.none o y); back = λ o y. absurd (no_jump c (images t (map away_row left) (at_point from)) o y) };
   behind = record { stmt = b.stmt; spot = b.spot ∙ ap (λ n. from.spot + n) same };
 }
 
@@ -180,12 +180,12 @@ module _ (k : Marks) (t : Tok) (at : ℕ) (rs : List Row) (s : Block) (es : List
 -- ---- blocks
 
 module _ (k : Marks) (t : Tok) (ss : Stmts) (bound : List Tok) (end : ℕ) (from : Point) (len : ℕ) (same : len ≡ length bound) where
-  pub block_judged : (j : Judged) (left : D.Ones) (z r : Option Blame) → IsJudgedStmts t ss from j → FirstOfRows t end j.next.spot (map gone bound) (at_point j.next) z → IsImage t (map gone bound) (many_of j.next.ones) (many_of left) → IsEarlier j.first z r →
+  pub block_judged : (j : Judged) (left : D.Ones) (z r : Option Blame) → IsJudgedStmts t ss from j → FirstOfRows t end j.next.spot (map away_row bound) (at_point j.next) z → IsImage t (map away_row bound) (many_of j.next.ones) (many_of left) → IsEarlier j.first z r →
       IsJudgedBlock t (block ss bound end) from (judged r j.next.stmt (j.next.spot + len) left)
   block_judged j left z r inside fz last e =
       let x = inside.behind.stmt in let y = inside.behind.spot in
       record {
-        first = block_first t from.spot ss bound end (at_point from) (at_point j.next) j.first z r inside.just inside.first (subst (λ n. FirstOfRows t end n (map gone bound) (at_point j.next) z) y fz) e;
-        just = same_chain (In (many_of left)) (images t (map gone bound) (at_point j.next)) (images t (map gone bound) (out_stmts t ss (at_point from) to_next)) (image_same t (map gone bound) (many_of j.next.ones) (many_of left) last) (images_same t (map gone bound) (at_point j.next) (out_stmts t ss (at_point from) to_next) inside.just);
+        first = block_first t from.spot ss bound end (at_point from) (at_point j.next) j.first z r inside.just inside.first (subst (λ n. FirstOfRows t end n (map away_row bound) (at_point j.next) z) y fz) e;
+        just = same_chain (In (many_of left)) (images t (map away_row bound) (at_point j.next)) (images t (map away_row bound) (out_stmts t ss (at_point from) to_next)) (image_same t (map away_row bound) (many_of j.next.ones) (many_of left) last) (images_same t (map away_row bound) (at_point j.next) (out_stmts t ss (at_point from) to_next) inside.just);
         behind = record { stmt = x; spot = omega (arith, y, same) };
       }

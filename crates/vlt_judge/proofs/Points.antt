@@ -1,7 +1,7 @@
 -- The first fault of a part from the firsts of what is in it.
 use Rattle.std.proofs.Common.{◌≡◌, ◌+◌, ℕ, List, [], map, length, sym, subst, Option, inl, inr, ⊎_elim}
 use Rattle.vlt_core.specs.Core.{Tok}
-use Rattle.vlt_core.specs.Maps.{Row, gone}
+use Rattle.vlt_core.specs.Maps.{Row, away_row}
 use Rattle.vlt_core.specs.Flow.{choose, loop, switch, focus, Block, block, Stmts, Arms, no_arms, arm, end_of, size_block}
 use Rattle.vlt_core.specs.Found.{Ones, images, out, out_block, out_stmts, to_next, head_of}
 use Rattle.vlt_core.specs.Faults.{Spot, head_spot, join_spot, spots_block, spots_stmts, spots_arms, IsMixed, IsUnwanted, FaultKind, SpotAtArms}
@@ -108,6 +108,6 @@ loop_first t at n rs s S H P J v w x z r1 r2 r3 h p j fv fw fx fz e1 e2 e3 =
     (first_sum t x z r1 _ _ _ _ (block_first_same t (n + 1 + length rs) s P (images t rs top) x inside fx)
     (join_first_same t (join_spot (end_of s) (n + 1 + length rs + spots_block s)) J (out t (loop rs s) S to_next) z j fz) e1) e2) e3
 
-pub block_first : (t : Tok) (n : ℕ) (ss : Stmts) (bound : List Tok) (end : ℕ) (S Q : Ones) (x z r : Option Blame) → IsSameOnes Q (out_stmts t ss S to_next) → FirstOfStmts t n ss S x → FirstOfRows t end (n + spots_stmts ss) (map gone bound) Q z → IsEarlier x z r → FirstOfBlock t n (block ss bound end) S r
+pub block_first : (t : Tok) (n : ℕ) (ss : Stmts) (bound : List Tok) (end : ℕ) (S Q : Ones) (x z r : Option Blame) → IsSameOnes Q (out_stmts t ss S to_next) → FirstOfStmts t n ss S x → FirstOfRows t end (n + spots_stmts ss) (map away_row bound) Q z → IsEarlier x z r → FirstOfBlock t n (block ss bound end) S r
 block_first t n ss bound end S Q x z r q fx fz e =
-    first_sum t x z r _ _ _ _ fx (rows_first_same t end (n + spots_stmts ss) (map gone bound) Q (out_stmts t ss S to_next) z q fz) e
+    first_sum t x z r _ _ _ _ fx (rows_first_same t end (n + spots_stmts ss) (map away_row bound) Q (out_stmts t ss S to_next) z q fz) e

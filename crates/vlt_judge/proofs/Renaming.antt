@@ -1,7 +1,7 @@
 -- Two tokens that no row of a part names are told apart by nothing in it.
 use Rattle.std.proofs.Common.{◌≡◌, ◌+◌, ℕ, false, List, [], ◌∷◌, map, length, ◌⊎◌, sym, ◌∙◌}
 use Rattle.vlt_core.specs.Core.{Tok}
-use Rattle.vlt_core.specs.Maps.{Row, is_tok, gone}
+use Rattle.vlt_core.specs.Maps.{Row, is_tok, away_row}
 use Rattle.vlt_core.specs.Flow.{Flow, step, choose, loop, switch, scope, focus, return, jump, Block, block, Stmts, done, next, Arms, no_arms, arm, end_of, size, size_block}
 use Rattle.vlt_core.specs.Found.{Ones, image_if, images, both, heads, Exit, to_next, to_break, to_continue, jumps, out, out_block, out_stmts, out_arms, head_of}
 use Rattle.vlt_core.specs.Faults.{Spot, head_spot, join_spot, row_spot, If, spots, spots_block, spots_stmts, spots_arms, RowAt, SpotAt, SpotAtBlock, SpotAtStmts, SpotAtArms}
@@ -39,11 +39,11 @@ module _ (t u : Tok) where
     out_named (focus rs s es) to_break p q = let m = images_named rs p.0 q.0 in let f = out_block_named s to_break p.1.0 q.1.0 in λ i S o. f i (λ z. m i S z) o
     out_named (focus rs s es) to_continue p q = let m = images_named rs p.0 q.0 in let f = out_block_named s to_continue p.1.0 q.1.0 in λ i S o. f i (λ z. m i S z) o
     out_named (return rs) x p q = λ i S o. ⊥
-    out_named (jump c left) x p q = let m = images_named (map gone left) p q in λ i S o. jumps c x (λ y. m i S y) o
+    out_named (jump c left) x p q = let m = images_named (map away_row left) p q in λ i S o. jumps c x (λ y. m i S y) o
 
     out_block_named : (s : Block) (x : Exit) → AvoidsBlock t s → AvoidsBlock u s → ◌≡◌ {A = Ones → Ones} (λ S. out_block t s S x) (λ S. out_block u s S x)
     out_block_named (block ss bound end) to_next p q =
-        let f = out_stmts_named ss to_next p.0 q.0 in let m = images_named (map gone bound) p.1 q.1 in λ i S o. m i (λ y. f i S y) o
+        let f = out_stmts_named ss to_next p.0 q.0 in let m = images_named (map away_row bound) p.1 q.1 in λ i S o. m i (λ y. f i S y) o
     out_block_named (block ss bound end) to_break p q = let f = out_stmts_named ss to_break p.0 q.0 in λ i S o. f i S o
     out_block_named (block ss bound end) to_continue p q = let f = out_stmts_named ss to_continue p.0 q.0 in λ i S o. f i S o
 
@@ -159,11 +159,11 @@ module _ (t u : Tok) where
           let m = images_named rs p.0 q.0 in let r = rows_named at n rs p.0 q.0 in let f = spot_block_named s (n + length rs) p.1.0 q.1.0 in let x = out_block_named s to_next p.1.0 q.1.0 in let e = rows_named (end_of s) (n + length rs + spots_block s) es p.1.1 q.1.1 in
           λ i S. r i S ⊎ (f i (λ y. m i S y) ⊎ e i (λ z. x i (λ y. m i S y) z))
       spot_named (return rs) at n p q = let f = rows_named at n rs p q in λ i S. f i S
-      spot_named (jump c left) at n p q = let f = rows_named at n (map gone left) p q in λ i S. f i S
+      spot_named (jump c left) at n p q = let f = rows_named at n (map away_row left) p q in λ i S. f i S
 
       pub spot_block_named : (s : Block) (n : ℕ) → AvoidsBlock t s → AvoidsBlock u s → SpotAtBlock P Q w t n s ≡ SpotAtBlock P Q w u n s
       spot_block_named (block ss bound end) n p q =
-          let f = spot_stmts_named ss n p.0 q.0 in let x = out_stmts_named ss to_next p.0 q.0 in let r = rows_named end (n + spots_stmts ss) (map gone bound) p.1 q.1 in
+          let f = spot_stmts_named ss n p.0 q.0 in let x = out_stmts_named ss to_next p.0 q.0 in let r = rows_named end (n + spots_stmts ss) (map away_row bound) p.1 q.1 in
           λ i S. f i S ⊎ r i (λ y. x i S y)
 
       spot_stmts_named : (ss : Stmts) (n : ℕ) → AvoidsStmts t ss → AvoidsStmts u ss → SpotAtStmts P Q w t n ss ≡ SpotAtStmts P Q w u n ss

@@ -1,7 +1,7 @@
 -- How much a part has, and which tokens its rows name.
 use Rattle.std.specs.Prelude.{◌≡◌, ℕ, ◌+◌, ◌≤◌, false, List, [], ◌∷◌, map}
 use Rattle.vlt_core.specs.Core.{Tok, a_key, a_var}
-use Rattle.vlt_core.specs.Maps.{Row, is_tok, gone}
+use Rattle.vlt_core.specs.Maps.{Row, is_tok, away_row}
 use Rattle.vlt_core.specs.Flow.{Flow, step, choose, loop, switch, scope, focus, return, jump, Block, block, Stmts, done, next, Arms, no_arms, arm}
 use Rattle.vlt_judge.specs.declared.extent.Extent.{Extent}
 
@@ -19,10 +19,10 @@ abbrev mutual
   Avoids t (scope s) = AvoidsBlock t s
   Avoids t (focus rs s es) = AvoidsRows t rs × (AvoidsBlock t s × AvoidsRows t es)
   Avoids t (return rs) = AvoidsRows t rs
-  Avoids t (jump continues left) = AvoidsRows t (map gone left)
+  Avoids t (jump continues left) = AvoidsRows t (map away_row left)
 
   pub AvoidsBlock : Tok → Block → Type 0
-  AvoidsBlock t (block ss bound end) = AvoidsStmts t ss × AvoidsRows t (map gone bound)
+  AvoidsBlock t (block ss bound end) = AvoidsStmts t ss × AvoidsRows t (map away_row bound)
 
   pub AvoidsStmts : Tok → Stmts → Type 0
   AvoidsStmts t done = Unit {0}

@@ -93,7 +93,7 @@ fn extent_of_rows(rows: &[Row]) -> Result<Extent, Memory>
 
 fn extent_of_toks(toks: &[Tok]) -> Result<Extent, Memory>
     ensures { IfOk result (IsExtent 0 (length toks.now)
-        (λ t. AvoidsRows t (map maps.gone (toks_of toks.now)))) }
+        (λ t. AvoidsRows t (map maps.away_row (toks_of toks.now)))) }
 {
     let mut sum = only(0, 0);
     for tok in toks {

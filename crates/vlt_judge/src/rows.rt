@@ -59,7 +59,7 @@ pub fn judge_rows(tok: Tok, rows: &[Row], at: u32, number: usize, m: Ones) -> Pa
 
 /// The row that wants the token away.
 fn gone(tok: Tok) -> Row
-    ensures { row_of result ≡ maps.gone (tok_of tok) }
+    ensures { row_of result ≡ maps.away_row (tok_of tok) }
 {
     Row {
         tok,
@@ -70,9 +70,9 @@ fn gone(tok: Tok) -> Row
 
 pub fn judge_gone(tok: Tok, toks: &[Tok], at: u32, number: usize, m: Ones) -> Passed
     requires { number + length toks.now < 2 ^ 63 }
-    ensures first { FirstOfRows (tok_of tok) at number (map maps.gone (toks_of toks.now))
+    ensures first { FirstOfRows (tok_of tok) at number (map maps.away_row (toks_of toks.now))
         (In (many_of m)) result.first }
-    ensures ones { IsImage (tok_of tok) (map maps.gone (toks_of toks.now)) (many_of m)
+    ensures ones { IsImage (tok_of tok) (map maps.away_row (toks_of toks.now)) (many_of m)
         (many_of result.ones) }
 {
     let mut first = None;

@@ -3,10 +3,188 @@
 //! The check and the certificate's rest on it.
 #![tactic(auto)]
 
+ghost use Rattle.std.specs.Prelude.{◌≡◌, ◌↔◌, ◌<◌, ◌^◌, length, IsTrue, IfOk, OnOk, IfErr, OnErr, IfSome, IfNone, MatchBool};
+ghost use Rattle.vlt_core.specs.View.{tok_of};
+ghost use Rattle.vlt_core.specs.HeldView.{status_of, wanted_of, row_of};
+ghost use Rattle.vlt_core.specs.Maps.{IsWanted, IsBelow, kind_of, row_passed, absent};
+ghost use Rattle.vlt_keyset.specs.Held.{map_of, HasPlace, IsSameRange, gap, IsJoin, IsTokenFault, IsJoinFault};
+ghost use Rattle.vlt_keyset.specs.Tables.{IsAlikeMap, IsAllAbsent, put_in};
+
 mod faults;
-mod held;
 mod statuses;
 mod tables;
 
 pub use faults::{JoinFault, TokenFault};
-pub use held::Held;
+use statuses::{changed, is_wanted};
+use tables::{all_below, all_same, first_apart, unite_all};
+use std::alloc::{AllocError, Global};
+use std::marker::Model;
+use vlt_base::{KeyId, Memory, VarId};
+use vlt_core::{Row, Status, Tok};
+
+/// The status of each token of a function: a table of its keys and one of its variables.
+#[derive(Drop)]
+pub struct Held {
+    keys: Vec<Status>,
+    vars: Vec<Status>,
+    ghost few_keys: { length keys.items < 2 ^ 32 },
+    ghost few_vars: { length vars.items < 2 ^ 32 },
+}
+
+impl Model for Held {
+    ghost use Rattle.vlt_keyset.specs.Held.{Statuses};
+
+    ghost Value = { Statuses };
+
+    ghost view = { λ h. record { keys = h.keys.items; vars = h.vars.items } };
+}
+
+/// A table whose tokens are all absent.
+fn absents(alloc: Global, count: u32) -> Result<Vec<Status>, AllocError>
+    ensures long { IfOk result (λ v. length v.items ≡ count) }
+    ensures absent { IfOk result (λ v. IsAllAbsent v.items) }
+{
+    let mut table = Vec::with_capacity(alloc, count as usize)?;
+    for _i in 0..count {
+        table.push(Status::Absent)?;
+    }
+    Ok(table)
+}
+
+impl Held {
+    /// A map in which each token is absent. It takes all the memory that the map ever has.
+    pub fn open(alloc: Global, keys: u32, vars: u32) -> Result<Held, Memory>
+        ensures absent { IfOk result (λ h. map_of h ≡ (λ t. absent)) }
+        ensures keys { IfOk result (λ h. length h.keys ≡ keys) }
+        ensures vars { IfOk result (λ h. length h.vars ≡ vars) }
+    {
+        let keys = absents(alloc, keys)?;
+        let vars = absents(alloc, vars)?;
+        Ok(Held { keys, vars })
+    }
+
+    pub fn copy(&self, alloc: Global) -> Result<Held, Memory>
+        ensures { IfOk result (λ h. h ≡ self.now) }
+    {
+        let keys = Vec::from_slice(alloc, self.keys.as_slice())?;
+        let vars = Vec::from_slice(alloc, self.vars.as_slice())?;
+        Ok(Held { keys, vars })
+    }
+
+    /// Whether the token has a place.
+    pub fn has(&self, t: Tok) -> bool
+        ensures { IsTrue result ↔ HasPlace self.now (tok_of t) }
+    {
+        match t {
+            Tok::Key(k) => (k.0 as usize) < self.keys.len(),
+            Tok::Var(v) => (v.0 as usize) < self.vars.len(),
+        }
+    }
+
+    /// Whether both have places for the same tokens.
+    pub fn is_range_of(&self, o: &Held) -> bool
+        ensures { IsTrue result ↔ IsSameRange self.now o.now }
+    {
+        self.keys.len() == o.keys.len() && self.vars.len() == o.vars.len()
+    }
+
+    pub fn status(&self, t: Tok) -> Status
+        requires { HasPlace self.now (tok_of t) }
+        ensures { status_of result ≡ map_of self.now (tok_of t) }
+    {
+        match t {
+            Tok::Key(k) => self.keys[k.0 as usize],
+            Tok::Var(v) => self.vars[v.0 as usize],
+        }
+    }
+
+    fn put(&mut self, t: Tok, s: Status)
+        requires { HasPlace self.old (tok_of t) }
+        ensures { self.new ≡ put_in self.old (tok_of t) s }
+    {
+        match t {
+            Tok::Key(k) => self.keys[k.0 as usize] = s,
+            Tok::Var(v) => self.vars[v.0 as usize] = s,
+        }
+    }
+
+    /// Passes a row, if its token is as wanted.
+    pub fn step(&mut self, row: Row) -> Result<(), TokenFault>
+        requires { HasPlace self.old (tok_of row.tok) }
+        ensures range { IsSameRange self.old self.new }
+        ensures wanted { OnOk result (IsWanted (wanted_of row.wanted)
+            (map_of self.old (tok_of row.tok))) }
+        ensures passed { OnOk result (map_of self.new
+            ≡ row_passed (row_of row) (map_of self.old)) }
+        ensures same { OnErr result (self.new ≡ self.old) }
+        ensures refused { IfErr result (IsTokenFault (row_of row) (map_of self.old)) }
+    {
+        let found = self.status(row.tok);
+        if !is_wanted(row.wanted, found) {
+            return Err(TokenFault {
+                tok: row.tok,
+                found,
+                wanted: row.wanted,
+            });
+        }
+        self.put(row.tok, changed(row.after, found));
+        Ok(())
+    }
+
+    pub fn le(&self, o: &Held) -> bool
+        requires { IsSameRange self.now o.now }
+        ensures { IsTrue result ↔ IsBelow (map_of self.now) (map_of o.now) }
+    {
+        all_below(self.keys.as_slice(), o.keys.as_slice())
+            && all_below(self.vars.as_slice(), o.vars.as_slice())
+    }
+
+    /// Whether both are the same.
+    pub fn is_same(&self, o: &Held) -> bool
+        ensures { IsTrue result ↔ (self.now ≡ o.now) }
+    {
+        all_same(self.keys.as_slice(), o.keys.as_slice())
+            && all_same(self.vars.as_slice(), o.vars.as_slice())
+    }
+
+    /// The first token whose kinds differ, with both statuses.
+    fn apart(&self, o: &Held) -> Option<JoinFault>
+        requires { IsSameRange self.now o.now }
+        ensures none { IfNone result (IsAlikeMap self.now o.now) }
+        ensures some { IfSome result (IsJoinFault (map_of self.now) (map_of o.now)) }
+    {
+        if let Some(i) = first_apart(self.keys.as_slice(), o.keys.as_slice()) {
+            return Some(JoinFault {
+                tok: Tok::Key(KeyId(i as u32)),
+                left: self.keys[i],
+                right: o.keys[i],
+            });
+        }
+        if let Some(i) = first_apart(self.vars.as_slice(), o.vars.as_slice()) {
+            return Some(JoinFault {
+                tok: Tok::Var(VarId(i as u32)),
+                left: self.vars[i],
+                right: o.vars[i],
+            });
+        }
+        None
+    }
+
+    /// Unites with the other map, and says whether this one grew.
+    pub fn join(&mut self, o: &Held) -> Result<bool, JoinFault>
+        requires { IsSameRange self.old o.now }
+        ensures range { IsSameRange self.old self.new }
+        ensures joined { OnOk result (IsJoin (map_of self.old) (map_of o.now) (map_of self.new)) }
+        ensures grew { IfOk result (λ g. MatchBool g (gap self.new < gap self.old) (self.new
+            ≡ self.old)) }
+        ensures same { OnErr result (self.new ≡ self.old) }
+        ensures refused { IfErr result (IsJoinFault (map_of self.old) (map_of o.now)) }
+    {
+        if let Some(fault) = self.apart(o) {
+            return Err(fault);
+        }
+        let keys = unite_all(self.keys.as_mut_slice(), o.keys.as_slice());
+        let vars = unite_all(self.vars.as_mut_slice(), o.vars.as_slice());
+        Ok(keys || vars)
+    }
+}

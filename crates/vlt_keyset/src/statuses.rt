@@ -24,7 +24,7 @@ pub fn is_wanted(wanted: Wanted, s: Status) -> bool
 
 /// The status after a row.
 pub fn changed(after: After, s: Status) -> Status
-    ensures { status_of result ≡ maps.changed (after_of after) (status_of s) }
+    ensures { status_of result ≡ maps.status_after (after_of after) (status_of s) }
 {
     match (after, s) {
         (After::Absent, _) => Status::Absent,

@@ -9,7 +9,7 @@ use Rattle.vlt_syntax.specs.Tree.{Name, Decl}
 use Rattle.vlt_kinds_names.specs.declared.globals.Global.{Global}
 use Rattle.vlt_kinds_names.specs.declared.globals.Global.TheVariants.{ASet, AType, AFunction}
 use Rattle.vlt_kinds_names.specs.Refusals.{refuse, of_each}
-use Rattle.vlt_kinds_names.specs.Globals.{Globals, global_in, is_global, decl_name, Counts, declared, counted, with_declared, globals_behind, declared_again, no_counts, globals_of}
+use Rattle.vlt_kinds_names.specs.Globals.{Globals, global_in, is_global, decl_name, Counts, global_of, counts_after, with_declared, globals_behind, declared_again, no_counts, globals_of}
 use Rattle.vlt_kinds_names.specs.Names.{no_main, names_again, names_refused}
 use Rattle.vlt_kinds_types.specs.Files.{as_set, set_in, sets_in}
 use Rattle.vlt_core.specs.declared.rules.TheConstants as rule
@@ -53,30 +53,30 @@ found_new (k ∷ known) n h same none = by (found_new known n h same) (bytes_eq 
 stays_more : (known : Globals) (c : Counts) (d : Decl) (n : List ℕ) (g : Global) → global_in known n ≡ Some g → global_in (with_declared known c d) n ≡ Some g
 stays_more known c d n g e = by (is_global known (decl_name d).text)
   where
-    by : (b : Bool) → global_in (if b then known else known ++ ((decl_name d).text, declared c d) ∷ []) n ≡ Some g
+    by : (b : Bool) → global_in (if b then known else known ++ ((decl_name d).text, global_of c d) ∷ []) n ≡ Some g
     by true = e
-    by false = stays_found (bytes_eq n) known (decl_name d).text (declared c d) g e
+    by false = stays_found (bytes_eq n) known (decl_name d).text (global_of c d) g e
 
 stays : (known : Globals) (c : Counts) (ds : List Decl) (n : List ℕ) (g : Global) → global_in known n ≡ Some g → global_in (globals_behind known c ds) n ≡ Some g
 stays known c [] n g e = e
-stays known c (d ∷ ds) n g e = stays (with_declared known c d) (counted c d) ds n g (stays_more known c d n g e)
+stays known c (d ∷ ds) n g e = stays (with_declared known c d) (counts_after c d) ds n g (stays_more known c d n g e)
 
 -- each declaration's name is what it declares
 abbrev pub AreNamed : Globals → Counts → List Decl → Type 0
 AreNamed all c [] = Unit {0}
-AreNamed all c (d ∷ ds) = (global_in all (decl_name d).text ≡ Some (declared c d)) × AreNamed all (counted c d) ds
+AreNamed all c (d ∷ ds) = (global_in all (decl_name d).text ≡ Some (global_of c d)) × AreNamed all (counts_after c d) ds
 
 are_named : (known : Globals) (c : Counts) (ds : List Decl) → declared_again known c ds ≡ [] → AreNamed (globals_behind known c ds) c ds
 are_named known c [] none = tt
 are_named known c (d ∷ ds) none =
     let new = unknown (is_global known (decl_name d).text) none in
-    let found : global_in (with_declared known c d) (decl_name d).text ≡ Some (declared c d) =
-    ap (λ b. global_in (if b then known else known ++ ((decl_name d).text, declared c d) ∷ []) (decl_name d).text) new.0
-    ∙ found_new known (decl_name d).text (declared c d) ((bytes_eq-Decides (decl_name d).text (decl_name d).text).1 refl) new.0 in
-    (stays (with_declared known c d) (counted c d) ds (decl_name d).text (declared c d) found, are_named (with_declared known c d) (counted c d) ds new.1)
+    let found : global_in (with_declared known c d) (decl_name d).text ≡ Some (global_of c d) =
+    ap (λ b. global_in (if b then known else known ++ ((decl_name d).text, global_of c d) ∷ []) (decl_name d).text) new.0
+    ∙ found_new known (decl_name d).text (global_of c d) ((bytes_eq-Decides (decl_name d).text (decl_name d).text).1 refl) new.0 in
+    (stays (with_declared known c d) (counts_after c d) ds (decl_name d).text (global_of c d) found, are_named (with_declared known c d) (counts_after c d) ds new.1)
   where
-    unknown : (b : Bool) → (if b then decl_name d ∷ declared_again (with_declared known c d) (counted c d) ds else declared_again (with_declared known c d) (counted c d) ds) ≡ []
-        → (b ≡ false) × (declared_again (with_declared known c d) (counted c d) ds ≡ [])
+    unknown : (b : Bool) → (if b then decl_name d ∷ declared_again (with_declared known c d) (counts_after c d) ds else declared_again (with_declared known c d) (counts_after c d) ds) ≡ []
+        → (b ≡ false) × (declared_again (with_declared known c d) (counts_after c d) ds ≡ [])
     unknown true e = absurd (cons_not_nil (decl_name d) _ e)
     unknown false e = (refl, e)
 
@@ -94,7 +94,7 @@ all_named ds none =
 abbrev HasSets : Globals → ℕ → Type 0
 HasSets known most = (n : List ℕ) (i : ℕ) → global_in known n ≡ Some (ASet i) → i < most
 
-declared_set : (c : Counts) (d : Decl) (i : ℕ) → ASet i ≡ declared c d → i < (counted c d).sets
+declared_set : (c : Counts) (d : Decl) (i : ℕ) → ASet i ≡ global_of c d → i < (counts_after c d).sets
 declared_set c (s.stateset n ss at) i e = omega (arith, number i c.sets e)
   where
     number : (i j : ℕ) → ASet i ≡ ASet j → i ≡ j
@@ -105,7 +105,7 @@ declared_set c (s.variant n ps cs at) i e = cc
 declared_set c (s.extern h at) i e = cc
 declared_set c (s.function h b at) i e = cc
 
-counted_sets : (c : Counts) (d : Decl) → (counted c d).sets ≡ c.sets + length (sets_in d)
+counted_sets : (c : Counts) (d : Decl) → (counts_after c d).sets ≡ c.sets + length (sets_in d)
 counted_sets c (s.stateset n ss at) = omega arith
 counted_sets c (s.abstract n ss at) = omega arith
 counted_sets c (s.struct n ps ss fs r at) = omega arith
@@ -113,17 +113,17 @@ counted_sets c (s.variant n ps cs at) = omega arith
 counted_sets c (s.extern h at) = omega arith
 counted_sets c (s.function h b at) = omega arith
 
-sets_more : (known : Globals) (c : Counts) (d : Decl) → HasSets known c.sets → HasSets (with_declared known c d) (counted c d).sets
+sets_more : (known : Globals) (c : Counts) (d : Decl) → HasSets known c.sets → HasSets (with_declared known c d) (counts_after c d).sets
 sets_more known c d has n i = by (is_global known (decl_name d).text)
   where
-    by : (b : Bool) → global_in (if b then known else known ++ ((decl_name d).text, declared c d) ∷ []) n ≡ Some (ASet i) → i < (counted c d).sets
+    by : (b : Bool) → global_in (if b then known else known ++ ((decl_name d).text, global_of c d) ∷ []) n ≡ Some (ASet i) → i < (counts_after c d).sets
     by true e = omega (arith, has n i e, counted_sets c d)
-    by false e = ⊎_elim (λ old. omega (arith, has n i old, counted_sets c d)) (λ new. declared_set c d i new) (found_old_or_new (bytes_eq n) known (decl_name d).text (declared c d) (ASet i) e)
+    by false e = ⊎_elim (λ old. omega (arith, has n i old, counted_sets c d)) (λ new. declared_set c d i new) (found_old_or_new (bytes_eq n) known (decl_name d).text (global_of c d) (ASet i) e)
 
 sets_behind : (known : Globals) (c : Counts) (ds : List Decl) → HasSets known c.sets → HasSets (globals_behind known c ds) (c.sets + length (of_each sets_in ds))
 sets_behind known c [] has n i e = omega (arith, has n i e)
 sets_behind known c (d ∷ ds) has n i e =
-    omega (arith, sets_behind (with_declared known c d) (counted c d) ds (sets_more known c d has) n i e, counted_sets c d, length-append (sets_in d) (of_each sets_in ds))
+    omega (arith, sets_behind (with_declared known c d) (counts_after c d) ds (sets_more known c d has) n i e, counted_sets c d, length-append (sets_in d) (of_each sets_in ds))
 
 pub set_known : (ds : List Decl) (o : Option Name) (i : ℕ) → set_in (globals_of ds) o ≡ Some i → i < length (of_each sets_in ds)
 set_known ds None i e = absurd (none-some i e)

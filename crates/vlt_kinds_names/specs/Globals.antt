@@ -36,38 +36,38 @@ pub record Counts : Type 0 where
   pub functions : ℕ
 
 -- what is declared, numbered among its kind
-abbrev pub declared : Counts → Decl → Global
-declared c (s.stateset n ss at) = ASet c.sets
-declared c (s.abstract n ss at) = AType c.types
-declared c (s.struct n ps ss fs r at) = AType c.types
-declared c (s.variant n ps cs at) = AType c.types
-declared c (s.extern h at) = AFunction c.functions
-declared c (s.function h b at) = AFunction c.functions
+abbrev pub global_of : Counts → Decl → Global
+global_of c (s.stateset n ss at) = ASet c.sets
+global_of c (s.abstract n ss at) = AType c.types
+global_of c (s.struct n ps ss fs r at) = AType c.types
+global_of c (s.variant n ps cs at) = AType c.types
+global_of c (s.extern h at) = AFunction c.functions
+global_of c (s.function h b at) = AFunction c.functions
 
-abbrev pub counted : Counts → Decl → Counts
-counted c (s.stateset n ss at) = record c { sets = suc c.sets }
-counted c (s.abstract n ss at) = record c { types = suc c.types }
-counted c (s.struct n ps ss fs r at) = record c { types = suc c.types }
-counted c (s.variant n ps cs at) = record c { types = suc c.types }
-counted c (s.extern h at) = record c { functions = suc c.functions }
-counted c (s.function h b at) = record c { functions = suc c.functions }
+abbrev pub counts_after : Counts → Decl → Counts
+counts_after c (s.stateset n ss at) = record c { sets = suc c.sets }
+counts_after c (s.abstract n ss at) = record c { types = suc c.types }
+counts_after c (s.struct n ps ss fs r at) = record c { types = suc c.types }
+counts_after c (s.variant n ps cs at) = record c { types = suc c.types }
+counts_after c (s.extern h at) = record c { functions = suc c.functions }
+counts_after c (s.function h b at) = record c { functions = suc c.functions }
 
 -- A name is known by its first declaration.
 abbrev pub with_declared : Globals → Counts → Decl → Globals
 with_declared known c d =
-    if is_global known (decl_name d).text then known else known ++ ((decl_name d).text, declared c d) ∷ []
+    if is_global known (decl_name d).text then known else known ++ ((decl_name d).text, global_of c d) ∷ []
 
 abbrev pub globals_behind : Globals → Counts → List Decl → Globals
 globals_behind known c [] = known
-globals_behind known c (d ∷ ds) = globals_behind (with_declared known c d) (counted c d) ds
+globals_behind known c (d ∷ ds) = globals_behind (with_declared known c d) (counts_after c d) ds
 
 -- the names that were known before
 abbrev pub declared_again : Globals → Counts → List Decl → List Name
 declared_again known c [] = []
 declared_again known c (d ∷ ds) =
     if is_global known (decl_name d).text
-    then decl_name d ∷ declared_again (with_declared known c d) (counted c d) ds
-    else declared_again (with_declared known c d) (counted c d) ds
+    then decl_name d ∷ declared_again (with_declared known c d) (counts_after c d) ds
+    else declared_again (with_declared known c d) (counts_after c d) ds
 
 abbrev pub no_counts : Counts
 no_counts = record { sets = 0; types = 0; functions = 0 }

@@ -32,11 +32,11 @@ repeated_behind seen [] = []
 repeated_behind seen (n ∷ ns) =
     if list_any (has_text n) seen then n ∷ repeated_behind (seen ++ n ∷ []) ns else repeated_behind (seen ++ n ∷ []) ns
 
-unfoldable pub repeated : List Name → List Name
-repeated = repeated_behind []
+unfoldable pub repeated_names : List Name → List Name
+repeated_names = repeated_behind []
 
 abbrev pub repeated_parts : List Name → List Refusal
-repeated_parts ns = refuse rule.REPEATED_PART (repeated ns)
+repeated_parts ns = refuse rule.REPEATED_PART (repeated_names ns)
 
 -- ---- 4: the name of an external isn't ASCII
 

@@ -6,7 +6,7 @@ ghost use Rattle.vlt_syntax.specs.Tree as s;
 ghost use Rattle.vlt_syntax.specs.View.{name_of, decl_of};
 ghost use Rattle.vlt_kinds_names.specs.Refusals.{least_from};
 ghost use Rattle.vlt_kinds_names.specs.Names.{names_again};
-ghost use Rattle.vlt_kinds_names.specs.Globals.{names_seen, global_in, is_global, decl_name, declared, counted, globals_of, counts_seen};
+ghost use Rattle.vlt_kinds_names.specs.Globals.{names_seen, global_in, is_global, decl_name, global_of, counts_after, globals_of, counts_seen};
 
 use crate::found::Found;
 use indexmap::IndexMap;
@@ -78,9 +78,9 @@ impl Counts {
     /// What is declared here, and the counts behind it.
     fn declare(&mut self, decl: &Decl) -> Global
         requires { self.old.sets + self.old.types + self.old.functions < 2 ^ 32 - 1 }
-        ensures what { result ≡ declared (counts_seen self.old) (decl_of decl.now) }
+        ensures what { result ≡ global_of (counts_seen self.old) (decl_of decl.now) }
         ensures counts { counts_seen self.new
-            ≡ counted (counts_seen self.old) (decl_of decl.now) }
+            ≡ counts_after (counts_seen self.old) (decl_of decl.now) }
         ensures sum { self.new.sets + self.new.types + self.new.functions
             ≡ self.old.sets + self.old.types + self.old.functions + 1 }
     {

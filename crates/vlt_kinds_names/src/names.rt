@@ -73,7 +73,7 @@ fn is_named_one<T: HasName>(name: &Name, others: &[T]) -> bool
 #[tactic(auto, unfolding(crate::specs::Names::repeated))]
 pub fn refuse_repeated<T: HasName>(rule: u8, named: &[T], found: &mut Found)
     ensures { found.new.least ≡ least_from found.old.least
-        (refuse rule (n.repeated (map T.name named.now))) }
+        (refuse rule (n.repeated_names (map T.name named.now))) }
 {
     for (i, one) in named.iter().enumerate() {
         let name = one.name();

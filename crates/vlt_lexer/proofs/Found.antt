@@ -13,7 +13,7 @@ use Rattle.vlt_lexer.specs.Spelling.{sign_text}
 use Rattle.vlt_lexer.specs.Characters.{is_blank, is_digit, is_name_start, is_name_more, IsName, IsDigits, value_of, behind, after_line, after_close}
 use Rattle.vlt_lexer.specs.Lexemes.{IsLongest, IsOf, max_number}
 use Rattle.vlt_lexer.specs.Reading.{IsGap, line, block, IsStuck}
-use Rattle.vlt_lexer.specs.Steps.{run, past_run, past_name, Holds, sign_of, begun, IsNoComment}
+use Rattle.vlt_lexer.specs.Steps.{run, past_run, past_name, Holds, sign_of, first_beginning, IsNoComment}
 use Rattle.vlt_lexer.proofs.Runs.{behind_splits, run_splits, run_is, some_is}
 use Rattle.vlt_lexer.proofs.Tables.{begun_splits}
 use Rattle.vlt_lexer.proofs.Pieces.{sign_at, longest_name, longest_digits, longest_tick, longest_sign, no_piece}
@@ -95,7 +95,7 @@ pub bad_stuck : (cs : List ℕ) (c : ℕ) (ds : List ℕ) → cs ≡ c ∷ ds �
 unfolding sign_of
 bad_stuck cs c ds same no_blank no_name no_digit no_tick no_sign =
     let starts : is_name_start c ≡ false = starts_none c ds (sym (ap past_name same) ∙ no_name) in
-    (c, ds, same, no_blank, λ piece rest e. no_piece c ds starts no_digit no_tick (sym (ap (begun sign_text signs.ALL) same) ∙ no_sign) piece rest (sym same ∙ e))
+    (c, ds, same, no_blank, λ piece rest e. no_piece c ds starts no_digit no_tick (sym (ap (first_beginning sign_text signs.ALL) same) ∙ no_sign) piece rest (sym same ∙ e))
   where
     starts_none : (c : ℕ) (ds : List ℕ) → past_name (c ∷ ds) ≡ None → is_name_start c ≡ false
     starts_none c ds none = at (is_name_start c) none
@@ -105,14 +105,14 @@ bad_stuck cs c ds same no_blank no_name no_digit no_tick no_sign =
         at false h = refl
 
 -- no sign begins with a `'`
-no_sign_ticks : (c : ℕ) (ds : List ℕ) → c ≡ 39 → begun sign_text signs.ALL (c ∷ ds) ≡ None
-no_sign_ticks c ds ticks = at (begun sign_text signs.ALL (c ∷ ds)) refl
+no_sign_ticks : (c : ℕ) (ds : List ℕ) → c ≡ 39 → first_beginning sign_text signs.ALL (c ∷ ds) ≡ None
+no_sign_ticks c ds ticks = at (first_beginning sign_text signs.ALL (c ∷ ds)) refl
   where
-    at : (found : Option (Mark × List ℕ)) → begun sign_text signs.ALL (c ∷ ds) ≡ found → found ≡ None
+    at : (found : Option (Mark × List ℕ)) → first_beginning sign_text signs.ALL (c ∷ ds) ≡ found → found ≡ None
     at None e = refl
     at (Some (m, after)) e = absurd ((sign_head c (sign_at m c ds after (begun_splits sign_text signs.ALL (c ∷ ds) m after e))).1 ticks)
 
 pub tick_stuck : (cs : List ℕ) (c : ℕ) (ds : List ℕ) → cs ≡ c ∷ ds → is_blank c ≡ false → past_name cs ≡ None → is_digit c ≡ false → c ≡ 39 → past_name ds ≡ None → IsStuck stuck.BadByte cs
 unfolding sign_of
 tick_stuck cs c ds same no_blank no_name no_digit ticks no_tick =
-    bad_stuck cs c ds same no_blank no_name no_digit (λ t. no_tick) (ap (begun sign_text signs.ALL) same ∙ no_sign_ticks c ds ticks)
+    bad_stuck cs c ds same no_blank no_name no_digit (λ t. no_tick) (ap (first_beginning sign_text signs.ALL) same ∙ no_sign_ticks c ds ticks)

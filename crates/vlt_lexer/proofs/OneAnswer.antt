@@ -6,12 +6,12 @@ use Rattle.std.proofs.lemmas.Str.{utf8_valid_len-IsValidUpTo}
 use Rattle.vlt_base.specs.Limits.{limit_of}
 use Rattle.vlt_lexer.specs.declared.scan.Stuck.{Stuck}
 use Rattle.vlt_lexer.specs.declared.scan.Stuck.TheVariants as stuck
-use Rattle.vlt_lexer.specs.declared.lexer.LexError.{LexError}
-use Rattle.vlt_lexer.specs.declared.lexer.LexError.TheVariants as error
+use Rattle.vlt_lexer.specs.declared.LexError.{LexError}
+use Rattle.vlt_lexer.specs.declared.LexError.TheVariants as error
 use Rattle.vlt_lexer.specs.Characters.{width}
 use Rattle.vlt_lexer.specs.Reading.{Lexeme, Reads, IsStuck}
 use Rattle.vlt_lexer.specs.Text.{IsTokensOf, AreSlicesOf, HasTooMany, StopsAt, IsRefused}
-use Rattle.vlt_lexer.specs.Places.{placed}
+use Rattle.vlt_lexer.specs.Places.{error_at}
 use Rattle.vlt_lexer.proofs.Slices.{tokens_slices}
 use Rattle.vlt_lexer.proofs.OneReading.{IsEnd, one_reading, no_more_tokens, same_faults, end_not_empty}
 
@@ -21,7 +21,7 @@ one_list text ls ms (u, p) (v, q) = (one_reading (length text) (chars text) ls [
 -- why a text is refused, by three kinds of causes
 pub data Cause (text : List ℕ) : LexError → Type 0 where
   no_text : (e : LexError) (at : ℕ) → e ≡ error.NotUtf8 at → (IsUtf8 text → ⊥) → IsValidUpTo text at → Cause text e
-  a_stop : (e : LexError) (f : Stuck) (at : ℕ) → e ≡ placed f at → IsUtf8 text → StopsAt f at text → Cause text e
+  a_stop : (e : LexError) (f : Stuck) (at : ℕ) → e ≡ error_at f at → IsUtf8 text → StopsAt f at text → Cause text e
   too_many : (e : LexError) → e ≡ error.Limit 3 → IsUtf8 text → HasTooMany text → Cause text e
 
 pub cause : (text : List ℕ) (e : LexError) → IsRefused text e → Cause text e
@@ -55,7 +55,7 @@ one_refusal text e d (a_stop _ f at p u (ls, left, r, few, stuck, place)) (a_sto
     let both = one_reading (length text) (chars text) ls left ms last r (inr (f, stuck)) t (inr (g, also)) in
     let faults : f ≡ g = same_faults f g left stuck (subst (IsStuck g) (sym both.1) also) in
     let places : at ≡ to = omega (arith, place, there, ap width both.1) in
-    p ∙ ap (λ h. placed h at) faults ∙ ap (placed g) places ∙ sym q
+    p ∙ ap (λ h. error_at h at) faults ∙ ap (error_at g) places ∙ sym q
 one_refusal text e d (a_stop _ f at p u (ls, left, r, few, stuck, place)) (too_many _ q v many) = absurd (few_not_many text ls left r (inr (f, stuck)) few many)
 one_refusal text e d (too_many _ p u many) (no_text _ to q neither also) = absurd (neither u)
 one_refusal text e d (too_many _ p u many) (a_stop _ g to q v (ms, last, t, within, also, there)) = absurd (few_not_many text ms last t (inr (g, also)) within many)

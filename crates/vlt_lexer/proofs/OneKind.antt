@@ -10,7 +10,7 @@ use Rattle.vlt_lexer.specs.declared.token.TheConstants.Mark as signs
 use Rattle.vlt_lexer.specs.Spelling.{word_text, sign_text}
 use Rattle.vlt_lexer.specs.Characters.{is_blank, is_digit, IsName, IsDigits, value_of}
 use Rattle.vlt_lexer.specs.Lexemes.{IsPiece, name, tick, digits, sign, line_opens, block_opens, IsLongest, IsOf, max_number}
-use Rattle.vlt_lexer.specs.Steps.{spelled}
+use Rattle.vlt_lexer.specs.Steps.{item_with_text}
 use Rattle.std.proofs.lemmas.Bool.Decides.{nat_tests}
 use Rattle.vlt_lexer.proofs.Pieces.{IsAt, at_name, at_tick, at_digits, at_mark, piece_at}
 use Rattle.vlt_lexer.proofs.Runs.{none_some, head_is, not_empty, some_is, true_false, same_fronts}
@@ -35,10 +35,10 @@ no_empty_piece piece e line_opens = not_empty (sym e)
 no_empty_piece piece e block_opens = not_empty (sym e)
 
 same_word : (v w : Word) → word_text v ≡ word_text w → v ≡ w
-same_word v w e = some_is (sym (word_found v) ∙ ap (spelled word_text words.ALL) e ∙ word_found w)
+same_word v w e = some_is (sym (word_found v) ∙ ap (item_with_text word_text words.ALL) e ∙ word_found w)
 
 same_sign : (m n : Mark) → sign_text m ≡ sign_text n → m ≡ n
-same_sign m n e = some_is (sym (sign_found m) ∙ ap (spelled sign_text signs.ALL) e ∙ sign_found n)
+same_sign m n e = some_is (sym (sign_found m) ∙ ap (item_with_text sign_text signs.ALL) e ∙ sign_found n)
 
 name_no_tick : (cs ds : List ℕ) → IsName cs → cs ≡ 39 ∷ ds → ⊥
 name_no_tick [] ds is e = is
@@ -113,7 +113,7 @@ sign_short : (m : Mark) → nat_le (length (sign_text m)) 2 ≡ true
 sign_short m = spelled_passes sign_text (λ x. nat_le (length (sign_text x)) 2) signs.ALL (sign_text m) m refl (sign_found m)
 
 -- no token stands where a comment opens
-pub opener_no_token : (second : ℕ) (k : TokenKind) (cs inside piece after : List ℕ) → IsPiece (opener second) → spelled sign_text signs.ALL (opener second) ≡ None
+pub opener_no_token : (second : ℕ) (k : TokenKind) (cs inside piece after : List ℕ) → IsPiece (opener second) → item_with_text sign_text signs.ALL (opener second) ≡ None
     → cs ≡ opener second ++ inside → cs ≡ piece ++ after → IsLongest piece cs → IsOf k piece → ⊥
 opener_no_token second k cs inside piece after opens no_sign o e longest h = go k piece e two h
   where
@@ -132,4 +132,4 @@ opener_no_token second k cs inside piece after opens no_sign o e longest h = go 
     go (kind.Sign m) (p ∷ ps) same n is =
         let short : length (p ∷ ps) ≤ 2 = (let test : nat_le (length (sign_text m)) 2 ≡ true = sign_short m in let len : length (p ∷ ps) ≡ length (sign_text m) = ap length is in grind (arith, nat_tests)) in
         let fronts = same_fronts (p ∷ ps) (opener second) after inside (omega arith) (sym same ∙ o) in
-        none_some (sym no_sign ∙ ap (spelled sign_text signs.ALL) (sym fronts.0 ∙ is) ∙ sign_found m)
+        none_some (sym no_sign ∙ ap (item_with_text sign_text signs.ALL) (sym fronts.0 ∙ is) ∙ sign_found m)

@@ -7,7 +7,7 @@ use Rattle.vlt_lexer.specs.declared.token.TheConstants.Mark as signs
 use Rattle.vlt_lexer.specs.Spelling.{sign_text}
 use Rattle.vlt_lexer.specs.Characters.{is_digit, is_name_start, is_name_more, EachIs, IsName}
 use Rattle.vlt_lexer.specs.Lexemes.{IsPiece, name, tick, digits, sign, line_opens, block_opens, IsLongest}
-use Rattle.vlt_lexer.specs.Steps.{run, past_run, past_name, begun, IsNoComment}
+use Rattle.vlt_lexer.specs.Steps.{run, past_run, past_name, first_beginning, IsNoComment}
 use Rattle.vlt_lexer.proofs.Runs.{none_some, head_is, tail_is, not_empty, true_false, run_longest, not_behind}
 use Rattle.vlt_lexer.proofs.Tables.{sign_found, signs_fall, longest_begins, none_begins, begun_splits}
 use Rattle.vlt_lexer.proofs.Heads.{name_head, digit_head, sign_head, is_sign_head, sign_opens, sign_some}
@@ -84,7 +84,7 @@ longest_tick c d cs ticks starts = λ other rest e p. go other rest e (piece_at 
     go other rest e (at_digits _ ds same is each) = absurd ((digit_head c is).2 ticks)
     go other rest e (at_mark _ is which) = absurd ((sign_head c is).1 ticks)
 
-pub longest_sign : (cs : List ℕ) (m : Mark) (after : List ℕ) → begun sign_text signs.ALL cs ≡ Some (m, after) → IsNoComment cs → IsLongest (sign_text m) cs
+pub longest_sign : (cs : List ℕ) (m : Mark) (after : List ℕ) → first_beginning sign_text signs.ALL cs ≡ Some (m, after) → IsNoComment cs → IsLongest (sign_text m) cs
 longest_sign [] m after first plain = λ other rest e p. go other rest e
   where
     go : (other rest : List ℕ) → [] ≡ other ++ rest → length other ≤ length (sign_text m)
@@ -108,7 +108,7 @@ longest_sign (c ∷ cs) m after first plain = λ other rest e p. go other rest e
     go other rest e (at_digits _ ds same is each) = absurd (clash _ marks (digit_head c is).1)
     go other rest e (at_mark _ is which) = which_is other rest e which
 
-pub no_piece : (c : ℕ) (cs : List ℕ) → is_name_start c ≡ false → is_digit c ≡ false → (c ≡ 39 → past_name cs ≡ None) → begun sign_text signs.ALL (c ∷ cs) ≡ None
+pub no_piece : (c : ℕ) (cs : List ℕ) → is_name_start c ≡ false → is_digit c ≡ false → (c ≡ 39 → past_name cs ≡ None) → first_beginning sign_text signs.ALL (c ∷ cs) ≡ None
     → (other rest : List ℕ) → c ∷ cs ≡ other ++ rest → IsPiece other → ⊥
 no_piece c cs no_name no_digit no_tick no_sign other rest e p = go (piece_at c cs other rest e p)
   where

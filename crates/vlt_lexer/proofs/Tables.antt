@@ -14,10 +14,10 @@ use Rattle.vlt_lexer.specs.declared.token.Mark.TheVariants as sign
 use Rattle.vlt_lexer.specs.declared.token.TheConstants.Word as words
 use Rattle.vlt_lexer.specs.declared.token.TheConstants.Mark as signs
 use Rattle.vlt_lexer.specs.Spelling.{word_text, sign_text}
-use Rattle.vlt_lexer.specs.Steps.{spelled, begun, with_rest, may_begin}
+use Rattle.vlt_lexer.specs.Steps.{item_with_text, first_beginning, with_rest, may_begin}
 use Rattle.vlt_lexer.specs.Characters.{behind}
 
-pub word_found : (w : Word) → spelled word_text words.ALL (word_text w) ≡ Some w
+pub word_found : (w : Word) → item_with_text word_text words.ALL (word_text w) ≡ Some w
 word_found word.Abstract = refl
 word_found word.Adopt = refl
 word_found word.As = refl
@@ -50,7 +50,7 @@ word_found word.Variant = refl
 word_found word.Void = refl
 word_found word.While = refl
 
-pub sign_found : (m : Mark) → spelled sign_text signs.ALL (sign_text m) ≡ Some m
+pub sign_found : (m : Mark) → item_with_text sign_text signs.ALL (sign_text m) ≡ Some m
 sign_found sign.OpenBrace = refl
 sign_found sign.CloseBrace = refl
 sign_found sign.OpenParen = refl
@@ -84,39 +84,39 @@ sign_found sign.GreaterEqual = refl
 
 module _ {X : Type 0} (text : X → List ℕ) where
   -- the first item is found, or one is found among the others
-  found_in : (y : X) (ys : List X) (cs : List ℕ) (x : X) → spelled text (y ∷ ys) cs ≡ Some x → ((text y ≡ cs) × (x ≡ y)) ⊎ (spelled text ys cs ≡ Some x)
+  found_in : (y : X) (ys : List X) (cs : List ℕ) (x : X) → item_with_text text (y ∷ ys) cs ≡ Some x → ((text y ≡ cs) × (x ≡ y)) ⊎ (item_with_text text ys cs ≡ Some x)
   found_in y ys cs x e = at (bytes_eq (text y) cs) refl e
     where
-      at : (b : Bool) → bytes_eq (text y) cs ≡ b → cond b (Some y) (spelled text ys cs) ≡ Some x → ((text y ≡ cs) × (x ≡ y)) ⊎ (spelled text ys cs ≡ Some x)
+      at : (b : Bool) → bytes_eq (text y) cs ≡ b → cond b (Some y) (item_with_text text ys cs) ≡ Some x → ((text y ≡ cs) × (x ≡ y)) ⊎ (item_with_text text ys cs ≡ Some x)
       at true same h = inl ((bytes_eq-Decides (text y) cs).0 same, sym (some_is h))
       at false same h = inr h
 
   -- what is found is spelled so
-  pub spelled_is : (xs : List X) (cs : List ℕ) (x : X) → spelled text xs cs ≡ Some x → text x ≡ cs
+  pub spelled_is : (xs : List X) (cs : List ℕ) (x : X) → item_with_text text xs cs ≡ Some x → text x ≡ cs
   spelled_is [] cs x e = absurd cc
   spelled_is (y ∷ ys) cs x e = elim (found_in y ys cs x e) [ inl h ↦ ap text h.1 ∙ h.0 | inr h ↦ spelled_is ys cs x h ]
 
   -- what holds of each item of a table holds of one that is found
-  pub spelled_passes : (test : X → Bool) (xs : List X) (cs : List ℕ) (x : X) → list_all test xs ≡ true → spelled text xs cs ≡ Some x → test x ≡ true
+  pub spelled_passes : (test : X → Bool) (xs : List X) (cs : List ℕ) (x : X) → list_all test xs ≡ true → item_with_text text xs cs ≡ Some x → test x ≡ true
   spelled_passes test [] cs x all e = absurd cc
   spelled_passes test (y ∷ ys) cs x all e = elim (found_in y ys cs x e) [ inl h ↦ ap test h.1 ∙ grind arith | inr h ↦ spelled_passes test ys cs x (grind arith) h ]
 
-  none_in : (y : X) (ys : List X) (cs : List ℕ) → begun text (y ∷ ys) cs ≡ None → (behind (text y) cs ≡ None) × (begun text ys cs ≡ None)
+  none_in : (y : X) (ys : List X) (cs : List ℕ) → first_beginning text (y ∷ ys) cs ≡ None → (behind (text y) cs ≡ None) × (first_beginning text ys cs ≡ None)
   none_in y ys cs e = at (behind (text y) cs) refl e
     where
-      at : (b : Option (List ℕ)) → behind (text y) cs ≡ b → with_rest y b (begun text ys cs) ≡ None → (behind (text y) cs ≡ None) × (begun text ys cs ≡ None)
+      at : (b : Option (List ℕ)) → behind (text y) cs ≡ b → with_rest y b (first_beginning text ys cs) ≡ None → (behind (text y) cs ≡ None) × (first_beginning text ys cs ≡ None)
       at None h n = (h, n)
       at (Some r) h n = absurd cc
 
-  begun_in : (y : X) (ys : List X) (cs : List ℕ) (x : X) (r : List ℕ) → begun text (y ∷ ys) cs ≡ Some (x, r) → ((behind (text y) cs ≡ Some r) × (x ≡ y)) ⊎ ((behind (text y) cs ≡ None) × (begun text ys cs ≡ Some (x, r)))
+  begun_in : (y : X) (ys : List X) (cs : List ℕ) (x : X) (r : List ℕ) → first_beginning text (y ∷ ys) cs ≡ Some (x, r) → ((behind (text y) cs ≡ Some r) × (x ≡ y)) ⊎ ((behind (text y) cs ≡ None) × (first_beginning text ys cs ≡ Some (x, r)))
   begun_in y ys cs x r e = at (behind (text y) cs) refl e
     where
-      at : (b : Option (List ℕ)) → behind (text y) cs ≡ b → with_rest y b (begun text ys cs) ≡ Some (x, r) → ((behind (text y) cs ≡ Some r) × (x ≡ y)) ⊎ ((behind (text y) cs ≡ None) × (begun text ys cs ≡ Some (x, r)))
+      at : (b : Option (List ℕ)) → behind (text y) cs ≡ b → with_rest y b (first_beginning text ys cs) ≡ Some (x, r) → ((behind (text y) cs ≡ Some r) × (x ≡ y)) ⊎ ((behind (text y) cs ≡ None) × (first_beginning text ys cs ≡ Some (x, r)))
       at None h n = inr (h, n)
       at (Some q) h n = let same : (y, q) ≡ (x, r) = some_is n in inl (h ∙ ap (λ p. Some p.1) same, sym (ap (λ p. p.0) same))
 
   -- where no item's text begins the text, none that is found does
-  pub none_begins : (xs : List X) (cs : List ℕ) (m : X) (rest : List ℕ) → begun text xs cs ≡ None → spelled text xs (text m) ≡ Some m → cs ≡ text m ++ rest → ⊥
+  pub none_begins : (xs : List X) (cs : List ℕ) (m : X) (rest : List ℕ) → first_beginning text xs cs ≡ None → item_with_text text xs (text m) ≡ Some m → cs ≡ text m ++ rest → ⊥
   none_begins [] cs m rest none there e = cc
   none_begins (y ∷ ys) cs m rest none there e =
       let ns = none_in y ys cs none in
@@ -126,7 +126,7 @@ module _ {X : Type 0} (text : X → List ℕ) where
       ]
 
   -- what is found begins the text
-  pub begun_splits : (xs : List X) (cs : List ℕ) (x : X) (r : List ℕ) → begun text xs cs ≡ Some (x, r) → cs ≡ text x ++ r
+  pub begun_splits : (xs : List X) (cs : List ℕ) (x : X) (r : List ℕ) → first_beginning text xs cs ≡ Some (x, r) → cs ≡ text x ++ r
   begun_splits [] cs x r e = absurd cc
   begun_splits (y ∷ ys) cs x r e = elim (begun_in y ys cs x r e) [
     | inl h ↦ behind_splits (text y) cs r h.0 ∙ ap (λ z. text z ++ r) (sym h.1)
@@ -147,25 +147,25 @@ module _ {X : Type 0} (text : X → List ℕ) where
   not_begun (d ∷ ds) c cs e = ap (λ b. cond b (behind ds cs) None) e
 
   -- so the items that may begin so suffice
-  spelled_from : (xs : List X) (c : ℕ) (cs : List ℕ) → spelled text (filter (λ x. may_begin c (text x)) xs) (c ∷ cs) ≡ spelled text xs (c ∷ cs)
+  spelled_from : (xs : List X) (c : ℕ) (cs : List ℕ) → item_with_text text (filter (λ x. may_begin c (text x)) xs) (c ∷ cs) ≡ item_with_text text xs (c ∷ cs)
   spelled_from [] c cs = refl
   spelled_from (x ∷ xs) c cs = at (may_begin c (text x)) refl (spelled_from xs c cs)
     where
-      at : (b : Bool) → may_begin c (text x) ≡ b → spelled text (filter (λ x. may_begin c (text x)) xs) (c ∷ cs) ≡ spelled text xs (c ∷ cs) → spelled text (cond b (x ∷ filter (λ x. may_begin c (text x)) xs) (filter (λ x. may_begin c (text x)) xs)) (c ∷ cs) ≡ spelled text (x ∷ xs) (c ∷ cs)
+      at : (b : Bool) → may_begin c (text x) ≡ b → item_with_text text (filter (λ x. may_begin c (text x)) xs) (c ∷ cs) ≡ item_with_text text xs (c ∷ cs) → item_with_text text (cond b (x ∷ filter (λ x. may_begin c (text x)) xs) (filter (λ x. may_begin c (text x)) xs)) (c ∷ cs) ≡ item_with_text text (x ∷ xs) (c ∷ cs)
       at true h rest = ap (λ r. cond (bytes_eq (text x) (c ∷ cs)) (Some x) r) rest
-      at false h rest = rest ∙ sym (ap (λ b. cond b (Some x) (spelled text xs (c ∷ cs))) (not_spelled (text x) c cs h))
+      at false h rest = rest ∙ sym (ap (λ b. cond b (Some x) (item_with_text text xs (c ∷ cs))) (not_spelled (text x) c cs h))
 
-  pub spelled_at : (xs : List X) (cs : List ℕ) (c d : ℕ) → c ≡ d → Some d ≡ slice_get cs 0 → spelled text (filter (λ x. may_begin c (text x)) xs) cs ≡ spelled text xs cs
+  pub spelled_at : (xs : List X) (cs : List ℕ) (c d : ℕ) → c ≡ d → Some d ≡ slice_get cs 0 → item_with_text text (filter (λ x. may_begin c (text x)) xs) cs ≡ item_with_text text xs cs
   spelled_at xs [] c d h e = absurd cc
-  spelled_at xs (x ∷ cs) c d h e = subst (λ x. spelled text (filter (λ x. may_begin c (text x)) xs) (x ∷ cs) ≡ spelled text xs (x ∷ cs)) (h ∙ some_is e) (spelled_from xs c cs)
+  spelled_at xs (x ∷ cs) c d h e = subst (λ x. item_with_text text (filter (λ x. may_begin c (text x)) xs) (x ∷ cs) ≡ item_with_text text xs (x ∷ cs)) (h ∙ some_is e) (spelled_from xs c cs)
 
-  pub begun_from : (xs : List X) (c : ℕ) (cs : List ℕ) → begun text (filter (λ x. may_begin c (text x)) xs) (c ∷ cs) ≡ begun text xs (c ∷ cs)
+  pub begun_from : (xs : List X) (c : ℕ) (cs : List ℕ) → first_beginning text (filter (λ x. may_begin c (text x)) xs) (c ∷ cs) ≡ first_beginning text xs (c ∷ cs)
   begun_from [] c cs = refl
   begun_from (x ∷ xs) c cs = at (may_begin c (text x)) refl (begun_from xs c cs)
     where
-      at : (b : Bool) → may_begin c (text x) ≡ b → begun text (filter (λ x. may_begin c (text x)) xs) (c ∷ cs) ≡ begun text xs (c ∷ cs) → begun text (cond b (x ∷ filter (λ x. may_begin c (text x)) xs) (filter (λ x. may_begin c (text x)) xs)) (c ∷ cs) ≡ begun text (x ∷ xs) (c ∷ cs)
+      at : (b : Bool) → may_begin c (text x) ≡ b → first_beginning text (filter (λ x. may_begin c (text x)) xs) (c ∷ cs) ≡ first_beginning text xs (c ∷ cs) → first_beginning text (cond b (x ∷ filter (λ x. may_begin c (text x)) xs) (filter (λ x. may_begin c (text x)) xs)) (c ∷ cs) ≡ first_beginning text (x ∷ xs) (c ∷ cs)
       at true h rest = ap (λ r. with_rest x (behind (text x) (c ∷ cs)) r) rest
-      at false h rest = rest ∙ sym (ap (λ b. with_rest x b (begun text xs (c ∷ cs))) (not_begun (text x) c cs h))
+      at false h rest = rest ∙ sym (ap (λ b. with_rest x b (first_beginning text xs (c ∷ cs))) (not_begun (text x) c cs h))
 
   -- no item of the table is longer than one before it
   abbrev pub falls : List X → Bool
@@ -173,7 +173,7 @@ module _ {X : Type 0} (text : X → List ℕ) where
   falls (y ∷ ys) = list_all (λ z. nat_le (length (text z)) (length (text y))) ys && falls ys
 
   -- in such a table the first item that begins the text is the longest that does
-  pub longest_begins : (xs : List X) (cs : List ℕ) (x : X) (r : List ℕ) (m : X) (rest : List ℕ) → falls xs ≡ true → begun text xs cs ≡ Some (x, r) → spelled text xs (text m) ≡ Some m → cs ≡ text m ++ rest → length (text m) ≤ length (text x)
+  pub longest_begins : (xs : List X) (cs : List ℕ) (x : X) (r : List ℕ) (m : X) (rest : List ℕ) → falls xs ≡ true → first_beginning text xs cs ≡ Some (x, r) → item_with_text text xs (text m) ≡ Some m → cs ≡ text m ++ rest → length (text m) ≤ length (text x)
   longest_begins [] cs x r m rest fall first there e = absurd cc
   longest_begins (y ∷ ys) cs x r m rest fall first there e = elim (begun_in y ys cs x r first) [
     | inl h ↦ elim (found_in y ys (text m) m there) [

@@ -6,7 +6,7 @@ use Rattle.vlt_lexer.specs.declared.scan.Stuck.{Stuck}
 use Rattle.vlt_lexer.specs.declared.scan.Stuck.TheVariants as stuck
 use Rattle.vlt_lexer.specs.Reading.{Lexeme, IsGap, IsToken, Reads, nothing, gap, token}
 use Rattle.vlt_lexer.specs.Text.{lexeme, lexemes, StopsAt, IsRefused}
-use Rattle.vlt_lexer.specs.Places.{placed}
+use Rattle.vlt_lexer.specs.Places.{error_at}
 use Rattle.vlt_lexer.proofs.Bytes.{front_bytes, width_chars}
 use Rattle.vlt_lexer.proofs.Found.{Stands}
 
@@ -49,7 +49,7 @@ pub length_lexemes : (found : List Token) → length (lexemes found) ≡ length 
 length_lexemes [] = refl
 length_lexemes (t ∷ found) = omega (arith, length_lexemes found)
 
-pub placed_refused : (f : Stuck) (at : ℕ) (text : List ℕ) → IsUtf8 text → StopsAt f at text → IsRefused text (placed f at)
+pub placed_refused : (f : Stuck) (at : ℕ) (text : List ℕ) → IsUtf8 text → StopsAt f at text → IsRefused text (error_at f at)
 placed_refused stuck.BadByte at text u h = (u, h)
 placed_refused stuck.NumberTooLarge at text u h = (u, h)
 placed_refused stuck.OpenComment at text u h = (u, h)

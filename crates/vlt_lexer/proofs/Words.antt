@@ -9,7 +9,7 @@ use Rattle.vlt_lexer.specs.declared.token.TheConstants.Word as words
 use Rattle.vlt_lexer.specs.Spelling.{word_text}
 use Rattle.vlt_lexer.specs.Characters.{IsName}
 use Rattle.vlt_lexer.specs.Lexemes.{IsOf}
-use Rattle.vlt_lexer.specs.Steps.{spelled, keyword_of, kind_of}
+use Rattle.vlt_lexer.specs.Steps.{item_with_text, keyword_of, kind_of}
 use Rattle.vlt_lexer.proofs.Runs.{none_some}
 use Rattle.vlt_lexer.proofs.Tables.{word_found, spelled_is, spelled_passes}
 use Rattle.vlt_lexer.proofs.Bytes.{same_characters}
@@ -22,8 +22,8 @@ word_bytes w = (bytes_eq-Decides _ _).0 (spelled_passes word_text (λ x. bytes_e
 -- the characters of a name whose bytes were looked up are a token of the kind that was found
 pub kind_is : (front : List ℕ) → IsName front → IsOf (kind_of (keyword_of (encode_utf8_all front))) front
 unfolding keyword_of
-kind_is front named = at (spelled word_text words.ALL (encode_utf8_all front)) refl
+kind_is front named = at (item_with_text word_text words.ALL (encode_utf8_all front)) refl
   where
-    at : (found : Option Word) → spelled word_text words.ALL (encode_utf8_all front) ≡ found → IsOf (kind_of found) front
-    at None e = (named, λ w same. none_some (sym e ∙ ap (spelled word_text words.ALL) (ap encode_utf8_all same ∙ word_bytes w) ∙ word_found w))
+    at : (found : Option Word) → item_with_text word_text words.ALL (encode_utf8_all front) ≡ found → IsOf (kind_of found) front
+    at None e = (named, λ w same. none_some (sym e ∙ ap (item_with_text word_text words.ALL) (ap encode_utf8_all same ∙ word_bytes w) ∙ word_found w))
     at (Some w) e = same_characters front (word_text w) (sym (spelled_is word_text words.ALL _ w e) ∙ sym (word_bytes w))

@@ -2,10 +2,10 @@
 use Rattle.std.specs.Prelude.{ℕ}
 use Rattle.vlt_lexer.specs.declared.scan.Stuck.{Stuck}
 use Rattle.vlt_lexer.specs.declared.scan.Stuck.TheVariants as stuck
-use Rattle.vlt_lexer.specs.declared.lexer.LexError.{LexError}
-use Rattle.vlt_lexer.specs.declared.lexer.LexError.TheVariants as error
+use Rattle.vlt_lexer.specs.declared.LexError.{LexError}
+use Rattle.vlt_lexer.specs.declared.LexError.TheVariants as error
 
-abbrev pub placed : Stuck → ℕ → LexError
-placed stuck.BadByte at = error.BadByte at
-placed stuck.NumberTooLarge at = error.NumberTooLarge at
-placed stuck.OpenComment at = error.OpenComment at
+abbrev pub error_at : Stuck → ℕ → LexError
+error_at stuck.BadByte at = error.BadByte at
+error_at stuck.NumberTooLarge at = error.NumberTooLarge at
+error_at stuck.OpenComment at = error.OpenComment at

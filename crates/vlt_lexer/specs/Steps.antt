@@ -41,9 +41,9 @@ past_name [] = None
 past_name (c ∷ cs) = if is_name_start c then Some (past_run is_name_more cs) else None
 
 -- the first item whose text is this one
-abbrev pub spelled : {X : Type 0} → (X → List ℕ) → List X → List ℕ → Option X
-spelled text [] cs = None
-spelled text (x ∷ xs) cs = if bytes_eq (text x) cs then Some x else spelled text xs cs
+abbrev pub item_with_text : {X : Type 0} → (X → List ℕ) → List X → List ℕ → Option X
+item_with_text text [] cs = None
+item_with_text text (x ∷ xs) cs = if bytes_eq (text x) cs then Some x else item_with_text text xs cs
 
 -- an item, where its text begins this one, with what stands behind it
 abbrev pub with_rest : {X : Type 0} → X → Option (List ℕ) → Option (X × List ℕ) → Option (X × List ℕ)
@@ -51,9 +51,9 @@ with_rest x None other = other
 with_rest x (Some after) other = Some (x, after)
 
 -- the first item whose text begins this one, and what stands behind it
-abbrev pub begun : {X : Type 0} → (X → List ℕ) → List X → List ℕ → Option (X × List ℕ)
-begun text [] cs = None
-begun text (x ∷ xs) cs = with_rest x (behind (text x) cs) (begun text xs cs)
+abbrev pub first_beginning : {X : Type 0} → (X → List ℕ) → List X → List ℕ → Option (X × List ℕ)
+first_beginning text [] cs = None
+first_beginning text (x ∷ xs) cs = with_rest x (behind (text x) cs) (first_beginning text xs cs)
 
 -- a text may begin with this character
 abbrev pub may_begin : ℕ → List ℕ → Bool
@@ -62,11 +62,11 @@ may_begin c (d ∷ ds) = d == c
 
 -- the keyword that is spelled so
 unfoldable pub keyword_of : List ℕ → Option Word
-keyword_of name = spelled word_text words.ALL name
+keyword_of name = item_with_text word_text words.ALL name
 
 -- the longest sign at the front of the text, and what stands behind it
 unfoldable pub sign_of : List ℕ → Option (Mark × List ℕ)
-sign_of cs = begun sign_text signs.ALL cs
+sign_of cs = first_beginning sign_text signs.ALL cs
 
 -- what a name is: a keyword, or else a name
 abbrev pub kind_of : Option Word → TokenKind

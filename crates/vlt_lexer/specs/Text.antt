@@ -5,8 +5,8 @@ use Rattle.vlt_base.specs.Limits.{limit_of}
 use Rattle.vlt_lexer.specs.declared.token.Token.{Token}
 use Rattle.vlt_lexer.specs.declared.scan.Stuck.{Stuck}
 use Rattle.vlt_lexer.specs.declared.scan.Stuck.TheVariants as stuck
-use Rattle.vlt_lexer.specs.declared.lexer.LexError.{LexError}
-use Rattle.vlt_lexer.specs.declared.lexer.LexError.TheVariants as error
+use Rattle.vlt_lexer.specs.declared.LexError.{LexError}
+use Rattle.vlt_lexer.specs.declared.LexError.TheVariants as error
 use Rattle.vlt_lexer.specs.Characters.{width}
 use Rattle.vlt_lexer.specs.Reading.{Lexeme, Reads, IsStuck}
 

@@ -3,7 +3,7 @@
 ghost use Rattle.std.specs.Prelude.{◌≡◌, ◌≤◌, ◌<◌, ◌+◌, ◌*◌, ◌-◌, ◌++◌, ◌∷◌, ℕ, List, [], filter, length, slice_get, true, MatchOption, Some, None, IfSome, IfOk, IfErr, encode_utf8};
 ghost use Rattle.std.specs.Str.{chars};
 ghost use Rattle.vlt_lexer.specs.Characters.{is_blank, is_digit, is_name_start, is_name_more, value_of, after_line, behind, after_close};
-ghost use Rattle.vlt_lexer.specs.Steps.{is_in, run, past_run, past_name, spelled, begun, may_begin, keyword_of, sign_of, kind_of, IsNoComment, Holds, IsFound, IsShorter};
+ghost use Rattle.vlt_lexer.specs.Steps.{is_in, run, past_run, past_name, item_with_text, first_beginning, may_begin, keyword_of, sign_of, kind_of, IsNoComment, Holds, IsFound, IsShorter};
 ghost use Rattle.vlt_lexer.specs.Spelling.{word_text, sign_text};
 ghost use Rattle.vlt_lexer.specs.declared.token.TheConstants.Word as words;
 ghost use Rattle.vlt_lexer.specs.declared.token.TheConstants.Mark as signs;
@@ -200,7 +200,7 @@ fn number(text: &str) -> (Option<i64>, &str)
 
 /// The first of the keywords that is spelled so.
 fn first_spelled(words: &[Word], name: &[u8]) -> Option<Word>
-    ensures { result ≡ spelled word_text words.now name.now }
+    ensures { result ≡ item_with_text word_text words.now name.now }
 {
     for &word in words {
         if word.text().as_bytes() == name {
@@ -212,8 +212,8 @@ fn first_spelled(words: &[Word], name: &[u8]) -> Option<Word>
 
 /// The first of the signs that begins the text, and the text behind it.
 fn first_begun<'a>(marks: &[Mark], text: &'a str) -> Option<(Mark, &'a str)>
-    ensures sign { MatchOption result (begun sign_text marks.now (chars text.now) ≡ None)
-        (λ x. begun sign_text marks.now (chars text.now) ≡ Some (x.0, chars x.1.now)) }
+    ensures sign { MatchOption result (first_beginning sign_text marks.now (chars text.now) ≡ None)
+        (λ x. first_beginning sign_text marks.now (chars text.now) ≡ Some (x.0, chars x.1.now)) }
     ensures shorter { IfSome result (λ x. length x.1.now < length text.now) }
 {
     for &mark in marks {

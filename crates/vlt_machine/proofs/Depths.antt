@@ -12,7 +12,7 @@ use Rattle.vlt_meaning.specs.HostAnswers.{Piece, plain, new_in, nothing, piece, 
 use Rattle.vlt_meaning.specs.HostAnswers as answers
 use Rattle.vlt_meaning.specs.Externals.{with_pieces, with_fresh, with_result, call_external}
 use Rattle.vlt_machine.specs.Bounds.{IsAt}
-use Rattle.vlt_meaning.specs.Run.{Setup, made_in, swapped, opened, does_simple, left_function, unfocused, focus_end}
+use Rattle.vlt_meaning.specs.Run.{Setup, made_in, swap_step, open_step, does_simple, left_function, focus_end_step, focus_end}
 
 module _ (d : ℕ) where
   pub found_at : {A : Type 0} (x : Found A) (w : World) (go : A → Step) → ((a : A) → IsAt d (go a)) → IsAt d (with_found x w go)
@@ -146,7 +146,7 @@ module _ (d : ℕ) where
   left_at bound (ends o w) h = tt
 
   pub focus_at : (r : Setup) (g q : Reference) (a n : ℕ) (x : Step) → IsAt d x → IsAt d (focus_end r g q a n x)
-  unfolding focus_end unfocused
+  unfolding focus_end focus_end_step
   focus_at r g q a n (goes frame w) h = found_at _ w _ (λ m. found_at _ w _ (λ b. h))
   focus_at r g q a n (jumps c frame w) h = h
   focus_at r g q a n (leaves b kept w) h = tt
@@ -162,7 +162,7 @@ module _ (d : ℕ) where
   returned_at r f (Some o) frame w e = operand_at r.program f o frame w _ e (λ a frame2 v e2. function_at r f (Some o) (Some a) frame2 v)
 
   pub simple_at : (r : Setup) (f : Func) (s : Simple) (frame : Frame) (w : World) → frame.depth ≡ d → IsAt d (does_simple r f s frame w)
-  unfolding made_in swapped opened
+  unfolding made_in swap_step open_step
   simple_at r f (set v x) frame w e = found_at _ w _ (λ a. e)
   simple_at r f (core.input v more) frame w e = input_at more w _ (λ z u. e)
   simple_at r f (print x) frame w e = found_at _ w _ (λ z. e)

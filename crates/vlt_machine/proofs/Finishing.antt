@@ -7,14 +7,14 @@ use Rattle.vlt_meaning.specs.World.{Value, one, World, Frame, fuel_end, missing,
 use Rattle.vlt_meaning.specs.Found.{Found, or_fault}
 use Rattle.vlt_meaning.specs.Values.{held_object, guarded_object, number_of}
 use Rattle.vlt_meaning.specs.Step.{Step, goes, jumps, leaves, ends, with_found, where_so, spend, left_block, then_do, then_turn}
-use Rattle.vlt_meaning.specs.Operands.{Case, case_in, emptied, with_operands}
+use Rattle.vlt_meaning.specs.Operands.{Case, case_in, with_empty_variable, with_operands}
 use Rattle.vlt_meaning.specs.Calls.{passed_objects, back_in}
 use Rattle.vlt_meaning.specs.Run.{Setup, focus_end, does_block, does_arm, call_body, call_by}
 use Rattle.vlt_meaning.specs.Does.{does}
 use Rattle.vlt_meaning_laws.specs.Laws.{does_one}
 use Rattle.vlt_meaning_laws.proofs.Equations.{boundless, does_next, does_loop}
 use Rattle.vlt_machine.specs.Got.{Got, got, stopped, then_step, operands_got, opened_got, filled_got}
-use Rattle.vlt_machine.specs.Machine.{Task, list, closing, turn, unfocus, back, Conf, at, when_found, when_got, when_so, spending, enter_block, enter_arm, enter_body, enter_by, enter, turn_on, act, list_moves, turn_moves, moved_in, moved, moves}
+use Rattle.vlt_machine.specs.Machine.{Task, list, closing, turn, unfocus, back, Conf, at, when_found, when_got, when_so, spending, enter_block, enter_arm, enter_body, enter_by, enter, turn_on, act, list_moves, turn_moves, moved_in, after_move, moves}
 use Rattle.vlt_machine.proofs.Gots.{operands_step, opened_step, filled_step}
 
 -- where a run comes to that has these tasks left behind a step of the function
@@ -121,8 +121,8 @@ module _ (r : Setup) where
   act_ends f (switch v arms end) ts frame w =
       found_ends (or_fault missing (variant_of f v)) f ts w _ _ (λ t.
       found_ends (case_in (frame.vars v)) f ts w _ _ (λ c.
-      got_ends (opened_got (case_keys r.program t c.number) c.keys frame w) f ts _ _ (λ u same w. arm_ends f c arms ts (emptied f v frame) w)
-      ∙ ap (finishes r f ts) (sym (opened_step (case_keys r.program t c.number) c.keys frame w (λ w. does_arm r (does r) f c arms (emptied f v frame) w)))))
+      got_ends (opened_got (case_keys r.program t c.number) c.keys frame w) f ts _ _ (λ u same w. arm_ends f c arms ts (with_empty_variable f v frame) w)
+      ∙ ap (finishes r f ts) (sym (opened_step (case_keys r.program t c.number) c.keys frame w (λ w. does_arm r (does r) f c arms (with_empty_variable f v frame) w)))))
   act_ends f (focus y z body) ts frame w =
       found_ends (or_fault missing (guarded_of f y)) f ts w _ _ (λ g.
       found_ends (or_fault missing (reference_of f z)) f ts w _ _ (λ q.
@@ -165,4 +165,4 @@ module _ (r : Setup) where
 
   pub moves_end : (n : ℕ) (c : Conf) → ending r (moves r n c) ≡ ending r c
   moves_end zero c = refl
-  moves_end (suc n) c = moves_end n (moved r c) ∙ move_ends c.func c.tasks c.step
+  moves_end (suc n) c = moves_end n (after_move r c) ∙ move_ends c.func c.tasks c.step

@@ -10,7 +10,7 @@ use Rattle.vlt_meaning.specs.World.{Value, one, World, Frame, missing, no_value,
 use Rattle.vlt_meaning.specs.Found.{Found, or_fault}
 use Rattle.vlt_meaning.specs.Values.{held_object, object_of, guarded_object, number_of, value_of}
 use Rattle.vlt_meaning.specs.Step.{Step, goes, jumps, leaves, ends, is_fillable, with_var}
-use Rattle.vlt_meaning.specs.Operands.{Case, case_in, case_object, emptied}
+use Rattle.vlt_meaning.specs.Operands.{Case, case_in, case_object, with_empty_variable}
 use Rattle.vlt_meaning.specs.Calls.{passed_objects}
 use Rattle.vlt_meaning.specs.Run.{Setup}
 use Rattle.vlt_meaning_laws.proofs.Keeping.{err-ok}
@@ -76,7 +76,7 @@ opened_level d [] [] frame w e = e
 opened_level d [] (n ∷ ns) frame w e = tt
 opened_level d (k ∷ ks) [] frame w e = tt
 
-emptied_depth : (f : Func) (v : ℕ) (frame : Frame) → (emptied f v frame).depth ≡ frame.depth
+emptied_depth : (f : Func) (v : ℕ) (frame : Frame) → (with_empty_variable f v frame).depth ≡ frame.depth
 emptied_depth f v frame = by (is_owning_var f v)
   where
     by : (b : Bool) → (if b then with_var v None frame else frame).depth ≡ frame.depth
@@ -188,7 +188,7 @@ module _ (r : Setup) where
   act_fits f (switch v arms end) ts frame w s l some long e =
       found_fits (or_fault missing (variant_of f v)) f ts w _ s (λ t is.
       found_fits (case_in (frame.vars v)) f ts w _ s (λ c is2.
-      got_fits (opened_got (case_keys r.program t c.number) c.keys frame w) f ts _ s (opened_level (frames ts) (case_keys r.program t c.number) c.keys frame w e) (λ u same w2 k. arm_fits f c arms ts (emptied f v frame) w2 s (omega (arith, l)) (emptied_depth f v frame ∙ e))))
+      got_fits (opened_got (case_keys r.program t c.number) c.keys frame w) f ts _ s (opened_level (frames ts) (case_keys r.program t c.number) c.keys frame w e) (λ u same w2 k. arm_fits f c arms ts (with_empty_variable f v frame) w2 s (omega (arith, l)) (emptied_depth f v frame ∙ e))))
   act_fits f (focus y z body) ts frame w s l some long e =
       found_fits (or_fault missing (guarded_of f y)) f ts w _ s (λ g is.
       found_fits (or_fault missing (reference_of f z)) f ts w _ s (λ q is2.

@@ -8,7 +8,7 @@ use Rattle.vlt_meaning.specs.World.{Value, one, World, Frame, fuel_end, missing,
 use Rattle.vlt_meaning.specs.Found.{Found, or_fault}
 use Rattle.vlt_meaning.specs.Values.{held_object, guarded_object, number_of, value_of, object_of}
 use Rattle.vlt_meaning.specs.Step.{Step, goes, jumps, leaves, ends, is_fillable, with_var, left_block}
-use Rattle.vlt_meaning.specs.Operands.{Case, case_in, emptied, case_object}
+use Rattle.vlt_meaning.specs.Operands.{Case, case_in, with_empty_variable, case_object}
 use Rattle.vlt_meaning.specs.Calls.{passed_objects, back_in}
 use Rattle.vlt_meaning.specs.Run.{Setup, does_form, focus_end}
 use Rattle.vlt_meaning.specs.Does.{does}
@@ -17,7 +17,7 @@ use Rattle.vlt_meaning_laws.proofs.Moves.{To, external_to, back_to, left_to, foc
 use Rattle.vlt_meaning_laws.proofs.Equations.{only_adds}
 use Rattle.vlt_meaning_laws.proofs.Levels.{HasNoMoreFuel, fuel_kept}
 use Rattle.vlt_machine.specs.Got.{Got, got, stopped, then_got, found_in, got_if, operand_got, operands_got, opened_got, filled_got}
-use Rattle.vlt_machine.specs.Machine.{Task, list, closing, turn, unfocus, back, Conf, at, when_found, when_got, when_so, spending, enter_block, enter_arm, enter_body, enter_by, enter, turn_on, act, list_moves, turn_moves, moved_in, moved, moves}
+use Rattle.vlt_machine.specs.Machine.{Task, list, closing, turn, unfocus, back, Conf, at, when_found, when_got, when_so, spending, enter_block, enter_arm, enter_body, enter_by, enter, turn_on, act, list_moves, turn_moves, moved_in, after_move, moves}
 
 abbrev pub fuel_in : Conf → ℕ
 fuel_in c = (world_after c.step).fuel
@@ -227,7 +227,7 @@ module _ (r : Setup) where
       found_shrinks n m (or_fault missing (variant_of f v)) f ts w _ l (omega (arith, u)) (λ t.
       found_shrinks n m (case_in (frame.vars v)) f ts w _ l (omega (arith, u)) (λ c.
       got_shrinks n m (opened_got (case_keys r.program t c.number) c.keys frame w) f ts _ (less_sinks w.fuel n (opened_got (case_keys r.program t c.number) c.keys frame w) l (opened_sinks (case_keys r.program t c.number) c.keys frame w)) (omega (arith, u))
-      (λ a same x h. arm_shrinks n m f c arms ts (emptied f v frame) x h (omega (arith, u)))))
+      (λ a same x h. arm_shrinks n m f c arms ts (with_empty_variable f v frame) x h (omega (arith, u)))))
   act_shrinks n m f (focus y z body) ts frame w l u =
       found_shrinks n m (or_fault missing (guarded_of f y)) f ts w _ l (omega (arith, u)) (λ g.
       found_shrinks n m (or_fault missing (reference_of f z)) f ts w _ l (omega (arith, u)) (λ q.
@@ -278,7 +278,7 @@ module _ (r : Setup) where
     pub count : ℕ
     pub tasks : (moves r count c).tasks ≡ []
 
-  halts_next : (c : Conf) → Halts (moved r c) → Halts c
+  halts_next : (c : Conf) → Halts (after_move r c) → Halts c
   halts_next c h = record { count = suc h.count; tasks = h.tasks }
 
   -- one move more
@@ -286,8 +286,8 @@ module _ (r : Setup) where
       (ts : List Task) → c.tasks ≡ ts → Halts c
   one_more k m c l u h g [] e = record { count = 0; tasks = e }
   one_more k m c l u h g (t ∷ ts) e =
-      let s : Shrinks (fuel_in c) (weight c.tasks) (moved r c) = subst (λ us. Shrinks (fuel_in c) (weight us) (moved_in r c.func us c.step)) (sym e) (move_shrinks c.func t ts c.step) in
-      halts_next c (⊎_elim (λ x. h (moved r c) (omega (arith, l, x))) (λ x. g (moved r c) (omega (arith, l, x.0)) (omega (arith, u, x.1))) s)
+      let s : Shrinks (fuel_in c) (weight c.tasks) (after_move r c) = subst (λ us. Shrinks (fuel_in c) (weight us) (moved_in r c.func us c.step)) (sym e) (move_shrinks c.func t ts c.step) in
+      halts_next c (⊎_elim (λ x. h (after_move r c) (omega (arith, l, x))) (λ x. g (after_move r c) (omega (arith, l, x.0)) (omega (arith, u, x.1))) s)
 
   -- with less fuel than k it halts, and with as much where less is left to do than m
   by_weight : (k m : ℕ) → ((c : Conf) → fuel_in c < k → Halts c) → (c : Conf) → fuel_in c ≤ k → weight c.tasks < m → Halts c

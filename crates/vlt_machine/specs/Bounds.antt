@@ -3,7 +3,7 @@ use Rattle.std.specs.Prelude.{◌≡◌, ◌≤◌, ℕ, ◌+◌, ◌*◌, max, 
 use Rattle.vlt_core.specs.Core.{Form, choose, loop, switch, focus, scope, Block, block, Stmts, done, next, Arms, no_arms, arm, Func, Program}
 use Rattle.vlt_meaning.specs.Step.{Step, goes, jumps, leaves, ends}
 use Rattle.vlt_meaning.specs.Run.{Setup}
-use Rattle.vlt_machine.specs.Machine.{Task, list, turn, back, Conf, moved}
+use Rattle.vlt_machine.specs.Machine.{Task, list, turn, back, Conf, after_move}
 
 -- ---- the tasks that statements need, those that are left behind them included
 
@@ -77,4 +77,4 @@ pub record Fits (r : Setup) (c : Conf) : Type 0 where
 -- where it fits, the stack is no higher than this, and it fits after each move
 pub record Suffices (r : Setup) (c : Conf) : Type 0 where
   pub tasks : length c.tasks ≤ r.depth * (tall_of r.program + 1)
-  pub next : Fits r (moved r c)
+  pub next : Fits r (after_move r c)

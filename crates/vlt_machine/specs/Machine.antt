@@ -9,7 +9,7 @@ use Rattle.vlt_meaning.specs.Found.{Found, or_fault}
 use Rattle.vlt_meaning.specs.Objects.{with_owner}
 use Rattle.vlt_meaning.specs.Values.{held_object, guarded_object, number_of}
 use Rattle.vlt_meaning.specs.Step.{Step, goes, jumps, ends, with_changed, with_objects, with_var, with_key, left_block}
-use Rattle.vlt_meaning.specs.Operands.{Case, case_in, emptied}
+use Rattle.vlt_meaning.specs.Operands.{Case, case_in, with_empty_variable}
 use Rattle.vlt_meaning.specs.Calls.{passed_objects, handed_over, callee_frame, back_in, with_returned}
 use Rattle.vlt_meaning.specs.Externals.{call_external}
 use Rattle.vlt_meaning.specs.Run.{Setup, does_simple, left_function, focus_end}
@@ -114,7 +114,7 @@ act r f (switch v arms end) ts frame w =
     when_found (or_fault missing (variant_of f v)) f ts w (λ t.
     when_found (case_in (frame.vars v)) f ts w (λ c.
     when_got (opened_got (case_keys r.program t c.number) c.keys frame w) f ts (λ u same w.
-    enter_arm f c arms ts (emptied f v frame) w)))
+    enter_arm f c arms ts (with_empty_variable f v frame) w)))
 act r f (focus y z body) ts frame w =
     when_found (or_fault missing (guarded_of f y)) f ts w (λ g.
     when_found (or_fault missing (reference_of f z)) f ts w (λ q.
@@ -156,12 +156,12 @@ abbrev pub moved_in : Setup → Func → List Task → Step → Conf
 moved_in r f [] a = at f [] a
 moved_in r f (t ∷ ts) a = task_moves r f t ts a
 
-abbrev pub moved : Setup → Conf → Conf
-moved r c = moved_in r c.func c.tasks c.step
+abbrev pub after_move : Setup → Conf → Conf
+after_move r c = moved_in r c.func c.tasks c.step
 
 abbrev pub moves : Setup → ℕ → Conf → Conf
 moves r zero c = c
-moves r (suc n) c = moves r n (moved r c)
+moves r (suc n) c = moves r n (after_move r c)
 
 -- the start of a run of a function
 abbrev pub first_conf : Func → Frame → World → Conf

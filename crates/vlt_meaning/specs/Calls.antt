@@ -7,7 +7,7 @@ use Rattle.vlt_core.specs.Core.{var, Operand, pure, Entry, Func, Program}
 use Rattle.vlt_core.specs.Lookups.{owning_vars, is_held_before, is_held_after, is_new, before_set, after_set}
 use Rattle.vlt_meaning.specs.World.{Value, held, Object, is_at, World, Frame, fault, missing, no_return}
 use Rattle.vlt_meaning.specs.Found.{Found, ◌>>=◌, or_fault, Named}
-use Rattle.vlt_meaning.specs.Objects.{in_states, with_owner, changed, numbered}
+use Rattle.vlt_meaning.specs.Objects.{in_states, with_owner, with_changed_object, with_numbers}
 use Rattle.vlt_meaning.specs.Values.{held_object, object_of}
 use Rattle.vlt_meaning.specs.Step.{Step, goes, jumps, leaves, ends, with_objects, with_key, deliver}
 use Rattle.vlt_meaning.specs.Operands.{with_operand}
@@ -41,7 +41,7 @@ passed_objects p g keys frame objects (e ∷ es) =
 
 abbrev pub changed_if : Option ℕ → (Object → Object) → List Object → List Object
 changed_if None change objects = objects
-changed_if (Some n) change objects = changed n change objects
+changed_if (Some n) change objects = with_changed_object n change objects
 
 -- the callee holds them during the call
 abbrev pub handed_over : (keys : List ℕ) → Frame → List Entry → List Object → List Object
@@ -88,7 +88,7 @@ with_names (b ∷ bs) frame = with_names bs (with_key b.key b.number frame)
 
 abbrev pub with_holders : (depth : ℕ) → List Binding → List Object → List Object
 with_holders d [] objects = objects
-with_holders d (b ∷ bs) objects = with_holders d bs (changed b.number (with_owner (held d b.key)) objects)
+with_holders d (b ∷ bs) objects = with_holders d bs (with_changed_object b.number (with_owner (held d b.key)) objects)
 
 -- where a callee's body came to, for its caller
 unfoldable pub back_in : Func → (target : Option ℕ) → (keys : List ℕ) → Func → Frame → Step → Step
@@ -126,7 +126,7 @@ returned_objects p f value (e ∷ es) frame objects = do
 -- the frame holds and lends no object but these
 abbrev pub holds_only : List ℕ → Frame → List Object → Bool
 holds_only kept frame objects =
-    list_all (λ q. not (is_at frame.depth q.1.owner) || list_any (λ n. n == q.0) kept) (numbered objects)
+    list_all (λ q. not (is_at frame.depth q.1.owner) || list_any (λ n. n == q.0) kept) (with_numbers objects)
 
 abbrev pub is_emptied : Func → Frame → Bool
 is_emptied f frame = list_all (λ v. is_none (frame.vars v)) (owning_vars f)

@@ -8,7 +8,7 @@ use Rattle.vlt_core.specs.Lookups.{is_held_before, is_held_after, is_new, Varian
 use Rattle.vlt_meaning.specs.World.{Part, reference, owned, Value, one, of_case, objects_in, Owner, held, loose, out, Object, is_loose, is_out, is_at, called, World, Frame, Outcome, bad_answer, missing}
 use Rattle.vlt_meaning.specs.World as world
 use Rattle.vlt_meaning.specs.Found.{Found, ◌>>=◌, or_fault}
-use Rattle.vlt_meaning.specs.Objects.{with_state, changed, moved}
+use Rattle.vlt_meaning.specs.Objects.{with_state, with_changed_object, objects_after_move}
 use Rattle.vlt_meaning.specs.Step.{Step, with_found, with_objects, with_event, with_answer, with_moved, with_made, with_key, deliver}
 use Rattle.vlt_meaning.specs.Calls.{entries_after, caller_object, passed_objects, Binding, binding}
 use Rattle.vlt_meaning.specs.HostAnswers.{Piece, plain, new_in, Result, nothing, piece, case_with, Answer, answer_of}
@@ -34,7 +34,7 @@ come_back keys frame (e ∷ es) objects =
     if is_given e then (do
       k ← or_fault missing (slice_get keys e.key)
       n ← or_fault missing (frame.keys k)
-      back ← moved is_out (held frame.depth k) (n ∷ []) objects
+      back ← objects_after_move is_out (held frame.depth k) (n ∷ []) objects
       come_back keys frame es back)
     else come_back keys frame es objects
 
@@ -65,7 +65,7 @@ entry_states keys frame _ _ = []
 -- objects by position, each with its new state
 abbrev pub with_states : List (ℕ × ℕ) → List Object → List Object
 with_states [] objects = objects
-with_states (q ∷ qs) objects = with_states qs (changed q.0 (with_state q.1) objects)
+with_states (q ∷ qs) objects = with_states qs (with_changed_object q.0 (with_state q.1) objects)
 
 -- the states that an answer gives to objects that were there before
 abbrev pub with_answered : Program → Func → (keys : List ℕ) → Frame → Answer → List Object → List Object
@@ -85,7 +85,7 @@ abbrev pub fitting : Program → Func → (keys : List ℕ) → Frame → (numbe
 fitting p g keys frame numbers objects = do
   a ← or_fault missing (answer_of p g numbers)
   back ← come_back keys frame g.clause objects
-  all ← moved is_out loose (case_objects p g keys frame a.result) back
+  all ← objects_after_move is_out loose (case_objects p g keys frame a.result) back
   Ok (record { answer = a; objects = all })
 
 -- an answer keeps its external's clause

@@ -37,15 +37,15 @@ changed_in n change objects None = objects
 changed_in n change objects (Some o) = slice_set objects n (change o)
 
 -- the objects with the one at a position changed
-abbrev pub changed : (n : ℕ) → (Object → Object) → List Object → List Object
-changed n change objects = changed_in n change objects (slice_get objects n)
+abbrev pub with_changed_object : (n : ℕ) → (Object → Object) → List Object → List Object
+with_changed_object n change objects = changed_in n change objects (slice_get objects n)
 
 -- The objects at these positions get a new owner, one after another. Each has to pass the test when its turn comes.
-abbrev pub moved : (Owner → Bool) → Owner → List ℕ → List Object → Found (List Object)
-moved from to [] objects = Ok objects
-moved from to (n ∷ ns) objects = do
+abbrev pub objects_after_move : (Owner → Bool) → Owner → List ℕ → List Object → Found (List Object)
+objects_after_move from to [] objects = Ok objects
+objects_after_move from to (n ∷ ns) objects = do
   m ← owned_at from objects n
-  moved from to ns (changed n (with_owner to) objects)
+  objects_after_move from to ns (with_changed_object n (with_owner to) objects)
 
 -- ---- what is below an object
 
@@ -57,15 +57,15 @@ parents_of = map (λ o. above o.owner)
 abbrev pub is_under : List Object → (roots : List ℕ) → (n : ℕ) → Bool
 is_under objects roots n = is_at_or_below (parents_of objects) roots n
 
-abbrev pub numbered : List Object → List (ℕ × Object)
-numbered objects = enumerate_from 0 objects
+abbrev pub with_numbers : List Object → List (ℕ × Object)
+with_numbers objects = enumerate_from 0 objects
 
 -- the object, and each one below it, is in a state of its own release set
 abbrev pub is_releasable : Program → List Object → (n : ℕ) → Bool
 is_releasable p objects n =
-    list_all (λ q. not (is_under objects (n ∷ []) q.0) || release_set p q.1.type q.1.state) (numbered objects)
+    list_all (λ q. not (is_under objects (n ∷ []) q.0) || release_set p q.1.type q.1.state) (with_numbers objects)
 
 -- the object and all below it are released
-abbrev pub released : (n : ℕ) → List Object → List Object
-released n objects =
-    map (λ q. if is_under objects (n ∷ []) q.0 then with_owner gone q.1 else q.1) (numbered objects)
+abbrev pub objects_after_release : (n : ℕ) → List Object → List Object
+objects_after_release n objects =
+    map (λ q. if is_under objects (n ∷ []) q.0 then with_owner gone q.1 else q.1) (with_numbers objects)

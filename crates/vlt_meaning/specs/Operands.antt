@@ -80,8 +80,8 @@ case_in (Some (one a)) = Err (fault missing None)
 case_in None = Err (fault no_value None)
 
 -- an owning variable is emptied where it is switched on
-abbrev pub emptied : Func → (v : ℕ) → Frame → Frame
-emptied f v frame = if is_owning_var f v then with_var v None frame else frame
+abbrev pub with_empty_variable : Func → (v : ℕ) → Frame → Frame
+with_empty_variable f v frame = if is_owning_var f v then with_var v None frame else frame
 
 -- the object of an owning variable's value
 abbrev pub owned_in : Option Value → Found ℕ

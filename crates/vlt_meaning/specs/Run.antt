@@ -12,7 +12,7 @@ use Rattle.vlt_meaning.specs.Found.{Found, ◌>>=◌, or_fault, Named, if_so}
 use Rattle.vlt_meaning.specs.Objects.{object_at, in_states, owned_at, with_owner, with_state, with_cell}
 use Rattle.vlt_meaning.specs.Values.{held_object, object_of, guarded_object, touchable, value_of, number_of}
 use Rattle.vlt_meaning.specs.Step.{Step, goes, jumps, leaves, ends, with_found, where_so, with_objects, with_changed, with_event, spend, with_input, with_made, with_moved, with_released, with_dropped, with_var, with_key, fill, with_filled, left_block, then_do, then_turn}
-use Rattle.vlt_meaning.specs.Operands.{with_operand, with_operands, owning_cells, parts_of, with_case_packed, with_case_opened, Case, case_in, emptied, owned_in}
+use Rattle.vlt_meaning.specs.Operands.{with_operand, with_operands, owning_cells, parts_of, with_case_packed, with_case_opened, Case, case_in, with_empty_variable, owned_in}
 use Rattle.vlt_meaning.specs.Calls.{entries_after, passed_objects, handed_over, callee_frame, back_in, with_returned, returned_objects, holds_only, is_emptied}
 use Rattle.vlt_meaning.specs.Externals.{payload_in, call_external}
 
@@ -43,16 +43,16 @@ made_in r q x cells frame w =
     goes (with_var x (Some (one (reference n))) (with_key q.key n frame)) w))
 
 -- An owning variable's value is exchanged for a field's. The new objects are loose before the old ones are.
-unfoldable pub swapped : (position v : ℕ) → Named → (old new : Value) → Frame → World → Step
-swapped i v n old new frame w =
+unfoldable pub swap_step : (position v : ℕ) → Named → (old new : Value) → Frame → World → Step
+swap_step i v n old new frame w =
     where_so (list_all (λ m. is_ok (owned_at is_loose w.objects m)) (objects_in new)) not_owned None w (λ w.
     with_moved (is_inside n.number) loose (objects_in old) w (λ w.
     with_moved is_loose (inside n.number) (objects_in new) w (λ w.
     goes (with_var v (Some old) frame) (with_changed w n.number (with_cell i new)))))
 
 -- the values of the owning fields go into the variables; the object ends, and all that it adopted
-unfoldable pub opened : Setup → (n : ℕ) → List Value → Func → (vs : List ℕ) → Frame → World → Step
-opened r n cells f vs frame w =
+unfoldable pub open_step : Setup → (n : ℕ) → List Value → Func → (vs : List ℕ) → Frame → World → Step
+open_step r n cells f vs frame w =
     with_moved (is_inside n) loose (flat_map objects_in cells) w (λ w.
     with_released r.program n w (λ w.
     with_filled f vs cells frame w (λ frame. goes frame w)))
@@ -97,11 +97,11 @@ does_simple r f (build v c args) frame w =
 does_simple r f (swap x i v) frame w =
     with_found (object_of f (λ q. permitted_in r.program q.type i) x frame w.objects) w (λ n.
     with_found (or_fault missing (slice_get n.object.cells i)) w (λ old.
-    with_found (or_fault no_value (frame.vars v)) w (λ new. swapped i v n old new frame w)))
+    with_found (or_fault no_value (frame.vars v)) w (λ new. swap_step i v n old new frame w)))
 does_simple r f (open_into x vs) frame w =
     with_found (or_fault missing (reference_of f x)) w (λ q.
     with_found (object_of f any_state x frame w.objects) w (λ n.
-    opened r n.number (owning_cells (fields_of r.program q.type) n.object.cells) f vs frame w))
+    open_step r n.number (owning_cells (fields_of r.program q.type) n.object.cells) f vs frame w))
 does_simple r f (adopt y x q) frame w =
     with_found (object_of f (λ t. release_set r.program t.type) x frame w.objects) w (λ n.
     with_found (object_of f any_state q frame w.objects) w (λ a.
@@ -144,15 +144,15 @@ lent_object k a frame objects = do
   if_so (is_lent_under frame.depth k m.object.owner) not_held m
 
 -- at the end of a focus the object goes back to its adopter, which is held again
-unfoldable pub unfocused : Setup → (guard key : Reference) → (adopter number : ℕ) → Frame → World → Step
-unfocused r g q a n frame w =
+unfoldable pub focus_end_step : Setup → (guard key : Reference) → (adopter number : ℕ) → Frame → World → Step
+focus_end_step r g q a n frame w =
     with_found (focused_object r q n frame w.objects) w (λ m.
     with_found (lent_object g.key a frame w.objects) w (λ b.
     goes frame
     (with_changed (with_changed w n (with_owner (adopted_by a))) a (with_owner (held frame.depth g.key)))))
 
 unfoldable pub focus_end : Setup → (guard key : Reference) → (adopter number : ℕ) → Step → Step
-focus_end r g q a n (goes frame w) = unfocused r g q a n frame w
+focus_end r g q a n (goes frame w) = focus_end_step r g q a n frame w
 focus_end r g q a n other = other
 
 -- ---- statements
@@ -178,7 +178,7 @@ abbrev mutual
       with_found (or_fault missing (variant_of f v)) w (λ t.
       with_found (case_in (frame.vars v)) w (λ c.
       with_case_opened (case_keys r.program t c.number) c.keys frame w (λ w.
-      does_arm r rest_of f c arms (emptied f v frame) w)))
+      does_arm r rest_of f c arms (with_empty_variable f v frame) w)))
   does_form r rest_of f (focus y z body) frame w =
       with_found (or_fault missing (guarded_of f y)) w (λ g.
       with_found (or_fault missing (reference_of f z)) w (λ q.
@@ -230,11 +230,11 @@ start fuel input answers =
 abbrev pub ran : Outcome → (kept : List ℕ) → World → Ran
 ran o kept w = record { outcome = o; kept = kept; world = w }
 
-abbrev pub ended : Step → Ran
-ended (goes frame w) = ran (fault no_return None) [] w
-ended (jumps c frame w) = ran (fault no_return None) [] w
-ended (leaves a kept w) = ran world.done kept w
-ended (ends o w) = ran o [] w
+abbrev pub ran_of : Step → Ran
+ran_of (goes frame w) = ran (fault no_return None) [] w
+ran_of (jumps c frame w) = ran (fault no_return None) [] w
+ran_of (leaves a kept w) = ran world.done kept w
+ran_of (ends o w) = ran o [] w
 
 abbrev pub main_run : Setup → (fuel : ℕ) → Option Func → World → Step
 main_run r fuel None w = ends (fault missing None) w
@@ -244,5 +244,5 @@ main_run r fuel (Some f) w = does_stmts r (less r fuel) f f.body (first_frame 1)
 abbrev pub run : Program → (fuel heap depth : ℕ) → (input : List ℤ) → (answers : List (List ℤ)) → Ran
 run p fuel heap depth input answers =
     let w = start fuel input answers in
-    ended (if depth == 0 then ends depth_end w
+    ran_of (if depth == 0 then ends depth_end w
     else main_run (record { program = p; heap = heap; depth = depth }) fuel (slice_get p.fns p.main) w)

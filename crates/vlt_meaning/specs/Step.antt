@@ -6,7 +6,7 @@ use Rattle.vlt_core.specs.Core.{Tok, a_key, a_var, Func, Program}
 use Rattle.vlt_core.specs.Lookups.{is_owning_var}
 use Rattle.vlt_meaning.specs.World.{Value, Owner, Object, is_loose, is_held_under, Event, World, is_full, Frame, Reason, Outcome, fuel_end, heap_end, input_end, answers_end, fault, missing, not_empty, wrong_state, left_behind, no_value}
 use Rattle.vlt_meaning.specs.Found.{Found, or_fault}
-use Rattle.vlt_meaning.specs.Objects.{changed, moved, owned_at, is_releasable, released}
+use Rattle.vlt_meaning.specs.Objects.{with_changed_object, objects_after_move, owned_at, is_releasable, objects_after_release}
 
 -- the next statement; the next turn or the end of a loop; the function's end, with the value and the objects of the
 -- clause's keys that are held after; or the end of the run
@@ -32,7 +32,7 @@ abbrev pub with_objects : World → List Object → World
 with_objects w objects = record w { objects = objects }
 
 abbrev pub with_changed : World → (n : ℕ) → (Object → Object) → World
-with_changed w n change = with_objects w (changed n change w.objects)
+with_changed w n change = with_objects w (with_changed_object n change w.objects)
 
 abbrev pub with_event : World → Event → World
 with_event w e = record w { events = w.events ++ e ∷ [] }
@@ -70,12 +70,12 @@ with_made heap o w go =
 
 -- the objects at these positions, which pass the test, get a new owner
 unfoldable pub with_moved : (Owner → Bool) → Owner → List ℕ → World → (World → Step) → Step
-with_moved from to ns w go = with_found (moved from to ns w.objects) w (λ objects. go (with_objects w objects))
+with_moved from to ns w go = with_found (objects_after_move from to ns w.objects) w (λ objects. go (with_objects w objects))
 
 -- the object is released, with all below it
 unfoldable pub with_released : Program → (n : ℕ) → World → (World → Step) → Step
 with_released p n w go =
-    where_so (is_releasable p w.objects n) wrong_state (Some n) w (λ w. go (with_objects w (released n w.objects)))
+    where_so (is_releasable p w.objects n) wrong_state (Some n) w (λ w. go (with_objects w (objects_after_release n w.objects)))
 
 -- the objects of a value are released, one after another
 unfoldable pub with_dropped : Program → List ℕ → World → (World → Step) → Step

@@ -76,10 +76,10 @@ or_trap (Ok z) = is_number z
 or_trap (Err t) = Err (trap t)
 
 -- `&&` gives its left operand where that is 0, else its right one; `||` gives the left one where it isn't 0.
-abbrev pub joined : Op → ℤ → Found Value → Found Value
-joined And a b = if is_true a then b else is_number a
-joined Or a b = if is_true a then is_number a else b
-joined op a b = do
+abbrev pub value_of_both : Op → ℤ → Found Value → Found Value
+value_of_both And a b = if is_true a then b else is_number a
+value_of_both Or a b = if is_true a then is_number a else b
+value_of_both op a b = do
   v ← b
   z ← number_in v
   or_trap (applied op a z)
@@ -98,7 +98,7 @@ value_of p f (unary op a) frame objects = do
 value_of p f (binary op a b) frame objects = do
   v ← value_of p f a frame objects
   z ← number_in v
-  joined op z (value_of p f b frame objects)
+  value_of_both op z (value_of p f b frame objects)
 
 -- the value of an expression of type int or bool
 abbrev pub number_of : Program → Func → Expr → Frame → List Object → Found ℤ

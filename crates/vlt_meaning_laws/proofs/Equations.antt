@@ -5,7 +5,7 @@ use Rattle.vlt_core.specs.Core.{loop, Stmts, done, next, Func}
 use Rattle.vlt_meaning.specs.World.{World, depth_end}
 use Rattle.vlt_meaning.specs.Values.{number_of}
 use Rattle.vlt_meaning.specs.Step.{Step, goes, jumps, leaves, ends, with_found, spend, then_do, then_turn}
-use Rattle.vlt_meaning.specs.Run.{Setup, does_block, does_stmts, main_run, ended, first_frame, start}
+use Rattle.vlt_meaning.specs.Run.{Setup, does_block, does_stmts, main_run, ran_of, first_frame, start}
 use Rattle.vlt_meaning.specs.Does.{does}
 use Rattle.vlt_meaning_laws.specs.Laws.{does_one, does_main, IsBoundless, GoesOn, TurnsAgain, IsRun, OnlyAdds, EndsStop}
 use Rattle.vlt_meaning_laws.proofs.Moves.{keeps}
@@ -42,7 +42,7 @@ main_is r fuel (Some f) w e = does_is r fuel f f.body (first_frame 1) w (omega a
 
 pub run_is : IsRun
 run_is p fuel heap depth zs answers =
-    ap (λ a. ended (if depth == 0 then ends depth_end (start fuel zs answers) else a))
+    ap (λ a. ran_of (if depth == 0 then ends depth_end (start fuel zs answers) else a))
     (main_is (record { program = p; heap = heap; depth = depth }) fuel (slice_get p.fns p.main)
     (start fuel zs answers) refl)
 

@@ -7,7 +7,7 @@ use Rattle.vlt_core.specs.Core.{Entry, Func, Program}
 use Rattle.vlt_core.specs.Lookups.{is_held_before}
 use Rattle.vlt_meaning.specs.World.{Owner, Object, Frame, Outcome, held, is_out, loose, gone, missing}
 use Rattle.vlt_meaning.specs.Found.{Found, ◌>>=◌, or_fault}
-use Rattle.vlt_meaning.specs.Objects.{changed, changed_in, with_owner, with_state, moved, owned_at, is_under, released}
+use Rattle.vlt_meaning.specs.Objects.{with_changed_object, changed_in, with_owner, with_state, objects_after_move, owned_at, is_under, objects_after_release}
 use Rattle.vlt_meaning.specs.Calls.{entries_after, caller_object, changed_if, handed_over, Binding, with_holders}
 use Rattle.vlt_meaning.specs.HostAnswers.{Answer, answer_of}
 use Rattle.vlt_meaning.specs.Externals.{is_given, come_back, with_states, with_answered, entry_states, case_states, case_objects, Fitting, fitting}
@@ -28,12 +28,12 @@ bound (Ok x) go b e = (x, refl, e)
 bound (Err o) go b e = absurd (err-ok e)
 
 pub change_here : (os : List Object) (n : ℕ) (o : Object) (change : Object → Object) → slice_get os n ≡ Some o →
-    slice_get (changed n change os) n ≡ Some (change o)
+    slice_get (with_changed_object n change os) n ≡ Some (change o)
 change_here os n o change at =
     ap (λ q. slice_get (changed_in n change os q) n) at ∙ get_set_same os n (change o) o at
 
 pub change_elsewhere : (os : List Object) (n : ℕ) (change : Object → Object) (m : ℕ) → (m ≡ n → ⊥) →
-    slice_get (changed n change os) m ≡ slice_get os m
+    slice_get (with_changed_object n change os) m ≡ slice_get os m
 change_elsewhere os n change m other = by (slice_get os n)
   where
     by : (q : Option Object) → slice_get (changed_in n change os q) m ≡ slice_get os m
@@ -56,19 +56,19 @@ abbrev pub KeepsType : (Object → Object) → Type 0
 KeepsType change = (o : Object) → (change o).type ≡ o.type
 
 pub keeps_changed : (n : ℕ) (change : Object → Object) (os : List Object) → KeepsType change →
-    KeepsObjects os (changed n change os)
+    KeepsObjects os (with_changed_object n change os)
 keeps_changed n change os same = record {
   each = λ m o at. ⊎_elim
       (λ e. record {
         object = change o;
-        at = ap (slice_get (changed n change os)) e ∙ change_here os n o change (ap (slice_get os) (sym e) ∙ at);
+        at = ap (slice_get (with_changed_object n change os)) e ∙ change_here os n o change (ap (slice_get os) (sym e) ∙ at);
         same = same o;
       })
       (λ other. record { object = o; at = change_elsewhere os n change m other ∙ at; same = refl })
       (cases_eq m n);
 }
 
-pub keeps_owner : (n : ℕ) (owner : Owner) (os : List Object) → KeepsObjects os (changed n (with_owner owner) os)
+pub keeps_owner : (n : ℕ) (owner : Owner) (os : List Object) → KeepsObjects os (with_changed_object n (with_owner owner) os)
 keeps_owner n owner os = keeps_changed n (with_owner owner) os (λ o. refl)
 
 pub keeps_more : (os : List Object) (o : Object) → KeepsObjects os (os ++ o ∷ [])
@@ -77,7 +77,7 @@ keeps_more os o = record { each = λ n q at. record { object = q; at = get_more 
 abbrev released_at : (n : ℕ) → List Object → ℕ × Object → Object
 released_at n os q = if is_under os (n ∷ []) q.0 then with_owner gone q.1 else q.1
 
-pub keeps_released : (n : ℕ) (os : List Object) → KeepsObjects os (released n os)
+pub keeps_released : (n : ℕ) (os : List Object) → KeepsObjects os (objects_after_release n os)
 keeps_released n os = record {
   each = λ m o at. record {
     object = released_at n os (0 + m, o);
@@ -91,7 +91,7 @@ keeps_released n os = record {
     by false o = refl
 
 pub keeps_moved : (from : Owner → Bool) (to : Owner) (ns : List ℕ) (os qs : List Object) →
-    moved from to ns os ≡ Ok qs → KeepsObjects os qs
+    objects_after_move from to ns os ≡ Ok qs → KeepsObjects os qs
 keeps_moved from to [] os qs e = same_keeps (same_ok e)
   where
     out_of : Found (List Object) → List Object
@@ -141,17 +141,17 @@ keeps_back keys frame (e ∷ es) os qs q = by (λ os e. keeps_back keys frame es
   where
     by : ((os : List Object) → come_back keys frame es os ≡ Ok qs → KeepsObjects os qs) → (b : Bool) →
         (if b then (or_fault missing (slice_get keys e.key) >>= λ k. or_fault missing (frame.keys k) >>= λ n.
-        moved is_out (held frame.depth k)
+        objects_after_move is_out (held frame.depth k)
         (n ∷ []) os >>= come_back keys frame es) else come_back keys frame es os) ≡ Ok qs →
         KeepsObjects os qs
     by again false q = again os q
     by again true q =
         let k = bound (or_fault missing (slice_get keys e.key))
         (λ k. or_fault missing (frame.keys k) >>= λ n.
-        moved is_out (held frame.depth k) (n ∷ []) os >>= come_back keys frame es) qs q in
+        objects_after_move is_out (held frame.depth k) (n ∷ []) os >>= come_back keys frame es) qs q in
         let n = bound (or_fault missing (frame.keys k.0))
-        (λ n. moved is_out (held frame.depth k.0) (n ∷ []) os >>= come_back keys frame es) qs k.2 in
-        let m = bound (moved is_out (held frame.depth k.0) (n.0 ∷ []) os) (come_back keys frame es) qs n.2 in
+        (λ n. objects_after_move is_out (held frame.depth k.0) (n ∷ []) os >>= come_back keys frame es) qs k.2 in
+        let m = bound (objects_after_move is_out (held frame.depth k.0) (n.0 ∷ []) os) (come_back keys frame es) qs n.2 in
         keeps_then (keeps_moved is_out (held frame.depth k.0) (n.0 ∷ []) os m.0 m.1) (again m.0 m.2)
 
 pub keeps_fitting : (p : Program) (g : Func) (keys : List ℕ) (frame : Frame) (zs : List ℤ) (os : List Object)
@@ -160,7 +160,7 @@ pub keeps_fitting : (p : Program) (g : Func) (keys : List ℕ) (frame : Frame) (
 keeps_fitting p g keys frame zs os q e =
     let a = bound (or_fault missing (answer_of p g zs)) _ q e in
     let b = bound (come_back keys frame g.clause os) _ q a.2 in
-    let c = bound (moved is_out loose (case_objects p g keys frame a.0.result) b.0) _ q b.2 in
+    let c = bound (objects_after_move is_out loose (case_objects p g keys frame a.0.result) b.0) _ q b.2 in
     let k : KeepsObjects os c.0 =
     keeps_then (keeps_back keys frame g.clause os b.0 b.1) (keeps_moved _ _ _ b.0 c.0 c.1) in
     subst (KeepsObjects os) (ap objects_of c.2) k

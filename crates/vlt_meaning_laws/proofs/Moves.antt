@@ -13,7 +13,7 @@ use Rattle.vlt_meaning.specs.Calls.{Binding, bindings, entries_after, back_in, w
 use Rattle.vlt_meaning.specs.HostAnswers.{Piece, plain, new_in, nothing, piece, case_with}
 use Rattle.vlt_meaning.specs.HostAnswers as answers
 use Rattle.vlt_meaning.specs.Externals.{or_bad, fitting, with_pieces, with_fresh, with_result, call_external}
-use Rattle.vlt_meaning.specs.Run.{Setup, Meaning, made_in, swapped, opened, does_simple, call_body, call_by, left_function, unfocused, focus_end, does_form, does_block, does_stmts, does_arm, less}
+use Rattle.vlt_meaning.specs.Run.{Setup, Meaning, made_in, swap_step, open_step, does_simple, call_body, call_by, left_function, focus_end_step, focus_end, does_form, does_block, does_stmts, does_arm, less}
 use Rattle.vlt_meaning_laws.specs.Keeping.{KeepsObjects, world_after}
 use Rattle.vlt_meaning_laws.proofs.Keeping.{err-ok, keeps_owner, keeps_changed, keeps_more, keeps_then, keeps_released, keeps_moved, keeps_handed, keeps_holders, keeps_answered, keeps_fitting}
 
@@ -245,7 +245,7 @@ module _ (I : World → World → Type 0) (k : IsKept I) (w0 : World) where
   turn_to (ends o w) go h t = record { kept = h.kept }
 
   pub focus_to : (r : Setup) (g q : Reference) (a n : ℕ) (x : Step) → To I w0 x → To I w0 (focus_end r g q a n x)
-  unfolding focus_end unfocused
+  unfolding focus_end focus_end_step
   focus_to r g q a n (goes frame w) h =
       found_to _ w _ h.kept (λ m. found_to _ w _ h.kept (λ b. record {
         kept = k.objects w0 w _ (keeps_then (keeps_owner n _ w.objects) (keeps_owner a _ _)) h.kept;
@@ -256,7 +256,7 @@ module _ (I : World → World → Type 0) (k : IsKept I) (w0 : World) where
 
   simple_to : (r : Setup) (f : Func) (s : Simple) (frame : Frame) (w : World) → I w0 w →
       To I w0 (does_simple r f s frame w)
-  unfolding made_in swapped opened
+  unfolding made_in swap_step open_step
   simple_to r f (set v e) frame w h = found_to _ w _ h (λ a. record { kept = h })
   simple_to r f (core.input v more) frame w h = input_to more w _ h (λ z v i. record { kept = i })
   simple_to r f (print e) frame w h = found_to _ w _ h (λ z. record { kept = k.event w0 w _ h })

@@ -5,7 +5,7 @@ use Rattle.vlt_core.specs.Core.{Expr, Form, loop, Block, Stmts, next, Func, Prog
 use Rattle.vlt_meaning.specs.World.{World, Frame, depth_end, fault, missing}
 use Rattle.vlt_meaning.specs.Values.{number_of}
 use Rattle.vlt_meaning.specs.Step.{Step, goes, ends, with_found, spend, then_do, then_turn}
-use Rattle.vlt_meaning.specs.Run.{Setup, does_form, does_block, does_stmts, ended, first_frame, start, run}
+use Rattle.vlt_meaning.specs.Run.{Setup, does_form, does_block, does_stmts, ran_of, first_frame, start, run}
 use Rattle.vlt_meaning.specs.Does.{does}
 use Rattle.vlt_meaning_laws.specs.Keeping.{IsLater, world_after}
 use Rattle.vlt_meaning_laws.specs.Ends.{list_ends, Stops}
@@ -38,7 +38,7 @@ TurnsAgain = (r : Setup) (f : Func) (e : Expr) (b : Block) (frame : Frame) (w : 
 abbrev pub IsRun : Type 0
 IsRun = (p : Program) (fuel heap depth : ℕ) (zs : List ℤ) (answers : List (List ℤ)) →
     run p fuel heap depth zs answers ≡
-    ended (if depth == 0 then ends depth_end (start fuel zs answers)
+    ran_of (if depth == 0 then ends depth_end (start fuel zs answers)
     else does_main (record { program = p; heap = heap; depth = depth }) (slice_get p.fns p.main)
     (start fuel zs answers))
 

@@ -10,13 +10,13 @@ use Rattle.vlt_heap.specs.declared.heap.Heap.{Heap}
 use Rattle.vlt_heap.specs.Items.{Items}
 use Rattle.vlt_meaning.specs.World.{Part, number, owned, is_fault, Value, one, of_case, Owner, held, loose, is_loose, is_gone, is_out, above, Object as Thing, World, Frame, missing, fault, no_value, other_object, wrong_state}
 use Rattle.vlt_meaning.specs.Found.{Found, ◌>>=◌, or_fault, Named, if_so}
-use Rattle.vlt_meaning.specs.Objects.{owned_at, in_states, with_owner, changed}
-use Rattle.vlt_meaning.specs.Operands.{Case, case_in, case_object, emptied}
+use Rattle.vlt_meaning.specs.Objects.{owned_at, in_states, with_owner, with_changed_object}
+use Rattle.vlt_meaning.specs.Operands.{Case, case_in, case_object, with_empty_variable}
 use Rattle.vlt_meaning.specs.Step.{with_objects, with_changed, with_var}
 use Rattle.vlt_meaning_laws.proofs.Keeping.{bound, err-ok}
 use Rattle.vlt_machine.specs.Got.{Got, got, stopped, then_got, found_in, opened_got, filled_got}
 use Rattle.vlt_values.specs.declared.values.Values.{Values}
-use Rattle.vlt_values.specs.Parts.{padded, HaveParts, HaveValue}
+use Rattle.vlt_values.specs.Parts.{padded_parts, HaveParts, HaveValue}
 use Rattle.vlt_values.specs.Filled.{IsFilled}
 use Rattle.vlt_values.specs.Shown.{ShowObjects, ShowsFrame, IsTable, var_at, key_at, Seen, IsKept, IsGrown, IsCut, AreApart, IsVarSlot}
 use Rattle.vlt_values.proofs.Touching.{OrFault, then_fault, some_fault, so_fault, so_is}
@@ -108,7 +108,7 @@ have_first items slots k (p ∷ ps) qs have = (have.0, have_first items slots (s
 payload_at : (items : Items) (slots : List Slot) (k w c : ℕ) (parts : List Part) (keys : List ℕ) → HaveValue items slots k w (of_case c parts keys) → HaveParts items slots (suc k) parts
 payload_at items slots k w c parts keys have = have_first items slots (suc k) parts _ (have_first items slots (suc k) (parts ++ map owned keys) _ have.parts.1)
 
-emptied_keeps : (items : Items) (values : Values) (f : Func) (v : ℕ) (frame : Frame) → ShowsFrame items values frame → ShowsFrame items values (emptied f v frame) × ((emptied f v frame).keys ≡ frame.keys)
+emptied_keeps : (items : Items) (values : Values) (f : Func) (v : ℕ) (frame : Frame) → ShowsFrame items values frame → ShowsFrame items values (with_empty_variable f v frame) × ((with_empty_variable f v frame).keys ≡ frame.keys)
 emptied_keeps items values f v frame shown = by (is_owning_var f v)
   where
     by : (t : Bool) → ShowsFrame items values (if t then with_var v None frame else frame) × ((if t then with_var v None frame else frame).keys ≡ frame.keys)
@@ -141,7 +141,7 @@ opens_arm heap values grown mid set last v end next vs is_end is_next table with
     shown : ShowsFrame c.items mid c.frame
     shown = frame_grown c.items values mid c.frame gm c.fits
 
-    end_with : (u : World) → ShowObjects c.items values.width u.objects → (x : Got (Unit {0})) → IsFilledWith c.items set (emptied c.func v c.frame) u x → IsOpened c.items heap last x
+    end_with : (u : World) → ShowObjects c.items values.width u.objects → (x : Got (Unit {0})) → IsFilledWith c.items set (with_empty_variable c.func v c.frame) u x → IsOpened c.items heap last x
     end_with u objects (got t f2 u2) h = record {
       items = c.items;
       holds = c.holds;
@@ -153,7 +153,7 @@ opens_arm heap values grown mid set last v end next vs is_end is_next table with
     }
     end_with u objects (stopped o u2) h = h
 
-    by : (x : Got (Unit {0})) → OpenShows c.items values.width c.frame x → IsOpened c.items heap last (then_got x (λ u f w. filled_got c.func vs (map one d.parts) (emptied c.func v c.frame) w))
-    by (got t f u) h = end_with u h.1 (filled_got c.func vs (map one d.parts) (emptied c.func v c.frame) u)
-        (fills c.items c.func (emptied c.func v c.frame) u d.parts (emptied_keeps c.items mid c.func v c.frame shown).0 payload)
+    by : (x : Got (Unit {0})) → OpenShows c.items values.width c.frame x → IsOpened c.items heap last (then_got x (λ u f w. filled_got c.func vs (map one d.parts) (with_empty_variable c.func v c.frame) w))
+    by (got t f u) h = end_with u h.1 (filled_got c.func vs (map one d.parts) (with_empty_variable c.func v c.frame) u)
+        (fills c.items c.func (with_empty_variable c.func v c.frame) u d.parts (emptied_keeps c.items mid c.func v c.frame shown).0 payload)
     by (stopped o u) h = h

@@ -26,7 +26,7 @@ use Rattle.vlt_meaning_laws.proofs.Keeping.{bound, err-ok}
 use Rattle.vlt_machine.specs.Got.{Got, got, stopped, then_step, operands_got}
 use Rattle.vlt_machine.proofs.Gots.{operands_step}
 use Rattle.vlt_values.specs.declared.values.Values.{Values}
-use Rattle.vlt_values.specs.Parts.{flat, padded, HasPartAt, HaveParts, HaveValue}
+use Rattle.vlt_values.specs.Parts.{flat, padded_parts, HasPartAt, HaveParts, HaveValue}
 use Rattle.vlt_values.specs.Filled.{IsFilled, IsSingleSlot}
 use Rattle.vlt_values.specs.Shown.{ShowObjects, ShowsFrame, IsTable, var_at, key_at, Seen, IsKept, IsGrown, IsCut, IsRowSet, IsFrontOf}
 use Rattle.vlt_values.specs.Pushed.{HaveValues, ArePushed}

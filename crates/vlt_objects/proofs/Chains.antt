@@ -11,12 +11,12 @@ use Rattle.vlt_heap.specs.Items.{Items, IsMadeAt}
 use Rattle.vlt_heap.proofs.Listed.{KeepMade}
 use Rattle.vlt_meaning.specs.World.{Part, number, reference, owned, objects_in_part, Owner, Object as Thing, is_loose, wrong_state}
 use Rattle.vlt_meaning.specs.Found.{Found, ◌>>=◌, Named, if_so}
-use Rattle.vlt_meaning.specs.Objects.{owned_at, with_owner, changed, moved, is_releasable, released}
+use Rattle.vlt_meaning.specs.Objects.{owned_at, with_owner, with_changed_object, objects_after_move, is_releasable, objects_after_release}
 use Rattle.vlt_meaning_laws.proofs.Keeping.{bound}
 use Rattle.vlt_values.specs.Parts.{IsObject, IsOwned, HasPart}
 use Rattle.vlt_values.specs.Shown.{ShowObjects}
 use Rattle.vlt_acts.proofs.Keeping.{part_kept}
-use Rattle.vlt_objects.specs.Owned.{AreParts, owned_in, Sees, ShowsAll, Change, dropped, Can, Makes}
+use Rattle.vlt_objects.specs.Owned.{AreParts, owned_in, Sees, ShowsAll, Change, objects_after_drop, Can, Makes}
 
 -- ---- changes of more objects are made one after another
 
@@ -31,16 +31,16 @@ same_go : {A B : Type 0} (x : Found A) (f g : A → Found B) → ((a : A) → f 
 same_go (Ok a) f g h = h a
 same_go (Err o) f g h = refl
 
-pub moves_join : (from : Owner → Bool) (to : Owner) → Joins (moved from to)
+pub moves_join : (from : Owner → Bool) (to : Owner) → Joins (objects_after_move from to)
 moves_join from to [] ms os = refl
 moves_join from to (n ∷ ns) ms os =
-    same_go (owned_at from os n) _ _ (λ m. moves_join from to ns ms (changed n (with_owner to) os)) ∙ same_bound (owned_at from os n) (λ m. moved from to ns (changed n (with_owner to) os)) (moved from to ms)
+    same_go (owned_at from os n) _ _ (λ m. moves_join from to ns ms (with_changed_object n (with_owner to) os)) ∙ same_bound (owned_at from os n) (λ m. objects_after_move from to ns (with_changed_object n (with_owner to) os)) (objects_after_move from to ms)
 
-pub drops_join : (p : Program) → Joins (dropped p)
+pub drops_join : (p : Program) → Joins (objects_after_drop p)
 drops_join p [] ms os = refl
 drops_join p (n ∷ ns) ms os =
-    same_go (owned_at is_loose os n) _ _ (λ m. same_go (if_so (is_releasable p os n) wrong_state m) _ _ (λ k. drops_join p ns ms (released n os)) ∙ same_bound (if_so (is_releasable p os n) wrong_state m) (λ k. dropped p ns (released n os)) (dropped p ms))
-    ∙ same_bound (owned_at is_loose os n) (λ m. if_so (is_releasable p os n) wrong_state m >>= (λ k. dropped p ns (released n os))) (dropped p ms)
+    same_go (owned_at is_loose os n) _ _ (λ m. same_go (if_so (is_releasable p os n) wrong_state m) _ _ (λ k. drops_join p ns ms (objects_after_release n os)) ∙ same_bound (if_so (is_releasable p os n) wrong_state m) (λ k. objects_after_drop p ns (objects_after_release n os)) (objects_after_drop p ms))
+    ∙ same_bound (owned_at is_loose os n) (λ m. if_so (is_releasable p os n) wrong_state m >>= (λ k. objects_after_drop p ns (objects_after_release n os))) (objects_after_drop p ms)
 
 -- ---- parts
 

@@ -8,13 +8,13 @@ use Rattle.vlt_meaning.specs.Found.{Found, or_fault}
 use Rattle.vlt_meaning.specs.Step.{goes, with_dropped, with_var}
 use Rattle.vlt_meaning.specs.Run.{does_simple}
 use Rattle.vlt_values.specs.declared.values.Values.{Values}
-use Rattle.vlt_values.specs.Parts.{padded}
+use Rattle.vlt_values.specs.Parts.{padded_parts}
 use Rattle.vlt_values.specs.Shown.{ShowObjects, var_at, Seen}
 use Rattle.vlt_values.proofs.Touching.{some_fault, some_is}
 use Rattle.vlt_values.proofs.Pushing.{emptied_shown}
 use Rattle.vlt_acts.specs.Acts.{setup, Does, IsRight}
 use Rattle.vlt_acts.proofs.Keeping.{frame_kept}
-use Rattle.vlt_objects.specs.Owned.{owned_in, Sees, ShowsAll, dropped, CanDrop, DropsAll}
+use Rattle.vlt_objects.specs.Owned.{owned_in, Sees, ShowsAll, objects_after_drop, CanDrop, DropsAll}
 use Rattle.vlt_objects.proofs.Rows.{owned_padded, row_value}
 use Rattle.vlt_objects.proofs.Going.{found_safe, dropped_safe, found_goes, dropped_goes}
 
@@ -27,7 +27,7 @@ var_seen h values c v a objects same is = record {
   items = c.items;
   width = values.width;
   objects = objects;
-  parts = padded values.width a;
+  parts = padded_parts values.width a;
   holds = c.holds;
   shown = subst (ShowObjects c.items values.width) (sym same) c.shown;
   have = row_value c.items values.slots.items (var_at values v) values.width a (c.fits.vars v a is).value;
@@ -42,7 +42,7 @@ can_drop h values v slots is q =
       can = record {
         sees = var_seen h values q.seen v f.value q.world.objects q.objects (some_is no_value (q.seen.frame.vars v) f.value f.is);
         after = s.objects;
-        is = ap (λ ns. dropped q.seen.program ns q.world.objects) (owned_padded values.width f.value) ∙ s.is;
+        is = ap (λ ns. objects_after_drop q.seen.program ns q.world.objects) (owned_padded values.width f.value) ∙ s.is;
       };
     })
 
@@ -50,7 +50,7 @@ pub drop_does : (old new : Heap) (values : Values) (c : Seen old values) (w : Wo
 drop_does old new values c w n d v slots is same drops =
     found_goes c.items new values (Ok tt) (or_fault no_value (c.frame.vars v)) w _ (some_fault no_value (c.frame.vars v)) (λ a has.
     dropped_goes c.items new values (Ok tt) c.program (objects_in a) w (goes (with_var v None c.frame)) (λ os gone.
-    let s = subst (λ l. DropsAll l old new) is drops c.program (var_seen old values c v a w.objects same (some_is no_value (c.frame.vars v) a has)) os (ap (λ ns. dropped c.program ns w.objects) (owned_padded values.width a) ∙ gone) in
+    let s = subst (λ l. DropsAll l old new) is drops c.program (var_seen old values c v a w.objects same (some_is no_value (c.frame.vars v) a has)) os (ap (λ ns. objects_after_drop c.program ns w.objects) (owned_padded values.width a) ∙ gone) in
     record {
       is = refl;
       shows = record {

@@ -10,19 +10,19 @@ use Rattle.vlt_heap.specs.Items.{Items, IsMadeAt}
 use Rattle.vlt_heap.proofs.Listed.{KeepMade}
 use Rattle.vlt_meaning.specs.World.{Owner, inside, is_loose, Object as Thing}
 use Rattle.vlt_meaning.specs.Found.{◌>>=◌, Named}
-use Rattle.vlt_meaning.specs.Objects.{owned_at, with_owner, changed, moved}
+use Rattle.vlt_meaning.specs.Objects.{owned_at, with_owner, with_changed_object, objects_after_move}
 use Rattle.vlt_meaning_laws.proofs.Keeping.{bound, change_elsewhere}
 use Rattle.vlt_objects.specs.Owned.{owned_in, Sees, ShowsAll, IsHeldAt, put_in, Can, CanHang, HangsAll}
 use Rattle.vlt_objects.proofs.Chains.{Split, split, first_seen, rest_seen, Middle, middle, moves_join, same_objects, then_kept}
 use Rattle.vlt_objects.proofs.Owning.{FoundAt, found_at}
 
 -- an object that fails the test isn't moved
-pub moved_others : (from : Owner → Bool) (to : Owner) (ns : List ℕ) (os after : List Thing) (n : ℕ) (x : Thing) → slice_get os n ≡ Some x → from x.owner ≡ false → moved from to ns os ≡ Ok after → slice_get after n ≡ Some x
+pub moved_others : (from : Owner → Bool) (to : Owner) (ns : List ℕ) (os after : List Thing) (n : ℕ) (x : Thing) → slice_get os n ≡ Some x → from x.owner ≡ false → objects_after_move from to ns os ≡ Ok after → slice_get after n ≡ Some x
 moved_others from to [] os after n x at isnt is = ap (λ l. slice_get l n) (sym (same_objects is)) ∙ at
 moved_others from to (m ∷ ns) os after n x at isnt is =
     let b = bound (owned_at from os m) _ after is in
     let f = found_at from os m b.0 b.1 in
-    moved_others from to ns (changed m (with_owner to) os) after n x (change_elsewhere os m (with_owner to) n (other f) ∙ at) isnt b.2
+    moved_others from to ns (with_changed_object m (with_owner to) os) after n x (change_elsewhere os m (with_owner to) n (other f) ∙ at) isnt b.2
   where
     other : FoundAt from os m → n ≢ m
     other f e = absurd (false≢true (sym isnt ∙ ap (λ z. from z.owner) (same_Some x f.object (sym at ∙ ap (slice_get os) e ∙ f.at)) ∙ f.test))

@@ -19,11 +19,11 @@ use Rattle.vlt_heap.specs.Shown.{Holds, slots_of, heap_of, IsNew, Makes}
 use Rattle.vlt_heap.proofs.Listed.{KeepMade, kept_with, kept_new, made_at}
 use Rattle.vlt_meaning.specs.World.{Part, Value, objects_in, Object as Thing, is_gone, is_full, max_made, Frame}
 use Rattle.vlt_meaning.specs.World as world
-use Rattle.vlt_meaning.specs.Objects.{changed, changed_in}
+use Rattle.vlt_meaning.specs.Objects.{with_changed_object, changed_in}
 use Rattle.vlt_meaning.specs.Run.{new_object}
 use Rattle.vlt_meaning_laws.proofs.Keeping.{change_here}
 use Rattle.vlt_values.specs.declared.values.Values.{Values}
-use Rattle.vlt_values.specs.Parts.{padded, IsObject, HaveParts, HaveValue}
+use Rattle.vlt_values.specs.Parts.{padded_parts, IsObject, HaveParts, HaveValue}
 use Rattle.vlt_values.specs.Shown.{ShowsObject, ShowsIt, ShowObjects}
 use Rattle.vlt_values.specs.Pushed.{HaveValues}
 use Rattle.vlt_values.proofs.Padding.{length_padded}
@@ -40,11 +40,11 @@ use Rattle.vlt_objects.proofs.Storing.{set_inside, row_get, length_row}
 -- ---- values one after another
 
 abbrev pub all_parts : (width : ℕ) → List Value → List Part
-all_parts w = flat_map (padded w)
+all_parts w = flat_map (padded_parts w)
 
 pub owned_all : (w : ℕ) (xs : List Value) → owned_in (all_parts w xs) ≡ flat_map objects_in xs
 owned_all w [] = refl
-owned_all w (a ∷ xs) = owned_both (padded w a) (all_parts w xs) ∙ ap (λ l. l ++ owned_in (all_parts w xs)) (owned_padded w a) ∙ ap (λ l. objects_in a ++ l) (owned_all w xs)
+owned_all w (a ∷ xs) = owned_both (padded_parts w a) (all_parts w xs) ∙ ap (λ l. l ++ owned_in (all_parts w xs)) (owned_padded w a) ∙ ap (λ l. objects_in a ++ l) (owned_all w xs)
 
 pub parts_both : (items : Items) (slots : List Slot) (k : ℕ) (ps qs : List Part) → HaveParts items slots k ps → HaveParts items slots (k + length ps) qs → HaveParts items slots k (ps ++ qs)
 parts_both items slots k [] qs first rest = subst (λ j. HaveParts items slots j qs) (omega arith) rest
@@ -53,12 +53,12 @@ parts_both items slots k (p ∷ ps) qs first rest = (first.0, parts_both items s
 values_parts : (items : Items) (slots : List Slot) (k w : ℕ) (xs : List Value) → HaveValues items slots k w xs → HaveParts items slots k (all_parts w xs)
 values_parts items slots k w [] have = tt
 values_parts items slots k w (a ∷ xs) have =
-    parts_both items slots k (padded w a) (all_parts w xs) have.0.parts (subst (λ j. HaveParts items slots (k + j) (all_parts w xs)) (sym (length_padded w a have.0.narrow)) (values_parts items slots (k + w) w xs have.1))
+    parts_both items slots k (padded_parts w a) (all_parts w xs) have.0.parts (subst (λ j. HaveParts items slots (k + j) (all_parts w xs)) (sym (length_padded w a have.0.narrow)) (values_parts items slots (k + w) w xs have.1))
 
 length_all : (items : Items) (slots : List Slot) (k w : ℕ) (xs : List Value) → HaveValues items slots k w xs → length (all_parts w xs) ≡ length xs * w
 length_all items slots k w [] have = omega arith
 length_all items slots k w (a ∷ xs) have =
-    let e = length-append (padded w a) (all_parts w xs) in
+    let e = length-append (padded_parts w a) (all_parts w xs) in
     let p = length_padded w a have.0.narrow in
     let r = length_all items slots (k + w) w xs have.1 in
     let m : suc (length xs) * w ≡ w + length xs * w = omega arith in
@@ -97,7 +97,7 @@ full_same items w budget objects h =
 
 -- ---- the new object
 
-change_last : (os : List Thing) (o : Thing) (change : Thing → Thing) → changed (length os) change (os ++ o ∷ []) ≡ os ++ change o ∷ []
+change_last : (os : List Thing) (o : Thing) (change : Thing → Thing) → with_changed_object (length os) change (os ++ o ∷ []) ≡ os ++ change o ∷ []
 change_last os o change = ap (λ x. changed_in (length os) change (os ++ o ∷ []) x) (get_last os o) ∙ set_last os
   where
     set_last : (xs : List Thing) → slice_set (xs ++ o ∷ []) (length xs) (change o) ≡ xs ++ change o ∷ []
@@ -143,7 +143,7 @@ module _ (old mid : Heap) (values : Values) (from count t : ℕ) (o : Obj) (make
       let base : ShowObjects one values.width (s.objects ++ empty ∷ []) =
       more_shown s.items values.width s.objects x empty s.shown (record { live = refl; type = sym typed; state = refl; parent = refl; is_out = refl; cells = λ i a none. absurd (none-some a none) }) in
       let end : length s.items ≡ length s.objects = s.shown.long in
-      let all : ShowObjects (with_item (length s.items) y one) values.width (changed (length s.items) (with_cells s.cells) (s.objects ++ empty ∷ [])) =
+      let all : ShowObjects (with_item (length s.items) y one) values.width (with_changed_object (length s.items) (with_cells s.cells) (s.objects ++ empty ∷ [])) =
       one_shown one values.width (length s.items) (s.objects ++ empty ∷ []) x y empty (with_cells s.cells) keep base at (subst (λ j. slice_get (s.objects ++ empty ∷ []) j ≡ Some empty) (sym end) (get_last s.objects empty)) (record {
         live = refl;
         type = sym typed;
@@ -156,7 +156,7 @@ module _ (old mid : Heap) (values : Values) (from count t : ℕ) (o : Obj) (make
         items = with_item (length s.items) y one;
         holds = subst (λ j. Holds new (with_item j y one)) is_k (subst (λ j. Holds new (with_item k (with_slots j row x) one)) zero_is
             (stores one x m.holds (subst (λ j. IsAt one j x) (sym is_k) at) refl (omega (arith, long, fits, size, zero_is))));
-        shown = subst (ShowObjects (with_item (length s.items) y one) values.width) (ap (λ j. changed j (with_cells s.cells) (s.objects ++ empty ∷ [])) end ∙ change_last s.objects empty (with_cells s.cells)) all;
+        shown = subst (ShowObjects (with_item (length s.items) y one) values.width) (ap (λ j. with_changed_object j (with_cells s.cells) (s.objects ++ empty ∷ [])) end ∙ change_last s.objects empty (with_cells s.cells)) all;
         kept = λ c j made. keep c j (kept_new s.items x c j made);
         made = subst (IsMadeAt (with_item (length s.items) y one) o.0) end (keep o.0 (length s.items) (made_at one (length s.items) x at));
       }

@@ -15,11 +15,11 @@ use Rattle.vlt_heap.specs.Shown.{IsLive, IsRoot as IsLone, IsHere, Releases}
 use Rattle.vlt_heap.proofs.Listed.{kept_without}
 use Rattle.vlt_meaning.specs.World.{Value, Owner, objects_in, held, loose, is_inside, Object as Thing, World, Frame, Outcome, is_fault, missing, not_empty, fault}
 use Rattle.vlt_meaning.specs.Found.{Found, or_fault, Named}
-use Rattle.vlt_meaning.specs.Objects.{released, is_releasable}
+use Rattle.vlt_meaning.specs.Objects.{objects_after_release, is_releasable}
 use Rattle.vlt_meaning.specs.Values.{object_of}
 use Rattle.vlt_meaning.specs.Step.{Step, goes, ends, with_objects, with_moved, with_released, with_filled, with_var, is_fillable}
 use Rattle.vlt_meaning.specs.Operands.{owning_cells}
-use Rattle.vlt_meaning.specs.Run.{any_state, opened, does_simple}
+use Rattle.vlt_meaning.specs.Run.{any_state, open_step, does_simple}
 use Rattle.vlt_machine.specs.Got.{Got, got, stopped, then_step, filled_got}
 use Rattle.vlt_machine.proofs.Gots.{filled_step}
 use Rattle.vlt_values.specs.declared.values.Values.{Values}
@@ -67,7 +67,7 @@ record RightOpen (p : Program) (f : Func) (heap : Heap) (values : Values) (x : �
   safe : IsSafe (with_filled seen.func vs (owned_from (fields_of p ref.type) 0 opens.named.object) seen.frame after (λ frame. goes frame after))
 
 right_open : (p : Program) (f : Func) (heap : Heap) (values : Values) (x : ℕ) (vs : List ℕ) → IsRightIn p f heap values (core.open_into x vs) → (ref : Reference) × RightOpen p f heap values x vs ref
-unfolding opened
+unfolding open_step
 right_open p f heap values x vs q =
     let c = q.right.seen in
     let w = q.right.world in
@@ -76,7 +76,7 @@ right_open p f heap values x vs q =
     let cells = owning_cells (fields_of c.program a.value.type) b.value.object.cells in
     let m = moved_safe (is_inside b.value.number) loose (flat_map objects_in cells) w (λ w. with_released c.program b.value.number w (λ w. with_filled c.func vs cells c.frame w (λ frame. goes frame w))) b.safe in
     let r = released_safe c.program b.value.number (with_objects w m.objects) (λ w. with_filled c.func vs cells c.frame w (λ frame. goes frame w)) m.safe in
-    let z : World = with_objects w (released b.value.number m.objects) in (
+    let z : World = with_objects w (objects_after_release b.value.number m.objects) in (
       a.value,
       record {
         seen = c;
@@ -185,7 +185,7 @@ module _ (p : Program) (f : Func) (old : Heap) (values : Values) (x : ℕ) (vs :
     open_here q = let r = right_at q in let t = taken_right q in meets_here mid [] (left_seen r.seen.items t.0 r.opens.mid t.1) o k _ (open_meets q) refl
 
     pub open_does : (new : Heap) → Releases o mid new → DoesFor p f old values new after (Ok tt) (core.open_into x vs)
-    unfolding opened then_step
+    unfolding open_step then_step
     open_does new releases c w b depth program func same =
         found_goes c.items new after (Ok tt) (or_fault missing (reference_of c.func x)) w _ (some_fault missing (reference_of c.func x)) (λ g at.
         let e : g ≡ ref = same_Some g ref (sym (some_is missing (reference_of c.func x) g at) ∙ ap (λ z. reference_of z x) func ∙ is_ref) in
@@ -194,13 +194,13 @@ module _ (p : Program) (f : Func) (old : Heap) (values : Values) (x : ℕ) (vs :
         released_goes c.items new after (Ok tt) c.program m.number (with_objects w one) _ (λ may.
         let cells : owning_cells (fields_of c.program g.type) m.object.cells ≡ owned_from (fields_of p ref.type) 0 m.object = ap (λ z. owning_cells (fields_of z g.type) m.object.cells) program ∙ ap (λ z. owning_cells (fields_of p z.type) m.object.cells) e in
         let n : Opens p c.func x vs ref c.frame w.objects = record { named = m; object = object; mid = one; out = ap (λ xs. taken_out m.number (flat_map objects_in xs) w.objects) (sym cells) ∙ out } in
-        let z : World = with_objects w (released m.number one) in
+        let z : World = with_objects w (objects_after_release m.number one) in
         subst (λ xs. Does c.items new after (Ok tt) (with_filled c.func vs xs c.frame z (λ frame. goes frame z))) (sym cells)
         (subst (Does c.items new after (Ok tt)) (sym (filled_step c.func vs (owned_from (fields_of p ref.type) 0 m.object) c.frame z (λ frame. goes frame z)))
         (ended c w same n z refl (filled_got c.func vs (owned_from (fields_of p ref.type) 0 m.object) c.frame z)
         (takes (open_holder c w.objects same n (open_made c w.objects same n)) c.func z one (open_out c w.objects same n))))))))
       where
-        ended : (c : Seen old values) (w : World) (same : w.objects ≡ c.objects) (n : Opens p c.func x vs ref c.frame w.objects) (z : World) → z.objects ≡ released n.named.number n.mid → (y : Got (Unit {0})) → IsTaken c.items mid after n.mid y
+        ended : (c : Seen old values) (w : World) (same : w.objects ≡ c.objects) (n : Opens p c.func x vs ref c.frame w.objects) (z : World) → z.objects ≡ objects_after_release n.named.number n.mid → (y : Got (Unit {0})) → IsTaken c.items mid after n.mid y
             → Does c.items new after (Ok tt) (then_step y (λ u frame v. goes frame z))
         ended c w same n z is_z (got u frame v) t =
             let m = holder_meets mid [] (left_seen c.items frame n.mid t) o k (left_held c w.objects same n frame t) in
@@ -209,7 +209,7 @@ module _ (p : Program) (f : Func) (old : Heap) (values : Values) (x : ℕ) (vs :
               shows = record {
                 items = without k t.items;
                 holds = releases t.items k m.item t.holds m.at m.place;
-                objects_shown = subst (ShowObjects (without k t.items) after.width) (ap (λ j. released j n.mid) (sym (number_same c w.objects same n)) ∙ sym is_z) (release_shown t.items after.width k n.mid t.shown);
+                objects_shown = subst (ShowObjects (without k t.items) after.width) (ap (λ j. objects_after_release j n.mid) (sym (number_same c w.objects same n)) ∙ sym is_z) (release_shown t.items after.width k n.mid t.shown);
                 frame_shown = frame_kept t.items (without k t.items) after frame (kept_without t.items k) t.fits;
                 kept = λ a j made. kept_without t.items k a j (t.kept a j made);
               };

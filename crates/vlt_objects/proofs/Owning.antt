@@ -14,13 +14,13 @@ use Rattle.vlt_heap.proofs.Listed.{kept_with, kept_without, made_at}
 use Rattle.vlt_heap.proofs.Calls.{live_at, root_at, here_at, child_at, places_apart}
 use Rattle.vlt_meaning.specs.World.{Owner, held, lent, loose, inside, adopted_by, out, gone, is_loose, is_inside, is_gone, is_out, above, Object as Thing, wrong_state}
 use Rattle.vlt_meaning.specs.Found.{Found, ◌>>=◌, Named, if_so}
-use Rattle.vlt_meaning.specs.Objects.{object_at, owned_at, with_owner, changed, is_releasable, released}
+use Rattle.vlt_meaning.specs.Objects.{object_at, owned_at, with_owner, with_changed_object, is_releasable, objects_after_release}
 use Rattle.vlt_meaning_laws.proofs.Keeping.{bound}
 use Rattle.vlt_values.specs.Shown.{ShowsObject, ShowObjects}
 use Rattle.vlt_values.proofs.Touching.{so_is, object_is, equal_is}
 use Rattle.vlt_values.proofs.Fronts.{Behind, behind}
 use Rattle.vlt_acts.proofs.Showing.{one_shown, release_shown}
-use Rattle.vlt_objects.specs.Owned.{AreParts, owned_in, Sees, ShowsAll, IsHeldAt, put_in, taken_out, dropped, Makes, Can, CanHang, CanFree, CanDrop, HangsAll, FreesAll, DropsAll}
+use Rattle.vlt_objects.specs.Owned.{AreParts, owned_in, Sees, ShowsAll, IsHeldAt, put_in, taken_out, objects_after_drop, Makes, Can, CanHang, CanFree, CanDrop, HangsAll, FreesAll, DropsAll}
 use Rattle.vlt_objects.proofs.Chains.{same_objects, Owns, owns}
 
 -- ---- what the owner of an object tells
@@ -109,7 +109,7 @@ pub record Needs (h : Heap) (o q : Obj) : Type 0 where
   pub other : o.0 ≢ q.0
 
 module _ (h : Heap) (a : Slot) (q o : Obj) (k : ℕ) (e : a ≡ Owned o k) where
-  one_in : (s : Sees h (a ∷ [])) (n : ℕ) (after : List Thing) → put_in n (owned_in s.parts) s.objects ≡ Ok after → (w : Owns s.items o s.parts) → FoundAt is_loose s.objects w.number × (changed w.number (with_owner (inside n)) s.objects ≡ after)
+  one_in : (s : Sees h (a ∷ [])) (n : ℕ) (after : List Thing) → put_in n (owned_in s.parts) s.objects ≡ Ok after → (w : Owns s.items o s.parts) → FoundAt is_loose s.objects w.number × (with_changed_object w.number (with_owner (inside n)) s.objects ≡ after)
   one_in s n after is w =
       let b = bound (owned_at is_loose s.objects w.number) _ after (ap (λ z. put_in n z s.objects) (sym w.is) ∙ is) in
       (found_at is_loose s.objects w.number b.0 b.1, same_objects b.2)
@@ -150,7 +150,7 @@ module _ (h : Heap) (a : Slot) (q o : Obj) (k : ℕ) (e : a ≡ Owned o k) where
 -- ---- out
 
 module _ (h : Heap) (a : Slot) (o : Obj) (k : ℕ) (e : a ≡ Owned o k) where
-  one_out : (s : Sees h (a ∷ [])) (n : ℕ) (after : List Thing) → taken_out n (owned_in s.parts) s.objects ≡ Ok after → (w : Owns s.items o s.parts) → FoundAt (is_inside n) s.objects w.number × (changed w.number (with_owner loose) s.objects ≡ after)
+  one_out : (s : Sees h (a ∷ [])) (n : ℕ) (after : List Thing) → taken_out n (owned_in s.parts) s.objects ≡ Ok after → (w : Owns s.items o s.parts) → FoundAt (is_inside n) s.objects w.number × (with_changed_object w.number (with_owner loose) s.objects ≡ after)
   one_out s n after is w =
       let b = bound (owned_at (is_inside n) s.objects w.number) _ after (ap (λ z. taken_out n z s.objects) (sym w.is) ∙ is) in
       (found_at (is_inside n) s.objects w.number b.0 b.1, same_objects b.2)
@@ -185,9 +185,9 @@ module _ (h : Heap) (a : Slot) (o : Obj) (k : ℕ) (e : a ≡ Owned o k) where
 -- ---- the end
 
 module _ (h : Heap) (a : Slot) (o : Obj) (k : ℕ) (e : a ≡ Owned o k) where
-  one_ends : (s : Sees h (a ∷ [])) (p : Program) (after : List Thing) → dropped p (owned_in s.parts) s.objects ≡ Ok after → (w : Owns s.items o s.parts) → FoundAt is_loose s.objects w.number × (released w.number s.objects ≡ after)
+  one_ends : (s : Sees h (a ∷ [])) (p : Program) (after : List Thing) → objects_after_drop p (owned_in s.parts) s.objects ≡ Ok after → (w : Owns s.items o s.parts) → FoundAt is_loose s.objects w.number × (objects_after_release w.number s.objects ≡ after)
   one_ends s p after is w =
-      let b = bound (owned_at is_loose s.objects w.number) _ after (ap (λ z. dropped p z s.objects) (sym w.is) ∙ is) in
+      let b = bound (owned_at is_loose s.objects w.number) _ after (ap (λ z. objects_after_drop p z s.objects) (sym w.is) ∙ is) in
       let d = bound (if_so (is_releasable p s.objects w.number) wrong_state b.0) _ after b.2 in
       (found_at is_loose s.objects w.number b.0 b.1, same_objects d.2)
 

@@ -6,7 +6,7 @@ use Rattle.std.proofs.lemmas.Option.{none-some, same_Some}
 use Rattle.vlt_heap.specs.declared.slots.Slot.{Slot}
 use Rattle.vlt_heap.specs.Items.{Items}
 use Rattle.vlt_meaning.specs.World.{Part, number, owned, objects_in_part, objects_in, Value, one, of_case}
-use Rattle.vlt_values.specs.Parts.{flat, padded, HaveParts, HaveValue}
+use Rattle.vlt_values.specs.Parts.{flat, padded_parts, HaveParts, HaveValue}
 use Rattle.vlt_values.proofs.Padding.{length_padded}
 use Rattle.vlt_objects.specs.Owned.{AreParts, owned_in}
 
@@ -28,7 +28,7 @@ owned_flat : (a : Value) → owned_in (flat a) ≡ objects_in a
 owned_flat (one p) = append-nil (objects_in_part p)
 owned_flat (of_case c parts keys) = owned_both parts (map owned keys) ∙ ap (λ l. flat_map objects_in_part parts ++ l) (owned_keys keys)
 
-pub owned_padded : (w : ℕ) (a : Value) → owned_in (padded w a) ≡ objects_in a
+pub owned_padded : (w : ℕ) (a : Value) → owned_in (padded_parts w a) ≡ objects_in a
 owned_padded w a =
     owned_both (flat a) (replicate (w - length (flat a)) (number (pos 0))) ∙ ap (λ l. owned_in (flat a) ++ l) (owned_zeros (w - length (flat a))) ∙ append-nil (owned_in (flat a)) ∙ owned_flat a
 
@@ -49,6 +49,6 @@ row_parts items slots k (p ∷ ps) have =
     let h = have.0 in
     subst (λ l. AreParts items (take (suc (length ps)) l) (p ∷ ps)) (sym (drop_get slots k h.slot h.at)) (h.part, row_parts items slots (suc k) ps have.1)
 
-pub row_value : (items : Items) (slots : List Slot) (k w : ℕ) (a : Value) → HaveValue items slots k w a → AreParts items (take (1 * w) (drop k slots)) (padded w a)
+pub row_value : (items : Items) (slots : List Slot) (k w : ℕ) (a : Value) → HaveValue items slots k w a → AreParts items (take (1 * w) (drop k slots)) (padded_parts w a)
 row_value items slots k w a have =
-    subst (λ n. AreParts items (take n (drop k slots)) (padded w a)) (length_padded w a have.narrow ∙ omega arith) (row_parts items slots k (padded w a) have.parts)
+    subst (λ n. AreParts items (take n (drop k slots)) (padded_parts w a)) (length_padded w a have.narrow ∙ omega arith) (row_parts items slots k (padded_parts w a) have.parts)

@@ -12,9 +12,9 @@ use Rattle.vlt_heap.specs.Items.{Item, Items, IsAt, IsMadeAt, with_item, with_sl
 use Rattle.vlt_heap.specs.Shown.{Holds, slots_of, Stores}
 use Rattle.vlt_heap.proofs.Listed.{KeepMade, set_back, with_here, kept_with}
 use Rattle.vlt_meaning.specs.World.{Part, Value, one, reference, Object as Thing}
-use Rattle.vlt_meaning.specs.Objects.{with_cell, changed}
+use Rattle.vlt_meaning.specs.Objects.{with_cell, with_changed_object}
 use Rattle.vlt_values.specs.declared.values.Values.{Values}
-use Rattle.vlt_values.specs.Parts.{padded, IsObject, HaveParts, HaveValue}
+use Rattle.vlt_values.specs.Parts.{padded_parts, IsObject, HaveParts, HaveValue}
 use Rattle.vlt_values.specs.Shown.{ShowsObject, ShowObjects, var_at, Seen}
 use Rattle.vlt_values.proofs.Padding.{length_padded}
 use Rattle.vlt_values.proofs.Fronts.{IsSlotAt, IsNoObject, behind, referred}
@@ -103,7 +103,7 @@ parts_within items slots k (p ∷ q ∷ ps) l have = let w = parts_within items 
 pub value_within : (items : Items) (slots : List Slot) (k w : ℕ) (a : Value) → 1 ≤ w → HaveValue items slots k w a → k + w ≤ length slots
 value_within items slots k w a wide have =
     let l = length_padded w a have.narrow in
-    let p = parts_within items slots k (padded w a) (omega (arith, l, wide)) have.parts in
+    let p = parts_within items slots k (padded_parts w a) (omega (arith, l, wide)) have.parts in
     omega (arith, l, p)
 
 -- an object of which a cell is set

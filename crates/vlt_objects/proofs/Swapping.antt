@@ -16,13 +16,13 @@ use Rattle.vlt_heap.specs.Items.{Items, IsMadeAt}
 use Rattle.vlt_heap.proofs.Listed.{KeepMade}
 use Rattle.vlt_meaning.specs.World.{Value, objects_in, Owner, held, lent, loose, inside, adopted_by, out, gone, is_held_under, is_inside, is_loose, Object as Thing, World, Frame, missing, no_value, not_owned}
 use Rattle.vlt_meaning.specs.Found.{Found, ◌>>=◌, or_fault, Named}
-use Rattle.vlt_meaning.specs.Objects.{object_at, owned_at, in_states, changed, with_cell}
+use Rattle.vlt_meaning.specs.Objects.{object_at, owned_at, in_states, with_changed_object, with_cell}
 use Rattle.vlt_meaning.specs.Values.{held_object, tracked_object, object_behind, touchable, object_of, reference_in, value_of}
 use Rattle.vlt_meaning.specs.Step.{Step, goes, with_found, where_so, with_objects, with_changed, with_moved, with_var}
-use Rattle.vlt_meaning.specs.Run.{swapped, does_simple}
+use Rattle.vlt_meaning.specs.Run.{swap_step, does_simple}
 use Rattle.vlt_meaning_laws.proofs.Keeping.{bound, err-ok}
 use Rattle.vlt_values.specs.declared.values.Values.{Values}
-use Rattle.vlt_values.specs.Parts.{padded, HaveValue}
+use Rattle.vlt_values.specs.Parts.{padded_parts, HaveValue}
 use Rattle.vlt_values.specs.Filled.{IsFilled, IsCellSlot}
 use Rattle.vlt_values.specs.Shown.{ShowObjects, ShowsFrame, IsTable, var_at, key_at, Seen, IsKept, IsGrown, IsCut, IsCopied, IsSlotFrom, AreApart}
 use Rattle.vlt_values.proofs.Touching.{OrFault, Touched, Packed, some_fault, some_is, so_is, object_of_fault, object_of_is}
@@ -98,7 +98,7 @@ pub record Finds (p : Program) (f : Func) (x i v : ℕ) (frame : Frame) (objects
   pub into : put_in named.number (objects_in value) mid ≡ Ok after
 
 pub right_swap : (h : Heap) (values : Values) (x i v : ℕ) (q : IsRight h values (core.swap x i v)) → Finds q.seen.program q.seen.func x i v q.seen.frame q.world.objects
-unfolding swapped
+unfolding swap_step
 right_swap h values x i v q =
     let c = q.seen in
     let w = q.world in
@@ -162,10 +162,10 @@ module _ (old : Heap) (values grown mid : Values) (x i v end to : ℕ) (a : Slot
     items = c.items;
     width = mid.width;
     objects = objects;
-    parts = padded mid.width f.before;
+    parts = padded_parts mid.width f.before;
     holds = c.holds;
     shown = subst (ShowObjects c.items mid.width) (sym same) (seen_grown old values mid gm c).shown;
-    have = subst (λ l. AreParts c.items l (padded mid.width f.before)) (sym is_row) (row_value c.items mid.slots.items end mid.width f.before (scratch c objects same f));
+    have = subst (λ l. AreParts c.items l (padded_parts mid.width f.before)) (sym is_row) (row_value c.items mid.slots.items end mid.width f.before (scratch c objects same f));
   }
 
   pub swap_frees : (row : List Slot) → row ≡ take (1 * mid.width) (drop end mid.slots.items) → IsRight old values (core.swap x i v) → CanFree old row
@@ -191,11 +191,11 @@ module _ (old : Heap) (values grown mid : Values) (x i v end to : ℕ) (a : Slot
           items = s.items;
           width = mid.width;
           objects = f.mid;
-          parts = padded mid.width f.value;
+          parts = padded_parts mid.width f.value;
           holds = s.holds;
           shown = s.shown;
-          have = parts_known c.items s.items second (padded mid.width f.value) s.kept
-              (subst (λ l. AreParts c.items l (padded mid.width f.value)) (sym is_second) (row_value c.items mid.slots.items to mid.width f.value (var_value c objects f)));
+          have = parts_known c.items s.items second (padded_parts mid.width f.value) s.kept
+              (subst (λ l. AreParts c.items l (padded_parts mid.width f.value)) (sym is_second) (row_value c.items mid.slots.items to mid.width f.value (var_value c objects f)));
         }
 
     abbrev holder : (c : Seen old values) (objects : List Thing) (same : objects ≡ c.objects) (f : Finds c.program c.func x i v c.frame objects) → IsHeldAt (freed c objects same f).items f.mid f.named.number o.0
@@ -265,7 +265,7 @@ module _ (old : Heap) (values grown mid : Values) (x i v end to : ℕ) (a : Slot
           }
 
       pub swap_does : (c : Seen old values) (w : World) (b d : ℕ) → w.objects ≡ c.objects → Does c.items new last (Ok tt) (does_simple (setup c.program b d) c.func (core.swap x i v) c.frame w)
-      unfolding swapped
+      unfolding swap_step
       swap_does c w b d same =
           found_goes c.items new last (Ok tt) (object_of c.func (λ r. permitted_in c.program r.type i) x c.frame w.objects) w _ (object_of_fault c.func (λ r. permitted_in c.program r.type i) x c.frame w.objects) (λ m object.
           found_goes c.items new last (Ok tt) (or_fault missing (slice_get m.object.cells i)) w _ (some_fault missing (slice_get m.object.cells i)) (λ before at.

@@ -18,7 +18,7 @@ use Rattle.vlt_meaning.specs.Step.{with_var, is_fillable}
 use Rattle.vlt_meaning_laws.proofs.Keeping.{bound}
 use Rattle.vlt_machine.specs.Got.{Got, got, stopped, got_if, filled_got}
 use Rattle.vlt_values.specs.declared.values.Values.{Values}
-use Rattle.vlt_values.specs.Parts.{padded, HaveValue}
+use Rattle.vlt_values.specs.Parts.{padded_parts, HaveValue}
 use Rattle.vlt_values.specs.Filled.{IsFilled, IsCellSlot}
 use Rattle.vlt_values.specs.Shown.{ShowObjects, ShowsFrame, var_at, IsKept}
 use Rattle.vlt_values.proofs.Fronts.{behind}
@@ -44,10 +44,10 @@ module _ (old : Heap) (values mid : Values) (o : Obj) (n i v to : ℕ) (is_to : 
     items = h.items;
     width = values.width;
     objects = h.objects;
-    parts = padded values.width a;
+    parts = padded_parts values.width a;
     holds = h.holds;
     shown = h.shown;
-    have = subst (λ l. AreParts h.items l (padded values.width a)) (sym (is_row ∙ ap (λ w. take (1 * w) (drop to mid.slots.items)) kept.width)) (row_value h.items mid.slots.items to values.width a (cell_here h a at));
+    have = subst (λ l. AreParts h.items l (padded_parts values.width a)) (sym (is_row ∙ ap (λ w. take (1 * w) (drop to mid.slots.items)) kept.width)) (row_value h.items mid.slots.items to values.width a (cell_here h a at));
   }
 
   pub one_frees : (row : List Slot) → row ≡ take (1 * mid.width) (drop to mid.slots.items) → CanTakeOne old values n o.0 i → CanFree old row

@@ -7,7 +7,7 @@ use Rattle.vlt_core.specs.Core.{CaseKey, CaseDecl, Simple, Func, Program}
 use Rattle.vlt_core.specs.Lookups.{KeyIn, variant_of, case_at}
 use Rattle.vlt_meaning.specs.World.{Part, reference, owned, Value, one, of_case, World, Frame, is_fault}
 use Rattle.vlt_meaning.specs.Run.{does_simple}
-use Rattle.vlt_meaning.specs.Operands.{Case, case_in, emptied}
+use Rattle.vlt_meaning.specs.Operands.{Case, case_in, with_empty_variable}
 use Rattle.vlt_machine.specs.Got.{Got, got, stopped, then_got, opened_got, filled_got}
 use Rattle.vlt_heap.specs.declared.slots.Slot.{Slot}
 use Rattle.vlt_heap.specs.declared.heap.Heap.{Heap}
@@ -106,4 +106,4 @@ OpensArm v vs heap old new =
     (c : Seen heap old) (w : World) (d : Case) (ks : List KeyIn) → w.objects ≡ c.objects →
     case_in (c.frame.vars v) ≡ Ok d →
     IsOpened c.items heap new (then_got (opened_got ks d.keys c.frame w) (λ u same w.
-    filled_got c.func vs (map one d.parts) (emptied c.func v c.frame) w))
+    filled_got c.func vs (map one d.parts) (with_empty_variable c.func v c.frame) w))

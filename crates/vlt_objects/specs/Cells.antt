@@ -1,7 +1,7 @@
 -- Slots and cells of objects that are set.
 use Rattle.std.specs.Prelude.{◌≡◌, ◌<◌, ◌≤◌, ◌+◌, ℕ, suc, false, List, [], ◌∷◌, length, Some, slice_get, slice_set}
 use Rattle.vlt_meaning.specs.World.{Value, one, reference, Object, is_gone}
-use Rattle.vlt_meaning.specs.Objects.{with_cell, changed}
+use Rattle.vlt_meaning.specs.Objects.{with_cell, with_changed_object}
 use Rattle.vlt_heap.specs.declared.slots.Obj.{Obj}
 use Rattle.vlt_heap.specs.declared.slots.Slot.{Slot}
 use Rattle.vlt_heap.specs.declared.heap.Heap.{Heap}
@@ -38,4 +38,4 @@ abbrev pub SetsCell : (x i from : ℕ) → Values → (old new : Heap) → Type 
 SetsCell x i from values old new =
     (c : Seen old values) (n : ℕ) (o : Object) (a : Value) → Refers old values c x i n o →
     HaveValue c.items values.slots.items from values.width a →
-    ShowsAll c.items new values.width (changed n (with_cell i a) c.objects)
+    ShowsAll c.items new values.width (with_changed_object n (with_cell i a) c.objects)

@@ -4,7 +4,7 @@ use Rattle.std.specs.List.{flat_map}
 use Rattle.vlt_core.specs.Core.{Program}
 use Rattle.vlt_meaning.specs.World.{Part, objects_in_part, Object, held, loose, inside, is_loose, is_inside, wrong_state}
 use Rattle.vlt_meaning.specs.Found.{Found, ◌>>=◌, if_so}
-use Rattle.vlt_meaning.specs.Objects.{owned_at, moved, is_releasable, released}
+use Rattle.vlt_meaning.specs.Objects.{owned_at, objects_after_move, is_releasable, objects_after_release}
 use Rattle.vlt_heap.specs.declared.slots.Obj.{Obj}
 use Rattle.vlt_heap.specs.declared.slots.Slot.{Slot}
 use Rattle.vlt_heap.specs.declared.heap.Heap.{Heap}
@@ -56,19 +56,19 @@ Change = List ℕ → List Object → Found (List Object)
 
 -- they go into an object, where each is loose
 abbrev pub put_in : (n : ℕ) → Change
-put_in n = moved is_loose (inside n)
+put_in n = objects_after_move is_loose (inside n)
 
 -- they leave the object that each is in
 abbrev pub taken_out : (n : ℕ) → Change
-taken_out n = moved (is_inside n) loose
+taken_out n = objects_after_move (is_inside n) loose
 
 -- they are released, one after another, where each is loose
-abbrev pub dropped : Program → Change
-dropped p [] objects = Ok objects
-dropped p (n ∷ ns) objects = do
+abbrev pub objects_after_drop : Program → Change
+objects_after_drop p [] objects = Ok objects
+objects_after_drop p (n ∷ ns) objects = do
   m ← owned_at is_loose objects n
   _ ← if_so (is_releasable p objects n) wrong_state m
-  dropped p ns (released n objects)
+  objects_after_drop p ns (objects_after_release n objects)
 
 -- ---- what the calls ask and do
 
@@ -106,7 +106,7 @@ FreesAll slots old new = (n : ℕ) → Makes (taken_out n) slots old new
 -- they can be released
 pub record CanDrop (heap : Heap) (slots : List Slot) : Type 0 where
   pub program : Program
-  pub can : Can (dropped program) heap slots
+  pub can : Can (objects_after_drop program) heap slots
 
 abbrev pub DropsAll : List Slot → (old new : Heap) → Type 0
-DropsAll slots old new = (p : Program) → Makes (dropped p) slots old new
+DropsAll slots old new = (p : Program) → Makes (objects_after_drop p) slots old new

@@ -67,8 +67,8 @@ bool_number true = pos 1
 bool_number false = pos 0
 
 -- division of `a` by `b`, of which `value` is wanted: it traps where `b` is 0, or the quotient is out of range
-abbrev pub divided : ℤ → ℤ → ℤ → Result ℤ TrapKind
-divided a b value =
+abbrev pub division_value : ℤ → ℤ → ℤ → Result ℤ TrapKind
+division_value a b value =
     if equals b (pos 0) then Err ZeroDivisor else if is_in_range (int_div a b) then Ok value else Err Overflow
 
 -- what the operator gives for `a` and `b`. `int_div` truncates towards zero, `int_rem` has the sign of `a`,
@@ -77,8 +77,8 @@ abbrev pub applied : Op → ℤ → ℤ → Result ℤ TrapKind
 applied Negate a b = in_range_or_trap (neg_ℤ a)
 applied Not a b = Ok (bool_number (not (is_true a)))
 applied Multiply a b = in_range_or_trap (a *ℤ b)
-applied Divide a b = divided a b (int_div a b)
-applied Remainder a b = divided a b (int_rem a b)
+applied Divide a b = division_value a b (int_div a b)
+applied Remainder a b = division_value a b (int_rem a b)
 applied Add a b = in_range_or_trap (a +ℤ b)
 applied Subtract a b = in_range_or_trap (a -ℤ b)
 applied Less a b = Ok (bool_number (int_lt a b))

@@ -7,7 +7,7 @@ use Rattle.vlt_syntax.specs.Tokens.{Token, sign, keyword}
 use Rattle.vlt_syntax.specs.Tree.{Name, HeaderKey}
 use Rattle.vlt_syntax.specs.Spelling.{name_then, marked_name_then, header_then}
 use Rattle.vlt_syntax.specs.Grammar.{language}
-use Rattle.vlt_syntax.specs.Places.{Placing, made, ◌◂◌, ◌⊛◌, enclosed_at, marked_at, name_at, header_key_at}
+use Rattle.vlt_syntax.specs.Places.{Placing, without_tokens, ◌◂◌, ◌⊛◌, enclosed_at, marked_at, name_at, header_key_at}
 use Rattle.vlt_automaton.specs.Language.{Located, Left, Reaction, take, Symbol, run}
 use Rattle.vlt_parser_exprs.specs.Ahead.{lexemes_from, Fails}
 use Rattle.vlt_parser_exprs.specs.declared.error.ParseError.{ParseError}
@@ -18,7 +18,7 @@ struct_head_then n ps ss rest = keyword word.Struct ∷ name_then n (header_then
 
 -- what a struct has before its opening brace, with the brace
 abbrev pub struct_head_at : Name × List HeaderKey × Option Name → Placing (Name × List HeaderKey × Option Name)
-struct_head_at h = made (λ n ps ss. (n, ps, ss)) ◂ 1 ⊛ name_at h.0 ⊛ enclosed_at header_key_at h.1 ⊛ marked_at name_at h.2 ◂ 1
+struct_head_at h = without_tokens (λ n ps ss. (n, ps, ss)) ◂ 1 ⊛ name_at h.0 ⊛ enclosed_at header_key_at h.1 ⊛ marked_at name_at h.2 ◂ 1
 
 abbrev pub takes : Reaction → Bool
 takes (take symbols) = true

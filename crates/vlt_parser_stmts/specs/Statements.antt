@@ -5,7 +5,7 @@ use Rattle.vlt_lexer.specs.declared.token.Word.TheVariants as word
 use Rattle.vlt_syntax.specs.Tokens.{Token, sign, keyword}
 use Rattle.vlt_syntax.specs.Tree.{Name, Arms}
 use Rattle.vlt_syntax.specs.Spelling.{name_then}
-use Rattle.vlt_syntax.specs.Places.{Placing, made, ◌◂◌, ◌⊛◌, name_at, arms_at}
+use Rattle.vlt_syntax.specs.Places.{Placing, without_tokens, ◌◂◌, ◌⊛◌, name_at, arms_at}
 
 -- `focus`, the variable, `as`, `tracked`, the key in parentheses, and the new name
 abbrev pub focus_then : (variable key alias : Name) → List Token → List Token
@@ -17,4 +17,4 @@ rows_at arms = arms_at arms ◂ 1
 
 -- the names of a `focus`, up to its block
 abbrev pub focus_at : Name × Name × Name → Placing (Name × Name × Name)
-focus_at n = made (λ x k z. (x, k, z)) ◂ 1 ⊛ name_at n.0 ◂ 3 ⊛ name_at n.1 ◂ 1 ⊛ name_at n.2
+focus_at n = without_tokens (λ x k z. (x, k, z)) ◂ 1 ⊛ name_at n.0 ◂ 3 ⊛ name_at n.1 ◂ 1 ⊛ name_at n.2

@@ -17,7 +17,7 @@ use Rattle.vlt_core.specs.Core as core
 use Rattle.vlt_core.specs.Bodies.{flow_of, flow_of_block, flow_of_stmts, flow_of_arms}
 use Rattle.vlt_core.specs.Rows.{simple_rows, rows_of, tokens_of, in_order, arm_rows}
 use Rattle.vlt_rows.specs.Pieces.{own_rows}
-use Rattle.vlt_core.specs.Maps.{Row, is_tok, gone}
+use Rattle.vlt_core.specs.Maps.{Row, is_tok, away_row}
 use Rattle.vlt_core.specs.Flow as s
 use Rattle.vlt_core.specs.Found.{One, Exit, to_next, to_break, to_continue}
 use Rattle.vlt_core.specs.Witness as w
@@ -31,7 +31,7 @@ use Rattle.vlt_paths.specs.declared.point.Point.{Point}
 use Rattle.vlt_paths.specs.declared.point.Chosen.{Chosen}
 use Rattle.vlt_paths.specs.declared.point.Hunt.{Hunt}
 use Rattle.vlt_paths.specs.Comes.{Brings}
-use Rattle.vlt_paths.specs.Along.{GoesBlock, GoesStmts, GoesArm, GoesTurn, state_of, sought_of, exit_of, turned, IsPast, IsBound, is_step, jump_out, AlongStmts, AlongForm, AlongBlock, AlongTurn, AlongArm}
+use Rattle.vlt_paths.specs.Along.{GoesBlock, GoesStmts, GoesArm, GoesTurn, state_of, sought_of, exit_of, exit_of_turn, IsPast, IsBound, is_step, jump_out, AlongStmts, AlongForm, AlongBlock, AlongTurn, AlongArm}
 use Rattle.vlt_paths.proofs.Going.{number_of, same_pick, chosen, go_then, go_else, go_neither, go_case, go_no_case, turn_ends, turn_body, no_turn, shorter, go_step, go_return, go_on, go_out, none_some, go_block, block_left, go_focus, focus_lost, loop_last}
 use Rattle.vlt_paths.proofs.Tokens.{any_in_order}
 use Rattle.vlt_paths.proofs.Taking.{gone_past, none_past}
@@ -65,10 +65,10 @@ module _ (h : Hunt) (at : ℕ) (rs : List Row) (v m : Point) (p : IsPast h at rs
     pub else_goes : (a b : s.Block) (z : Went) → x.pick ≡ pick.Else → AlongBlock h b x.point z → AlongForm h (s.choose rs a b) at v z
     else_goes a b z e g = go_else (sought_of h) (tok_of h.tok) at rs (state_of v) (state_of m) p a b (choices_of x.point.rest.now) (state_of z.point) (exit_of z.out) (picked pick.Else e) (from b z g)
 
-    pub turn_goes : (b : s.Block) (z y : Went) → x.pick ≡ pick.Turn → AlongBlock h b x.point z → y.point ≡ z.point → exit_of y.out ≡ turned (exit_of z.out) → AlongTurn h rs b at v y
+    pub turn_goes : (b : s.Block) (z y : Went) → x.pick ≡ pick.Turn → AlongBlock h b x.point z → y.point ≡ z.point → exit_of y.out ≡ exit_of_turn (exit_of z.out) → AlongTurn h rs b at v y
     turn_goes b z y e g same out =
         subst (λ r. GoesTurn (sought_of h) (tok_of h.tok) rs b at (state_of v) (state_of y.point) r) (sym out)
-        (subst (λ q. GoesTurn (sought_of h) (tok_of h.tok) rs b at (state_of v) (state_of q) (turned (exit_of z.out))) (sym same)
+        (subst (λ q. GoesTurn (sought_of h) (tok_of h.tok) rs b at (state_of v) (state_of q) (exit_of_turn (exit_of z.out))) (sym same)
         (turn_body (sought_of h) (tok_of h.tok) at rs (state_of v) (state_of m) p b (choices_of x.point.rest.now) (state_of z.point) (exit_of z.out) (picked pick.Turn e) (from b z g)))
 
     pub turn_fewer : (b : s.Block) (z : Went) → x.pick ≡ pick.Turn → AlongBlock h b x.point z → length (choices_of z.point.rest.now) < length (choices_of v.rest.now)
@@ -120,18 +120,18 @@ scope_goes h b at v z g k = record { there = (g k).there; met = (g k).met; fewer
 pub return_goes : (h : Hunt) (rs : List Row) (at : ℕ) (v u : Point) → IsPast h at rs v u → AlongForm h (s.return rs) at v (record { out = out.Nowhere; point = u })
 return_goes h rs at v u p = go_return (sought_of h) (tok_of h.tok) at rs (state_of v) (state_of u) p
 
-pub jump_goes : (h : Hunt) (continues : Bool) (left : List Tok) (at : ℕ) (v u : Point) → IsPast h at (map gone left) v u → AlongForm h (s.jump continues left) at v (record { out = jump_out continues; point = u })
+pub jump_goes : (h : Hunt) (continues : Bool) (left : List Tok) (at : ℕ) (v u : Point) → IsPast h at (map away_row left) v u → AlongForm h (s.jump continues left) at v (record { out = jump_out continues; point = u })
 jump_goes h true left at v u p = go_on (sought_of h) (tok_of h.tok) at left (state_of v) (state_of u) p
 jump_goes h false left at v u p = go_out (sought_of h) (tok_of h.tok) at left (state_of v) (state_of u) p
 
 -- a jump out of scopes that bind the token, which is one of the function's or not; and out of others
-pub left_past : (h : Hunt) (f : Func) (ts : List Tok) (at : ℕ) (v u : Point) (left own : Bool) → IsBound h ts left → left ≡ true → own ≡ list_any (is_tok (tok_of h.tok)) (tokens_of f) → own ≡ true → IsPast h at (gone (tok_of h.tok) ∷ []) v u → IsPast h at (map gone (in_order f ts)) v u
+pub left_past : (h : Hunt) (f : Func) (ts : List Tok) (at : ℕ) (v u : Point) (left own : Bool) → IsBound h ts left → left ≡ true → own ≡ list_any (is_tok (tok_of h.tok)) (tokens_of f) → own ≡ true → IsPast h at (away_row (tok_of h.tok) ∷ []) v u → IsPast h at (map away_row (in_order f ts)) v u
 left_past h f ts at v u left own l e o is p = gone_past h at (in_order f ts) v u (any_in_order f (tok_of h.tok) ts ∙ ap (λ b. b && list_any (is_tok (tok_of h.tok)) ts) (sym o ∙ is) ∙ sym l ∙ e) p
 
-pub not_own : (h : Hunt) (f : Func) (ts : List Tok) (at : ℕ) (v : Point) (own : Bool) → own ≡ list_any (is_tok (tok_of h.tok)) (tokens_of f) → own ≡ false → IsPast h at (map gone (in_order f ts)) v v
+pub not_own : (h : Hunt) (f : Func) (ts : List Tok) (at : ℕ) (v : Point) (own : Bool) → own ≡ list_any (is_tok (tok_of h.tok)) (tokens_of f) → own ≡ false → IsPast h at (map away_row (in_order f ts)) v v
 not_own h f ts at v own o is = none_past h at (in_order f ts) v (any_in_order f (tok_of h.tok) ts ∙ ap (λ b. b && list_any (is_tok (tok_of h.tok)) ts) (sym o ∙ is))
 
-pub not_left : (h : Hunt) (f : Func) (ts : List Tok) (at : ℕ) (v : Point) (left : Bool) → IsBound h ts left → left ≡ false → IsPast h at (map gone (in_order f ts)) v v
+pub not_left : (h : Hunt) (f : Func) (ts : List Tok) (at : ℕ) (v : Point) (left : Bool) → IsBound h ts left → left ≡ false → IsPast h at (map away_row (in_order f ts)) v v
 not_left h f ts at v left l e = none_past h at (in_order f ts) v
     (any_in_order f (tok_of h.tok) ts ∙ ap (λ b. list_any (is_tok (tok_of h.tok)) (tokens_of f) && b) (sym l ∙ e) ∙ and_false (list_any (is_tok (tok_of h.tok)) (tokens_of f)))
   where
@@ -156,7 +156,7 @@ not_continue out.Nowhere f e = none_some to_continue e
 pub bound_more : (h : Hunt) (ts more : List Tok) (left b : Bool) → IsBound h ts left → b ≡ (left || list_any (is_tok (tok_of h.tok)) more) → IsBound h (ts ++ more) b
 bound_more h ts more left b l e = e ∙ ap (λ c. c || list_any (is_tok (tok_of h.tok)) more) l ∙ sym (list_any-append (is_tok (tok_of h.tok)) ts more)
 
-pub block_ends : (h : Hunt) (ss : s.Stmts) (bound : List Tok) (end : ℕ) (v : Point) (z : Went) (u : Point) → z.out ≡ out.Next → AlongStmts h ss v z → IsPast h end (map gone bound) z.point u → AlongBlock h (s.block ss bound end) v (record { out = out.Next; point = u })
+pub block_ends : (h : Hunt) (ss : s.Stmts) (bound : List Tok) (end : ℕ) (v : Point) (z : Went) (u : Point) → z.out ≡ out.Next → AlongStmts h ss v z → IsPast h end (map away_row bound) z.point u → AlongBlock h (s.block ss bound end) v (record { out = out.Next; point = u })
 block_ends h ss bound end v z u e g p = go_block (sought_of h) (tok_of h.tok) ss bound end (state_of v) (state_of z.point) (state_of u)
     (subst (λ r. GoesStmts (sought_of h) (tok_of h.tok) ss (state_of v) (state_of z.point) r) (ap exit_of e) g) p
 
@@ -168,10 +168,10 @@ module _ (p : Program) (f : Func) (h : Hunt) (ts : List Tok) (left inside : Bool
   listed = subst (λ xs. AlongStmts h (flow_of_stmts p f (ts ++ toks_of (out-Block b).bound) (stmts_of xs)) v z) ex
       (g (ts ++ toks_of (out-Block b).bound) (bound_more h ts (toks_of (out-Block b).bound) left inside l (subst (λ bs. inside ≡ (left || list_any (is_tok (tok_of h.tok)) (toks_of bs))) eb is)))
 
-  pub to_end : (u : Point) (cs : List CodeTok) → cs ≡ (out-Block b).bound → z.out ≡ out.Next → IsPast h (out-Block b).end (map gone (toks_of cs)) z.point u → AlongBlock h (flow_of_block p f ts (block_of b)) v (record { out = out.Next; point = u })
+  pub to_end : (u : Point) (cs : List CodeTok) → cs ≡ (out-Block b).bound → z.out ≡ out.Next → IsPast h (out-Block b).end (map away_row (toks_of cs)) z.point u → AlongBlock h (flow_of_block p f ts (block_of b)) v (record { out = out.Next; point = u })
   to_end u cs ec e q = subst (λ x. AlongBlock h (flow_of_block p f ts x) v (record { out = out.Next; point = u })) (sym (block_parts b))
       (block_ends h (flow_of_stmts p f (ts ++ toks_of (out-Block b).bound) (stmts_of (out-Block b).stmts)) (toks_of (out-Block b).bound) (out-Block b).end v z u e listed
-      (subst (λ cs. IsPast h (out-Block b).end (map gone (toks_of cs)) z.point u) ec q))
+      (subst (λ cs. IsPast h (out-Block b).end (map away_row (toks_of cs)) z.point u) ec q))
 
   pub before_end : (z.out ≡ out.Next → ⊥) → AlongBlock h (flow_of_block p f ts (block_of b)) v z
   before_end other = subst (λ x. AlongBlock h (flow_of_block p f ts x) v z) (sym (block_parts b))

@@ -1,12 +1,12 @@
 -- One path through the parts of a body: where it comes out of each, and whether it meets the row that is sought.
 use Rattle.std.proofs.Common.{◌≡◌, ◌∙◌, ◌⊎◌, ◌≤◌, ℕ, zero, suc, ◌+◌, Bool, true, false, IsTrue, List, [], ◌∷◌, map, length, Option, Some, None, refl, sym, ap, subst, inl, inr, ⊎_elim, rules, arith}
 use Rattle.vlt_core.specs.Core.{Tok}
-use Rattle.vlt_core.specs.Maps.{Row, gone}
+use Rattle.vlt_core.specs.Maps.{Row, away_row}
 use Rattle.vlt_core.specs.Flow.{Flow, step, choose, loop, switch, focus, return, jump, Block, block, Stmts, done, next, Arms, arm, end_of}
 use Rattle.vlt_core.specs.Found.{One, Exit, to_next, to_break, to_continue}
 use Rattle.vlt_core.specs.Faults.{spots, spots_block}
 use Rattle.vlt_core.specs.Witness.{Pick, then_arm, else_arm, turn, exit, case_arm, Choice, choice, LeadsOn, Turns, Takes, Through, ThroughBlock, ThroughStmts, ThroughArm, Reaches, RowMet, NoJoin, Met, MetBlock, MetStmts, MetArm}
-use Rattle.vlt_paths.specs.Along.{State, Sought, Passes, Goes, GoesForm, GoesBlock, GoesStmts, GoesArm, BodyWay, TurnWay, TurnSight, GoesTurn, turned}
+use Rattle.vlt_paths.specs.Along.{State, Sought, Passes, Goes, GoesForm, GoesBlock, GoesStmts, GoesArm, BodyWay, TurnWay, TurnSight, GoesTurn, exit_of_turn}
 use Rattle.vlt_paths.proofs.Passed.{led, leads}
 
 no_true : IsTrue false → ⊥
@@ -96,24 +96,24 @@ module _ (P : Sought) (t : Tok) where
   taken_out to_break h = refl
   taken_out to_continue h = absurd h
 
-  pub go_on : (at : ℕ) (left : List Tok) (v u : State) → Passes P t at (map gone left) v u → GoesForm P t (jump true left) at v u (Some to_continue)
+  pub go_on : (at : ℕ) (left : List Tok) (v u : State) → Passes P t at (map away_row left) v u → GoesForm P t (jump true left) at v u (Some to_continue)
   go_on at left v u p k = record {
     there = λ x q ds. (
-      λ h. (ap Some (sym (taken_on x h.2.0)), lead at (map gone left) v u p h.0 q h.1 h.2.1, h.2.2 ∙ sym p.left),
-      λ y. let c = come at (map gone left) v u p q y.1 in (c.0, c.1, (subst (Takes true) (some_is to_continue x y.0) tt, c.2, y.2 ∙ p.left)),
+      λ h. (ap Some (sym (taken_on x h.2.0)), lead at (map away_row left) v u p h.0 q h.1 h.2.1, h.2.2 ∙ sym p.left),
+      λ y. let c = come at (map away_row left) v u p q y.1 in (c.0, c.1, (subst (Takes true) (some_is to_continue x y.0) tt, c.2, y.2 ∙ p.left)),
     );
-    met = (go_step at (map gone left) v u p k).met;
-    fewer = (go_step at (map gone left) v u p k).fewer;
+    met = (go_step at (map away_row left) v u p k).met;
+    fewer = (go_step at (map away_row left) v u p k).fewer;
   }
 
-  pub go_out : (at : ℕ) (left : List Tok) (v u : State) → Passes P t at (map gone left) v u → GoesForm P t (jump false left) at v u (Some to_break)
+  pub go_out : (at : ℕ) (left : List Tok) (v u : State) → Passes P t at (map away_row left) v u → GoesForm P t (jump false left) at v u (Some to_break)
   go_out at left v u p k = record {
     there = λ x q ds. (
-      λ h. (ap Some (sym (taken_out x h.2.0)), lead at (map gone left) v u p h.0 q h.1 h.2.1, h.2.2 ∙ sym p.left),
-      λ y. let c = come at (map gone left) v u p q y.1 in (c.0, c.1, (subst (Takes false) (some_is to_break x y.0) tt, c.2, y.2 ∙ p.left)),
+      λ h. (ap Some (sym (taken_out x h.2.0)), lead at (map away_row left) v u p h.0 q h.1 h.2.1, h.2.2 ∙ sym p.left),
+      λ y. let c = come at (map away_row left) v u p q y.1 in (c.0, c.1, (subst (Takes false) (some_is to_break x y.0) tt, c.2, y.2 ∙ p.left)),
     );
-    met = (go_step at (map gone left) v u p k).met;
-    fewer = (go_step at (map gone left) v u p k).fewer;
+    met = (go_step at (map away_row left) v u p k).met;
+    fewer = (go_step at (map away_row left) v u p k).fewer;
   }
 
   -- ---- behind rows, by a choice
@@ -290,7 +290,7 @@ module _ (P : Sought) (t : Tok) where
         back o c (inl z) = absurd (some_choice v.left l at exit z.0 (sym p.left ∙ e))
         back o c (inr z) = absurd (clash (shown z.2.0 l turn exit e z.2.1).0)
 
-    pub turn_body : (s : Block) (l : List Choice) (u : State) (r : Option Exit) → m.left ≡ choice at turn ∷ l → GoesBlock P t s (chosen m l) u r → GoesTurn P t rs s at v u (turned r)
+    pub turn_body : (s : Block) (l : List Choice) (u : State) (r : Option Exit) → m.left ≡ choice at turn ∷ l → GoesBlock P t s (chosen m l) u r → GoesTurn P t rs s at v u (exit_of_turn r)
     turn_body s l u r e g k = record {
       there = λ x q ds. (
         λ h. ⊎_elim
@@ -312,16 +312,16 @@ module _ (P : Sought) (t : Tok) where
         clash : number_of exit ≡ number_of turn → ⊥
         clash s = omega (arith, s)
 
-        to : (x : Exit) (q : One) (ds : List Choice) (i : One) → m.brings i → BodyWay t s i l x q ds → (turned r ≡ Some x) × u.brings q × (ds ≡ u.left)
-        to to_next q ds i b h = let z = (w.there to_break q ds).0 (i, b, h) in (ap turned z.0, z.1, z.2)
+        to : (x : Exit) (q : One) (ds : List Choice) (i : One) → m.brings i → BodyWay t s i l x q ds → (exit_of_turn r ≡ Some x) × u.brings q × (ds ≡ u.left)
+        to to_next q ds i b h = let z = (w.there to_break q ds).0 (i, b, h) in (ap exit_of_turn z.0, z.1, z.2)
         to to_break q ds i b h = absurd h
-        to to_continue q ds i b (inl h) = let z = (w.there to_next q ds).0 (i, b, h) in (ap turned z.0, z.1, z.2)
-        to to_continue q ds i b (inr h) = let z = (w.there to_continue q ds).0 (i, b, h) in (ap turned z.0, z.1, z.2)
+        to to_continue q ds i b (inl h) = let z = (w.there to_next q ds).0 (i, b, h) in (ap exit_of_turn z.0, z.1, z.2)
+        to to_continue q ds i b (inr h) = let z = (w.there to_continue q ds).0 (i, b, h) in (ap exit_of_turn z.0, z.1, z.2)
 
         as_way : (x y : Exit) (i : One) (q : One) (ds : List Choice) → Some x ≡ Some y → BodyWay t s i l x q ds → BodyWay t s i l y q ds
         as_way x y i q ds e h = subst (λ z. BodyWay t s i l z q ds) (some_is x y e) h
 
-        from : (r : Option Exit) → Goes (ThroughBlock t s) (MetBlock P NoJoin t k s) (chosen m l) u r → (x : Exit) (q : One) (ds : List Choice) → turned r ≡ Some x → u.brings q → ds ≡ u.left → (i : One) × m.brings i × BodyWay t s i l x q ds
+        from : (r : Option Exit) → Goes (ThroughBlock t s) (MetBlock P NoJoin t k s) (chosen m l) u r → (x : Exit) (q : One) (ds : List Choice) → exit_of_turn r ≡ Some x → u.brings q → ds ≡ u.left → (i : One) × m.brings i × BodyWay t s i l x q ds
         from None w x q ds e b d = absurd (none_some x e)
         from (Some to_next) w x q ds e b d = let z = (w.there to_next q ds).1 (refl, b, d) in (z.0, z.1, as_way to_continue x z.0 q ds e (inl z.2))
         from (Some to_continue) w x q ds e b d = let z = (w.there to_continue q ds).1 (refl, b, d) in (z.0, z.1, as_way to_continue x z.0 q ds e (inr z.2))
@@ -599,7 +599,7 @@ module _ (P : Sought) (t : Tok) where
       is_continue (Some to_continue) = true
       is_continue x = false
 
-  pub go_block : (ss : Stmts) (bound : List Tok) (end : ℕ) (v w u : State) → GoesStmts P t ss v w (Some to_next) → Passes P t end (map gone bound) w u → GoesBlock P t (block ss bound end) v u (Some to_next)
+  pub go_block : (ss : Stmts) (bound : List Tok) (end : ℕ) (v w u : State) → GoesStmts P t ss v w (Some to_next) → Passes P t end (map away_row bound) w u → GoesBlock P t (block ss bound end) v u (Some to_next)
   go_block ss bound end v w u g f k = record {
     there = λ x q ds. (λ h. to x q ds h.0 h.1 h.2, λ y. from x q ds y.0 y.1 y.2);
     met = (
@@ -616,16 +616,16 @@ module _ (P : Sought) (t : Tok) where
       b = g k
 
       to : (x : Exit) (q : One) (ds : List Choice) (o : One) → v.brings o → ThroughBlock t (block ss bound end) o v.left x q ds → (Some to_next ≡ Some x) × u.brings q × (ds ≡ u.left)
-      to to_next q ds o c h = let a = (b.there to_next h.0 ds).0 (o, c, h.1) in (refl, lead end (map gone bound) w u f h.0 q a.1 h.2, a.2 ∙ sym f.left)
+      to to_next q ds o c h = let a = (b.there to_next h.0 ds).0 (o, c, h.1) in (refl, lead end (map away_row bound) w u f h.0 q a.1 h.2, a.2 ∙ sym f.left)
       to to_break q ds o c h = absurd (break_next ((b.there to_break q ds).0 (o, c, h)).0)
       to to_continue q ds o c h = absurd (continue_next ((b.there to_continue q ds).0 (o, c, h)).0)
 
       from : (x : Exit) (q : One) (ds : List Choice) → Some to_next ≡ Some x → u.brings q → ds ≡ u.left → (o : One) × v.brings o × ThroughBlock t (block ss bound end) o v.left x q ds
-      from to_next q ds e c d = let i = come end (map gone bound) w u f q c in let a = (b.there to_next i.0 ds).1 (refl, i.1, d ∙ f.left) in (a.0, a.1, (i.0, a.2, i.2))
+      from to_next q ds e c d = let i = come end (map away_row bound) w u f q c in let a = (b.there to_next i.0 ds).1 (refl, i.1, d ∙ f.left) in (a.0, a.1, (i.0, a.2, i.2))
       from to_break q ds e c d = absurd (break_next e)
       from to_continue q ds e c d = absurd (continue_next e)
 
-      back : (o : One) → v.brings o → MetBlock P NoJoin t k (block ss bound end) o v.left → IsTrue w.met ⊎ ((w.left ≡ []) × ((i : One) × w.brings i × RowMet P NoJoin t end (map gone bound) i))
+      back : (o : One) → v.brings o → MetBlock P NoJoin t k (block ss bound end) o v.left → IsTrue w.met ⊎ ((w.left ≡ []) × ((i : One) × w.brings i × RowMet P NoJoin t end (map away_row bound) i))
       back o c (inl z) = inl (b.met.1 (inr (o, c, z)))
       back o c (inr z) = let a = (b.there to_next z.0 []).0 (o, c, z.1) in inr (sym a.2, (z.0, a.1, z.2))
 

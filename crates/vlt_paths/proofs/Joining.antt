@@ -1,7 +1,7 @@
 -- What two paths meet of the joins of each part of a body.
 use Rattle.std.proofs.Common.{◌≡◌, ◌∙◌, ◌≤◌, ◌<◌, ℕ, zero, suc, ◌+◌, Bool, true, false, List, [], ◌∷◌, map, length, refl, sym, ap, subst, inl, inr, ⊎_elim, arith}
 use Rattle.vlt_core.specs.Core.{Tok}
-use Rattle.vlt_core.specs.Maps.{Row, gone}
+use Rattle.vlt_core.specs.Maps.{Row, away_row}
 use Rattle.vlt_core.specs.Flow.{Flow, step, choose, loop, switch, scope, focus, return, jump, Block, block, Stmts, done, next, Arms, no_arms, arm, end_of}
 use Rattle.vlt_core.specs.Found.{One}
 use Rattle.vlt_core.specs.Faults.{Spot, IsPresent, join_spot, head_spot, spots, spots_block, spots_stmts, spots_arms}
@@ -53,7 +53,7 @@ module _ (t : Tok) where
   meet_return at k rs x = meet_blind (InForm t at k (return rs)) x (record { blind = λ s is o cs h. no_row t s is at rs o h.1 })
 
   pub meet_jump : (at k : ℕ) (continues : Bool) (left : List Tok) (x : Two) → Meet (InForm t at k (jump continues left)) x false
-  meet_jump at k continues left x = meet_blind (InForm t at k (jump continues left)) x (record { blind = λ s is o cs h. no_row t s is at (map gone left) o h.1 })
+  meet_jump at k continues left x = meet_blind (InForm t at k (jump continues left)) x (record { blind = λ s is o cs h. no_row t s is at (map away_row left) o h.1 })
 
   -- ---- lists and blocks
 
@@ -72,7 +72,7 @@ module _ (t : Tok) where
         m (meet_led (Onward t at s) (InStmts t (k + spots s) rest) x y b l n)
 
   pub meet_block : (k : ℕ) (ss : Stmts) (bound : List Tok) (end : ℕ) (x : Two) (b : Bool) → Meet (InStmts t k ss) x b → Meet (InBlock t k (block ss bound end)) x b
-  meet_block k ss bound end x b m = meet_same (InStmts t k ss) (InBlock t k (block ss bound end)) x b (record { same = λ s is o cs. (λ h. inl h, λ h. ⊎_elim (λ a. a) (λ a. absurd (no_row t s is end (map gone bound) a.0 a.2)) h) }) m
+  meet_block k ss bound end x b m = meet_same (InStmts t k ss) (InBlock t k (block ss bound end)) x b (record { same = λ s is o cs. (λ h. inl h, λ h. ⊎_elim (λ a. a) (λ a. absurd (no_row t s is end (map away_row bound) a.0 a.2)) h) }) m
 
   pub meet_scope : (at k : ℕ) (s : Block) (x : Two) (b : Bool) → Meet (InBlock t k s) x b → Meet (InForm t at k (scope s)) x b
   meet_scope at k s x b m = m

@@ -2,7 +2,7 @@
 use Rattle.std.proofs.Common.{◌≡◌, ◌∙◌, ◌↔◌, ◌⊎◌, ℕ, Bool, true, false, ◌||◌, IsTrue, List, [], ◌∷◌, ◌++◌, map, refl, sym, subst, inl, inr, ⊎_elim, rules}
 use Rattle.std.specs.List.{list_any}
 use Rattle.vlt_core.specs.Core.{Tok}
-use Rattle.vlt_core.specs.Maps.{Row, is_tok, gone, wants_absent}
+use Rattle.vlt_core.specs.Maps.{Row, is_tok, away_row, wants_absent}
 use Rattle.vlt_core.specs.Found.{One, one_absent, one_held, one_lent, one_full, Ones, WantsOne, LeftBy, image, image_if, images}
 use Rattle.vlt_core.specs.Witness.{only, RowMet, NoJoin, LeadsOn}
 use Rattle.vlt_core_laws.proofs.Smooth.{smooth_image, smooth_images}
@@ -133,37 +133,37 @@ module _ (P : Sought) (t : Tok) (at : ℕ) where
   is_absent one_full h = absurd h
 
   -- once the token is away, more such rows change nothing
-  gone_again : (ts : List Tok) (u : State) → IsOwn P t → ((o : One) → u.brings o → o ≡ one_absent) → Passes P t at (map gone ts) u u
+  gone_again : (ts : List Tok) (u : State) → IsOwn P t → ((o : One) → u.brings o → o ≡ one_absent) → Passes P t at (map away_row ts) u u
   gone_again [] u own away = passes_none u
-  gone_again (s ∷ ts) u own away = passes_more (gone s) (map gone ts) u u u (one (is_tok t s) refl) (gone_again ts u own away)
+  gone_again (s ∷ ts) u own away = passes_more (away_row s) (map away_row ts) u u u (one (is_tok t s) refl) (gone_again ts u own away)
     where
-      one : (b : Bool) → is_tok t s ≡ b → Passes P t at (gone s ∷ []) u u
-      one false e = passes_other (gone s) u own e
-      one true e = passes_own (gone s) u u false e refl
+      one : (b : Bool) → is_tok t s ≡ b → Passes P t at (away_row s ∷ []) u u
+      one false e = passes_other (away_row s) u own e
+      one true e = passes_own (away_row s) u u false e refl
           (λ q. (λ h. (q, h, subst (λ o. WantsOne wants_absent o) (sym (away q h)) tt, away q h), λ x. subst u.brings (away x.0 x.1 ∙ sym x.3) x.1))
           (λ h. inl h, λ x. ⊎_elim (λ h. h) (λ h. absurd (no_true h)) x)
-          (λ h. absurd (no_true h), λ x. absurd (own.refuses at (gone s) x.1.0 x.1.2 (subst (λ o. WantsOne wants_absent o) (sym (away x.1.0 x.1.1)) tt)))
+          (λ h. absurd (no_true h), λ x. absurd (own.refuses at (away_row s) x.1.0 x.1.2 (subst (λ o. WantsOne wants_absent o) (sym (away x.1.0 x.1.1)) tt)))
 
-  pub gone_none : (ts : List Tok) (v : State) → IsOwn P t → list_any (is_tok t) ts ≡ false → Passes P t at (map gone ts) v v
+  pub gone_none : (ts : List Tok) (v : State) → IsOwn P t → list_any (is_tok t) ts ≡ false → Passes P t at (map away_row ts) v v
   gone_none [] v own e = passes_none v
-  gone_none (s ∷ ts) v own e = passes_more (gone s) (map gone ts) v v v (passes_other (gone s) v own (neither (is_tok t s) (list_any (is_tok t) ts) e).0) (gone_none ts v own (neither (is_tok t s) (list_any (is_tok t) ts) e).1)
+  gone_none (s ∷ ts) v own e = passes_more (away_row s) (map away_row ts) v v v (passes_other (away_row s) v own (neither (is_tok t s) (list_any (is_tok t) ts) e).0) (gone_none ts v own (neither (is_tok t s) (list_any (is_tok t) ts) e).1)
     where
       neither : (a b : Bool) → (a || b) ≡ false → (a ≡ false) × (b ≡ false)
       neither true b e = absurd (no_true (subst IsTrue e (search rules)))
       neither false b e = (refl, e)
 
   -- of such rows the one of the token alone counts
-  pub gone_one : (ts : List Tok) (v u : State) → IsOwn P t → ((s s' : Tok) → is_tok s s' ≡ true → s ≡ s') → is_tok t t ≡ true → list_any (is_tok t) ts ≡ true → Passes P t at (gone t ∷ []) v u → Passes P t at (map gone ts) v u
+  pub gone_one : (ts : List Tok) (v u : State) → IsOwn P t → ((s s' : Tok) → is_tok s s' ≡ true → s ≡ s') → is_tok t t ≡ true → list_any (is_tok t) ts ≡ true → Passes P t at (away_row t ∷ []) v u → Passes P t at (map away_row ts) v u
   gone_one [] v u own same self e p = absurd (no_true (subst IsTrue (sym e) (search rules)))
   gone_one (s ∷ ts) v u own same self e p = here (is_tok t s) refl (λ rest. gone_one ts v u own same self rest p)
     where
       away : (o : One) → u.brings o → o ≡ one_absent
-      away o h = (subst (λ b. image_if b (gone t) v.brings o) self ((p.brings o).0 h)).3
+      away o h = (subst (λ b. image_if b (away_row t) v.brings o) self ((p.brings o).0 h)).3
 
       rest : (a b : Bool) → a ≡ false → (a || b) ≡ true → b ≡ true
       rest true b n e = absurd (no_true (subst IsTrue n (search rules)))
       rest false b n e = e
 
-      here : (b : Bool) → is_tok t s ≡ b → (list_any (is_tok t) ts ≡ true → Passes P t at (map gone ts) v u) → Passes P t at (map gone (s ∷ ts)) v u
-      here true is ih = passes_more (gone s) (map gone ts) v u u (subst (λ z. Passes P t at (gone z ∷ []) v u) (same t s is) p) (gone_again ts u own away)
-      here false is ih = passes_more (gone s) (map gone ts) v v u (passes_other (gone s) v own is) (ih (rest (is_tok t s) (list_any (is_tok t) ts) is e))
+      here : (b : Bool) → is_tok t s ≡ b → (list_any (is_tok t) ts ≡ true → Passes P t at (map away_row ts) v u) → Passes P t at (map away_row (s ∷ ts)) v u
+      here true is ih = passes_more (away_row s) (map away_row ts) v u u (subst (λ z. Passes P t at (away_row z ∷ []) v u) (same t s is) p) (gone_again ts u own away)
+      here false is ih = passes_more (away_row s) (map away_row ts) v v u (passes_other (away_row s) v own is) (ih (rest (is_tok t s) (list_any (is_tok t) ts) is e))

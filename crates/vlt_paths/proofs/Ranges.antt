@@ -1,7 +1,7 @@
 -- The joins of a part have the numbers of its spots.
 use Rattle.std.proofs.Common.{◌≡◌, ◌≤◌, ◌<◌, ℕ, zero, suc, ◌+◌, List, [], ◌∷◌, map, length, ap, inl, inr, arith}
 use Rattle.vlt_core.specs.Core.{Tok}
-use Rattle.vlt_core.specs.Maps.{Row, gone}
+use Rattle.vlt_core.specs.Maps.{Row, away_row}
 use Rattle.vlt_core.specs.Flow.{Flow, step, choose, loop, switch, scope, focus, return, jump, Block, block, Stmts, done, next, Arms, no_arms, arm, end_of}
 use Rattle.vlt_core.specs.Found.{One}
 use Rattle.vlt_core.specs.Faults.{Spot, spots, spots_block, spots_stmts, spots_arms}
@@ -46,11 +46,11 @@ module _ (t : Tok) (s : Spot) (is : One → Type 0) where
         wider (k + length rs) (spots_block b) k (spots (focus rs b es)) (in_block (k + length rs) b h.0 cs h.2) (omega arith) (omega arith)
     in_form at k (focus rs b es) o cs (inr (inr h)) = absurd (no_row (end_of b) es h.2.0 h.2.2)
     in_form at k (return rs) o cs h = absurd (no_row at rs o h.1)
-    in_form at k (jump continues left) o cs h = absurd (no_row at (map gone left) o h.1)
+    in_form at k (jump continues left) o cs h = absurd (no_row at (map away_row left) o h.1)
 
     pub in_block : (k : ℕ) (b : Block) (o : One) (cs : List Choice) → MetBlock NoRow (IsJoin s is) t k b o cs → Within k (spots_block b)
     in_block k (block ss bound end) o cs (inl h) = wider k (spots_stmts ss) k (spots_block (block ss bound end)) (in_stmts k ss o cs h) (omega arith) (omega arith)
-    in_block k (block ss bound end) o cs (inr h) = absurd (no_row end (map gone bound) h.0 h.2)
+    in_block k (block ss bound end) o cs (inr h) = absurd (no_row end (map away_row bound) h.0 h.2)
 
     pub in_stmts : (k : ℕ) (ss : Stmts) (o : One) (cs : List Choice) → MetStmts NoRow (IsJoin s is) t k ss o cs → Within k (spots_stmts ss)
     in_stmts k done o cs h = absurd h

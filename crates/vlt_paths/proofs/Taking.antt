@@ -1,7 +1,7 @@
 -- Rows that a path takes, one after another; none stops it.
 use Rattle.std.proofs.Common.{◌≡◌, ◌↔◌, ◌⊎◌, ℕ, Bool, true, false, IsTrue, rules, List, [], ◌∷◌, ◌++◌, map, Option, Some, None, Result, Ok, Err, refl, sym, subst, inl, inr}
 use Rattle.vlt_core.specs.Core.{Tok}
-use Rattle.vlt_core.specs.Maps.{Row, Wanted, After, is_tok, gone}
+use Rattle.vlt_core.specs.Maps.{Row, Wanted, After, is_tok, away_row}
 use Rattle.vlt_core.specs.Found.{One, WantsOne, LeftBy}
 use Rattle.vlt_core.specs.FaultView.{choices_of}
 use Rattle.std.specs.List.{list_any}
@@ -73,10 +73,10 @@ this_row h at r v b none is e = (
 )
 
 -- of rows that want tokens away the one of the path's token counts
-pub gone_past : (h : Hunt) (at : ℕ) (ts : List Tok) (v u : Point) → list_any (is_tok (tok_of h.tok)) ts ≡ true → IsPast h at (gone (tok_of h.tok) ∷ []) v u → IsPast h at (map gone ts) v u
+pub gone_past : (h : Hunt) (at : ℕ) (ts : List Tok) (v u : Point) → list_any (is_tok (tok_of h.tok)) ts ≡ true → IsPast h at (away_row (tok_of h.tok) ∷ []) v u → IsPast h at (map away_row ts) v u
 gone_past h at ts v u e p = gone_one (sought_of h) (tok_of h.tok) at ts (state_of v) (state_of u) (sought_own (tok_of h.tok) h.row) same_tok (own_tok (tok_of h.tok)) e p
 
-pub none_past : (h : Hunt) (at : ℕ) (ts : List Tok) (v : Point) → list_any (is_tok (tok_of h.tok)) ts ≡ false → IsPast h at (map gone ts) v v
+pub none_past : (h : Hunt) (at : ℕ) (ts : List Tok) (v : Point) → list_any (is_tok (tok_of h.tok)) ts ≡ false → IsPast h at (map away_row ts) v v
 none_past h at ts v e = gone_none (sought_of h) (tok_of h.tok) at ts (state_of v) (sought_own (tok_of h.tok) h.row) e
 
 pub both_past : (h : Hunt) (at : ℕ) (xs ys : List Row) (v m u : Point) → IsPast h at xs v m → IsPast h at ys m u → IsPast h at (xs ++ ys) v u

@@ -82,11 +82,11 @@ abbrev pub GoesTurn : Sought → Tok → List Row → Block → (at : ℕ) → S
 GoesTurn P t rs s at v u r = (k : ℕ) → Goes (TurnWay t rs s at) (TurnSight P t rs s at k) v u r
 
 -- what the end of a loop's body is to the loop
-abbrev pub turned : Option Exit → Option Exit
-turned (Some to_next) = Some to_continue
-turned (Some to_continue) = Some to_continue
-turned (Some to_break) = Some to_next
-turned None = None
+abbrev pub exit_of_turn : Option Exit → Option Exit
+exit_of_turn (Some to_next) = Some to_continue
+exit_of_turn (Some to_continue) = Some to_continue
+exit_of_turn (Some to_break) = Some to_next
+exit_of_turn None = None
 
 -- ---- of the code
 

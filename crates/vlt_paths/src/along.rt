@@ -12,7 +12,7 @@ ghost use Rattle.vlt_core.specs.View.{program_of, func_of, tok_of, expr_of, form
 ghost use Rattle.vlt_core.specs.HeldView.{toks_of};
 ghost use Rattle.vlt_core.specs.FaultView.{choices_of};
 ghost use Rattle.vlt_paths.specs.declared.along.Out.TheVariants.{Continue};
-ghost use Rattle.vlt_paths.specs.Along.{state_of, IsBound, AlongForm, AlongBlock, AlongStmts, AlongTurn, exit_of, turned, is_step, jump_out};
+ghost use Rattle.vlt_paths.specs.Along.{state_of, IsBound, AlongForm, AlongBlock, AlongStmts, AlongTurn, exit_of, exit_of_turn, is_step, jump_out};
 ghost use Rattle.vlt_paths.specs.Legs.{Led, Onward, IsNext};
 
 use crate::passing::{
@@ -207,7 +207,7 @@ pub fn go_turn<'a>(
 
 /// What the end of a loop's body is to the loop.
 fn turned<'a>(end: Went<'a>) -> Went<'a>
-    ensures out { exit_of result.out ≡ turned (exit_of end.entry.out) }
+    ensures out { exit_of result.out ≡ exit_of_turn (exit_of end.entry.out) }
     ensures point { result.point ≡ end.entry.point }
 {
     match end.out {

@@ -4,7 +4,7 @@ ghost use Rattle.std.specs.Prelude.{◌≡◌, ◌↔◌, ◌⊎◌, ◌∷◌, 
 ghost use Rattle.std.specs.List.{list_any};
 ghost use Rattle.std.specs.Option.{option_map};
 ghost use Rattle.vlt_core.specs.Maps as maps;
-ghost use Rattle.vlt_core.specs.Maps.{is_tok, gone};
+ghost use Rattle.vlt_core.specs.Maps.{is_tok, away_row};
 ghost use Rattle.vlt_core.specs.Rows.{row, expr_rows, arm_rows, focus_end_rows, return_rows, tokens_of, in_order};
 ghost use Rattle.vlt_core.specs.Core as core;
 ghost use Rattle.vlt_core.specs.View.{program_of, func_of, tok_of, expr_of, form_of, operand_of, vars_of};
@@ -219,7 +219,7 @@ pub fn past_focus_end<'a>(
 
 /// Past rows that want these tokens away.
 pub fn past_gone<'a>(hunt: Hunt, at: u32, toks: &[Tok], point: Point<'a>) -> Point<'a>
-    ensures { IsPast hunt at (map gone (toks_of toks.now)) point.entry result }
+    ensures { IsPast hunt at (map away_row (toks_of toks.now)) point.entry result }
 {
     let mut passing = Passing { hunt, at, point };
     let _all = take_gone(toks, &mut passing);
@@ -228,7 +228,7 @@ pub fn past_gone<'a>(hunt: Hunt, at: u32, toks: &[Tok], point: Point<'a>) -> Poi
 
 /// Past a row that wants the path's token away.
 fn past_one<'a>(hunt: Hunt, at: u32, point: Point<'a>) -> Point<'a>
-    ensures { IsPast hunt at (gone (tok_of hunt.tok) ∷ []) point.entry result }
+    ensures { IsPast hunt at (away_row (tok_of hunt.tok) ∷ []) point.entry result }
 {
     let mut passing = Passing { hunt, at, point };
     passing.pass(hunt.tok, Wants::Absent, Leaves::Absent);
@@ -247,7 +247,7 @@ fn is_of(tok: Tok, f: &Func) -> bool
 
 /// Past the rows that want the function's tokens away: the one of the path's token, if it is among them.
 fn past_own<'a>(f: &Func, hunt: Hunt, at: u32, point: Point<'a>) -> Point<'a>
-    ensures { IsPast hunt at (map gone (tokens_of (func_of f.now))) point.entry result }
+    ensures { IsPast hunt at (map away_row (tokens_of (func_of f.now))) point.entry result }
 {
     if is_of(hunt.tok, f) {
         past_one(hunt, at, point)
@@ -259,7 +259,7 @@ fn past_own<'a>(f: &Func, hunt: Hunt, at: u32, point: Point<'a>) -> Point<'a>
 /// Past the rows of a jump: `left` says whether the scopes that it leaves bind the token.
 pub fn past_left<'a>(f: &Func, hunt: Hunt, left: bool, at: u32, point: Point<'a>) -> Point<'a>
     ensures { (ts : List core.Tok) → IsBound hunt ts left →
-        IsPast hunt at (map gone (in_order (func_of f.now) ts)) point.entry result }
+        IsPast hunt at (map away_row (in_order (func_of f.now) ts)) point.entry result }
 {
     if !left {
         return point;

@@ -9,7 +9,7 @@ use Rattle.vlt_syntax.specs.Tree.{Tree}
 use Rattle.vlt_syntax.specs.Grammar.{IsDecl, IsTree, language}
 use Rattle.vlt_syntax.specs.Spelling.{decl_then, spelling}
 use Rattle.vlt_printer.specs.Layout.{decl_line_after, layout}
-use Rattle.vlt_syntax.specs.Places.{span_in, placed}
+use Rattle.vlt_syntax.specs.Places.{span_in, tree_with_places}
 use Rattle.vlt_syntax_laws.proofs.Anew.{placed_tree, placed_stays, spells_placed}
 use Rattle.vlt_syntax_laws.proofs.OneTree.{one_tree}
 use Rattle.vlt_printer_laws.specs.ReadAgain.{IsReadAgain, AreAlike}
@@ -32,8 +32,8 @@ layout_readable t is written =
     (h.0, subst (λ x. Readable x h.0 (spelling t)) (append-nil (layout t)) h.1)
 
 -- a tree is one with itself where its places are set anew
-alike_anew : (ms : List Lexeme) (t : Tree) → IsTree language t → AreAlike (placed ms t) t
-alike_anew ms t is spans = ap (λ place. (place spans 0).0) (one_tree language (placed ms t) t (placed_stays ms language t is) is (spells_placed ms t))
+alike_anew : (ms : List Lexeme) (t : Tree) → IsTree language t → AreAlike (tree_with_places ms t) t
+alike_anew ms t is spans = ap (λ place. (place spans 0).0) (one_tree language (tree_with_places ms t) t (placed_stays ms language t is) is (spells_placed ms t))
 
 pub read_again : IsReadAgain
 read_again text ls t tokens tree =
@@ -44,7 +44,7 @@ read_again text ls t tokens tree =
       lexemes = read.0;
       reads = read.1;
       tokens = read.2 ∙ sym tree.1;
-      tree = placed read.0 t;
+      tree = tree_with_places read.0 t;
       placed = placed_tree read.0 t tree.0 read.2;
       same = alike_anew read.0 t tree.0;
       again = laid_alike t (span_in read.0);

@@ -57,8 +57,8 @@ paired_each (k ∷ ks) (l ∷ ls) = (k, l) ∷ paired_each ks ls
 paired_each _ _ = []
 
 -- as many keys as there are
-abbrev pub paired : List ℕ → List ℕ → List Pair
-paired ks ls = if length ks == length ls then paired_each ks ls else []
+abbrev pub key_pairs : List ℕ → List ℕ → List Pair
+key_pairs ks ls = if length ks == length ls then paired_each ks ls else []
 
 -- the keys of an argument that meet those of the parameter: into an owning one a tracked object goes without its own key
 abbrev pub keys_handed : Ty → Ty → List ℕ
@@ -66,7 +66,7 @@ keys_handed (owning s t a) got = args_of got
 keys_handed wanted got = keys_of_ty got
 
 unfoldable pub fitting_pairs : Ty → Ty → List Pair
-fitting_pairs w t = if takes_shape w t then paired (keys_of_ty w) (keys_handed w t) else []
+fitting_pairs w t = if takes_shape w t then key_pairs (keys_of_ty w) (keys_handed w t) else []
 
 -- An argument whose type isn't known, or doesn't fit, pairs nothing.
 unfoldable pub argument_pairs : Ty → Option Ty → List Pair
@@ -139,7 +139,7 @@ keys_fit pairs = list_all (key_fits pairs)
 
 abbrev pub result_fits : List Pair → Option Ty → Ty → Bool
 result_fits pairs None ty = false
-result_fits pairs (Some r) ty = same_shape r ty && keys_fit pairs (paired (keys_of_ty r) (keys_of_ty ty))
+result_fits pairs (Some r) ty = same_shape r ty && keys_fit pairs (key_pairs (keys_of_ty r) (keys_of_ty ty))
 
 abbrev pub is_same : Bool → Bool → Bool
 is_same true b = b

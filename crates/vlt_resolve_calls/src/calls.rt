@@ -143,7 +143,7 @@ fn check_dropped(head: &Func, at: u32, found: &mut Found)
 
 fn result_keys_fit(alloc: Heap, pairs: &[Pair], gives: &Ty, ty: &Ty) -> Result<bool, AllocError>
     ensures { IfOk result (λ b. b ≡ c.keys_fit (pairs_of pairs.now)
-        (c.paired (types.keys_of_ty (ty_of gives.now)) (types.keys_of_ty (ty_of ty.now)))) }
+        (c.key_pairs (types.keys_of_ty (ty_of gives.now)) (types.keys_of_ty (ty_of ty.now)))) }
 {
     let callee = keys_of_ty(alloc, gives)?;
     let caller = keys_of_ty(alloc, ty)?;

@@ -92,7 +92,7 @@ pub fn add_paired(
     pairs: &mut Items<Pair>,
 ) -> Result<(), AllocError>
     ensures { OnOk result (pairs_of pairs.new
-        ≡ pairs_of pairs.old ++ c.paired (keys_of callee.now) (keys_of caller.now)) }
+        ≡ pairs_of pairs.old ++ c.key_pairs (keys_of callee.now) (keys_of caller.now)) }
 {
     if callee.len() == caller.len() {
         add_each(callee, caller, pairs)?;

@@ -6,7 +6,7 @@ use Rattle.vlt_kinds_names.specs.declared.found.Refusal.{Refusal}
 use Rattle.vlt_kinds_names.specs.Refusals.{least_from}
 use Rattle.vlt_kinds.specs.Kinds.{Kinds}
 use Rattle.vlt_resolve_exprs.specs.Scopes.{Scope, with_var}
-use Rattle.vlt_resolve_exprs.specs.Exprs.{type_given, type_of, expr_place, unfit, taken, left_refused, unary_refused, binary_refused, expr_refused}
+use Rattle.vlt_resolve_exprs.specs.Exprs.{type_given, type_of, expr_place, unfit, operand_wanted, left_refused, unary_refused, binary_refused, expr_refused}
 use Rattle.vlt_core.specs.Core.{Ty}
 use Rattle.vlt_resolve_exprs.specs.Operands.{operand_refused, operands_refused}
 use Rattle.vlt_resolve_exprs.specs.Bindings.{new_var_refused, new_vars_refused}
@@ -26,7 +26,7 @@ found_is k x (s.unary o e at) f =
     ∙ ap (λ g. least_from g (unfit (Some (type_given o)) (type_of k x e) (expr_place e))) (found_is k x e f)
 found_is k x (s.binary o l r at) f =
     let first : List Refusal = left_refused (row_of o).takes (type_of k x l) (expr_place l) in
-    let second : List Refusal = unfit (taken (row_of o).takes (type_of k x l)) (type_of k x r) (expr_place r) in
+    let second : List Refusal = unfit (operand_wanted (row_of o).takes (type_of k x l)) (type_of k x r) (expr_place r) in
     let g : Option Refusal = least_from (found_in k x l f) first in
     let left : least_from f (expr_refused k x l ++ first) ≡ g = least_of_both (expr_refused k x l) first f ∙ ap (λ y. least_from y first) (found_is k x l f) in
     least_of_both (expr_refused k x l ++ first) (expr_refused k x r ++ second) f

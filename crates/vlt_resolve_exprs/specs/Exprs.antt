@@ -128,10 +128,10 @@ basic (Some t) = if is_basic t then Some t else None
 basic None = None
 
 -- what an operator wants of both operands, or of the second one
-unfoldable pub taken : Takes → Option Ty → Option Ty
-taken takes.Int left = Some int
-taken takes.Bool left = Some bool
-taken takes.Either left = basic left
+unfoldable pub operand_wanted : Takes → Option Ty → Option Ty
+operand_wanted takes.Int left = Some int
+operand_wanted takes.Bool left = Some bool
+operand_wanted takes.Either left = basic left
 
 unfoldable pub left_refused : Takes → Option Ty → ℕ → List Refusal
 left_refused takes.Int t at = unfit (Some int) t at
@@ -144,7 +144,7 @@ unary_refused o inner t at = inner ++ unfit (Some (type_given o)) t at
 
 unfoldable pub binary_refused : Op → List Refusal → Option Ty → ℕ → List Refusal → Option Ty → ℕ → List Refusal
 binary_refused o left t at right u behind =
-    (left ++ left_refused (row_of o).takes t at) ++ (right ++ unfit (taken (row_of o).takes t) u behind)
+    (left ++ left_refused (row_of o).takes t at) ++ (right ++ unfit (operand_wanted (row_of o).takes t) u behind)
 
 abbrev pub expr_refused : Kinds → Scope → s.Expr → List Refusal
 expr_refused kinds scope (s.number z at) = []

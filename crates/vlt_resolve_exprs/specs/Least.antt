@@ -9,7 +9,7 @@ use Rattle.vlt_kinds_names.specs.Refusals.{least_from}
 use Rattle.vlt_kinds.specs.Kinds.{Kinds}
 use Rattle.vlt_resolve_exprs.specs.Refused.{unknown_name}
 use Rattle.vlt_resolve_exprs.specs.Scopes.{Scope, var_named, with_var}
-use Rattle.vlt_resolve_exprs.specs.Exprs.{expr_place, field_refused, type_of, type_given, unfit, taken, left_refused}
+use Rattle.vlt_resolve_exprs.specs.Exprs.{expr_place, field_refused, type_of, type_given, unfit, operand_wanted, left_refused}
 use Rattle.vlt_resolve_exprs.specs.Operands.{operand_refused}
 use Rattle.vlt_resolve_exprs.specs.Bindings.{new_var_refused}
 
@@ -27,7 +27,7 @@ found_in kinds scope (s.binary o l r at) found =
     least_from
     (found_in kinds scope r
     (least_from (found_in kinds scope l found) (left_refused (row_of o).takes (type_of kinds scope l) (expr_place l))))
-    (unfit (taken (row_of o).takes (type_of kinds scope l)) (type_of kinds scope r) (expr_place r))
+    (unfit (operand_wanted (row_of o).takes (type_of kinds scope l)) (type_of kinds scope r) (expr_place r))
 
 abbrev pub operands_found : Kinds → Scope → List Ty → List s.Expr → Option Refusal → Option Refusal
 operands_found kinds scope (w ∷ ws) (e ∷ es) found =

@@ -311,7 +311,7 @@ fn check_basic(ty: &Option<Ty>, at: u32, found: &mut Found)
 /// What an operator wants of its second operand.
 #[tactic(auto, unfolding(crate::specs::Exprs::taken))]
 fn taken(takes: Takes, left: &Option<Ty>) -> Option<Ty>
-    ensures { option_map ty_of result ≡ e.taken takes (option_map ty_of left.now) }
+    ensures { option_map ty_of result ≡ e.operand_wanted takes (option_map ty_of left.now) }
 {
     match takes {
         Takes::Int => Some(Ty::Int),
@@ -517,7 +517,7 @@ fn check_right_given(
     found: &mut Found,
 ) -> Result<(), AllocError>
     ensures { OnOk result (found.new.least ≡ least_from found.old.least
-        (e.unfit (e.taken (row_of op).takes (e.type_of (kinds_seen kinds.now) (scope_seen scope.now) (tree.expr_of left.now)))
+        (e.unfit (e.operand_wanted (row_of op).takes (e.type_of (kinds_seen kinds.now) (scope_seen scope.now) (tree.expr_of left.now)))
         (e.type_of (kinds_seen kinds.now) (scope_seen scope.now) (tree.expr_of right.now))
         (e.expr_place (tree.expr_of right.now)))) }
 {

@@ -12,7 +12,7 @@ use Rattle.vlt_core.specs.Lookups.{cases_in}
 use Rattle.vlt_core.specs.declared.rules.TheConstants as rule
 use Rattle.vlt_kinds_names.specs.Refusals.{refuse}
 use Rattle.vlt_kinds_names.specs.Globals.{globals_of}
-use Rattle.vlt_kinds_names.specs.Names.{no_main, names_again, has_text, repeated_behind, repeated, header_refused, variant_refused, decl_refused, names_refused}
+use Rattle.vlt_kinds_names.specs.Names.{no_main, names_again, has_text, repeated_behind, repeated_names, header_refused, variant_refused, decl_refused, names_refused}
 use Rattle.vlt_kinds_types.specs.Files.{File, file_of}
 use Rattle.vlt_kinds_decls.specs.Made.{core_case, core_variant, core_types_in, core_types}
 use Rattle.vlt_kinds.specs.Tables.{kinds_of}
@@ -99,7 +99,7 @@ ticks_in [] e = tt
 ticks_in (c ∷ cs) e = (e.0, ticks_in cs e.1)
 
 decl_distinct : (file : File) (d : Decl) → HasTicks d → decl_refused file.globals d ≡ [] → Each Distinct (core_types_in file d)
-unfolding variant_refused core_variant repeated
+unfolding variant_refused core_variant repeated_names
 decl_distinct file (s.variant n ps cs at) ticks none = (
   subst (λ ns. are_distinct ns ≡ true) (sym (names_are file ps cs))
       (distinct_behind [] (map (λ c. c.name) cs) (ticks_in cs ticks) (refuse_none rule.REPEATED_PART _ (no_right (header_refused file.globals ps) _ none))),

@@ -23,7 +23,7 @@ use Rattle.vlt_meaning.specs.HostAnswers.{Piece, Result as Given, then_reads, ea
 use Rattle.vlt_meaning.specs.Externals.{type_in, payload_in, objects_of_keys}
 use Rattle.vlt_meaning_laws.proofs.Keeping.{bound}
 use Rattle.vlt_values.specs.declared.values.Values.{Values}
-use Rattle.vlt_values.specs.Parts.{flat, padded, IsObject, HasPartAt, HaveParts, HaveValue}
+use Rattle.vlt_values.specs.Parts.{flat, padded_parts, IsObject, HasPartAt, HaveParts, HaveValue}
 use Rattle.vlt_values.specs.Filled.{IsFilled, IsSingleSlot}
 use Rattle.vlt_values.specs.Shown.{ShowObjects, ShowsFrame, key_at, IsTable, IsKept, IsRowSet, IsSlotSet}
 use Rattle.vlt_values.proofs.Fronts.{packed_object}

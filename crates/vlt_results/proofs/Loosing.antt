@@ -12,7 +12,7 @@ use Rattle.vlt_heap.specs.Items.{IsMadeAt}
 use Rattle.vlt_heap.specs.Shown.{TakesBack}
 use Rattle.vlt_meaning.specs.World.{Object as Thing, Frame, Outcome, is_out, loose, not_owned}
 use Rattle.vlt_meaning.specs.Found.{Found, ◌>>=◌}
-use Rattle.vlt_meaning.specs.Objects.{owned_at, with_owner, changed, moved}
+use Rattle.vlt_meaning.specs.Objects.{owned_at, with_owner, with_changed_object, objects_after_move}
 use Rattle.vlt_values.specs.declared.values.Values.{Values}
 use Rattle.vlt_values.specs.Parts.{IsObject}
 use Rattle.vlt_values.specs.Shown.{Seen, key_at}
@@ -31,7 +31,7 @@ module _ (old new : Heap) (values : Values) (k : ℕ) (a : Slot) (slot : IsSlotA
   key_loose o m b is back c n named =
       let ref = slot_is c n named in
       let same = same_object (sym is ∙ ref.is) in
-      by (moved is_out loose (n ∷ []) c.objects)
+      by (objects_after_move is_out loose (n ∷ []) c.objects)
       (one_back old new c.items values.width c.objects o n loose b (record { live = refl; root = refl; here = refl }) c.holds c.shown (subst (λ q. IsMadeAt c.items q.0 n) (sym same.0) ref.made) (subst (λ i. TakesBack b o i old new) same.1 back))
     where
       by : (x : Found (List Thing)) → IsOneBack c.items new values.width b x → AreBack c.items new values c.frame b x
@@ -44,10 +44,10 @@ other_loose h values k a slot other c n named =
 
 -- ---- one after another
 
-moved_split : (n : ℕ) (ns : List ℕ) (objects : List Thing) → moved is_out loose (n ∷ ns) objects ≡ (moved is_out loose (n ∷ []) objects >>= (λ back. moved is_out loose ns back))
+moved_split : (n : ℕ) (ns : List ℕ) (objects : List Thing) → objects_after_move is_out loose (n ∷ ns) objects ≡ (objects_after_move is_out loose (n ∷ []) objects >>= (λ back. objects_after_move is_out loose ns back))
 moved_split n ns objects = by (owned_at is_out objects n)
   where
-    by : {A : Type 0} → (x : Found A) → (x >>= (λ m. moved is_out loose ns (changed n (with_owner loose) objects))) ≡ ((x >>= (λ m. Ok (changed n (with_owner loose) objects))) >>= (λ back. moved is_out loose ns back))
+    by : {A : Type 0} → (x : Found A) → (x >>= (λ m. objects_after_move is_out loose ns (with_changed_object n (with_owner loose) objects))) ≡ ((x >>= (λ m. Ok (with_changed_object n (with_owner loose) objects))) >>= (λ back. objects_after_move is_out loose ns back))
     by (Ok m) = refl
     by (Err o) = refl
 
@@ -55,14 +55,14 @@ module _ (keys args : List ℕ) where
   pub none_loose : (h : Heap) (values : Values) → ComesLoose keys args [] values h h true
   none_loose h values c ns are = by ns are
     where
-      by : (ns : List ℕ) → AreCaseObjects keys args c.frame [] ns → AreBack c.items h values c.frame true (moved is_out loose ns c.objects)
+      by : (ns : List ℕ) → AreCaseObjects keys args c.frame [] ns → AreBack c.items h values c.frame true (objects_after_move is_out loose ns c.objects)
       by [] are = (refl, shows_same h values c)
       by (n ∷ ns) are = absurd are
 
   pub missing_loose : (h : Heap) (values : Values) (k : CaseKey) (ks : List CaseKey) → key_for keys args k.position ≡ None → ComesLoose keys args (k ∷ ks) values h h false
   missing_loose h values k ks key c ns are = by ns are
     where
-      by : (ns : List ℕ) → AreCaseObjects keys args c.frame (k ∷ ks) ns → AreBack c.items h values c.frame false (moved is_out loose ns c.objects)
+      by : (ns : List ℕ) → AreCaseObjects keys args c.frame (k ∷ ks) ns → AreBack c.items h values c.frame false (objects_after_move is_out loose ns c.objects)
       by [] are = absurd are
       by (n ∷ ns) are = absurd (none-some n (ap (option_and_then c.frame.keys) (sym key) ∙ are.0))
 
@@ -74,25 +74,25 @@ module _ (keys args : List ℕ) where
       later ns are objects s (Ok after) h = (h.0, shows_twice old between new values c objects after s h.1)
       later ns are objects s (Err o) h = h
 
-      one : (n : ℕ) (ns : List ℕ) → AreCaseObjects keys args c.frame ks ns → (x : Found (List Thing)) → AreBack c.items between values c.frame true x → AreBack c.items new values c.frame b (x >>= (λ back. moved is_out loose ns back))
-      one n ns are (Ok objects) h = later ns are objects h.1 (moved is_out loose ns objects) (others (seen_after old between values c objects h.1) ns are)
+      one : (n : ℕ) (ns : List ℕ) → AreCaseObjects keys args c.frame ks ns → (x : Found (List Thing)) → AreBack c.items between values c.frame true x → AreBack c.items new values c.frame b (x >>= (λ back. objects_after_move is_out loose ns back))
+      one n ns are (Ok objects) h = later ns are objects h.1 (objects_after_move is_out loose ns objects) (others (seen_after old between values c objects h.1) ns are)
       one n ns are (Err o) h = absurd (false≢true (sym h))
 
-      by : (ns : List ℕ) → AreCaseObjects keys args c.frame (k ∷ ks) ns → AreBack c.items new values c.frame b (moved is_out loose ns c.objects)
+      by : (ns : List ℕ) → AreCaseObjects keys args c.frame (k ∷ ks) ns → AreBack c.items new values c.frame b (objects_after_move is_out loose ns c.objects)
       by [] are = absurd are
       by (n ∷ ns) are =
           subst (AreBack c.items new values c.frame b) (sym (moved_split n ns c.objects))
-          (one n ns are.1 (moved is_out loose (n ∷ []) c.objects) (first c n (ap (option_and_then c.frame.keys) (sym is) ∙ are.0)))
+          (one n ns are.1 (objects_after_move is_out loose (n ∷ []) c.objects) (first c n (ap (option_and_then c.frame.keys) (sym is) ∙ are.0)))
 
   pub loose_stops : (old new : Heap) (values : Values) (k : CaseKey) (ks : List CaseKey) (key : ℕ) → key_for keys args k.position ≡ Some key → ComesOneLoose key values old new false → ComesLoose keys args (k ∷ ks) values old new false
   loose_stops old new values k ks key is first c ns are = by ns are
     where
-      one : (ns : List ℕ) (x : Found (List Thing)) → AreBack c.items new values c.frame false x → AreBack c.items new values c.frame false (x >>= (λ back. moved is_out loose ns back))
+      one : (ns : List ℕ) (x : Found (List Thing)) → AreBack c.items new values c.frame false x → AreBack c.items new values c.frame false (x >>= (λ back. objects_after_move is_out loose ns back))
       one ns (Ok objects) h = absurd (false≢true h.0)
       one ns (Err o) h = refl
 
-      by : (ns : List ℕ) → AreCaseObjects keys args c.frame (k ∷ ks) ns → AreBack c.items new values c.frame false (moved is_out loose ns c.objects)
+      by : (ns : List ℕ) → AreCaseObjects keys args c.frame (k ∷ ks) ns → AreBack c.items new values c.frame false (objects_after_move is_out loose ns c.objects)
       by [] are = absurd are
       by (n ∷ ns) are =
           subst (AreBack c.items new values c.frame false) (sym (moved_split n ns c.objects))
-          (one ns (moved is_out loose (n ∷ []) c.objects) (first c n (ap (option_and_then c.frame.keys) (sym is) ∙ are.0)))
+          (one ns (objects_after_move is_out loose (n ∷ []) c.objects) (first c n (ap (option_and_then c.frame.keys) (sym is) ∙ are.0)))

@@ -16,7 +16,7 @@ use Rattle.vlt_heap.specs.Shown.{Holds, heap_of, slots_of, ForObject, Makes, Cha
 use Rattle.vlt_heap.proofs.Listed.{KeepMade, kept_with}
 use Rattle.vlt_meaning.specs.World.{Part, number, owned, Owner, held, loose, Object as Thing, is_full, Frame, Outcome, heap_end}
 use Rattle.vlt_meaning.specs.Found.{Found, ◌>>=◌}
-use Rattle.vlt_meaning.specs.Objects.{changed, changed_in}
+use Rattle.vlt_meaning.specs.Objects.{with_changed_object, changed_in}
 use Rattle.vlt_meaning.specs.Run.{new_object}
 use Rattle.vlt_meaning.specs.HostAnswers.{Piece, plain, new_in, then_reads, reads, each, piece_of}
 use Rattle.vlt_meaning.specs.Externals.{from_host, type_in}
@@ -35,7 +35,7 @@ use Rattle.vlt_results.specs.Results.{part_made, pieces_made, IsKeeper, ShowsNew
 
 -- ---- the new object
 
-change_last : (objects : List Thing) (x y : Thing) → changed (length objects) (λ z. y) (objects ++ x ∷ []) ≡ objects ++ y ∷ []
+change_last : (objects : List Thing) (x y : Thing) → with_changed_object (length objects) (λ z. y) (objects ++ x ∷ []) ≡ objects ++ y ∷ []
 change_last objects x y = ap (λ z. changed_in (length objects) (λ z. y) (objects ++ x ∷ []) z) (get_last objects x) ∙ set_last objects
   where
     set_last : (xs : List Thing) → changed_in (length xs) (λ z. y) (xs ++ x ∷ []) (Some x) ≡ xs ++ y ∷ []

@@ -8,7 +8,7 @@ use Rattle.vlt_core.specs.Core.{CaseKey, Entry, Func, Program}
 use Rattle.vlt_core.specs.Lookups.{is_held_after, is_new, after_set}
 use Rattle.vlt_heap.specs.declared.heap.Heap.{Heap}
 use Rattle.vlt_meaning.specs.World.{Object as Thing, Frame}
-use Rattle.vlt_meaning.specs.Objects.{with_state, changed}
+use Rattle.vlt_meaning.specs.Objects.{with_state, with_changed_object}
 use Rattle.vlt_meaning.specs.Calls.{caller_object}
 use Rattle.vlt_meaning.specs.HostAnswers.{Reading, reads, then_reads, ◌>>=◌, each, state_in, key_state}
 use Rattle.vlt_meaning.specs.Externals.{entry_states, with_states}
@@ -24,7 +24,7 @@ use Rattle.vlt_results.specs.Stated.{state_of_entry, Sets, AreOldNamed, SetsEntr
 
 pub states_append : (qs rs : List (ℕ × ℕ)) (objects : List Thing) → with_states (qs ++ rs) objects ≡ with_states rs (with_states qs objects)
 states_append [] rs objects = refl
-states_append (q ∷ qs) rs objects = states_append qs rs (changed q.0 (with_state q.1) objects)
+states_append (q ∷ qs) rs objects = states_append qs rs (with_changed_object q.0 (with_state q.1) objects)
 
 -- some states, then others
 pub sets_both : (old between new : Heap) (values : Values) (first rest : Frame → List (ℕ × ℕ)) (c : Seen old values) → (s : Sets values old between first c) → Sets values between new rest (seen_after old between values c (with_states (first c.frame) c.objects) s)
@@ -136,6 +136,6 @@ module _ (keys args : List ℕ) where
           let states : s ∷ q.0 ≡ ss = ap states_in all in
           let named : c.frame.keys key ≡ Some n = ap (option_and_then c.frame.keys) (sym is) ∙ are.0 in
           let done = becomes c n named in
-          let after = seen_after old between values c (changed n (with_state s) c.objects) done in
+          let after = seen_after old between values c (with_changed_object n (with_state s) c.objects) done in
           subst (λ xs. Shows c.items new values c.frame (with_states (zip (n ∷ ns) xs) c.objects)) states
-          (shows_twice old between new values c (changed n (with_state s) c.objects) (with_states (zip ns q.0) (changed n (with_state s) c.objects)) done (others after ns q.0 q.1 are.1 at))
+          (shows_twice old between new values c (with_changed_object n (with_state s) c.objects) (with_states (zip ns q.0) (with_changed_object n (with_state s) c.objects)) done (others after ns q.0 q.1 are.1 at))

@@ -5,7 +5,7 @@ use Rattle.std.specs.Option.{option_map, option_to_list, option_and_then}
 use Rattle.vlt_core.specs.Core.{CaseKey, Entry, Func, Program}
 use Rattle.vlt_core.specs.Lookups.{is_held_after, is_new, after_set}
 use Rattle.vlt_meaning.specs.World.{Object, Frame, is_out, loose}
-use Rattle.vlt_meaning.specs.Objects.{moved}
+use Rattle.vlt_meaning.specs.Objects.{objects_after_move}
 use Rattle.vlt_meaning.specs.Calls.{caller_object}
 use Rattle.vlt_meaning.specs.HostAnswers.{each, state_in, key_state}
 use Rattle.vlt_meaning.specs.Externals.{entry_states, with_states}
@@ -62,13 +62,13 @@ AreCaseObjects keys args frame _ _ = ⊥
 abbrev pub ComesOneLoose : (key : ℕ) → Values → (old new : Heap) → Bool → Type 0
 ComesOneLoose k values old new b =
     (c : Seen old values) (n : ℕ) → c.frame.keys k ≡ Some n →
-    AreBack c.items new values c.frame b (moved is_out loose (n ∷ []) c.objects)
+    AreBack c.items new values c.frame b (objects_after_move is_out loose (n ∷ []) c.objects)
 
 -- those of a case's keys come back to the value, or one of them wasn't out
 abbrev pub ComesLoose : (keys args : List ℕ) → List CaseKey → Values → (old new : Heap) → Bool → Type 0
 ComesLoose keys args ks values old new b =
     (c : Seen old values) (ns : List ℕ) → AreCaseObjects keys args c.frame ks ns →
-    AreBack c.items new values c.frame b (moved is_out loose ns c.objects)
+    AreBack c.items new values c.frame b (objects_after_move is_out loose ns c.objects)
 
 -- they get the states that are read
 abbrev pub SetsCase : (keys args : List ℕ) → List CaseKey → List ℤ → Values → (old new : Heap) → Type 0

@@ -10,7 +10,7 @@ use Rattle.vlt_meaning.specs.Step.{Step, goes, jumps, leaves, ends}
 use Rattle.vlt_meaning.specs.Calls.{back_in}
 use Rattle.vlt_meaning.specs.Run.{Setup}
 use Rattle.vlt_machine.specs.Machine as m
-use Rattle.vlt_machine.specs.Machine.{Caller, Conf, at, moved}
+use Rattle.vlt_machine.specs.Machine.{Caller, Conf, at, after_move}
 use Rattle.vlt_machine.specs.Bounds.{IsAt}
 use Rattle.vlt_machine.proofs.Depths.{back_at}
 use Rattle.vlt_values.specs.declared.values.Values.{Values}
@@ -130,5 +130,5 @@ module _ (old : Run) (w : Waiting) (values : Values) (sound : IsSound old.heap) 
   pub back_does : (s : Setup) (b : Outside) → DoesTask (Back w) s old back_run b b None
   back_does s b = record {
     keeps = record { sound = sound; size = record { heap = refl; slots = refl }; width = width; values = omega (arith, room); tasks = omega arith; line = omega arith };
-    comes = by_back old w (tasks_left old) (λ c. CameTo (world_in c.step) b b None back_run (moved s c) (moved s c).step) (λ f k us a q. back_step s b f k us a q);
+    comes = by_back old w (tasks_left old) (λ c. CameTo (world_in c.step) b b None back_run (after_move s c) (after_move s c).step) (λ f k us a q. back_step s b f k us a q);
   }

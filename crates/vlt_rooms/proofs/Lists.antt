@@ -7,7 +7,7 @@ use Rattle.vlt_core.specs.Lookups.{fields_in, fields_of}
 use Rattle.vlt_core.specs.Widths.{greatest, slots_of, cells_of, widest_type}
 use Rattle.vlt_core.specs.declared.program.TypeDecl.{TypeDecl as CodeDecl}
 use Rattle.vlt_core.specs.View.{type_of}
-use Rattle.vlt_rooms.specs.Sorts.{cells_in, counted}
+use Rattle.vlt_rooms.specs.Sorts.{cells_in, capped_count}
 use Rattle.std.proofs.lemmas.List.{drop_all}
 use Rattle.vlt_tasks.proofs.Sizes.{greatest_at}
 
@@ -37,9 +37,9 @@ over_range f g i (x ∷ xs) each =
 pub widest_is : (p : Program) → greatest (cells_in p) p.types ≡ widest_type p
 widest_is p = sym (over_range (cells_of p) (cells_in p) 0 p.types (λ j d at. (let e : 0 + j ≡ j = omega arith in ap (cells_of p) e) ∙ ap (λ (o : Option TypeDecl). sum_by (λ (x : FieldDecl). slots_of p x.ty) (fields_in o)) at))
 
-pub widest_found : (p : Program) (most i : ℕ) (xs : List CodeDecl) → length xs ≤ i → max most (counted (greatest (cells_in p) (map type_of (drop i xs)))) ≡ counted (greatest (cells_in p) p.types) → most ≡ counted (widest_type p)
+pub widest_found : (p : Program) (most i : ℕ) (xs : List CodeDecl) → length xs ≤ i → max most (capped_count (greatest (cells_in p) (map type_of (drop i xs)))) ≡ capped_count (greatest (cells_in p) p.types) → most ≡ capped_count (widest_type p)
 widest_found p most i xs end e =
     let none = drop_all i xs end in
-    let k = subst (λ (l : List CodeDecl). max most (counted (greatest (cells_in p) (map type_of l))) ≡ counted (greatest (cells_in p) p.types)) none e in
+    let k = subst (λ (l : List CodeDecl). max most (capped_count (greatest (cells_in p) (map type_of l))) ≡ capped_count (greatest (cells_in p) p.types)) none e in
     let g = widest_is p in
     omega (arith, k, g)

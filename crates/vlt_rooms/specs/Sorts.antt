@@ -19,8 +19,8 @@ is_of Owning = is_owning
 abbrev pub most_counted : ℕ
 most_counted = 340282366920938463463374607431768211455
 
-abbrev pub counted : ℕ → ℕ
-counted n = min n most_counted
+abbrev pub capped_count : ℕ → ℕ
+capped_count n = min n most_counted
 
 -- the cells of an object of a declared type
 abbrev pub cells_in : Program → TypeDecl → ℕ

@@ -6,7 +6,7 @@ ghost use Rattle.vlt_base.specs.Limits.{limit_of};
 ghost use Rattle.vlt_core.specs.View.{program_of, func_of, type_of, field_of, case_of, var_of, ty_of};
 ghost use Rattle.vlt_core.specs.Widths as widths;
 ghost use Rattle.vlt_core.specs.Widths.{greatest, slots_needed};
-ghost use Rattle.vlt_rooms.specs.Sorts.{is_of, counted};
+ghost use Rattle.vlt_rooms.specs.Sorts.{is_of, capped_count};
 
 use crate::parts::{cases_of, fields_in};
 use vlt_base::{TypeId, VALUE_SLOTS, limit};
@@ -78,7 +78,7 @@ fn slots_of(p: &Program, t: &Ty) -> u128
 
 /// The slots of variables, as many as can be counted.
 fn var_slots(p: &Program, vars: &[VarDecl]) -> u128
-    ensures { result ≡ counted (sum_by (λ d. widths.slots_of (program_of p.now) d.ty)
+    ensures { result ≡ capped_count (sum_by (λ d. widths.slots_of (program_of p.now) d.ty)
         (map var_of vars.now)) }
 {
     let mut n: u128 = 0;
@@ -90,7 +90,7 @@ fn var_slots(p: &Program, vars: &[VarDecl]) -> u128
 
 /// The slots of fields, as many as can be counted.
 fn field_slots(p: &Program, fields: &[FieldDecl]) -> u128
-    ensures { result ≡ counted (sum_by (λ d. widths.slots_of (program_of p.now) d.ty)
+    ensures { result ≡ capped_count (sum_by (λ d. widths.slots_of (program_of p.now) d.ty)
         (map field_of fields.now)) }
 {
     let mut n: u128 = 0;
@@ -102,7 +102,7 @@ fn field_slots(p: &Program, fields: &[FieldDecl]) -> u128
 
 /// The slots of the variables and keys of the function that has most of them.
 fn widest_function(p: &Program) -> u128
-    ensures { result ≡ counted (widths.widest_function (program_of p.now)) }
+    ensures { result ≡ capped_count (widths.widest_function (program_of p.now)) }
 {
     let mut most = 0;
     for f in p.fns.as_slice() {
@@ -114,7 +114,7 @@ fn widest_function(p: &Program) -> u128
 
 /// The cells of an object of the type that has most of them.
 fn widest_type(p: &Program) -> u128
-    ensures { result ≡ counted (widths.widest_type (program_of p.now)) }
+    ensures { result ≡ capped_count (widths.widest_type (program_of p.now)) }
 {
     let mut most = 0;
     for t in p.types.as_slice() {

@@ -6,7 +6,7 @@ use Rattle.std.specs.Result.{IsErrAnd}
 use Rattle.std.proofs.lemmas.List.{drop_all}
 use Rattle.vlt_core.specs.Core.{Tok, Entry, CaseKey, CaseDecl, Func, Program}
 use Rattle.vlt_core.specs.Lookups.{VariantOf, case_at, keys_in}
-use Rattle.vlt_core.specs.Maps.{Row, gone}
+use Rattle.vlt_core.specs.Maps.{Row, away_row}
 use Rattle.vlt_core.specs.Rows.{clause_rows, on_option}
 use Rattle.vlt_rows.specs.Pieces.{entry_rows, case_row, case_rows, case_key_rows}
 use Rattle.vlt_rows.specs.declared.sink.RowError.{RowError}
@@ -59,9 +59,9 @@ pub clause_flat : {X : Type 0} (p : Program) (f : Func) (keys : List ℕ) (g : X
 clause_flat p f keys g [] = refl
 clause_flat p f keys g (e ∷ es) = ap (λ l. entry_rows p f keys (g e) ++ l) (clause_flat p f keys g es)
 
-pub gone_flat : {X : Type 0} (g : X → Tok) (ts : List X) → flat_map (λ t. gone (g t) ∷ []) ts ≡ map gone (map g ts)
+pub gone_flat : {X : Type 0} (g : X → Tok) (ts : List X) → flat_map (λ t. away_row (g t) ∷ []) ts ≡ map away_row (map g ts)
 gone_flat g [] = refl
-gone_flat g (t ∷ ts) = ap (λ l. gone (g t) ∷ l) (gone_flat g ts)
+gone_flat g (t ∷ ts) = ap (λ l. away_row (g t) ∷ l) (gone_flat g ts)
 
 -- the rows of the keys that a case lists
 pub case_flat : (opens : Bool) (args : List ℕ) (ks : List CaseKey) → flat_map (case_key_rows args opens) ks ≡ map (case_row opens) (filter_map (λ k. option_map (λ j. record { key = j; states = k.states }) (slice_get args k.position)) ks)

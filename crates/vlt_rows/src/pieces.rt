@@ -3,7 +3,7 @@
 ghost use Rattle.std.specs.Prelude.{◌∷◌, [], map};
 ghost use Rattle.vlt_core.specs.View.{program_of, func_of, tok_of, vars_of};
 ghost use Rattle.vlt_core.specs.HeldView.{row_of, wanted_of, after_of, toks_of};
-ghost use Rattle.vlt_core.specs.Maps.{gone, wants_in, becomes_held};
+ghost use Rattle.vlt_core.specs.Maps.{away_row, wants_in, becomes_held};
 ghost use Rattle.vlt_core.specs.Rows.{row, touch_rows, key_row, end_row, empty_row, fill_rows};
 ghost use Rattle.vlt_rows.specs.Wide.{states_named};
 ghost use Rattle.vlt_rows.specs.Taking.{TookOrStopped};
@@ -187,7 +187,7 @@ pub fn take_fills<S: RowSink>(f: &Func, vs: &[VarId], to: &mut S) -> Result<(), 
 
 /// These tokens are absent.
 pub fn take_gone<S: RowSink>(toks: &[Tok], to: &mut S) -> Result<(), RowError>
-    ensures { TookOrStopped S.takes S.stops (map gone (toks_of toks.now))
+    ensures { TookOrStopped S.takes S.stops (map away_row (toks_of toks.now))
         to.old to.new result }
 {
     for tok in toks {

@@ -7,7 +7,7 @@ use Rattle.vlt_core.specs.Rows.{expr_rows, tokens_of}
 use Rattle.vlt_core.specs.Bodies.{flow_of_block}
 use Rattle.vlt_core.specs.Derives.{toward, DerivesBlock}
 use Rattle.vlt_core.specs.KindedHeads.{has}
-use Rattle.vlt_core.specs.KindedScopes.{Ids, entered, left_behind}
+use Rattle.vlt_core.specs.KindedScopes.{Ids, at_block_start, left_behind}
 use Rattle.vlt_core.specs.KindedOperands.{misfit, type_of_expr, expr_broken, value_broken}
 use Rattle.vlt_core.specs.KindedBodies.{in_loop, list_broken, block_rows, ids_behind_block, ids_behind_stmts}
 use Rattle.vlt_core_laws.specs.Scoped.{is_bound}
@@ -18,7 +18,7 @@ use Rattle.vlt_meaning.specs.Found.{Found}
 use Rattle.vlt_meaning.specs.Values.{value_of, number_of}
 use Rattle.vlt_meaning.specs.Step.{Step, goes, jumps, leaves, ends, with_found, left_block}
 use Rattle.vlt_meaning.specs.Run.{Setup}
-use Rattle.vlt_machine.specs.Machine.{Task, list, closing, turn, Conf, at, when_found, spending, enter_block, turn_on, moved}
+use Rattle.vlt_machine.specs.Machine.{Task, list, closing, turn, Conf, at, when_found, spending, enter_block, turn_on, after_move}
 use Rattle.vlt_sound_worlds.specs.Agrees.{Context, scene, Agrees}
 use Rattle.vlt_sound_worlds.specs.Typed.{IsTyped}
 use Rattle.vlt_sound_worlds.specs.Safe.{Goal, Safe}
@@ -94,14 +94,14 @@ module _ (r : Setup) where
         position = x.position;
         function = x.function;
         site = inner;
-        ids = entered x.ids;
+        ids = at_block_start x.ids;
         map = x.map;
         behind = x.leads.0;
         ended = false;
         here = record { entered = x.here.entered; scoped = entered_scoped x.here.scoped; outer = x.here.outer };
         kinded = x.kinded.rows;
         leads = x.leads.1;
-        agrees = agrees_in (entered x.ids) (λ u e. e) x.agrees;
+        agrees = agrees_in (at_block_start x.ids) (λ u e. e) x.agrees;
         head = x.head;
       })
       (closing bound ∷ ts)
@@ -125,13 +125,13 @@ module _ (r : Setup) where
       (λ v kept w left. record { allowed = left.allowed; returned = left.returned })))
     where
       last : Ids
-      last = ids_behind_stmts r.program f ss (entered x.ids)
+      last = ids_behind_stmts r.program f ss (at_block_start x.ids)
 
       inner : Site
       inner = record x.site { left = x.site.left ++ bound }
 
       grown : Widens x.ids last
-      grown = entered_widens x.ids (stmts_widen r.program f ss (entered x.ids))
+      grown = entered_widens x.ids (stmts_widen r.program f ss (at_block_start x.ids))
 
       owning : AreOwning f bound
       owning = listed_owning f bound (x.extra ++ last.bound) x.kinded.listed
@@ -261,7 +261,7 @@ module _ (r : Setup) (typed : (i : ℕ) (f : Func) → slice_get r.program.fns i
         clash : {place : ℕ} {form : Form} {rest : Stmts} {us : List Task} → turn e b ∷ ts ≡ list (next place form rest) ∷ us → ⊥
         clash q = cc
 
-        by : (a : Step) → Safe (comes_to r.program f body each ids2) a → Good r n (moved r (at f (turn e b ∷ ts) a))
+        by : (a : Step) → Safe (comes_to r.program f body each ids2) a → Good r n (after_move r (at f (turn e b ∷ ts) a))
         by (goes frame w) turned = again frame w (agrees_in x.ids (λ u i. ap (λ vs. has vs u) vars ∙ i) turned)
         by (jumps true frame w) jumped = again frame w jumped.agrees
         by (jumps false frame w) jumped =

@@ -5,7 +5,7 @@ use Rattle.vlt_core.specs.Core.{simple, call, choose, loop, switch, focus, scope
 use Rattle.vlt_core.specs.Kinded.{IsKinded}
 use Rattle.vlt_core.specs.Derives.{IsAccepted}
 use Rattle.vlt_core.specs.Lookups.{is_new}
-use Rattle.vlt_core.specs.Maps.{CanPass, IsBelow, passed}
+use Rattle.vlt_core.specs.Maps.{CanPass, IsBelow, map_after}
 use Rattle.vlt_core.specs.Rows.{on_option, operands_rows, clause_rows, target_rows}
 use Rattle.vlt_core.specs.KindedHeads.{unless, has, when_some, parameters_of, tracked_keys, is_external_parameter, is_declared_result, external_result_broken, external_broken}
 use Rattle.vlt_core.specs.KindedCalls.{call_broken}
@@ -76,7 +76,7 @@ module _ (p : Program) (kinded : IsKinded p) (sizes : HasSizes p) (filled : HasS
         let A = operands_rows p f args in
         let B = clause_rows p f keys g.clause in
         let C = target_rows f target in
-        let all : CanPass (A ++ B ++ C) x.map × IsBelow (passed (A ++ B ++ C) x.map) x.behind = subst (λ o. CanPass (A ++ on_option o (λ g. clause_rows p f keys g.clause) ++ C) x.map × IsBelow (passed (A ++ on_option o (λ g. clause_rows p f keys g.clause) ++ C) x.map) x.behind) at x.leads in
+        let all : CanPass (A ++ B ++ C) x.map × IsBelow (map_after (A ++ B ++ C) x.map) x.behind = subst (λ o. CanPass (A ++ on_option o (λ g. clause_rows p f keys g.clause) ++ C) x.map × IsBelow (map_after (A ++ on_option o (λ g. clause_rows p f keys g.clause) ++ C) x.map) x.behind) at x.leads in
         (pass_split A B x.map (pass_split (A ++ B) C x.map all.0).0).0
 
     names : (values : List Value) (after : Frame) (v : World) → g.external ≡ true → operands_got p f args frame w ≡ got values after v →

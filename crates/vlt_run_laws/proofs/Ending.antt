@@ -5,7 +5,7 @@ use Rattle.vlt_meaning.specs.World.{World, Frame, Outcome}
 use Rattle.vlt_meaning.specs.Step.{goes, ends, left_block}
 use Rattle.vlt_meaning.specs.Calls.{back_in}
 use Rattle.vlt_meaning.specs.Run.{Setup, focus_end}
-use Rattle.vlt_machine.specs.Machine.{Task, list, closing, turn, unfocus, back, at, moved}
+use Rattle.vlt_machine.specs.Machine.{Task, list, closing, turn, unfocus, back, at, after_move}
 use Rattle.vlt_run_laws.proofs.Moves.{Good}
 
 module _ (r : Setup) (o : Outcome) (w : World) where
@@ -17,7 +17,7 @@ module _ (r : Setup) (o : Outcome) (w : World) where
       clash : {frame : Frame} {v : World} → ends o w ≡ goes frame v → ⊥
       clash e = cc
 
-      by : (ts : List Task) → ((g : Func) (us : List Task) → Good r n (at g us (ends o w))) → Good r n (moved r (at f ts (ends o w)))
+      by : (ts : List Task) → ((g : Func) (us : List Task) → Good r n (at g us (ends o w))) → Good r n (after_move r (at f ts (ends o w)))
       by [] again = again f []
       by (list done ∷ us) again = again f us
       by (list (next place form rest) ∷ us) again = again f us

@@ -4,7 +4,7 @@ use Rattle.std.proofs.lemmas.Option.{same_Some, none-some}
 use Rattle.vlt_core.specs.Core.{Ty, call, next, Form, Stmts, Operand, Func, Program}
 use Rattle.vlt_core.specs.Kinded.{IsKinded}
 use Rattle.vlt_core.specs.Derives.{start_map, IsAcceptedFunc, IsAccepted}
-use Rattle.vlt_core.specs.Maps.{IsBelow, Row, CanPass, passed}
+use Rattle.vlt_core.specs.Maps.{IsBelow, Row, CanPass, map_after}
 use Rattle.vlt_core.specs.Rows.{on_option, operands_rows, clause_rows, target_rows}
 use Rattle.vlt_core.specs.KindedBodies.{first_ids, stmts_rows, ids_behind_stmts}
 use Rattle.vlt_core.specs.KindedCalls.{call_broken, call_target_broken, with_call_target}
@@ -21,7 +21,7 @@ use Rattle.vlt_sound_worlds.specs.Typed.{IsTyped}
 use Rattle.vlt_sound_worlds.specs.Safe.{Goal, Safe, goes_to}
 use Rattle.vlt_sound_worlds.proofs.Rows.{pass_split, passed_split}
 use Rattle.vlt_sound_worlds.proofs.Blocks.{agrees_below}
-use Rattle.vlt_sound_worlds.specs.Handed.{handed}
+use Rattle.vlt_sound_worlds.specs.Handed.{handed_values}
 use Rattle.vlt_sound_worlds.proofs.OperandsLaws.{operands_safe}
 use Rattle.vlt_sound_calls.specs.Callee.{IsCall, callee_context}
 use Rattle.vlt_sound_calls.proofs.EnteringLaws.{argument_types, callee_agrees, callee_entered, callee_scoped}
@@ -160,17 +160,17 @@ module _ (r : Setup) (kinded : IsKinded r.program) (accepted : IsAccepted r.prog
     unbroken : call_broken r.program f x.ids (Some g) target keys args ≡ []
     unbroken = subst (λ o. call_broken r.program f x.ids o target keys args ≡ []) known x.kinded.row
 
-    leads : CanPass (operands ++ clause ++ target_rows f target) x.map × IsBelow (passed (operands ++ clause ++ target_rows f target) x.map) x.behind
-    leads = subst (λ o. CanPass (operands ++ on_option o (λ g. clause_rows r.program f keys g.clause) ++ target_rows f target) x.map × IsBelow (passed (operands ++ on_option o (λ g. clause_rows r.program f keys g.clause) ++ target_rows f target) x.map) x.behind) known x.leads
+    leads : CanPass (operands ++ clause ++ target_rows f target) x.map × IsBelow (map_after (operands ++ clause ++ target_rows f target) x.map) x.behind
+    leads = subst (λ o. CanPass (operands ++ on_option o (λ g. clause_rows r.program f keys g.clause) ++ target_rows f target) x.map × IsBelow (map_after (operands ++ on_option o (λ g. clause_rows r.program f keys g.clause) ++ target_rows f target) x.map) x.behind) known x.leads
 
-    same_map : passed (operands ++ clause ++ target_rows f target) x.map ≡ passed (target_rows f target) (passed clause (passed operands x.map))
-    same_map = passed_split (operands ++ clause) (target_rows f target) x.map ∙ ap (passed (target_rows f target)) (passed_split operands clause x.map)
+    same_map : map_after (operands ++ clause ++ target_rows f target) x.map ≡ map_after (target_rows f target) (map_after clause (map_after operands x.map))
+    same_map = passed_split (operands ++ clause) (target_rows f target) x.map ∙ ap (map_after (target_rows f target)) (passed_split operands clause x.map)
 
     abbrev Handing : List Value → Frame → World → Type 0
-    Handing values frame' w' = (length values ≡ length types) × Agrees r.program f x.site.context (passed operands x.map) x.ids (handed types values) frame' w'.objects
+    Handing values frame' w' = (length values ≡ length types) × Agrees r.program f x.site.context (map_after operands x.map) x.ids (handed_values types values) frame' w'.objects
 
     abbrev G : Goal
-    G = goes_to r.program f x.site.context (passed (target_rows f target) (passed clause (passed operands x.map))) (with_call_target f (Some g) target x.ids) []
+    G = goes_to r.program f x.site.context (map_after (target_rows f target) (map_after clause (map_after operands x.map))) (with_call_target f (Some g) target x.ids) []
 
     abbrev C : Goal
     C = comes_to r.program f x.site x.behind (with_call_target f (Some g) target x.ids)
@@ -178,7 +178,7 @@ module _ (r : Setup) (kinded : IsKinded r.program) (accepted : IsAccepted r.prog
     -- the site of the callee's body
     abbrev inner : IsAcceptedFunc r.program g → Frame → Site
     inner body frame' = record {
-      context = callee_context f (passed operands x.map) x.ids frame' x.site.context g keys;
+      context = callee_context f (map_after operands x.map) x.ids frame' x.site.context g keys;
       around = record { jumps = false; returns = true };
       left = [];
       breaks = body.0;
@@ -187,11 +187,11 @@ module _ (r : Setup) (kinded : IsKinded r.program) (accepted : IsAccepted r.prog
     }
 
     enters_body : (values : List Value) (frame' : Frame) (w' : World) → g.external ≡ false → (many : length values ≡ length types) →
-        (now : Agrees r.program f x.site.context (passed operands x.map) x.ids (handed types values) frame' w'.objects) →
+        (now : Agrees r.program f x.site.context (map_after operands x.map) x.ids (handed_values types values) frame' w'.objects) →
         (typed : IsTyped r.program f) (typed_callee : IsTyped r.program g) (head : HasHead r.program g) (fits : IsCall r.program f g x.ids keys) →
         IsFreshCall f x.site.context g x.ids keys → call_target_broken f x.ids g keys target ≡ [] →
-        (pass : CanPass clause (passed operands x.map)) → CanPass (target_rows f target) (passed clause (passed operands x.map)) →
-        IsBelow (passed (target_rows f target) (passed clause (passed operands x.map))) x.behind →
+        (pass : CanPass clause (map_after operands x.map)) → CanPass (target_rows f target) (map_after clause (map_after operands x.map)) →
+        IsBelow (map_after (target_rows f target) (map_after clause (map_after operands x.map))) x.behind →
         Good r n (enter_body r f target keys g values ts frame' w')
     unfolding enter_body
     enters_body values frame' w' internal many now typed typed_callee head fits new broken pass rows below =
@@ -253,11 +253,11 @@ module _ (r : Setup) (kinded : IsKinded r.program) (accepted : IsAccepted r.prog
         (λ values frame' w' ready. any_spend r n f ts w' _
         (by g.external refl values frame' (record w' { fuel = w'.fuel - 1 }) ready.0 ready.1
         (λ e. follows _ (weaker G C _ (λ fr v now. agrees_below below now) (λ c fr v never. absurd never) (λ v kept u never. absurd never)
-        (externals.each f x.site.context (passed operands x.map) x.ids frame' (record w' { fuel = w'.fuel - 1 }) i g keys values target known e typed typed_callee head x.here.entered scoped fits new broken ready.0 ready.1 first.1 rows)))
+        (externals.each f x.site.context (map_after operands x.map) x.ids frame' (record w' { fuel = w'.fuel - 1 }) i g keys values target known e typed typed_callee head x.here.entered scoped fits new broken ready.0 ready.1 first.1 rows)))
         (λ e. enters_body values frame' (record w' { fuel = w'.fuel - 1 }) e ready.0 ready.1 typed typed_callee head fits new broken first.1 rows below))))
       where
         by : (b : Bool) → g.external ≡ b → (values : List Value) (frame' : Frame) (w' : World) → length values ≡ length types →
-            Agrees r.program f x.site.context (passed operands x.map) x.ids (handed types values) frame' w'.objects →
+            Agrees r.program f x.site.context (map_after operands x.map) x.ids (handed_values types values) frame' w'.objects →
             (g.external ≡ true → Good r n (at f ts (call_external r.heap r.program f target keys g values frame' w'))) →
             (g.external ≡ false → Good r n (enter_body r f target keys g values ts frame' w')) →
             Good r n (enter_by b r f target keys g values ts frame' w')

@@ -2,7 +2,7 @@
 use Rattle.std.proofs.Common.{◌≡◌, ℕ, zero, suc, List, [], ◌∷◌, ap}
 use Rattle.vlt_core.specs.Core.{focus, Block, Stmts, next, Form, Func}
 use Rattle.vlt_core.specs.Lookups.{Reference, reference_of, guarded_of}
-use Rattle.vlt_core.specs.Maps.{passed}
+use Rattle.vlt_core.specs.Maps.{map_after}
 use Rattle.vlt_core.specs.KindedBodies.{with_focus}
 use Rattle.vlt_meaning.specs.World.{missing}
 use Rattle.vlt_meaning.specs.Found.{or_fault}
@@ -43,7 +43,7 @@ module _ (r : Setup) (n : ℕ) (all : AllLists r n) (f : Func) (typed : IsTyped 
         function = x.function;
         site = focus_site r f typed keyed q;
         ids = with_focus f z x.ids;
-        map = passed (begin_rows r.program q.fact) x.map;
+        map = map_after (begin_rows r.program q.fact) x.map;
         behind = q.last;
         extra = [];
         here = focus_here r f typed keyed q;

@@ -12,7 +12,7 @@ use Rattle.vlt_core.specs.KindedBodies.{row_broken, form_rows, stmts_rows, ids_b
 use Rattle.vlt_meaning.specs.World.{Value, World, Frame, Outcome}
 use Rattle.vlt_meaning.specs.Step.{Step, goes, jumps, leaves, ends}
 use Rattle.vlt_meaning.specs.Run.{Setup}
-use Rattle.vlt_machine.specs.Machine.{Task, list, Conf, at, act, moved, moves}
+use Rattle.vlt_machine.specs.Machine.{Task, list, Conf, at, act, after_move, moves}
 use Rattle.vlt_machine.specs.Reached.{IsBefore}
 use Rattle.vlt_sound_worlds.specs.Agrees.{Agrees}
 use Rattle.vlt_sound_worlds.specs.Safe.{Goal, Safe}
@@ -34,7 +34,7 @@ Tells r c = (form : Form) (frame : Frame) (w : World) → IsBefore c form frame 
 -- so it is for so many moves
 abbrev pub Good : Setup → ℕ → Conf → Type 0
 Good r zero c = Unit {0}
-Good r (suc n) c = Tells r c × Good r n (moved r c)
+Good r (suc n) c = Tells r c × Good r n (after_move r c)
 
 -- from where a step comes to that is safe
 abbrev pub Follows : Setup → ℕ → Func → List Task → Goal → Type 0
@@ -74,11 +74,11 @@ GoodForm r n f form = (frame : Frame) (w : World) (x : IsKnown r.program f form 
 
 pub tells_all : (r : Setup) (c : Conf) → ((n : ℕ) → Good r n c) → (m : ℕ) → Tells r (moves r m c)
 tells_all r c good zero = (good 1).0
-tells_all r c good (suc m) = tells_all r (moved r c) (λ n. (good (suc n)).1) m
+tells_all r c good (suc m) = tells_all r (after_move r c) (λ n. (good (suc n)).1) m
 
 pub fewer : (r : Setup) (n : ℕ) (c : Conf) → Good r (suc n) c → Good r n c
 fewer r zero c good = tt
-fewer r (suc n) c good = (good.0, fewer r n (moved r c) good.1)
+fewer r (suc n) c good = (good.0, fewer r n (after_move r c) good.1)
 
 pub lists_now : (r : Setup) (n : ℕ) → AllLists r n → GoodLists r n
 lists_now r zero all = all
@@ -94,7 +94,7 @@ module _ (r : Setup) (f : Func) (ss : Stmts) (ts : List Task) where
       clash : {frame' : Frame} {w' : World} → jumps b frame w ≡ goes frame' w' → ⊥
       clash e = cc
 
-      over : (ss : Stmts) → Good r n (moved r (at f (list ss ∷ ts) (jumps b frame w)))
+      over : (ss : Stmts) → Good r n (after_move r (at f (list ss ∷ ts) (jumps b frame w)))
       over done = fewer r n _ good
       over (next at form rest) = fewer r n _ good
 
@@ -106,7 +106,7 @@ module _ (r : Setup) (f : Func) (ss : Stmts) (ts : List Task) where
       clash : {frame' : Frame} {w' : World} → leaves a kept w ≡ goes frame' w' → ⊥
       clash e = cc
 
-      over : (ss : Stmts) → Good r n (moved r (at f (list ss ∷ ts) (leaves a kept w)))
+      over : (ss : Stmts) → Good r n (after_move r (at f (list ss ∷ ts) (leaves a kept w)))
       over done = fewer r n _ good
       over (next at form rest) = fewer r n _ good
 
@@ -117,7 +117,7 @@ module _ (r : Setup) (f : Func) (ss : Stmts) (ts : List Task) where
       clash : {frame' : Frame} {w' : World} → ends o w ≡ goes frame' w' → ⊥
       clash e = cc
 
-      over : (ss : Stmts) → Good r n (moved r (at f (list ss ∷ ts) (ends o w)))
+      over : (ss : Stmts) → Good r n (after_move r (at f (list ss ∷ ts) (ends o w)))
       over done = fewer r n _ good
       over (next at form rest) = fewer r n _ good
 

@@ -21,7 +21,7 @@ use Rattle.vlt_sound_worlds.specs.Agrees.{FitHanded, Context, Agrees}
 use Rattle.vlt_sound_worlds.specs.Typed.{IsTyped}
 use Rattle.vlt_sound_worlds.specs.Safe.{Goal, Safe}
 use Rattle.vlt_sound_worlds.proofs.Empty.{both_empty, unless_so}
-use Rattle.vlt_sound_worlds.specs.Handed.{handed}
+use Rattle.vlt_sound_worlds.specs.Handed.{handed_values}
 use Rattle.vlt_sound_worlds.proofs.OperandsLaws.{operands_safe}
 
 -- ---- keys
@@ -90,7 +90,7 @@ single_first p s names keys (variant t args) a rest e fits more = cc
 single_first p s names keys (owning_variant t args) a rest e fits more = cc
 
 single_all : (p : Program) (s : Scene) (names : Names) (keys : List ℕ) (tys : List Ty) (values : List Value) → bare_broken tys ≡ [] →
-    length values ≡ length (map (with_keys keys) tys) → FitHanded p s names (handed (map (with_keys keys) tys) values) →
+    length values ≡ length (map (with_keys keys) tys) → FitHanded p s names (handed_values (map (with_keys keys) tys) values) →
     all_single values ≡ true
 single_all p s names keys tys [] e long fit = refl
 single_all p s names keys [] (a ∷ rest) e long fit = cc

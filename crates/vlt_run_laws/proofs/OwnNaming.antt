@@ -5,7 +5,7 @@ use Rattle.std.specs.List.{flat_map, enumerate_from}
 use Rattle.vlt_core.specs.Core as core
 use Rattle.vlt_core.specs.Core.{Ty, Operand, Simple, set, input, print, put, make, become, release, drop, own, unpack, build, swap, open_into, adopt, Func, Program}
 use Rattle.vlt_core.specs.KindedHeads.{Rules, unless, has}
-use Rattle.vlt_core.specs.KindedScopes.{Ids, Around, entered, left_behind, with_binding, with_var, own_key, use_broken, binding_broken, target_broken}
+use Rattle.vlt_core.specs.KindedScopes.{Ids, Around, at_block_start, left_behind, with_binding, with_var, own_key, use_broken, binding_broken, target_broken}
 use Rattle.vlt_core.specs.KindedOperands.{misfit}
 use Rattle.vlt_core.specs.KindedStatements.{opened_broken, simple_broken}
 use Rattle.vlt_core.specs.KindedCalls.{is_fresh_call, keys_fit, result_broken_by, call_target_broken, target_alone_broken, call_broken}
@@ -127,7 +127,7 @@ module _ (p : Program) (f : Func) where
       own_form (core.jump continues) around ids e rows = tt
 
       own_block : (b : core.Block) (around : Around) (ids : Ids) → EachEmpty (block_rows p f around ids b) → IsOwnBlock p f b
-      own_block (core.block ss bound end) around ids rows = own_stmts ss around (entered ids) false rows
+      own_block (core.block ss bound end) around ids rows = own_stmts ss around (at_block_start ids) false rows
 
       pub own_stmts : (ss : core.Stmts) (around : Around) (ids : Ids) (ended : Bool) → EachEmpty (stmts_rows p f around ids ended ss) → AreOwn p f ss
       own_stmts core.done around ids ended rows = tt

@@ -3,13 +3,13 @@ use Rattle.std.proofs.Common.{◌≡◌, ℕ, ◌==◌, Bool, true, false, if◌
 use Rattle.std.proofs.lemmas.Option.{same_Some, none-some}
 use Rattle.vlt_core.specs.Core.{switch, Arms, no_arms, arm, Func}
 use Rattle.vlt_core.specs.Lookups.{variant_of}
-use Rattle.vlt_core.specs.Maps.{passed}
+use Rattle.vlt_core.specs.Maps.{map_after}
 use Rattle.vlt_core.specs.Rows.{arm_rows}
 use Rattle.vlt_core.specs.KindedBodies.{switch_broken, arms_broken, owning_toks, with_vars, ids_behind_arms}
 use Rattle.vlt_meaning.specs.World.{World, Frame, one, missing}
 use Rattle.vlt_meaning.specs.Found.{or_fault}
 use Rattle.vlt_meaning.specs.Step.{goes}
-use Rattle.vlt_meaning.specs.Operands.{Case, case_in, emptied}
+use Rattle.vlt_meaning.specs.Operands.{Case, case_in, with_empty_variable}
 use Rattle.vlt_meaning.specs.Run.{Setup}
 use Rattle.vlt_machine.specs.Got.{opened_got, filled_got}
 use Rattle.vlt_machine.specs.Machine.{Task, when_got, enter_block, enter_arm}
@@ -78,7 +78,7 @@ module _ (r : Setup) (n : ℕ) (all : AllLists r n) (f : Func) (typed : IsTyped 
       let body : Arm = record { vs = a.vs; body = a.body } in
       let opens = in_world (IsOpen p f typed keyed cased q) in
       let inner = with_vars f a.vs a.scope in
-      let inside = passed (arm_rows p f v c.number a.vs) (passed (emptying f v) x.map) in
+      let inside = map_after (arm_rows p f v c.number a.vs) (map_after (emptying f v) x.map) in
       let G = comes_to p f x.site x.behind (ids_behind_arms p f arms x.ids) in
       known_found r n (or_fault missing (variant_of f v)) (switched_type p f typed keyed cased q) (ap (or_fault missing) (type_is p f typed keyed cased q)) f ts w _
       (known_found r n (case_in (frame.vars v)) c (case_is p f typed keyed cased q) f ts w _
@@ -87,9 +87,9 @@ module _ (r : Setup) (n : ℕ) (all : AllLists r n) (f : Func) (typed : IsTyped 
       (case_opens p f typed keyed cased q opens (λ w'. goes frame w') (λ w' now. now))) f ts _
       (λ u fr w' now.
       let fills = in_frame (λ frame'. Agrees p f x.site.context inside inner [] frame' w'.objects) in
-      subst (Good r n) (sym (arm_entered f c arms body ts (emptied f v frame) w' a.is))
-      (given_good r n fills (filled_got f a.vs (map one c.parts) (emptied f v frame) w') (λ u fr same. goes fr w')
-      (subst (Safe fills) (filled_step f a.vs (map one c.parts) (emptied f v frame) w' (λ fr. goes fr w'))
+      subst (Good r n) (sym (arm_entered f c arms body ts (with_empty_variable f v frame) w' a.is))
+      (given_good r n fills (filled_got f a.vs (map one c.parts) (with_empty_variable f v frame) w') (λ u fr same. goes fr w')
+      (subst (Safe fills) (filled_step f a.vs (map one c.parts) (with_empty_variable f v frame) w' (λ fr. goes fr w'))
       (arm_fills p f typed keyed cased q w' now fills (λ fr. goes fr w') (λ frame' begun. begun))) f ts _
       (λ u frame' same begun.
       block_good r n (lists_now r n all) f a.body frame' w'

@@ -11,7 +11,7 @@ use Rattle.vlt_core.specs.declared.rules.TheConstants as rule
 use Rattle.vlt_core.specs.Kinded.{IsKinded}
 use Rattle.vlt_core_laws.specs.States.{HasStates}
 use Rattle.vlt_sound_worlds.specs.Members.{In}
-use Rattle.vlt_sound_worlds.specs.Fits.{joined, header_type}
+use Rattle.vlt_sound_worlds.specs.Fits.{option_join, header_type}
 use Rattle.vlt_sound_worlds.specs.Typed.{IsLimited}
 use Rattle.vlt_sound_worlds.proofs.Empty.{both_empty, unless_so}
 use Rattle.vlt_sound_statements.specs.Kinded.{BreakNone}
@@ -154,7 +154,7 @@ module _ (p : Program) (kinded : IsKinded p) where
           (u : ℕ) × (header_type p t k.position ≡ Some u)
       by None at e = cc
       by (Some None) at e = cc
-      by (Some (Some u)) at e = (u, ap joined at)
+      by (Some (Some u)) at e = (u, ap option_join at)
 
   -- ---- states
 

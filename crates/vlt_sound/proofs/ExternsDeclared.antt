@@ -8,7 +8,7 @@ use Rattle.vlt_core.specs.Types.{decl_of, lies_within, is_struct, is_abstract, i
 use Rattle.vlt_core.specs.KindedHeads.{Rules, unless, when_some, are_apart, states_broken, part_broken, header_broken, is_payload_type, case_key_broken, shape_broken}
 use Rattle.vlt_core.specs.declared.rules.TheConstants as rule
 use Rattle.vlt_core.specs.Kinded.{IsKinded}
-use Rattle.vlt_sound_worlds.specs.Fits.{joined, header_type}
+use Rattle.vlt_sound_worlds.specs.Fits.{option_join, header_type}
 use Rattle.vlt_sound_worlds.specs.Limited.{IsNarrow}
 use Rattle.vlt_sound_worlds.proofs.Empty.{both_empty, unless_so, within_is}
 use Rattle.vlt_sound.proofs.Rows.{flat_at, type_kinded}
@@ -100,7 +100,7 @@ module _ (p : Program) (kinded : IsKinded p) where
           let d' = header_there (header_of p t) k.position u (header_row t c d is) at in
           record {
             of = u;
-            header = ap joined at;
+            header = ap option_join at;
             states = subst (λ o. when_some o (λ d. states_broken p u k.states) ≡ []) d'.1 e;
           }
 
@@ -113,4 +113,4 @@ argument_there p t args i u count is = ⊎_elim
     (slice_get_cases args i).1
   where
     none : length args ≤ i → header_type p t i ≡ None
-    none le = ap joined (slice_get_past (header_of p t) i (subst (λ n. n ≤ i) count le))
+    none le = ap option_join (slice_get_past (header_of p t) i (subst (λ n. n ≤ i) count le))

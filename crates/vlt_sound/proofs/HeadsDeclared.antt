@@ -9,7 +9,7 @@ use Rattle.vlt_core.specs.KindedHeads.{unless, when_some, part_broken, states_br
 use Rattle.vlt_core.specs.Kinded.{IsKinded}
 use Rattle.vlt_core.specs.declared.rules.TheConstants as rule
 use Rattle.vlt_sound_worlds.specs.Members.{In}
-use Rattle.vlt_sound_worlds.specs.Fits.{joined, header_type}
+use Rattle.vlt_sound_worlds.specs.Fits.{option_join, header_type}
 use Rattle.vlt_sound_worlds.proofs.Empty.{both_empty, unless_so}
 use Rattle.vlt_sound.proofs.Decls.{field_row, field_kinded, part_keys}
 use Rattle.vlt_sound.specs.Fields.{HasFields}
@@ -68,4 +68,4 @@ has_fields p kinded = record {
     by t k w lt (Some None) at e = let q = rw at at e in cc
     by t k w lt (Some (Some u)) at e =
         let q = rw at at e in
-        ap joined at ∙ ap Some (sym (eqb-true w u (unless_so (w == u) rule.KEY_ARGUMENT q)))
+        ap option_join at ∙ ap Some (sym (eqb-true w u (unless_so (w == u) rule.KEY_ARGUMENT q)))

@@ -14,7 +14,7 @@ use Rattle.vlt_core.specs.declared.rules.TheConstants as rule
 use Rattle.vlt_core.specs.KindedScopes.{Ids, use_broken}
 use Rattle.vlt_core.specs.KindedOperands.{misfit, object_in, field_decl, field_type_in, field_type, unless_owning, given_by, type_of_expr, expr_broken, touch_broken, not_owning_broken, fits_owning, move_broken, pack_broken, operand_broken, operands_broken}
 use Rattle.vlt_sound_worlds.specs.Members.{In}
-use Rattle.vlt_sound_worlds.specs.Fits.{joined, header_type}
+use Rattle.vlt_sound_worlds.specs.Fits.{option_join, header_type}
 use Rattle.vlt_sound_worlds.specs.Typed.{IsTyped}
 use Rattle.vlt_sound_worlds.proofs.Empty.{both_empty, both_so}
 use Rattle.vlt_sound_worlds.proofs.Plain.{keys_same}
@@ -114,7 +114,7 @@ module _ (p : Program) (f : Func) (typed : IsTyped p f) (fields : HasFields p) w
       in_header : (t q w : ℕ) → header_type p t q ≡ Some w → q < length (header_of p t)
       in_header t q w e = ⊎_elim
           (λ at. at.1)
-          (λ past. absurd (none-some w (sym (ap joined past.1) ∙ e)))
+          (λ past. absurd (none-some w (sym (ap option_join past.1) ∙ e)))
           (slice_get_cases (header_of p t) q).1
 
       arg : (q : Ty) → d.ty ≡ q → (u j k w : ℕ) → type_in (with_keys args d.ty) ≡ Some u →
@@ -258,7 +258,7 @@ module _ (p : Program) (f : Func) (typed : IsTyped p f) (fields : HasFields p) w
         let q = arg_of args (header_of p t) x i in
         h.arg t q.at (stands_for keys x.key) x.type type
         (ap (λ ks. slice_get ks q.at) same ∙ (slice_get-map (stands_for keys) args q.at ∙ ap (option_map (stands_for keys)) q.key))
-        (ap joined q.type)
+        (ap option_join q.type)
 
     split : (xs ys : List Typing) (x : Typing) → Among x (xs ++ ys) → Among x xs ⊎ Among x ys
     split [] ys x i = inr i

@@ -9,7 +9,7 @@ use Rattle.vlt_core.specs.KindedHeads.{Rules, unless, when_some, shape_broken, t
 use Rattle.vlt_core.specs.KindedStatements.{variant_args}
 use Rattle.vlt_core.specs.declared.rules.TheConstants as rule
 use Rattle.vlt_sound_worlds.specs.Members.{In}
-use Rattle.vlt_sound_worlds.specs.Fits.{joined, header_type}
+use Rattle.vlt_sound_worlds.specs.Fits.{option_join, header_type}
 use Rattle.vlt_sound_worlds.specs.Typed.{IsDeclared}
 use Rattle.vlt_sound_worlds.proofs.Empty.{both_empty, both_so, unless_so}
 use Rattle.vlt_sound_worlds.proofs.Expressions.{not_so}
@@ -46,7 +46,7 @@ pub record TyKinded (p : Program) (key_broken : ℕ → Rules) (arg_broken : (ke
   pub args : (t i k u : ℕ) → type_in ty ≡ Some t → slice_get (args_of ty) i ≡ Some k → header_type p t i ≡ Some u →
       arg_broken k u ≡ []
 
-joined_some : (o : Option (Option ℕ)) (u : ℕ) → joined o ≡ Some u → o ≡ Some (Some u)
+joined_some : (o : Option (Option ℕ)) (u : ℕ) → option_join o ≡ Some u → o ≡ Some (Some u)
 joined_some None u e = absurd (none-some u e)
 joined_some (Some None) u e = absurd (none-some u e)
 joined_some (Some (Some t)) u e = ap (λ t. Some t) e

@@ -14,7 +14,7 @@ use Rattle.vlt_meaning.specs.World.{Value, World, is_fault, depth_end}
 use Rattle.vlt_meaning.specs.World as world
 use Rattle.vlt_meaning.specs.Step.{Step, goes, jumps, leaves, ends}
 use Rattle.vlt_meaning.specs.Clean.{IsClean}
-use Rattle.vlt_meaning.specs.Run.{Setup, first_frame, start, ran, ended, main_run}
+use Rattle.vlt_meaning.specs.Run.{Setup, first_frame, start, ran, ran_of, main_run}
 use Rattle.vlt_core_laws.specs.States.{HasStates}
 use Rattle.vlt_core_laws.proofs.Unbroken.{EachEmpty, each_left, each_right, each_of_first, left_empty, right_empty, unless_holds}
 use Rattle.vlt_sound_worlds.specs.Agrees.{Agrees}
@@ -147,23 +147,23 @@ module _ (p : Program) (kinded : IsKinded p) (accepted : IsAccepted p) (sizes : 
       (main_entered p f m) (main_scoped p f m)
       (subst (λ os. Agrees p f (main_context f) (start_map p f) (first_ids p f) [] (first_frame 1) os) (sym empty) (main_agrees p f m))
 
-  no_fault : (f : Func) (step : Step) → Safe (returns_to p f (main_context f)) step → is_fault (ended step).outcome ≡ false
+  no_fault : (f : Func) (step : Step) → Safe (returns_to p f (main_context f)) step → is_fault (ran_of step).outcome ≡ false
   no_fault f (goes fr u) safe = absurd safe
   no_fault f (jumps b fr u) safe = absurd safe
   no_fault f (leaves a ns u) safe = refl
   no_fault f (ends o u) safe = safe
 
-  pub never : is_fault (ended (if depth == 0 then ends depth_end w else main_run setup fuel (slice_get p.fns p.main) w)).outcome ≡ false
+  pub never : is_fault (ran_of (if depth == 0 then ends depth_end w else main_run setup fuel (slice_get p.fns p.main) w)).outcome ≡ false
   never = by (depth == 0)
     where
-      run_safe : (o : Option Func) → slice_get p.fns p.main ≡ o → is_fault (ended (main_run setup fuel o w)).outcome ≡ false
+      run_safe : (o : Option Func) → slice_get p.fns p.main ≡ o → is_fault (ran_of (main_run setup fuel o w)).outcome ≡ false
       run_safe None at = let there = main_there p kinded in absurd (no_main (rw at at there))
         where
           no_main : false ≡ true → ⊥
           no_main e = cc
       run_safe (Some f) at = no_fault f (main_run setup fuel (Some f) w) (main_safe f at)
 
-      by : (b : Bool) → is_fault (ended (if b then ends depth_end w else main_run setup fuel (slice_get p.fns p.main) w)).outcome ≡ false
+      by : (b : Bool) → is_fault (ran_of (if b then ends depth_end w else main_run setup fuel (slice_get p.fns p.main) w)).outcome ≡ false
       by true = refl
       by false = run_safe (slice_get p.fns p.main) refl
 

@@ -5,7 +5,7 @@ use Rattle.std.proofs.lemmas.Option.{same_Some}
 use Rattle.vlt_core.specs.Core.{States, Ty, tracked, a_key, a_var, Mode, kept, taken, given, fresh, Entry, Func, Program}
 use Rattle.vlt_core.specs.Lookups.{is_owning_var, key_type, states_or_all, states_of_type, is_before, is_after, is_held_before, is_held_after, is_new}
 use Rattle.vlt_core.specs.Types.{keys_of_ty, stands_for, with_keys}
-use Rattle.vlt_core.specs.Maps.{Status, absent, held, lent, full, kind_of, is_absent, HeldMap, IsWanted, wants_absent, becomes_held, becomes_absent, changed, CanPass, passed}
+use Rattle.vlt_core.specs.Maps.{Status, absent, held, lent, full, kind_of, is_absent, HeldMap, IsWanted, wants_absent, becomes_held, becomes_absent, status_after, CanPass, map_after}
 use Rattle.vlt_core.specs.Rows.{held_in, entry_wanted, entry_after, clause_rows}
 use Rattle.vlt_core.specs.KindedHeads.{has, new_keys, keys_of_parameters, keys_of_result}
 use Rattle.vlt_core.specs.KindedScopes.{Ids}
@@ -93,7 +93,7 @@ module _ {p : Program} {f : Func} {c : Context} {h : HeldMap} {ids : Ids} {hand 
       record { depth = frame.depth; vars = frame.vars; keys = (with_names (bindings keys (entries_after g) ns) frame).keys }
 
   abbrev pub back_map : HeldMap
-  back_map = passed (clause_rows p f keys g.clause) h
+  back_map = map_after (clause_rows p f keys g.clause) h
 
   abbrev last : Scene
   last = scene c w.objects left.agrees.heads
@@ -287,14 +287,14 @@ module _ {p : Program} {f : Func} {c : Context} {h : HeldMap} {ids : Ids} {hand 
   held_status : (e : Entry) → Among e es → back_map (a_key (caller_key keys e)) ≡ held (states_or_all p f (caller_key keys e) e.after)
   held_status e i =
       clause_here p f keys g.clause call.entries call.callers h e (in_clause e i) ∙
-      ap (λ b. changed (if b then becomes_held (states_or_all p f (caller_key keys e) e.after) else becomes_absent) (h (a_key (caller_key keys e)))) (held_after e i)
+      ap (λ b. status_after (if b then becomes_held (states_or_all p f (caller_key keys e) e.after) else becomes_absent) (h (a_key (caller_key keys e)))) (held_after e i)
 
   other_status : (k : ℕ) → ((e : Entry) → Among e es → caller_key keys e ≡ k → ⊥) →
       back_map (a_key k) ≡ without keys g.clause h (a_key k)
   other_status k none = ⊎_elim
       (λ s. subst (λ k. back_map (a_key k) ≡ without keys g.clause h (a_key k)) s.is
       (clause_here p f keys g.clause call.entries call.callers h s.entry s.among ∙
-      (ap (λ b. changed (if b then becomes_held (states_or_all p f (caller_key keys s.entry) s.entry.after) else becomes_absent) (h (a_key (caller_key keys s.entry)))) (not_after s.entry s.among s.is)
+      (ap (λ b. status_after (if b then becomes_held (states_or_all p f (caller_key keys s.entry) s.entry.after) else becomes_absent) (h (a_key (caller_key keys s.entry)))) (not_after s.entry s.among s.is)
       ∙ sym (without_here keys g.clause h s.entry s.among s.passes))))
       (λ off.
       clause_other p f keys g.clause call.entries h (a_key k) (λ e i same.

@@ -5,7 +5,7 @@ use Rattle.std.proofs.lemmas.List.{length-map, length-take-le}
 use Rattle.std.specs.List.{flat_map}
 use Rattle.vlt_core.specs.Core.{Tok, Operand, call, Func, Program}
 use Rattle.vlt_core.specs.Types.{with_keys}
-use Rattle.vlt_core.specs.Maps.{HeldMap, Row, CanPass, passed}
+use Rattle.vlt_core.specs.Maps.{HeldMap, Row, CanPass, map_after}
 use Rattle.vlt_core.specs.Rows.{on_option, operands_rows, clause_rows, target_rows, rows_of}
 use Rattle.vlt_core.specs.KindedHeads.{unless, parameters_of}
 use Rattle.vlt_core.specs.KindedScopes.{Ids}
@@ -26,7 +26,7 @@ use Rattle.vlt_sound_worlds.proofs.Rows.{pass_split, passed_split}
 use Rattle.vlt_sound_worlds.proofs.FrameChanges.{agrees_map}
 use Rattle.vlt_sound_worlds.proofs.Empty.{both_empty}
 use Rattle.vlt_sound_worlds.specs.Scoped.{IsScoped}
-use Rattle.vlt_sound_worlds.specs.Handed.{handed}
+use Rattle.vlt_sound_worlds.specs.Handed.{handed_values}
 use Rattle.vlt_sound_worlds.proofs.OperandsLaws.{operands_safe}
 use Rattle.vlt_sound_calls.specs.Returned.{IsEntered, Returned, returns_to, CalleesAreSafe}
 use Rattle.vlt_sound_calls.specs.Heads.{HasHead}
@@ -62,22 +62,22 @@ spend_safe G w go safe = by (w.fuel == 0)
 
 module _ (r : Setup) (rest_of : Meaning) (callees : CalleesAreSafe r rest_of) {f : Func} {c : Context} {h : HeldMap} {ids : Ids} {frame : Frame} (w : World)
     (i : ℕ) (g : Func) (known : slice_get r.program.fns i ≡ Some g) (body : g.external ≡ false) (keys : List ℕ)
-    (values : List Value) (agrees : Agrees r.program f c h ids (handed (argument_types g keys) values) frame w.objects)
+    (values : List Value) (agrees : Agrees r.program f c h ids (handed_values (argument_types g keys) values) frame w.objects)
     (long : length values ≡ length (argument_types g keys)) (fits : IsCall r.program f g ids keys)
     (new : IsFreshCall f c g ids keys)
     (typed : IsTyped r.program f) (typed_callee : IsTyped r.program g) (head : HasHead r.program g)
     (entered : IsEntered r.program f c) (scoped : IsScoped f c ids)
     (pass : CanPass (clause_rows r.program f keys g.clause) h) where
   abbrev behind : HeldMap
-  behind = passed (clause_rows r.program f keys g.clause) h
+  behind = map_after (clause_rows r.program f keys g.clause) h
 
   pub body_safe : (target : Option ℕ) → call_target_broken f ids g keys target ≡ [] → CanPass (target_rows f target) behind →
-      Safe (goes_to r.program f c (passed (target_rows f target) behind) (with_call_target f (Some g) target ids) [])
+      Safe (goes_to r.program f c (map_after (target_rows f target) behind) (with_call_target f (Some g) target ids) [])
       (call_body r rest_of f target keys g values frame w)
   unfolding call_body
   body_safe target broken rows = by (nat_lt frame.depth r.depth)
     where
-      run : Safe (goes_to r.program f c (passed (target_rows f target) behind) (with_call_target f (Some g) target ids) [])
+      run : Safe (goes_to r.program f c (map_after (target_rows f target) behind) (with_call_target f (Some g) target ids) [])
           (with_found (passed_objects r.program g keys frame w.objects g.clause) w (λ ns.
           back_in f target keys g frame
           (rest_of g g.body (callee_frame g keys values frame) (with_objects w (handed_over keys frame g.clause w.objects)))))
@@ -85,9 +85,9 @@ module _ (r : Setup) (rest_of : Meaning) (callees : CalleesAreSafe r rest_of) {f
           let ok =
           all_passed keys frame w.objects r.program g g.clause (holds agrees g keys fits typed.limited entered.flat pass)
           (λ e j b x. (passes_states agrees g keys fits typed.limited entered.flat pass e j b x).0) in
-          found_safe (goes_to r.program f c (passed (target_rows f target) behind) (with_call_target f (Some g) target ids) [])
+          found_safe (goes_to r.program f c (map_after (target_rows f target) behind) (with_call_target f (Some g) target ids) [])
           (passed_objects r.program g keys frame w.objects g.clause) ok.0 w _ ok.1
-          (back_safe (goes_to r.program f c (passed (target_rows f target) behind) (with_call_target f (Some g) target ids) [])
+          (back_safe (goes_to r.program f c (map_after (target_rows f target) behind) (with_call_target f (Some g) target ids) [])
           r.program f target keys g (callee_context f h ids frame c g keys) frame _
           (callees.each i g (callee_context f h ids frame c g keys) (callee_frame g keys values frame)
           (with_objects w (handed_over keys frame g.clause w.objects)) known body
@@ -97,7 +97,7 @@ module _ (r : Setup) (rest_of : Meaning) (callees : CalleesAreSafe r rest_of) {f
           (λ a ns w2 left.
           deliver_safe w agrees g keys fits new head typed entered scoped pass w2 left target broken rows))
 
-      by : (b : Bool) → Safe (goes_to r.program f c (passed (target_rows f target) behind) (with_call_target f (Some g) target ids) [])
+      by : (b : Bool) → Safe (goes_to r.program f c (map_after (target_rows f target) behind) (with_call_target f (Some g) target ids) [])
           (if b then with_found (passed_objects r.program g keys frame w.objects g.clause) w (λ ns.
           back_in f target keys g frame
           (rest_of g g.body (callee_frame g keys values frame) (with_objects w (handed_over keys frame g.clause w.objects))))
@@ -114,7 +114,7 @@ module _ (r : Setup) (rest_of : Meaning) (callees : CalleesAreSafe r rest_of) (f
   call_known : (i : ℕ) (g : Func) → slice_get r.program.fns i ≡ Some g → (target : Option ℕ) (keys : List ℕ) (args : List Operand) →
       call_broken r.program f ids (Some g) target keys args ≡ [] →
       CanPass (operands_rows r.program f args ++ clause_rows r.program f keys g.clause ++ target_rows f target) h →
-      Safe (goes_to r.program f c (passed (operands_rows r.program f args ++ clause_rows r.program f keys g.clause ++ target_rows f target) h)
+      Safe (goes_to r.program f c (map_after (operands_rows r.program f args ++ clause_rows r.program f keys g.clause ++ target_rows f target) h)
       (with_call_target f (Some g) target ids) [])
       (where_so (length args == g.params) missing None w (λ w.
       with_operands r.program f args frame w (λ values frame w.
@@ -131,11 +131,11 @@ module _ (r : Setup) (rest_of : Meaning) (callees : CalleesAreSafe r rest_of) (f
       let clause = clause_rows r.program f keys g.clause in
       let last = pass_split (operands ++ clause) (target_rows f target) h rows in
       let first = pass_split operands clause h last.0 in
-      let same_map : passed (operands ++ clause ++ target_rows f target) h ≡
-      passed (target_rows f target) (passed clause (passed operands h)) =
+      let same_map : map_after (operands ++ clause ++ target_rows f target) h ≡
+      map_after (target_rows f target) (map_after clause (map_after operands h)) =
       passed_split (operands ++ clause) (target_rows f target) h ∙
-      ap (passed (target_rows f target)) (passed_split operands clause h) in
-      let target_pass : CanPass (target_rows f target) (passed clause (passed operands h)) =
+      ap (map_after (target_rows f target)) (passed_split operands clause h) in
+      let target_pass : CanPass (target_rows f target) (map_after clause (map_after operands h)) =
       subst (CanPass (target_rows f target)) (passed_split operands clause h) last.1 in
       let count : (length args == g.params) ≡ true =
       eq-eqb (length args) g.params (long ∙ (length-map (parameters_of g) (with_keys keys) ∙ params_long g head)) in
@@ -143,13 +143,13 @@ module _ (r : Setup) (rest_of : Meaning) (callees : CalleesAreSafe r rest_of) (f
       (where_so (length args == g.params) missing None w (λ w.
       with_operands r.program f args frame w (λ values frame w.
       spend w (λ w. call_by g.external r rest_of f target keys g values frame w))))) (sym same_map)
-      (so_safe (goes_to r.program f c (passed (target_rows f target) (passed clause (passed operands h))) (with_call_target f (Some g) target ids) [])
+      (so_safe (goes_to r.program f c (map_after (target_rows f target) (map_after clause (map_after operands h))) (with_call_target f (Some g) target ids) [])
       (length args == g.params) missing None w _ count
       (operands_safe typed args (argument_types g keys) h [] frame w agrees
-      (goes_to r.program f c (passed (target_rows f target) (passed clause (passed operands h))) (with_call_target f (Some g) target ids) [])
+      (goes_to r.program f c (map_after (target_rows f target) (map_after clause (map_after operands h))) (with_call_target f (Some g) target ids) [])
       _ long (args_fit target keys args head typed scoped meet broken) first.0
       (λ values frame' w2 many next.
-      spend_safe (goes_to r.program f c (passed (target_rows f target) (passed clause (passed operands h))) (with_call_target f (Some g) target ids) [])
+      spend_safe (goes_to r.program f c (map_after (target_rows f target) (map_after clause (map_after operands h))) (with_call_target f (Some g) target ids) [])
       w2 _
       (by g.external refl values frame' (record w2 { fuel = w2.fuel - 1 }) i g known head typed_callee fits new
       (target_fit target keys args head typed scoped meet broken) many next first.1 target_pass))))
@@ -163,20 +163,20 @@ module _ (r : Setup) (rest_of : Meaning) (callees : CalleesAreSafe r rest_of) (f
           slice_get r.program.fns i ≡ Some g → HasHead r.program g → IsTyped r.program g → IsCall r.program f g ids keys →
           IsFreshCall f c g ids keys → call_target_broken f ids g keys target ≡ [] →
           length values ≡ length (argument_types g keys) →
-          Agrees r.program f c (passed (operands_rows r.program f args) h) ids (handed (argument_types g keys) values) frame' w2.objects →
-          CanPass (clause_rows r.program f keys g.clause) (passed (operands_rows r.program f args) h) →
-          CanPass (target_rows f target) (passed (clause_rows r.program f keys g.clause) (passed (operands_rows r.program f args) h)) →
-          Safe (goes_to r.program f c (passed (target_rows f target) (passed (clause_rows r.program f keys g.clause) (passed (operands_rows r.program f args) h))) (with_call_target f (Some g) target ids) [])
+          Agrees r.program f c (map_after (operands_rows r.program f args) h) ids (handed_values (argument_types g keys) values) frame' w2.objects →
+          CanPass (clause_rows r.program f keys g.clause) (map_after (operands_rows r.program f args) h) →
+          CanPass (target_rows f target) (map_after (clause_rows r.program f keys g.clause) (map_after (operands_rows r.program f args) h)) →
+          Safe (goes_to r.program f c (map_after (target_rows f target) (map_after (clause_rows r.program f keys g.clause) (map_after (operands_rows r.program f args) h))) (with_call_target f (Some g) target ids) [])
           (call_by b r rest_of f target keys g values frame' w2)
       by true e values frame' w2 i g' known head typed_callee fits new broken many next pass rows =
-          externals.each f c (passed (operands_rows r.program f args) h) ids frame' w2 i g keys values target known e typed typed_callee head entered scoped fits new broken many next pass rows
+          externals.each f c (map_after (operands_rows r.program f args) h) ids frame' w2 i g keys values target known e typed typed_callee head entered scoped fits new broken many next pass rows
       by false e values frame' w2 i g' known head typed_callee fits new broken many next pass rows =
           body_safe r rest_of callees w2 i g known e keys values next many fits new typed typed_callee head entered scoped pass target broken rows
 
   pub call_safe : (left : List Tok) (i : ℕ) (target : Option ℕ) (keys : List ℕ) (args : List Operand) →
       call_broken r.program f ids (slice_get r.program.fns i) target keys args ≡ [] →
       CanPass (rows_of r.program f left (call i target keys args)) h →
-      Safe (goes_to r.program f c (passed (rows_of r.program f left (call i target keys args)) h)
+      Safe (goes_to r.program f c (map_after (rows_of r.program f left (call i target keys args)) h)
       (with_call_target f (slice_get r.program.fns i) target ids) [])
       (does_form r rest_of f (call i target keys args) frame w)
   unfolding with_found
@@ -184,7 +184,7 @@ module _ (r : Setup) (rest_of : Meaning) (callees : CalleesAreSafe r rest_of) (f
     where
       by : (o : Option Func) → slice_get r.program.fns i ≡ o → call_broken r.program f ids o target keys args ≡ [] →
           CanPass (operands_rows r.program f args ++ on_option o (λ g. clause_rows r.program f keys g.clause) ++ target_rows f target) h →
-          Safe (goes_to r.program f c (passed (operands_rows r.program f args ++ on_option o (λ g. clause_rows r.program f keys g.clause) ++ target_rows f target) h)
+          Safe (goes_to r.program f c (map_after (operands_rows r.program f args ++ on_option o (λ g. clause_rows r.program f keys g.clause) ++ target_rows f target) h)
           (with_call_target f o target ids) [])
           (with_found (or_fault missing o) w (λ g.
           where_so (length args == g.params) missing None w (λ w.

@@ -17,7 +17,7 @@ use Rattle.vlt_meaning.specs.Externals.{objects_of_keys, keys_of_case, case_obje
 use Rattle.vlt_sound_worlds.specs.Look.{look}
 use Rattle.vlt_sound_worlds.specs.Members.{In}
 use Rattle.vlt_sound_worlds.specs.Scene.{Scene}
-use Rattle.vlt_sound_worlds.specs.Fits.{Names, names_of, joined, FitKeys, IsCase, Fits}
+use Rattle.vlt_sound_worlds.specs.Fits.{Names, names_of, option_join, FitKeys, IsCase, Fits}
 use Rattle.vlt_sound_worlds.specs.Agrees.{Context, scene, Agrees}
 use Rattle.vlt_sound_worlds.specs.Safe.{Goal, Safe}
 use Rattle.vlt_sound_worlds.proofs.Safe.{found_safe}
@@ -66,7 +66,7 @@ module _ (p : Program) (g : Func) (keys : List ℕ) (frame : Frame) (os : List O
       here : IsForKey p case_names os t k n.number
       here = record {
         named =
-            ap joined (slice_get-map frame.keys (map (stands_for keys) args) k.position ∙
+            ap option_join (slice_get-map frame.keys (map (stands_for keys) args) k.position ∙
             ap (option_map frame.keys) (slice_get-map (stands_for keys) args k.position ∙ ap (option_map (stands_for keys)) q.is)) ∙
             n.named;
         of = q.of;

@@ -3,7 +3,7 @@ use Rattle.std.proofs.Common.{◌≡◌, ◌⊎◌, inl, inr, ⊎_elim, ℕ, Boo
 use Rattle.std.proofs.lemmas.Bool.{cases_Bool, eq-eqb}
 use Rattle.vlt_core.specs.Core.{Tok, a_key, a_var, Entry, Func, Program}
 use Rattle.vlt_core.specs.Lookups.{is_held_before}
-use Rattle.vlt_core.specs.Maps.{Status, absent, HeldMap, IsWanted, changed, row_passed, CanPass, passed, is_tok}
+use Rattle.vlt_core.specs.Maps.{Status, absent, HeldMap, IsWanted, status_after, row_passed, CanPass, map_after, is_tok}
 use Rattle.vlt_core.specs.Rows.{on_option, entry_row, entry_wanted, entry_after, clause_rows}
 use Rattle.vlt_sound_worlds.proofs.Empty.{both_so}
 use Rattle.vlt_sound_worlds.proofs.Rows.{row_here, row_other, tok_is}
@@ -41,29 +41,29 @@ module _ (p : Program) (f : Func) (keys : List ℕ) where
 
   -- a token that is no entry's keeps its status
   pub clause_other : (es : List Entry) → AreThere keys es → (h : HeldMap) (t : Tok) →
-      ((e : Entry) → Among e es → t ≡ a_key (caller_key keys e) → ⊥) → passed (clause_rows p f keys es) h t ≡ h t
+      ((e : Entry) → Among e es → t ≡ a_key (caller_key keys e) → ⊥) → map_after (clause_rows p f keys es) h t ≡ h t
   clause_other [] there h t none = refl
   clause_other (x ∷ es) there h t none =
-      ap (λ rs. passed rs h t) (rows_first x es there) ∙
+      ap (λ rs. map_after rs h t) (rows_first x es there) ∙
       (clause_other es (λ d j. there d (inr j)) (row_passed (entry_row p f (caller_key keys x) x) h) t (λ e i. none e (inr i)) ∙
       row_other (entry_row p f (caller_key keys x) x) h t (none x (inl refl)))
 
   -- an entry's own key has the status that the entry says
   pub clause_here : (es : List Entry) → AreThere keys es → AreApartBy (caller_key keys) es → (h : HeldMap) (e : Entry) →
       Among e es →
-      passed (clause_rows p f keys es) h (a_key (caller_key keys e)) ≡
-      changed (entry_after p f (caller_key keys e) e) (h (a_key (caller_key keys e)))
+      map_after (clause_rows p f keys es) h (a_key (caller_key keys e)) ≡
+      status_after (entry_after p f (caller_key keys e) e) (h (a_key (caller_key keys e)))
   clause_here [] there apart h e i = absurd i
   clause_here (x ∷ es) there apart h e (inl same) =
-      ap (λ rs. passed rs h (a_key (caller_key keys e))) (rows_first x es there) ∙
+      ap (λ rs. map_after rs h (a_key (caller_key keys e))) (rows_first x es there) ∙
       (clause_other es (λ d j. there d (inr j)) (row_passed (entry_row p f (caller_key keys x) x) h) (a_key (caller_key keys e))
       (λ d j is. other_key x es apart d j (sym is ∙ ap (λ d. a_key (caller_key keys d)) same)) ∙
-      subst (λ d. row_passed (entry_row p f (caller_key keys x) x) h (a_key (caller_key keys d)) ≡ changed (entry_after p f (caller_key keys d) d) (h (a_key (caller_key keys d))))
+      subst (λ d. row_passed (entry_row p f (caller_key keys x) x) h (a_key (caller_key keys d)) ≡ status_after (entry_after p f (caller_key keys d) d) (h (a_key (caller_key keys d))))
       (sym same) (row_here (entry_row p f (caller_key keys x) x) h))
   clause_here (x ∷ es) there apart h e (inr rest) =
-      ap (λ rs. passed rs h (a_key (caller_key keys e))) (rows_first x es there) ∙
+      ap (λ rs. map_after rs h (a_key (caller_key keys e))) (rows_first x es there) ∙
       (clause_here es (λ d j. there d (inr j)) apart.1 (row_passed (entry_row p f (caller_key keys x) x) h) e rest ∙
-      ap (changed (entry_after p f (caller_key keys e) e))
+      ap (status_after (entry_after p f (caller_key keys e) e))
       (row_other (entry_row p f (caller_key keys x) x) h (a_key (caller_key keys e)) (other_key x es apart e rest)))
 
 -- ---- the map of a caller that waits

@@ -5,7 +5,7 @@ use Rattle.std.proofs.lemmas.Option.{slice_get_within}
 use Rattle.vlt_core.specs.Core.{Ty, int, bool, tracked, owning, guarded, variant, owning_variant, a_var, Func, Program}
 use Rattle.vlt_core.specs.Lookups.{var_type, is_owning, is_owning_var, owns}
 use Rattle.vlt_core.specs.Types.{same_ty, stands_for, with_keys}
-use Rattle.vlt_core.specs.Maps.{HeldMap, wants_absent, becomes_full, CanPass, passed}
+use Rattle.vlt_core.specs.Maps.{HeldMap, wants_absent, becomes_full, CanPass, map_after}
 use Rattle.vlt_core.specs.Rows.{row, fill_rows, target_rows}
 use Rattle.vlt_core.specs.KindedHeads.{when_some, keys_of_result}
 use Rattle.vlt_core.specs.declared.rules.TheConstants as rule
@@ -94,30 +94,30 @@ module _ (p : Program) (f : Func) (c : Context) (h : HeldMap) (ids : Ids) (frame
   to_target : (v : ℕ) (wt t : Ty) (ids' : Ids) → g.result ≡ Some wt → (b : Value) → a ≡ Some b → Has wt b → var_type f v ≡ Some t →
       same_ty (with_keys keys wt) t ≡ true → ((u : ℕ) → InScope ids' u → (u ≡ v) ⊎ InScope ids u) →
       CanPass (fill_rows f (v ∷ [])) h →
-      Safe (goes_to p f c (passed (fill_rows f (v ∷ [])) h) ids' []) (deliver f (Some v) a frame w)
+      Safe (goes_to p f c (map_after (fill_rows f (v ∷ [])) h) ids' []) (deliver f (Some v) a frame w)
   unfolding deliver fill
   to_target v wt t ids' result b at now is same scope rows =
-      found_safe (goes_to p f c (passed (fill_rows f (v ∷ [])) h) ids' []) (or_fault no_value a) b w _
+      found_safe (goes_to p f c (map_after (fill_rows f (v ∷ [])) h) ids' []) (or_fault no_value a) b w _
       (ap (or_fault no_value) at) (⊎_elim owning plain (cases_Bool (is_owning t)))
     where
-      plain : is_owning t ≡ false → Safe (goes_to p f c (passed (fill_rows f (v ∷ [])) h) ids' []) (fill f v b frame w)
+      plain : is_owning t ≡ false → Safe (goes_to p f c (map_after (fill_rows f (v ∷ [])) h) ids' []) (fill f v b frame w)
       plain off =
           let owner : is_owning_var f v ≡ false = ap owns is ∙ off in
           let type : with_keys keys wt ≡ t = same_plain (with_keys keys wt) t off same in
           let empty : objects_in b ≡ [] = plain_owns wt b result now (ap is_owning type ∙ off) in
           let after = let_be (record { value = b; type = with_keys keys wt }) now empty in
           let no_rows : fill_rows f (v ∷ []) ≡ [] = rw owner refl in
-          subst (λ rs. Safe (goes_to p f c (passed rs h) ids' []) (fill f v b frame w)) (sym no_rows)
+          subst (λ rs. Safe (goes_to p f c (map_after rs h) ids' []) (fill f v b frame w)) (sym no_rows)
           (so_safe (goes_to p f c h ids' []) (is_fillable f v frame) not_empty None w _
           (ap (λ o. not (o && is_some (frame.vars v))) owner)
           (agrees_set after.0 v t b ids' is off empty (subst (λ q. Fits p (scene c w.objects after.0.heads) frame.keys q b) type after.1) scope))
 
-      owning : is_owning t ≡ true → Safe (goes_to p f c (passed (fill_rows f (v ∷ [])) h) ids' []) (fill f v b frame w)
+      owning : is_owning t ≡ true → Safe (goes_to p f c (map_after (fill_rows f (v ∷ [])) h) ids' []) (fill f v b frame w)
       owning on =
           let owner : is_owning_var f v ≡ true = ap owns is ∙ on in
           let own = same_owning (with_keys keys wt) t on same in
           let fills : fill_rows f (v ∷ []) ≡ row (a_var v) wants_absent becomes_full ∷ [] = rw owner refl in
-          subst (λ rs. Safe (goes_to p f c (passed rs h) ids' []) (fill f v b frame w)) (sym fills)
+          subst (λ rs. Safe (goes_to p f c (map_after rs h) ids' []) (fill f v b frame w)) (sym fills)
           (fill_safe p f typed.limited w now v t ids' is on own (same_fits (with_keys keys wt) t own same)
           (subst (λ rs. CanPass rs h) fills rows).0 scope)
 
@@ -139,7 +139,7 @@ module _ (p : Program) (f : Func) (c : Context) (h : HeldMap) (ids : Ids) (frame
 
   pub delivered : (target : Option ℕ) → call_target_broken f ids g keys target ≡ [] → CanPass (target_rows f target) h →
       IsGiven p f c h ids frame w.objects keys g.result a →
-      Safe (goes_to p f c (passed (target_rows f target) h) (with_call_target f (Some g) target ids) [])
+      Safe (goes_to p f c (map_after (target_rows f target) h) (with_call_target f (Some g) target ids) [])
       (deliver f target a frame w)
   unfolding deliver
   delivered None broken rows given =
@@ -165,7 +165,7 @@ module _ (p : Program) (f : Func) (c : Context) (h : HeldMap) (ids : Ids) (frame
 
       by : (o : Option Ty) → g.result ≡ o → (t : Ty) → var_type f v ≡ Some t → result_broken_by g keys g.result (Some t) ≡ [] →
           IsGiven p f c h ids frame w.objects keys o a →
-          Safe (goes_to p f c (passed (target_rows f (Some v)) h) (with_call_target f (Some g) (Some v) ids) [])
+          Safe (goes_to p f c (map_after (target_rows f (Some v)) h) (with_call_target f (Some g) (Some v) ids) [])
           (deliver f (Some v) a frame w)
       by None result t is e given = let q = subst (λ o. result_broken_by g keys o (Some t) ≡ []) result e in absurd (none q)
         where

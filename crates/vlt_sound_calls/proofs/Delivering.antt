@@ -6,7 +6,7 @@ use Rattle.std.proofs.lemmas.Option.{slice_get_within, same_Some}
 use Rattle.vlt_core.specs.Core.{Ty, variant, a_var, Func, Program}
 use Rattle.vlt_core.specs.Lookups.{var_type, is_owning, is_owning_var, owns, is_held_after}
 use Rattle.vlt_core.specs.Types.{is_owning_type, same_ty, keys_of_ty, stands_for, with_keys}
-use Rattle.vlt_core.specs.Maps.{kind_of, is_absent, HeldMap, wants_absent, becomes_full, row_passed, CanPass, passed}
+use Rattle.vlt_core.specs.Maps.{kind_of, is_absent, HeldMap, wants_absent, becomes_full, row_passed, CanPass, map_after}
 use Rattle.vlt_core.specs.Rows.{row, clause_rows, fill_rows, target_rows}
 use Rattle.vlt_core.specs.KindedHeads.{has, unless, when_some, new_keys, keys_of_parameters, keys_of_result}
 use Rattle.vlt_core.specs.declared.rules.TheConstants as rule
@@ -148,15 +148,15 @@ module _ {p : Program} {f : Func} {c : Context} {h : HeldMap} {ids : Ids} {hand 
   to_target : (v : ℕ) (w t : Ty) (ids' : Ids) → g.result ≡ Some w → var_type f v ≡ Some t →
       same_ty (with_keys keys w) t ≡ true → ((u : ℕ) → InScope ids' u → (u ≡ v) ⊎ InScope ids u) →
       CanPass (fill_rows f (v ∷ [])) map' →
-      Safe (goes_to p f c (passed (fill_rows f (v ∷ [])) map') ids' []) (deliver f (Some v) a frame' w')
+      Safe (goes_to p f c (map_after (fill_rows f (v ∷ [])) map') ids' []) (deliver f (Some v) a frame' w')
   unfolding deliver fill
   to_target v wt t ids' result is same scope rows =
       let b = given wt result in
-      found_safe (goes_to p f c (passed (fill_rows f (v ∷ [])) map') ids' []) (or_fault no_value a) b.value w' _
+      found_safe (goes_to p f c (map_after (fill_rows f (v ∷ [])) map') ids' []) (or_fault no_value a) b.value w' _
       (ap (or_fault no_value) b.is) (⊎_elim (owning b) (plain b) (cases_Bool (is_owning t)))
     where
       plain : (b : Given wt) → is_owning t ≡ false →
-          Safe (goes_to p f c (passed (fill_rows f (v ∷ [])) map') ids' []) (fill f v b.value frame' w')
+          Safe (goes_to p f c (map_after (fill_rows f (v ∷ [])) map') ids' []) (fill f v b.value frame' w')
       plain b off =
           let owner : is_owning_var f v ≡ false = ap owns is ∙ off in
           let type : with_keys keys wt ≡ t = same_plain (with_keys keys wt) t off same in
@@ -165,19 +165,19 @@ module _ {p : Program} {f : Func} {c : Context} {h : HeldMap} {ids : Ids} {hand 
           let empty : objects_in b.value ≡ [] = sym (ap owned_by b.is) ∙ none in
           let now = dropped (record { value = b.value; type = with_keys keys wt }) (with_result wt b) empty in
           let no_rows : fill_rows f (v ∷ []) ≡ [] = rw owner refl in
-          subst (λ rs. Safe (goes_to p f c (passed rs map') ids' []) (fill f v b.value frame' w')) (sym no_rows)
+          subst (λ rs. Safe (goes_to p f c (map_after rs map') ids' []) (fill f v b.value frame' w')) (sym no_rows)
           (so_safe (goes_to p f c map' ids' []) (is_fillable f v frame') not_empty None w' _
           (ap (λ o. not (o && is_some (frame'.vars v))) owner)
           (agrees_set now.0 v t b.value ids' is off empty (subst (λ q. Fits p (scene c w'.objects now.0.heads) frame'.keys q b.value) type now.1) scope))
 
       owning : (b : Given wt) → is_owning t ≡ true →
-          Safe (goes_to p f c (passed (fill_rows f (v ∷ [])) map') ids' []) (fill f v b.value frame' w')
+          Safe (goes_to p f c (map_after (fill_rows f (v ∷ [])) map') ids' []) (fill f v b.value frame' w')
       owning b on =
           let owner : is_owning_var f v ≡ true = ap owns is ∙ on in
           let own = same_owning (with_keys keys wt) t on same in
           let fills : fill_rows f (v ∷ []) ≡ row (a_var v) wants_absent becomes_full ∷ [] = rw owner refl in
           let now = with_result wt b in
-          subst (λ rs. Safe (goes_to p f c (passed rs map') ids' []) (fill f v b.value frame' w')) (sym fills)
+          subst (λ rs. Safe (goes_to p f c (map_after rs map') ids' []) (fill f v b.value frame' w')) (sym fills)
           (fill_safe p f typed.limited w' now v t ids' is on own (same_fits (with_keys keys wt) t own same)
           (subst (λ rs. CanPass rs map') fills rows).0 scope)
 
@@ -191,7 +191,7 @@ module _ {p : Program} {f : Func} {c : Context} {h : HeldMap} {ids : Ids} {hand 
       (head.result k i)
 
   deliver_here : (target : Option ℕ) → call_target_broken f ids g keys target ≡ [] → CanPass (target_rows f target) map' →
-      Safe (goes_to p f c (passed (target_rows f target) map') (with_call_target f (Some g) target ids) [])
+      Safe (goes_to p f c (map_after (target_rows f target) map') (with_call_target f (Some g) target ids) [])
       (deliver f target a frame' w')
   unfolding deliver
   deliver_here None broken rows =
@@ -216,7 +216,7 @@ module _ {p : Program} {f : Func} {c : Context} {h : HeldMap} {ids : Ids} {hand 
       scope false u e = target_scope f v ids u e
 
       by : (o : Option Ty) → g.result ≡ o → (t : Ty) → var_type f v ≡ Some t → result_broken_by g keys g.result (Some t) ≡ [] →
-          Safe (goes_to p f c (passed (target_rows f (Some v)) map') (with_call_target f (Some g) (Some v) ids) [])
+          Safe (goes_to p f c (map_after (target_rows f (Some v)) map') (with_call_target f (Some g) (Some v) ids) [])
           (deliver f (Some v) a frame' w')
       by None result t is e = let q = subst (λ o. result_broken_by g keys o (Some t) ≡ []) result e in absurd (none q)
         where
@@ -230,17 +230,17 @@ module _ {p : Program} {f : Func} {c : Context} {h : HeldMap} {ids : Ids} {hand 
           (scope (is_fresh_call g)) rows
 
   pub deliver_safe : (target : Option ℕ) → call_target_broken f ids g keys target ≡ [] → CanPass (target_rows f target) map' →
-      Safe (goes_to p f c (passed (target_rows f target) map') (with_call_target f (Some g) target ids) [])
+      Safe (goes_to p f c (map_after (target_rows f target) map') (with_call_target f (Some g) target ids) [])
       (deliver f target a (with_names (back_names agrees g keys call new head typed entered scoped pass left) frame) w')
   deliver_safe target broken rows =
-      subst (λ fr. Safe (goes_to p f c (passed (target_rows f target) map') (with_call_target f (Some g) target ids) [])
+      subst (λ fr. Safe (goes_to p f c (map_after (target_rows f target) map') (with_call_target f (Some g) target ids) [])
       (deliver f target a fr w'))
       (sym (names_frame (back_names agrees g keys call new head typed entered scoped pass left) frame))
       (deliver_here target broken rows)
 
   -- where a callee's body has left
   pub left_safe : (target : Option ℕ) → call_target_broken f ids g keys target ≡ [] → CanPass (target_rows f target) map' →
-      Safe (goes_to p f c (passed (target_rows f target) map') (with_call_target f (Some g) target ids) [])
+      Safe (goes_to p f c (map_after (target_rows f target) map') (with_call_target f (Some g) target ids) [])
       (back_in f target keys g frame (leaves a ns w))
   unfolding back_in
   left_safe target broken rows = deliver_safe target broken rows

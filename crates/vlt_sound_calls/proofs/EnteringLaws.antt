@@ -30,7 +30,7 @@ use Rattle.vlt_sound_worlds.proofs.Kept.{vars_kept, handed_kept, waits_kept}
 use Rattle.vlt_sound_worlds.proofs.TypeFacts.{var_known}
 use Rattle.vlt_sound_worlds.specs.Scoped.{IsScoped}
 use Rattle.vlt_sound_worlds.proofs.Starting.{has_left, has_right, start_scoped}
-use Rattle.vlt_sound_worlds.specs.Handed.{handed}
+use Rattle.vlt_sound_worlds.specs.Handed.{handed_values}
 use Rattle.vlt_sound_calls.specs.Returned.{IsEntered}
 use Rattle.vlt_sound_calls.specs.Heads.{HasHead}
 use Rattle.vlt_sound_calls.specs.Callee.{IsParamKey, IsCall, without, with_waiting, callee_context}
@@ -44,7 +44,7 @@ abbrev pub argument_types : Func → List ℕ → List Ty
 argument_types g keys = map (with_keys keys) (parameters_of g)
 
 module _ {p : Program} {f : Func} {c : Context} {h : HeldMap} {ids : Ids} {frame : Frame} {os : List Object} (g : Func) (keys : List ℕ)
-    (values : List Value) (agrees : Agrees p f c h ids (handed (argument_types g keys) values) frame os)
+    (values : List Value) (agrees : Agrees p f c h ids (handed_values (argument_types g keys) values) frame os)
     (long : length values ≡ length (argument_types g keys)) (call : IsCall p f g ids keys)
     (typed : IsTyped p f) (typed_callee : IsTyped p g) (head : HasHead p g)
     (entered : IsEntered p f c) (scoped : IsScoped f c ids) (pass : CanPass (clause_rows p f keys g.clause) h) where
@@ -190,7 +190,7 @@ module _ {p : Program} {f : Func} {c : Context} {h : HeldMap} {ids : Ids} {frame
       values_fill (λ d. (with_waiting frame.depth waits_now c.waiting d).frame.vars) (look over) (owner_of (look over)) values []
       (subst (λ ns. IsPlaced (content (record { vars = slice_get []; hand = ns; waits = λ d. (with_waiting frame.depth waits_now c.waiting d).frame.vars; objects = look over })) home (owner_of (look over)))
       (handed_objects (argument_types g keys) values long)
-      (vars_wait frame.vars (values_of (handed (argument_types g keys) values)) frame.depth waits_now c.waiting (look over) (owner_of (look over)) refl
+      (vars_wait frame.vars (values_of (handed_values (argument_types g keys) values)) frame.depth waits_now c.waiting (look over) (owner_of (look over)) refl
       (λ v. let depth = depth_is in entered.free frame.depth v (omega arith))
       (rekeyed_placed agrees over same_length rekeyed)))
 

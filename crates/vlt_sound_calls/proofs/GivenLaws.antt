@@ -8,7 +8,7 @@ use Rattle.vlt_core.specs.KindedScopes.{Ids}
 use Rattle.vlt_meaning.specs.World.{Owner, out, is_out, Object, Frame, Reason, missing, not_owned}
 use Rattle.vlt_meaning.specs.World as world
 use Rattle.vlt_meaning.specs.Found.{Found, ◌>>=◌, or_fault, Named, if_so}
-use Rattle.vlt_meaning.specs.Objects.{named_in, object_at, owned_at, with_owner, changed, moved}
+use Rattle.vlt_meaning.specs.Objects.{named_in, object_at, owned_at, with_owner, with_changed_object, objects_after_move}
 use Rattle.vlt_meaning.specs.Externals.{is_given, come_back}
 use Rattle.vlt_sound_worlds.specs.Look.{look}
 use Rattle.vlt_sound_worlds.proofs.Look.{look_is}
@@ -64,11 +64,11 @@ out_is world.gone e = cc
 record CameBack (os back : List Object) (q : Owner) (n : ℕ) : Type 0 where
   was : (look os n).owner ≡ out
   within : n < length os
-  is : back ≡ changed n (with_owner q) os
+  is : back ≡ with_changed_object n (with_owner q) os
 
-one_back : (q : Owner) (n : ℕ) (os back : List Object) → moved is_out q (n ∷ []) os ≡ Ok back → CameBack os back q n
+one_back : (q : Owner) (n : ℕ) (os back : List Object) → objects_after_move is_out q (n ∷ []) os ≡ Ok back → CameBack os back q n
 one_back q n os back e =
-    let own = found_then (owned_at is_out os n) (λ m. Ok (changed n (with_owner q) os)) back e in
+    let own = found_then (owned_at is_out os n) (λ m. Ok (with_changed_object n (with_owner q) os)) back e in
     let at = found_then (object_at os n) (λ m. if_so (is_out m.object.owner) not_owned m) own.first own.was in
     let there = was_named n (slice_get os n) at.first at.was in
     record {
@@ -76,12 +76,12 @@ one_back q n os back e =
           ap (λ o. o.owner) (look_is os n at.first.object there) ∙
           out_is at.first.object.owner (was_so (is_out at.first.object.owner) not_owned at.first own.first at.rest);
       within = slice_get_within os n at.first.object there;
-      is = sym (same_ok (changed n (with_owner q) os) back own.rest);
+      is = sym (same_ok (with_changed_object n (with_owner q) os) back own.rest);
     }
 
 -- what an entry that is given does, where this key stands for its own, and those behind it
 abbrev turn : (keys : List ℕ) → Frame → List Entry → List Object → (k : ℕ) → Found (List Object)
-turn keys frame es os k = or_fault missing (frame.keys k) >>= λ n. moved is_out (world.held frame.depth k) (n ∷ []) os >>=
+turn keys frame es os k = or_fault missing (frame.keys k) >>= λ n. objects_after_move is_out (world.held frame.depth k) (n ∷ []) os >>=
     λ now. come_back keys frame es now
 
 -- ---- one entry after another
@@ -153,7 +153,7 @@ module _ (p : Program) (f : Func) (typed : IsTyped p f) {c : Context} {ids : Ids
           let turned : turn keys frame es os (caller_key keys x) ≡ Ok back = subst (λ k. turn keys frame es os k ≡ Ok back) is_key key.rest in
           let name = found_then (or_fault missing (frame.keys (caller_key keys x))) _ back turned in
           let here =
-          found_then (moved is_out (world.held frame.depth (caller_key keys x)) (name.first ∷ []) os)
+          found_then (objects_after_move is_out (world.held frame.depth (caller_key keys x)) (name.first ∷ []) os)
           (λ now. come_back keys frame es now) back name.rest in
           more (row_passed (back_row keys x) h) here.first back
           (one_given x here.first name.first agrees first_of given

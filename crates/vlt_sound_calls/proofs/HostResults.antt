@@ -6,14 +6,14 @@ use Rattle.std.specs.List.{zip}
 use Rattle.vlt_core.specs.Core.{States, Ty, int, bool, tracked, owning, guarded, variant, owning_variant, Mode, kept, taken, given, fresh, Entry, Func, Program}
 use Rattle.vlt_core.specs.Lookups.{VariantOf, key_type, variant_in, is_before, is_after, is_fresh, is_held_after, is_new, states_of_type, states_or_all}
 use Rattle.vlt_core.specs.Types.{stands_for}
-use Rattle.vlt_core.specs.Maps.{HeldMap, CanPass, passed}
+use Rattle.vlt_core.specs.Maps.{HeldMap, CanPass, map_after}
 use Rattle.vlt_core.specs.Rows.{clause_rows, target_rows}
 use Rattle.vlt_core.specs.KindedHeads.{has, parameters_of, keys_of_parameters, tracked_keys}
 use Rattle.vlt_core.specs.KindedScopes.{Ids}
 use Rattle.vlt_core.specs.KindedCalls.{call_target_broken, with_call_target}
 use Rattle.vlt_meaning.specs.World.{Value, Object, World, Frame, is_out, loose}
 use Rattle.vlt_meaning.specs.Found.{Found}
-use Rattle.vlt_meaning.specs.Objects.{moved}
+use Rattle.vlt_meaning.specs.Objects.{objects_after_move}
 use Rattle.vlt_meaning.specs.Step.{with_found, with_objects, deliver}
 use Rattle.vlt_meaning.specs.Calls.{entries_after}
 use Rattle.vlt_meaning.specs.HostAnswers.{Piece, plain, new_in, Result, nothing, piece, case_with}
@@ -49,7 +49,7 @@ use Rattle.vlt_sound_calls.specs.TakenOver.{AreTakenOver, NamesObject}
 use Rattle.vlt_sound_calls.proofs.TakenOver.{same_ok, taken_over, over_all}
 use Rattle.vlt_sound_calls.proofs.Cases.{case_safe}
 use Rattle.vlt_sound_calls.proofs.References.{reference_safe}
-use Rattle.vlt_sound_calls.specs.HostAnswers.{sent, answered, AreNamed, AnswersAreSafe}
+use Rattle.vlt_sound_calls.specs.HostAnswers.{map_after_sending, answer_step, AreNamed, AnswersAreSafe}
 use Rattle.vlt_sound_calls.proofs.Maps.{back, now, given_away, told_at, same_map, new_absent, new_held}
 use Rattle.vlt_sound_calls.proofs.Fitting.{IsFitted, fitted}
 use Rattle.vlt_sound_calls.proofs.News.{in_has, among_at, own_in, same_key, same_args, none_new, IsNew, one_new}
@@ -69,14 +69,14 @@ module _ (p : Program) (heap : ℕ) (f : Func) (c : Context) (h : HeldMap) (ids 
     (g : Func) (keys : List ℕ) (numbers : List ℤ) (target : Option ℕ) (host : HasHostHead p g)
     (typed : IsTyped p f) (head : HasHead p g) (entered : IsEntered p f c) (scoped : IsScoped f c ids)
     (call : IsCall p f g ids keys) (new : IsFreshCall f c g ids keys) (broken : call_target_broken f ids g keys target ≡ [])
-    (agrees : Agrees p f c (sent g keys h) ids [] frame w.objects) (named : AreNamed g keys frame)
+    (agrees : Agrees p f c (map_after_sending g keys h) ids [] frame w.objects) (named : AreNamed g keys frame)
     (pass : CanPass (clause_rows p f keys g.clause) h)
-    (rows : CanPass (target_rows f target) (passed (clause_rows p f keys g.clause) h)) where
+    (rows : CanPass (target_rows f target) (map_after (clause_rows p f keys g.clause) h)) where
   abbrev after_call : HeldMap
-  after_call = passed (clause_rows p f keys g.clause) h
+  after_call = map_after (clause_rows p f keys g.clause) h
 
   abbrev goal : Goal
-  goal = goes_to p f c (passed (target_rows f target) after_call) (with_call_target f (Some g) target ids) []
+  goal = goes_to p f c (map_after (target_rows f target) after_call) (with_call_target f (Some g) target ids) []
 
   -- ---- keys
 
@@ -99,7 +99,7 @@ module _ (p : Program) (heap : ℕ) (f : Func) (c : Context) (h : HeldMap) (ids 
 
   -- ---- keys that come back, and their states
 
-  givable : AreGivable ids keys g.clause (sent g keys h)
+  givable : AreGivable ids keys g.clause (map_after_sending g keys h)
   givable = record {
     there = call.entries;
     apart = call.callers;
@@ -164,7 +164,7 @@ module _ (p : Program) (heap : ℕ) (f : Func) (c : Context) (h : HeldMap) (ids 
     agrees_now =
         agrees_told p f g c ids [] frame keys (entries_after g) q.answer.states said.states fit.back
         (back p f g keys call.entries call.callers h pass) tellable
-        (agrees_came p f typed entered scoped keys g.clause (sent g keys h) w.objects fit.back agrees givable fit.came)
+        (agrees_came p f typed entered scoped keys g.clause (map_after_sending g keys h) w.objects fit.back agrees givable fit.came)
 
     -- where no new key is
     agrees_behind : ((e : Entry) → Among e g.clause → is_new e ≡ true → ⊥) → Agrees p f c after_call ids [] frame os1
@@ -179,7 +179,7 @@ module _ (p : Program) (heap : ℕ) (f : Func) (c : Context) (h : HeldMap) (ids 
     objects_same r is none =
         ap (λ ns. with_states (zip ns (case_states q.answer.result)) (with_states es_states q.objects)) empty ∙
         ap (with_states es_states)
-        (sym (same_ok fit.back q.objects (subst (λ ns. moved is_out loose ns fit.back ≡ Ok q.objects) empty fit.moves)))
+        (sym (same_ok fit.back q.objects (subst (λ ns. objects_after_move is_out loose ns fit.back ≡ Ok q.objects) empty fit.moves)))
       where
         empty : case_objects p g keys frame q.answer.result ≡ []
         empty = ap (case_objects p g keys frame) is ∙ ap (objects_of_keys keys frame) none
@@ -325,7 +325,7 @@ module _ (p : Program) (heap : ℕ) (f : Func) (c : Context) (h : HeldMap) (ids 
         (with_states es_states q.objects)
         (over_all (case_objects p g keys frame (case_with case ss ps)) es_states fit.back q.objects
         (taken_over (case_objects p g keys frame (case_with case ss ps)) fit.back q.objects
-        (subst (λ r. moved is_out loose (case_objects p g keys frame r) fit.back ≡ Ok q.objects) r fit.moves)))
+        (subst (λ r. objects_after_move is_out loose (case_objects p g keys frame r) fit.back ≡ Ok q.objects) r fit.moves)))
         (ap (λ r. with_states (zip (case_objects p g keys frame r) (case_states r)) (with_states es_states q.objects)) r)
         (gives ty is frame)
       where
@@ -361,7 +361,7 @@ module _ (p : Program) (heap : ℕ) (f : Func) (c : Context) (h : HeldMap) (ids 
     result_safe (Some (owning_variant t args)) (case_with case ss ps) is r said =
         case_given (owning_variant t args) t args case ss ps is refl said r
 
-  pub answer_safe : Safe goal (answered heap p f target keys g numbers frame w)
+  pub answer_safe : Safe goal (answer_step heap p f target keys g numbers frame w)
   unfolding with_found
   answer_safe = by (fitting p g keys frame numbers w.objects) refl
     where

@@ -3,7 +3,7 @@ use Rattle.std.proofs.Common.{◌≡◌, ⊎_elim, inl, inr, ℕ, ◌+◌, ◌<�
 use Rattle.std.specs.List.{flat_map}
 use Rattle.vlt_core.specs.Core.{Ty, int, bool, tracked, owning, guarded, variant, owning_variant, a_key, a_var, Entry, Func, Program}
 use Rattle.vlt_core.specs.Types.{stands_for, with_keys}
-use Rattle.vlt_core.specs.Maps.{absent, HeldMap, wants_absent, CanPass, passed}
+use Rattle.vlt_core.specs.Maps.{absent, HeldMap, wants_absent, CanPass, map_after}
 use Rattle.vlt_core.specs.Rows.{clause_rows, target_rows}
 use Rattle.vlt_core.specs.KindedHeads.{has, parameters_of, own_typings, tracked_keys}
 use Rattle.vlt_core.specs.KindedScopes.{Ids}
@@ -29,7 +29,7 @@ use Rattle.vlt_sound_worlds.proofs.Safe.{found_safe}
 use Rattle.vlt_sound_worlds.proofs.Leaving.{key_same, var_is_no_key}
 use Rattle.vlt_sound_worlds.specs.Scoped.{IsScoped}
 use Rattle.vlt_sound_worlds.proofs.Binding.{first_or_other}
-use Rattle.vlt_sound_worlds.specs.Handed.{handed}
+use Rattle.vlt_sound_worlds.specs.Handed.{handed_values}
 use Rattle.vlt_sound_worlds.specs.Moved.{ArePassing, IsMoved}
 use Rattle.vlt_sound_worlds.proofs.Moved.{moved_all, moved_safe}
 use Rattle.vlt_sound_calls.specs.Returned.{IsEntered}
@@ -44,7 +44,7 @@ use Rattle.vlt_sound_calls.specs.Externals.{ExternalsAreSafe}
 use Rattle.vlt_sound_calls.proofs.Taking.{take_other}
 use Rattle.vlt_sound_worlds.specs.Sent.{AreSent}
 use Rattle.vlt_sound_worlds.proofs.Sending.{agrees_sent}
-use Rattle.vlt_sound_calls.specs.HostAnswers.{answered, sent, AreNamed, AnswersAreSafe}
+use Rattle.vlt_sound_calls.specs.HostAnswers.{answer_step, map_after_sending, AreNamed, AnswersAreSafe}
 use Rattle.vlt_sound_calls.proofs.TakenKeys.{take_here, taken_before, entry_taken, taken_once, entry_at, key_at, held_by, taken_passes}
 
 -- an answer is taken, if there is one
@@ -63,7 +63,7 @@ in_has n (x ∷ xs) e = ⊎_elim inl (λ rest. inr (in_has n xs rest)) (first_or
 
 -- a reference that is handed over says what its key names
 named_handed : (p : Program) (s : Scene) (names : Names) (keys : List ℕ) (tys : List Ty) (values : List Value) →
-    length values ≡ length (map (with_keys keys) tys) → FitHanded p s names (handed (map (with_keys keys) tys) values) → (k : ℕ) →
+    length values ≡ length (map (with_keys keys) tys) → FitHanded p s names (handed_values (map (with_keys keys) tys) values) → (k : ℕ) →
     In k (map (λ x. x.key) (flat_map own_typings tys)) → (n : ℕ) × (names (stands_for keys k) ≡ Some n)
 named_handed p s names keys [] values long fits k i = absurd i
 named_handed p s names keys (ty ∷ tys) [] long fits k i = cc
@@ -119,7 +119,7 @@ module _ {p : Program} {f : Func} {c : Context} {h : HeldMap} {ids : Ids} {hand 
   abbrev xs : List ℕ
   xs = taken_objects keys frame g.clause
 
-  all_sent : AreSent frame h (sent g keys h) hand (map (caller_key keys) taken_ones) (xs ++ values_of hand) os moved2.objects
+  all_sent : AreSent frame h (map_after_sending g keys h) hand (map (caller_key keys) taken_ones) (xs ++ values_of hand) os moved2.objects
   all_sent = record {
     moves = record {
       those = λ n i. ⊎_elim
@@ -155,7 +155,7 @@ module _ {p : Program} {f : Func} {c : Context} {h : HeldMap} {ids : Ids} {hand 
         };
     gone = λ k i.
         let q = entry_at (caller_key keys) taken_ones k i in
-        subst (λ k. sent g keys h (a_key k) ≡ absent) q.2
+        subst (λ k. map_after_sending g keys h (a_key k) ≡ absent) q.2
         (take_here (caller_key keys) (λ e. wants_absent) taken_ones (filtered_apart (caller_key keys) is_taken g.clause apart) h q.0 q.1);
     keys = λ k off.
         take_other (caller_key keys) (λ e. wants_absent) taken_ones h (a_key k)
@@ -163,7 +163,7 @@ module _ {p : Program} {f : Func} {c : Context} {h : HeldMap} {ids : Ids} {hand 
     vars = λ v. take_other (caller_key keys) (λ e. wants_absent) taken_ones h (a_var v) (λ e i. var_is_no_key);
   }
 
-  pub agrees_out : Agrees p f c (sent g keys h) ids [] frame moved2.objects
+  pub agrees_out : Agrees p f c (map_after_sending g keys h) ids [] frame moved2.objects
   agrees_out = agrees_sent agrees (map (caller_key keys) taken_ones) (xs ++ values_of hand) all_sent
 
 module _ (r : Setup) (answers : AnswersAreSafe r) (f : Func) (c : Context) (h : HeldMap) (ids : Ids) (frame : Frame) (w : World)
@@ -172,11 +172,11 @@ module _ (r : Setup) (answers : AnswersAreSafe r) (f : Func) (c : Context) (h : 
     (typed_callee : IsTyped r.program g) (head : HasHead r.program g) (entered : IsEntered r.program f c) (scoped : IsScoped f c ids)
     (fits : IsCall r.program f g ids keys) (new : IsFreshCall f c g ids keys) (broken : call_target_broken f ids g keys target ≡ [])
     (long : length values ≡ length (map (with_keys keys) (parameters_of g)))
-    (agrees : Agrees r.program f c h ids (handed (map (with_keys keys) (parameters_of g)) values) frame w.objects)
+    (agrees : Agrees r.program f c h ids (handed_values (map (with_keys keys) (parameters_of g)) values) frame w.objects)
     (pass : CanPass (clause_rows r.program f keys g.clause) h)
-    (rows : CanPass (target_rows f target) (passed (clause_rows r.program f keys g.clause) h)) where
+    (rows : CanPass (target_rows f target) (map_after (clause_rows r.program f keys g.clause) h)) where
   abbrev goal : Goal
-  goal = goes_to r.program f c (passed (target_rows f target) (passed (clause_rows r.program f keys g.clause) h)) (with_call_target f (Some g) target ids) []
+  goal = goes_to r.program f c (map_after (target_rows f target) (map_after (clause_rows r.program f keys g.clause) h)) (with_call_target f (Some g) target ids) []
 
   mine : HoldsAll keys frame w.objects g.clause
   mine = holds agrees g keys fits typed.limited entered.flat pass
@@ -185,7 +185,7 @@ module _ (r : Setup) (answers : AnswersAreSafe r) (f : Func) (c : Context) (h : 
   types = map (with_keys keys) (parameters_of g)
 
   -- the arguments say what the keys of references name
-  params_named : {os : List Object} → Agrees r.program f c h ids (handed (map (with_keys keys) (parameters_of g)) values) frame os →
+  params_named : {os : List Object} → Agrees r.program f c h ids (handed_values (map (with_keys keys) (parameters_of g)) values) frame os →
       AreNamed g keys frame
   params_named {os} now k is =
       named_handed r.program (scene c os now.heads) frame.keys keys (parameters_of g) values long now.handed k
@@ -194,22 +194,22 @@ module _ (r : Setup) (answers : AnswersAreSafe r) (f : Func) (c : Context) (h : 
   -- what the host takes goes out
   behind : (numbers : List ℤ) (w2 : World) → w2.objects ≡ w.objects →
       Safe goal (with_moved (is_at frame.depth) out (taken_objects keys frame g.clause) w2 (λ w.
-      with_moved is_loose out (flat_map objects_in values) w (λ w. answered r.heap r.program f target keys g numbers frame w)))
+      with_moved is_loose out (flat_map objects_in values) w (λ w. answer_step r.heap r.program f target keys g numbers frame w)))
   behind numbers w2 same =
       let all : HoldsAll keys frame w2.objects g.clause = subst (λ os. HoldsAll keys frame os g.clause) (sym same) mine in
-      let now : Agrees r.program f c h ids (handed types values) frame w2.objects =
-      subst (Agrees r.program f c h ids (handed types values) frame) (sym same) agrees in
+      let now : Agrees r.program f c h ids (handed_values types values) frame w2.objects =
+      subst (Agrees r.program f c h ids (handed_values types values) frame) (sym same) agrees in
       let first : IsMoved (is_at frame.depth) out (taken_objects keys frame g.clause) w2.objects =
       moved_all (is_at frame.depth) out (taken_objects keys frame g.clause) w2.objects
       (taken_once keys frame w2.objects g.clause fits.callers all) (taken_passes keys frame w2.objects g.clause all) in
-      let these : values_of (handed types values) ≡ flat_map objects_in values = handed_objects types values long in
-      let moved2 : IsMoved is_loose out (values_of (handed types values)) first.objects =
-      moved_all is_loose out (values_of (handed types values)) first.objects (now.placed.once in_hand)
+      let these : values_of (handed_values types values) ≡ flat_map objects_in values = handed_objects types values long in
+      let moved2 : IsMoved is_loose out (values_of (handed_values types values)) first.objects =
+      moved_all is_loose out (values_of (handed_values types values)) first.objects (now.placed.once in_hand)
       (hand_passes now keys g.clause all first) in
       moved_safe goal (is_at frame.depth) out (taken_objects keys frame g.clause) w2 _ first
-      (subst (λ ns. Safe goal (with_moved is_loose out ns (with_objects w2 first.objects) (λ w. answered r.heap r.program f target keys g numbers frame w)))
+      (subst (λ ns. Safe goal (with_moved is_loose out ns (with_objects w2 first.objects) (λ w. answer_step r.heap r.program f target keys g numbers frame w)))
       these
-      (moved_safe goal is_loose out (values_of (handed types values)) (with_objects w2 first.objects) _ moved2
+      (moved_safe goal is_loose out (values_of (handed_values types values)) (with_objects w2 first.objects) _ moved2
       (answers.each f c h ids frame (with_objects (with_objects w2 first.objects) moved2.objects) i g keys numbers target known external typed
       typed_callee head entered scoped fits new broken (agrees_out now keys g fits.callers all first moved2) (params_named now) pass rows)))
 

@@ -7,14 +7,14 @@ use Rattle.std.specs.List.{list_any, list_all, range_with_len, enumerate_from}
 use Rattle.vlt_core.specs.Core.{States, Ty, var, Operand, pure, Tok, a_key, a_var, Entry, Func, Program}
 use Rattle.vlt_core.specs.Lookups.{var_type, owns, is_owning_var, owning_vars, key_type, after_set, is_held_after, is_new, is_given_back}
 use Rattle.vlt_core.specs.Maps as maps
-use Rattle.vlt_core.specs.Maps.{Status, absent, held, lent, full, kind_of, is_absent, is_held, states_of, HeldMap, wants_in, CanPass, passed}
+use Rattle.vlt_core.specs.Maps.{Status, absent, held, lent, full, kind_of, is_absent, is_held, states_of, HeldMap, wants_in, CanPass, map_after}
 use Rattle.vlt_core.specs.Rows.{tokens_of}
 use Rattle.vlt_core.specs.KindedHeads.{has, keys_of_parameters, head_keys, keys_of_result}
 use Rattle.vlt_core.specs.KindedScopes.{Ids}
 use Rattle.vlt_meaning.specs.World as world
 use Rattle.vlt_meaning.specs.World.{Value, Owner, gone, is_at, Object, Frame, World, wrong_state, left_behind}
 use Rattle.vlt_meaning.specs.Found.{Found, Named, ◌>>=◌, if_so}
-use Rattle.vlt_meaning.specs.Objects.{in_states, numbered}
+use Rattle.vlt_meaning.specs.Objects.{in_states, with_numbers}
 use Rattle.vlt_meaning.specs.Step.{Step, leaves}
 use Rattle.vlt_meaning.specs.Values.{held_object}
 use Rattle.vlt_meaning.specs.Calls.{entries_after, is_new_key, new_object, returned_object, returned_objects, holds_only, is_emptied}
@@ -262,16 +262,16 @@ module _ (r : Setup) {f : Func} {c : Context} {h : HeldMap} {ids : Ids} {hand : 
 
   -- ---- what is given back
 
-  module _ (rows : CanPass (take_rows key_of wants (kept_entries f) ++ map maps.gone (tokens_of f)) h)
+  module _ (rows : CanPass (take_rows key_of wants (kept_entries f) ++ map maps.away_row (tokens_of f)) h)
       (find_new : (e : Entry) → Among e f.clause → is_new e ≡ true → (n : ℕ) → frame.keys new ≡ Some n → n < length w.objects →
       (look w.objects n).owner ≡ world.held frame.depth new → kind_of (h (a_key new)) ≡ is_held →
       IsTrue (after_set r.program f e (look w.objects n).state) →
       returned_object r.program f value e frame w.objects ≡ Ok (named n (look w.objects n))) where
     behind : HeldMap
-    behind = passed (take_rows key_of wants (kept_entries f)) h
+    behind = map_after (take_rows key_of wants (kept_entries f)) h
 
-    both : CanPass (take_rows key_of wants (kept_entries f)) h × CanPass (map maps.gone (tokens_of f)) (passed (take_rows key_of wants (kept_entries f)) h)
-    both = pass_split (take_rows key_of wants (kept_entries f)) (map maps.gone (tokens_of f)) h rows
+    both : CanPass (take_rows key_of wants (kept_entries f)) h × CanPass (map maps.away_row (tokens_of f)) (map_after (take_rows key_of wants (kept_entries f)) h)
+    both = pass_split (take_rows key_of wants (kept_entries f)) (map maps.away_row (tokens_of f)) h rows
 
     wanted : (e : Entry) → Among e es → maps.IsWanted (wants e) (h (a_key (key_of e)))
     wanted e i = take_wanted key_of wants (kept_entries f) kept_apart h both.0 e (after_kept e i)
@@ -391,7 +391,7 @@ module _ (r : Setup) {f : Func} {c : Context} {h : HeldMap} {ids : Ids} {hand : 
             none e (filtered_among is_held_after f.clause e q.0 q.1) refl (sym (key_same is))) in
             let away : h (a_key k) ≡ absent =
             absent_is (h (a_key k)) (subst (λ s. kind_of s ≡ is_absent) same
-            (gone_absent (tokens_of f) (passed (take_rows key_of wants (kept_entries f)) h) both.1 (a_key k) (key_token f k (ltb-true k (length f.keys) lt)))) in
+            (gone_absent (tokens_of f) (map_after (take_rows key_of wants (kept_entries f)) h) both.1 (a_key k) (key_token f k (ltb-true k (length f.keys) lt)))) in
             absurd (none_under away (agrees.keys k) n u))
             (sought (λ e. true) key_of es k)
 
@@ -400,7 +400,7 @@ module _ (r : Setup) {f : Func} {c : Context} {h : HeldMap} {ids : Ids} {hand : 
         let same = take_other key_of wants (kept_entries f) h (a_var v) (λ e i. var_is_no_key) in
         let away : h (a_var v) ≡ absent =
         absent_is (h (a_var v)) (subst (λ s. kind_of s ≡ is_absent) same
-        (gone_absent (tokens_of f) (passed (take_rows key_of wants (kept_entries f)) h) both.1 (a_var v) (var_token f v (owning_within f v own) own))) in
+        (gone_absent (tokens_of f) (map_after (take_rows key_of wants (kept_entries f)) h) both.1 (a_var v) (var_token f v (owning_within f v own) own))) in
         (subst (λ s. HasVar (is_owning_var f v) s (frame.vars v)) away (agrees.vars.full v)) own
 
     emptied : (v : ℕ) → owned_by (frame.vars v) ≡ []

@@ -3,7 +3,7 @@ use Rattle.std.proofs.Common.{◌≡◌, inl, inr, ⊎_elim, ℕ, Bool, true, fa
 use Rattle.vlt_core.specs.Core.{States, Tok, a_key, a_var, Mode, kept, taken, given, fresh, Entry, Func, Program}
 use Rattle.vlt_core.specs.Lookups.{is_before, is_after, is_fresh, is_held_before, is_held_after, is_new, states_or_all}
 use Rattle.vlt_core.specs.Maps as maps
-use Rattle.vlt_core.specs.Maps.{Status, absent, held, kind_of, is_absent, states_of, HeldMap, IsWanted, wants_absent, After, becomes_absent, becomes_held, changed, row_passed, CanPass, passed}
+use Rattle.vlt_core.specs.Maps.{Status, absent, held, kind_of, is_absent, states_of, HeldMap, IsWanted, wants_absent, After, becomes_absent, becomes_held, status_after, row_passed, CanPass, map_after}
 use Rattle.vlt_core.specs.Rows.{entry_wanted, entry_after, held_in, clause_rows}
 use Rattle.vlt_meaning.specs.Calls.{entries_after}
 use Rattle.vlt_meaning.specs.Externals.{is_taken, is_given}
@@ -17,8 +17,8 @@ use Rattle.vlt_sound_calls.proofs.ClauseRows.{AreThere, clause_wanted, clause_he
 use Rattle.vlt_sound_calls.proofs.Pairs.{among_filtered, filtered_among, filtered_apart}
 use Rattle.vlt_sound_calls.proofs.Taking.{take_other}
 use Rattle.vlt_sound_calls.specs.Given.{whatever, back_row, came}
-use Rattle.vlt_sound_calls.specs.Told.{told_row, told, IsHeldAt}
-use Rattle.vlt_sound_calls.specs.HostAnswers.{sent}
+use Rattle.vlt_sound_calls.specs.Told.{told_row, map_after_telling, IsHeldAt}
+use Rattle.vlt_sound_calls.specs.HostAnswers.{map_after_sending}
 use Rattle.vlt_sound_calls.proofs.TakenKeys.{take_here}
 
 false_true : false ≡ true → ⊥
@@ -70,28 +70,28 @@ module _ (keys : List ℕ) where
 
   module _ (p : Program) (f : Func) where
     pub told_other : (es : List Entry) (h : HeldMap) (t : Tok) →
-        ((e : Entry) → Among e es → is_new e ≡ false → t ≡ at e → ⊥) → told p f keys es h t ≡ h t
+        ((e : Entry) → Among e es → is_new e ≡ false → t ≡ at e → ⊥) → map_after_telling p f keys es h t ≡ h t
     told_other [] h t off = refl
     told_other (x ∷ es) h t off = by (λ h. told_other es h t (λ e i. off e (inr i))) (is_new x) refl
       where
-        by : ((h : HeldMap) → told p f keys es h t ≡ h t) → (b : Bool) → is_new x ≡ b →
-            (if b then told p f keys es h else told p f keys es (row_passed (told_row p f keys x) h)) t ≡ h t
+        by : ((h : HeldMap) → map_after_telling p f keys es h t ≡ h t) → (b : Bool) → is_new x ≡ b →
+            (if b then map_after_telling p f keys es h else map_after_telling p f keys es (row_passed (told_row p f keys x) h)) t ≡ h t
         by rest true q = rest h
         by rest false q = rest (row_passed (told_row p f keys x) h) ∙ row_other (told_row p f keys x) h t (off x (inl refl) q)
 
     pub told_here : (es : List Entry) → AreApartBy (caller_key keys) es → (h : HeldMap) (e : Entry) → Among e es →
-        is_new e ≡ false → told p f keys es h (at e) ≡ held (states_or_all p f (caller_key keys e) e.after)
+        is_new e ≡ false → map_after_telling p f keys es h (at e) ≡ held (states_or_all p f (caller_key keys e) e.after)
     told_here [] apart h e i g = absurd i
     told_here (x ∷ es) apart h e (inl same) g =
         let q : is_new x ≡ false = ap is_new (sym same) ∙ g in
-        ap (λ b. (if b then told p f keys es h else told p f keys es (row_passed (told_row p f keys x) h)) (at e)) q ∙
+        ap (λ b. (if b then map_after_telling p f keys es h else map_after_telling p f keys es (row_passed (told_row p f keys x) h)) (at e)) q ∙
         (told_other es (row_passed (told_row p f keys x) h) (at e) (λ d i k is. apart.0 d i (sym (key_same is) ∙ ap (caller_key keys) same)) ∙
         (ap (λ d. row_passed (told_row p f keys x) h (at d)) same ∙
         (row_here (told_row p f keys x) h ∙ ap (λ d. held (states_or_all p f (caller_key keys d) d.after)) (sym same))))
     told_here (x ∷ es) apart h e (inr rest) g = by (λ h. told_here es apart.1 h e rest g) (is_new x)
       where
-        by : ((h : HeldMap) → told p f keys es h (at e) ≡ held (states_or_all p f (caller_key keys e) e.after)) → (b : Bool) →
-            (if b then told p f keys es h else told p f keys es (row_passed (told_row p f keys x) h)) (at e) ≡
+        by : ((h : HeldMap) → map_after_telling p f keys es h (at e) ≡ held (states_or_all p f (caller_key keys e) e.after)) → (b : Bool) →
+            (if b then map_after_telling p f keys es h else map_after_telling p f keys es (row_passed (told_row p f keys x) h)) (at e) ≡
             held (states_or_all p f (caller_key keys e) e.after)
         by again true = again h
         by again false = again (row_passed (told_row p f keys x) h)
@@ -99,29 +99,29 @@ module _ (keys : List ℕ) where
 module _ (p : Program) (f g : Func) (keys : List ℕ) (there : AreThere keys g.clause)
     (apart : AreApartBy (caller_key keys) g.clause) (h : HeldMap) (pass : CanPass (clause_rows p f keys g.clause) h) where
   abbrev pub behind : HeldMap
-  behind = passed (clause_rows p f keys g.clause) h
+  behind = map_after (clause_rows p f keys g.clause) h
 
   abbrev pub back : HeldMap
-  back = came keys g.clause (sent g keys h)
+  back = came keys g.clause (map_after_sending g keys h)
 
   abbrev pub now : HeldMap
-  now = told p f keys (entries_after g) back
+  now = map_after_telling p f keys (entries_after g) back
 
   same_at : (d e : Entry) → Among d g.clause → Among e g.clause → at keys d ≡ at keys e → d ≡ e
   same_at d e i j q = same_entry (caller_key keys) g.clause apart d e i j (key_same q)
 
   -- ---- where the host has what it takes
 
-  sent_other : (t : Tok) → ((e : Entry) → Among e g.clause → is_taken e ≡ true → t ≡ at keys e → ⊥) → sent g keys h t ≡ h t
+  sent_other : (t : Tok) → ((e : Entry) → Among e g.clause → is_taken e ≡ true → t ≡ at keys e → ⊥) → map_after_sending g keys h t ≡ h t
   sent_other t off =
       take_other (caller_key keys) (λ e. wants_absent) (filter is_taken g.clause) h t
       (λ e i. let q = among_filtered is_taken g.clause e i in off e q.0 q.1)
 
-  sent_own : (e : Entry) → Among e g.clause → is_taken e ≡ false → sent g keys h (at keys e) ≡ h (at keys e)
+  sent_own : (e : Entry) → Among e g.clause → is_taken e ≡ false → map_after_sending g keys h (at keys e) ≡ h (at keys e)
   sent_own e i none =
       sent_other (at keys e) (λ d j t q. false_true (sym none ∙ (ap is_taken (same_at e d i j q) ∙ t)))
 
-  sent_here : (e : Entry) → Among e g.clause → is_taken e ≡ true → sent g keys h (at keys e) ≡ absent
+  sent_here : (e : Entry) → Among e g.clause → is_taken e ≡ true → map_after_sending g keys h (at keys e) ≡ absent
   sent_here e i t =
       take_here (caller_key keys) (λ e. wants_absent) (filter is_taken g.clause)
       (filtered_apart (caller_key keys) is_taken g.clause apart) h e (filtered_among is_taken g.clause e i t)
@@ -137,7 +137,7 @@ module _ (p : Program) (f g : Func) (keys : List ℕ) (there : AreThere keys g.c
 
   -- ---- given keys
 
-  pub given_away : (e : Entry) → Among e g.clause → is_given e ≡ true → sent g keys h (at keys e) ≡ absent
+  pub given_away : (e : Entry) → Among e g.clause → is_given e ≡ true → map_after_sending g keys h (at keys e) ≡ absent
   given_away e i q = sent_own e i (of_mode e.mode q) ∙ was_absent e i (of_given e.mode q)
     where
       of_mode : (m : Mode) → (not (is_before m) && not (is_fresh m)) ≡ true → (is_before m && not (is_after m)) ≡ false
@@ -152,13 +152,13 @@ module _ (p : Program) (f g : Func) (keys : List ℕ) (there : AreThere keys g.c
       of_given given q = refl
       of_given fresh q = refl
 
-  came_own : (e : Entry) → Among e g.clause → is_given e ≡ false → back (at keys e) ≡ sent g keys h (at keys e)
+  came_own : (e : Entry) → Among e g.clause → is_given e ≡ false → back (at keys e) ≡ map_after_sending g keys h (at keys e)
   came_own e i none =
-      came_other keys g.clause (sent g keys h) (at keys e)
+      came_other keys g.clause (map_after_sending g keys h) (at keys e)
       (λ d j t q. false_true (sym none ∙ (ap is_given (same_at e d i j q) ∙ t)))
 
   came_given : (e : Entry) → Among e g.clause → is_given e ≡ true → back (at keys e) ≡ held whatever
-  came_given e i q = came_here keys g.clause apart (sent g keys h) e i q
+  came_given e i q = came_here keys g.clause apart (map_after_sending g keys h) e i q
 
   -- ---- told keys
 
@@ -194,14 +194,14 @@ module _ (p : Program) (f g : Func) (keys : List ℕ) (there : AreThere keys g.c
 
   -- ---- behind the call
 
-  behind_here : (e : Entry) → Among e g.clause → behind (at keys e) ≡ changed (entry_after p f (caller_key keys e) e) (h (at keys e))
+  behind_here : (e : Entry) → Among e g.clause → behind (at keys e) ≡ status_after (entry_after p f (caller_key keys e) e) (h (at keys e))
   behind_here e i = clause_here p f keys g.clause there apart h e i
 
   behind_after : (e : Entry) → Among e g.clause → is_held_after e ≡ true →
       behind (at keys e) ≡ held (states_or_all p f (caller_key keys e) e.after)
   behind_after e i after =
       behind_here e i ∙
-      ap (λ b. changed (if b then becomes_held (states_or_all p f (caller_key keys e) e.after) else becomes_absent) (h (at keys e))) after
+      ap (λ b. status_after (if b then becomes_held (states_or_all p f (caller_key keys e) e.after) else becomes_absent) (h (at keys e))) after
 
   entry_same : (e : Entry) → Among e g.clause → (is_new e ≡ true → ⊥) → now (at keys e) ≡ behind (at keys e)
   entry_same e i old = by e.mode refl
@@ -214,7 +214,7 @@ module _ (p : Program) (f g : Func) (keys : List ℕ) (there : AreThere keys g.c
           (came_own e i (ap (λ m. not (is_before m) && not (is_fresh m)) q) ∙
           (sent_here e i (ap (λ m. is_before m && not (is_after m)) q) ∙
           sym (behind_here e i ∙
-          ap (λ b. changed (if b then becomes_held (states_or_all p f (caller_key keys e) e.after) else becomes_absent) (h (at keys e)))
+          ap (λ b. status_after (if b then becomes_held (states_or_all p f (caller_key keys e) e.after) else becomes_absent) (h (at keys e)))
           (ap is_after q))))
       by fresh q = absurd (old (ap is_fresh q))
 
@@ -222,7 +222,7 @@ module _ (p : Program) (f g : Func) (keys : List ℕ) (there : AreThere keys g.c
   elsewhere : (t : Tok) → ((e : Entry) → Among e g.clause → is_new e ≡ true → t ≡ at keys e → ⊥) → now t ≡ behind t
   elsewhere (a_var v) off =
       told_other keys p f (entries_after g) back (a_var v) (λ d j old q. var_is_no_key q) ∙
-      (came_other keys g.clause (sent g keys h) (a_var v) (λ d j t q. var_is_no_key q) ∙
+      (came_other keys g.clause (map_after_sending g keys h) (a_var v) (λ d j t q. var_is_no_key q) ∙
       (sent_other (a_var v) (λ d j t q. var_is_no_key q) ∙
       sym (clause_other p f keys g.clause there h (a_var v) (λ d j q. var_is_no_key q))))
   elsewhere (a_key k) off = ⊎_elim
@@ -232,7 +232,7 @@ module _ (p : Program) (f g : Func) (keys : List ℕ) (there : AreThere keys g.c
       (λ none.
       let away : (e : Entry) → Among e g.clause → a_key k ≡ at keys e → ⊥ = λ e j q. none e j refl (sym (key_same q)) in
       told_other keys p f (entries_after g) back (a_key k) (λ d j old q. away d (among_filtered is_held_after g.clause d j).0 q) ∙
-      (came_other keys g.clause (sent g keys h) (a_key k) (λ d j t q. away d j q) ∙
+      (came_other keys g.clause (map_after_sending g keys h) (a_key k) (λ d j t q. away d j q) ∙
       (sent_other (a_key k) (λ d j t q. away d j q) ∙ sym (clause_other p f keys g.clause there h (a_key k) away))))
       (sought (λ e. true) (caller_key keys) g.clause k)
 

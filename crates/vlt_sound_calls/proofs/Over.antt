@@ -8,7 +8,7 @@ use Rattle.vlt_core.specs.Lookups.{is_held_before, before_set}
 use Rattle.vlt_meaning.specs.World as world
 use Rattle.vlt_meaning.specs.World.{Object, Frame, missing, wrong_state}
 use Rattle.vlt_meaning.specs.Found.{Found, ◌>>=◌, or_fault, if_so}
-use Rattle.vlt_meaning.specs.Objects.{in_states, with_owner, changed}
+use Rattle.vlt_meaning.specs.Objects.{in_states, with_owner, with_changed_object}
 use Rattle.vlt_meaning.specs.Values.{held_object}
 use Rattle.vlt_meaning.specs.Calls.{caller_object, passed_object, passed_objects, changed_if, handed_over}
 use Rattle.vlt_sound_worlds.specs.Look.{look, ChangesOne}
@@ -114,29 +114,29 @@ module _ (keys : List ℕ) (frame : Frame) (os : List Object) where
           q : Object → Object
           q = with_owner (world.held (suc frame.depth) x.key)
 
-          same : handed_over keys frame (x ∷ es) os ≡ changed h.number q os1
+          same : handed_over keys frame (x ∷ es) os ≡ with_changed_object h.number q os1
           same =
               ap (λ b. if b then changed_if (caller_object keys frame x) q os1 else os1) t ∙
               ap (λ o. changed_if o q os1) (holds_object x h)
 
-          change : ChangesOne h.number q (look os1) (look (changed h.number q os1))
+          change : ChangesOne h.number q (look os1) (look (with_changed_object h.number q os1))
           change = changes_one os1 h.number q (subst (λ k. h.number < k) (sym (over_length es)) h.within)
 
           over_again : Over es n (look os1 n) ⊎ Stays es n (look os1 n) → q (look os1 n) ≡ q (look os n)
           over_again (inl o) = ap q o.now
           over_again (inr s) = ap q s.now
 
-          mine : n ≡ h.number → Over (x ∷ es) n (look (changed h.number q os1) n) ⊎ Stays (x ∷ es) n (look (changed h.number q os1) n)
+          mine : n ≡ h.number → Over (x ∷ es) n (look (with_changed_object h.number q os1) n) ⊎ Stays (x ∷ es) n (look (with_changed_object h.number q os1) n)
           mine is = inl (record {
             entry = x;
             among = inl refl;
             before = t;
             holds = h;
             is = is;
-            now = ap (look (changed h.number q os1)) is ∙ (change.here ∙ (ap (λ k. q (look os1 k)) (sym is) ∙ over_again rest));
+            now = ap (look (with_changed_object h.number q os1)) is ∙ (change.here ∙ (ap (λ k. q (look os1 k)) (sym is) ∙ over_again rest));
           })
 
-          away : (n ≡ h.number → ⊥) → Over (x ∷ es) n (look (changed h.number q os1) n) ⊎ Stays (x ∷ es) n (look (changed h.number q os1) n)
+          away : (n ≡ h.number → ⊥) → Over (x ∷ es) n (look (with_changed_object h.number q os1) n) ⊎ Stays (x ∷ es) n (look (with_changed_object h.number q os1) n)
           away off =
               subst (λ o. Over (x ∷ es) n o ⊎ Stays (x ∷ es) n o) (sym (change.others n off))
               (more x es n (look os1 n) (λ b h' is. off (is ∙ number_is h')) rest)

@@ -5,7 +5,7 @@ use Rattle.std.specs.Option.{option_map, option_to_list}
 use Rattle.vlt_core.specs.Core.{Entry, Func, Program}
 use Rattle.vlt_meaning.specs.World as world
 use Rattle.vlt_meaning.specs.World.{Object, Frame}
-use Rattle.vlt_meaning.specs.Objects.{with_owner, changed}
+use Rattle.vlt_meaning.specs.Objects.{with_owner, with_changed_object}
 use Rattle.vlt_meaning.specs.Step.{with_key}
 use Rattle.vlt_meaning.specs.Calls.{Binding, binding, bindings, with_names, with_holders}
 use Rattle.vlt_sound_worlds.specs.Look.{look, ChangesOne}
@@ -150,7 +150,7 @@ module _ (keys : List ℕ) where
     pub holders_length : (bs : List Binding) (os : List Object) → length (with_holders d bs os) ≡ length os
     holders_length [] os = refl
     holders_length (b ∷ bs) os =
-        holders_length bs (changed b.number (with_owner (world.held d b.key)) os) ∙
+        holders_length bs (with_changed_object b.number (with_owner (world.held d b.key)) os) ∙
         length_changed os b.number (with_owner (world.held d b.key))
 
     -- what isn't given back stays
@@ -164,7 +164,7 @@ module _ (keys : List ℕ) where
         let q : Object → Object = with_owner (world.held d (caller_key keys x)) in
         let change = changes_one os m q (within m (inl refl)) in
         ap (λ bs. look (with_holders d bs os) n) (bindings_first x es m ns there) ∙
-        (holders_other es ns (λ e i. there e (inr i)) (changed m q os)
+        (holders_other es ns (λ e i. there e (inr i)) (with_changed_object m q os)
         (λ k i. subst (λ l. k < l) (sym (length_changed os m q)) (within k (inr i))) n (λ i. off (inr i)) ∙
         change.others n (λ e. off (inl e)))
 
@@ -178,10 +178,10 @@ module _ (keys : List ℕ) where
         let q : Object → Object = with_owner (world.held d (caller_key keys x)) in
         let change = changes_one os m q (within m (inl refl)) in
         ap (λ bs. look (with_holders d bs os) n) (bindings_first x es m ns there) ∙
-        (holders_other es ns (λ e i. there e (inr i)) (changed m q os)
+        (holders_other es ns (λ e i. there e (inr i)) (with_changed_object m q os)
         (λ k i. subst (λ l. k < l) (sym (length_changed os m q)) (within k (inr i))) n
         (λ i. once.0 (subst (λ k. In k ns) same.1 i)) ∙
-        (ap (look (changed m q os)) same.1 ∙ (change.here ∙
+        (ap (look (with_changed_object m q os)) same.1 ∙ (change.here ∙
         (ap (λ k. q (look os k)) (sym same.1) ∙
         ap (λ e. with_owner (world.held d (caller_key keys e)) (look os n)) (sym same.0)))))
     holders_here (x ∷ es) (m ∷ ns) there os within once e n (inr rest) =
@@ -189,7 +189,7 @@ module _ (keys : List ℕ) where
         let change = changes_one os m q (within m (inl refl)) in
         let i = both_number es ns e n rest in
         ap (λ bs. look (with_holders d bs os) n) (bindings_first x es m ns there) ∙
-        (holders_here es ns (λ e i. there e (inr i)) (changed m q os)
+        (holders_here es ns (λ e i. there e (inr i)) (with_changed_object m q os)
         (λ k i. subst (λ l. k < l) (sym (length_changed os m q)) (within k (inr i))) once.1 e n rest ∙
         ap (with_owner (world.held d (caller_key keys e)))
         (change.others n (λ same. once.0 (subst (λ k. In k ns) same i))))

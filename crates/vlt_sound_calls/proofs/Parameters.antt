@@ -20,7 +20,7 @@ use Rattle.vlt_sound_worlds.specs.Scene.{Scene}
 use Rattle.vlt_sound_worlds.specs.Fits.{Names, Fits}
 use Rattle.vlt_sound_worlds.specs.Agrees.{Handed, values_of, FitHanded, Waiting}
 use Rattle.vlt_sound_worlds.proofs.Binding.{first_or_other}
-use Rattle.vlt_sound_worlds.specs.Handed.{handed}
+use Rattle.vlt_sound_worlds.specs.Handed.{handed_values}
 use Rattle.vlt_sound_calls.specs.Callee.{with_waiting}
 
 -- ---- waiting functions by depth
@@ -132,7 +132,7 @@ module _ (waits : (d v : ℕ) → Option Value) (os : ℕ → Object) (owner : �
 
 -- what is handed over has the objects of the values
 pub handed_objects : (types : List Ty) (values : List Value) → length values ≡ length types →
-    values_of (handed types values) ≡ flat_map objects_in values
+    values_of (handed_values types values) ≡ flat_map objects_in values
 handed_objects [] [] e = refl
 handed_objects [] (a ∷ values) e = cc
 handed_objects (t ∷ types) [] e = refl
@@ -147,7 +147,7 @@ handed_objects (t ∷ types) (a ∷ values) e =
 -- the value of a parameter fits its type
 pub param_fits : (p : Program) (s : Scene) (names : Names) (keys : List ℕ) (n : ℕ) (ds : List VarDecl) (values : List Value) →
     length values ≡ length (map (with_keys keys) (map (λ d. d.ty) (take n ds))) →
-    FitHanded p s names (handed (map (with_keys keys) (map (λ d. d.ty) (take n ds))) values) → (v : ℕ) (ty : Ty) (a : Value) →
+    FitHanded p s names (handed_values (map (with_keys keys) (map (λ d. d.ty) (take n ds))) values) → (v : ℕ) (ty : Ty) (a : Value) →
     option_map (λ d. d.ty) (slice_get ds v) ≡ Some ty → slice_get values v ≡ Some a → Fits p s names (with_keys keys ty) a
 param_fits p s names keys zero ds [] long fit v ty a is at = absurd (none-some a at)
 param_fits p s names keys zero ds (b ∷ values) long fit v ty a is at = cc

@@ -7,7 +7,7 @@ use Rattle.vlt_core.specs.Maps.{HeldMap}
 use Rattle.vlt_core.specs.KindedScopes.{Ids}
 use Rattle.vlt_meaning.specs.World as world
 use Rattle.vlt_meaning.specs.World.{Value, one, owned, Object, World, Frame, loose, out, heap_end, is_full}
-use Rattle.vlt_meaning.specs.Objects.{with_owner, changed, changed_in}
+use Rattle.vlt_meaning.specs.Objects.{with_owner, with_changed_object, changed_in}
 use Rattle.vlt_meaning.specs.Step.{Step, ends, with_made, with_objects}
 use Rattle.vlt_meaning.specs.HostAnswers.{plain, new_in, piece}
 use Rattle.vlt_meaning.specs.Externals.{from_host, type_in, with_result}
@@ -23,7 +23,7 @@ use Rattle.vlt_sound_worlds.proofs.Taking.{agrees_taken}
 use Rattle.vlt_sound_calls.specs.ReturnGiven.{IsGiven}
 
 -- the last object is changed
-changed_last : (os : List Object) (o : Object) (q : Object → Object) → changed (length os) q (os ++ o ∷ []) ≡ os ++ q o ∷ []
+changed_last : (os : List Object) (o : Object) (q : Object → Object) → with_changed_object (length os) q (os ++ o ∷ []) ≡ os ++ q o ∷ []
 changed_last [] o q = refl
 changed_last (x ∷ os) o q =
     behind (slice_get (os ++ o ∷ []) (length os)) ∙ ap (λ rest. x ∷ rest) (changed_last os o q)
@@ -78,7 +78,7 @@ module _ {p : Program} {f : Func} {c : Context} {h : HeldMap} {ids : Ids} {frame
       handed : Handed
       handed = record { value = one (owned n); type = with_keys keys (owning S t args) }
 
-      taken : Agrees p f c h ids (handed ∷ []) frame (changed n (with_owner loose) (with_hosted t s w.objects))
+      taken : Agrees p f c h ids (handed ∷ []) frame (with_changed_object n (with_owner loose) (with_hosted t s w.objects))
       taken = agrees_taken hosted.now n (ap (λ o. o.owner) at_n) hosted.of.within handed refl (record {
         part = owned n;
         is = refl;

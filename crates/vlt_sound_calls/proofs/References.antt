@@ -7,7 +7,7 @@ use Rattle.vlt_core.specs.Maps.{absent, held, HeldMap}
 use Rattle.vlt_core.specs.KindedScopes.{Ids}
 use Rattle.vlt_meaning.specs.World as world
 use Rattle.vlt_meaning.specs.World.{Part, Value, one, reference, owned, loose, Object, World, Frame, heap_end, is_full}
-use Rattle.vlt_meaning.specs.Objects.{with_owner, changed}
+use Rattle.vlt_meaning.specs.Objects.{with_owner, with_changed_object}
 use Rattle.vlt_meaning.specs.Step.{Step, ends, with_made, with_objects, with_key}
 use Rattle.vlt_meaning.specs.Calls.{binding}
 use Rattle.vlt_meaning.specs.Externals.{from_host, with_fresh}
@@ -96,7 +96,7 @@ module _ {p : Program} {f : Func} {c : Context} {h : HeldMap} {ids : Ids} {frame
   typed_now = subst (λ o. IsOfType o (look os1 n).type) (sym typed) (ap (λ o. o.type) at_n)
 
   abbrev os2 : List Object
-  os2 = changed n (with_owner (world.held frame.depth key)) os1
+  os2 = with_changed_object n (with_owner (world.held frame.depth key)) os1
 
   -- then it goes under its key
   bound : Agrees p f c next ids [] frame' os2

@@ -8,7 +8,7 @@ use Rattle.vlt_core.specs.Maps.{HeldMap}
 use Rattle.vlt_core.specs.KindedScopes.{Ids}
 use Rattle.vlt_meaning.specs.World as world
 use Rattle.vlt_meaning.specs.World.{Part, Value, one, owned, objects_in, objects_in_part, loose, out, Object, World, Frame, heap_end, is_full}
-use Rattle.vlt_meaning.specs.Objects.{with_owner, changed, changed_in}
+use Rattle.vlt_meaning.specs.Objects.{with_owner, with_changed_object, changed_in}
 use Rattle.vlt_meaning.specs.Step.{Step, ends, with_made, with_objects}
 use Rattle.vlt_meaning.specs.HostAnswers.{Piece, plain, new_in}
 use Rattle.vlt_meaning.specs.Externals.{from_host, with_pieces}
@@ -21,7 +21,7 @@ use Rattle.vlt_sound_worlds.proofs.Fits.{fits_named, fits_behind}
 use Rattle.vlt_sound_worlds.specs.Agrees.{Handed, FitHanded, Context, scene, Agrees}
 use Rattle.vlt_sound_worlds.specs.Safe.{Goal, Safe}
 use Rattle.vlt_sound_worlds.proofs.Expressions.{names_at}
-use Rattle.vlt_sound_worlds.specs.Handed.{handed}
+use Rattle.vlt_sound_worlds.specs.Handed.{handed_values}
 use Rattle.vlt_sound_worlds.proofs.Hand.{given, agrees_given}
 use Rattle.vlt_sound_worlds.specs.Said.{GoTogether, IsPieceOf}
 use Rattle.vlt_sound_worlds.specs.Hosted.{with_hosted, IsHosted}
@@ -34,7 +34,7 @@ use Rattle.vlt_sound_calls.proofs.TakenOver.{over_made}
 -- ---- a new object
 
 -- the last object is changed
-pub changed_last : (os : List Object) (o : Object) (q : Object → Object) → changed (length os) q (os ++ o ∷ []) ≡ os ++ q o ∷ []
+pub changed_last : (os : List Object) (o : Object) (q : Object → Object) → with_changed_object (length os) q (os ++ o ∷ []) ≡ os ++ q o ∷ []
 changed_last [] o q = refl
 changed_last (x ∷ os) o q =
     behind (slice_get (os ++ o ∷ []) (length os)) ∙ ap (λ rest. x ∷ rest) (changed_last os o q)
@@ -106,7 +106,7 @@ AreHostPayloads p args tys = (i : ℕ) (ty : Ty) → slice_get tys i ≡ Some ty
 module _ (p : Program) (s : Scene) (names : Names) (args : List ℕ) where
   pub parts_fit : (tys : List Ty) (parts : List Part) → AreHostPayloads p args tys →
       length (map one parts) ≡ length (map (with_keys args) tys) →
-      FitHanded p s names (handed (map (with_keys args) tys) (map one parts)) → FitParts s (names_of (map names args)) tys parts
+      FitHanded p s names (handed_values (map (with_keys args) tys) (map one parts)) → FitParts s (names_of (map names args)) tys parts
   parts_fit [] [] known long fits = tt
   parts_fit [] (a ∷ parts) known long fits = cc
   parts_fit (t ∷ tys) [] known long fits = cc
@@ -124,7 +124,7 @@ module _ (p : Program) (f : Func) (c : Context) (h : HeldMap) (ids : Ids) (frame
   -- what comes behind the pieces, where so many objects were there before them
   pub record Behind (hand : List Handed) (tys : List Ty) (os : List Object) (parts : List Part) (w : World) : Type 0 where
     pub objects : List Object
-    pub agrees : Agrees p f c h ids (hand ++ handed (map (with_keys args) tys) (map one parts)) frame objects
+    pub agrees : Agrees p f c h ids (hand ++ handed_values (map (with_keys args) tys) (map one parts)) frame objects
     pub long : length (map one parts) ≡ length (map (with_keys args) tys)
     pub over : AreTakenOver ns objects w.objects
     pub same : (m : ℕ) → m < length os → look objects m ≡ look os m
@@ -139,7 +139,7 @@ module _ (p : Program) (f : Func) (c : Context) (h : HeldMap) (ids : Ids) (frame
   behind_more hand ty tys os now a parts w kept b = record {
     objects = b.objects;
     agrees = subst (λ hand. Agrees p f c h ids hand frame b.objects)
-        (append_assoc hand (given (one a) (with_keys args ty) ∷ []) (handed (map (with_keys args) tys) (map one parts))) b.agrees;
+        (append_assoc hand (given (one a) (with_keys args ty) ∷ []) (handed_values (map (with_keys args) tys) (map one parts))) b.agrees;
     long = ap suc b.long;
     over = b.over;
     same = λ m lt. let k = kept m lt in b.same m k.0 ∙ k.1;

@@ -6,7 +6,7 @@ use Rattle.vlt_core.specs.Lookups.{all_states}
 use Rattle.vlt_core.specs.Maps.{HeldMap}
 use Rattle.vlt_core.specs.KindedScopes.{Ids}
 use Rattle.vlt_meaning.specs.World.{out, gone, Object, Frame}
-use Rattle.vlt_meaning.specs.Objects.{with_state, changed}
+use Rattle.vlt_meaning.specs.Objects.{with_state, with_changed_object}
 use Rattle.vlt_meaning.specs.Externals.{with_states}
 use Rattle.vlt_sound_worlds.specs.Look.{look, ChangesOne}
 use Rattle.vlt_sound_worlds.proofs.Look.{changes_one, live_within}
@@ -59,7 +59,7 @@ module _ (p : Program) (f : Func) (c : Context) (h : HeldMap) (ids : Ids) (hand 
   all_told (k ∷ ks) (n ∷ ns) [] os agrees outs once all said = absurd said
   all_told (k ∷ ks) (n ∷ ns) (s ∷ ss) os agrees outs once all said =
       let within : n < length os = live_within os n (λ e. gone_out (sym e ∙ outs n (inl refl))) in
-      let now : List Object = changed n (with_state s) os in
+      let now : List Object = with_changed_object n (with_state s) os in
       let change : ChangesOne n (with_state s) (look os) (look now) = changes_one os n (with_state s) within in
       let other : (m : ℕ) → In m ns → m ≡ n → ⊥ = λ m i same. once.0 (subst (λ m. In m ns) same i) in
       let rest = all_told ks ns ss now

@@ -9,7 +9,7 @@ use Rattle.vlt_core.specs.Core.{Ty, int, bool, tracked, owning, guarded, variant
 use Rattle.vlt_core.specs.Lookups.{var_type, Reference, reference_of, tracked_in, after_set, is_held_after, is_new, is_given_back}
 use Rattle.vlt_core.specs.Types.{keys_of_ty, same_object, same_keys}
 use Rattle.vlt_core.specs.Maps as maps
-use Rattle.vlt_core.specs.Maps.{kind_of, is_held, states_of, HeldMap, wants_in, becomes_absent, Row, CanPass, passed}
+use Rattle.vlt_core.specs.Maps.{kind_of, is_held, states_of, HeldMap, wants_in, becomes_absent, Row, CanPass, map_after}
 use Rattle.vlt_core.specs.Rows.{row, key_row, on_option, operand_rows, returned_row, new_rows, given_back_rows, tokens_of, return_rows, rows_of}
 use Rattle.vlt_core.specs.KindedHeads.{has, unless, when_some, new_keys, keys_of_result}
 use Rattle.vlt_core.specs.declared.rules.TheConstants as rule
@@ -133,13 +133,13 @@ module _ (r : Setup) {f : Func} {c : Context} {h : HeldMap} {ids : Ids} {frame :
 
     pub plain_left : {h' : HeldMap} {hand : List Handed} {frame' : Frame} (w' : World) →
         (agrees' : Agrees r.program f c h' ids hand frame' w'.objects) →
-        CanPass (new_rows r.program f value ++ given_back_rows r.program f ++ map maps.gone (tokens_of f)) h' → (a : Option Value) →
+        CanPass (new_rows r.program f value ++ given_back_rows r.program f ++ map maps.away_row (tokens_of f)) h' → (a : Option Value) →
         values_of hand ≡ owned_by a →
         FitsResult r.program (scene c w'.objects agrees'.heads) frame'.keys f.result a →
         Safe (returns_to r.program f c) (left_function r f value a frame' w')
     plain_left {h'} {hand} {frame'} w' agrees' rows a owns fits =
         left_safe r w' agrees' head entered value 0 one_new (λ e i n after d j t. absurd (none d j t))
-        (subst (λ rs. CanPass (rs ++ map maps.gone (tokens_of f)) h') old_rows rows)
+        (subst (λ rs. CanPass (rs ++ map maps.away_row (tokens_of f)) h') old_rows rows)
         (λ e i t. absurd (none e i t)) a owns
         (result f.result refl fits)
       where
@@ -258,7 +258,7 @@ module _ (r : Setup) {f : Func} {c : Context} {h : HeldMap} {ids : Ids} {frame :
         (tracked_found (record { key = kx; type = t }) x frame w.objects n (look w.objects n) value name (look_at w.objects n within) own) ∙
         ap (λ b. if_so b wrong_state (named n (look w.objects n))) state))
 
-    pub new_left : CanPass (new_rows r.program f (Some (pure (var x))) ++ given_back_rows r.program f ++ map maps.gone (tokens_of f)) h →
+    pub new_left : CanPass (new_rows r.program f (Some (pure (var x))) ++ given_back_rows r.program f ++ map maps.away_row (tokens_of f)) h →
         Safe (returns_to r.program f c)
         (with_found (value_of r.program f (var x) frame w.objects) w (λ a. left_function r f (Some (pure (var x))) (Some a) frame w))
     new_left rows =
@@ -270,7 +270,7 @@ module _ (r : Setup) {f : Func} {c : Context} {h : HeldMap} {ids : Ids} {frame :
         subst (λ k. is_new_key f k ≡ true) the_new.is (new_key_true f.clause the_new.entry the_new.among the_new.new) in
         found_safe (returns_to r.program f c) (or_fault no_value (frame.vars x)) there.0 w _ (ap (or_fault no_value) there.1)
         (left_safe r w agrees head entered (Some (pure (var x))) kx one_new other
-        (subst (λ rs. CanPass (rs ++ map maps.gone (tokens_of f)) h) all_rows rows) find (Some there.0) (sym none)
+        (subst (λ rs. CanPass (rs ++ map maps.away_row (tokens_of f)) h) all_rows rows) find (Some there.0) (sym none)
         (subst (λ o. FitsResult r.program (scene c w.objects agrees.heads) names' o (Some there.0)) (sym result) (
           there.0,
           refl,
@@ -329,7 +329,7 @@ module _ (r : Setup) {f : Func} {c : Context} {h : HeldMap} {ids : Ids} {frame :
       let first = operand_rows r.program f o in
       let second = new_rows r.program f (Some o) in
       let third = given_back_rows r.program f in
-      let last = map maps.gone (tokens_of f) in
+      let last = map maps.away_row (tokens_of f) in
       let same : first ++ second ++ third ++ last ≡ first ++ (second ++ third ++ last) =
       ap (λ rs. rs ++ last) (append_assoc first second third) ∙ append_assoc first (second ++ third) last in
       let two = pass_split first (second ++ third ++ last) h (subst (λ rs. CanPass rs h) same rows) in

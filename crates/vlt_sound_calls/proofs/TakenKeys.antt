@@ -6,7 +6,7 @@ use Rattle.std.specs.Option.{option_to_list}
 use Rattle.vlt_core.specs.Core.{a_key, Entry}
 use Rattle.vlt_core.specs.Lookups.{is_held_before, is_held_after}
 use Rattle.vlt_core.specs.Maps as maps
-use Rattle.vlt_core.specs.Maps.{absent, HeldMap, becomes_absent, row_passed, passed}
+use Rattle.vlt_core.specs.Maps.{absent, HeldMap, becomes_absent, row_passed, map_after}
 use Rattle.vlt_core.specs.Rows.{row}
 use Rattle.vlt_meaning.specs.World as world
 use Rattle.vlt_meaning.specs.World.{is_at, Object, Frame}
@@ -24,7 +24,7 @@ use Rattle.vlt_sound_calls.proofs.Taking.{take_rows, take_other}
 
 -- behind rows that take, their own keys are absent
 pub take_here : (at : Entry → ℕ) (wants : Entry → maps.Wanted) (es : List Entry) → AreApartBy at es → (h : HeldMap) (e : Entry) →
-    Among e es → passed (take_rows at wants es) h (a_key (at e)) ≡ absent
+    Among e es → map_after (take_rows at wants es) h (a_key (at e)) ≡ absent
 take_here at wants [] apart h e i = absurd i
 take_here at wants (x ∷ es) apart h e (inl same) =
     take_other at wants es (row_passed (row (a_key (at x)) (wants x) becomes_absent) h) (a_key (at e))

@@ -6,7 +6,7 @@ use Rattle.std.proofs.lemmas.Option.{slice_get_within, slice_get_cases, slice_ge
 use Rattle.vlt_meaning.specs.World.{Owner, loose, out, gone, is_out, Object, Reason, not_owned}
 use Rattle.vlt_meaning.specs.World as world
 use Rattle.vlt_meaning.specs.Found.{Found, Named, if_so}
-use Rattle.vlt_meaning.specs.Objects.{named_in, object_at, owned_at, with_owner, with_state, changed, changed_in, moved}
+use Rattle.vlt_meaning.specs.Objects.{named_in, object_at, owned_at, with_owner, with_state, with_changed_object, changed_in, objects_after_move}
 use Rattle.vlt_meaning.specs.Externals.{with_states}
 use Rattle.vlt_sound_worlds.specs.Look.{look, ChangesOne}
 use Rattle.vlt_sound_worlds.proofs.Look.{look_is, changes_one, makes_one, live_within}
@@ -57,7 +57,7 @@ loose_out : loose ≡ out → ⊥
 loose_out e = cc
 
 -- objects that are moved to values one after another were all out
-pub taken_over : (ns : List ℕ) (os real : List Object) → moved is_out loose ns os ≡ Ok real → AreTakenOver ns os real
+pub taken_over : (ns : List ℕ) (os real : List Object) → objects_after_move is_out loose ns os ≡ Ok real → AreTakenOver ns os real
 taken_over [] os real e = record {
   moves = record { those = λ n i. absurd i; others = λ n off. ap (λ os. look os n) (sym (same_ok os real e)) };
   long = ap length (sym (same_ok os real e));
@@ -65,11 +65,11 @@ taken_over [] os real e = record {
   once = tt;
 }
 taken_over (x ∷ ns) os real e =
-    let own = found_then (owned_at is_out os x) (λ m. moved is_out loose ns (changed x (with_owner loose) os)) real e in
+    let own = found_then (owned_at is_out os x) (λ m. objects_after_move is_out loose ns (with_changed_object x (with_owner loose) os)) real e in
     let o = found_out os x own.first own.was in
-    let change : ChangesOne x (with_owner loose) (look os) (look (changed x (with_owner loose) os)) =
+    let change : ChangesOne x (with_owner loose) (look os) (look (with_changed_object x (with_owner loose) os)) =
     changes_one os x (with_owner loose) o.within in
-    let rest = taken_over ns (changed x (with_owner loose) os) real own.rest in
+    let rest = taken_over ns (with_changed_object x (with_owner loose) os) real own.rest in
     let off : In x ns → ⊥ = λ i. loose_out (sym (ap (λ o. o.owner) change.here) ∙ rest.was x i) in
     let other : (n : ℕ) → In n ns → n ≡ x → ⊥ = λ n i same. off (subst (λ n. In n ns) same i) in
     record {
@@ -95,20 +95,20 @@ over_within {ns} {os} {real} t n i = live_within os n (λ e. clash (sym e ∙ t.
     clash e = cc
 
 -- where nothing is there, nothing changes
-changed_none : (os : List Object) (n : ℕ) (q : Object → Object) → slice_get os n ≡ None → changed n q os ≡ os
+changed_none : (os : List Object) (n : ℕ) (q : Object → Object) → slice_get os n ≡ None → with_changed_object n q os ≡ os
 changed_none os n q none = ap (changed_in n q os) none
 
 -- one object gets another state in both
 pub over_told : (ns : List ℕ) (os real : List Object) (n s : ℕ) → AreTakenOver ns os real →
-    AreTakenOver ns (changed n (with_state s) os) (changed n (with_state s) real)
+    AreTakenOver ns (with_changed_object n (with_state s) os) (with_changed_object n (with_state s) real)
 over_told ns os real n s t = ⊎_elim
     (λ at. there (slice_get_within os n at.0 at.2))
-    (λ past. subst (λ now. AreTakenOver ns now (changed n (with_state s) real)) (sym (changed_none os n (with_state s) past.1))
+    (λ past. subst (λ now. AreTakenOver ns now (with_changed_object n (with_state s) real)) (sym (changed_none os n (with_state s) past.1))
     (subst (AreTakenOver ns os)
     (sym (changed_none real n (with_state s) (slice_get_past real n (subst (λ l. l ≤ n) (sym t.long) past.0)))) t))
     (slice_get_cases os n).1
   where
-    there : n < length os → AreTakenOver ns (changed n (with_state s) os) (changed n (with_state s) real)
+    there : n < length os → AreTakenOver ns (with_changed_object n (with_state s) os) (with_changed_object n (with_state s) real)
     there lt =
         let a = changes_one os n (with_state s) lt in
         let b = changes_one real n (with_state s) (subst (λ l. n < l) (sym t.long) lt) in
@@ -116,19 +116,19 @@ over_told ns os real n s t = ⊎_elim
           moves = record {
             those = λ m i. ⊎_elim
                 (λ same.
-                ap (look (changed n (with_state s) real)) same ∙
+                ap (look (with_changed_object n (with_state s) real)) same ∙
                 (b.here ∙
                 (ap (with_state s) (t.moves.those n (subst (λ m. In m ns) same i)) ∙
                 (ap (with_owner loose) (sym a.here) ∙
-                ap (λ m. with_owner loose (look (changed n (with_state s) os) m)) (sym same)))))
+                ap (λ m. with_owner loose (look (with_changed_object n (with_state s) os) m)) (sym same)))))
                 (λ other. b.others m other ∙ (t.moves.those m i ∙ ap (with_owner loose) (sym (a.others m other))))
                 (cases_eq m n);
             others = λ m off. ⊎_elim
                 (λ same.
-                ap (look (changed n (with_state s) real)) same ∙
+                ap (look (with_changed_object n (with_state s) real)) same ∙
                 (b.here ∙
                 (ap (with_state s) (t.moves.others n (λ i. off (subst (λ m. In m ns) (sym same) i))) ∙
-                (sym a.here ∙ ap (look (changed n (with_state s) os)) (sym same)))))
+                (sym a.here ∙ ap (look (with_changed_object n (with_state s) os)) (sym same)))))
                 (λ other. b.others m other ∙ (t.moves.others m off ∙ sym (a.others m other)))
                 (cases_eq m n);
           };
@@ -136,7 +136,7 @@ over_told ns os real n s t = ⊎_elim
               length_changed real n (with_state s) ∙ (t.long ∙ sym (length_changed os n (with_state s)));
           was = λ m i. ⊎_elim
               (λ same.
-              ap (λ m. (look (changed n (with_state s) os) m).owner) same ∙
+              ap (λ m. (look (with_changed_object n (with_state s) os) m).owner) same ∙
               (ap (λ o. o.owner) a.here ∙ t.was n (subst (λ m. In m ns) same i)))
               (λ other. ap (λ o. o.owner) (a.others m other) ∙ t.was m i)
               (cases_eq m n);
@@ -147,7 +147,7 @@ pub over_all : (ns : List ℕ) (qs : List (ℕ × ℕ)) (os real : List Object) 
     AreTakenOver ns (with_states qs os) (with_states qs real)
 over_all ns [] os real t = t
 over_all ns (q ∷ qs) os real t =
-    over_all ns qs (changed q.0 (with_state q.1) os) (changed q.0 (with_state q.1) real) (over_told ns os real q.0 q.1 t)
+    over_all ns qs (with_changed_object q.0 (with_state q.1) os) (with_changed_object q.0 (with_state q.1) real) (over_told ns os real q.0 q.1 t)
 
 -- a new object is the last one of both
 pub over_made : (ns : List ℕ) (os real : List Object) (o : Object) → AreTakenOver ns os real →

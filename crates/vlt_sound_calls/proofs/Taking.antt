@@ -5,7 +5,7 @@ use Rattle.std.specs.List.{list_any, list_all, range_with_len, enumerate_from}
 use Rattle.vlt_core.specs.Core.{Tok, a_key, a_var, Entry, Func}
 use Rattle.vlt_core.specs.Lookups.{is_owning_var, owning_vars}
 use Rattle.vlt_core.specs.Maps as maps
-use Rattle.vlt_core.specs.Maps.{Status, absent, kind_of, is_absent, HeldMap, Wanted, IsWanted, becomes_absent, Row, row_passed, CanPass, passed}
+use Rattle.vlt_core.specs.Maps.{Status, absent, kind_of, is_absent, HeldMap, Wanted, IsWanted, becomes_absent, Row, row_passed, CanPass, map_after}
 use Rattle.vlt_core.specs.Rows.{row, tokens_of}
 use Rattle.vlt_core.specs.KindedHeads.{has}
 use Rattle.vlt_meaning.specs.World.{Object}
@@ -25,7 +25,7 @@ module _ (at : Entry → ℕ) (wants : Entry → Wanted) where
   take e = row (a_key (at e)) (wants e) becomes_absent
 
   pub take_other : (es : List Entry) (h : HeldMap) (t : Tok) → ((e : Entry) → Among e es → t ≡ a_key (at e) → ⊥) →
-      passed (take_rows at wants es) h t ≡ h t
+      map_after (take_rows at wants es) h t ≡ h t
   take_other [] h t off = refl
   take_other (x ∷ es) h t off =
       take_other es (row_passed (row (a_key (at x)) (wants x) becomes_absent) h) t (λ e i. off e (inr i)) ∙
@@ -43,14 +43,14 @@ module _ (at : Entry → ℕ) (wants : Entry → Wanted) where
 
 -- ---- rows that want tokens away
 
-pub gone_absent : (ts : List Tok) (h : HeldMap) → CanPass (map maps.gone ts) h → (t : Tok) → Among t ts →
+pub gone_absent : (ts : List Tok) (h : HeldMap) → CanPass (map maps.away_row ts) h → (t : Tok) → Among t ts →
     kind_of (h t) ≡ is_absent
 gone_absent [] h pass t i = absurd i
 gone_absent (u ∷ ts) h pass t (inl same) = subst (λ t. kind_of (h t) ≡ is_absent) (sym same) pass.0
 gone_absent (u ∷ ts) h pass t (inr rest) = ⊎_elim
     (λ same. subst (λ t. kind_of (h t) ≡ is_absent) (sym same) pass.0)
-    (λ other. subst (λ s. kind_of s ≡ is_absent) (row_other (maps.gone u) h t other)
-    (gone_absent ts (row_passed (maps.gone u) h) pass.1 t rest))
+    (λ other. subst (λ s. kind_of s ≡ is_absent) (row_other (maps.away_row u) h t other)
+    (gone_absent ts (row_passed (maps.away_row u) h) pass.1 t rest))
     (same_tok t u)
   where
     same_tok : (t u : Tok) → (t ≡ u) ⊎ (t ≡ u → ⊥)

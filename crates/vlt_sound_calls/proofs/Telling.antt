@@ -8,7 +8,7 @@ use Rattle.vlt_core.specs.Maps.{HeldMap, row_passed}
 use Rattle.vlt_core.specs.KindedScopes.{Ids}
 use Rattle.vlt_meaning.specs.World as world
 use Rattle.vlt_meaning.specs.World.{Object, Frame, gone}
-use Rattle.vlt_meaning.specs.Objects.{with_state, changed}
+use Rattle.vlt_meaning.specs.Objects.{with_state, with_changed_object}
 use Rattle.vlt_meaning.specs.Calls.{caller_object}
 use Rattle.vlt_meaning.specs.Externals.{entry_states, with_states}
 use Rattle.vlt_sound_worlds.specs.Look.{look, IsLive}
@@ -21,7 +21,7 @@ use Rattle.vlt_sound_worlds.proofs.Owning.{row_tok}
 use Rattle.vlt_sound_worlds.proofs.Becoming.{agrees_became}
 use Rattle.vlt_sound_calls.specs.Callee.{caller_key}
 use Rattle.vlt_sound_worlds.specs.Said.{GoTogether, IsAfter}
-use Rattle.vlt_sound_calls.specs.Told.{told_row, told, IsTellable, IsHeldAt, AreTellable}
+use Rattle.vlt_sound_calls.specs.Told.{told_row, map_after_telling, IsTellable, IsHeldAt, AreTellable}
 
 module _ (p : Program) (f g : Func) (c : Context) (ids : Ids) (hand : List Handed) (frame : Frame) (keys : List ℕ) where
   abbrev IsSo : HeldMap → List Object → Type 0
@@ -41,7 +41,7 @@ module _ (p : Program) (f g : Func) (c : Context) (ids : Ids) (hand : List Hande
   -- one object
   tell_one : (os : List Object) (h : HeldMap) (agrees : IsSo h os) (e : Entry) (t : IsTellable p f g keys e)
       (at : IsHeldAt h (caller_key keys e)) (s : ℕ) → IsAfter p g e s →
-      IsSo (row_passed (told_row p f keys e) h) (changed (object_of_key agrees (caller_key keys e) at).number (with_state s) os)
+      IsSo (row_passed (told_row p f keys e) h) (with_changed_object (object_of_key agrees (caller_key keys e) at).number (with_state s) os)
   tell_one os h agrees e t at s after =
       let k = caller_key keys e in
       let o = object_of_key agrees k at in
@@ -83,11 +83,11 @@ module _ (p : Program) (f g : Func) (c : Context) (ids : Ids) (hand : List Hande
 
   abbrev Goal : Entry → List Entry → ℕ → List ℕ → List Object → HeldMap → Bool → Option ℕ → Type 0
   Goal e es s ss os h b o =
-      IsSo (if b then told p f keys es h else told p f keys es (row_passed (told_row p f keys e) h))
+      IsSo (if b then map_after_telling p f keys es h else map_after_telling p f keys es (row_passed (told_row p f keys e) h))
       (with_states (front s b o ++ entry_states keys frame es ss) os)
 
   pub agrees_told : (es : List Entry) (ss : List ℕ) → GoTogether (IsAfter p g) es ss → (os : List Object) (h : HeldMap) →
-      AreTellable p f g keys es h → IsSo h os → IsSo (told p f keys es h) (with_states (entry_states keys frame es ss) os)
+      AreTellable p f g keys es h → IsSo h os → IsSo (map_after_telling p f keys es h) (with_states (entry_states keys frame es ss) os)
   agrees_told [] [] go os h t agrees = agrees
   agrees_told [] (s ∷ ss) go os h t agrees = absurd go
   agrees_told (e ∷ es) [] go os h t agrees = absurd go
@@ -97,7 +97,7 @@ module _ (p : Program) (f g : Func) (c : Context) (ids : Ids) (hand : List Hande
       clash q = cc
 
       by : ((os : List Object) (h : HeldMap) → AreTellable p f g keys es h → IsSo h os →
-          IsSo (told p f keys es h) (with_states (entry_states keys frame es ss) os)) → (b : Bool) → is_new e ≡ b →
+          IsSo (map_after_telling p f keys es h) (with_states (entry_states keys frame es ss) os)) → (b : Bool) → is_new e ≡ b →
           Goal e es s ss os h (is_new e) (caller_object keys frame e)
       by again true q =
           subst (λ b. Goal e es s ss os h b (caller_object keys frame e)) (sym q) (again os h (same_tellable e es h t) agrees)
@@ -108,5 +108,5 @@ module _ (p : Program) (f g : Func) (c : Context) (ids : Ids) (hand : List Hande
           let o = object_of_key agrees (caller_key keys e) at in
           subst (λ b. Goal e es s ss os h b (caller_object keys frame e)) (sym q)
           (subst (λ o. Goal e es s ss os h false o) (sym (object_is agrees e can at))
-          (again (changed o.number (with_state s) os) (row_passed (told_row p f keys e) h) (rest_tellable e es h t)
+          (again (with_changed_object o.number (with_state s) os) (row_passed (told_row p f keys e) h) (rest_tellable e es h t)
           (tell_one os h agrees e can at s go.0)))

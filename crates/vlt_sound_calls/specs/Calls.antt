@@ -1,7 +1,7 @@
 -- What is promised of calls and returns.
 use Rattle.std.specs.Prelude.{◌≡◌, ℕ, List, [], Option, slice_get}
 use Rattle.vlt_core.specs.Core.{Tok, Operand, call, return, Func}
-use Rattle.vlt_core.specs.Maps.{HeldMap, CanPass, passed}
+use Rattle.vlt_core.specs.Maps.{HeldMap, CanPass, map_after}
 use Rattle.vlt_core.specs.Rows.{rows_of}
 use Rattle.vlt_core.specs.KindedScopes.{Ids}
 use Rattle.vlt_core.specs.KindedCalls.{with_call_target, call_broken, return_broken}
@@ -23,7 +23,7 @@ pub record CallsAreSafe (r : Setup) (rest_of : Meaning) : Type 0 where
       Agrees r.program f c h ids [] frame w.objects →
       call_broken r.program f ids (slice_get r.program.fns g) target keys args ≡ [] →
       CanPass (rows_of r.program f left (call g target keys args)) h →
-      Safe (goes_to r.program f c (passed (rows_of r.program f left (call g target keys args)) h)
+      Safe (goes_to r.program f c (map_after (rows_of r.program f left (call g target keys args)) h)
       (with_call_target f (slice_get r.program.fns g) target ids) [])
       (does_form r rest_of f (call g target keys args) frame w)
 

@@ -2,7 +2,7 @@
 use Rattle.std.specs.Prelude.{◌≡◌, ℕ, true, List, [], length, map, Option, Some, slice_get}
 use Rattle.vlt_core.specs.Core.{Func}
 use Rattle.vlt_core.specs.Types.{with_keys}
-use Rattle.vlt_core.specs.Maps.{HeldMap, CanPass, passed}
+use Rattle.vlt_core.specs.Maps.{HeldMap, CanPass, map_after}
 use Rattle.vlt_core.specs.Rows.{clause_rows, target_rows}
 use Rattle.vlt_core.specs.KindedHeads.{parameters_of}
 use Rattle.vlt_core.specs.KindedScopes.{Ids}
@@ -14,7 +14,7 @@ use Rattle.vlt_sound_worlds.specs.Agrees.{Context, Agrees}
 use Rattle.vlt_sound_worlds.specs.Typed.{IsTyped}
 use Rattle.vlt_sound_worlds.specs.Safe.{Safe, goes_to}
 use Rattle.vlt_sound_worlds.specs.Scoped.{IsScoped}
-use Rattle.vlt_sound_worlds.specs.Handed.{handed}
+use Rattle.vlt_sound_worlds.specs.Handed.{handed_values}
 use Rattle.vlt_sound_calls.specs.Returned.{IsEntered}
 use Rattle.vlt_sound_calls.specs.Heads.{HasHead}
 use Rattle.vlt_sound_calls.specs.Callee.{IsCall}
@@ -29,9 +29,9 @@ pub record ExternalsAreSafe (r : Setup) : Type 0 where
       HasHead r.program g → IsEntered r.program f c → IsScoped f c ids →
       IsCall r.program f g ids keys → IsFreshCall f c g ids keys → call_target_broken f ids g keys target ≡ [] →
       length values ≡ length (map (with_keys keys) (parameters_of g)) →
-      Agrees r.program f c h ids (handed (map (with_keys keys) (parameters_of g)) values) frame w.objects →
+      Agrees r.program f c h ids (handed_values (map (with_keys keys) (parameters_of g)) values) frame w.objects →
       CanPass (clause_rows r.program f keys g.clause) h →
-      CanPass (target_rows f target) (passed (clause_rows r.program f keys g.clause) h) →
-      Safe (goes_to r.program f c (passed (target_rows f target) (passed (clause_rows r.program f keys g.clause) h))
+      CanPass (target_rows f target) (map_after (clause_rows r.program f keys g.clause) h) →
+      Safe (goes_to r.program f c (map_after (target_rows f target) (map_after (clause_rows r.program f keys g.clause) h))
       (with_call_target f (Some g) target ids) [])
       (call_external r.heap r.program f target keys g values frame w)

@@ -1,7 +1,7 @@
 -- What is promised of the answers of externals, once the objects that the host takes are out.
 use Rattle.std.specs.Prelude.{◌≡◌, ℕ, ℤ, true, List, [], map, filter, Option, Some, slice_get}
 use Rattle.vlt_core.specs.Core.{a_key, Func, Program}
-use Rattle.vlt_core.specs.Maps.{HeldMap, wants_absent, becomes_absent, CanPass, passed}
+use Rattle.vlt_core.specs.Maps.{HeldMap, wants_absent, becomes_absent, CanPass, map_after}
 use Rattle.vlt_core.specs.Rows.{row, clause_rows, target_rows}
 use Rattle.vlt_core.specs.Types.{stands_for}
 use Rattle.vlt_core.specs.KindedHeads.{has, tracked_keys}
@@ -21,14 +21,14 @@ use Rattle.vlt_sound_calls.specs.Callee.{caller_key, IsCall}
 use Rattle.vlt_sound_calls.specs.Fresh.{IsFreshCall}
 
 -- the map where the host has what it takes: each key that is taken is absent
-abbrev pub sent : Func → (keys : List ℕ) → HeldMap → HeldMap
-sent g keys h =
-    passed (map (λ e. row (a_key (caller_key keys e)) wants_absent becomes_absent) (filter is_taken g.clause)) h
+abbrev pub map_after_sending : Func → (keys : List ℕ) → HeldMap → HeldMap
+map_after_sending g keys h =
+    map_after (map (λ e. row (a_key (caller_key keys e)) wants_absent becomes_absent) (filter is_taken g.clause)) h
 
 -- what is done with the numbers of an answer
-abbrev pub answered : (heap : ℕ) → Program → Func → (target : Option ℕ) → (keys : List ℕ) → Func →
+abbrev pub answer_step : (heap : ℕ) → Program → Func → (target : Option ℕ) → (keys : List ℕ) → Func →
     (numbers : List ℤ) → Frame → World → Step
-answered heap p f target keys g numbers frame w =
+answer_step heap p f target keys g numbers frame w =
     with_found (or_bad w.taken (fitting p g keys frame numbers w.objects)) w (λ q.
     with_result heap p g keys q.answer.states q.answer.result frame
     (with_objects w (with_answered p g keys frame q.answer q.objects)) (deliver f target))
@@ -44,9 +44,9 @@ pub record AnswersAreSafe (r : Setup) : Type 0 where
       slice_get r.program.fns i ≡ Some g → g.external ≡ true → IsTyped r.program f → IsTyped r.program g →
       HasHead r.program g → IsEntered r.program f c → IsScoped f c ids →
       IsCall r.program f g ids keys → IsFreshCall f c g ids keys → call_target_broken f ids g keys target ≡ [] →
-      Agrees r.program f c (sent g keys h) ids [] frame w.objects → AreNamed g keys frame →
+      Agrees r.program f c (map_after_sending g keys h) ids [] frame w.objects → AreNamed g keys frame →
       CanPass (clause_rows r.program f keys g.clause) h →
-      CanPass (target_rows f target) (passed (clause_rows r.program f keys g.clause) h) →
-      Safe (goes_to r.program f c (passed (target_rows f target) (passed (clause_rows r.program f keys g.clause) h))
+      CanPass (target_rows f target) (map_after (clause_rows r.program f keys g.clause) h) →
+      Safe (goes_to r.program f c (map_after (target_rows f target) (map_after (clause_rows r.program f keys g.clause) h))
       (with_call_target f (Some g) target ids) [])
-      (answered r.heap r.program f target keys g numbers frame w)
+      (answer_step r.heap r.program f target keys g numbers frame w)

@@ -13,10 +13,10 @@ told_row p f keys e =
     row (a_key (caller_key keys e)) wants_held (becomes_held (states_or_all p f (caller_key keys e) e.after))
 
 -- the map where the objects of entries, those of new keys aside, have their new states
-abbrev pub told : Program → Func → (keys : List ℕ) → List Entry → HeldMap → HeldMap
-told p f keys [] h = h
-told p f keys (e ∷ es) h =
-    if is_new e then told p f keys es h else told p f keys es (row_passed (told_row p f keys e) h)
+abbrev pub map_after_telling : Program → Func → (keys : List ℕ) → List Entry → HeldMap → HeldMap
+map_after_telling p f keys [] h = h
+map_after_telling p f keys (e ∷ es) h =
+    if is_new e then map_after_telling p f keys es h else map_after_telling p f keys es (row_passed (told_row p f keys e) h)
 
 -- the states that the clause allows are states of the type of the caller's key
 pub record IsTellable (p : Program) (f g : Func) (keys : List ℕ) (e : Entry) : Type 0 where

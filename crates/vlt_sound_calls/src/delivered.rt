@@ -2,7 +2,7 @@
 
 ghost use Rattle.std.specs.Prelude.{◌≡◌, ℕ, List, [], Option, Some};
 ghost use Rattle.vlt_core.specs.Core.{Func, Program};
-ghost use Rattle.vlt_core.specs.Maps.{HeldMap, CanPass, passed};
+ghost use Rattle.vlt_core.specs.Maps.{HeldMap, CanPass, map_after};
 ghost use Rattle.vlt_core.specs.Rows.{target_rows};
 ghost use Rattle.vlt_core.specs.KindedScopes.{Ids};
 ghost use Rattle.vlt_core.specs.KindedCalls.{call_target_broken, with_call_target};
@@ -21,6 +21,6 @@ pub fn results_are_delivered()
         (w : World) (keys : List ℕ) (a : Option Value) (target : Option ℕ) → IsTyped p f →
         HasHead p g → IsCall p f g ids keys → call_target_broken f ids g keys target ≡ [] →
         CanPass (target_rows f target) h → IsGiven p f c h ids frame w.objects keys g.result a →
-        Safe (goes_to p f c (passed (target_rows f target) h)
+        Safe (goes_to p f c (map_after (target_rows f target) h)
         (with_call_target f (Some g) target ids) []) (step.deliver f target a frame w) }
 {}

@@ -2,7 +2,7 @@
 
 ghost use Rattle.std.specs.Prelude.{◌≡◌, ℕ, List, [], Option, Some};
 ghost use Rattle.vlt_core.specs.Core.{Func, Program};
-ghost use Rattle.vlt_core.specs.Maps.{HeldMap, CanPass, passed};
+ghost use Rattle.vlt_core.specs.Maps.{HeldMap, CanPass, map_after};
 ghost use Rattle.vlt_core.specs.Rows.{clause_rows, target_rows};
 ghost use Rattle.vlt_core.specs.KindedScopes.{Ids};
 ghost use Rattle.vlt_core.specs.KindedCalls.{call_target_broken, with_call_target};
@@ -23,9 +23,9 @@ pub fn callers_go_on()
         (target : Option ℕ) (a : Option Value) (given : List ℕ) (w' : World) →
         IsCaller p f c h ids hand frame w.objects g keys →
         call_target_broken f ids g keys target ≡ [] →
-        CanPass (target_rows f target) (passed (clause_rows p f keys g.clause) h) →
+        CanPass (target_rows f target) (map_after (clause_rows p f keys g.clause) h) →
         Returned p g (callee_context f h ids frame c g keys) a given w' →
-        Safe (goes_to p f c (passed (target_rows f target)
-        (passed (clause_rows p f keys g.clause) h)) (with_call_target f (Some g) target ids) [])
+        Safe (goes_to p f c (map_after (target_rows f target)
+        (map_after (clause_rows p f keys g.clause) h)) (with_call_target f (Some g) target ids) [])
         (back_in f target keys g frame (leaves a given w')) }
 {}

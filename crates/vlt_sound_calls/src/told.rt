@@ -8,7 +8,7 @@ ghost use Rattle.vlt_meaning.specs.World.{Object, Frame};
 ghost use Rattle.vlt_meaning.specs.Externals.{entry_states, with_states};
 ghost use Rattle.vlt_sound_worlds.specs.Agrees.{Handed, Context, Agrees};
 ghost use Rattle.vlt_sound_worlds.specs.Said.{GoTogether, IsAfter};
-ghost use Rattle.vlt_sound_calls.specs.Told.{told, AreTellable};
+ghost use Rattle.vlt_sound_calls.specs.Told.{map_after_telling, AreTellable};
 
 /// Where an answer gives the objects of keys that are held other states of the clause, the held map says those behind it.
 pub fn answered_states_are_told()
@@ -16,6 +16,6 @@ pub fn answered_states_are_told()
         (hand : List Handed) (frame : Frame) (os : List Object) (keys : List ℕ)
         (es : List Entry) (states : List ℕ) → Agrees p f c h ids hand frame os →
         AreTellable p f g keys es h → GoTogether (IsAfter p g) es states →
-        Agrees p f c (told p f keys es h) ids hand frame
+        Agrees p f c (map_after_telling p f keys es h) ids hand frame
         (with_states (entry_states keys frame es states) os) }
 {}

@@ -3,7 +3,7 @@ use Rattle.std.proofs.Common.{◌≡◌, ⊎_elim, ℕ, ◌==◌, Bool, true, fa
 use Rattle.std.proofs.lemmas.Bool.{cases_Bool, eqb-true, eq-eqb}
 use Rattle.std.proofs.lemmas.Option.{same_Some, none-some}
 use Rattle.vlt_core.specs.Core.{Arms, no_arms, arm, Block, Func, Program}
-use Rattle.vlt_core.specs.Maps.{HeldMap, CanPass, passed}
+use Rattle.vlt_core.specs.Maps.{HeldMap, CanPass, map_after}
 use Rattle.vlt_core.specs.Rows.{arm_rows}
 use Rattle.vlt_core.specs.Bodies.{flow_of_block, flow_of_arms}
 use Rattle.vlt_core.specs.Derives.{DerivesBlock, DerivesArms}
@@ -83,7 +83,7 @@ module _ (p : Program) (f : Func) (s : Site) (v : ℕ) (h k : HeldMap) where
     pub broken : arm_broken p f scope v case vs ≡ []
     pub kinded : IsKindedBlock p f s.around (owning_toks f vs) (with_vars f vs scope) body
     pub pass : CanPass (arm_rows p f v case vs) h
-    pub leads : DerivesBlock s.breaks s.turns (passed (arm_rows p f v case vs) h) (flow_of_block p f s.left body) k
+    pub leads : DerivesBlock s.breaks s.turns (map_after (arm_rows p f v case vs) h) (flow_of_block p f s.left body) k
 
   pub arm_at : (case : ℕ) (arms : Arms) (ids : Ids) → IsAt p f s ids → arms_broken p f ids v arms ≡ [] →
       BreakNone (arms_rows p f s.around ids arms) →

@@ -7,7 +7,7 @@ use Rattle.std.specs.List.{list_all, enumerate_from}
 use Rattle.vlt_core.specs.Core.{Program}
 use Rattle.vlt_core.specs.Lookups.{release_set}
 use Rattle.vlt_meaning.specs.World.{Object, above, gone}
-use Rattle.vlt_meaning.specs.Objects.{is_under, is_releasable, released, with_owner}
+use Rattle.vlt_meaning.specs.Objects.{is_under, is_releasable, objects_after_release, with_owner}
 use Rattle.vlt_sound_worlds.specs.Look.{look, EndsThose}
 use Rattle.vlt_sound_worlds.specs.Ranks.{IsRanked}
 use Rattle.vlt_sound_worlds.specs.Below.{HasUpper, IsBelowTest}
@@ -61,7 +61,7 @@ releasable p os n all =
     by true c to e = to refl
     by false c to e = refl
 
-pub length_released : (n : ℕ) (os : List Object) → length (released n os) ≡ length os
+pub length_released : (n : ℕ) (os : List Object) → length (objects_after_release n os) ≡ length os
 length_released n os = length-map (enumerate_from 0 os) _ ∙ length-enumerate_from 0 os
 
 or_left : (a b : Bool) → a ≡ true → (a || b) ≡ true
@@ -91,7 +91,7 @@ ended_none os ranked = record {
 
 -- one more is released, which wasn't yet
 pub ended_more : (xs : List ℕ) (os os1 : List Object) (a : AreEnded xs os os1) (n : ℕ) → n < length os →
-    AreEnded (n ∷ xs) os (released n os1)
+    AreEnded (n ∷ xs) os (objects_after_release n os1)
 ended_more xs os os1 a n within = record {
   test = test;
   ends = record { those = those; others = others };
@@ -119,10 +119,10 @@ ended_more xs os os1 a n within = record {
     b : IsBelowTest (look os1) n under
     b = below_test os1 n within1
 
-    e1 : EndsThose under (look os1) (look (released n os1))
+    e1 : EndsThose under (look os1) (look (objects_after_release n os1))
     e1 = ends_those os1 n
 
-    those : (m : ℕ) → test m ≡ true → look (released n os1) m ≡ with_owner gone (look os m)
+    those : (m : ℕ) → test m ≡ true → look (objects_after_release n os1) m ≡ with_owner gone (look os m)
     those m t = ⊎_elim
         (λ was. ⊎_elim
         (λ now. e1.those m now ∙ ap (with_owner gone) (a.ends.those m was))
@@ -131,7 +131,7 @@ ended_more xs os os1 a n within = record {
         (λ off. e1.those m (or_other (a.test m) (under m) off t) ∙ ap (with_owner gone) (a.ends.others m off))
         (cases_Bool (a.test m))
 
-    others : (m : ℕ) → test m ≡ false → look (released n os1) m ≡ look os m
+    others : (m : ℕ) → test m ≡ false → look (objects_after_release n os1) m ≡ look os m
     others m f =
         let both = neither (a.test m) (under m) f in
         e1.others m both.1 ∙ a.ends.others m both.0

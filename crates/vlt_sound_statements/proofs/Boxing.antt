@@ -4,7 +4,7 @@ use Rattle.std.proofs.lemmas.List.{append-nil}
 use Rattle.std.proofs.lemmas.Option.{same_Some}
 use Rattle.vlt_core.specs.Core.{a_key, a_var, Func, Program}
 use Rattle.vlt_core.specs.Lookups.{is_owning_var, key_type, KeyIn}
-use Rattle.vlt_core.specs.Maps.{HeldMap, passed}
+use Rattle.vlt_core.specs.Maps.{HeldMap, map_after}
 use Rattle.vlt_core.specs.KindedScopes.{Ids}
 use Rattle.vlt_meaning.specs.World.{objects_in, loose, gone, adopted_by, above, Object, Frame}
 use Rattle.vlt_meaning.specs.World as world
@@ -35,9 +35,9 @@ module _ {p : Program} {f : Func} {c : Context} {h : HeldMap} {ids : Ids} {hand 
     (os' : List Object) (moves : MovesThese ns loose (look os) (look os')) (long : length os' ≡ length os) where
   pub agrees_boxed : (x : Handed) → objects_in x.value ≡ values_of hand ++ ns →
       Fits p (scene c os agrees.heads) frame.keys x.type x.value →
-      Agrees p f c (passed (map pack_row ks) h) ids (x ∷ []) frame os'
+      Agrees p f c (map_after (map pack_row ks) h) ids (x ∷ []) frame os'
   agrees_boxed x objects fits =
-      agrees_changed agrees os' agrees.heads (passed (map pack_row ks) h) ids (x ∷ []) frame (record {
+      agrees_changed agrees os' agrees.heads (map_after (map pack_row ks) h) ids (x ∷ []) frame (record {
         long = λ m lt. subst (λ n. m < n) (sym long) lt;
         type = λ m lt. types m;
         state = λ m lt. states m;
@@ -165,7 +165,7 @@ module _ {p : Program} {f : Func} {c : Context} {h : HeldMap} {ids : Ids} {hand 
           (λ off. ap (λ o. cell_of o l) (moves.others m off))
           (in_or_not m ns)
 
-      keys : (j : ℕ) → KeyAgrees (key_type f j) (passed (map pack_row ks) h (a_key j)) frame.depth j (frame.keys j) (look os')
+      keys : (j : ℕ) → KeyAgrees (key_type f j) (map_after (map pack_row ks) h (a_key j)) frame.depth j (frame.keys j) (look os')
       keys j = ⊎_elim
           (λ i. key_absent (packed_absent ks h j i) (λ m u.
           let was = subst (IsUnder frame.depth j) (owner_other m (not_loose m frame.depth j u)) u in

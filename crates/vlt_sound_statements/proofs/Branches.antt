@@ -7,7 +7,7 @@ use Rattle.vlt_core.specs.Bodies.{flow_of_block}
 use Rattle.vlt_core.specs.Derives.{toward, DerivesBlock}
 use Rattle.vlt_core.specs.KindedHeads.{unless, has}
 use Rattle.vlt_core.specs.declared.rules.TheConstants as rule
-use Rattle.vlt_core.specs.KindedScopes.{Ids, entered, left_behind}
+use Rattle.vlt_core.specs.KindedScopes.{Ids, at_block_start, left_behind}
 use Rattle.vlt_core.specs.KindedOperands.{misfit, type_of_expr, expr_broken, value_broken}
 use Rattle.vlt_core.specs.KindedBodies.{in_loop, list_broken, row_broken, form_rows, block_rows, stmts_rows, ids_behind, ids_behind_block, ids_behind_stmts, ends}
 use Rattle.vlt_core_laws.specs.Scoped.{is_bound}
@@ -64,9 +64,9 @@ module _ (r : Setup) (rest_of : Meaning) (f : Func)
         let m = leads.0 in
         end_safe (comes_to r.program f inner m last) (comes_to r.program f s k (left_behind ids last)) bound
         (does_stmts r rest_of f ss frame w)
-        (safe inner h m (entered ids) false frame w
+        (safe inner h m (at_block_start ids) false frame w
         (record { entered = at.entered; scoped = entered_scoped at.scoped; outer = at.outer })
-        kinded.rows leads.1 (agrees_in (entered ids) (λ u e. e) agrees))
+        kinded.rows leads.1 (agrees_in (at_block_start ids) (λ u e. e) agrees))
         (λ frame w now. (
           unused w now bound owning leads.2,
           agrees_in (left_behind ids last) (λ u e. grown.vars u e)
@@ -85,13 +85,13 @@ module _ (r : Setup) (rest_of : Meaning) (f : Func)
         (λ v kept w left. record { allowed = left.allowed; returned = left.returned })
       where
         last : Ids
-        last = ids_behind_stmts r.program f ss (entered ids)
+        last = ids_behind_stmts r.program f ss (at_block_start ids)
 
         inner : Site
         inner = record s { left = s.left ++ bound }
 
         grown : Widens ids last
-        grown = entered_widens ids (stmts_widen r.program f ss (entered ids))
+        grown = entered_widens ids (stmts_widen r.program f ss (at_block_start ids))
 
         owning : AreOwning f bound
         owning = listed_owning f bound (extra ++ last.bound) kinded.listed

@@ -7,7 +7,7 @@ use Rattle.std.specs.List.{flat_map, filter_map, cons_option}
 use Rattle.std.specs.Option.{option_map}
 use Rattle.vlt_core.specs.Core.{Ty, int, bool, tracked, owning, guarded, variant, owning_variant, a_var, Operand, CaseKey, CaseDecl, build, Func, Program}
 use Rattle.vlt_core.specs.Lookups.{var_type, is_owning, is_owning_var, owns, cases_of, case_at, variant_of, variant_in, KeyIn, keys_in, case_keys, key_type}
-use Rattle.vlt_core.specs.Maps.{HeldMap, wants_absent, becomes_full, CanPass, passed}
+use Rattle.vlt_core.specs.Maps.{HeldMap, wants_absent, becomes_full, CanPass, map_after}
 use Rattle.vlt_core.specs.Rows.{simple_rows, operands_rows, fill_rows, row, on_option}
 use Rattle.vlt_core.specs.Types.{decl_of, is_variant, with_keys, stands_for, header_of, keys_of_ty, type_in, args_of}
 use Rattle.vlt_core.specs.KindedHeads.{is_payload_type}
@@ -25,7 +25,7 @@ use Rattle.vlt_sound_worlds.specs.Look.{look}
 use Rattle.vlt_sound_worlds.specs.Members.{In}
 use Rattle.vlt_sound_worlds.specs.Keys.{IsOfType}
 use Rattle.vlt_sound_worlds.specs.Scene.{Scene}
-use Rattle.vlt_sound_worlds.specs.Fits.{Names, names_of, joined, header_type, FitParts, FitKeys, IsCase, IsOne, Fits}
+use Rattle.vlt_sound_worlds.specs.Fits.{Names, names_of, option_join, header_type, FitParts, FitKeys, IsCase, IsOne, Fits}
 use Rattle.vlt_sound_worlds.proofs.Fits.{fits_named, fits_behind}
 use Rattle.vlt_sound_worlds.specs.Agrees.{FitHanded, Context, scene, Agrees}
 use Rattle.vlt_sound_worlds.specs.Typed.{IsTyped}
@@ -38,7 +38,7 @@ use Rattle.vlt_sound_worlds.proofs.Safe.{found_safe, so_safe}
 use Rattle.vlt_sound_worlds.proofs.FrameChanges.{agrees_set, target_scope}
 use Rattle.vlt_sound_worlds.proofs.Owning.{fill_safe}
 use Rattle.vlt_sound_worlds.proofs.TypeFacts.{target_known}
-use Rattle.vlt_sound_worlds.specs.Handed.{handed}
+use Rattle.vlt_sound_worlds.specs.Handed.{handed_values}
 use Rattle.vlt_sound_worlds.proofs.Hand.{given, agrees_hand}
 use Rattle.vlt_sound_worlds.proofs.OperandsLaws.{operands_safe}
 use Rattle.vlt_sound_statements.specs.Makings.{HasCases}
@@ -71,7 +71,7 @@ module _ (p : Program) (s : Scene) (names : Names) (args : List ℕ) where
   parts_fit : (types : List Ty) (values : List Value) →
       ((i : ℕ) (ty : Ty) → slice_get types i ≡ Some ty → (is_payload_type ty ≡ true) × ((k : ℕ) → In k (keys_of_ty ty) → k < length args)) →
       length values ≡ length (map (with_keys args) types) →
-      FitHanded p s names (handed (map (with_keys args) types) values) → AreParts p s names args types values
+      FitHanded p s names (handed_values (map (with_keys args) types) values) → AreParts p s names args types values
   parts_fit [] [] known long fits = record { parts = []; is = refl; same = refl; fit = tt }
   parts_fit [] (a ∷ values) known long fits = cc
   parts_fit (t ∷ types) [] known long fits = cc
@@ -109,7 +109,7 @@ module _ (p : Program) (f : Func) (s : Scene) (frame : Frame) (t : ℕ) (args : 
       (slice_get_cases args i).1
     where
       none : length args ≤ i → header_type p t i ≡ None
-      none le = ap joined (slice_get_past (header_of p t) i (subst (λ n. n ≤ i) count le))
+      none le = ap option_join (slice_get_past (header_of p t) i (subst (λ n. n ≤ i) count le))
 
   keys_fit : (cs : List CaseKey) (ns : List ℕ) →
       ((i : ℕ) (k : CaseKey) → slice_get cs i ≡ Some k → (u : ℕ) × (header_type p t k.position ≡ Some u)) →
@@ -134,7 +134,7 @@ module _ (p : Program) (f : Func) (s : Scene) (frame : Frame) (t : ℕ) (args : 
       by rest [] all = absurd all
       by rest (n ∷ ns) all = (
         record {
-          named = ap joined (slice_get-map frame.keys args q.position ∙ ap (option_map frame.keys) at.1) ∙ all.0.named;
+          named = ap option_join (slice_get-map frame.keys args q.position ∙ ap (option_map frame.keys) at.1) ∙ all.0.named;
           typed =
               subst (λ o. IsOfType o (look s.objects n).type) (typed_key q.position at.0 head.0 at.1 head.1 ∙ sym head.1)
               all.0.typed;
@@ -213,12 +213,12 @@ module _ (p : Program) (f : Func) (typed : IsTyped p f) {c : Context} {h : HeldM
     (w : World) (v : ℕ) (ty : Ty) (is : var_type f v ≡ Some ty) where
   filled_safe : (a : Value) → (agrees : Agrees p f c h ids (given a ty ∷ []) frame w.objects) → (is_owning ty ≡ true → fits_owning ty ty ≡ true) →
       CanPass (fill_rows f (v ∷ [])) h →
-      Safe (goes_to p f c (passed (fill_rows f (v ∷ [])) h) (with_target f v ids) []) (fill f v a frame w)
+      Safe (goes_to p f c (map_after (fill_rows f (v ∷ [])) h) (with_target f v ids) []) (fill f v a frame w)
   unfolding fill
   filled_safe a agrees wide pass = ⊎_elim
       (λ own.
       let rows : fill_rows f (v ∷ []) ≡ row (a_var v) wants_absent becomes_full ∷ [] = owning_row (ap owns is ∙ own) in
-      subst (λ rs. Safe (goes_to p f c (passed rs h) (with_target f v ids) []) (fill f v a frame w)) (sym rows)
+      subst (λ rs. Safe (goes_to p f c (map_after rs h) (with_target f v ids) []) (fill f v a frame w)) (sym rows)
       (fill_safe p f typed.limited w agrees v ty (with_target f v ids) is own own (wide own)
       (subst (λ rs. CanPass rs h) rows pass).0 (target_scope f v ids)))
       (λ plain.
@@ -228,7 +228,7 @@ module _ (p : Program) (f : Func) (typed : IsTyped p f) {c : Context} {h : HeldM
       (λ u args e. typed.variants v u args (is ∙ ap Some e)) agrees.handed.0 in
       let set_now =
       agrees_set agrees v ty a (with_target f v ids) is plain none agrees.handed.0 (target_scope f v ids) in
-      subst (λ rs. Safe (goes_to p f c (passed rs h) (with_target f v ids) []) (fill f v a frame w)) (sym (plain_row off))
+      subst (λ rs. Safe (goes_to p f c (map_after rs h) (with_target f v ids) []) (fill f v a frame w)) (sym (plain_row off))
       (so_safe (goes_to p f c h (with_target f v ids) []) (is_fillable f v frame) not_empty None w _
       (ap (λ b. not (b && is_some (frame.vars v))) off)
       (agrees_hand set_now [] (sym (append-nil (objects_in a) ∙ none)) tt)))
@@ -250,7 +250,7 @@ module _ (r : Setup) (f : Func) (typed : IsTyped r.program f) (kinds : HasCases 
       CanPass (operands_rows r.program f os ++ map pack_row (case_keys r.program (record { type = vt.type; args = vt.args }) case) ++ fill_rows f (v ∷ [])) h →
       Safe
       (goes_to r.program f c
-      (passed (operands_rows r.program f os ++ map pack_row (case_keys r.program (record { type = vt.type; args = vt.args }) case) ++ fill_rows f (v ∷ [])) h)
+      (map_after (operands_rows r.program f os ++ map pack_row (case_keys r.program (record { type = vt.type; args = vt.args }) case) ++ fill_rows f (v ∷ [])) h)
       (with_target f v ids) [])
       (does_simple r f (build v case os) frame w)
   build_known v case os ty is vt d declared count kinded pass =
@@ -264,9 +264,9 @@ module _ (r : Setup) (f : Func) (typed : IsTyped r.program f) (kinds : HasCases 
       let first = pass_split (A ++ B) C h pass in
       let second = pass_split A B h first.0 in
       let split = passed_split A B h in
-      let map_same = passed_split (A ++ B) C h ∙ ap (passed C) split in
-      let last : CanPass C (passed B (passed A h)) = subst (CanPass C) split first.1 in
-      let G = goes_to p f c (passed C (passed B (passed A h))) (with_target f v ids) [] in
+      let map_same = passed_split (A ++ B) C h ∙ ap (map_after C) split in
+      let last : CanPass C (map_after B (map_after A h)) = subst (CanPass C) split first.1 in
+      let G = goes_to p f c (map_after C (map_after B (map_after A h))) (with_target f v ids) [] in
       let long : length os ≡ length (map (with_keys args) d.payload) =
       count ∙ sym (length-map d.payload (with_keys args)) in
       let header : length args ≡ length (header_of p t) =
@@ -284,7 +284,7 @@ module _ (r : Setup) (f : Func) (typed : IsTyped r.program f) (kinds : HasCases 
       parts_fit p s frame'.keys args d.payload values
       (λ i ty at. let q = kinds.payloads t case i d ty declared at in (q.0, λ k j. subst (λ n. k < n) (sym header) (q.1 k j)))
       more next.handed in
-      let hold = hold_all ks (passed A h) (finds next) second.1 in
+      let hold = hold_all ks (map_after A h) (finds next) second.1 in
       found_safe G (parts_of values) ps.parts w' _ ps.is
       (packs_safe f frame' G ks hold.0 w' _ hold.1
       (λ w2 moves longer.
@@ -309,7 +309,7 @@ module _ (r : Setup) (f : Func) (typed : IsTyped r.program f) (kinds : HasCases 
   pub build_safe : (v case : ℕ) (os : List Operand) → simple_broken r.program f ids (build v case os) ≡ [] →
       CanPass (simple_rows r.program f (build v case os)) h →
       Safe
-      (goes_to r.program f c (passed (simple_rows r.program f (build v case os)) h) (ids_after f (build v case os) ids) [])
+      (goes_to r.program f c (map_after (simple_rows r.program f (build v case os)) h) (ids_after f (build v case os) ids) [])
       (does_simple r f (build v case os) frame w)
   build_safe v case os kinded pass =
       let A = wanted_of (var_type f v) is_variant_type in
@@ -329,7 +329,7 @@ module _ (r : Setup) (f : Func) (typed : IsTyped r.program f) (kinds : HasCases 
       ap (λ o. payload_types r.program o case) args_is ∙ ap (payload_types_in vt.args) facts.declared in
       let rows = build_rows r.program f v case os vt.type vt.args (ap variant_in t.1 ∙ vt.of) in
       subst
-      (λ rs. Safe (goes_to r.program f c (passed rs h) (with_target f v ids) []) (does_simple r f (build v case os) frame w)) (sym rows)
+      (λ rs. Safe (goes_to r.program f c (map_after rs h) (with_target f v ids) []) (does_simple r f (build v case os) frame w)) (sym rows)
       (build_known v case os t.0 t.1 vt facts.decl facts.declared facts.count
       (subst (λ ts. operands_broken r.program f ids ts os ≡ []) types s2.1)
       (subst (λ rs. CanPass rs h) rows pass))

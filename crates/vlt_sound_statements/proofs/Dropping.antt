@@ -5,7 +5,7 @@ use Rattle.std.proofs.lemmas.List.{append-nil}
 use Rattle.std.proofs.lemmas.Option.{none-some}
 use Rattle.vlt_core.specs.Core.{Ty, a_var, Func, Program, drop}
 use Rattle.vlt_core.specs.Lookups.{var_type, is_owning, is_owning_var}
-use Rattle.vlt_core.specs.Maps.{absent, HeldMap, row_passed, CanPass, passed}
+use Rattle.vlt_core.specs.Maps.{absent, HeldMap, row_passed, CanPass, map_after}
 use Rattle.vlt_core.specs.Rows.{simple_rows, empty_row}
 use Rattle.vlt_core.specs.Types.{is_droppable}
 use Rattle.vlt_core.specs.KindedHeads.{unless, when_some}
@@ -15,7 +15,7 @@ use Rattle.vlt_core.specs.KindedStatements.{simple_broken, ids_after}
 use Rattle.vlt_meaning.specs.World.{Value, objects_in, Owner, gone, loose, is_loose, above, Object, World, Frame, no_value}
 use Rattle.vlt_meaning.specs.World as world
 use Rattle.vlt_meaning.specs.Found.{or_fault}
-use Rattle.vlt_meaning.specs.Objects.{is_under, owned_at, released}
+use Rattle.vlt_meaning.specs.Objects.{is_under, owned_at, objects_after_release}
 use Rattle.vlt_meaning.specs.Step.{Step, goes, with_objects, with_dropped}
 use Rattle.vlt_meaning.specs.Run.{Setup, does_simple}
 use Rattle.vlt_sound_worlds.specs.Look.{look}
@@ -116,7 +116,7 @@ module _ {p : Program} {f : Func} {c : Context} {h : HeldMap} {ids : Ids} {hand 
       (owned_found is_loose w.objects n within (ap is_loose held))
       (released_safe g p n w (λ w. with_dropped p ns w go)
       (releasable p w.objects n (λ m t. (next_ends done w.objects a n next m t).released))
-      (drops g ns (n ∷ done) (with_objects w (released n w.objects)) go
+      (drops g ns (n ∷ done) (with_objects w (objects_after_release n w.objects)) go
       (ended_more done os w.objects a n next.within)
       (λ m i.
       let was = each m (inr i) in
@@ -217,7 +217,7 @@ module _ (r : Setup) (f : Func)
   pub drop_safe : (v : ℕ) → simple_broken r.program f ids (drop v) ≡ [] →
       CanPass (simple_rows r.program f (drop v)) h →
       Safe
-      (goes_to r.program f c (passed (simple_rows r.program f (drop v)) h) (ids_after f (drop v) ids) [])
+      (goes_to r.program f c (map_after (simple_rows r.program f (drop v)) h) (ids_after f (drop v) ids) [])
       (does_simple r f (drop v) frame w)
   drop_safe v kinded pass =
       let both = both_empty (use_broken f ids v)

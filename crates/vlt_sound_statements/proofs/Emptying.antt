@@ -4,7 +4,7 @@ use Rattle.std.proofs.Common.{◌≡◌, inl, ⊎_elim, ℕ, ◌<◌, ◌≤◌,
 use Rattle.std.proofs.lemmas.Bool.{cases_eq, eqb-true, eq-eqb, ne_eqb, or_left, or_right}
 use Rattle.vlt_core.specs.Core.{Tok, a_key, a_var, Func, Program}
 use Rattle.vlt_core.specs.Lookups.{is_owning_var, owns, key_type, KeyIn}
-use Rattle.vlt_core.specs.Maps.{absent, held, full, HeldMap, wants_absent, becomes_held, Row, is_tok, row_passed, CanPass, passed}
+use Rattle.vlt_core.specs.Maps.{absent, held, full, HeldMap, wants_absent, becomes_held, Row, is_tok, row_passed, CanPass, map_after}
 use Rattle.vlt_core.specs.Rows.{row}
 use Rattle.vlt_core.specs.KindedHeads.{has}
 use Rattle.vlt_core.specs.KindedScopes.{Ids}
@@ -12,7 +12,7 @@ use Rattle.vlt_core_laws.proofs.Ids.{or_split}
 use Rattle.vlt_meaning.specs.World.{Value, of_case, objects_in, Owner, loose, is_loose, adopted_by, gone, Object, Frame, World, no_value, other_object, wrong_state}
 use Rattle.vlt_meaning.specs.World as world
 use Rattle.vlt_meaning.specs.Found.{◌>>=◌, or_fault, if_so}
-use Rattle.vlt_meaning.specs.Objects.{changed, with_owner, owned_at, in_states}
+use Rattle.vlt_meaning.specs.Objects.{with_changed_object, with_owner, owned_at, in_states}
 use Rattle.vlt_meaning.specs.Step.{Step, with_changed, set_at}
 use Rattle.vlt_meaning.specs.Step as step
 use Rattle.vlt_meaning.specs.Operands.{case_object, with_case_opened}
@@ -251,7 +251,7 @@ module _ {p : Program} {f : Func} {c : Context} {h : HeldMap} (ids : Ids) {hand 
     (status : h (a_var v) ≡ full) (k : KeyIn) (opened : IsOpened f frame.keys (look os) k n)
     (empty : h (a_key k.key) ≡ absent) (h' : HeldMap) (tok : ChangesTok (a_key k.key) (held k.states) h h') where
   abbrev moved : List Object
-  moved = changed n (with_owner (world.held frame.depth k.key)) os
+  moved = with_changed_object n (with_owner (world.held frame.depth k.key)) os
 
   abbrev rest : Value
   rest = of_case i [] ns
@@ -377,7 +377,7 @@ module _ {p : Program} {f : Func} {c : Context} {h : HeldMap} (ids : Ids) {hand 
 
 -- what is known of the others stays so
 opened_stay : (f : Func) (names : Names) (os : List Object) (n : ℕ) (q : Owner) → n < length os → (ks : List KeyIn) (ns : List ℕ) →
-    AreOpened f names (look os) ks ns → AreOpened f names (look (changed n (with_owner q) os)) ks ns
+    AreOpened f names (look os) ks ns → AreOpened f names (look (with_changed_object n (with_owner q) os)) ks ns
 opened_stay f names os n q there [] [] all = tt
 opened_stay f names os n q there [] (m ∷ ns) all = absurd all
 opened_stay f names os n q there (k ∷ ks) [] all = absurd all
@@ -390,18 +390,18 @@ opened_stay f names os n q there (k ∷ ks) (m ∷ ns) all = (
   opened_stay f names os n q there ks ns all.1,
 )
   where
-    change : ChangesOne n (with_owner q) (look os) (look (changed n (with_owner q) os))
+    change : ChangesOne n (with_owner q) (look os) (look (with_changed_object n (with_owner q) os))
     change = changes_one os n (with_owner q) there
 
-    types : (m : ℕ) → (look (changed n (with_owner q) os) m).type ≡ (look os m).type
+    types : (m : ℕ) → (look (with_changed_object n (with_owner q) os) m).type ≡ (look os m).type
     types m = ⊎_elim
-        (λ same. ap (λ k. (look (changed n (with_owner q) os) k).type) same ∙ (ap (λ o. o.type) change.here ∙ ap (λ k. (look os k).type) (sym same)))
+        (λ same. ap (λ k. (look (with_changed_object n (with_owner q) os) k).type) same ∙ (ap (λ o. o.type) change.here ∙ ap (λ k. (look os k).type) (sym same)))
         (λ other. ap (λ o. o.type) (change.others m other))
         (cases_eq m n)
 
-    states : (m : ℕ) → (look (changed n (with_owner q) os) m).state ≡ (look os m).state
+    states : (m : ℕ) → (look (with_changed_object n (with_owner q) os) m).state ≡ (look os m).state
     states m = ⊎_elim
-        (λ same. ap (λ k. (look (changed n (with_owner q) os) k).state) same ∙ (ap (λ o. o.state) change.here ∙ ap (λ k. (look os k).state) (sym same)))
+        (λ same. ap (λ k. (look (with_changed_object n (with_owner q) os) k).state) same ∙ (ap (λ o. o.state) change.here ∙ ap (λ k. (look os k).state) (sym same)))
         (λ other. ap (λ o. o.state) (change.others m other))
         (cases_eq m n)
 
@@ -421,7 +421,7 @@ module _ {p : Program} {f : Func} {c : Context} (ids : Ids) {hand : List Handed}
   pub opened_safe : (ks : List KeyIn) (ns : List ℕ) (m : HeldMap) (w : World) →
       Agrees p f c (with_full v m) (apart_from v ids) hand (step.with_var v (Some (of_case i [] ns)) frame) w.objects →
       AreOpened f frame.keys (look w.objects) ks ns → CanPass (map key_row ks) m →
-      ((w' : World) → Agrees p f c (with_full v (passed (map key_row ks) m)) (apart_from v ids) hand (step.with_var v (Some (of_case i [] [])) frame) w'.objects → Safe g (go w')) →
+      ((w' : World) → Agrees p f c (with_full v (map_after (map key_row ks) m)) (apart_from v ids) hand (step.with_var v (Some (of_case i [] [])) frame) w'.objects → Safe g (go w')) →
       Safe g (with_case_opened ks ns frame w go)
   unfolding with_case_opened
   opened_safe [] [] m w agrees all pass safe = safe w agrees

@@ -2,7 +2,7 @@
 use Rattle.std.proofs.Common.{◌≡◌, ℕ, suc, true, false, ◌&&◌, not, List, [], ◌∷◌, ◌++◌, length, map, Option, Some, None, is_some, refl, sym, ap, ◌∙◌, subst}
 use Rattle.vlt_core.specs.Core.{Ty, a_var, Func, Program}
 use Rattle.vlt_core.specs.Lookups.{var_type, is_owning_var, owns}
-use Rattle.vlt_core.specs.Maps.{full, HeldMap, wants_absent, becomes_full, Row, row_passed, CanPass, passed}
+use Rattle.vlt_core.specs.Maps.{full, HeldMap, wants_absent, becomes_full, Row, row_passed, CanPass, map_after}
 use Rattle.vlt_core.specs.Rows.{row, fill_rows}
 use Rattle.vlt_core.specs.Types.{same_ty}
 use Rattle.vlt_core.specs.declared.rules.TheConstants as rule
@@ -37,7 +37,7 @@ module _ (p : Program) (f : Func) (typed : IsTyped p f) {c : Context} where
       Agrees p f c h ids hand frame w.objects → AreOwningHanded hand →
       length (map (λ x. x.type) hand) ≡ length vs →
       opened_broken p f ids (map (λ x. x.type) hand) vs ≡ [] → CanPass (fill_rows f vs) h →
-      Safe (goes_to p f c (passed (fill_rows f vs) h) (with_bindings f vs ids) [])
+      Safe (goes_to p f c (map_after (fill_rows f vs) h) (with_bindings f vs ids) [])
       (with_filled f vs (map (λ x. x.value) hand) frame w (λ frame. goes frame w))
   unfolding with_filled
   filled_safe [] [] h ids frame w agrees own count kinded pass = agrees
@@ -67,9 +67,9 @@ module _ (p : Program) (f : Func) (typed : IsTyped p f) {c : Context} where
       agrees_filled agrees v h1 (row_tok fr h full (row_here fr h)) ty ids1 none known.1 wide.owning fits
       (binding_from f None v ids) in
       subst
-      (λ rs. Safe (goes_to p f c (passed rs h) (with_bindings f vs ids1) [])
+      (λ rs. Safe (goes_to p f c (map_after rs h) (with_bindings f vs ids1) [])
       (with_filled f (v ∷ vs) (x.value ∷ map (λ x. x.value) hand) frame w (λ frame. goes frame w))) (sym rows)
-      (so_safe (goes_to p f c (passed (fill_rows f vs) h1) (with_bindings f vs ids1) [])
+      (so_safe (goes_to p f c (map_after (fill_rows f vs) h1) (with_bindings f vs ids1) [])
       (is_fillable f v frame) not_empty None w _
       (ap (λ a. not (is_owning_var f v && is_some a)) none ∙ ap (λ b. not (b && false)) owner)
       (filled_safe vs hand h1 ids1 (step.with_var v (Some x.value) frame) w next own.1 (ap less count) s2.1 ok.1))

@@ -5,7 +5,7 @@ use Rattle.std.proofs.lemmas.Option.{same_Some}
 use Rattle.vlt_core.specs.Core.{States, Tok, tracked, guarded, a_key, focus, Block, Func, Program}
 use Rattle.vlt_core.specs.Lookups.{var_type, Reference, reference_of, tracked_in, guarded_of, guarded_in, release_set}
 use Rattle.vlt_core.specs.Types.{is_droppable_struct}
-use Rattle.vlt_core.specs.Maps.{absent, held, lent, states_of, HeldMap, IsBelow, wants_absent, wants_held, wants_in, wants_lent, becomes_absent, becomes_held, becomes_lent, comes_back, changed as status_after, Row, row_passed, CanPass, passed}
+use Rattle.vlt_core.specs.Maps.{absent, held, lent, states_of, HeldMap, IsBelow, wants_absent, wants_held, wants_in, wants_lent, becomes_absent, becomes_held, becomes_lent, comes_back, status_after, Row, row_passed, CanPass, map_after}
 use Rattle.vlt_core.specs.Rows.{row, rows_of, focus_end_rows}
 use Rattle.vlt_core.specs.Bodies.{flow_of, flow_of_block}
 use Rattle.vlt_core.specs.Derives.{Derives, DerivesBlock}
@@ -15,10 +15,10 @@ use Rattle.vlt_core.specs.KindedBodies.{focus_broken, with_focus, in_focus, list
 use Rattle.vlt_meaning.specs.World.{Value, one, reference, adopted_by, above, gone, Object, Frame, World, is_lent_under, fault, missing, other_object, wrong_state, not_held}
 use Rattle.vlt_meaning.specs.World as world
 use Rattle.vlt_meaning.specs.Found.{◌>>=◌, Named, or_fault, if_so}
-use Rattle.vlt_meaning.specs.Objects.{in_states, with_owner, changed, named_in}
+use Rattle.vlt_meaning.specs.Objects.{in_states, with_owner, with_changed_object, named_in}
 use Rattle.vlt_meaning.specs.Values.{held_object, guarded_object}
 use Rattle.vlt_meaning.specs.Step.{Step, goes, jumps, leaves, ends, with_changed, with_var, with_key}
-use Rattle.vlt_meaning.specs.Run.{Setup, Meaning, does_form, does_block, focused_object, lent_object, unfocused, focus_end}
+use Rattle.vlt_meaning.specs.Run.{Setup, Meaning, does_form, does_block, focused_object, lent_object, focus_end_step, focus_end}
 use Rattle.vlt_sound_worlds.specs.Look.{look, ChangesOne}
 use Rattle.vlt_sound_worlds.proofs.Look.{look_at, live_within, changes_one}
 use Rattle.vlt_sound_worlds.specs.Keys.{IsOfType}
@@ -52,7 +52,7 @@ use Rattle.vlt_sound_statements.proofs.Facts.{absent_is, lent_is, IsFocus, focus
 
 -- what comes behind the block of a focus; nothing leaves it by a jump or a return
 ending_safe : (g g' : Goal) (r : Setup) (k q : Reference) (a n : ℕ) (s : Step) → Safe g s →
-    ((frame : Frame) (w : World) → g.goes frame w → Safe g' (unfocused r k q a n frame w)) →
+    ((frame : Frame) (w : World) → g.goes frame w → Safe g' (focus_end_step r k q a n frame w)) →
     ((c : Bool) (frame : Frame) (w : World) → g.jumps c frame w → ⊥) →
     ((v : Option Value) (kept : List ℕ) (w : World) → g.leaves v kept w → ⊥) → Safe g' (focus_end r k q a n s)
 unfolding focus_end
@@ -92,7 +92,7 @@ pub record Begun (p : Program) (f : Func) (c : Context) (h : HeldMap) (ids : Ids
   pub found : guarded_object (record { key = gk; type = t }) y frame w.objects ≡ Ok (named number (look w.objects number))
   pub droppable : is_droppable_struct p t ≡ true
   pub apart : AreApart c.foci guard
-  pub agrees : Agrees p f (inside c gk k guard number) (passed (lends gk ∷ takes (release_set p t) k ∷ []) h) (with_focus f z ids) []
+  pub agrees : Agrees p f (inside c gk k guard number) (map_after (lends gk ∷ takes (release_set p t) k ∷ []) h) (with_focus f z ids) []
       (with_var z (Some (one (reference number))) (with_key k number frame))
       (with_changed (with_changed w guard (with_owner (world.lent frame.depth gk))) number
       (with_owner (world.held frame.depth k))).objects
@@ -156,7 +156,7 @@ module _ (p : Program) (f : Func) (typed : IsTyped p f) (keyed : HasKeys f) {c :
       let h2 = row_passed (takes (release_set p t) k) h1 in
       let was_held = held_is (h (a_key gk)) pass.0 in
       let there : a < length w.objects = live_within w.objects a (λ e. gone_held (sym e ∙ gr.held)) in
-      let os1 = changed a (with_owner (world.lent frame.depth gk)) w.objects in
+      let os1 = with_changed_object a (with_owner (world.lent frame.depth gk)) w.objects in
       let change : ChangesOne a (with_owner (world.lent frame.depth gk)) (look w.objects) (look os1) =
       changes_one w.objects a (with_owner (world.lent frame.depth gk)) there in
       let apart = held_apart (look w.objects) a frame.depth gk gr.held c.foci agrees.rest.focused in
@@ -194,7 +194,7 @@ module _ (p : Program) (f : Func) (typed : IsTyped p f) (keyed : HasKeys f) {c :
           object = n;
           named = set_here k (Some n) frame.keys;
           is = refl;
-          of = subst (IsOf (scene c1 (changed n (with_owner (world.held frame.depth k)) os1) taken.heads) t (map (with_key k n frame).keys args)) object still.fits.of;
+          of = subst (IsOf (scene c1 (with_changed_object n (with_owner (world.held frame.depth k)) os1) taken.heads) t (map (with_key k n frame).keys args)) object still.fits.of;
         };
       })
       (focus_scope f z ids) in
@@ -236,9 +236,9 @@ module _ (r : Setup) (f : Func) {c : Context} {m : HeldMap} {ids : Ids} {frame :
       var_type f z ≡ Some (tracked k t args) → InScope ids z →
       ((v : ℕ) → InScope ids' v → InScope ids v) → AreApart c.foci a → is_droppable_struct r.program t ≡ true →
       CanPass (gives (release_set r.program t) k ∷ returns gk ∷ []) m →
-      IsBelow (passed (gives (release_set r.program t) k ∷ returns gk ∷ []) m) last →
-      Safe g (unfocused r (record { key = gk; type = t }) (record { key = k; type = t }) a n frame w)
-  unfolding unfocused
+      IsBelow (map_after (gives (release_set r.program t) k ∷ returns gk ∷ []) m) last →
+      Safe g (focus_end_step r (record { key = gk; type = t }) (record { key = k; type = t }) a n frame w)
+  unfolding focus_end_step
   ends_well z t args ids' last g on z_is in_scope smaller apart droppable pass below =
       let tr = tracked_held agrees z k t args in_scope z_is pass.0.0 in
       let same : tr.number ≡ n = same_Some tr.number n (sym tr.named ∙ agrees.rest.pinned.0) in
@@ -255,7 +255,7 @@ module _ (r : Setup) (f : Func) {c : Context} {m : HeldMap} {ids : Ids} {frame :
       let h2 = row_passed (returns gk) h1 in
       let S = states_of (h1 (a_key gk)) in
       let was_lent = lent_is (h1 (a_key gk)) pass.1.0 in
-      let os1 = changed n (with_owner (adopted_by a)) w.objects in
+      let os1 = with_changed_object n (with_owner (adopted_by a)) w.objects in
       let change : ChangesOne n (with_owner (adopted_by a)) (look w.objects) (look os1) =
       changes_one w.objects n (with_owner (adopted_by a)) there in
       let again = agrees_adopted agrees k n agrees.rest.pinned.0 held_n there h1
@@ -266,7 +266,7 @@ module _ (r : Setup) (f : Func) {c : Context} {m : HeldMap} {ids : Ids} {frame :
       let still_lent : (look os1 a).owner ≡ world.lent frame.depth gk =
       ap (λ o. o.owner) (change.others a (λ e. other (sym e))) ∙ lent_a in
       let there_1 : a < length os1 = live_within os1 a (λ e. gone_lent (sym e ∙ still_lent)) in
-      let os2 = changed a (with_owner (world.held frame.depth gk)) os1 in
+      let os2 = with_changed_object a (with_owner (world.held frame.depth gk)) os1 in
       let held_again = agrees_turned closed true false gk a S agrees.rest.pinned.1.0 still_lent was_lent there_1 h2
       (row_tok (returns gk) h1 (held S) (row_here (returns gk) h1 ∙ ap (status_after comes_back) was_lent))
       (foci_stay (look os1) (look os2) a (with_owner (world.held frame.depth gk))
@@ -324,9 +324,9 @@ pub record FocusAt (p : Program) (f : Func) (y z : ℕ) (b : Block) (frame : Fra
   pub block : IsKindedBlock p f in_focus [] (with_focus f z ids) b
   pub fact : IsFocus f ids y z
   pub pass : CanPass (begin_rows p fact) before
-  pub leads : DerivesBlock site.breaks site.turns (passed (begin_rows p fact) before) (flow_of_block p f site.left b) last
+  pub leads : DerivesBlock site.breaks site.turns (map_after (begin_rows p fact) before) (flow_of_block p f site.left b) last
   pub pass_end : CanPass (end_rows p fact) last
-  pub below : IsBelow (passed (end_rows p fact) last) behind
+  pub below : IsBelow (map_after (end_rows p fact) last) behind
 
 pub starts_with : (p : Program) (f : Func) (y z : ℕ) (b : Block) (left : List Tok) {ids : Ids} (fact : IsFocus f ids y z) →
     rows_of p f left (focus y z b) ≡ begin_rows p fact
@@ -359,10 +359,10 @@ module _ (p : Program) (f : Func) (y z : ℕ) (b : Block) (s : Site) (h k : Held
     fact = known;
     pass = subst (λ rs. CanPass rs h) (starts_with p f y z b s.left known) leads.0;
     leads =
-        subst (λ rs. DerivesBlock s.breaks s.turns (passed rs h) (flow_of_block p f s.left b) leads.1.0)
+        subst (λ rs. DerivesBlock s.breaks s.turns (map_after rs h) (flow_of_block p f s.left b) leads.1.0)
         (starts_with p f y z b s.left known) leads.1.1;
     pass_end = subst (λ rs. CanPass rs leads.1.0) (ends_with p f y z known) leads.1.2;
-    below = subst (λ rs. IsBelow (passed rs leads.1.0) k) (ends_with p f y z known) leads.1.3;
+    below = subst (λ rs. IsBelow (map_after rs leads.1.0) k) (ends_with p f y z known) leads.1.3;
   }
 
 module _ (r : Setup) (f : Func) (typed : IsTyped r.program f) (keyed : HasKeys f) {y z : ℕ} {b : Block} {frame : Frame} {w : World}
@@ -419,7 +419,7 @@ module _ (r : Setup) (f : Func) (typed : IsTyped r.program f) (keyed : HasKeys f
     outer = inner_ids;
   }
 
-  pub focus_agrees : Agrees r.program f focus_site.context (passed (begin_rows r.program x.fact) x.before) inner_ids [] focus_frame focus_world.objects
+  pub focus_agrees : Agrees r.program f focus_site.context (map_after (begin_rows r.program x.fact) x.before) inner_ids [] focus_frame focus_world.objects
   focus_agrees = begun.agrees
 
   z_there : InScope inner_ids z
@@ -495,7 +495,7 @@ module _ (r : Setup) (rest_of : Meaning) (f : Func) (typed : IsTyped r.program f
       (found_safe G (held_object x.fact.guard_key frame w.objects) (guard_named r f typed keyed x) w _ (guard_found r f typed keyed x)
       (found_safe G (guarded_object (guard_is r f typed keyed x) y frame w.objects) (object_named r f typed keyed x) w _ (object_found r f typed keyed x)
       (focus_ends r f typed keyed x (does_block r rest_of f b frame' w')
-      (safe (focus_site r f typed keyed x) (passed (begin_rows r.program x.fact) x.before) x.last [] (with_focus f z x.ids) frame' w'
+      (safe (focus_site r f typed keyed x) (map_after (begin_rows r.program x.fact) x.before) x.last [] (with_focus f z x.ids) frame' w'
       (focus_here r f typed keyed x) x.block x.leads (focus_agrees r f typed keyed x))))))
 
   pub focus_is_safe : IsSafeForm r rest_of f (focus y z b)

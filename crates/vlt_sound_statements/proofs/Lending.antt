@@ -8,7 +8,7 @@ use Rattle.vlt_core.specs.Maps.{Status, held, lent, HeldMap}
 use Rattle.vlt_core.specs.KindedScopes.{Ids}
 use Rattle.vlt_meaning.specs.World.{Owner, adopted_by, gone, above, Object, Frame}
 use Rattle.vlt_meaning.specs.World as world
-use Rattle.vlt_meaning.specs.Objects.{changed, with_owner}
+use Rattle.vlt_meaning.specs.Objects.{with_changed_object, with_owner}
 use Rattle.vlt_sound_worlds.specs.Look.{look, ChangesOne}
 use Rattle.vlt_sound_worlds.proofs.Look.{changes_one, owns_one}
 use Rattle.vlt_sound_worlds.proofs.Ranks.{ranked_root}
@@ -100,7 +100,7 @@ module _ {p : Program} {f : Func} {c : Context} {h : HeldMap} {ids : Ids} {hand 
     (status : h (a_key k) ≡ status_at b states) (within : a < length os)
     (h' : HeldMap) (tok : ChangesTok (a_key k) (status_at b' states) h h') where
   abbrev turned : List Object
-  turned = changed a (with_owner (at_key b' frame.depth k)) os
+  turned = with_changed_object a (with_owner (at_key b' frame.depth k)) os
 
   pub agrees_turned : FociAgree (look turned) c.foci → Agrees p f c h' ids hand frame turned
   agrees_turned foci = agrees_owner agrees a (at_key b' frame.depth k) turned h' ids hand frame (record {

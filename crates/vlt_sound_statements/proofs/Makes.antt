@@ -5,7 +5,7 @@ use Rattle.std.proofs.lemmas.List.{length-map, length-append}
 use Rattle.std.specs.List.{flat_map}
 use Rattle.vlt_core.specs.Core.{Ty, int, bool, tracked, owning, guarded, variant, owning_variant, a_key, Operand, make, Func, Program}
 use Rattle.vlt_core.specs.Lookups.{var_type, fields_of, fields_in, first_state, tracked_in, reference_of}
-use Rattle.vlt_core.specs.Maps.{held, kind_of, is_absent, HeldMap, wants_absent, becomes_held, Row, row_passed, CanPass, passed}
+use Rattle.vlt_core.specs.Maps.{held, kind_of, is_absent, HeldMap, wants_absent, becomes_held, Row, row_passed, CanPass, map_after}
 use Rattle.vlt_core.specs.Rows.{simple_rows, operands_rows, row, on_key}
 use Rattle.vlt_core.specs.Types.{is_struct, with_keys}
 use Rattle.vlt_core.specs.KindedHeads.{has}
@@ -35,7 +35,7 @@ use Rattle.vlt_sound_worlds.proofs.TypeFacts.{var_known}
 use Rattle.vlt_sound_worlds.specs.Scoped.{IsScoped, HasKeys}
 use Rattle.vlt_sound_worlds.proofs.Binding.{binding_kept, first_or_other}
 use Rattle.vlt_sound_worlds.proofs.Fresh.{is_fresh}
-use Rattle.vlt_sound_worlds.specs.Handed.{handed}
+use Rattle.vlt_sound_worlds.specs.Handed.{handed_values}
 use Rattle.vlt_sound_worlds.proofs.OperandsLaws.{operands_safe}
 use Rattle.vlt_sound_worlds.specs.Moved.{ArePassing}
 use Rattle.vlt_sound_worlds.proofs.Moved.{moved_all, moved_safe}
@@ -121,8 +121,8 @@ module _ (r : Setup) (f : Func) (typed : IsTyped r.program f) (keyed : HasKeys f
   -- the object is made of what was handed over
   makes : (h : HeldMap) (frame : Frame) (w : World) (cells : List Value) →
       length cells ≡ length (field_types r.program t args) →
-      (agrees : Agrees r.program f c h ids (handed (field_types r.program t args) cells) frame w.objects) →
-      IsFresh f c ids (handed (field_types r.program t args) cells) k → kind_of (h (a_key k)) ≡ is_absent →
+      (agrees : Agrees r.program f c h ids (handed_values (field_types r.program t args) cells) frame w.objects) →
+      IsFresh f c ids (handed_values (field_types r.program t args) cells) k → kind_of (h (a_key k)) ≡ is_absent →
       Safe
       (goes_to r.program f c (row_passed (row (a_key k) wants_absent (becomes_held (λ s. s == first_state))) h)
       (with_binding f (Some k) x ids) [])
@@ -163,7 +163,7 @@ module _ (r : Setup) (f : Func) (typed : IsTyped r.program f) (keyed : HasKeys f
       made : Object
       made = new_object (record { key = k; type = t }) cells frame
 
-      values : values_of (handed (field_types r.program t args) cells) ≡ xs
+      values : values_of (handed_values (field_types r.program t args) cells) ≡ xs
       values = values_handed (field_types r.program t args) cells long
 
       once : IsOnce xs
@@ -195,7 +195,7 @@ module _ (r : Setup) (f : Func) (typed : IsTyped r.program f) (keyed : HasKeys f
       CanPass (operands_rows r.program f os ++ row (a_key k) wants_absent (becomes_held (λ s. s == first_state)) ∷ []) h →
       Safe
       (goes_to r.program f c
-      (passed (operands_rows r.program f os ++ row (a_key k) wants_absent (becomes_held (λ s. s == first_state)) ∷ []) h)
+      (map_after (operands_rows r.program f os ++ row (a_key k) wants_absent (becomes_held (λ s. s == first_state)) ∷ []) h)
       (with_binding f (Some k) x ids) [])
       (does_simple r f (make x os) frame w)
   make_known x os k t args is count kinded new pass =
@@ -205,7 +205,7 @@ module _ (r : Setup) (f : Func) (typed : IsTyped r.program f) (keyed : HasKeys f
       let long : length os ≡ length (field_types r.program t args) =
       count ∙ sym (length-map (fields_of r.program t) (λ d. with_keys args d.ty)) in
       let map_same = passed_split rows (making ∷ []) h in
-      let G = goes_to r.program f c (row_passed making (passed rows h)) (with_binding f (Some k) x ids) [] in
+      let G = goes_to r.program f c (row_passed making (map_after rows h)) (with_binding f (Some k) x ids) [] in
       subst
       (λ h'. Safe (goes_to r.program f c h' (with_binding f (Some k) x ids) []) (does_simple r f (make x os) frame w)) (sym map_same)
       (found_safe G (or_fault missing (reference_of f x)) (record { key = k; type = t }) w _
@@ -214,8 +214,8 @@ module _ (r : Setup) (f : Func) (typed : IsTyped r.program f) (keyed : HasKeys f
       (eq-eqb (length os) (length (fields_of r.program t)) count)
       (operands_safe typed os (field_types r.program t args) h [] frame w agrees G _ long kinded both.0
       (λ cells frame' w' more next.
-      makes r f typed keyed kinds scoped x k t args is (passed rows h) frame' w' cells more next
-      (is_fresh scoped k (handed (field_types r.program t args) cells)
+      makes r f typed keyed kinds scoped x k t args is (map_after rows h) frame' w' cells more next
+      (is_fresh scoped k (handed_values (field_types r.program t args) cells)
       (operands_keys typed ids scoped.vars os (field_types r.program t args) cells long kinded)
       (keyed.keys x k (tracked k t args) is (inl refl)) new)
       both.1.0))))
@@ -223,7 +223,7 @@ module _ (r : Setup) (f : Func) (typed : IsTyped r.program f) (keyed : HasKeys f
   pub make_safe : (x : ℕ) (os : List Operand) → simple_broken r.program f ids (make x os) ≡ [] →
       CanPass (simple_rows r.program f (make x os)) h →
       Safe
-      (goes_to r.program f c (passed (simple_rows r.program f (make x os)) h) (ids_after f (make x os) ids) [])
+      (goes_to r.program f c (map_after (simple_rows r.program f (make x os)) h) (ids_after f (make x os) ids) [])
       (does_simple r f (make x os) frame w)
   make_safe x os kinded pass =
       let A = made_broken r.program (length os) (var_type f x) in
@@ -239,9 +239,9 @@ module _ (r : Setup) (f : Func) (typed : IsTyped r.program f) (keyed : HasKeys f
       let ids_same : ids_after f (make x os) ids ≡ with_binding f (Some facts.key) x ids =
       ap (λ o. with_binding f o x ids) own in
       subst
-      (λ rs. Safe (goes_to r.program f c (passed rs h) (ids_after f (make x os) ids) []) (does_simple r f (make x os) frame w)) (sym rows)
+      (λ rs. Safe (goes_to r.program f c (map_after rs h) (ids_after f (make x os) ids) []) (does_simple r f (make x os) frame w)) (sym rows)
       (subst
-      (λ ids'. Safe (goes_to r.program f c (passed (operands_rows r.program f os ++ making ∷ []) h) ids' []) (does_simple r f (make x os) frame w)) (sym ids_same)
+      (λ ids'. Safe (goes_to r.program f c (map_after (operands_rows r.program f os ++ making ∷ []) h) ids' []) (does_simple r f (make x os) frame w)) (sym ids_same)
       (make_known x os facts.key facts.type facts.args facts.is facts.count
       (subst (λ o. operands_broken r.program f ids (made_types r.program o) os ≡ []) facts.is s1.1)
       (subst (λ o. fresh_broken f ids o ≡ []) own bound.key)

@@ -34,7 +34,7 @@ use Rattle.vlt_sound_worlds.proofs.FrameChanges.{set_here, set_other}
 use Rattle.vlt_sound_worlds.proofs.FrameOwners.{ChangesTok}
 use Rattle.vlt_sound_worlds.proofs.Leaving.{key_same, var_is_no_key}
 use Rattle.vlt_sound_worlds.specs.Scopes.{NoneSpeaks, NonePins, IsFresh}
-use Rattle.vlt_sound_worlds.specs.Handed.{handed}
+use Rattle.vlt_sound_worlds.specs.Handed.{handed_values}
 use Rattle.vlt_sound_worlds.specs.Moved.{MovesThese}
 use Rattle.vlt_sound_worlds.proofs.Chains.{ranked_children}
 use Rattle.vlt_sound_worlds.proofs.Places.{spread}
@@ -55,8 +55,8 @@ module _ (p : Program) (s : Scene) (names names' : Names) (k : ℕ) (args : List
   cells_fit : (ds : List FieldDecl) (cells : List Value) →
       ((i : ℕ) (d : FieldDecl) → slice_get ds i ≡ Some d → (j : ℕ) → In j (keys_of_ty d.ty) → j < length args) →
       length cells ≡ length (map (λ d. with_keys args d.ty) ds) →
-      NoneSpeaks k (handed (map (λ d. with_keys args d.ty) ds) cells) →
-      FitHanded p s names (handed (map (λ d. with_keys args d.ty) ds) cells) →
+      NoneSpeaks k (handed_values (map (λ d. with_keys args d.ty) ds) cells) →
+      FitHanded p s names (handed_values (map (λ d. with_keys args d.ty) ds) cells) →
       FitCells p s (names_of (map names' args)) ds cells
   cells_fit [] [] within long speaks fits = tt
   cells_fit [] (a ∷ cells) within long speaks fits = cc
@@ -73,8 +73,8 @@ module _ (p : Program) (s : Scene) (names names' : Names) (k : ℕ) (args : List
 module _ {p : Program} {f : Func} (typed : IsTyped p f) (kinds : HasCases p f) {c : Context} {h : HeldMap} {ids : Ids} {frame : Frame} {os : List Object}
     (k t : ℕ) (args : List ℕ) (cells : List Value) (count : length args ≡ length (header_of p t))
     (long : length cells ≡ length (field_types p t args))
-    (agrees : Agrees p f c h ids (handed (field_types p t args) cells) frame os)
-    (fresh : IsFresh f c ids (handed (field_types p t args) cells) k) where
+    (agrees : Agrees p f c h ids (handed_values (field_types p t args) cells) frame os)
+    (fresh : IsFresh f c ids (handed_values (field_types p t args) cells) k) where
   abbrev made : Object
   made = record { type = t; state = first_state; cells = cells; owner = world.held frame.depth k }
 
@@ -106,7 +106,7 @@ module _ {p : Program} {f : Func} (typed : IsTyped p f) (kinds : HasCases p f) {
       xs = flat_map objects_in cells
 
       hand : List Handed
-      hand = handed (field_types p t args) cells
+      hand = handed_values (field_types p t args) cells
 
       values : values_of hand ≡ xs
       values = values_handed (field_types p t args) cells long

@@ -4,7 +4,7 @@ use Rattle.std.proofs.lemmas.Bool.{cases_eq, eqb-true, eq-eqb}
 use Rattle.std.proofs.lemmas.Option.{none-some, same_Some}
 use Rattle.vlt_core.specs.Core.{tracked, variant, a_key, FieldDecl, Func, Program, open_into}
 use Rattle.vlt_core.specs.Lookups.{var_type, fields_of, tracked_in, reference_of, release_set}
-use Rattle.vlt_core.specs.Maps.{absent, HeldMap, wants_in, becomes_absent, Row, row_passed, CanPass, passed}
+use Rattle.vlt_core.specs.Maps.{absent, HeldMap, wants_in, becomes_absent, Row, row_passed, CanPass, map_after}
 use Rattle.vlt_core.specs.Rows.{simple_rows, row, fill_rows}
 use Rattle.vlt_core.specs.Types.{header_of, is_struct, is_owning_type, with_keys, stands_for}
 use Rattle.vlt_core.specs.KindedHeads.{Rules, unless, when_some}
@@ -14,11 +14,11 @@ use Rattle.vlt_core.specs.KindedStatements.{tracked_type, tracked_broken, struct
 use Rattle.vlt_meaning.specs.World.{Value, objects_in, Owner, loose, inside, adopted_by, out, gone, is_inside, above, Object, World, Frame, missing}
 use Rattle.vlt_meaning.specs.World as world
 use Rattle.vlt_meaning.specs.Found.{or_fault}
-use Rattle.vlt_meaning.specs.Objects.{is_releasable, released}
+use Rattle.vlt_meaning.specs.Objects.{is_releasable, objects_after_release}
 use Rattle.vlt_meaning.specs.Operands.{owning_cells}
 use Rattle.vlt_meaning.specs.Values.{object_of}
 use Rattle.vlt_meaning.specs.Step.{goes, with_objects, with_filled}
-use Rattle.vlt_meaning.specs.Run.{Setup, does_simple, any_state, opened}
+use Rattle.vlt_meaning.specs.Run.{Setup, does_simple, any_state, open_step}
 use Rattle.vlt_sound_worlds.specs.Look.{look, IsLive}
 use Rattle.vlt_sound_worlds.specs.Ranks.{IsRanked}
 use Rattle.vlt_sound_worlds.proofs.Look.{look_at, live_within}
@@ -151,7 +151,7 @@ module _ {p : Program} {f : Func} {c : Context} {h : HeldMap} {ids : Ids} {frame
     os1 = moved_out.objects
 
     abbrev os2 : List Object
-    os2 = released n os1
+    os2 = objects_after_release n os1
 
     ranked1 : IsRanked (look os1)
     ranked1 = ranked_roots ys loose moved_out.change refl (λ e. cc) agrees.ranked
@@ -258,21 +258,21 @@ module _ (r : Setup) (f : Func)
     opened_safe : (h1 : HeldMap) → ChangesTok (a_key k) absent h h1 →
         length (owning_field_types r.program t args) ≡ length vs →
         opened_broken r.program f ids (owning_field_types r.program t args) vs ≡ [] → CanPass (fill_rows f vs) h1 →
-        Safe (goes_to r.program f c (passed (fill_rows f vs) h1) (with_bindings f vs ids) [])
-        (opened r n (owning_cells (fields_of r.program t) (look w.objects n).cells) f vs frame w)
-    unfolding opened
+        Safe (goes_to r.program f c (map_after (fill_rows f vs) h1) (with_bindings f vs ids) [])
+        (open_step r n (owning_cells (fields_of r.program t) (look w.objects n).cells) f vs frame w)
+    unfolding open_step
     opened_safe h1 tok counted kinded pass =
         let p = r.program in
         let os = w.objects in
         let ds = fields_of p t in
         let values = (look os n).cells in
-        let G = goes_to p f c (passed (fill_rows f vs) h1) (with_bindings f vs ids) [] in
+        let G = goes_to p f c (map_after (fill_rows f vs) h1) (with_bindings f vs ids) [] in
         let m = moved_out typed agrees k n t args named_so held_by type headed count in
         let types =
         given_types p (scene c os agrees.heads) (names_of (agrees.heads n)) args ds values
         (fit typed agrees k n t args named_so held_by type headed count) in
         let w1 : World = with_objects w m.objects in
-        let w2 : World = with_objects w1 (released n m.objects) in
+        let w2 : World = with_objects w1 (objects_after_release n m.objects) in
         moved_safe G (is_inside n) loose (out_of ds values) w _ m
         (released_safe G p n w1 _
         (opens_releasable typed agrees k n t args named_so held_by type headed count within state)
@@ -287,7 +287,7 @@ module _ (r : Setup) (f : Func)
       opened_broken r.program f ids (owning_field_types r.program t args) vs ≡ [] →
       CanPass (simple_rows r.program f (open_into x vs)) h →
       Safe
-      (goes_to r.program f c (passed (simple_rows r.program f (open_into x vs)) h) (with_bindings f vs ids) [])
+      (goes_to r.program f c (map_after (simple_rows r.program f (open_into x vs)) h) (with_bindings f vs ids) [])
       (does_simple r f (open_into x vs) frame w)
   opens x k t args vs scoped is counted kinded pass =
       let os = w.objects in
@@ -297,10 +297,10 @@ module _ (r : Setup) (f : Func)
       let tx = tracked_held agrees x k t args scoped is ok.0.0 in
       let n : ℕ = tx.number in
       let h1 : HeldMap = row_passed kr h in
-      let G = goes_to r.program f c (passed (fill_rows f vs) h1) (with_bindings f vs ids) [] in
+      let G = goes_to r.program f c (map_after (fill_rows f vs) h1) (with_bindings f vs ids) [] in
       let dec = typed.vars x (tracked k t args) t is refl in
       subst
-      (λ rs. Safe (goes_to r.program f c (passed rs h) (with_bindings f vs ids) []) (does_simple r f (open_into x vs) frame w)) (sym rows)
+      (λ rs. Safe (goes_to r.program f c (map_after rs h) (with_bindings f vs ids) []) (does_simple r f (open_into x vs) frame w)) (sym rows)
       (found_safe G (or_fault missing (reference_of f x)) (record { key = k; type = t }) w _
       (ap (λ o. or_fault missing (tracked_in o)) is)
       (found_safe G (object_of f any_state x frame os) (named n (look os n)) w _
@@ -311,7 +311,7 @@ module _ (r : Setup) (f : Func)
   pub open_safe : (x : ℕ) (vs : List ℕ) → simple_broken r.program f ids (open_into x vs) ≡ [] →
       CanPass (simple_rows r.program f (open_into x vs)) h →
       Safe
-      (goes_to r.program f c (passed (simple_rows r.program f (open_into x vs)) h) (ids_after f (open_into x vs) ids) [])
+      (goes_to r.program f c (map_after (simple_rows r.program f (open_into x vs)) h) (ids_after f (open_into x vs) ids) [])
       (does_simple r f (open_into x vs) frame w)
   open_safe x vs kinded pass =
       let T = tracked_broken f ids rule.WRONG_RELEASE x in

@@ -3,13 +3,13 @@ use Rattle.std.proofs.Common.{◌≡◌, inl, inr, ⊎_elim, ℕ, ◌<◌, IsTru
 use Rattle.std.proofs.lemmas.Bool.{cases_eq}
 use Rattle.vlt_core.specs.Core.{States, Tok, a_key, Func, Program}
 use Rattle.vlt_core.specs.Lookups.{key_type, KeyIn}
-use Rattle.vlt_core.specs.Maps.{Status, absent, kind_of, is_held, states_of, HeldMap, wants_in, becomes_absent, Row, row_passed, CanPass, passed}
+use Rattle.vlt_core.specs.Maps.{Status, absent, kind_of, is_held, states_of, HeldMap, wants_in, becomes_absent, Row, row_passed, CanPass, map_after}
 use Rattle.vlt_core.specs.Rows.{row}
 use Rattle.vlt_core.specs.KindedScopes.{Ids}
 use Rattle.vlt_meaning.specs.World.{loose, Object, World, Frame, wrong_state}
 use Rattle.vlt_meaning.specs.World as world
 use Rattle.vlt_meaning.specs.Found.{◌>>=◌, if_so}
-use Rattle.vlt_meaning.specs.Objects.{in_states, with_owner, changed}
+use Rattle.vlt_meaning.specs.Objects.{in_states, with_owner, with_changed_object}
 use Rattle.vlt_meaning.specs.Values.{held_object}
 use Rattle.vlt_meaning.specs.Step.{Step, with_changed}
 use Rattle.vlt_meaning.specs.Operands.{with_case_packed}
@@ -55,7 +55,7 @@ not_held s e i = let q = ap kind_of (sym e) ∙ i in cc
 
 -- a key that is absent stays so, and isn't one of those whose rows are passed
 pub absent_stays : (ks : List KeyIn) (h : HeldMap) (j : ℕ) → h (a_key j) ≡ absent →
-    passed (map pack_row ks) h (a_key j) ≡ absent
+    map_after (map pack_row ks) h (a_key j) ≡ absent
 absent_stays [] h j e = e
 absent_stays (k ∷ ks) h j e = absent_stays ks (row_passed (pack_row k) h) j (⊎_elim
     (λ same. ap (λ j. row_passed (pack_row k) h (a_key j)) same ∙ row_here (pack_row k) h)
@@ -74,7 +74,7 @@ absent_not_in (k ∷ ks) h j e pass (inr i) = absent_not_in ks (row_passed (pack
 
 -- behind the rows the keys are absent, and nothing else has changed
 pub packed_absent : (ks : List KeyIn) (h : HeldMap) (j : ℕ) → In j (keys_in_list ks) →
-    passed (map pack_row ks) h (a_key j) ≡ absent
+    map_after (map pack_row ks) h (a_key j) ≡ absent
 packed_absent [] h j i = absurd i
 packed_absent (k ∷ ks) h j (inl same) =
     absent_stays ks (row_passed (pack_row k) h) j
@@ -82,7 +82,7 @@ packed_absent (k ∷ ks) h j (inl same) =
 packed_absent (k ∷ ks) h j (inr i) = packed_absent ks (row_passed (pack_row k) h) j i
 
 pub packed_other : (ks : List KeyIn) (h : HeldMap) (t : Tok) → ((j : ℕ) → t ≡ a_key j → In j (keys_in_list ks) → ⊥) →
-    passed (map pack_row ks) h t ≡ h t
+    map_after (map pack_row ks) h t ≡ h t
 packed_other [] h t off = refl
 packed_other (k ∷ ks) h t off =
     packed_other ks (row_passed (pack_row k) h) t (λ j e i. off j e (inr i)) ∙
@@ -189,12 +189,12 @@ hold_once f frame os (k ∷ ks) (n ∷ ns) all = (hold_apart f frame os k ks n n
 -- what other objects are held under stays, where one goes
 hold_later : (f : Func) (frame : Frame) (os : List Object) (n : ℕ) (change : Object → Object) → n < length os →
     (ks : List KeyIn) (ns : List ℕ) → (In n ns → ⊥) → HoldAll f frame os ks ns →
-    HoldAll f frame (changed n change os) ks ns
+    HoldAll f frame (with_changed_object n change os) ks ns
 hold_later f frame os n change lt [] [] off all = tt
 hold_later f frame os n change lt [] (m ∷ ns) off all = absurd all
 hold_later f frame os n change lt (k ∷ ks) [] off all = absurd all
 hold_later f frame os n change lt (k ∷ ks) (m ∷ ns) off all =
-    let e : look (changed n change os) m ≡ look os m =
+    let e : look (with_changed_object n change os) m ≡ look os m =
     (changes_one os n change lt).others m (λ e. off (inl (sym e))) in (
       record {
         named = all.0.named;
@@ -218,7 +218,7 @@ packs_safe f frame g [] [] w go all safe = safe w (record { those = λ m i. absu
 packs_safe f frame g [] (n ∷ ns) w go all safe = absurd all
 packs_safe f frame g (k ∷ ks) [] w go all safe = absurd all
 packs_safe f frame g (k ∷ ks) (n ∷ ns) w go all safe =
-    let change : ChangesOne n (with_owner loose) (look w.objects) (look (changed n (with_owner loose) w.objects)) =
+    let change : ChangesOne n (with_owner loose) (look w.objects) (look (with_changed_object n (with_owner loose) w.objects)) =
     changes_one w.objects n (with_owner loose) all.0.within in
     let off = hold_apart f frame w.objects k ks n ns all in
     found_safe g (held_object k.key frame w.objects >>= in_states k.states) (named n (look w.objects n)) w _

@@ -4,7 +4,7 @@ use Rattle.std.proofs.lemmas.Bool.{cases_eq}
 use Rattle.std.proofs.lemmas.Option.{same_Some}
 use Rattle.vlt_core.specs.Core.{tracked, a_key, a_var, Func, Program, release}
 use Rattle.vlt_core.specs.Lookups.{var_type, key_type, is_owning_var, tracked_in, release_set}
-use Rattle.vlt_core.specs.Maps.{absent, HeldMap, wants_in, becomes_absent, Row, row_passed, CanPass, passed}
+use Rattle.vlt_core.specs.Maps.{absent, HeldMap, wants_in, becomes_absent, Row, row_passed, CanPass, map_after}
 use Rattle.vlt_core.specs.Rows.{simple_rows, row}
 use Rattle.vlt_core.specs.Types.{is_droppable_struct}
 use Rattle.vlt_core.specs.declared.rules.TheConstants as rule
@@ -12,7 +12,7 @@ use Rattle.vlt_core.specs.KindedScopes.{Ids}
 use Rattle.vlt_core.specs.KindedStatements.{tracked_broken, droppable_broken, simple_broken, ids_after}
 use Rattle.vlt_meaning.specs.World.{Owner, gone, loose, above, Object, World, Frame, wrong_state}
 use Rattle.vlt_meaning.specs.World as world
-use Rattle.vlt_meaning.specs.Objects.{is_releasable, released}
+use Rattle.vlt_meaning.specs.Objects.{is_releasable, objects_after_release}
 use Rattle.vlt_meaning.specs.Values.{object_of}
 use Rattle.vlt_meaning.specs.Step.{Step, goes, with_objects, with_released}
 use Rattle.vlt_meaning.specs.Run.{Setup, does_simple, any_state}
@@ -43,7 +43,7 @@ use Rattle.vlt_sound_statements.proofs.Ending.{IsEndable, Ends, HandEnds, under_
 
 -- where an object and all below it may be released, it is
 pub released_safe : (g : Goal) (p : Program) (n : ℕ) (w : World) (go : World → Step) →
-    is_releasable p w.objects n ≡ true → Safe g (go (with_objects w (released n w.objects))) →
+    is_releasable p w.objects n ≡ true → Safe g (go (with_objects w (objects_after_release n w.objects))) →
     Safe g (with_released p n w go)
 unfolding with_released
 released_safe g p n w go may safe = so_safe g (is_releasable p w.objects n) wrong_state (Some n) w _ may safe
@@ -110,7 +110,7 @@ module _ (r : Setup) (f : Func)
     (agrees : Agrees r.program f c h ids [] frame w.objects) where
   releases : (x k t : ℕ) (args : List ℕ) → InScope ids x → var_type f x ≡ Some (tracked k t args) →
       is_droppable_struct r.program t ≡ true → CanPass (simple_rows r.program f (release x)) h →
-      Safe (goes_to r.program f c (passed (simple_rows r.program f (release x)) h) ids [])
+      Safe (goes_to r.program f c (map_after (simple_rows r.program f (release x)) h) ids [])
       (does_simple r f (release x) frame w)
   releases x k t args scoped is droppable pass =
       let os = w.objects in
@@ -131,7 +131,7 @@ module _ (r : Setup) (f : Func)
       let all =
       all_below os n tx.of.within agrees.ranked (λ m. MayEnd r.program (look os m)) may
       (λ m q up me. below_ends typed agrees m q up me.free) in
-      let ends : Ends agrees (n ∷ []) [] os (released n os) = record {
+      let ends : Ends agrees (n ∷ []) [] os (objects_after_release n os) = record {
         moves = record { those = λ m i. absurd i; others = λ m off. refl };
         long = refl;
         ended = ended_more [] os os (ended_none os agrees.ranked) n tx.of.within;
@@ -151,18 +151,18 @@ module _ (r : Setup) (f : Func)
         handed = tt;
       } in
       subst
-      (λ rs. Safe (goes_to r.program f c (passed rs h) ids []) (does_simple r f (release x) frame w)) (sym rows)
+      (λ rs. Safe (goes_to r.program f c (map_after rs h) ids []) (does_simple r f (release x) frame w)) (sym rows)
       (found_safe G (object_of f any_state x frame os) (named n (look os n)) w _
       (object_found f any_state x k t frame os n (ap tracked_in is) tx.var tx.named (look_at os n tx.of.within) tx.owned refl)
       (released_safe G r.program n w (goes frame) (releasable r.program os n (λ m t. (all m t).released))
-      (agrees_ended agrees (n ∷ []) [] os (released n os) ends [] hands h1
-      (keys_end agrees k n tx.named tx.owned [] os (released n os) ends h1 tok)
-      (vars_end agrees k n tx.named tx.owned [] os (released n os) ends h1 tok))))
+      (agrees_ended agrees (n ∷ []) [] os (objects_after_release n os) ends [] hands h1
+      (keys_end agrees k n tx.named tx.owned [] os (objects_after_release n os) ends h1 tok)
+      (vars_end agrees k n tx.named tx.owned [] os (objects_after_release n os) ends h1 tok))))
 
   pub release_safe : (x : ℕ) → simple_broken r.program f ids (release x) ≡ [] →
       CanPass (simple_rows r.program f (release x)) h →
       Safe
-      (goes_to r.program f c (passed (simple_rows r.program f (release x)) h) (ids_after f (release x) ids) [])
+      (goes_to r.program f c (map_after (simple_rows r.program f (release x)) h) (ids_after f (release x) ids) [])
       (does_simple r f (release x) frame w)
   release_safe x kinded pass =
       let both = both_empty (tracked_broken f ids rule.WRONG_RELEASE x) (droppable_broken r.program f x) kinded in

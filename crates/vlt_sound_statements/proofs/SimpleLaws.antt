@@ -2,7 +2,7 @@
 use Rattle.std.proofs.Common.{◌≡◌, ℕ, Bool, true, false, if◌then◌else◌, [], ◌∷◌, ◌++◌, Some, None, ap, ◌∙◌}
 use Rattle.vlt_core.specs.Core.{Expr, Operand, pure, move, pack, Simple, set, input, print, put, make, become, release, drop, own, unpack, build, swap, open_into, adopt, simple, Func, Program}
 use Rattle.vlt_core.specs.Lookups.{var_type, is_owning, is_owning_var, owns}
-use Rattle.vlt_core.specs.Maps.{passed}
+use Rattle.vlt_core.specs.Maps.{map_after}
 use Rattle.vlt_core.specs.KindedScopes.{Ids, target_broken}
 use Rattle.vlt_core.specs.KindedOperands.{misfit, type_of_expr, expr_broken, operand_broken}
 use Rattle.vlt_core.specs.KindedStatements.{wanted_of, simple_broken, ids_after}
@@ -81,7 +81,7 @@ module _ (r : Setup) (f : Func) (typed : IsTyped r.program f) (keyed : HasKeys f
   -- at a site, where the map behind allows more
   pub form_safe : (rest_of : Meaning) (s : Simple) → IsSafeForm r rest_of f (simple s)
   form_safe rest_of s site h k ids frame w at kinded leads agrees =
-      weaker (goes_to r.program f site.context (passed (simple_rows r.program f s) h) (ids_after f s ids) [])
+      weaker (goes_to r.program f site.context (map_after (simple_rows r.program f s) h) (ids_after f s ids) [])
       (comes_to r.program f site k (ids_after f s ids)) (does_simple r f s frame w)
       (λ frame w there. agrees_below leads.1 there)
       (λ c frame w none. absurd none)

@@ -7,7 +7,7 @@ use Rattle.vlt_sound_worlds.specs.Members.{In, IsOnce}
 use Rattle.vlt_sound_worlds.specs.Roots.{owned_by}
 use Rattle.vlt_sound_worlds.proofs.Members.{in_or_not, in_left, in_right, in_either, once_left, once_right, once_apart}
 use Rattle.vlt_sound_worlds.specs.Agrees.{values_of}
-use Rattle.vlt_sound_worlds.specs.Handed.{handed}
+use Rattle.vlt_sound_worlds.specs.Handed.{handed_values}
 
 slot_by : {X : Type 0} → X ⊎ (X → ⊥) → ℕ → ℕ
 slot_by (inl i) n = zero
@@ -69,7 +69,7 @@ slot_once (a ∷ values) (suc i) once =
 
 -- what is handed over has the objects of its values
 pub values_handed : (types : List Ty) (values : List Value) → length values ≡ length types →
-    values_of (handed types values) ≡ flat_map objects_in values
+    values_of (handed_values types values) ≡ flat_map objects_in values
 values_handed [] [] e = refl
 values_handed (t ∷ types) [] e = refl
 values_handed [] (a ∷ values) e = cc

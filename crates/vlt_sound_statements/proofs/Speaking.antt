@@ -18,7 +18,7 @@ use Rattle.vlt_sound_worlds.proofs.Expressions.{field_at, not_owning}
 use Rattle.vlt_sound_worlds.proofs.Plain.{keys_same, same_plain}
 use Rattle.vlt_sound_worlds.specs.Scoped.{IsKeyInScope, AreKeysInScope}
 use Rattle.vlt_sound_worlds.proofs.TypeFacts.{move_facts, pack_facts, packed_tracked}
-use Rattle.vlt_sound_worlds.specs.Handed.{handed}
+use Rattle.vlt_sound_worlds.specs.Handed.{handed_values}
 
 -- ---- keys of types
 
@@ -185,7 +185,7 @@ module _ {p : Program} {f : Func} (typed : IsTyped p f) (ids : Ids)
 
   -- what operands hand over speaks of keys in scope
   pub operands_keys : (os : List Operand) (types : List Ty) (values : List Value) → length os ≡ length types →
-      operands_broken p f ids types os ≡ [] → AreKeysInScope ids (handed types values)
+      operands_broken p f ids types os ≡ [] → AreKeysInScope ids (handed_values types values)
   operands_keys [] [] values long e = tt
   operands_keys [] (t ∷ types) values long e = cc
   operands_keys (o ∷ os) [] values long e = cc

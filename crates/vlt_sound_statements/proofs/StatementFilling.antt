@@ -4,7 +4,7 @@ use Rattle.std.proofs.lemmas.Bool.{cases_Bool}
 use Rattle.std.specs.List.{list_all}
 use Rattle.vlt_core.specs.Core.{States, Ty, int, bool, tracked, owning, guarded, variant, owning_variant, a_var, Func, Program}
 use Rattle.vlt_core.specs.Lookups.{var_type, is_owning, is_owning_var, owns}
-use Rattle.vlt_core.specs.Maps.{full, kind_of, is_absent, HeldMap, wants_absent, becomes_full, Row, row_passed, CanPass, passed}
+use Rattle.vlt_core.specs.Maps.{full, kind_of, is_absent, HeldMap, wants_absent, becomes_full, Row, row_passed, CanPass, map_after}
 use Rattle.vlt_core.specs.Rows.{row, fill_rows}
 use Rattle.vlt_core.specs.Types.{same_ty, same_states, same_object, is_same_bool, state_numbers}
 use Rattle.vlt_core.specs.KindedHeads.{has, is_payload_type}
@@ -32,7 +32,7 @@ use Rattle.vlt_sound_worlds.proofs.Handing.{agrees_filled}
 use Rattle.vlt_sound_worlds.proofs.TypeFacts.{var_known, fits_wider}
 use Rattle.vlt_sound_worlds.proofs.Owning.{row_tok}
 use Rattle.vlt_sound_worlds.proofs.Binding.{first_or_other, binding_kept}
-use Rattle.vlt_sound_worlds.specs.Handed.{handed}
+use Rattle.vlt_sound_worlds.specs.Handed.{handed_values}
 use Rattle.vlt_sound_worlds.proofs.Hand.{agrees_hand}
 use Rattle.vlt_sound_statements.proofs.Facts.{absent_is}
 
@@ -167,10 +167,10 @@ module _ {p : Program} {f : Func} {c : Context} {h : HeldMap} {ids : Ids} {x : H
 module _ {p : Program} {f : Func} {c : Context} (limited : IsLimited p) (g : Goal) (w : World)
     (go : Frame → Step) where
   pub filled_safe : (types : List Ty) (vs : List ℕ) (parts : List Part) {h : HeldMap} {ids : Ids} {frame : Frame} →
-      Agrees p f c h ids (handed types (map one parts)) frame w.objects → ArePayloads types →
+      Agrees p f c h ids (handed_values types (map one parts)) frame w.objects → ArePayloads types →
       arm_vars_broken f ids types vs ≡ [] → length vs ≡ length types → length parts ≡ length types →
       CanPass (fill_rows f vs) h →
-      ((frame' : Frame) → Agrees p f c (passed (fill_rows f vs) h) (with_vars f vs ids) [] frame' w.objects → Safe g (go frame')) →
+      ((frame' : Frame) → Agrees p f c (map_after (fill_rows f vs) h) (with_vars f vs ids) [] frame' w.objects → Safe g (go frame')) →
       Safe g (with_filled f vs (map one parts) frame w go)
   unfolding with_filled
   filled_safe [] [] [] {frame = frame} agrees payloads kinded many long pass safe = safe frame agrees
@@ -188,12 +188,12 @@ module _ {p : Program} {f : Func} {c : Context} (limited : IsLimited p) (g : Goa
       (λ h' agrees' pass' safe'. filled_safe types vs parts agrees' payloads.1 s2.1 (omega arith) (omega arith) pass' safe')
     where
       by : (t : Ty) (v : ℕ) (a : Part) (ty : Ty) → var_type f v ≡ Some ty → AreSame t ty →
-          Agrees p f c h ids (handed (t ∷ types) (map one (a ∷ parts))) frame w.objects →
+          Agrees p f c h ids (handed_values (t ∷ types) (map one (a ∷ parts))) frame w.objects →
           CanPass (fill_rows f (v ∷ vs)) h →
-          ((frame' : Frame) → Agrees p f c (passed (fill_rows f (v ∷ vs)) h) (with_vars f vs (with_var f v ids)) [] frame' w.objects → Safe g (go frame')) →
-          ((h' : HeldMap) → Agrees p f c h' (with_var f v ids) (handed types (map one parts)) (step.with_var v (Some (one a)) frame) w.objects →
+          ((frame' : Frame) → Agrees p f c (map_after (fill_rows f (v ∷ vs)) h) (with_vars f vs (with_var f v ids)) [] frame' w.objects → Safe g (go frame')) →
+          ((h' : HeldMap) → Agrees p f c h' (with_var f v ids) (handed_values types (map one parts)) (step.with_var v (Some (one a)) frame) w.objects →
           CanPass (fill_rows f vs) h' →
-          ((frame' : Frame) → Agrees p f c (passed (fill_rows f vs) h') (with_vars f vs (with_var f v ids)) [] frame' w.objects → Safe g (go frame')) →
+          ((frame' : Frame) → Agrees p f c (map_after (fill_rows f vs) h') (with_vars f vs (with_var f v ids)) [] frame' w.objects → Safe g (go frame')) →
           Safe g (with_filled f vs (map one parts) (step.with_var v (Some (one a)) frame) w go)) →
           Safe g (with_filled f (v ∷ vs) (map one (a ∷ parts)) frame w go)
       by t v a ty is same agrees pass safe more = ⊎_elim
@@ -205,7 +205,7 @@ module _ {p : Program} {f : Func} {c : Context} (limited : IsLimited p) (g : Goa
           let now = owned_filled limited w agrees v ty is own_ty.0 own own_ty.1 ok.0 in
           so_safe g (is_fillable f v frame) not_empty None w _ now.0
           (more (row_passed (row (a_var v) wants_absent becomes_full) h) now.1 ok.1
-          (λ frame' done. safe frame' (subst (λ rs. Agrees p f c (passed rs h) (with_vars f vs (with_var f v ids)) [] frame' w.objects) (sym rows) done))))
+          (λ frame' done. safe frame' (subst (λ rs. Agrees p f c (map_after rs h) (with_vars f vs (with_var f v ids)) [] frame' w.objects) (sym rows) done))))
           (λ plain.
           let ty_is = same.plain plain in
           let off : is_owning_var f v ≡ false = ap owns is ∙ (ap is_owning (sym ty_is) ∙ plain) in
@@ -214,7 +214,7 @@ module _ {p : Program} {f : Func} {c : Context} (limited : IsLimited p) (g : Goa
           let now = plain_filled limited w agrees v ty is (ap is_owning (sym ty_is) ∙ plain) same.payload ty_is in
           so_safe g (is_fillable f v frame) not_empty None w _ now.0
           (more h now.1 ok
-          (λ frame' done. safe frame' (subst (λ rs. Agrees p f c (passed rs h) (with_vars f vs (with_var f v ids)) [] frame' w.objects) (sym rows) done))))
+          (λ frame' done. safe frame' (subst (λ rs. Agrees p f c (map_after rs h) (with_vars f vs (with_var f v ids)) [] frame' w.objects) (sym rows) done))))
           (cases_Bool (is_owning t))
         where
           owning_rows : (v : ℕ) → is_owning_var f v ≡ true →

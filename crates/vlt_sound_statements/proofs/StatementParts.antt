@@ -12,11 +12,11 @@ use Rattle.vlt_sound_worlds.specs.Look.{look}
 use Rattle.vlt_sound_worlds.specs.Members.{In}
 use Rattle.vlt_sound_worlds.specs.Keys.{IsOfType}
 use Rattle.vlt_sound_worlds.specs.Scene.{Scene}
-use Rattle.vlt_sound_worlds.specs.Fits.{Names, joined, names_of, FitsPart, FitParts, header_type, FitKeys, Fits}
+use Rattle.vlt_sound_worlds.specs.Fits.{Names, option_join, names_of, FitsPart, FitParts, header_type, FitKeys, Fits}
 use Rattle.vlt_sound_worlds.proofs.Fits.{fits_named, fits_before}
 use Rattle.vlt_sound_worlds.specs.Agrees.{values_of, FitHanded}
 use Rattle.vlt_sound_worlds.proofs.Expressions.{names_at}
-use Rattle.vlt_sound_worlds.specs.Handed.{handed}
+use Rattle.vlt_sound_worlds.specs.Handed.{handed_values}
 use Rattle.vlt_sound_statements.specs.Opened.{AreOpened}
 use Rattle.vlt_sound_statements.proofs.StatementFilling.{ArePayloads}
 
@@ -52,7 +52,7 @@ module _ (p : Program) (s : Scene) (names : Names) where
   part_fits (owning_variant t args) a e f = cc
 
   pub parts_values : (args : List ℕ) (types : List Ty) (parts : List Part) → FitParts s names types parts →
-      values_of (handed (map (with_keys args) types) (map one parts)) ≡ flat_map objects_in_part parts
+      values_of (handed_values (map (with_keys args) types) (map one parts)) ≡ flat_map objects_in_part parts
   parts_values args [] [] f = refl
   parts_values args [] (a ∷ parts) f = absurd f
   parts_values args (t ∷ types) [] f = absurd f
@@ -67,7 +67,7 @@ module _ (p : Program) (s : Scene) (names : Names) where
 
 pub parts_handed : (p : Program) (s : Scene) (names : Names) (args : List ℕ) (types : List Ty) (parts : List Part) →
     AreKnown args types → FitParts s (names_of (map names args)) types parts →
-    FitHanded p s names (handed (map (with_keys args) types) (map one parts))
+    FitHanded p s names (handed_values (map (with_keys args) types) (map one parts))
 parts_handed p s names args [] [] known f = tt
 parts_handed p s names args [] (a ∷ parts) known f = absurd f
 parts_handed p s names args (t ∷ types) [] known f = absurd f
@@ -103,7 +103,7 @@ module _ (p : Program) (f : Func) (s : Scene) (names : Names) (t : ℕ) (args : 
       (slice_get_cases args i).1
     where
       none : length args ≤ i → header_type p t i ≡ None
-      none le = ap joined (slice_get_past (header_of p t) i (subst (λ n. n ≤ i) count le))
+      none le = ap option_join (slice_get_past (header_of p t) i (subst (λ n. n ≤ i) count le))
 
   pub keys_opened : (cs : List CaseKey) (ns : List ℕ) →
       ((i : ℕ) (k : CaseKey) → slice_get cs i ≡ Some k → (u : ℕ) × (header_type p t k.position ≡ Some u)) →

@@ -3,7 +3,7 @@ use Rattle.std.proofs.Common.{ℕ, List, [], Option, refl}
 use Rattle.std.specs.Prelude.{slice_get}
 use Rattle.vlt_core.specs.Core.{Simple, Form, simple, call, choose, loop, switch, focus, scope, return, jump, Operand, Block, block, Stmts, done, next, Arms, no_arms, arm, Func}
 use Rattle.vlt_core.specs.Rows.{rows_of}
-use Rattle.vlt_core.specs.Maps.{passed}
+use Rattle.vlt_core.specs.Maps.{map_after}
 use Rattle.vlt_core.specs.KindedHeads.{unless}
 use Rattle.vlt_core.specs.declared.rules.TheConstants as rule
 use Rattle.vlt_core.specs.KindedStatements.{ids_after}
@@ -25,7 +25,7 @@ use Rattle.vlt_sound_statements.specs.Parts.{HasSafeParts}
 module _ (r : Setup) (rest_of : Meaning) (f : Func) (parts : HasSafeParts r rest_of f) where
   simple_safe : (s : Simple) → IsSafeForm r rest_of f (simple s)
   simple_safe q s h k ids frame w here kinded leads agrees =
-      weaker (goes_to r.program f s.context (passed (rows_of r.program f s.left (simple q)) h) (ids_after f q ids) [])
+      weaker (goes_to r.program f s.context (map_after (rows_of r.program f s.left (simple q)) h) (ids_after f q ids) [])
       (comes_to r.program f s k (ids_after f q ids)) (does_simple r f q frame w)
       (λ frame w now. agrees_below leads.1 now) (λ c frame w never. absurd never) (λ v kept w never. absurd never)
       (parts.steps q s.context h ids frame w here.scoped agrees kinded.row leads.0)
@@ -33,7 +33,7 @@ module _ (r : Setup) (rest_of : Meaning) (f : Func) (parts : HasSafeParts r rest
   call_safe : (g : ℕ) (target : Option ℕ) (keys : List ℕ) (args : List Operand) →
       IsSafeForm r rest_of f (call g target keys args)
   call_safe g target keys args s h k ids frame w here kinded leads agrees =
-      weaker (goes_to r.program f s.context (passed (rows_of r.program f s.left (call g target keys args)) h) (with_call_target f (slice_get r.program.fns g) target ids) [])
+      weaker (goes_to r.program f s.context (map_after (rows_of r.program f s.left (call g target keys args)) h) (with_call_target f (slice_get r.program.fns g) target ids) [])
       (comes_to r.program f s k (with_call_target f (slice_get r.program.fns g) target ids))
       (does_form r rest_of f (call g target keys args) frame w)
       (λ frame w now. agrees_below leads.1 now) (λ c frame w never. absurd never) (λ v kept w never. absurd never)

@@ -6,7 +6,7 @@ use Rattle.std.specs.List.{list_all}
 use Rattle.std.specs.Result.{is_ok}
 use Rattle.vlt_core.specs.Core.{States, Ty, int, bool, tracked, owning, guarded, variant, owning_variant, Tok, a_key, a_var, FieldDecl, TypeDecl, swap, Func, Program}
 use Rattle.vlt_core.specs.Lookups.{var_type, is_owning, is_owning_var, fields_of, fields_in, tracked_in, permitted_in}
-use Rattle.vlt_core.specs.Maps.{full, HeldMap, wants_in, wants_full, stays, becomes_full, Row, row_passed, is_tok, CanPass, passed}
+use Rattle.vlt_core.specs.Maps.{full, HeldMap, wants_in, wants_full, stays, becomes_full, Row, row_passed, is_tok, CanPass, map_after}
 use Rattle.vlt_core.specs.Rows.{simple_rows, touch_rows, row}
 use Rattle.vlt_core.specs.Types.{decl_of, is_struct, same_ty, same_states, is_same_bool, same_keys, same_object, lies_within, with_keys, state_numbers}
 use Rattle.vlt_core.specs.declared.rules.TheConstants as rule
@@ -16,10 +16,10 @@ use Rattle.vlt_core.specs.KindedStatements.{tracked_broken, swap_broken, simple_
 use Rattle.vlt_meaning.specs.World.{Value, objects_in, loose, inside, is_loose, is_inside, World, Frame, Object, missing, no_value, not_owned}
 use Rattle.vlt_meaning.specs.World as world
 use Rattle.vlt_meaning.specs.Found.{Found, Named, or_fault}
-use Rattle.vlt_meaning.specs.Objects.{owned_at, with_cell, changed}
+use Rattle.vlt_meaning.specs.Objects.{owned_at, with_cell, with_changed_object}
 use Rattle.vlt_meaning.specs.Values.{object_of, touchable}
 use Rattle.vlt_meaning.specs.Step.{with_objects}
-use Rattle.vlt_meaning.specs.Run.{Setup, does_simple, swapped}
+use Rattle.vlt_meaning.specs.Run.{Setup, does_simple, swap_step}
 use Rattle.vlt_sound_worlds.specs.Look.{look, IsLive}
 use Rattle.vlt_sound_worlds.proofs.Look.{look_at, live_within, changes_one}
 use Rattle.vlt_sound_worlds.specs.Members.{In, IsOnce}
@@ -190,12 +190,12 @@ module _ (r : Setup) (f : Func)
       InScope ids v → h (a_var v) ≡ full →
       AsWide (with_keys at.args at.field.decl.ty) ty → is_owning (with_keys at.args at.field.decl.ty) ≡ true →
       Safe (goes_to r.program f c h ids [])
-      (swapped i v (named at.touch.number (look w.objects at.touch.number)) at.value new frame w)
-  unfolding swapped
+      (swap_step i v (named at.touch.number (look w.objects at.touch.number)) at.value new frame w)
+  unfolding swap_step
   swaps x i v k at new ty there mine is scoped filled wide owns_it =
       let M1 = moved_all (is_inside n) loose (objects_in old) os once_old passing_old in
       let M2 = moved_all is_loose (inside n) (objects_in new) M1.objects once_new (passing_new M1) in
-      let os3 = changed n (with_cell i new) M2.objects in
+      let os3 = with_changed_object n (with_cell i new) M2.objects in
       let within : n < length M2.objects =
       subst (λ k. n < k) (sym (M2.long ∙ M1.long)) (live_within os n at.touch.live) in
       so_safe G (list_all (λ m. is_ok (owned_at is_loose os m)) (objects_in new)) not_owned None w _
@@ -269,7 +269,7 @@ module _ (r : Setup) (f : Func)
   pub swap_safe : (x i v : ℕ) → simple_broken r.program f ids (swap x i v) ≡ [] →
       CanPass (simple_rows r.program f (swap x i v)) h →
       Safe
-      (goes_to r.program f c (passed (simple_rows r.program f (swap x i v)) h) (ids_after f (swap x i v) ids) [])
+      (goes_to r.program f c (map_after (simple_rows r.program f (swap x i v)) h) (ids_after f (swap x i v) ids) [])
       (does_simple r f (swap x i v) frame w)
   swap_safe x i v kinded pass =
       let s2 =
@@ -287,7 +287,7 @@ module _ (r : Setup) (f : Func)
       let rowing : Row = row (a_var v) wants_full becomes_full in
       let ok = pass_behind (touch_rows r.program f x i) (rowing ∷ []) h (touch_stays r.program f x i) pass in
       let filled = full_is (h (a_var v)) ok.1.0 in
-      let map : h ≡ passed (touch_rows r.program f x i ++ rowing ∷ []) h =
+      let map : h ≡ map_after (touch_rows r.program f x i ++ rowing ∷ []) h =
       sym
       (passed_split (touch_rows r.program f x i) (rowing ∷ []) h ∙
       (ap (row_passed rowing) (stays_passed (touch_rows r.program f x i) h (touch_stays r.program f x i)) ∙ full_stays v h filled)) in

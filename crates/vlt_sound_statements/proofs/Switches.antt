@@ -5,7 +5,7 @@ use Rattle.std.proofs.lemmas.Option.{none-some, slice_get_within}
 use Rattle.std.specs.List.{flat_map, list_all}
 use Rattle.vlt_core.specs.Core.{Tok, Ty, int, bool, tracked, owning, guarded, variant, owning_variant, a_key, a_var, CaseDecl, TypeDecl, an_abstract, a_struct, a_variant, switch, Arms, Func, Program}
 use Rattle.vlt_core.specs.Lookups.{var_type, is_owning, is_owning_var, owns, VariantOf, variant_of, variant_in, KeyIn, case_keys, keys_in, case_at, cases_of, cases_in, key_type}
-use Rattle.vlt_core.specs.Maps.{Status, absent, held, lent, full, kind_of, is_full, HeldMap, is_tok, Row, row_passed, CanPass, passed}
+use Rattle.vlt_core.specs.Maps.{Status, absent, held, lent, full, kind_of, is_full, HeldMap, is_tok, Row, row_passed, CanPass, map_after}
 use Rattle.vlt_core.specs.Rows.{empty_row, fill_rows, arm_rows, on_option}
 use Rattle.vlt_core.specs.Types.{decl_of, is_variant, header_of, with_keys, type_in, args_of}
 use Rattle.vlt_core.specs.KindedHeads.{has, are_apart, unless, when_some}
@@ -20,7 +20,7 @@ use Rattle.vlt_meaning.specs.World.{Value, Object, one, of_case, objects_in, obj
 use Rattle.vlt_meaning.specs.Found.{or_fault}
 use Rattle.vlt_meaning.specs.Step.{Step, with_found, with_filled}
 use Rattle.vlt_meaning.specs.Step as step
-use Rattle.vlt_meaning.specs.Operands.{Case, case_in, with_case_opened, emptied}
+use Rattle.vlt_meaning.specs.Operands.{Case, case_in, with_case_opened, with_empty_variable}
 use Rattle.vlt_meaning.specs.Run.{Setup, Meaning, does_form, does_block, does_arm}
 use Rattle.vlt_sound_worlds.specs.Look.{look}
 use Rattle.vlt_sound_worlds.specs.Scene.{Scene}
@@ -38,7 +38,7 @@ use Rattle.vlt_sound_worlds.proofs.Blocks.{agrees_in}
 use Rattle.vlt_sound_worlds.specs.Scoped.{HasKeys}
 use Rattle.vlt_sound_worlds.proofs.Widening.{vars_widen, block_widens, widens_both}
 use Rattle.vlt_sound_worlds.proofs.Binding.{arm_scoped}
-use Rattle.vlt_sound_worlds.specs.Handed.{handed}
+use Rattle.vlt_sound_worlds.specs.Handed.{handed_values}
 use Rattle.vlt_sound_worlds.proofs.Hand.{agrees_hand}
 use Rattle.vlt_sound_statements.specs.Makings.{HasCases}
 use Rattle.vlt_sound_statements.specs.Kinded.{BreakNone}
@@ -109,7 +109,7 @@ full_is (lent S) e = cc
 full_is full e = refl
 
 -- rows on keys say nothing of a variable
-var_passed : (v : ℕ) (ks : List KeyIn) (m : HeldMap) → passed (map key_row ks) m (a_var v) ≡ m (a_var v)
+var_passed : (v : ℕ) (ks : List KeyIn) (m : HeldMap) → map_after (map key_row ks) m (a_var v) ≡ m (a_var v)
 var_passed v [] m = refl
 var_passed v (k ∷ ks) m = var_passed v ks (row_passed (key_row k) m) ∙ row_other (key_row k) m (a_var v) (λ e. no_key e)
   where
@@ -180,7 +180,7 @@ module _ (p : Program) (f : Func) (typed : IsTyped p f) (cased : HasCases p f) {
   module _ (value : Value) (has : frame.vars v ≡ Some value)
       (fit : IsCase p (scene c w.objects agrees.heads) (names_of (map frame.keys o.args)) o.type value) where
     abbrev hand : List Handed
-    hand = handed (map (with_keys o.args) fit.decl.payload) (map one fit.parts)
+    hand = handed_values (map (with_keys o.args) fit.decl.payload) (map one fit.parts)
 
     abbrev keys : List KeyIn
     keys = case_keys p variant_is fit.case
@@ -213,7 +213,7 @@ module _ (p : Program) (f : Func) (typed : IsTyped p f) (cased : HasCases p f) {
     -- of an owning variable
     owned_opened : is_owning_var f v ≡ true → kind_of (h (a_var v)) ≡ is_full → (g : Goal) (go : World → Step) →
         CanPass (map key_row keys) (row_passed (empty_row v) h) →
-        ((w' : World) → Agrees p f c (passed (map key_row keys) (row_passed (empty_row v) h)) ids hand (step.with_var v None frame) w'.objects → Safe g (go w')) →
+        ((w' : World) → Agrees p f c (map_after (map key_row keys) (row_passed (empty_row v) h)) ids hand (step.with_var v None frame) w'.objects → Safe g (go w')) →
         Safe g (with_case_opened keys fit.keys frame w go)
     owned_opened owner is g go pass safe =
         let h1 = row_passed (empty_row v) h in
@@ -223,13 +223,13 @@ module _ (p : Program) (f : Func) (typed : IsTyped p f) (cased : HasCases p f) {
         let begun = agrees_map same (agrees_split agrees v value rest hand has owner full_now
         (ap objects_in fit.is ∙ ap (λ ns. ns ++ fit.keys) (sym hand_has)) hand_fits) in
         opened_safe ids frame v fit.case owner g go keys fit.keys h1 w begun all_opened pass
-        (λ w' now. safe w' (subst (λ fr. Agrees p f c (passed (map key_row keys) h1) ids hand fr w'.objects)
+        (λ w' now. safe w' (subst (λ fr. Agrees p f c (map_after (map key_row keys) h1) ids hand fr w'.objects)
         (with_var_twice v (Some (of_case fit.case [] [])) None frame)
         (agrees_emptied ids v now (of_case fit.case [] []) (set_here v (Some (of_case fit.case [] [])) frame.vars) refl owner
-        (passed (map key_row keys) h1)
+        (map_after (map key_row keys) h1)
         (record {
           here = var_passed v keys h1 ∙ row_here (empty_row v) h;
-          others = λ u other. sym (other_tok (passed (map key_row keys) h1) u other);
+          others = λ u other. sym (other_tok (map_after (map key_row keys) h1) u other);
         }))))
       where
         at : h (a_var v) ≡ full → (t : Tok) → with_full v (row_passed (empty_row v) h) t ≡ h t
@@ -253,31 +253,31 @@ module _ (p : Program) (f : Func) (typed : IsTyped p f) (cased : HasCases p f) {
         plain_value p (scene c w.objects agrees.heads) frame.keys ty value plain (λ t args e. typed.variants v t args (known ∙ ap Some e)) fits)
 
     copied_opened : is_owning ty ≡ false → Fits p (scene c w.objects agrees.heads) frame.keys ty value → (g : Goal) (go : World → Step) →
-        ((w' : World) → Agrees p f c (passed (map key_row keys) h) ids hand frame w'.objects → Safe g (go w')) →
+        ((w' : World) → Agrees p f c (map_after (map key_row keys) h) ids hand frame w'.objects → Safe g (go w')) →
         Safe g (with_case_opened keys fit.keys frame w go)
     copied_opened plain fits g go safe =
         let none = copied_none plain fits in
         let no_keys = none_opened f frame.keys (look w.objects) keys fit.keys none.1 all_opened in
         opened_none g frame w go keys fit.keys no_keys none.1
-        (safe w (subst (λ ks. Agrees p f c (passed (map key_row ks) h) ids hand frame w.objects) (sym no_keys)
+        (safe w (subst (λ ks. Agrees p f c (map_after (map key_row ks) h) ids hand frame w.objects) (sym no_keys)
         (agrees_hand agrees hand (hand_has ∙ none.0) hand_fits)))
 
     -- of any
     opens : Fits p (scene c w.objects agrees.heads) frame.keys ty value → (g : Goal) (go : World → Step) →
         CanPass (if is_owning_var f v then empty_row v ∷ [] else []) h →
-        CanPass (map key_row keys) (passed (if is_owning_var f v then empty_row v ∷ [] else []) h) →
-        ((w' : World) → Agrees p f c (passed (map key_row keys) (passed (if is_owning_var f v then empty_row v ∷ [] else []) h)) ids hand (emptied f v frame) w'.objects → Safe g (go w')) →
+        CanPass (map key_row keys) (map_after (if is_owning_var f v then empty_row v ∷ [] else []) h) →
+        ((w' : World) → Agrees p f c (map_after (map key_row keys) (map_after (if is_owning_var f v then empty_row v ∷ [] else []) h)) ids hand (with_empty_variable f v frame) w'.objects → Safe g (go w')) →
         Safe g (with_case_opened keys fit.keys frame w go)
     opens fits g go before pass safe = ⊎_elim
         (λ own.
         let owner : is_owning_var f v ≡ true = ap owns known ∙ own in
         owned_opened owner (subst (λ b. CanPass (if b then empty_row v ∷ [] else []) h) owner before).0 g go
-        (subst (λ b. CanPass (map key_row keys) (passed (if b then empty_row v ∷ [] else []) h)) owner pass)
-        (λ w' now. safe w' (subst (λ b. Agrees p f c (passed (map key_row keys) (passed (if b then empty_row v ∷ [] else []) h)) ids hand (if b then step.with_var v None frame else frame) w'.objects) (sym owner) now)))
+        (subst (λ b. CanPass (map key_row keys) (map_after (if b then empty_row v ∷ [] else []) h)) owner pass)
+        (λ w' now. safe w' (subst (λ b. Agrees p f c (map_after (map key_row keys) (map_after (if b then empty_row v ∷ [] else []) h)) ids hand (if b then step.with_var v None frame else frame) w'.objects) (sym owner) now)))
         (λ plain.
         let off : is_owning_var f v ≡ false = ap owns known ∙ plain in
         copied_opened plain fits g go
-        (λ w' now. safe w' (subst (λ b. Agrees p f c (passed (map key_row keys) (passed (if b then empty_row v ∷ [] else []) h)) ids hand (if b then step.with_var v None frame else frame) w'.objects) (sym off) now)))
+        (λ w' now. safe w' (subst (λ b. Agrees p f c (map_after (map key_row keys) (map_after (if b then empty_row v ∷ [] else []) h)) ids hand (if b then step.with_var v None frame else frame) w'.objects) (sym off) now)))
         (cases_Bool (is_owning ty))
 
 -- ---- a switch
@@ -338,7 +338,7 @@ pub record SwitchAt (p : Program) (f : Func) (v : ℕ) (arms : Arms) (frame : Fr
   pub listed : arms_broken p f ids v arms ≡ []
   pub rows : BreakNone (arms_rows p f site.around ids arms)
   pub first : CanPass (emptying f v) before
-  pub leads : DerivesArms site.breaks site.turns (passed (emptying f v) before) (flow_of_arms p f site.left v arms) behind
+  pub leads : DerivesArms site.breaks site.turns (map_after (emptying f v) before) (flow_of_arms p f site.left v arms) behind
 
 module _ (p : Program) (f : Func) (typed : IsTyped p f) (keyed : HasKeys f) (cased : HasCases p f) {v : ℕ} {arms : Arms}
     {frame : Frame} {w : World} (x : SwitchAt p f v arms frame w) where
@@ -370,13 +370,13 @@ module _ (p : Program) (f : Func) (typed : IsTyped p f) (keyed : HasKeys f) (cas
   switched_keys = case_keys p switched_type case_fits.case
 
   abbrev pub emptied_map : HeldMap
-  emptied_map = passed (emptying f v) x.before
+  emptied_map = map_after (emptying f v) x.before
 
   -- the case's parts are handed over, and its objects are under its keys
   abbrev pub IsOpen : World → Type 0
   IsOpen w' =
-      Agrees p f x.site.context (passed (map key_row switched_keys) emptied_map) x.ids
-      (handed payload (map one case_fits.parts)) (emptied f v frame) w'.objects
+      Agrees p f x.site.context (map_after (map key_row switched_keys) emptied_map) x.ids
+      (handed_values payload (map one case_fits.parts)) (with_empty_variable f v frame) w'.objects
 
   -- ---- the arm of the case
 
@@ -398,7 +398,7 @@ module _ (p : Program) (f : Func) (typed : IsTyped p f) (keyed : HasKeys f) (cas
   rows_are : arm_rows p f v case_fits.case the_arm.vs ≡ map key_row switched_keys ++ fills
   rows_are = ap (λ o. on_option o (λ t. map key_row (case_keys p t case_fits.case)) ++ fills) type_is
 
-  can_pass : CanPass (map key_row switched_keys) emptied_map × CanPass fills (passed (map key_row switched_keys) emptied_map)
+  can_pass : CanPass (map key_row switched_keys) emptied_map × CanPass fills (map_after (map key_row switched_keys) emptied_map)
   can_pass =
       pass_split (map key_row switched_keys) fills emptied_map (subst (λ rs. CanPass rs emptied_map) rows_are the_arm.pass)
 
@@ -440,8 +440,8 @@ module _ (p : Program) (f : Func) (typed : IsTyped p f) (keyed : HasKeys f) (cas
       opens p f typed cased w x.agrees v the_switch.ty the_switch.known the_switch.of the_switch.value the_switch.has case_fits the_switch.fits g go x.first can_pass.0 safe
 
   pub arm_fills : (w' : World) → IsOpen w' → (g : Goal) (go : Frame → Step) →
-      ((frame' : Frame) → Agrees p f x.site.context (passed (arm_rows p f v case_fits.case the_arm.vs) emptied_map) arm_ids [] frame' w'.objects → Safe g (go frame')) →
-      Safe g (with_filled f the_arm.vs (map one case_fits.parts) (emptied f v frame) w' go)
+      ((frame' : Frame) → Agrees p f x.site.context (map_after (arm_rows p f v case_fits.case the_arm.vs) emptied_map) arm_ids [] frame' w'.objects → Safe g (go frame')) →
+      Safe g (with_filled f the_arm.vs (map one case_fits.parts) (with_empty_variable f v frame) w' go)
   arm_fills w' now g go safe =
       filled_safe typed.limited g w' go payload the_arm.vs case_fits.parts
       (agrees_in the_arm.scope (λ u i. subst (λ vs. heads.has vs u ≡ true) the_arm.vars i) now)
@@ -450,7 +450,7 @@ module _ (p : Program) (f : Func) (typed : IsTyped p f) (keyed : HasKeys f) (cas
       (parts_many p here_scene (names_of (map frame.keys the_switch.of.args)) the_switch.of.args case_fits.decl.payload case_fits.parts case_fits.fit)
       can_pass.1
       (λ frame' done. safe frame'
-      (agrees_map (sym (ap (λ rs. passed rs emptied_map) rows_are ∙ passed_split (map key_row switched_keys) fills emptied_map)) done))
+      (agrees_map (sym (ap (λ rs. map_after rs emptied_map) rows_are ∙ passed_split (map key_row switched_keys) fills emptied_map)) done))
 
 -- ---- a switch is safe
 
@@ -467,15 +467,15 @@ module _ (r : Setup) (rest_of : Meaning) (f : Func) (typed : IsTyped r.program f
       found_safe G (or_fault missing (variant_of f v)) (switched_type r.program f typed keyed cased x) w _
       (ap (or_fault missing) (type_is r.program f typed keyed cased x))
       (found_safe G (case_in (frame.vars v)) c w _ (case_is r.program f typed keyed cased x)
-      (case_opens r.program f typed keyed cased x G (λ w. does_arm r rest_of f c arms (emptied f v frame) w)
-      (λ w' now. subst (Safe G) (sym (arm_is_done r rest_of f c arms done (emptied f v frame) w' a.is))
+      (case_opens r.program f typed keyed cased x G (λ w. does_arm r rest_of f c arms (with_empty_variable f v frame) w)
+      (λ w' now. subst (Safe G) (sym (arm_is_done r rest_of f c arms done (with_empty_variable f v frame) w' a.is))
       (arm_fills r.program f typed keyed cased x w' now G (λ frame. does_block r rest_of f a.body frame w')
       (λ frame' begun. weaker (comes_to r.program f x.site x.behind (ids_behind_block r.program f a.body inner)) G
       (does_block r rest_of f a.body frame' w')
       (λ frame w now. agrees_in (ids_behind_arms r.program f arms x.ids) (arms_scope r.program f typed keyed cased x) now)
       (λ c frame w jumped. jumped) (λ v kept w left. left)
       (arm_is_safe r rest_of f c.number arms done safe a.is x.site
-      (passed (arm_rows r.program f v c.number a.vs) (passed (emptying f v) x.before)) x.behind (owning_toks f a.vs) inner frame' w'
+      (map_after (arm_rows r.program f v c.number a.vs) (map_after (emptying f v) x.before)) x.behind (owning_toks f a.vs) inner frame' w'
       (arm_here r.program f typed keyed cased x) a.kinded a.leads begun))))))
 
   pub switch_is_safe : IsSafeForm r rest_of f (switch v arms end)

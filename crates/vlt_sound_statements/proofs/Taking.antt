@@ -8,7 +8,7 @@ use Rattle.vlt_core.specs.Types.{keys_of_ty}
 use Rattle.vlt_core.specs.KindedScopes.{Ids}
 use Rattle.vlt_meaning.specs.World.{Owner, adopted_by, gone, Object, Frame}
 use Rattle.vlt_meaning.specs.World as world
-use Rattle.vlt_meaning.specs.Objects.{changed, with_owner}
+use Rattle.vlt_meaning.specs.Objects.{with_changed_object, with_owner}
 use Rattle.vlt_meaning.specs.Step.{with_key}
 use Rattle.vlt_sound_worlds.specs.Look.{look, ChangesOne}
 use Rattle.vlt_sound_worlds.proofs.Look.{changes_one, owns_one}
@@ -34,7 +34,7 @@ module _ {p : Program} {f : Func} {c : Context} {h : HeldMap} {ids : Ids} {frame
     (k : ℕ) (states : States) (h' : HeldMap) (none : h (a_key k) ≡ absent)
     (tok : ChangesTok (a_key k) (held states) h h') where
   abbrev pub taken : List Object
-  taken = changed n (with_owner (world.held frame.depth k)) os
+  taken = with_changed_object n (with_owner (world.held frame.depth k)) os
 
   change : ChangesOne n (with_owner (world.held frame.depth k)) (look os) (look taken)
   change = changes_one os n (with_owner (world.held frame.depth k)) within

@@ -3,7 +3,7 @@ use Rattle.std.proofs.Common.{◌≡◌, ⊎_elim, Bool, true, false, List, [], 
 use Rattle.std.proofs.lemmas.Bool.{or_left, or_right}
 use Rattle.std.specs.List.{list_any}
 use Rattle.vlt_core.specs.Core.{Tok, a_key, a_var, Func}
-use Rattle.vlt_core.specs.Maps.{kind_of, is_absent, HeldMap, is_tok, row_passed, CanPass, gone}
+use Rattle.vlt_core.specs.Maps.{kind_of, is_absent, HeldMap, is_tok, row_passed, CanPass, away_row}
 use Rattle.vlt_core.specs.Rows.{tokens_of, in_order}
 use Rattle.vlt_core.specs.KindedBodies.{tokens_broken}
 use Rattle.vlt_core_laws.specs.Scoped.{is_bound}
@@ -13,24 +13,24 @@ use Rattle.vlt_sound_worlds.specs.Scopes.{AreOwning}
 use Rattle.vlt_sound_worlds.proofs.Blocks.{gone_passed}
 
 -- a row that wants a token away changes nothing where it is passed
-gone_once : (u : Tok) (m : HeldMap) → kind_of (m u) ≡ is_absent → row_passed (gone u) m ≡ m
+gone_once : (u : Tok) (m : HeldMap) → kind_of (m u) ≡ is_absent → row_passed (away_row u) m ≡ m
 gone_once u m e = gone_passed (u ∷ []) m (e, tt)
 
-pub away_in : (ts : List Tok) (m : HeldMap) (t : Tok) → CanPass (map gone ts) m → is_bound ts t ≡ true →
+pub away_in : (ts : List Tok) (m : HeldMap) (t : Tok) → CanPass (map away_row ts) m → is_bound ts t ≡ true →
     kind_of (m t) ≡ is_absent
 away_in [] m t pass e = cc
 away_in (u ∷ ts) m t pass e = ⊎_elim
     (λ same. subst (λ u. kind_of (m u) ≡ is_absent) (sym (tok_is t u same)) pass.0)
-    (λ more. away_in ts m t (subst (CanPass (map gone ts)) (gone_once u m pass.0) pass.1) more)
+    (λ more. away_in ts m t (subst (CanPass (map away_row ts)) (gone_once u m pass.0) pass.1) more)
     (or_split (is_tok t u) (is_bound ts t) e)
 
 pub all_away : (ts : List Tok) (m : HeldMap) → ((t : Tok) → is_bound ts t ≡ true → kind_of (m t) ≡ is_absent) →
-    CanPass (map gone ts) m
+    CanPass (map away_row ts) m
 all_away [] m away = tt
 all_away (u ∷ ts) m away =
     let here = away u (or_left (is_tok u u) (is_bound ts u) (tok_self u)) in (
       here,
-      subst (CanPass (map gone ts)) (sym (gone_once u m here))
+      subst (CanPass (map away_row ts)) (sym (gone_once u m here))
           (all_away ts m (λ t e. away t (or_right (is_tok t u) (is_bound ts t) e))),
     )
 

@@ -2,7 +2,7 @@
 use Rattle.std.proofs.Common.{◌≡◌, ℕ, true, not, List, [], ◌∷◌, ◌++◌, Some, Ok, refl, sym, ap, ◌∙◌, subst}
 use Rattle.vlt_core.specs.Core.{States, tracked, a_key, Func}
 use Rattle.vlt_core.specs.Lookups.{var_type, tracked_in}
-use Rattle.vlt_core.specs.Maps.{Status, absent, kind_of, HeldMap, wants_in, becomes_absent, Row, row_passed, CanPass, passed}
+use Rattle.vlt_core.specs.Maps.{Status, absent, kind_of, HeldMap, wants_in, becomes_absent, Row, row_passed, CanPass, map_after}
 use Rattle.vlt_core.specs.Rows.{simple_rows, row}
 use Rattle.vlt_core.specs.KindedScopes.{Ids, with_target, target_broken}
 use Rattle.vlt_core.specs.KindedStatements.{wanted_of, simple_broken, ids_after}
@@ -42,7 +42,7 @@ use Rattle.vlt_meaning.specs.World.{Object}
 use Rattle.std.proofs.Common.{slice_get, Some, Ok, ℕ, true, refl, sym, ap, subst, ◌∙◌}
 use Rattle.std.proofs.lemmas.Option.{same_Some}
 use Rattle.vlt_core.specs.Lookups.{reference_of}
-use Rattle.vlt_meaning.specs.Objects.{changed}
+use Rattle.vlt_meaning.specs.Objects.{with_changed_object}
 use Rattle.vlt_meaning.specs.World as world
 use Rattle.vlt_core.specs.declared.rules.TheConstants as rule
 use Rattle.vlt_sound_worlds.proofs.TypeFacts.{tracked_known, droppable_known, guarded_known, apart_same, keys_agree}
@@ -67,7 +67,7 @@ module _ (r : Setup) (f : Func)
       var_type f x ≡ Some (tracked k t args) → var_type f q ≡ Some (tracked j u others) →
       is_droppable_struct r.program t ≡ true → var_type f y ≡ Some (guarded j t args) →
       CanPass (simple_rows r.program f (adopt y x q)) h →
-      Safe (goes_to r.program f c (passed (simple_rows r.program f (adopt y x q)) h) (with_target f y ids) [])
+      Safe (goes_to r.program f c (map_after (simple_rows r.program f (adopt y x q)) h) (with_target f y ids) [])
       (does_simple r f (adopt y x q) frame w)
   adopts y x q k t j u args others in_x in_q is_x is_q droppable is_y pass =
       let os = w.objects in
@@ -90,7 +90,7 @@ module _ (r : Setup) (f : Func)
       (row_tok r1 h absent (row_here r1 h)) tq.number apart
       (λ e. held_lives (sym e ∙ tq.owned)) (ap above tq.owned)
       (record { released = subst (λ t. IsTrue (release_set r.program t (look os tx.number).state)) (sym tx.of.typed) released; droppable = ap (is_droppable_struct r.program) tx.of.typed ∙ droppable }) in
-      let os1 = changed tx.number (with_owner (adopted_by tq.number)) os in
+      let os1 = with_changed_object tx.number (with_owner (adopted_by tq.number)) os in
       let there = next.fit.there x (tracked k t args) in_x is_x refl in
       let fit = next.fit.fit x (tracked k t args) there.0 in_x is_x there.1 in
       let same : fit.fits.object ≡ tx.number = same_Some fit.fits.object tx.number (sym fit.fits.named ∙ tx.named) in
@@ -99,7 +99,7 @@ module _ (r : Setup) (f : Func)
       let map2 : h1 ≡ row_passed r2 h1 = sym (stays_passed (r2 ∷ []) h1 (refl, tt)) in
       let G = goes_to r.program f c (row_passed r2 h1) (with_target f y ids) [] in
       subst
-      (λ rs. Safe (goes_to r.program f c (passed rs h) (with_target f y ids) []) (does_simple r f (adopt y x q) frame w)) (sym rows)
+      (λ rs. Safe (goes_to r.program f c (map_after rs h) (with_target f y ids) []) (does_simple r f (adopt y x q) frame w)) (sym rows)
       (found_safe G (object_of f (λ t. release_set r.program t.type) x frame os) (named tx.number (look os tx.number)) w _
       (object_found f (λ t. release_set r.program t.type) x k t frame os tx.number (ap tracked_in is_x) tx.var tx.named (look_at os tx.number tx.of.within) tx.owned released)
       (found_safe G (object_of f any_state q frame os) (named tq.number (look os tq.number)) w _
@@ -133,7 +133,7 @@ module _ (r : Setup) (f : Func)
   pub adopt_safe : (y x q : ℕ) → simple_broken r.program f ids (adopt y x q) ≡ [] →
       CanPass (simple_rows r.program f (adopt y x q)) h →
       Safe
-      (goes_to r.program f c (passed (simple_rows r.program f (adopt y x q)) h) (ids_after f (adopt y x q) ids) []) (does_simple r f (adopt y x q) frame w)
+      (goes_to r.program f c (map_after (simple_rows r.program f (adopt y x q)) h) (ids_after f (adopt y x q) ids) []) (does_simple r f (adopt y x q) frame w)
   adopt_safe y x q kinded pass =
       let A = tracked_broken f ids rule.WRONG_TYPE x in
       let B = tracked_broken f ids rule.WRONG_TYPE q in

@@ -4,7 +4,7 @@ use Rattle.std.proofs.lemmas.Bool.{cases_eq, eq-eqb}
 use Rattle.std.proofs.lemmas.Option.{same_Some}
 use Rattle.vlt_core.specs.Core.{States, tracked, a_key, a_var, Func, Program, become}
 use Rattle.vlt_core.specs.Lookups.{var_type, key_type, all_states, is_owning_var, tracked_in}
-use Rattle.vlt_core.specs.Maps.{held, HeldMap, wants_held, becomes_held, Row, row_passed, CanPass, passed}
+use Rattle.vlt_core.specs.Maps.{held, HeldMap, wants_held, becomes_held, Row, row_passed, CanPass, map_after}
 use Rattle.vlt_core.specs.Rows.{simple_rows, row}
 use Rattle.vlt_core.specs.Types.{is_struct}
 use Rattle.vlt_core.specs.KindedHeads.{unless, when_some, state_broken}
@@ -13,7 +13,7 @@ use Rattle.vlt_core.specs.KindedScopes.{Ids}
 use Rattle.vlt_core.specs.KindedStatements.{tracked_broken, struct_broken, simple_broken, ids_after}
 use Rattle.vlt_meaning.specs.World.{Owner, Object, World, Frame, adopted_by, gone}
 use Rattle.vlt_meaning.specs.World as world
-use Rattle.vlt_meaning.specs.Objects.{with_state, changed}
+use Rattle.vlt_meaning.specs.Objects.{with_state, with_changed_object}
 use Rattle.vlt_meaning.specs.Values.{object_of}
 use Rattle.vlt_meaning.specs.Run.{Setup, does_simple, any_state}
 use Rattle.vlt_sound_worlds.specs.Look.{look, IsLive, ChangesOne}
@@ -46,7 +46,7 @@ module _ {p : Program} {f : Func} {c : Context} {h : HeldMap} {ids : Ids} {hand 
     (held_by : (look os n).owner ≡ world.held frame.depth k)
     (within : n < length os) (states : States) (s : ℕ) (h' : HeldMap) (tok : ChangesTok (a_key k) (held states) h h') where
   pub agrees_became : IsTrue (states s) → IsTrue (all_states p (look os n).type s) →
-      Agrees p f c h' ids hand frame (changed n (with_state s) os)
+      Agrees p f c h' ids hand frame (with_changed_object n (with_state s) os)
   agrees_became allows is_state = record {
     heads = agrees.heads;
     placed = placed.kept home same_root agrees.placed same_content (λ m o. owners m) (λ m o. owners m) homes;
@@ -75,7 +75,7 @@ module _ {p : Program} {f : Func} {c : Context} {h : HeldMap} {ids : Ids} {hand 
   }
     where
       os' : List Object
-      os' = changed n (with_state s) os
+      os' = with_changed_object n (with_state s) os
 
       change : ChangesOne n (with_state s) (look os) (look os')
       change = changes_one os n (with_state s) within
@@ -194,7 +194,7 @@ module _ (r : Setup) (f : Func)
     (agrees : Agrees r.program f c h ids [] frame w.objects) where
   becomes : (x s k t : ℕ) (args : List ℕ) → InScope ids x → var_type f x ≡ Some (tracked k t args) →
       all_states r.program t s ≡ true → CanPass (simple_rows r.program f (become x s)) h →
-      Safe (goes_to r.program f c (passed (simple_rows r.program f (become x s)) h) ids [])
+      Safe (goes_to r.program f c (map_after (simple_rows r.program f (become x s)) h) ids [])
       (does_simple r f (become x s) frame w)
   becomes x s k t args scoped is allowed pass =
       let os = w.objects in
@@ -206,7 +206,7 @@ module _ (r : Setup) (f : Func)
       let h1 : HeldMap = row_passed kr h in
       let G = goes_to r.program f c h1 ids [] in
       subst
-      (λ rs. Safe (goes_to r.program f c (passed rs h) ids []) (does_simple r f (become x s) frame w)) (sym rows)
+      (λ rs. Safe (goes_to r.program f c (map_after rs h) ids []) (does_simple r f (become x s) frame w)) (sym rows)
       (found_safe G (object_of f any_state x frame os) (named tx.number (look os tx.number)) w _
       (object_found f any_state x k t frame os tx.number (ap tracked_in is) tx.var tx.named (look_at os tx.number tx.of.within) tx.owned refl)
       (agrees_became agrees k tx.number tx.named tx.owned tx.of.within one s h1
@@ -215,7 +215,7 @@ module _ (r : Setup) (f : Func)
   pub become_safe : (x s : ℕ) → simple_broken r.program f ids (become x s) ≡ [] →
       CanPass (simple_rows r.program f (become x s)) h →
       Safe
-      (goes_to r.program f c (passed (simple_rows r.program f (become x s)) h) (ids_after f (become x s) ids) [])
+      (goes_to r.program f c (map_after (simple_rows r.program f (become x s)) h) (ids_after f (become x s) ids) [])
       (does_simple r f (become x s) frame w)
   become_safe x s kinded pass =
       let both = both_empty (tracked_broken f ids rule.WRONG_BECOME x)

@@ -6,7 +6,7 @@ use Rattle.std.specs.Option.{option_map}
 use Rattle.vlt_base.specs.Parents.{parent_in, parent_of}
 use Rattle.vlt_rings.proofs.Chains.{LeadsUp, chain_found, found_chain}
 use Rattle.vlt_meaning.specs.World.{Object, above}
-use Rattle.vlt_meaning.specs.Objects.{parents_of, is_under, released}
+use Rattle.vlt_meaning.specs.Objects.{parents_of, is_under, objects_after_release}
 use Rattle.vlt_sound_worlds.specs.Look.{look_in, look}
 use Rattle.vlt_sound_worlds.specs.Ranks.{IsRanked}
 use Rattle.vlt_sound_worlds.specs.Below.{HasUpper, IsBelowTest}
@@ -44,5 +44,5 @@ module _ (os : List Object) (n : ℕ) (there : n < length os) where
         passes = chain_found (parents_of os) n within s c.0 c.2;
       }
 
-pub ranked_released : (os : List Object) (n : ℕ) → n < length os → IsRanked (look os) → IsRanked (look (released n os))
+pub ranked_released : (os : List Object) (n : ℕ) → n < length os → IsRanked (look os) → IsRanked (look (objects_after_release n os))
 ranked_released os n there r = ranked_ends n (is_under os (n ∷ [])) (below_test os n there) (ends_those os n) r

@@ -8,7 +8,7 @@ use Rattle.vlt_core.specs.Lookups.{var_type}
 use Rattle.vlt_core.specs.Types.{keys_of_ty}
 use Rattle.vlt_core.specs.KindedHeads.{has, unless, keys_of_parameters}
 use Rattle.vlt_core.specs.declared.rules.TheConstants as rule
-use Rattle.vlt_core.specs.KindedScopes.{Ids, left_behind, entered, with_key, with_var, with_binding, tracked_key, own_key, with_target, fresh_broken, keys_broken, binding_broken, target_broken}
+use Rattle.vlt_core.specs.KindedScopes.{Ids, left_behind, at_block_start, with_key, with_var, with_binding, tracked_key, own_key, with_target, fresh_broken, keys_broken, binding_broken, target_broken}
 use Rattle.vlt_core.specs.KindedOperands.{misfit}
 use Rattle.vlt_core.specs.KindedStatements.{with_bindings, opened_broken}
 use Rattle.vlt_core.specs.KindedBodies.{with_vars, arm_vars_broken}
@@ -155,14 +155,14 @@ module _ {f : Func} {c : Context} where
   pub left_scoped : {before last : Ids} → Widens before last → IsScoped f c before → IsScoped f c (left_behind before last)
   left_scoped {before} {last} wide s = scoped_with refl refl (left_widens before wide) s
 
-  pub entered_scoped : {ids : Ids} → IsScoped f c ids → IsScoped f c (entered ids)
+  pub entered_scoped : {ids : Ids} → IsScoped f c ids → IsScoped f c (at_block_start ids)
   entered_scoped {ids} s = record {
     vars = s.vars;
     keys = s.keys;
     ever = s.ever;
     head = s.head;
-    pins = pins_widen ids (entered ids) (λ k i. i) c.pins s.pins;
-    owned = λ k i. owned_in f ids (entered ids) k (λ v e. e) (s.owned k i);
+    pins = pins_widen ids (at_block_start ids) (λ k i. i) c.pins s.pins;
+    owned = λ k i. owned_in f ids (at_block_start ids) k (λ v e. e) (s.owned k i);
   }
 
   key_known : (fresh : Option ℕ) {ids : Ids} → IsKnown f c ids → IsKnown f c (with_key f fresh ids)

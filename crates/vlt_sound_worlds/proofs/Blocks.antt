@@ -5,7 +5,7 @@ use Rattle.std.specs.List.{list_any, list_all}
 use Rattle.vlt_core.specs.Core.{Tok, a_key, a_var, Func, Program}
 use Rattle.vlt_core.specs.Lookups.{is_owning_var}
 use Rattle.vlt_core.specs.Maps as maps
-use Rattle.vlt_core.specs.Maps.{Status, absent, held, lent, full, kind_of, is_absent, HeldMap, IsStatusBelow, IsBelow, row_passed, is_tok, CanPass, passed}
+use Rattle.vlt_core.specs.Maps.{Status, absent, held, lent, full, kind_of, is_absent, HeldMap, IsStatusBelow, IsBelow, row_passed, is_tok, CanPass, map_after}
 use Rattle.vlt_core.specs.KindedScopes.{Ids}
 use Rattle.vlt_meaning.specs.World.{Value, Owner, Object, Frame, World, is_held_under, left_behind}
 use Rattle.vlt_meaning.specs.World as world
@@ -82,20 +82,20 @@ absent_is (lent S) e = cc
 absent_is full e = cc
 
 -- a token that is absent stays so behind the row that wants it away
-gone_same : (t : Tok) (h : HeldMap) → kind_of (h t) ≡ is_absent → row_passed (maps.gone t) h ≡ h
+gone_same : (t : Tok) (h : HeldMap) → kind_of (h t) ≡ is_absent → row_passed (maps.away_row t) h ≡ h
 gone_same t h e = λ i u. (at u) i
   where
-    at : (u : Tok) → row_passed (maps.gone t) h u ≡ h u
+    at : (u : Tok) → row_passed (maps.away_row t) h u ≡ h u
     at u = ⊎_elim
         (λ same. ap (λ b. if b then absent else h u) same ∙ sym (ap h (tok_is u t same) ∙ absent_is (h t) e))
         (λ other. ap (λ b. if b then absent else h u) other)
         (cases_Bool (is_tok u t))
 
-pub gone_passed : (ts : List Tok) (h : HeldMap) → CanPass (map maps.gone ts) h → passed (map maps.gone ts) h ≡ h
+pub gone_passed : (ts : List Tok) (h : HeldMap) → CanPass (map maps.away_row ts) h → map_after (map maps.away_row ts) h ≡ h
 gone_passed [] h pass = refl
 gone_passed (t ∷ ts) h pass =
     let same = gone_same t h pass.0 in
-    ap (passed (map maps.gone ts)) same ∙ gone_passed ts h (subst (CanPass (map maps.gone ts)) same pass.1)
+    ap (map_after (map maps.away_row ts)) same ∙ gone_passed ts h (subst (CanPass (map maps.away_row ts)) same pass.1)
 
 none_any : (test : Object → Bool) (os : List Object) →
     ((i : ℕ) (o : Object) → slice_get os i ≡ Some o → test o ≡ false) → list_any test os ≡ false
@@ -124,25 +124,25 @@ module _ {p : Program} {f : Func} {c : Context} {h : HeldMap} {ids : Ids} {hand 
       (cases_Bool (is_held_under frame.depth k o.owner))))
 
   -- what a block bound is unused where its end's rows are passed
-  pub unused : (ts : List Tok) → AreOwning f ts → CanPass (map maps.gone ts) h →
+  pub unused : (ts : List Tok) → AreOwning f ts → CanPass (map maps.away_row ts) h →
       list_all (is_unused frame w.objects) ts ≡ true
   unused [] own_all pass = refl
   unused (a_key k ∷ ts) own_all pass =
       rw (key_unused k pass.0)
-      (unused ts own_all (subst (CanPass (map maps.gone ts)) (gone_same (a_key k) h pass.0) pass.1))
+      (unused ts own_all (subst (CanPass (map maps.away_row ts)) (gone_same (a_key k) h pass.0) pass.1))
   unused (a_var v ∷ ts) own_all pass =
       let empty : frame.vars v ≡ None =
       (subst (λ s. HasVar (is_owning_var f v) s (frame.vars v)) (absent_is (h (a_var v)) pass.0) (agrees.vars.full v)) own_all.0 in
       rw (ap is_none empty)
-      (unused ts own_all.1 (subst (CanPass (map maps.gone ts)) (gone_same (a_var v) h pass.0) pass.1))
+      (unused ts own_all.1 (subst (CanPass (map maps.away_row ts)) (gone_same (a_var v) h pass.0) pass.1))
 
-  pub left_safe : (g : Goal) (ts : List Tok) → AreOwning f ts → CanPass (map maps.gone ts) h → g.goes frame w →
+  pub left_safe : (g : Goal) (ts : List Tok) → AreOwning f ts → CanPass (map maps.away_row ts) h → g.goes frame w →
       Safe g (left_block ts (goes frame w))
   unfolding left_block
   left_safe g ts own_all pass on = so_safe g (are_unused ts frame w) left_behind None w _ (unused ts own_all pass) on
 
   pub jumped_safe : (g : Goal) (continues : Bool) (ts : List Tok) → AreOwning f ts →
-      CanPass (map maps.gone ts) h → g.jumps continues frame w →
+      CanPass (map maps.away_row ts) h → g.jumps continues frame w →
       Safe g (left_block ts (jumps continues frame w))
   unfolding left_block
   jumped_safe g continues ts own_all pass on =

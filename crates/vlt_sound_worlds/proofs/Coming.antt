@@ -9,7 +9,7 @@ use Rattle.vlt_core.specs.Types.{keys_of_ty}
 use Rattle.vlt_core.specs.KindedScopes.{Ids}
 use Rattle.vlt_meaning.specs.World.{Value, one, owned, objects_in, Owner, loose, adopted_by, gone, above, Object, Frame}
 use Rattle.vlt_meaning.specs.World as world
-use Rattle.vlt_meaning.specs.Objects.{changed, with_owner}
+use Rattle.vlt_meaning.specs.Objects.{with_changed_object, with_owner}
 use Rattle.vlt_meaning.specs.Step.{with_key}
 use Rattle.vlt_sound_worlds.specs.Look.{look, IsLive, ChangesOne}
 use Rattle.vlt_sound_worlds.proofs.Look.{changes_one, owns_one}
@@ -36,7 +36,7 @@ module _ {p : Program} {f : Func} {c : Context} {h : HeldMap} {ids : Ids} {x : H
   pub agrees_bound : (k : ℕ) (states : States) (h' : HeldMap) → h (a_key k) ≡ absent →
       ChangesTok (a_key k) (held states) h h' →
       IsTrue (states (look os n).state) → IsOfType (key_type f k) (look os n).type → IsFresh f c ids hand k →
-      Agrees p f c h' ids hand (with_key k n frame) (changed n (with_owner (world.held frame.depth k)) os)
+      Agrees p f c h' ids hand (with_key k n frame) (with_changed_object n (with_owner (world.held frame.depth k)) os)
   agrees_bound k states h' none tok state type fresh =
       agrees_owner agrees n (world.held frame.depth k) os' h' ids hand (with_key k n frame) (record {
         change = change;
@@ -81,7 +81,7 @@ module _ {p : Program} {f : Func} {c : Context} {h : HeldMap} {ids : Ids} {x : H
       })
     where
       os' : List Object
-      os' = changed n (with_owner (world.held frame.depth k)) os
+      os' = with_changed_object n (with_owner (world.held frame.depth k)) os
 
       change : ChangesOne n (with_owner (world.held frame.depth k)) (look os) (look os')
       change = changes_one os n (with_owner (world.held frame.depth k)) within
@@ -167,5 +167,5 @@ module _ {p : Program} {f : Func} {c : Context} {h : HeldMap} {ids : Ids} {x : H
       (agrees_bound k states h' none tok state type fresh).heads ≡ agrees.heads
   unfolding agrees_bound
   bound_heads k states h' none tok state type fresh =
-      owner_heads agrees n (world.held frame.depth k) (changed n (with_owner (world.held frame.depth k)) os) h' ids hand
+      owner_heads agrees n (world.held frame.depth k) (with_changed_object n (with_owner (world.held frame.depth k)) os) h' ids hand
       (with_key k n frame) _

@@ -20,7 +20,7 @@ use Rattle.vlt_meaning.specs.World.{Object, Frame, Value, one, Part, trap, is_fa
 use Rattle.vlt_meaning.specs.World as world
 use Rattle.vlt_meaning.specs.Found.{Found, ◌>>=◌, or_fault}
 use Rattle.vlt_meaning_laws.proofs.Keeping.{err-ok}
-use Rattle.vlt_meaning.specs.Values.{number_in, is_number, or_trap, joined, value_of}
+use Rattle.vlt_meaning.specs.Values.{number_in, is_number, or_trap, value_of_both, value_of}
 use Rattle.vlt_sound_worlds.specs.Look.{look}
 use Rattle.vlt_sound_worlds.specs.Scene.{Scene}
 use Rattle.vlt_sound_worlds.specs.Fits.{Names, names_of, Fits}
@@ -281,7 +281,7 @@ module _ {p : Program} {f : Func} (typed : IsTyped p f) (ids : Ids) where
     joined_fine : (o : Op) (z : ℤ) (type : Option Ty) (b : Found Value) →
         IsFine p (scene c os agrees.heads) frame.keys type b →
         ((v : Value) → IsRead p (scene c os agrees.heads) frame.keys type v → IsNumber p (scene c os agrees.heads) frame.keys v) →
-        IsFine p (scene c os agrees.heads) frame.keys (Some (given_by o)) (joined o z b)
+        IsFine p (scene c os agrees.heads) frame.keys (Some (given_by o)) (value_of_both o z b)
     joined_fine op.And z type b fine num =
         if_fine (is_true z) _ b (is_number z) (right_fine op.And type b refl fine num)
         (given_fits p (scene c os agrees.heads) frame.keys op.And z)
@@ -370,11 +370,11 @@ module _ {p : Program} {f : Func} (typed : IsTyped p f) (ids : Ids) where
             left_broken (row_of o).takes (type_of_expr p f a) ≡ [] →
             misfit (right_wanted (row_of o).takes (type_of_expr p f a)) (type_of_expr p f b) ≡ [] →
             IsFine p (scene c os agrees.heads) frame.keys (Some (given_by o))
-            (a' >>= λ v. number_in v >>= λ z. joined o z (value_of p f b frame os))
+            (a' >>= λ v. number_in v >>= λ z. value_of_both o z (value_of p f b frame os))
         by (Err q) fine right l m = fine
         by (Ok v) fine right l m =
             let n = left_number p (scene c os agrees.heads) frame.keys (row_of o).takes (type_of_expr p f a) v l fine in
             subst
-            (λ q. IsFine p (scene c os agrees.heads) frame.keys (Some (given_by o)) (q >>= λ z. joined o z (value_of p f b frame os))) (sym n.is)
+            (λ q. IsFine p (scene c os agrees.heads) frame.keys (Some (given_by o)) (q >>= λ z. value_of_both o z (value_of p f b frame os))) (sym n.is)
             (joined_fine o n.z (type_of_expr p f b) (value_of p f b frame os) right
             (λ w r. right_number p (scene c os agrees.heads) frame.keys (row_of o).takes (type_of_expr p f a) (type_of_expr p f b) w v l fine m r))

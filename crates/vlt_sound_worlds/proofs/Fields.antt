@@ -4,7 +4,7 @@ use Rattle.std.proofs.lemmas.Bool.{cases_eq, lt-ltb}
 use Rattle.std.proofs.lemmas.Option.{none-some, same_Some, slice_get_within}
 use Rattle.vlt_core.specs.Core.{Ty, int, bool, tracked, owning, guarded, variant, owning_variant, FieldDecl, Expr, put, Func, Program}
 use Rattle.vlt_core.specs.Lookups.{is_owning, fields_of}
-use Rattle.vlt_core.specs.Maps.{HeldMap, CanPass, passed}
+use Rattle.vlt_core.specs.Maps.{HeldMap, CanPass, map_after}
 use Rattle.vlt_core.specs.Rows.{simple_rows, expr_rows, touch_rows}
 use Rattle.vlt_core.specs.Types.{with_keys, stands_for, header_of, is_owning_type}
 use Rattle.vlt_core.specs.KindedScopes.{Ids}
@@ -12,7 +12,7 @@ use Rattle.vlt_core.specs.KindedOperands.{misfit, unless_owning, field_type, typ
 use Rattle.vlt_core.specs.KindedStatements.{simple_broken, ids_after}
 use Rattle.vlt_core.specs.declared.rules.TheConstants as rule
 use Rattle.vlt_meaning.specs.World.{Value, objects_in, Object, World, Frame, missing}
-use Rattle.vlt_meaning.specs.Objects.{changed, with_cell}
+use Rattle.vlt_meaning.specs.Objects.{with_changed_object, with_cell}
 use Rattle.vlt_meaning.specs.Values.{touchable, value_of}
 use Rattle.vlt_meaning.specs.Run.{Setup, does_simple}
 use Rattle.vlt_meaning_laws.proofs.Lists.{get_set_same, get_set_other}
@@ -81,7 +81,7 @@ module _ (r : Setup) (f : Func)
       is_owning (with_keys at.args at.field.decl.ty) ≡ false →
       Fits r.program (scene c w.objects agrees.heads) frame.keys (with_keys at.args at.field.decl.ty) a →
       length at.args ≡ length (header_of r.program at.type) →
-      Agrees r.program f c h ids [] frame (changed at.touch.number (with_cell i a) w.objects)
+      Agrees r.program f c h ids [] frame (with_changed_object at.touch.number (with_cell i a) w.objects)
   agrees_put x i a at plain fits count = agrees_cells agrees os' same (length_changed os n (with_cell i a)) cells
       (λ growing keeping m live. ⊎_elim
       (λ e. subst (ObjectFits r.program (scene c os' agrees.heads)) (sym e) (here_fits growing keeping))
@@ -96,7 +96,7 @@ module _ (r : Setup) (f : Func)
       n = at.touch.number
 
       os' : List Object
-      os' = changed n (with_cell i a) os
+      os' = with_changed_object n (with_cell i a) os
 
       change : ChangesOne n (with_cell i a) (look os) (look os')
       change = changes_one os n (with_cell i a) at.touch.of.within
@@ -175,7 +175,7 @@ module _ (r : Setup) (f : Func)
   pub put_safe : (x i : ℕ) (e : Expr) → simple_broken r.program f ids (put x i e) ≡ [] →
       CanPass (simple_rows r.program f (put x i e)) h →
       Safe
-      (goes_to r.program f c (passed (simple_rows r.program f (put x i e)) h) (ids_after f (put x i e) ids) [])
+      (goes_to r.program f c (map_after (simple_rows r.program f (put x i e)) h) (ids_after f (put x i e) ids) [])
       (does_simple r f (put x i e) frame w)
   put_safe x i e kinded pass =
       let s3 =
@@ -192,8 +192,8 @@ module _ (r : Setup) (f : Func)
       let plain = not_owning ty rule.WRONG_SWAP (field_type r.program f x i) at.field_is s2.1 in
       let known : unless_owning (field_type r.program f x i) ≡ Some ty =
       ap unless_owning at.field_is ∙ ap (λ b. if b then None else Some ty) plain in
-      let G = goes_to r.program f c (passed (simple_rows r.program f (put x i e)) h) (ids_after f (put x i e) ids) [] in
-      let all : h ≡ passed (simple_rows r.program f (put x i e)) h =
+      let G = goes_to r.program f c (map_after (simple_rows r.program f (put x i e)) h) (ids_after f (put x i e) ids) [] in
+      let all : h ≡ map_after (simple_rows r.program f (put x i e)) h =
       sym (stays_passed (simple_rows r.program f (put x i e)) h
       (stays_both (expr_rows r.program f e) (touch_rows r.program f x i) (expr_stays r.program f e) (touch_stays r.program f x i))) in
       fine_safe G r.program (scene c w.objects agrees.heads) frame.keys (type_of_expr r.program f e)

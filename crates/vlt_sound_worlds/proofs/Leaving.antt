@@ -22,7 +22,7 @@ use Rattle.vlt_sound_worlds.specs.Fits.{Names, Fits}
 use Rattle.vlt_sound_worlds.specs.Agrees.{IsAdoptable, VarsAgree, Handed, values_of, FitHanded, Context, FociAgree, scene, stock, Agrees}
 use Rattle.std.proofs.lemmas.Option.{same_Some}
 use Rattle.vlt_meaning.specs.World.{loose, one, owned, above}
-use Rattle.vlt_meaning.specs.Objects.{changed, changed_in}
+use Rattle.vlt_meaning.specs.Objects.{with_changed_object, changed_in}
 use Rattle.vlt_core.specs.Lookups.{is_owning_var}
 use Rattle.vlt_sound_worlds.specs.Agrees.{HasVar}
 use Rattle.std.proofs.lemmas.List.{append-nil, append_assoc}
@@ -46,7 +46,7 @@ var_is_no_key e = cc
 pub record IsUnkeyed (q : Owner) : Type 0 where
   pub none : (d k : ℕ) → IsUnder d k q → ⊥
 
-pub length_changed : (os : List Object) (n : ℕ) (change : Object → Object) → length (changed n change os) ≡ length os
+pub length_changed : (os : List Object) (n : ℕ) (change : Object → Object) → length (with_changed_object n change os) ≡ length os
 length_changed os n change = by (slice_get os n)
   where
     set_length : (os : List Object) (n : ℕ) (o : Object) → length (slice_set os n o) ≡ length os
@@ -147,7 +147,7 @@ module _ {p : Program} {f : Func} {c : Context} {h : HeldMap} {ids : Ids} {hand 
   -- the object of a key becomes a value that is handed over
   pub agrees_packed : (x : Handed) → x.value ≡ one (owned n) →
       Fits p (scene c os agrees.heads) frame.keys x.type x.value →
-      Agrees p f c h' ids (hand ++ x ∷ []) frame (changed n (with_owner loose) os)
+      Agrees p f c h' ids (hand ++ x ∷ []) frame (with_changed_object n (with_owner loose) os)
   agrees_packed x is fit = agrees_owner agrees n loose os' h' ids (hand ++ x ∷ []) frame (record {
     change = change;
     long = length_changed os n (with_owner loose);
@@ -184,7 +184,7 @@ module _ {p : Program} {f : Func} {c : Context} {h : HeldMap} {ids : Ids} {hand 
   })
     where
       os' : List Object
-      os' = changed n (with_owner loose) os
+      os' = with_changed_object n (with_owner loose) os
 
       change : ChangesOne n (with_owner loose) (look os) (look os')
       change = changes_one os n (with_owner loose) within
@@ -212,7 +212,7 @@ module _ {p : Program} {f : Func} {c : Context} {h : HeldMap} {ids : Ids} {hand 
   -- the object of a key is adopted by one that hangs on nothing
   pub agrees_adopted : (a : ℕ) → (n ≡ a → ⊥) → IsLive (look os) a → above (look os a).owner ≡ None →
       IsAdoptable p (look os n) →
-      Agrees p f c h' ids hand frame (changed n (with_owner (adopted_by a)) os)
+      Agrees p f c h' ids hand frame (with_changed_object n (with_owner (adopted_by a)) os)
   agrees_adopted a apart live root adoptable = agrees_owner agrees n (adopted_by a) os' h' ids hand frame (record {
     change = change;
     long = length_changed os n (with_owner (adopted_by a));
@@ -241,7 +241,7 @@ module _ {p : Program} {f : Func} {c : Context} {h : HeldMap} {ids : Ids} {hand 
   })
     where
       os' : List Object
-      os' = changed n (with_owner (adopted_by a)) os
+      os' = with_changed_object n (with_owner (adopted_by a)) os
 
       off : IsUnkeyed (adopted_by a)
       off = record { none = λ d k u. u }

@@ -3,7 +3,7 @@ use Rattle.std.proofs.Common.{◌≡◌, ⊎_elim, ℕ, ◌+◌, ◌<◌, ◌≤
 use Rattle.std.proofs.lemmas.Option.{none-some, slice_get_past, slice_get_within, slice_get-get_or}
 use Rattle.std.specs.Option.{option_map}
 use Rattle.vlt_meaning.specs.World.{Owner, Object, gone}
-use Rattle.vlt_meaning.specs.Objects.{with_owner, changed, is_under, released}
+use Rattle.vlt_meaning.specs.Objects.{with_owner, with_changed_object, is_under, objects_after_release}
 use Rattle.vlt_meaning_laws.proofs.Lists.{get_last, get_more, get_of_more, get_numbered}
 use Rattle.vlt_meaning_laws.proofs.Keeping.{change_here, change_elsewhere}
 use Rattle.vlt_sound_worlds.specs.Look.{nothing, look_in, look, IsLive, ChangesOne, OwnsOne, EndsThose}
@@ -30,7 +30,7 @@ pub look_at : (os : List Object) (n : ℕ) → n < length os → slice_get os n 
 look_at os n lt = let e = slice_get-get_or os n nothing lt in e ∙ ap Some (sym (ap look_in e))
 
 pub changes_one : (os : List Object) (n : ℕ) (change : Object → Object) → n < length os →
-    ChangesOne n change (look os) (look (changed n change os))
+    ChangesOne n change (look os) (look (with_changed_object n change os))
 changes_one os n change lt = record {
   here = ap look_in (change_here os n (look os n) change (look_at os n lt));
   others = λ m other. ap look_in (change_elsewhere os n change m other);
@@ -58,7 +58,7 @@ pub owns_one : {old new : ℕ → Object} (n : ℕ) (owner : Owner) → ChangesO
 owns_one n owner change =
     record { here = ap (λ o. o.owner) change.here; others = λ m other. ap (λ o. o.owner) (change.others m other) }
 
-pub ends_those : (os : List Object) (n : ℕ) → EndsThose (is_under os (n ∷ [])) (look os) (look (released n os))
+pub ends_those : (os : List Object) (n : ℕ) → EndsThose (is_under os (n ∷ [])) (look os) (look (objects_after_release n os))
 ends_those os n = record {
   those = λ m t. at m ∙ by m true t (slice_get os m);
   others = λ m f. at m ∙ by m false f (slice_get os m);
@@ -70,7 +70,7 @@ ends_those os n = record {
     plus_none : (m : ℕ) → 0 + m ≡ m
     plus_none m = omega arith
 
-    at : (m : ℕ) → look (released n os) m ≡ look_in (option_map (λ o. ended (0 + m, o)) (slice_get os m))
+    at : (m : ℕ) → look (objects_after_release n os) m ≡ look_in (option_map (λ o. ended (0 + m, o)) (slice_get os m))
     at m = ap look_in (get_numbered ended 0 os m)
 
     by : (m : ℕ) (b : Bool) → is_under os (n ∷ []) m ≡ b → (q : Option Object) →

@@ -2,7 +2,7 @@
 use Rattle.std.proofs.Common.{◌≡◌, inl, inr, ⊎_elim, ℕ, ◌<◌, Bool, true, List, [], ◌∷◌, length, Ok, refl, sym, ap, ◌∙◌, subst}
 use Rattle.vlt_meaning.specs.World.{Owner, Object, World, not_owned}
 use Rattle.vlt_meaning.specs.Found.{◌>>=◌, if_so}
-use Rattle.vlt_meaning.specs.Objects.{owned_at, named_in, with_owner, changed, moved}
+use Rattle.vlt_meaning.specs.Objects.{owned_at, named_in, with_owner, with_changed_object, objects_after_move}
 use Rattle.vlt_meaning.specs.Step.{Step, with_moved, with_objects}
 use Rattle.vlt_sound_worlds.specs.Look.{look, ChangesOne}
 use Rattle.vlt_sound_worlds.proofs.Look.{look_at, changes_one}
@@ -25,7 +25,7 @@ moved_all from to [] os once all =
     record { objects = os; is = refl; change = record { those = λ n i. absurd i; others = λ n off. refl }; long = refl }
 moved_all from to (x ∷ xs) os once all =
     let here = all x (inl refl) in
-    let os1 : List Object = changed x (with_owner to) os in
+    let os1 : List Object = with_changed_object x (with_owner to) os in
     let change : ChangesOne x (with_owner to) (look os) (look os1) = changes_one os x (with_owner to) here.0 in
     let long : length os1 ≡ length os = length_changed os x (with_owner to) in
     let rest = moved_all from to xs os1 once.1 (λ n i.
@@ -34,7 +34,7 @@ moved_all from to (x ∷ xs) os once all =
     (subst (λ k. n < k) (sym long) was.0, ap (λ o. from o.owner) (change.others n other) ∙ was.1)) in
     record {
       objects = rest.objects;
-      is = ap (λ m. m >>= λ m. moved from to xs os1) (owned_found from os x here.0 here.1) ∙ rest.is;
+      is = ap (λ m. m >>= λ m. objects_after_move from to xs os1) (owned_found from os x here.0 here.1) ∙ rest.is;
       change = record {
         those = λ n i. ⊎_elim
             (λ e. ap (look rest.objects) e ∙ (rest.change.others x once.0 ∙ (change.here ∙ ap (λ k. with_owner to (look os k)) (sym e))))
@@ -49,4 +49,4 @@ moved_all from to (x ∷ xs) os once all =
 pub moved_safe : (g : Goal) (from : Owner → Bool) (to : Owner) (xs : List ℕ) (w : World) (go : World → Step)
     (m : IsMoved from to xs w.objects) → Safe g (go (with_objects w m.objects)) → Safe g (with_moved from to xs w go)
 unfolding with_moved
-moved_safe g from to xs w go m safe = found_safe g (moved from to xs w.objects) m.objects w _ m.is safe
+moved_safe g from to xs w go m safe = found_safe g (objects_after_move from to xs w.objects) m.objects w _ m.is safe

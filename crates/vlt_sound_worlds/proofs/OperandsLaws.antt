@@ -3,7 +3,7 @@ use Rattle.std.proofs.Common.{◌≡◌, ℕ, suc, Bool, true, false, if◌then�
 use Rattle.std.proofs.lemmas.List.{append-nil, append_assoc}
 use Rattle.vlt_core.specs.Core.{States, Ty, tracked, owning, a_key, a_var, Expr, Operand, pure, move, pack, Func, Program}
 use Rattle.vlt_core.specs.Lookups.{var_type, is_owning, is_owning_var, tracked_in}
-use Rattle.vlt_core.specs.Maps.{absent, HeldMap, wants_in, becomes_absent, Row, row_passed, CanPass, passed}
+use Rattle.vlt_core.specs.Maps.{absent, HeldMap, wants_in, becomes_absent, Row, row_passed, CanPass, map_after}
 use Rattle.vlt_core.specs.Rows.{row, empty_row, expr_rows, operand_rows, operands_rows}
 use Rattle.vlt_core.specs.KindedScopes.{Ids, use_broken}
 use Rattle.vlt_core.specs.KindedOperands.{misfit, type_of_expr, expr_broken, move_broken, pack_broken, fits_owning, operand_broken, operands_broken}
@@ -31,7 +31,7 @@ use Rattle.vlt_sound_worlds.proofs.Leaving.{agrees_packed}
 use Rattle.vlt_sound_worlds.proofs.Handing.{agrees_moved}
 use Rattle.vlt_sound_worlds.proofs.Owning.{full_is, row_tok}
 use Rattle.vlt_sound_worlds.proofs.TypeFacts.{misfit_plain, move_facts, pack_facts, packed_tracked}
-use Rattle.vlt_sound_worlds.specs.Handed.{handed}
+use Rattle.vlt_sound_worlds.specs.Handed.{handed_values}
 use Rattle.vlt_sound_worlds.proofs.Hand.{given, agrees_given, agrees_wider}
 use Rattle.vlt_sound_worlds.proofs.Given.{read_variant}
 
@@ -48,7 +48,7 @@ module _ {p : Program} {f : Func} (typed : IsTyped p f) where
     abbrev Behind : Operand → Ty → (Value → Frame → World → Step) → Type 0
     Behind o ty go =
         (a : Value) (frame' : Frame) (w' : World) →
-        Agrees p f c (passed (operand_rows p f o) h) ids (hand ++ given a ty ∷ []) frame' w'.objects →
+        Agrees p f c (map_after (operand_rows p f o) h) ids (hand ++ given a ty ∷ []) frame' w'.objects →
         Safe g (go a frame' w')
 
     pure_safe : (e : Expr) (ty : Ty) (go : Value → Frame → World → Step) →
@@ -122,7 +122,7 @@ module _ {p : Program} {f : Func} (typed : IsTyped p f) where
             found_safe g (object_of f (λ q. states) x frame w.objects)
             (named tr.number (look w.objects tr.number)) w _ found
             (safe (one (owned tr.number)) frame (with_changed w tr.number (with_owner loose))
-            (agrees_map (ap (λ rs. passed rs h) (sym rows)) (agrees_wider hand (given (one (owned tr.number)) (owning states t args)) next typed.limited ty refl wide)))
+            (agrees_map (ap (λ rs. map_after rs h) (sym rows)) (agrees_wider hand (given (one (owned tr.number)) (owning states t args)) next typed.limited ty refl wide)))
 
     -- an operand for a place of a type
     pub operand_safe : (o : Operand) (ty : Ty) (go : Value → Frame → World → Step) →
@@ -138,7 +138,7 @@ module _ {p : Program} {f : Func} (typed : IsTyped p f) where
       (go : List Value → Frame → World → Step) → length os ≡ length types → operands_broken p f ids types os ≡ [] →
       CanPass (operands_rows p f os) h →
       ((values : List Value) (frame' : Frame) (w' : World) → length values ≡ length types →
-      Agrees p f c (passed (operands_rows p f os) h) ids (hand ++ handed types values) frame' w'.objects →
+      Agrees p f c (map_after (operands_rows p f os) h) ids (hand ++ handed_values types values) frame' w'.objects →
       Safe g (go values frame' w')) →
       Safe g (with_operands p f os frame w go)
   unfolding with_operands
@@ -151,9 +151,9 @@ module _ {p : Program} {f : Func} (typed : IsTyped p f) where
       let rows = pass_split (operand_rows p f o) (operands_rows p f os) h pass in
       operand_safe w agrees g o t _ both.0 rows.0
       (λ a frame1 w1 next.
-      operands_safe os types (passed (operand_rows p f o) h) (hand ++ given a t ∷ []) frame1 w1 next g _ (omega arith) both.1 rows.1
+      operands_safe os types (map_after (operand_rows p f o) h) (hand ++ given a t ∷ []) frame1 w1 next g _ (omega arith) both.1 rows.1
       (λ rest frame2 w2 more last.
       safe (a ∷ rest) frame2 w2 (ap suc more)
       (agrees_map (sym (passed_split (operand_rows p f o) (operands_rows p f os) h))
-      (subst (λ hand. Agrees p f c (passed (operands_rows p f os) (passed (operand_rows p f o) h)) ids hand frame2 w2.objects)
-      (append_assoc hand (given a t ∷ []) (handed types rest)) last))))
+      (subst (λ hand. Agrees p f c (map_after (operands_rows p f os) (map_after (operand_rows p f o) h)) ids hand frame2 w2.objects)
+      (append_assoc hand (given a t ∷ []) (handed_values types rest)) last))))

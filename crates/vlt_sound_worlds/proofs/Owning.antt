@@ -2,7 +2,7 @@
 use Rattle.std.proofs.Common.{◌≡◌, ◌⊎◌, ℕ, ◌<◌, true, false, ◌&&◌, not, if◌then◌else◌, List, [], ◌∷◌, ◌++◌, Some, None, is_some, Ok, refl, sym, ap, ◌∙◌, subst}
 use Rattle.vlt_core.specs.Core.{States, Ty, tracked, owning, a_key, a_var, own, move, pack, Func, Program}
 use Rattle.vlt_core.specs.Lookups.{var_type, is_owning, is_owning_var, owns, tracked_in}
-use Rattle.vlt_core.specs.Maps.{Status, absent, held, lent, full, kind_of, is_absent, is_full, HeldMap, wants_absent, wants_in, becomes_absent, becomes_full, Row, row_passed, CanPass, passed}
+use Rattle.vlt_core.specs.Maps.{Status, absent, held, lent, full, kind_of, is_absent, is_full, HeldMap, wants_absent, wants_in, becomes_absent, becomes_full, Row, row_passed, CanPass, map_after}
 use Rattle.vlt_core.specs.Rows.{simple_rows, row, empty_row, fill_rows}
 use Rattle.vlt_core.specs.KindedScopes.{Ids, with_target, target_broken, use_broken}
 use Rattle.vlt_core.specs.KindedOperands.{move_broken, pack_broken, fits_owning, operand_broken}
@@ -90,7 +90,7 @@ module _ (r : Setup) (f : Func)
   pub own_move_safe : (v u : ℕ) → simple_broken r.program f ids (own v (move u)) ≡ [] →
       CanPass (simple_rows r.program f (own v (move u))) h →
       Safe
-      (goes_to r.program f c (passed (simple_rows r.program f (own v (move u))) h) (ids_after f (own v (move u)) ids) []) (does_simple r f (own v (move u)) frame w)
+      (goes_to r.program f c (map_after (simple_rows r.program f (own v (move u))) h) (ids_after f (own v (move u)) ids) []) (does_simple r f (own v (move u)) frame w)
   unfolding with_operand
   own_move_safe v u kinded pass =
       let s2 =
@@ -117,7 +117,7 @@ module _ (r : Setup) (f : Func)
       agrees_moved agrees u h1 absent
       (row_tok (empty_row u) h absent (row_here (empty_row u) h)) value.0 from.ty value.1 from.is facts.0 from.scoped refl in
       subst
-      (λ rs. Safe (goes_to r.program f c (passed rs h) (with_target f v ids) []) (does_simple r f (own v (move u)) frame w)) (sym rows)
+      (λ rs. Safe (goes_to r.program f c (map_after rs h) (with_target f v ids) []) (does_simple r f (own v (move u)) frame w)) (sym rows)
       (found_safe (goes_to r.program f c (row_passed (row (a_var v) wants_absent becomes_full) h1) (with_target f v ids) []) (or_fault no_value (frame.vars u)) value.0 w _
       (ap (or_fault no_value) value.1)
       (fill_safe r.program f typed.limited w next v t.0 (with_target f v ids) t.1 own_ty facts.0 facts.1 ok.1.0 (target_scope f v ids)))
@@ -126,7 +126,7 @@ module _ (r : Setup) (f : Func)
   pub own_pack_safe : (v x : ℕ) (states : States) → simple_broken r.program f ids (own v (pack x states)) ≡ [] →
       CanPass (simple_rows r.program f (own v (pack x states))) h →
       Safe
-      (goes_to r.program f c (passed (simple_rows r.program f (own v (pack x states))) h) (ids_after f (own v (pack x states)) ids) []) (does_simple r f (own v (pack x states)) frame w)
+      (goes_to r.program f c (map_after (simple_rows r.program f (own v (pack x states))) h) (ids_after f (own v (pack x states)) ids) []) (does_simple r f (own v (pack x states)) frame w)
   unfolding with_operand
   own_pack_safe v x states kinded pass =
       let s2 =
@@ -154,7 +154,7 @@ module _ (r : Setup) (f : Func)
           fits_owning ty (owning states t args) ≡ true →
           CanPass (simple_rows r.program f (own v (pack x states))) h →
           Safe
-          (goes_to r.program f c (passed (simple_rows r.program f (own v (pack x states))) h) (ids_after f (own v (pack x states)) ids) [])
+          (goes_to r.program f c (map_after (simple_rows r.program f (own v (pack x states))) h) (ids_after f (own v (pack x states)) ids) [])
           (with_found (object_of f (λ q. states) x frame w.objects) w (λ n. fill f v (one (owned n.number)) frame (with_changed w n.number (with_owner loose))))
       by v x states ty is own_ty owner k t args from scoped wide pass =
           let kr : Row = row (a_key k) (wants_in states) becomes_absent in
@@ -176,7 +176,7 @@ module _ (r : Setup) (f : Func)
           (look_at w.objects tr.number tr.of.within) tr.owned) ∙
           ap (λ b. if_so b wrong_state (named tr.number (look w.objects tr.number)))
           (ok.0.1.each (look w.objects tr.number).state tr.state)) in
-          subst (λ rs. Safe (goes_to r.program f c (passed rs h) (with_target f v ids) [])
+          subst (λ rs. Safe (goes_to r.program f c (map_after rs h) (with_target f v ids) [])
           (with_found (object_of f (λ q. states) x frame w.objects) w (λ n. fill f v (one (owned n.number)) frame (with_changed w n.number (with_owner loose))))) (sym rows)
           (found_safe (goes_to r.program f c (row_passed (row (a_var v) wants_absent becomes_full) h1) (with_target f v ids) []) (object_of f (λ q. states) x frame w.objects)
           (named tr.number (look w.objects tr.number)) w _ found

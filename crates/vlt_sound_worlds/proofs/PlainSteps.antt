@@ -4,7 +4,7 @@ use Rattle.std.proofs.lemmas.Bool.{cases_Bool}
 use Rattle.vlt_core.specs.Core.{Ty, int, bool, variant, Tok, a_key, a_var, Expr, Simple, set, print, own, Operand, pure, move, pack, Func, Program}
 use Rattle.vlt_core.specs.Core as core
 use Rattle.vlt_core.specs.Lookups.{var_type, is_owning}
-use Rattle.vlt_core.specs.Maps.{HeldMap, CanPass, passed}
+use Rattle.vlt_core.specs.Maps.{HeldMap, CanPass, map_after}
 use Rattle.vlt_core.specs.Rows.{simple_rows, expr_rows}
 use Rattle.vlt_core.specs.Types.{same_ty}
 use Rattle.vlt_core.specs.KindedScopes.{Ids, with_target, target_broken}
@@ -46,13 +46,13 @@ module _ (r : Setup) (f : Func)
     (typed : IsTyped r.program f) {c : Context} {h : HeldMap} {ids : Ids} {frame : Frame} (w : World)
     (agrees : Agrees r.program f c h ids [] frame w.objects) where
   abbrev After : Simple → Goal
-  After s = goes_to r.program f c (passed (simple_rows r.program f s) h) (ids_after f s ids) []
+  After s = goes_to r.program f c (map_after (simple_rows r.program f s) h) (ids_after f s ids) []
 
   abbrev Here : Scene
   Here = scene c w.objects agrees.heads
 
   -- the map behind an expression is the one before it
-  same_map : (e : Expr) → h ≡ passed (expr_rows r.program f e) h
+  same_map : (e : Expr) → h ≡ map_after (expr_rows r.program f e) h
   same_map e = sym (stays_passed (expr_rows r.program f e) h (expr_stays r.program f e))
 
   pub print_safe : (e : Expr) → simple_broken r.program f ids (print e) ≡ [] →

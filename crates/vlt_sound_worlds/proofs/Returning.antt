@@ -7,7 +7,7 @@ use Rattle.vlt_core.specs.Maps.{absent, held, HeldMap}
 use Rattle.vlt_core.specs.KindedScopes.{Ids}
 use Rattle.vlt_meaning.specs.World.{Owner, adopted_by, out, gone, Object, Frame}
 use Rattle.vlt_meaning.specs.World as world
-use Rattle.vlt_meaning.specs.Objects.{changed, with_owner}
+use Rattle.vlt_meaning.specs.Objects.{with_changed_object, with_owner}
 use Rattle.vlt_sound_worlds.specs.Look.{look, ChangesOne}
 use Rattle.vlt_sound_worlds.proofs.Look.{changes_one, owns_one}
 use Rattle.vlt_sound_worlds.proofs.Ranks.{ranked_root}
@@ -28,7 +28,7 @@ module _ {p : Program} {f : Func} {c : Context} {h : HeldMap} {ids : Ids} {hand 
   pub agrees_back : (states : States) (h' : HeldMap) → h (a_key k) ≡ absent →
       ChangesTok (a_key k) (held states) h h' → IsTrue (states (look os n).state) →
       IsOfType (key_type f k) (look os n).type →
-      Agrees p f c h' ids hand frame (changed n (with_owner (world.held frame.depth k)) os)
+      Agrees p f c h' ids hand frame (with_changed_object n (with_owner (world.held frame.depth k)) os)
   agrees_back states h' none tok state type = agrees_owner agrees n (world.held frame.depth k) os' h' ids hand frame (record {
     change = change;
     long = length_changed os n (with_owner (world.held frame.depth k));
@@ -61,7 +61,7 @@ module _ {p : Program} {f : Func} {c : Context} {h : HeldMap} {ids : Ids} {hand 
   })
     where
       os' : List Object
-      os' = changed n (with_owner (world.held frame.depth k)) os
+      os' = with_changed_object n (with_owner (world.held frame.depth k)) os
 
       change : ChangesOne n (with_owner (world.held frame.depth k)) (look os) (look os')
       change = changes_one os n (with_owner (world.held frame.depth k)) within

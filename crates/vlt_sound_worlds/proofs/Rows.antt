@@ -3,14 +3,14 @@ use Rattle.std.proofs.Common.{◌≡◌, ⊎_elim, ℕ, true, if◌then◌else�
 use Rattle.std.proofs.lemmas.Bool.{cases_Bool, eqb-true, eq-eqb}
 use Rattle.vlt_core.specs.Core.{Tok, a_key, a_var, Expr, number, truth, var, field, unary, binary, Func, Program}
 use Rattle.vlt_core.specs.Lookups.{Reference, reference_of, guarded_of, permitted_in}
-use Rattle.vlt_core.specs.Maps.{HeldMap, wants_in, wants_held, stays, changed, Row, is_tok, row_passed, CanPass, passed}
+use Rattle.vlt_core.specs.Maps.{HeldMap, wants_in, wants_held, stays, status_after, Row, is_tok, row_passed, CanPass, map_after}
 use Rattle.vlt_core.specs.Rows.{row, on_key, touch_rows, expr_rows}
 
-pub pass_split : (xs ys : List Row) (h : HeldMap) → CanPass (xs ++ ys) h → CanPass xs h × CanPass ys (passed xs h)
+pub pass_split : (xs ys : List Row) (h : HeldMap) → CanPass (xs ++ ys) h → CanPass xs h × CanPass ys (map_after xs h)
 pass_split [] ys h c = (tt, c)
 pass_split (r ∷ xs) ys h c = let rest = pass_split xs ys (row_passed r h) c.1 in ((c.0, rest.0), rest.1)
 
-pub passed_split : (xs ys : List Row) (h : HeldMap) → passed (xs ++ ys) h ≡ passed ys (passed xs h)
+pub passed_split : (xs ys : List Row) (h : HeldMap) → map_after (xs ++ ys) h ≡ map_after ys (map_after xs h)
 passed_split [] ys h = refl
 passed_split (r ∷ xs) ys h = passed_split xs ys (row_passed r h)
 
@@ -25,13 +25,13 @@ tok_itself (a_key k) = eq-eqb k k refl
 tok_itself (a_var v) = eq-eqb v v refl
 
 -- the status of a row's own token after it, and of another one
-pub row_here : (r : Row) (h : HeldMap) → row_passed r h r.tok ≡ changed r.after (h r.tok)
-row_here r h = ap (λ b. if b then changed r.after (h r.tok) else h r.tok) (tok_itself r.tok)
+pub row_here : (r : Row) (h : HeldMap) → row_passed r h r.tok ≡ status_after r.after (h r.tok)
+row_here r h = ap (λ b. if b then status_after r.after (h r.tok) else h r.tok) (tok_itself r.tok)
 
 pub row_other : (r : Row) (h : HeldMap) (t : Tok) → (t ≡ r.tok → ⊥) → row_passed r h t ≡ h t
 row_other r h t other = ⊎_elim
     (λ e. absurd (other (tok_is t r.tok e)))
-    (λ e. ap (λ b. if b then changed r.after (h r.tok) else h t) e)
+    (λ e. ap (λ b. if b then status_after r.after (h r.tok) else h t) e)
     (cases_Bool (is_tok t r.tok))
 
 abbrev pub AreStays : List Row → Type 0
@@ -47,13 +47,13 @@ row_stays r h e = λ i t. (at t) i
   where
     at : (t : Tok) → row_passed r h t ≡ h t
     at t = ⊎_elim
-        (λ same. ap (λ b. if b then changed r.after (h r.tok) else h t) same ∙ (ap (λ a. changed a (h r.tok)) e ∙ ap h (sym (tok_is t r.tok same))))
-        (λ other. ap (λ b. if b then changed r.after (h r.tok) else h t) other)
+        (λ same. ap (λ b. if b then status_after r.after (h r.tok) else h t) same ∙ (ap (λ a. status_after a (h r.tok)) e ∙ ap h (sym (tok_is t r.tok same))))
+        (λ other. ap (λ b. if b then status_after r.after (h r.tok) else h t) other)
         (cases_Bool (is_tok t r.tok))
 
-pub stays_passed : (rs : List Row) (h : HeldMap) → AreStays rs → passed rs h ≡ h
+pub stays_passed : (rs : List Row) (h : HeldMap) → AreStays rs → map_after rs h ≡ h
 stays_passed [] h a = refl
-stays_passed (r ∷ rs) h a = ap (passed rs) (row_stays r h a.0) ∙ stays_passed rs h a.1
+stays_passed (r ∷ rs) h a = ap (map_after rs) (row_stays r h a.0) ∙ stays_passed rs h a.1
 
 pub touch_stays : (p : Program) (f : Func) (x i : ℕ) → AreStays (touch_rows p f x i)
 touch_stays p f x i = stays_both _ _ (by (reference_of f x)) (by' (guarded_of f x))

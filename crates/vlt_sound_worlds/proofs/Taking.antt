@@ -6,7 +6,7 @@ use Rattle.vlt_core.specs.Maps.{HeldMap}
 use Rattle.vlt_core.specs.KindedScopes.{Ids}
 use Rattle.vlt_meaning.specs.World.{one, owned, objects_in, loose, adopted_by, out, gone, Object, Frame}
 use Rattle.vlt_meaning.specs.World as world
-use Rattle.vlt_meaning.specs.Objects.{changed, with_owner}
+use Rattle.vlt_meaning.specs.Objects.{with_changed_object, with_owner}
 use Rattle.vlt_sound_worlds.specs.Look.{look, ChangesOne}
 use Rattle.vlt_sound_worlds.proofs.Look.{changes_one, owns_one}
 use Rattle.vlt_sound_worlds.proofs.Ranks.{ranked_root}
@@ -27,7 +27,7 @@ module _ {p : Program} {f : Func} {c : Context} {h : HeldMap} {ids : Ids} {hand 
     (agrees : Agrees p f c h ids hand frame os) (n : ℕ) (was : (look os n).owner ≡ out) (within : n < length os) where
   pub agrees_taken : (x : Handed) → x.value ≡ one (owned n) →
       Fits p (scene c os agrees.heads) frame.keys x.type x.value →
-      Agrees p f c h ids (hand ++ x ∷ []) frame (changed n (with_owner loose) os)
+      Agrees p f c h ids (hand ++ x ∷ []) frame (with_changed_object n (with_owner loose) os)
   agrees_taken x is fit = agrees_owner agrees n loose os' h ids (hand ++ x ∷ []) frame (record {
     change = change;
     long = length_changed os n (with_owner loose);
@@ -64,7 +64,7 @@ module _ {p : Program} {f : Func} {c : Context} {h : HeldMap} {ids : Ids} {hand 
   })
     where
       os' : List Object
-      os' = changed n (with_owner loose) os
+      os' = with_changed_object n (with_owner loose) os
 
       change : ChangesOne n (with_owner loose) (look os) (look os')
       change = changes_one os n (with_owner loose) within

@@ -6,7 +6,7 @@ use Rattle.vlt_core.specs.Lookups.{all_states}
 use Rattle.vlt_core.specs.Maps.{HeldMap}
 use Rattle.vlt_core.specs.KindedScopes.{Ids}
 use Rattle.vlt_meaning.specs.World.{adopted_by, out, gone, Object, Frame}
-use Rattle.vlt_meaning.specs.Objects.{with_state, changed}
+use Rattle.vlt_meaning.specs.Objects.{with_state, with_changed_object}
 use Rattle.vlt_sound_worlds.specs.Look.{look, IsLive, ChangesOne}
 use Rattle.vlt_sound_worlds.proofs.Look.{changes_one}
 use Rattle.vlt_sound_worlds.proofs.Ranks.{ranked_same}
@@ -26,7 +26,7 @@ use Rattle.vlt_sound_worlds.proofs.Leaving.{length_changed}
 module _ {p : Program} {f : Func} {c : Context} {h : HeldMap} {ids : Ids} {hand : List Handed} {frame : Frame} {os : List Object}
     (agrees : Agrees p f c h ids hand frame os) (n s : ℕ) (was : (look os n).owner ≡ out) (within : n < length os) where
   pub agrees_told : IsTrue (all_states p (look os n).type s) →
-      Agrees p f c h ids hand frame (changed n (with_state s) os)
+      Agrees p f c h ids hand frame (with_changed_object n (with_state s) os)
   agrees_told is_state = record {
     heads = agrees.heads;
     placed = placed.kept home same_root agrees.placed same_content (λ m o. owners m) (λ m o. owners m) homes;
@@ -52,7 +52,7 @@ module _ {p : Program} {f : Func} {c : Context} {h : HeldMap} {ids : Ids} {hand 
   }
     where
       os' : List Object
-      os' = changed n (with_state s) os
+      os' = with_changed_object n (with_state s) os
 
       change : ChangesOne n (with_state s) (look os) (look os')
       change = changes_one os n (with_state s) within

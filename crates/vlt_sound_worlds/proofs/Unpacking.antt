@@ -2,7 +2,7 @@
 use Rattle.std.proofs.Common.{◌≡◌, inl, inr, ℕ, ◌<◌, List, [], ◌∷◌, ◌++◌, map, Option, Some, None, Ok, refl, sym, ap, ◌∙◌, subst}
 use Rattle.vlt_core.specs.Core.{States, Ty, int, bool, tracked, owning, guarded, variant, owning_variant, a_key, a_var, Func, unpack}
 use Rattle.vlt_core.specs.Lookups.{var_type, key_type, is_owning_var, tracked_in, owning_states, owning_states_in, reference_of}
-use Rattle.vlt_core.specs.Maps.{absent, held, HeldMap, wants_absent, becomes_held, Row, row_passed, CanPass, passed}
+use Rattle.vlt_core.specs.Maps.{absent, held, HeldMap, wants_absent, becomes_held, Row, row_passed, CanPass, map_after}
 use Rattle.vlt_core.specs.Rows.{simple_rows, row, empty_row}
 use Rattle.vlt_core.specs.KindedScopes.{Ids, own_key, tracked_key, with_binding, use_broken, fresh_broken, binding_broken}
 use Rattle.vlt_core.specs.KindedStatements.{wanted_of, is_owning_object, is_tracked_type, owning_object, tracked_type, objects_apart, simple_broken, ids_after}
@@ -82,7 +82,7 @@ module _ (r : Setup) (f : Func)
       InScope ids v → var_type f v ≡ Some (owning S t args) → fresh_broken f ids (Some k) ≡ [] →
       CanPass (simple_rows r.program f (unpack x v)) h →
       Safe
-      (goes_to r.program f c (passed (simple_rows r.program f (unpack x v)) h) (with_binding f (Some k) x ids) [])
+      (goes_to r.program f c (map_after (simple_rows r.program f (unpack x v)) h) (with_binding f (Some k) x ids) [])
       (does_simple r f (unpack x v) frame w)
   unpacks x v k t args S is_x in_v is_v new pass =
       let os = w.objects in
@@ -117,7 +117,7 @@ module _ (r : Setup) (f : Func)
       let found_n : (owned_at is_loose os n >>= in_states S) ≡ Ok (named n (look os n)) =
       rw (look_at os n fit.fits.of.within, was_loose, fit.fits.state) refl in
       subst
-      (λ rs. Safe (goes_to r.program f c (passed rs h) (with_binding f (Some k) x ids) []) (does_simple r f (unpack x v) frame w)) (sym rows)
+      (λ rs. Safe (goes_to r.program f c (map_after rs h) (with_binding f (Some k) x ids) []) (does_simple r f (unpack x v) frame w)) (sym rows)
       (found_safe G (or_fault missing (reference_of f x)) (record { key = k; type = t }) w _
       (ap (λ o. or_fault missing (tracked_in o)) is_x)
       (found_safe G (or_fault missing (owning_states f v)) S w _
@@ -145,7 +145,7 @@ module _ (r : Setup) (f : Func)
   pub unpack_safe : (x v : ℕ) → simple_broken r.program f ids (unpack x v) ≡ [] →
       CanPass (simple_rows r.program f (unpack x v)) h →
       Safe
-      (goes_to r.program f c (passed (simple_rows r.program f (unpack x v)) h) (ids_after f (unpack x v) ids) [])
+      (goes_to r.program f c (map_after (simple_rows r.program f (unpack x v)) h) (ids_after f (unpack x v) ids) [])
       (does_simple r f (unpack x v) frame w)
   unpack_safe x v kinded pass =
       let U = use_broken f ids v in
@@ -168,7 +168,7 @@ module _ (r : Setup) (f : Func)
       (ap owning_object v_is) (ap tracked_type x_is) s3.1 in
       let own : own_key f x ≡ Some xt.key = ap tracked_key x_is in
       subst
-      (λ o. Safe (goes_to r.program f c (passed (simple_rows r.program f (unpack x v)) h) (with_binding f o x ids) []) (does_simple r f (unpack x v) frame w)) (sym own)
+      (λ o. Safe (goes_to r.program f c (map_after (simple_rows r.program f (unpack x v)) h) (with_binding f o x ids) []) (does_simple r f (unpack x v) frame w)) (sym own)
       (unpacks x v xt.key xt.type xt.args vt.states x_is v'.scoped
       (v_is ∙ (ap (λ t. Some (owning vt.states t vt.args)) same.0 ∙ ap (λ a. Some (owning vt.states xt.type a)) same.1))
       (subst (λ o. fresh_broken f ids o ≡ []) own b.key) pass)

@@ -2,7 +2,7 @@
 use Rattle.std.proofs.Common.{◌≡◌, ℕ, ◌==◌, nat_lt, Bool, true, false, ◌||◌, if◌then◌else◌, List, [], ◌∷◌, length, Option, Some, None, refl, slice_get}
 use Rattle.vlt_core.specs.Core.{Form, simple, call, choose, loop, switch, focus, scope, return, jump, Block, block, Stmts, done, next, Arms, no_arms, arm, set, input, print, put, make, become, release, drop, own, unpack, build, swap, open_into, adopt, Simple, Func, Program}
 use Rattle.vlt_core.specs.KindedHeads.{has}
-use Rattle.vlt_core.specs.KindedScopes.{Ids, left_behind, entered, with_key, with_var, with_binding, with_target, own_key}
+use Rattle.vlt_core.specs.KindedScopes.{Ids, left_behind, at_block_start, with_key, with_var, with_binding, with_target, own_key}
 use Rattle.vlt_core.specs.KindedStatements.{with_bindings, ids_after}
 use Rattle.vlt_core.specs.KindedCalls.{with_call_target, is_fresh_call}
 use Rattle.vlt_core.specs.KindedBodies.{with_vars, with_focus, ids_behind, ids_behind_block, ids_behind_stmts, ids_behind_arms}
@@ -108,7 +108,7 @@ pub left_widens : (before : Ids) {last : Ids} → Widens before last → Widens 
 left_widens before w =
     record { vars = λ v i. i; keys = λ k i. i; vars_ever = w.vars_ever; keys_ever = w.keys_ever }
 
-pub entered_widens : (ids : Ids) {last : Ids} → Widens (entered ids) last → Widens ids last
+pub entered_widens : (ids : Ids) {last : Ids} → Widens (at_block_start ids) last → Widens ids last
 entered_widens ids w = record { vars = w.vars; keys = w.keys; vars_ever = w.vars_ever; keys_ever = w.keys_ever }
 
 module _ (p : Program) (f : Func) where
@@ -126,7 +126,7 @@ module _ (p : Program) (f : Func) where
     form_widens (jump continues) ids = widens_self ids
 
     pub block_widens : (b : Block) (ids : Ids) → Widens ids (ids_behind_block p f b ids)
-    block_widens (block ss bound end) ids = left_widens ids (entered_widens ids (stmts_widen ss (entered ids)))
+    block_widens (block ss bound end) ids = left_widens ids (entered_widens ids (stmts_widen ss (at_block_start ids)))
 
     pub stmts_widen : (ss : Stmts) (ids : Ids) → Widens ids (ids_behind_stmts p f ss ids)
     stmts_widen done ids = widens_self ids

@@ -12,13 +12,13 @@ use Rattle.vlt_sound_worlds.specs.Scene.{Scene, IsOf, IsGuardedBy}
 abbrev pub Names : Type 0
 Names = ℕ → Option ℕ
 
-abbrev pub joined : Option (Option ℕ) → Option ℕ
-joined None = None
-joined (Some n) = n
+abbrev pub option_join : Option (Option ℕ) → Option ℕ
+option_join None = None
+option_join (Some n) = n
 
 -- what stands for the keys of a header
 abbrev pub names_of : List (Option ℕ) → Names
-names_of heads k = joined (slice_get heads k)
+names_of heads k = option_join (slice_get heads k)
 
 pub record IsReference (s : Scene) (names : Names) (key type : ℕ) (args : List ℕ) (part : Part) : Type 0 where
   pub object : ℕ
@@ -56,7 +56,7 @@ FitParts s names (t ∷ ts) (a ∷ rest) = FitsPart s names t a × FitParts s na
 FitParts s names _ _ = ⊥
 
 abbrev pub header_type : Program → (type position : ℕ) → Option ℕ
-header_type p t i = joined (slice_get (header_of p t) i)
+header_type p t i = option_join (slice_get (header_of p t) i)
 
 -- an object of a value is the one that the key of its case names, of the header's type and in one of the case's states
 pub record IsCaseObject (p : Program) (s : Scene) (names : Names) (type : ℕ) (k : CaseKey) (n : ℕ) : Type 0 where

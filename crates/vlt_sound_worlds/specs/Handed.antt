@@ -1,7 +1,7 @@
 -- What is known behind operands.
 use Rattle.std.specs.Prelude.{◌≡◌, List, [], ◌∷◌, ◌++◌, length, Some}
 use Rattle.vlt_core.specs.Core.{Ty, Operand, Func, Program}
-use Rattle.vlt_core.specs.Maps.{HeldMap, CanPass, passed}
+use Rattle.vlt_core.specs.Maps.{HeldMap, CanPass, map_after}
 use Rattle.vlt_core.specs.Rows.{operand_rows, operands_rows}
 use Rattle.vlt_core.specs.KindedScopes.{Ids}
 use Rattle.vlt_core.specs.KindedOperands.{operand_broken, operands_broken}
@@ -13,9 +13,9 @@ use Rattle.vlt_sound_worlds.specs.Typed.{IsTyped}
 use Rattle.vlt_sound_worlds.specs.Safe.{Safe, goes_to}
 
 -- values with the types of the places that they are for
-abbrev pub handed : List Ty → List Value → List Handed
-handed (t ∷ ts) (a ∷ rest) = record { value = a; type = t } ∷ handed ts rest
-handed _ _ = []
+abbrev pub handed_values : List Ty → List Value → List Handed
+handed_values (t ∷ ts) (a ∷ rest) = record { value = a; type = t } ∷ handed_values ts rest
+handed_values _ _ = []
 
 -- Where an operand breaks no rule and the held map passes its rows, it ends in no fault, and behind it a value that fits the
 -- place's type is handed over, with what was handed over before. `go` is what comes behind it.
@@ -26,7 +26,7 @@ IsHandedOver o ty =
     IsTyped p f → Agrees p f c h ids hand frame w.objects →
     operand_broken p f ids (Some ty) o ≡ [] → CanPass (operand_rows p f o) h →
     ((a : Value) (frame' : Frame) (w' : World) →
-    Agrees p f c (passed (operand_rows p f o) h) ids (hand ++ record { value = a; type = ty } ∷ []) frame' w'.objects →
+    Agrees p f c (map_after (operand_rows p f o) h) ids (hand ++ record { value = a; type = ty } ∷ []) frame' w'.objects →
     Safe (goes_to p f c k ids' rest) (go a frame' w')) →
     Safe (goes_to p f c k ids' rest) (with_operand p f o frame w go)
 
@@ -38,6 +38,6 @@ AreHandedOver os types =
     IsTyped p f → Agrees p f c h ids hand frame w.objects → length os ≡ length types →
     operands_broken p f ids types os ≡ [] → CanPass (operands_rows p f os) h →
     ((values : List Value) (frame' : Frame) (w' : World) → length values ≡ length types →
-    Agrees p f c (passed (operands_rows p f os) h) ids (hand ++ handed types values) frame' w'.objects →
+    Agrees p f c (map_after (operands_rows p f os) h) ids (hand ++ handed_values types values) frame' w'.objects →
     Safe (goes_to p f c k ids' rest) (go values frame' w')) →
     Safe (goes_to p f c k ids' rest) (with_operands p f os frame w go)

@@ -1,7 +1,7 @@
 -- Several objects get a new owner.
 use Rattle.std.specs.Prelude.{◌≡◌, ℕ, ◌<◌, Bool, true, List, length, Ok}
 use Rattle.vlt_meaning.specs.World.{Owner, Object}
-use Rattle.vlt_meaning.specs.Objects.{with_owner, moved}
+use Rattle.vlt_meaning.specs.Objects.{with_owner, objects_after_move}
 use Rattle.vlt_sound_worlds.specs.Look.{look}
 use Rattle.vlt_sound_worlds.specs.Members.{In}
 
@@ -17,6 +17,6 @@ ArePassing from xs os = (n : ℕ) → In n xs → (n < length os) × (from (look
 -- the objects are moved one after another
 pub record IsMoved (from : Owner → Bool) (to : Owner) (xs : List ℕ) (os : List Object) : Type 0 where
   pub objects : List Object
-  pub is : moved from to xs os ≡ Ok objects
+  pub is : objects_after_move from to xs os ≡ Ok objects
   pub change : MovesThese xs to (look os) (look objects)
   pub long : length objects ≡ length os

@@ -1,7 +1,7 @@
 -- What is promised of a statement without blocks that calls nothing, where the scope is known.
 use Rattle.std.specs.Prelude.{◌≡◌, []}
 use Rattle.vlt_core.specs.Core.{Simple, Func}
-use Rattle.vlt_core.specs.Maps.{HeldMap, CanPass, passed}
+use Rattle.vlt_core.specs.Maps.{HeldMap, CanPass, map_after}
 use Rattle.vlt_core.specs.Rows.{simple_rows}
 use Rattle.vlt_core.specs.KindedScopes.{Ids}
 use Rattle.vlt_core.specs.KindedStatements.{simple_broken, ids_after}
@@ -19,5 +19,5 @@ IsScopedStep s =
     (r : Setup) (f : Func) (c : Context) (h : HeldMap) (ids : Ids) (frame : Frame) (w : World) →
     IsTyped r.program f → HasKeys f → IsScoped f c ids → Agrees r.program f c h ids [] frame w.objects →
     simple_broken r.program f ids s ≡ [] → CanPass (simple_rows r.program f s) h →
-    Safe (goes_to r.program f c (passed (simple_rows r.program f s) h) (ids_after f s ids) [])
+    Safe (goes_to r.program f c (map_after (simple_rows r.program f s) h) (ids_after f s ids) [])
     (does_simple r f s frame w)

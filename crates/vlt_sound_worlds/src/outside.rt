@@ -7,7 +7,7 @@ ghost use Rattle.vlt_core.specs.Maps.{HeldMap};
 ghost use Rattle.vlt_core.specs.Maps as maps;
 ghost use Rattle.vlt_core.specs.KindedScopes.{Ids};
 ghost use Rattle.vlt_meaning.specs.World.{one, owned, held, loose, out, Object, Frame};
-ghost use Rattle.vlt_meaning.specs.Objects.{changed, with_owner, with_state};
+ghost use Rattle.vlt_meaning.specs.Objects.{with_changed_object, with_owner, with_state};
 ghost use Rattle.vlt_sound_worlds.specs.Look.{look};
 ghost use Rattle.vlt_sound_worlds.specs.Keys.{IsOfType};
 ghost use Rattle.vlt_sound_worlds.specs.Agrees.{Handed, Context, scene, Agrees};
@@ -28,7 +28,7 @@ pub fn objects_go_out_and_come_back()
         n < length os → h (a_key k) ≡ maps.absent → then (a_key k) ≡ maps.held states →
         ((t : Tok) → (t ≡ a_key k → ⊥) → then t ≡ h t) → IsTrue (states (look os n).state) →
         IsOfType (key_type f k) (look os n).type →
-        Agrees p f c then ids hand frame (changed n (with_owner (held frame.depth k)) os) }
+        Agrees p f c then ids hand frame (with_changed_object n (with_owner (held frame.depth k)) os) }
 {}
 
 /// What is so of a running function stays so where the host makes an object, gives one another state, and hands one over.
@@ -41,10 +41,10 @@ pub fn hosts_change_their_own()
         (hand : List Handed) (frame : Frame) (os : List Object) (n s : ℕ) →
         Agrees p f c h ids hand frame os → (look os n).owner ≡ out → n < length os →
         IsTrue (all_states p (look os n).type s) →
-        Agrees p f c h ids hand frame (changed n (with_state s) os) }
+        Agrees p f c h ids hand frame (with_changed_object n (with_state s) os) }
     ensures taken { (p : Program) (f : Func) (c : Context) (h : HeldMap) (ids : Ids)
         (hand : List Handed) (frame : Frame) (os : List Object) (n : ℕ) (x : Handed)
         (agrees : Agrees p f c h ids hand frame os) → (look os n).owner ≡ out → n < length os →
         x.value ≡ one (owned n) → Fits p (scene c os agrees.heads) frame.keys x.type x.value →
-        Agrees p f c h ids (hand ++ x ∷ []) frame (changed n (with_owner loose) os) }
+        Agrees p f c h ids (hand ++ x ∷ []) frame (with_changed_object n (with_owner loose) os) }
 {}

@@ -3,7 +3,7 @@
 ghost use Rattle.std.specs.Prelude.{◌≡◌, ℕ, Bool, true, List, map};
 ghost use Rattle.vlt_core.specs.Core.{States, Tok, Func, Program, Expr, set, print, put, own, move, pack, adopt};
 ghost use Rattle.vlt_core.specs.Core as core;
-ghost use Rattle.vlt_core.specs.Maps.{HeldMap, CanPass, gone};
+ghost use Rattle.vlt_core.specs.Maps.{HeldMap, CanPass, away_row};
 ghost use Rattle.vlt_core.specs.KindedScopes.{Ids};
 ghost use Rattle.vlt_meaning.specs.World.{World, Frame};
 ghost use Rattle.vlt_meaning.specs.Step.{are_unused};
@@ -31,5 +31,5 @@ pub fn blocks_leave_nothing_behind()
     ensures { (p : Program) (f : Func) (c : Context) (h : HeldMap) (ids : Ids)
         (hand : List Handed) (frame : Frame) (w : World) (bound : List Tok) →
         Agrees p f c h ids hand frame w.objects → AreOwning f bound →
-        CanPass (map gone bound) h → are_unused bound frame w ≡ true }
+        CanPass (map away_row bound) h → are_unused bound frame w ≡ true }
 {}

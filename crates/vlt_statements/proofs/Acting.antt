@@ -27,7 +27,7 @@ use Rattle.vlt_hosts.specs.Hosts as hosts_spec
 use Rattle.vlt_hosts.proofs.Writing.{silent}
 use Rattle.vlt_tasks.specs.declared.task.Rules.{Rules}
 use Rattle.vlt_tasks.specs.declared.task.Run.{Run}
-use Rattle.vlt_tasks.specs.Halting.{trapped, full, halted}
+use Rattle.vlt_tasks.specs.Halting.{stop_of_trap, full, stop_of_result}
 use Rattle.vlt_tasks.specs.Shown.{setup_of, tasks_left, Runs, ShowsConf}
 use Rattle.vlt_tasks.specs.Moves.{CameTo, doing, Keeps}
 use Rattle.vlt_tasks.specs.Moves as moves
@@ -80,18 +80,18 @@ module _ (old new : Run) (f : Func) (ts : List m.Task) (frame : Frame) (w : Worl
   gone_on : (next : Frame) (v : World) → next.depth ≡ frame.depth → IsInside w (goes next v) → Shows q.items new.heap new.values next v.objects → moves.GoneOn w b b new (at f ts (goes next v)) v
   gone_on next v d i shows = went old new f ts frame w b b q h.same next v (record { tables = shows; depth = d; hosts = hosts v (record { same = i.same }); fuel = spent v (record { same = i.same }) }) (silent w v b i.same.events)
 
-  pub done_came : (r : Result (Unit {0}) TrapKind) (a : Step) → IsAt frame.depth a → IsInside w a → acts.Does q.items new.heap new.values r a → CameTo w b b (trapped r) new (at f ts a) a
-  done_came r (goes next v) d i c = subst (λ x. CameTo w b b (trapped x) new (at f ts (goes next v)) (goes next v)) (sym c.is) (gone_on next v d i c.shows)
+  pub done_came : (r : Result (Unit {0}) TrapKind) (a : Step) → IsAt frame.depth a → IsInside w a → acts.Does q.items new.heap new.values r a → CameTo w b b (stop_of_trap r) new (at f ts a) a
+  done_came r (goes next v) d i c = subst (λ x. CameTo w b b (stop_of_trap x) new (at f ts (goes next v)) (goes next v)) (sym c.is) (gone_on next v d i c.shows)
   done_came r (ends (trap t) v) d i c =
-      subst (λ x. CameTo w b b (trapped x) new (at f ts (ends (trap t) v)) (ends (trap t) v)) (sym c) (inr (inl (record { outcome = refl; fuel = spent v (record { same = i.same }); wrote = silent w v b i.same.events })))
-  done_came r (ends done v) d i c = wrong_came w b b (trapped r) new _ done v c
-  done_came r (ends fuel_end v) d i c = wrong_came w b b (trapped r) new _ fuel_end v c
-  done_came r (ends heap_end v) d i c = wrong_came w b b (trapped r) new _ heap_end v c
-  done_came r (ends depth_end v) d i c = wrong_came w b b (trapped r) new _ depth_end v c
-  done_came r (ends input_end v) d i c = wrong_came w b b (trapped r) new _ input_end v c
-  done_came r (ends answers_end v) d i c = wrong_came w b b (trapped r) new _ answers_end v c
-  done_came r (ends (bad_answer n) v) d i c = wrong_came w b b (trapped r) new _ (bad_answer n) v c
-  done_came r (ends (fault s n) v) d i c = wrong_came w b b (trapped r) new _ (fault s n) v c
+      subst (λ x. CameTo w b b (stop_of_trap x) new (at f ts (ends (trap t) v)) (ends (trap t) v)) (sym c) (inr (inl (record { outcome = refl; fuel = spent v (record { same = i.same }); wrote = silent w v b i.same.events })))
+  done_came r (ends done v) d i c = wrong_came w b b (stop_of_trap r) new _ done v c
+  done_came r (ends fuel_end v) d i c = wrong_came w b b (stop_of_trap r) new _ fuel_end v c
+  done_came r (ends heap_end v) d i c = wrong_came w b b (stop_of_trap r) new _ heap_end v c
+  done_came r (ends depth_end v) d i c = wrong_came w b b (stop_of_trap r) new _ depth_end v c
+  done_came r (ends input_end v) d i c = wrong_came w b b (stop_of_trap r) new _ input_end v c
+  done_came r (ends answers_end v) d i c = wrong_came w b b (stop_of_trap r) new _ answers_end v c
+  done_came r (ends (bad_answer n) v) d i c = wrong_came w b b (stop_of_trap r) new _ (bad_answer n) v c
+  done_came r (ends (fault s n) v) d i c = wrong_came w b b (stop_of_trap r) new _ (fault s n) v c
   done_came r (jumps k next v) d i c = absurd c
   done_came r (leaves k kept v) d i c = absurd c
 
@@ -123,7 +123,7 @@ line_same a b e = let k : vec_capacity b.line ≡ vec_capacity a.line = ap (λ v
 module _ (rules : Rules) (old new : Run) (x : Form) (s : Simple) (is : x ≡ simple s) (h : HasChanged old new) where
   -- one that may trap
   pub trap_does : IsSilent s → new.host ≡ old.host → (r : Result (Unit {0}) TrapKind) → DoesFor (program_of rules.program.now) (func_of old.func.now) old.heap old.values new.heap new.values r s
-      → (b : Outside) (result : Option Stop) → result ≡ trapped r → moves.DoesFor (doing x) rules old new b b result
+      → (b : Outside) (result : Option Stop) → result ≡ stop_of_trap r → moves.DoesFor (doing x) rules old new b b result
   trap_does quiet host r does b result equal = subst (λ y. moves.DoesFor (doing y) rules old new b b result) (sym is) (subst (moves.DoesFor (doing (simple s)) rules old new b b) (sym equal) (record {
     keeps = changed_keeps old new h;
     comes = λ f ts frame w q.
@@ -149,7 +149,7 @@ module _ (rules : Rules) (old new : Run) (x : Form) (s : Simple) (is : x ≡ sim
 
   -- one that speaks with the host, and leaves the heap
   pub host_does : new.heap ≡ old.heap → (before after : Outside) (r : Result (Unit {0}) Stop) → DoesOut old.heap old.values new.values old.host new.host before after r s
-      → (result : Option Stop) → result ≡ halted r → moves.DoesFor (doing x) rules old new before after result
+      → (result : Option Stop) → result ≡ stop_of_result r → moves.DoesFor (doing x) rules old new before after result
   host_does heap before after r does result equal = subst (λ y. moves.DoesFor (doing y) rules old new before after result) (sym is) (subst (moves.DoesFor (doing (simple s)) rules old new before after) (sym equal) (record {
     keeps = changed_keeps old new h;
     comes = λ f ts frame w q.

@@ -7,7 +7,7 @@ use Rattle.vlt_meaning.specs.World.{left_behind}
 use Rattle.vlt_meaning.specs.Step.{Step, goes, jumps, leaves, ends, left_block, where_so, are_unused}
 use Rattle.vlt_meaning.specs.Run.{Setup}
 use Rattle.vlt_machine.specs.Machine as m
-use Rattle.vlt_machine.specs.Machine.{Conf, at, moved, moved_in}
+use Rattle.vlt_machine.specs.Machine.{Conf, at, after_move, moved_in}
 use Rattle.vlt_values.specs.declared.values.Values.{Values}
 use Rattle.vlt_steps.specs.Writing.{Outside}
 use Rattle.vlt_hosts.proofs.Writing.{silent}
@@ -63,7 +63,7 @@ module _ (s : Setup) (r : Run) (b : Outside) (c : Conf) (q : ShowsWith (Closing 
       none (Jumps k) h = absurd h
       none Leaves h = absurd h
 
-  closed_came : CameTo (world_in c.step) b b None r (moved s c) (moved s c).step
+  closed_came : CameTo (world_in c.step) b b None r (after_move s c) (after_move s c).step
   closed_came = subst (λ us. CameTo (world_in c.step) b b None r (moved_in s c.func us c.step) (moved_in s c.func us c.step).step) (sym next.is) (closed c.step refl q.step)
 
 -- the run shows what it comes to without its task

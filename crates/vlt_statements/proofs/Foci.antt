@@ -10,10 +10,10 @@ use Rattle.vlt_meaning.specs.Found.{Found, or_fault, Named, if_so}
 use Rattle.vlt_meaning.specs.Objects.{object_at, in_states, with_owner}
 use Rattle.vlt_meaning.specs.Values.{held_object, reference_in, guarded_object}
 use Rattle.vlt_meaning.specs.Step.{Step, goes, jumps, leaves, ends, with_found, with_changed, with_var, with_key}
-use Rattle.vlt_meaning.specs.Run.{Setup, focused_object, lent_object, unfocused, focus_end}
+use Rattle.vlt_meaning.specs.Run.{Setup, focused_object, lent_object, focus_end_step, focus_end}
 use Rattle.vlt_meaning_laws.proofs.Keeping.{bound}
 use Rattle.vlt_machine.specs.Machine as m
-use Rattle.vlt_machine.specs.Machine.{Conf, at, act, enter_block, when_found, moved_in, moved}
+use Rattle.vlt_machine.specs.Machine.{Conf, at, act, enter_block, when_found, moved_in, after_move}
 use Rattle.vlt_values.specs.declared.values.Values.{Values}
 use Rattle.vlt_values.specs.Shown.{Seen}
 use Rattle.vlt_values.proofs.Touching.{OrFault, then_fault, some_fault, so_fault, held_fault, object_fault, so_is, some_is}
@@ -206,7 +206,7 @@ module _ (focus_is : Focus) (r : Run) (c : Conf) (q : ShowsWith (Unfocus focus_i
   abbrev moves_to : Setup → Step → Conf
   moves_to s x = at c.func next.rest (focus_end s next.guard next.key next.adopter next.number x)
 
-  moved_is : (s : Setup) → moved s c ≡ moves_to s c.step
+  moved_is : (s : Setup) → after_move s c ≡ moves_to s c.step
   moved_is s = ap (λ us. moved_in s c.func us c.step) next.is
 
   finds_end : (s : Setup) (frame : Frame) (w : World) (x : Named) (o : Named) (e : c.step ≡ goes frame w) → focused_object s next.key next.number frame w.objects ≡ Ok x → lent_object next.guard.key next.adopter frame w.objects ≡ Ok o
@@ -228,11 +228,11 @@ module _ (focus_is : Focus) (r : Run) (c : Conf) (q : ShowsWith (Unfocus focus_i
       }
 
   -- what the heap asks at the end of the block
-  pub can_end : (s : Setup) → r.at ≡ Goes → IsRight (moved s c).step → CanEnd r.heap r.values focus_is.object focus_is.adopter
-  unfolding focus_end unfocused
+  pub can_end : (s : Setup) → r.at ≡ Goes → IsRight (after_move s c).step → CanEnd r.heap r.values focus_is.object focus_is.adopter
+  unfolding focus_end focus_end_step
   can_end s going_on right =
       let g = goes_at q.items r c.func r.at c.step going_on q.step in
-      let step : IsRight (unfocused s next.guard next.key next.adopter next.number g.frame g.world) =
+      let step : IsRight (focus_end_step s next.guard next.key next.adopter next.number g.frame g.world) =
       subst (λ x. IsRight (focus_end s next.guard next.key next.adopter next.number x)) g.is (subst (λ k. IsRight k.step) (moved_is s) right) in
       let a = found_safe (focused_object s next.key next.number g.frame g.world.objects) g.world _ (focused_fault s next.key next.number g.frame g.world) step in
       let b = found_safe (lent_object next.guard.key next.adopter g.frame g.world.objects) g.world _ (lent_fault next.guard.key next.adopter g.frame g.world) a.safe in
@@ -244,7 +244,7 @@ module _ (focus_is : Focus) (r : Run) (c : Conf) (q : ShowsWith (Unfocus focus_i
       }
 
   -- a step that doesn't go on passes the end of a focus
-  pub passes_end : (s : Setup) (b : Outside) → (r.at ≡ Goes → ⊥) → CameTo (world_in c.step) b b None r (moved s c) (moved s c).step
+  pub passes_end : (s : Setup) (b : Outside) → (r.at ≡ Goes → ⊥) → CameTo (world_in c.step) b b None r (after_move s c) (after_move s c).step
   unfolding focus_end
   passes_end s b not_on = subst (λ k. CameTo (world_in c.step) b b None r k k.step) (sym (moved_is s)) (by r.at c.step refl refl q.step)
     where
@@ -260,8 +260,8 @@ module _ (focus_is : Focus) (r : Run) (c : Conf) (q : ShowsWith (Unfocus focus_i
       by Leaves (ends o w) e g h = absurd h
 
   module _ (s : Setup) (new : Run) (b : Outside) (same : IsSameRun r new) (values : new.values ≡ r.values) (host : new.host ≡ r.host) (fuel : new.fuel ≡ r.fuel) (does : Unfocuses focus_is r.heap r.values new.heap) where
-    ended_came : (frame : Frame) (w : World) (e : c.step ≡ goes frame w) → Came w b b None new (at c.func next.rest (unfocused s next.guard next.key next.adopter next.number frame w))
-    unfolding unfocused with_found next_is finds_end
+    ended_came : (frame : Frame) (w : World) (e : c.step ≡ goes frame w) → Came w b b None new (at c.func next.rest (focus_end_step s next.guard next.key next.adopter next.number frame w))
+    unfolding focus_end_step with_found next_is finds_end
     ended_came frame w e = by_object (focused_object s next.key next.number frame w.objects) refl (focused_fault s next.key next.number frame w)
       where
         k : ShowsConf r (at c.func next.rest (goes frame w))
@@ -292,7 +292,7 @@ module _ (focus_is : Focus) (r : Run) (c : Conf) (q : ShowsWith (Unfocus focus_i
         by_object (Ok x) found bad = by_adopter x found (lent_object next.guard.key next.adopter frame w.objects) refl (lent_fault next.guard.key next.adopter frame w)
         by_object (Err o) found bad = wrong_came w b b None new (at c.func next.rest (ends o w)) o w bad
 
-    pub unfocus_came : r.at ≡ Goes → CameTo (world_in c.step) b b None new (moved s c) (moved s c).step
+    pub unfocus_came : r.at ≡ Goes → CameTo (world_in c.step) b b None new (after_move s c) (after_move s c).step
     unfolding focus_end
     unfocus_came going_on =
         let g = goes_at q.items r c.func r.at c.step going_on q.step in

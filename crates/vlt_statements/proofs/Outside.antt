@@ -6,7 +6,7 @@ use Rattle.vlt_core.specs.Lookups.{KeyIn}
 use Rattle.vlt_meaning.specs.World.{Value, Owner, Object, World, Frame, is_full}
 use Rattle.vlt_meaning.specs.Step.{Step, with_made, with_moved, with_released, with_dropped, fill, with_filled}
 use Rattle.vlt_meaning.specs.Operands.{with_operands, with_case_packed}
-use Rattle.vlt_meaning.specs.Run.{Setup, made_in, swapped, opened, does_simple}
+use Rattle.vlt_meaning.specs.Run.{Setup, made_in, swap_step, open_step, does_simple}
 use Rattle.vlt_tasks.proofs.Inside.{IsSameOutside, outside_same, objects_out, IsInside, found_in, so_in, operand_in}
 
 -- it says nothing to the host, and asks it nothing
@@ -67,7 +67,7 @@ module _ (w0 : World) where
 
 -- the world behind a silent statement is the one before it, but for its objects
 pub simple_inside : (r : Setup) (f : Func) (s : Simple) (frame : Frame) (w : World) → IsSilent s → IsInside w (does_simple r f s frame w)
-unfolding made_in swapped opened
+unfolding made_in swap_step open_step
 simple_inside r f (set v x) frame w e = found_in w _ w _ (outside_same w) (λ a. record { same = outside_same w })
 simple_inside r f (core.input v more) frame w e = absurd e
 simple_inside r f (print x) frame w e = absurd e

@@ -12,7 +12,7 @@ use Rattle.vlt_core.specs.View.{ArmView, func_of, program_of, arm_of, arms_of, b
 use Rattle.vlt_core.proofs.Views.{arm_parts}
 use Rattle.vlt_meaning.specs.World.{Value, one, owned, of_case, World, Frame, missing, fault}
 use Rattle.vlt_meaning.specs.Found.{Found, or_fault}
-use Rattle.vlt_meaning.specs.Operands.{Case, case_in, emptied}
+use Rattle.vlt_meaning.specs.Operands.{Case, case_in, with_empty_variable}
 use Rattle.vlt_meaning.specs.Step.{goes, ends, with_var}
 use Rattle.vlt_meaning.specs.Run.{Setup}
 use Rattle.vlt_machine.specs.Got.{Got, got, stopped, then_got, opened_got, filled_got}
@@ -105,7 +105,7 @@ case_value None c e = absurd (subst is_err e tt)
     is_err (Ok k) = ⊥
     is_err (Err o) = Unit {0}
 
-emptied_depth : (f : Func) (v : ℕ) (frame : Frame) → (emptied f v frame).depth ≡ frame.depth
+emptied_depth : (f : Func) (v : ℕ) (frame : Frame) → (with_empty_variable f v frame).depth ≡ frame.depth
 emptied_depth f v frame = by (is_owning_var f v)
   where
     by : (t : Bool) → (if t then with_var v None frame else frame).depth ≡ frame.depth
@@ -136,17 +136,17 @@ module _ (v : ℕ) (arms : Arms) (rules : Rules) (r : Run) (can : CanDo (switch 
   frame = can.right.frame
 
   -- the arm is there, and has as many variables as the case has parts
-  there : (c : Case) → case_in (frame.vars v) ≡ Ok c → (after : World) → IsRight (enter_arm f c arms can.right.tasks (emptied f v frame) after).step → FindsArm r arms v frame
+  there : (c : Case) → case_in (frame.vars v) ≡ Ok c → (after : World) → IsRight (enter_arm f c arms can.right.tasks (with_empty_variable f v frame) after).step → FindsArm r arms v frame
   there c is after right = by (arm_for c.number arms) refl
     where
       by : (x : Option ArmView) → arm_for c.number arms ≡ x → FindsArm r arms v frame
-      by None e = absurd (false≢true (sym (right (fault missing None) after (ap (λ k. k.step) (arm_lacking f c arms can.right.tasks (emptied f v frame) after e)))))
+      by None e = absurd (false≢true (sym (right (fault missing None) after (ap (λ k. k.step) (arm_lacking f c arms can.right.tasks (with_empty_variable f v frame) after e)))))
       by (Some x) e =
-          let k = filling f x.1 (map one c.parts) (emptied f v frame) after in
-          let g = got_right (filled_got f x.1 (map one c.parts) (emptied f v frame) after) f can.right.tasks (λ u frame same. enter_block f x.2 can.right.tasks frame after)
-          (filling_wrong _ _ (emptied f v frame) after (filled_got f x.1 (map one c.parts) (emptied f v frame) after) k)
-          (subst (λ q. IsRight q.step) (arm_entered f c arms x can.right.tasks (emptied f v frame) after e) right) in
-          let h : Fills (length x.1) (length (map one c.parts)) (emptied f v frame) g.frame after g.world = subst (IsFilling (length x.1) (length (map one c.parts)) (emptied f v frame) after) g.is k in
+          let k = filling f x.1 (map one c.parts) (with_empty_variable f v frame) after in
+          let g = got_right (filled_got f x.1 (map one c.parts) (with_empty_variable f v frame) after) f can.right.tasks (λ u frame same. enter_block f x.2 can.right.tasks frame after)
+          (filling_wrong _ _ (with_empty_variable f v frame) after (filled_got f x.1 (map one c.parts) (with_empty_variable f v frame) after) k)
+          (subst (λ q. IsRight q.step) (arm_entered f c arms x can.right.tasks (with_empty_variable f v frame) after e) right) in
+          let h : Fills (length x.1) (length (map one c.parts)) (with_empty_variable f v frame) g.frame after g.world = subst (IsFilling (length x.1) (length (map one c.parts)) (with_empty_variable f v frame) after) g.is k in
           record { case = c; is = is; view = x; has = e; count = h.count ∙ length-map c.parts one }
 
   pub finds_arm : FindsArm r arms v frame
@@ -197,7 +197,7 @@ module _ (s : Setup) (v : ℕ) (arms : Arms) (end : ℕ) (old mid new : Run) (z 
     g = going q.items old f old.at frame w q.step
 
     -- the arm's variables are filled
-    filled_came : (c : Case) (u : World) → IsSameOutside w u → (x : Got (Unit {0})) → IsFilling (length view.1) (length (map one c.parts)) (emptied f v frame) u x → IsOpened q.items mid.heap mid.values x
+    filled_came : (c : Case) (u : World) → IsSameOutside w u → (x : Got (Unit {0})) → IsFilling (length view.1) (length (map one c.parts)) (with_empty_variable f v frame) u x → IsOpened q.items mid.heap mid.values x
         → Came w b b None new (when_got x f ts (λ k after same. enter_block f view.2 ts after u))
     unfolding when_got
     filled_came c u out (got k after y) h shows = came_since w u b b new out.events None _ _ (enters f ts after u (stays_left old mid f ts frame w after u same q (record {
@@ -210,25 +210,25 @@ module _ (s : Setup) (v : ℕ) (arms : Arms) (end : ℕ) (old mid new : Run) (z 
 
     -- the objects of the case came back
     opened_came : (c : Case) → case_in (frame.vars v) ≡ Ok c → (x : Got (Unit {0})) → OpenShows q.items old.values.width frame x → IsOutside w x
-        → IsOpened q.items mid.heap mid.values (then_got x (λ u same w. filled_got f view.1 (map one c.parts) (emptied f v frame) w))
-        → Came w b b None new (when_got x f ts (λ u same w. enter_arm f c arms ts (emptied f v frame) w))
+        → IsOpened q.items mid.heap mid.values (then_got x (λ u same w. filled_got f view.1 (map one c.parts) (with_empty_variable f v frame) w))
+        → Came w b b None new (when_got x f ts (λ u same w. enter_arm f c arms ts (with_empty_variable f v frame) w))
     unfolding when_got then_got
-    opened_came c is (got k h u) shown out shows = subst (λ y. Came w b b None new y) (sym (arm_entered f c arms view ts (emptied f v frame) u (found c.number (tells old.heap (seen_in s.program old (tasks_left old) f ts frame w q) c is))))
-        (filled_came c u out (filled_got f view.1 (map one c.parts) (emptied f v frame) u) (filling f view.1 (map one c.parts) (emptied f v frame) u) shows)
+    opened_came c is (got k h u) shown out shows = subst (λ y. Came w b b None new y) (sym (arm_entered f c arms view ts (with_empty_variable f v frame) u (found c.number (tells old.heap (seen_in s.program old (tasks_left old) f ts frame w q) c is))))
+        (filled_came c u out (filled_got f view.1 (map one c.parts) (with_empty_variable f v frame) u) (filling f view.1 (map one c.parts) (with_empty_variable f v frame) u) shows)
     opened_came c is (stopped o u) shown out shows = wrong_came w b b None new (at f ts (ends o u)) o u shown
 
     pub switch_came : Came w b b None new (act s f (switch v arms end) ts frame w)
     switch_came = by_variant (variant_of f v)
       where
-        opened_shows : (t : VariantOf) (c : Case) → case_in (frame.vars v) ≡ Ok c → IsOpened q.items mid.heap mid.values (then_got (opened_got (case_keys s.program t c.number) c.keys frame w) (λ u same w. filled_got f view.1 (map one c.parts) (emptied f v frame) w))
-        opened_shows t c is = subst (λ h. IsOpened q.items h mid.values (then_got (opened_got (case_keys s.program t c.number) c.keys frame w) (λ u same w. filled_got f view.1 (map one c.parts) (emptied f v frame) w))) (sym heap)
+        opened_shows : (t : VariantOf) (c : Case) → case_in (frame.vars v) ≡ Ok c → IsOpened q.items mid.heap mid.values (then_got (opened_got (case_keys s.program t c.number) c.keys frame w) (λ u same w. filled_got f view.1 (map one c.parts) (with_empty_variable f v frame) w))
+        opened_shows t c is = subst (λ h. IsOpened q.items h mid.values (then_got (opened_got (case_keys s.program t c.number) c.keys frame w) (λ u same w. filled_got f view.1 (map one c.parts) (with_empty_variable f v frame) w))) (sym heap)
             (opens (seen_in s.program old (tasks_left old) f ts frame w q) w c (case_keys s.program t c.number) refl is)
 
-        by_case : (t : VariantOf) (x : Found Case) → case_in (frame.vars v) ≡ x → OrFault x → Came w b b None new (when_found x f ts w (λ c. when_got (opened_got (case_keys s.program t c.number) c.keys frame w) f ts (λ u same w. enter_arm f c arms ts (emptied f v frame) w)))
+        by_case : (t : VariantOf) (x : Found Case) → case_in (frame.vars v) ≡ x → OrFault x → Came w b b None new (when_found x f ts w (λ c. when_got (opened_got (case_keys s.program t c.number) c.keys frame w) f ts (λ u same w. enter_arm f c arms ts (with_empty_variable f v frame) w)))
         by_case t (Ok c) e bad = found_came w b new f ts None (Ok c) c _ refl
             (opened_came c e (opened_got (case_keys s.program t c.number) c.keys frame w) (open_shows q.items old.values.width (case_keys s.program t c.number) c.keys frame w g.runs.objects) (opened_outside w (case_keys s.program t c.number) c.keys frame w (outside_same w)) (opened_shows t c e))
         by_case t (Err o) e bad = missing_came w b new f ts None (Err o) _ (record { outcome = o; is = refl; fault = bad })
 
-        by_variant : (x : Option VariantOf) → Came w b b None new (when_found (or_fault missing x) f ts w (λ t. when_found (case_in (frame.vars v)) f ts w (λ c. when_got (opened_got (case_keys s.program t c.number) c.keys frame w) f ts (λ u same w. enter_arm f c arms ts (emptied f v frame) w))))
+        by_variant : (x : Option VariantOf) → Came w b b None new (when_found (or_fault missing x) f ts w (λ t. when_found (case_in (frame.vars v)) f ts w (λ c. when_got (opened_got (case_keys s.program t c.number) c.keys frame w) f ts (λ u same w. enter_arm f c arms ts (with_empty_variable f v frame) w))))
         by_variant None = missing_came w b new f ts None (or_fault missing None) _ (record { outcome = fault missing None; is = refl; fault = refl })
         by_variant (Some t) = found_came w b new f ts None (or_fault missing (Some t)) t _ refl (by_case t (case_in (frame.vars v)) refl (case_fault (frame.vars v)))

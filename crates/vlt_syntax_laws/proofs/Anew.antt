@@ -10,7 +10,7 @@ use Rattle.vlt_syntax.specs.Tree.{Name, States, KeyStates, Named, Ty, Expr, Buil
 use Rattle.vlt_syntax.specs.Lists.{each_then, further_then, listed_then, enclosed_then, Each, IsFilled}
 use Rattle.vlt_syntax.specs.Spelling.{name_then, case_name_then, marked_name_then, states_then, at_states_then, key_states_then, named_then, ty_then, sign_of, expr_then, build_then, call_then, init_then, owner_then, right_then, returned_then, stmt_then, block_then, if_then, else_then, stmts_then, arms_then, header_key_then, header_then, field_then, release_then, case_then, entry_then, result_type_then, parameter_then, clause_then, head_then, decl_then, spelling}
 use Rattle.vlt_syntax.specs.Grammar.{Bounds, language, level, depth, BindsFrom, IsStates, IsKeyStates, IsTy, IsExpr, IsInit, IsRight, IsReturned, IsSomeArm, IsStmt, IsBlock, IsIf, IsElse, AreStmts, AreArms, IsField, IsCase, IsEntry, IsResultType, IsParameter, IsHead, IsDecl, IsTree, IsPlacedTreeOf}
-use Rattle.vlt_syntax.specs.Places.{Spans, Placing, each_at, further_at, listed_at, enclosed_at, marked_at, name_at, states_at, key_states_at, named_at, ty_at, expr_at, build_at, call_at, init_at, owner_at, right_at, returned_at, stmt_at, block_at, if_at, else_at, stmts_at, arms_at, header_key_at, field_at, release_at, case_at, entry_at, result_type_at, parameter_at, clause_at, head_at, decl_at, span_in, placed}
+use Rattle.vlt_syntax.specs.Places.{Spans, Placing, each_at, further_at, listed_at, enclosed_at, marked_at, name_at, states_at, key_states_at, named_at, ty_at, expr_at, build_at, call_at, init_at, owner_at, right_at, returned_at, stmt_at, block_at, if_at, else_at, stmts_at, arms_at, header_key_at, field_at, release_at, case_at, entry_at, result_type_at, parameter_at, clause_at, head_at, decl_at, span_in, tree_with_places}
 use Rattle.vlt_syntax_laws.proofs.OneTree.{one_tree}
 
 -- the thing with its places set anew
@@ -447,17 +447,17 @@ decl_stays b (s.function h body a) at i is = (head_stays b h at i is.0, block_st
 
 -- ---- texts
 
-pub spells_placed : (ls : List Lexeme) (t : Tree) → spelling (placed ls t) ≡ spelling t
+pub spells_placed : (ls : List Lexeme) (t : Tree) → spelling (tree_with_places ls t) ≡ spelling t
 spells_placed ls t = spells_each decl_at decl_then spells_decl t.decls (span_in ls) 0 []
 
-pub placed_stays : (ls : List Lexeme) (b : Bounds) (t : Tree) → IsTree b t → IsTree b (placed ls t)
+pub placed_stays : (ls : List Lexeme) (b : Bounds) (t : Tree) → IsTree b t → IsTree b (tree_with_places ls t)
 placed_stays ls b t is = (
   each_stays decl_at (IsDecl b) (decl_stays b) t.decls (span_in ls) 0 is.0,
   subst (λ n. n ≤ b.decls) (sym (each_long decl_at t.decls (span_in ls) 0)) is.1,
 )
 
 -- A tree of these tokens is one of their text once its places are set anew: setting them twice is setting them once.
-pub placed_tree : (ls : List Lexeme) (t : Tree) → IsTree language t → tokens_in ls ≡ spelling t → IsPlacedTreeOf ls (placed ls t)
+pub placed_tree : (ls : List Lexeme) (t : Tree) → IsTree language t → tokens_in ls ≡ spelling t → IsPlacedTreeOf ls (tree_with_places ls t)
 placed_tree ls t is spells =
     let anew = placed_stays ls language t is in
-    (anew, spells ∙ sym (spells_placed ls t), ap (λ place. (place (span_in ls) 0).0) (one_tree language (placed ls t) t anew is (spells_placed ls t)))
+    (anew, spells ∙ sym (spells_placed ls t), ap (λ place. (place (span_in ls) 0).0) (one_tree language (tree_with_places ls t) t anew is (spells_placed ls t)))

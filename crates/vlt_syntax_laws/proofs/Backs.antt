@@ -12,7 +12,7 @@ use Rattle.vlt_syntax.specs.Tree as s
 use Rattle.vlt_syntax.specs.Tree.{If, Name, States, KeyStates, Named, Ty, Expr, HeaderKey, Case, Parameter, Entry, Init, ResultType, Stmt, Decl, Head, Block}
 use Rattle.vlt_syntax.specs.Lists.{further_then, listed_then, enclosed_then}
 use Rattle.vlt_syntax.specs.Spelling.{sign_of, at_states_then, case_then, header_then, marked_name_then, owner_then, case_name_then, result_type_then, parameter_then, head_then, decl_then, stmt_then, returned_then, block_then, if_then, named_then, name_then, states_then, ty_then, right_then, expr_then}
-use Rattle.vlt_automaton.specs.Automaton.{reaction_behind, counted, or_else, react_behind_fields, start_head, start_decl, whole_expr, start_operand, start_expr, react_operations, head_rest, start_ty, start_states, start_entry, start_right, react_right_name, react_tracked, react_type_name, react_stmt_name, start_simple, declared, enter, behind_if, on_tick, on_keyword, start_tick, Left, Thing, Pending, a_name, a_param, a_ty, a_key, a_case, a_parameter, an_entry, an_expr, an_init, a_result_type, a_simple, a_stmt, a_decl, Symbol, tick, sign, keyword, thing, further, listed, enclosed, marked_name, states, at_states, named, behind_tracked, behind_type_name, operand, operations, behind_name, close_group, end_expr, owner, right, behind_right_name, returned, block, stmts, behind_stmt_name, otherwise, behind_else, arm, arms, entry_states, arrow_states, clause, head, fields, behind_fields, decls, Reaction, take, skip, refuse, exceed, followed, start_thing, start_name, less, reaction}
+use Rattle.vlt_automaton.specs.Automaton.{reaction_behind, within_count, or_else, react_behind_fields, start_head, start_decl, whole_expr, start_operand, start_expr, react_operations, head_rest, start_ty, start_states, start_entry, start_right, react_right_name, react_tracked, react_type_name, react_stmt_name, start_simple, declaration_tail, enter, behind_if, on_tick, on_keyword, start_tick, Left, Thing, Pending, a_name, a_param, a_ty, a_key, a_case, a_parameter, an_entry, an_expr, an_init, a_result_type, a_simple, a_stmt, a_decl, Symbol, tick, sign, keyword, thing, further, listed, enclosed, marked_name, states, at_states, named, behind_tracked, behind_type_name, operand, operations, behind_name, close_group, end_expr, owner, right, behind_right_name, returned, block, stmts, behind_stmt_name, otherwise, behind_else, arm, arms, entry_states, arrow_states, clause, head, fields, behind_fields, decls, Reaction, take, skip, refuse, exceed, with_behind, start_thing, start_name, less, reaction}
 use Rattle.vlt_syntax.specs.Grammar.{level, BindsFrom, depth, IsExpr, IsTy, IsIf, IsBlock, IsHead, IsResultType, Bounds}
 use Rattle.vlt_syntax_laws.proofs.Takes.{IsNoSkip}
 use Rattle.vlt_syntax_laws.proofs.Exprs.{operand_kept, unary_high}
@@ -42,7 +42,7 @@ back_states extra at d K c x =
 
 back_named : (extra : Bounds) (at : Span) (d : ℕ) (K : Rest) (c : List Token) (x : Token) → Backs extra d named K x c (reaction (wider extra) named x)
 back_named extra at d K c x =
-    by_name (λ x r. Backs extra d named K x c (followed r (enclosed a_name mark.Less mark.Greater None ∷ []))) x _ _
+    by_name (λ x r. Backs extra d named K x c (with_behind r (enclosed a_name mark.Less mark.Greater None ∷ []))) x _ _
     (λ n k. let q = k tt in (record { name = the_name at n; keys = q.0 }, q.1, tt, ap (λ r. t.name n ∷ r) q.3, q.4)) tt
 
 back_tracked : (extra : Bounds) (at : Span) (d : ℕ) (K : Rest) (c : List Token) (x : Token) → Backs extra d behind_tracked K x c (react_tracked x)
@@ -51,7 +51,7 @@ back_tracked extra at d K c x =
     (λ k. let p = k.4 in let n = p.2 in (s.tracked k.0 n.0 at, n.1, tt, ap (λ r. t.keyword word.Tracked ∷ t.sign mark.OpenParen ∷ r) (k.3 ∙ ap (name_then k.0) (p.1 ∙ ap (λ r. t.sign mark.CloseParen ∷ r) n.3)), n.4))
     (by_sign (λ x r. Backs extra d behind_tracked K x c r) mark.At x _ _
     (λ k. (s.owning (Some k.0) k.4.0 at, k.4.1, k.2, ap (λ r. t.keyword word.Tracked ∷ t.sign mark.At ∷ r) (k.3 ∙ ap (states_then k.0) k.4.3), k.4.4))
-    (by_name (λ x r. Backs extra d behind_tracked K x c (followed r (enclosed a_name mark.Less mark.Greater None ∷ []))) x _ _
+    (by_name (λ x r. Backs extra d behind_tracked K x c (with_behind r (enclosed a_name mark.Less mark.Greater None ∷ []))) x _ _
     (λ n k. let q = k tt in (s.owning None (record { name = the_name at n; keys = q.0 }) at, q.1, tt, ap (λ r. t.keyword word.Tracked ∷ t.name n ∷ r) q.3, q.4)) tt))
 
 back_type_name : (extra : Bounds) (at : Span) (d : ℕ) (K : Rest) (c : List Token) (x : Token) → Backs extra d behind_type_name K x c (react_type_name x)
@@ -89,7 +89,7 @@ back_arrow extra at d K c x =
     (λ k n ss i. (s.held (record { key = the_name at n; states = Some ss }), x ∷ c, i, refl, k))
 
 -- a type, and then what makes it a declaration
-declared_after : (extra : Bounds) (at : Span) (x : Ty) (K : Rest) (c : List Token) → IsTy x → Spells extra 0 declared K c → (st : Stmt) × (rest : List Token) × (IsSmall extra) st × (ty_then x c ≡ stmt_then st rest) × K 0 rest
+declared_after : (extra : Bounds) (at : Span) (x : Ty) (K : Rest) (c : List Token) → IsTy x → Spells extra 0 declaration_tail K c → (st : Stmt) × (rest : List Token) × (IsSmall extra) st × (ty_then x c ≡ stmt_then st rest) × K 0 rest
 declared_after extra at x K c i k =
     let a = k.4 in let v = a.2 in let z = v.4 in
     (s.declare x k.0 v.0 at, z.0, (λ room. (i, v.2)), ap (ty_then x) (k.3 ∙ ap (name_then k.0) (a.1 ∙ ap (λ r. t.sign mark.Assign ∷ r) (v.3 ∙ ap (right_then v.0) z.1))), z.2)
@@ -269,7 +269,7 @@ expr_behind extra e K ts one b w = let q = w (wider extra).depth (level_at 2 (wi
 
 back_expr : (extra : Bounds) (at : Span) (d : ℕ) (K : Rest) (c : List Token) (x : Token) → Backs extra d (thing an_expr) K x c (start_expr (wider extra) x)
 back_expr extra at d K c x = on (start_operand (wider extra).depth (whole_expr (wider extra)) x) refl (operand_kept (wider extra).depth (whole_expr (wider extra)) x) where
-  on : (r : Reaction) → start_operand (wider extra).depth (whole_expr (wider extra)) x ≡ r → IsNoSkip r → Backs extra d (thing an_expr) K x c (followed r (end_expr ∷ []))
+  on : (r : Reaction) → start_operand (wider extra).depth (whole_expr (wider extra)) x ≡ r → IsNoSkip r → Backs extra d (thing an_expr) K x c (with_behind r (end_expr ∷ []))
   on (take ys) e kept = λ h. expr_from extra K (x ∷ c) (start_back extra at (wider extra).depth (whole_expr (wider extra)) x (λ n r. K 0 r) ys c e (parted extra 0 ys (end_expr ∷ []) K c h))
   on skip e kept = absurd kept
   on refuse e kept = tt
@@ -307,7 +307,7 @@ back_right_name extra at d K c x =
     (by_sign (λ x r. Backs extra d behind_right_name K x c r) mark.Dot x _ _
     (λ k n. let q = expr_behind extra (s.field (the_name at n) k.0) K k.1 refl tt k.4 in (s.value q.0, q.1, q.2, ap (λ r. t.name n ∷ t.sign mark.Dot ∷ r) k.3 ∙ q.3, q.4))
     (on (react_operations 1 (whole_expr (wider extra)) x) refl)) where
-      on : (r : Reaction) → react_operations 1 (whole_expr (wider extra)) x ≡ r → Backs extra d behind_right_name K x c (followed r (end_expr ∷ []))
+      on : (r : Reaction) → react_operations 1 (whole_expr (wider extra)) x ≡ r → Backs extra d behind_right_name K x c (with_behind r (end_expr ∷ []))
       on (take ys) e = λ h n.
           let q = expr_behind extra (s.variable (the_name at n)) K (x ∷ c) refl tt (operations_back extra at 1 (whole_expr (wider extra)) x (λ n r. K 0 r) ys c e (parted extra 0 ys (end_expr ∷ []) K c h)) in
           (s.value q.0, q.1, q.2, q.3, q.4)
@@ -324,7 +324,7 @@ back_returned extra at d K c x = as_returned extra d K c x (start_expr (wider ex
 -- ---- the other things
 
 -- a type and then others, and a name and then others
-ty_then_back : (extra : Bounds) (at : Span) (ys : List Symbol) (K : Rest) (c : List Token) (x : Token) → Then extra (λ L ts. Part extra 0 (thing a_ty) L ts) ys K x c (followed (start_ty x) ys)
+ty_then_back : (extra : Bounds) (at : Span) (ys : List Symbol) (K : Rest) (c : List Token) (x : Token) → Then extra (λ L ts. Part extra 0 (thing a_ty) L ts) ys K x c (with_behind (start_ty x) ys)
 ty_then_back extra at ys K c x = followed_back extra a_ty x c ys K (start_ty x) (back_ty extra at 0 (λ n q. Spells extra n ys K q) c x)
 
 -- from such a law to another's, where the reaction isn't to skip
@@ -334,7 +334,7 @@ through extra d y P ys K x c skip kept b f = absurd kept
 through extra d y P ys K x c refuse kept b f = tt
 through extra d y P ys K x c (exceed n) kept b f = tt
 
-ty_kept : (x : Token) (ys : List Symbol) → NoSkip (followed (start_ty x) ys)
+ty_kept : (x : Token) (ys : List Symbol) → NoSkip (with_behind (start_ty x) ys)
 ty_kept (t.keyword word.Int) ys = tt
 ty_kept (t.keyword word.Bool) ys = tt
 ty_kept (t.keyword word.Tracked) ys = tt
@@ -372,7 +372,7 @@ back_result_type extra at d K c (t.name n) = λ k. let q = k n in (s.value q.0, 
 back_result_type extra at d K c (t.keyword w) = tt
 back_result_type extra at d K c _ = tt
 
-result_type_kept : (extra : Bounds) (x : Token) (ys : List Symbol) → NoSkip (followed (start_thing (wider extra) a_result_type x) ys)
+result_type_kept : (extra : Bounds) (x : Token) (ys : List Symbol) → NoSkip (with_behind (start_thing (wider extra) a_result_type x) ys)
 result_type_kept extra (t.keyword word.Void) ys = tt
 result_type_kept extra (t.keyword word.Int) ys = tt
 result_type_kept extra (t.keyword word.Bool) ys = tt
@@ -385,19 +385,19 @@ back_head : (extra : Bounds) (at : Span) (d : ℕ) (K : Rest) (c : List Token) (
 back_head extra at d K c x = through extra d head (λ L ts. Part extra 0 (thing a_result_type) L ts) (head_rest (wider extra)) K x c _ (result_type_kept extra x _) (followed_back extra a_result_type x c (head_rest (wider extra)) K _ (back_result_type extra at 0 (λ n q. Spells extra n (head_rest (wider extra)) K q) c x))
     (λ q. let h = head_after extra at q.0 K q.1 q.2 q.4 in (h.0, h.1, h.2, q.3 ∙ h.3, h.4))
 
-followed_kept : (r : Reaction) (ys : List Symbol) → NoSkip r → NoSkip (followed r ys)
+followed_kept : (r : Reaction) (ys : List Symbol) → NoSkip r → NoSkip (with_behind r ys)
 followed_kept (take xs) ys h = tt
 followed_kept skip ys h = h
 followed_kept refuse ys h = tt
 followed_kept (exceed n) ys h = tt
 
-then_block : (extra : Bounds) (x : Token) (c : List Token) (ys : List Symbol) (K : Rest) (r : Reaction) → Backs extra 0 head (λ n q. Spells extra n ys K q) x c r → Then extra (λ L ts. Part extra 0 head L ts) ys K x c (followed r ys)
+then_block : (extra : Bounds) (x : Token) (c : List Token) (ys : List Symbol) (K : Rest) (r : Reaction) → Backs extra 0 head (λ n q. Spells extra n ys K q) x c r → Then extra (λ L ts. Part extra 0 head L ts) ys K x c (with_behind r ys)
 then_block extra x c ys K (take xs) b = λ h. b (parted extra 0 xs ys K c h)
 then_block extra x c ys K skip b = tt
 then_block extra x c ys K refuse b = tt
 then_block extra x c ys K (exceed n) b = tt
 
-back_function : (extra : Bounds) (at : Span) (d : ℕ) (K : Rest) (c : List Token) (x : Token) → Backs extra d (thing a_decl) K x c (followed (start_head (wider extra) x) (block (wider extra).depth ∷ []))
+back_function : (extra : Bounds) (at : Span) (d : ℕ) (K : Rest) (c : List Token) (x : Token) → Backs extra d (thing a_decl) K x c (with_behind (start_head (wider extra) x) (block (wider extra).depth ∷ []))
 back_function extra at d K c x = through extra d (thing a_decl) (λ L ts. Part extra 0 head L ts) (block (wider extra).depth ∷ []) K x c _ (followed_kept (start_head (wider extra) x) (block (wider extra).depth ∷ []) (result_type_kept extra x (head_rest (wider extra))))
     (then_block extra x c (block (wider extra).depth ∷ []) K (start_head (wider extra) x) (back_head extra at 0 (λ n q. Spells extra n (block (wider extra).depth ∷ []) K q) c x))
     (λ q. let b = q.4 (omega arith) in (s.function q.0 b.0 at, b.1, (q.2, b.2), q.3 ∙ ap (head_then q.0) b.3, b.4))
@@ -433,7 +433,7 @@ one_less l = record { limit = l.limit; more = l.more - 1 }
 
 back_decls : (extra : Bounds) (at : Span) (left : Left) (d : ℕ) (K : Rest) (c : List Token) (x : Token) → Backs extra d (decls left) K x c (reaction (wider extra) (decls left) x)
 back_decls extra at left d K c x = on (start_decl (wider extra) x) (back_decl extra at 0 (λ n q. Spells extra n (decls (one_less left) ∷ []) K q) c x) where
-  on : (r : Reaction) → Backs extra 0 (thing a_decl) (λ n q. Spells extra n (decls (one_less left) ∷ []) K q) x c r → Backs extra d (decls left) K x c (counted left r (λ rest. decls rest ∷ []))
+  on : (r : Reaction) → Backs extra 0 (thing a_decl) (λ n q. Spells extra n (decls (one_less left) ∷ []) K q) x c r → Backs extra d (decls left) K x c (within_count left r (λ rest. decls rest ∷ []))
   on (take xs) b = if_both (λ r. Backs extra d (decls left) K x c r) (left.more == 0) _ _ (λ e. tt)
       (λ e h. let q = b (parted extra 0 xs (decls (one_less left) ∷ []) K c h) in let z = q.4 in
       (q.0 ∷ z.0, z.1, (q.2, z.2), one_room left (length z.0) e z.3, q.3 ∙ ap (decl_then q.0) z.4, z.5))
@@ -476,7 +476,7 @@ as_fields extra left d K c x (exceed n) b = tt
 
 back_fields : (extra : Bounds) (at : Span) (left : Left) (d : ℕ) (K : Rest) (c : List Token) (x : Token) → Backs extra d (fields left) K x c (reaction (wider extra) (fields left) x)
 back_fields extra at left d K c x = on (start_ty x) (ty_only x) (back_ty extra at 0 (λ n q. Spells extra n (field_rest left) K q) c x) where
-  on : (r : Reaction) → NoSkip r → Backs extra 0 (thing a_ty) (λ n q. Spells extra n (field_rest left) K q) x c r → Backs extra d (fields left) K x c (or_else (counted left r field_list) (react_behind_fields x))
+  on : (r : Reaction) → NoSkip r → Backs extra 0 (thing a_ty) (λ n q. Spells extra n (field_rest left) K q) x c r → Backs extra d (fields left) K x c (or_else (within_count left r field_list) (react_behind_fields x))
   on (take xs) kept b = if_both (λ r. Backs extra d (fields left) K x c (or_else r (react_behind_fields x))) (left.more == 0) _ _ (λ e. tt)
       (λ e h. let q = b (parted extra 0 xs (field_rest left) K c h) in subst (λ ts. Part extra d (fields left) K ts) (sym q.3) (field_more extra at left q.0 d K q.1 e q.2 q.4))
   on skip kept b = absurd kept
@@ -629,7 +629,7 @@ back_stmts : (extra : Bounds) (at : Span) (room d : ℕ) (K : Rest) (c : List To
 back_stmts extra at room d K c x =
     by_sign (λ x r. Backs extra 0 (thing (a_stmt room)) (λ n q. Spells extra n (stmts room ∷ []) K q) x c (start_thing (wider extra) (a_stmt room) x) → NoSkip (start_thing (wider extra) (a_stmt room) x) → Backs extra d (stmts room) K x c r) mark.CloseBrace x _ _
     (λ b kept h. (s.done, c, tt, refl, h)) (λ b kept. on (start_thing (wider extra) (a_stmt room) x) b kept) (back_stmt extra at room 0 (λ n q. Spells extra n (stmts room ∷ []) K q) c x) (thing_kept extra (a_stmt room) x) where
-      on : (r : Reaction) → Backs extra 0 (thing (a_stmt room)) (λ n q. Spells extra n (stmts room ∷ []) K q) x c r → NoSkip r → Backs extra d (stmts room) K x c (followed r (stmts room ∷ []))
+      on : (r : Reaction) → Backs extra 0 (thing (a_stmt room)) (λ n q. Spells extra n (stmts room ∷ []) K q) x c r → NoSkip r → Backs extra d (stmts room) K x c (with_behind r (stmts room ∷ []))
       on (take xs) b kept = λ h. stmts_more extra room d K (x ∷ c) (b (parted extra 0 xs (stmts room ∷ []) K c h))
       on skip b kept = absurd kept
       on refuse b kept = tt

@@ -9,7 +9,7 @@ use Rattle.vlt_syntax.specs.Tree.{Tree}
 use Rattle.vlt_syntax.specs.Lists.{each_then}
 use Rattle.vlt_syntax.specs.Spelling.{spelling, decl_then}
 use Rattle.vlt_syntax.specs.Grammar.{Bounds, language, IsTree, IsPlacedTreeOf}
-use Rattle.vlt_syntax.specs.Places.{placed}
+use Rattle.vlt_syntax.specs.Places.{tree_with_places}
 use Rattle.vlt_syntax.specs.Refusals.{Refusal, IsRefusal}
 use Rattle.vlt_automaton.specs.Automaton.{Symbol, Next, to, unexpected, over, step, may_skip, may_end, depth_read, start, run, Verdict, located_of, enclosed, marked_name, at_states, behind_type_name, operations, behind_name, end_expr, owner, behind_right_name, otherwise, entry_states, arrow_states, clause, decls}
 use Rattle.vlt_syntax_laws.proofs.After.{after, onward}
@@ -70,7 +70,7 @@ pub accepted_tree : (ls : List Lexeme) (u : Unit {0}) → run language (start la
 accepted_tree ls u e =
     let r : Takes ls (start language) true = subst (λ v. IsReason ls (start language) v) e (reason ls (start language)) in
     let x = whole_tree (tokens_in ls) r.stack r.all r.ends in
-    (placed ls x.0, placed_tree ls x.0 x.1 x.2)
+    (tree_with_places ls x.0, placed_tree ls x.0 x.1 x.2)
 
 -- the tokens of a text have a tree, places included, or the grammar refuses them
 pub read_or_refused : (ls : List Lexeme) → ((x : Tree) × IsPlacedTreeOf ls x) ⊎ ((f : Refusal) × IsRefusal ls f)

@@ -13,7 +13,7 @@ use Rattle.vlt_syntax.specs.Tree as s
 use Rattle.vlt_syntax.specs.Tree.{Expr}
 use Rattle.vlt_syntax.specs.Spelling.{expr_then, sign_of, operator_of}
 use Rattle.vlt_syntax.specs.Grammar.{BindsFrom, depth, level, IsExpr, Bounds}
-use Rattle.vlt_automaton.specs.Automaton.{Pending, level_from, right_of, prefixed, Symbol, an_expr, thing, listed, further, operand, operations, behind_name, close_group, end_expr, behind_operand, behind_variable, whole_depth, whole_expr, start_operand, Reaction, settled, step_behind, climb, climb_by, if_deeper}
+use Rattle.vlt_automaton.specs.Automaton.{Pending, level_from, right_of, prefixed, Symbol, an_expr, thing, listed, further, operand, operations, behind_name, close_group, end_expr, behind_operand, behind_variable, whole_depth, whole_expr, start_operand, Reaction, next_after, step_behind, climb, climb_by, if_deeper}
 use Rattle.vlt_syntax_laws.proofs.After.{after, onward}
 use Rattle.vlt_syntax_laws.proofs.Takes.{followed_settled, IsNoSkip, kept}
 use Rattle.vlt_syntax_laws.proofs.Wider.{wider}
@@ -72,7 +72,7 @@ joined extra m l least room left d fs s (t.tick n ∷ rest) e le = refl
 joined extra m l least room left d fs s (t.number n ∷ rest) e le = refl
 joined extra m l least room left d fs s (t.keyword n ∷ rest) e le = refl
 joined extra m l least room left d fs s (t.sign k ∷ rest) e le =
-    ap (λ (r : Reaction). onward (after (wider extra) rest) (settled r s (λ u. step_behind (wider extra) (whole_depth (suc (max left d)) fs) s (t.sign k)))) (climbs_by m l least room left d fs (operator_of k) (end_weaker m k e) le)
+    ap (λ (r : Reaction). onward (after (wider extra) rest) (next_after r s (λ u. step_behind (wider extra) (whole_depth (suc (max left d)) fs) s (t.sign k)))) (climbs_by m l least room left d fs (operator_of k) (end_weaker m k e) le)
 
 -- ---- operators
 

@@ -6,7 +6,7 @@ use Rattle.vlt_syntax.specs.Tree.{Tree}
 use Rattle.vlt_syntax.specs.Lists.{each_then}
 use Rattle.vlt_syntax.specs.Spelling.{spelling, decl_then}
 use Rattle.vlt_syntax.specs.Grammar.{IsTree, Bounds}
-use Rattle.vlt_automaton.specs.Automaton.{Left, Symbol, may_end, decls, Reaction, take, skip, refuse, exceed, Next, to, settled, step, step_behind, depth_read, reaction_behind}
+use Rattle.vlt_automaton.specs.Automaton.{Left, Symbol, may_end, decls, Reaction, take, skip, refuse, exceed, Next, to, next_after, step, step_behind, depth_read, reaction_behind}
 use Rattle.vlt_syntax_laws.proofs.After.{after}
 use Rattle.vlt_syntax_laws.proofs.Back.{Rest, Spells}
 use Rattle.vlt_syntax_laws.proofs.Whole.{Backs, parted, some_spelling}
@@ -19,7 +19,7 @@ pub took : (s q : List Symbol) → to s ≡ to q → s ≡ q
 took s q e = cc
 
 settled_back : (extra : Bounds) (d : ℕ) (y : Symbol) (s q : List Symbol) (K : Rest) (x : Token) (c : List Token) (r : Reaction) (below : Unit {0} → Next)
-    → Backs extra d y (λ n z. Spells extra n s K z) x c r → (below tt ≡ to q → Spells extra (depth_read y) s K (x ∷ c)) → settled r s below ≡ to q → Spells extra 0 q K c → Spells extra d (y ∷ s) K (x ∷ c)
+    → Backs extra d y (λ n z. Spells extra n s K z) x c r → (below tt ≡ to q → Spells extra (depth_read y) s K (x ∷ c)) → next_after r s below ≡ to q → Spells extra 0 q K c → Spells extra d (y ∷ s) K (x ∷ c)
 settled_back extra d y s q K x c (take xs) below b p e k = b (parted extra 0 xs s K c (subst (λ z. Spells extra 0 z K c) (sym (took _ q e)) k))
 settled_back extra d y s q K x c skip below b p e k = b (p e)
 settled_back extra d y s q K x c refuse below b p e k = absurd cc

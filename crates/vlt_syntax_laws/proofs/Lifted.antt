@@ -13,7 +13,7 @@ use Rattle.vlt_syntax.specs.Tokens.{Token}
 use Rattle.vlt_syntax.specs.Spelling.{operator_of}
 use Rattle.vlt_syntax.specs.Grammar.{Bounds, level, language}
 use Rattle.vlt_syntax.specs.Refusals.{bound_of}
-use Rattle.vlt_automaton.specs.Automaton.{behind_fields, or_else, start_simple, start_result_type, react_behind_fields, Left, Thing, a_name, a_param, a_ty, a_key, a_case, a_parameter, an_entry, an_expr, an_init, a_result_type, a_simple, a_stmt, a_decl, Pending, level_from, right_of, prefixed, Symbol, tick, sign, keyword, thing, further, listed, enclosed, marked_name, states, at_states, named, behind_tracked, behind_type_name, operand, behind_name, operations, close_group, end_expr, owner, right, behind_right_name, returned, block, stmts, behind_stmt_name, otherwise, behind_else, arm, arms, entry_states, arrow_states, clause, head, fields, decls, Reaction, take, skip, refuse, exceed, followed, is_sign, is_keyword, is_name, is_tick, start_name, start_tick, start_states, start_key, start_ty, react_tracked, react_type_name, behind_operand, behind_variable, whole_depth, if_deeper, start_operand, climb, climb_by, react_operations, whole_expr, start_expr, start_build, start_right, react_right_name, react_returned, enter, declared, start_stmt, react_stmt_name, start_block, start_arm, start_head, head_rest, start_entry, start_decl, counted, start_thing, less, one_more, reaction, Next, to, unexpected, over, depth_read, reaction_behind, settled, step_behind, behind_if, parameters_left, lowest}
+use Rattle.vlt_automaton.specs.Automaton.{behind_fields, or_else, start_simple, start_result_type, react_behind_fields, Left, Thing, a_name, a_param, a_ty, a_key, a_case, a_parameter, an_entry, an_expr, an_init, a_result_type, a_simple, a_stmt, a_decl, Pending, level_from, right_of, prefixed, Symbol, tick, sign, keyword, thing, further, listed, enclosed, marked_name, states, at_states, named, behind_tracked, behind_type_name, operand, behind_name, operations, close_group, end_expr, owner, right, behind_right_name, returned, block, stmts, behind_stmt_name, otherwise, behind_else, arm, arms, entry_states, arrow_states, clause, head, fields, decls, Reaction, take, skip, refuse, exceed, with_behind, is_sign, is_keyword, is_name, is_tick, start_name, start_tick, start_states, start_key, start_ty, react_tracked, react_type_name, behind_operand, behind_variable, whole_depth, if_deeper, start_operand, climb, climb_by, react_operations, whole_expr, start_expr, start_build, start_right, react_right_name, react_returned, enter, declaration_tail, start_stmt, react_stmt_name, start_block, start_arm, start_head, head_rest, start_entry, start_decl, within_count, start_thing, less, one_more, reaction, Next, to, unexpected, over, depth_read, reaction_behind, next_after, step_behind, behind_if, parameters_left, lowest}
 use Rattle.vlt_syntax_laws.proofs.Wider.{wider}
 use Rattle.vlt_syntax_laws.proofs.After.{IsTo}
 
@@ -145,17 +145,17 @@ either : (n : ℕ) (e : Bounds) (b : Bool) (x y z w : Reaction) → Lifted n e x
 either n e true x y z w p q = p
 either n e false x y z w p q = q
 
-taken_then : (r : Reaction) (ys : List Symbol) → IsTaken r → IsTaken (followed r ys)
+taken_then : (r : Reaction) (ys : List Symbol) → IsTaken r → IsTaken (with_behind r ys)
 taken_then (take xs) ys h = tt
 taken_then skip ys h = absurd h
 taken_then refuse ys h = absurd h
 taken_then (exceed n) ys h = absurd h
 
-then_lifted : (n : ℕ) (e : Bounds) (r z : Reaction) (ys zs : List Symbol) → Lifted n e r z → zs ≡ lifts e ys → list_all is_good ys ≡ true → Lifted n e (followed r ys) (followed z zs)
-then_lifted n e (take xs) z ys zs p same q = (ap (λ r. followed r zs) p.0 ∙ ap (λ us. take (lifts e xs ++ us)) same ∙ ap take (sym (lifts_append e xs ys)), all_good xs ys p.1 q)
-then_lifted n e skip z ys zs p same q = ap (λ r. followed r zs) p
-then_lifted n e refuse z ys zs p same q = ap (λ r. followed r zs) p
-then_lifted n e (exceed k) z ys zs p same q = (p.0, λ none. ap (λ r. followed r zs) (p.1 none), λ wide. taken_then z zs (p.2 wide))
+then_lifted : (n : ℕ) (e : Bounds) (r z : Reaction) (ys zs : List Symbol) → Lifted n e r z → zs ≡ lifts e ys → list_all is_good ys ≡ true → Lifted n e (with_behind r ys) (with_behind z zs)
+then_lifted n e (take xs) z ys zs p same q = (ap (λ r. with_behind r zs) p.0 ∙ ap (λ us. take (lifts e xs ++ us)) same ∙ ap take (sym (lifts_append e xs ys)), all_good xs ys p.1 q)
+then_lifted n e skip z ys zs p same q = ap (λ r. with_behind r zs) p
+then_lifted n e refuse z ys zs p same q = ap (λ r. with_behind r zs) p
+then_lifted n e (exceed k) z ys zs p same q = (p.0, λ none. ap (λ r. with_behind r zs) (p.1 none), λ wide. taken_then z zs (p.2 wide))
 
 either_lifted : (n : ℕ) (e : Bounds) (r z other more : Reaction) → Lifted n e r z → Lifted n e other more → Lifted n e (or_else r other) (or_else z more)
 either_lifted n e (take xs) z other more p q = (ap (λ r. or_else r more) p.0, p.1)
@@ -198,15 +198,15 @@ NoExceed (exceed n) = ⊥
 
 counted_lifted : (n : ℕ) (e : Bounds) (l : Left) (r z : Reaction) (rest more : Left → List Symbol) → NoExceed r → is_limit l.limit ≡ true → Lifted n e r z
     → ((k : Left) → k.limit ≡ l.limit → more (lift_left e k) ≡ lifts e (rest k)) → ((k : Left) → is_limit k.limit ≡ true → list_all is_good (rest k) ≡ true)
-    → Lifted n e (counted l r rest) (counted (lift_left e l) z more)
+    → Lifted n e (within_count l r rest) (within_count (lift_left e l) z more)
 counted_lifted n e l (take xs) z rest more never limit p same good =
-    subst (λ r. Lifted n e (counted l (take xs) rest) (counted (lift_left e l) r more)) (sym p.0)
+    subst (λ r. Lifted n e (within_count l (take xs) rest) (within_count (lift_left e l) r more)) (sym p.0)
     (left_lifted n e l (xs ++ rest (record { limit = l.limit; more = l.more - 1 })) (lifts e xs ++ more (record { limit = l.limit; more = (l.more + bound_of l.limit e) - 1 })) limit
     (λ some. ap (λ k. lifts e xs ++ more (record { limit = l.limit; more = k })) (less_more l.more (bound_of l.limit e) some)
     ∙ ap (λ ys. lifts e xs ++ ys) (same (record { limit = l.limit; more = l.more - 1 }) refl) ∙ sym (lifts_append e xs _))
     (all_good xs _ p.1 (good (record { limit = l.limit; more = l.more - 1 }) limit)))
-counted_lifted n e l skip z rest more never limit p same good = ap (λ r. counted (lift_left e l) r more) p
-counted_lifted n e l refuse z rest more never limit p same good = ap (λ r. counted (lift_left e l) r more) p
+counted_lifted n e l skip z rest more never limit p same good = ap (λ r. within_count (lift_left e l) r more) p
+counted_lifted n e l refuse z rest more never limit p same good = ap (λ r. within_count (lift_left e l) r more) p
 counted_lifted n e l (exceed k) z rest more never limit p same good = absurd never
 
 enter_some : (room : ℕ) (xs : List Symbol) → 1 ≤ room → enter room xs ≡ take xs
@@ -382,7 +382,7 @@ simple_lifted n e (t.keyword word.Become) = (refl, refl)
 simple_lifted n e (t.keyword word.Swap) = (refl, refl)
 simple_lifted n e (t.keyword word.Open) = (refl, refl)
 simple_lifted n e (t.name text) = (refl, refl)
-simple_lifted n e x = then_lifted n e (start_ty x) _ declared _ (ty_lifted n e x) refl refl
+simple_lifted n e x = then_lifted n e (start_ty x) _ declaration_tail _ (ty_lifted n e x) refl refl
 
 room_some : (room extra : ℕ) → 1 ≤ room → suc (room - 1) + extra ≡ room + extra
 room_some room extra h = omega arith
@@ -490,7 +490,7 @@ ty_stays (t.keyword word.Tracked) = tt
 ty_stays (t.name text) = tt
 ty_stays _ = tt
 
-followed_stays : (r : Reaction) (ys : List Symbol) → NoExceed r → NoExceed (followed r ys)
+followed_stays : (r : Reaction) (ys : List Symbol) → NoExceed r → NoExceed (with_behind r ys)
 followed_stays (take xs) ys h = tt
 followed_stays skip ys h = tt
 followed_stays refuse ys h = tt
@@ -598,18 +598,18 @@ rest_good : (a b : Bool) → (a && b) ≡ true → b ≡ true
 rest_good true b p = p
 rest_good false b p = cc
 
-settled_to : (r : Reaction) (s : List Symbol) (below : Unit {0} → Next) → IsTaken r → IsTo (settled r s below)
+settled_to : (r : Reaction) (s : List Symbol) (below : Unit {0} → Next) → IsTaken r → IsTo (next_after r s below)
 settled_to (take xs) s below h = tt
 settled_to skip s below h = absurd h
 settled_to refuse s below h = absurd h
 settled_to (exceed n) s below h = absurd h
 
 settled_lifted : (n : ℕ) (e : Bounds) (r z : Reaction) (s : List Symbol) (below other : Unit {0} → Next) → Lifted n e r z → list_all is_good s ≡ true → LiftedNext n e (below tt) (other tt)
-    → LiftedNext n e (settled r s below) (settled z (lifts e s) other)
-settled_lifted n e (take xs) z s below other p good h = (ap (λ r. settled r (lifts e s) other) p.0 ∙ ap to (sym (lifts_append e xs s)), all_good xs s p.1 good)
-settled_lifted n e skip z s below other p good h = subst (λ r. LiftedNext n e (below tt) (settled r (lifts e s) other)) (sym p) h
-settled_lifted n e refuse z s below other p good h = ap (λ r. settled r (lifts e s) other) p
-settled_lifted n e (exceed k) z s below other p good h = (p.0, λ none. ap (λ r. settled r (lifts e s) other) (p.1 none), λ wide. settled_to z (lifts e s) other (p.2 wide))
+    → LiftedNext n e (next_after r s below) (next_after z (lifts e s) other)
+settled_lifted n e (take xs) z s below other p good h = (ap (λ r. next_after r (lifts e s) other) p.0 ∙ ap to (sym (lifts_append e xs s)), all_good xs s p.1 good)
+settled_lifted n e skip z s below other p good h = subst (λ r. LiftedNext n e (below tt) (next_after r (lifts e s) other)) (sym p) h
+settled_lifted n e refuse z s below other p good h = ap (λ r. next_after r (lifts e s) other) p
+settled_lifted n e (exceed k) z s below other p good h = (p.0, λ none. ap (λ r. next_after r (lifts e s) other) (p.1 none), λ wide. settled_to z (lifts e s) other (p.2 wide))
 
 pub step_lifted : (n d : ℕ) (e : Bounds) (s : List Symbol) (x : Token) → deepest s ≤ n → list_all is_good s ≡ true → LiftedNext n e (step_behind language d s x) (step_behind (wider e) d (lifts e s) x)
 step_lifted n d e [] x h good = refl

@@ -12,7 +12,7 @@ use Rattle.vlt_syntax.specs.Tokens as t
 use Rattle.vlt_syntax.specs.Tokens.{Token}
 use Rattle.vlt_syntax.specs.Tree as s
 use Rattle.vlt_syntax.specs.Tree.{Name, Expr}
-use Rattle.vlt_syntax.specs.Places.{made, ◌◂◌, ◌⊛◌, spanned, expr_at}
+use Rattle.vlt_syntax.specs.Places.{without_tokens, ◌◂◌, ◌⊛◌, with_span, expr_at}
 use Rattle.vlt_syntax.specs.Spelling.{expr_then, sign_of, operator_of}
 use Rattle.vlt_syntax.specs.Grammar.{BindsFrom, level}
 use Rattle.vlt_syntax_laws.proofs.Exprs.{ends, weaker, ends_more, sign_ends, end_weaker, binary_low, unary_high}
@@ -231,9 +231,9 @@ same_bare (s.true at) = refl
 same_bare (s.false at) = refl
 same_bare (s.variable x) = refl
 same_bare (s.field x f) = refl
-same_bare (s.group e at) = ap (λ p. spanned (made s.group ◂ 1 ⊛ p ◂ 1)) (same_bare e)
-same_bare (s.unary o e at) = ap (λ p. spanned (made (s.unary o) ◂ 1 ⊛ p)) (same_bare e)
-same_bare (s.binary o l r at) = ap (λ p. spanned (made (s.binary o) ⊛ p ◂ 1 ⊛ expr_at (bare r))) (same_bare l) ∙ ap (λ p. spanned (made (s.binary o) ⊛ expr_at l ◂ 1 ⊛ p)) (same_bare r)
+same_bare (s.group e at) = ap (λ p. with_span (without_tokens s.group ◂ 1 ⊛ p ◂ 1)) (same_bare e)
+same_bare (s.unary o e at) = ap (λ p. with_span (without_tokens (s.unary o) ◂ 1 ⊛ p)) (same_bare e)
+same_bare (s.binary o l r at) = ap (λ p. with_span (without_tokens (s.binary o) ⊛ p ◂ 1 ⊛ expr_at (bare r))) (same_bare l) ∙ ap (λ p. with_span (without_tokens (s.binary o) ⊛ expr_at l ◂ 1 ⊛ p)) (same_bare r)
 
 pub one_expr : (e f : Expr) (r q : List Token) → BindsFrom 0 e → BindsFrom 0 f → ends 0 r ≡ true → ends 0 q ≡ true → expr_then e r ≡ expr_then f q → (expr_at e ≡ expr_at f) × (r ≡ q)
 one_expr e f r q b c n m h = let a = bare_alike e f r q b c n m h in (sym (same_bare e) ∙ ap expr_at a.0 ∙ same_bare f, a.1)

@@ -9,7 +9,7 @@ use Rattle.vlt_syntax.specs.Tree.{Name, Named, Expr, Build, Call, Init, Right, R
 use Rattle.vlt_syntax.specs.Lists.{listed_then, Each}
 use Rattle.vlt_syntax.specs.Spelling.{name_then, named_then, expr_then, build_then, call_then, init_then, owner_then, right_then, returned_then}
 use Rattle.vlt_syntax.specs.Grammar.{BindsFrom}
-use Rattle.vlt_syntax.specs.Places.{made, ◌◂◌, ◌⊛◌, spanned, expr_at, build_at, call_at, init_at, owner_at, right_at, returned_at}
+use Rattle.vlt_syntax.specs.Places.{without_tokens, ◌◂◌, ◌⊛◌, with_span, expr_at, build_at, call_at, init_at, owner_at, right_at, returned_at}
 use Rattle.vlt_syntax_laws.proofs.Exprs.{ends, begins, IsStart}
 use Rattle.vlt_syntax_laws.proofs.Stmts.{IsTailed, tailed}
 use Rattle.vlt_syntax_laws.proofs.OneExpr.{one_expr}
@@ -42,7 +42,7 @@ one_init : One init_at init_then GroupInside EndsExpr
 one_init x y r q p o h i e =
     let a = one_name x.field y.field (t.sign mark.Colon ∷ expr_then x.value r) (t.sign mark.Colon ∷ expr_then y.value q) tt tt tt tt e in
     let b = one_value x.value y.value r q p o h i cc in
-    (two (λ f g. made (λ field value. let z : Init = record { field = field; value = value } in z) ⊛ f ◂ 1 ⊛ g) a.0 b.0, b.1)
+    (two (λ f g. without_tokens (λ field value. let z : Init = record { field = field; value = value } in z) ⊛ f ◂ 1 ⊛ g) a.0 b.0, b.1)
 
 abbrev pub AreGrouped : List Expr → Type 0
 AreGrouped = Each Groups
@@ -51,13 +51,13 @@ pub one_build : (x y : Build) (r q : List Token) → AreGrouped x.payload → Ar
 one_build x y r q p o h i e =
     let a = one_case_name x.case y.case _ _ tt tt tt tt e in
     let b = one_enclosed expr_at expr_then Groups EndsExpr mark.OpenParen mark.CloseParen one_value (λ c. refl) (λ c. refl) (λ c. cc) x.payload y.payload r q p o h i a.1 in
-    (two (λ f g. spanned (made (λ case payload at. let z : Build = record { case = case; payload = payload; at = at } in z) ⊛ f ⊛ g)) a.0 b.0, b.1)
+    (two (λ f g. with_span (without_tokens (λ case payload at. let z : Build = record { case = case; payload = payload; at = at } in z) ⊛ f ⊛ g)) a.0 b.0, b.1)
 
 pub one_call : (x y : Call) (r q : List Token) → AreGrouped x.arguments → AreGrouped y.arguments → call_then x r ≡ call_then y q → Same call_at x y r q
 one_call x y r q p o e =
     let a = one_name x.function y.function (t.sign mark.OpenParen ∷ listed_then expr_then mark.CloseParen x.arguments r) (t.sign mark.OpenParen ∷ listed_then expr_then mark.CloseParen y.arguments q) tt tt tt tt e in
     let b = one_listed expr_at expr_then Groups EndsExpr mark.CloseParen one_value (λ c. refl) (λ c. refl) (λ c. cc) no_paren_first x.arguments y.arguments r q p o cc in
-    (two (λ f g. spanned (made (λ function arguments at. let z : Call = record { function = function; arguments = arguments; at = at } in z) ⊛ f ◂ 1 ⊛ g)) a.0 b.0, b.1)
+    (two (λ f g. with_span (without_tokens (λ function arguments at. let z : Call = record { function = function; arguments = arguments; at = at } in z) ⊛ f ◂ 1 ⊛ g)) a.0 b.0, b.1)
 
 one_owner : (x y : Option Name) (r q : List Token) → NoSign mark.OpenParen r → NoSign mark.OpenParen q → owner_then x r ≡ owner_then y q → Same owner_at x y r q
 one_owner None None r q h i e = (refl, e)
@@ -65,7 +65,7 @@ one_owner None (Some y) r q h i e = absurd (h _ e)
 one_owner (Some x) None r q h i e = absurd (i _ (sym e))
 one_owner (Some x) (Some y) r q h i e =
     let a = one_name x y (t.sign mark.CloseParen ∷ r) (t.sign mark.CloseParen ∷ q) tt tt tt tt cc in
-    (ap (λ f. made (λ z. Some z) ◂ 1 ⊛ f ◂ 1) a.0, cc)
+    (ap (λ f. without_tokens (λ z. Some z) ◂ 1 ⊛ f ◂ 1) a.0, cc)
 
 -- ---- which kind of right side the tokens begin
 
@@ -120,20 +120,20 @@ right_class (s.make o n fs at) r h = refl
 right_class (s.adopt x o at) r h = refl
 
 pub one_right : (x y : Right) (r q : List Token) → IsGrouped x → IsGrouped y → right_then x (t.sign mark.Semicolon ∷ r) ≡ right_then y (t.sign mark.Semicolon ∷ q) → Same right_at x y r q
-one_right (s.value a) (s.value b) r q p o e = let v = one_value a b (t.sign mark.Semicolon ∷ r) (t.sign mark.Semicolon ∷ q) p o refl refl e in (ap (λ f. made s.value ⊛ f) v.0, cc)
-one_right (s.build a) (s.build b) r q p o e = let v = one_build a b (t.sign mark.Semicolon ∷ r) (t.sign mark.Semicolon ∷ q) p o (λ c i. cc) (λ c i. cc) e in (ap (λ f. made s.build ⊛ f) v.0, cc)
-one_right (s.call a) (s.call b) r q p o e = let v = one_call a b (t.sign mark.Semicolon ∷ r) (t.sign mark.Semicolon ∷ q) p o e in (ap (λ f. made s.call ⊛ f) v.0, cc)
+one_right (s.value a) (s.value b) r q p o e = let v = one_value a b (t.sign mark.Semicolon ∷ r) (t.sign mark.Semicolon ∷ q) p o refl refl e in (ap (λ f. without_tokens s.value ⊛ f) v.0, cc)
+one_right (s.build a) (s.build b) r q p o e = let v = one_build a b (t.sign mark.Semicolon ∷ r) (t.sign mark.Semicolon ∷ q) p o (λ c i. cc) (λ c i. cc) e in (ap (λ f. without_tokens s.build ⊛ f) v.0, cc)
+one_right (s.call a) (s.call b) r q p o e = let v = one_call a b (t.sign mark.Semicolon ∷ r) (t.sign mark.Semicolon ∷ q) p o e in (ap (λ f. without_tokens s.call ⊛ f) v.0, cc)
 one_right (s.input at) (s.input bt) r q p o e = (refl, cc)
 one_right (s.more at) (s.more bt) r q p o e = (refl, cc)
 one_right (s.make a n fs at) (s.make b m gs bt) r q p o e =
     let w = one_owner a b (named_then n (t.sign mark.OpenBrace ∷ listed_then init_then mark.CloseBrace fs (t.sign mark.Semicolon ∷ r))) (named_then m (t.sign mark.OpenBrace ∷ listed_then init_then mark.CloseBrace gs (t.sign mark.Semicolon ∷ q))) (λ c i. cc) (λ c i. cc) cc in
     let k = one_named n m (t.sign mark.OpenBrace ∷ listed_then init_then mark.CloseBrace fs (t.sign mark.Semicolon ∷ r)) (t.sign mark.OpenBrace ∷ listed_then init_then mark.CloseBrace gs (t.sign mark.Semicolon ∷ q)) tt tt (λ c i. cc) (λ c i. cc) w.1 in
     let l = one_listed init_at init_then GroupInside EndsExpr mark.CloseBrace one_init (λ c. refl) (λ c. refl) (λ c. cc) (λ z u g c i. cc) fs gs (t.sign mark.Semicolon ∷ r) (t.sign mark.Semicolon ∷ q) p o cc in
-    (three (λ f g h. spanned (made s.make ◂ 1 ⊛ f ⊛ g ◂ 1 ⊛ h)) w.0 k.0 l.0, cc)
+    (three (λ f g h. with_span (without_tokens s.make ◂ 1 ⊛ f ⊛ g ◂ 1 ⊛ h)) w.0 k.0 l.0, cc)
 one_right (s.adopt a u at) (s.adopt b v bt) r q p o e =
     let w = one_name a b (t.keyword word.Into ∷ name_then u (t.sign mark.Semicolon ∷ r)) (t.keyword word.Into ∷ name_then v (t.sign mark.Semicolon ∷ q)) tt tt tt tt cc in
     let k = one_name u v (t.sign mark.Semicolon ∷ r) (t.sign mark.Semicolon ∷ q) tt tt tt tt cc in
-    (two (λ f g. spanned (made s.adopt ◂ 1 ⊛ f ◂ 1 ⊛ g)) w.0 k.0, cc)
+    (two (λ f g. with_span (without_tokens s.adopt ◂ 1 ⊛ f ◂ 1 ⊛ g)) w.0 k.0, cc)
 one_right x y r q p o e = let same : index_right x ≡ index_right y = sym (right_class x r p) ∙ ap class_right e ∙ right_class y q o in absurd cc
 
 -- ---- what a `return` gives
@@ -168,6 +168,6 @@ returned_class (s.build b) r h = refl
 
 pub one_returned : (x y : Returned) (r q : List Token) → ReturnsGrouped x → ReturnsGrouped y → returned_then x (t.sign mark.Semicolon ∷ r) ≡ returned_then y (t.sign mark.Semicolon ∷ q) → Same returned_at x y r q
 one_returned s.nothing s.nothing r q p o e = (refl, cc)
-one_returned (s.value a) (s.value b) r q p o e = let v = one_value a b (t.sign mark.Semicolon ∷ r) (t.sign mark.Semicolon ∷ q) p o refl refl e in (ap (λ f. made s.value ⊛ f) v.0, cc)
-one_returned (s.build a) (s.build b) r q p o e = let v = one_build a b (t.sign mark.Semicolon ∷ r) (t.sign mark.Semicolon ∷ q) p o (λ c i. cc) (λ c i. cc) e in (ap (λ f. made s.build ⊛ f) v.0, cc)
+one_returned (s.value a) (s.value b) r q p o e = let v = one_value a b (t.sign mark.Semicolon ∷ r) (t.sign mark.Semicolon ∷ q) p o refl refl e in (ap (λ f. without_tokens s.value ⊛ f) v.0, cc)
+one_returned (s.build a) (s.build b) r q p o e = let v = one_build a b (t.sign mark.Semicolon ∷ r) (t.sign mark.Semicolon ∷ q) p o (λ c i. cc) (λ c i. cc) e in (ap (λ f. without_tokens s.build ⊛ f) v.0, cc)
 one_returned x y r q p o e = let same : index_returned x ≡ index_returned y = sym (returned_class x r p) ∙ ap class_returned e ∙ returned_class y q o in absurd cc

@@ -9,7 +9,7 @@ use Rattle.vlt_syntax.specs.Tree.{Name, Ty, Expr, Init, Right, Returned, Stmt, B
 use Rattle.vlt_syntax.specs.Lists.{enclosed_then, listed_then, Each}
 use Rattle.vlt_syntax.specs.Spelling.{name_then, ty_then, expr_then, right_then, stmt_then, block_then, if_then, else_then, stmts_then, arms_then}
 use Rattle.vlt_syntax.specs.Grammar.{Bounds, IsExpr, IsInit, IsRight, IsReturned, IsStmt, IsBlock, IsIf, IsElse, AreStmts, AreArms}
-use Rattle.vlt_syntax.specs.Places.{made, ◌◂◌, ◌⊛◌, spanned, enclosed_at, name_at, stmt_at, block_at, if_at, else_at, stmts_at, arms_at}
+use Rattle.vlt_syntax.specs.Places.{without_tokens, ◌◂◌, ◌⊛◌, with_span, enclosed_at, name_at, stmt_at, block_at, if_at, else_at, stmts_at, arms_at}
 use Rattle.vlt_syntax_laws.proofs.Stmts.{no_else, no_else_stmts}
 use Rattle.vlt_syntax_laws.proofs.OneType.{two, three, Same, NoSign, one_name, one_case_name, one_names, one_enclosed_names, one_ty}
 use Rattle.vlt_syntax_laws.proofs.OneSide.{AreGrouped, GroupInside, IsGrouped, ReturnsGrouped, one_value, one_call, one_right, one_returned}
@@ -135,72 +135,72 @@ mutual
       let a = one_ty y z (name_then x (t.sign mark.Assign ∷ right_then v (t.sign mark.Semicolon ∷ r))) (name_then w (t.sign mark.Assign ∷ right_then u (t.sign mark.Semicolon ∷ q))) p.0 o.0 ((λ c f. cc), (λ c f. cc)) ((λ c f. cc), (λ c f. cc)) e in
       let n = one_name x w _ _ tt tt tt tt a.1 in
       let k = one_right v u r q (right_grouped b v p.1) (right_grouped b u o.1) cc in
-      (three (λ f g h. spanned (made s.declare ⊛ f ⊛ g ◂ 1 ⊛ h ◂ 1)) a.0 n.0 k.0, k.1)
+      (three (λ f g h. with_span (without_tokens s.declare ⊛ f ⊛ g ◂ 1 ⊛ h ◂ 1)) a.0 n.0 k.0, k.1)
   one_stmt b room (s.assign x v at) (s.assign w u bt) r q p o h i e =
       let n = one_name x w (t.sign mark.Assign ∷ right_then v (t.sign mark.Semicolon ∷ r)) (t.sign mark.Assign ∷ right_then u (t.sign mark.Semicolon ∷ q)) tt tt tt tt e in
       let k = one_right v u r q (right_grouped b v p) (right_grouped b u o) cc in
-      (two (λ g h. spanned (made s.assign ⊛ g ◂ 1 ⊛ h ◂ 1)) n.0 k.0, k.1)
+      (two (λ g h. with_span (without_tokens s.assign ⊛ g ◂ 1 ⊛ h ◂ 1)) n.0 k.0, k.1)
   one_stmt b room (s.put x f v at) (s.put w g u bt) r q p o h i e =
       let n = one_name x w (t.sign mark.Dot ∷ name_then f (t.sign mark.Assign ∷ expr_then v (t.sign mark.Semicolon ∷ r))) (t.sign mark.Dot ∷ name_then g (t.sign mark.Assign ∷ expr_then u (t.sign mark.Semicolon ∷ q))) tt tt tt tt e in
       let m = one_name f g (t.sign mark.Assign ∷ expr_then v (t.sign mark.Semicolon ∷ r)) (t.sign mark.Assign ∷ expr_then u (t.sign mark.Semicolon ∷ q)) tt tt tt tt cc in
       let k = one_value v u (t.sign mark.Semicolon ∷ r) (t.sign mark.Semicolon ∷ q) p.0 o.0 refl refl cc in
-      (three (λ g h k. spanned (made s.put ⊛ g ◂ 1 ⊛ h ◂ 1 ⊛ k ◂ 1)) n.0 m.0 k.0, cc)
+      (three (λ g h k. with_span (without_tokens s.put ⊛ g ◂ 1 ⊛ h ◂ 1 ⊛ k ◂ 1)) n.0 m.0 k.0, cc)
   one_stmt b room (s.call v at) (s.call u bt) r q p o h i e =
       let k = one_call v u (t.sign mark.Semicolon ∷ r) (t.sign mark.Semicolon ∷ q) (grouped b v.arguments p) (grouped b u.arguments o) e in
-      (ap (λ h. spanned (made s.call ⊛ h ◂ 1)) k.0, cc)
+      (ap (λ h. with_span (without_tokens s.call ⊛ h ◂ 1)) k.0, cc)
   one_stmt b room (s.print v at) (s.print u bt) r q p o h i e =
       let k = one_value v u (t.sign mark.CloseParen ∷ t.sign mark.Semicolon ∷ r) (t.sign mark.CloseParen ∷ t.sign mark.Semicolon ∷ q) p.0 o.0 refl refl cc in
-      (ap (λ h. spanned (made s.print ◂ 2 ⊛ h ◂ 2)) k.0, cc)
-  one_stmt b room (s.block v) (s.block u) r q p o h i e = let k = one_block b room v u r q p o e in (ap (λ h. made s.block ⊛ h) k.0, k.1)
-  one_stmt b room (s.choose v) (s.choose u) r q p o h i e = let k = one_if b room v u r q p o h i e in (ap (λ h. made s.choose ⊛ h) k.0, k.1)
+      (ap (λ h. with_span (without_tokens s.print ◂ 2 ⊛ h ◂ 2)) k.0, cc)
+  one_stmt b room (s.block v) (s.block u) r q p o h i e = let k = one_block b room v u r q p o e in (ap (λ h. without_tokens s.block ⊛ h) k.0, k.1)
+  one_stmt b room (s.choose v) (s.choose u) r q p o h i e = let k = one_if b room v u r q p o h i e in (ap (λ h. without_tokens s.choose ⊛ h) k.0, k.1)
   one_stmt b room (s.loop v c at) (s.loop u d bt) r q p o h i e =
       let k = one_value v u (t.sign mark.CloseParen ∷ block_then c r) (t.sign mark.CloseParen ∷ block_then d q) p.0.0 o.0.0 refl refl cc in
       let l = one_block b room c d r q p.1 o.1 cc in
-      (two (λ g h. spanned (made s.loop ◂ 2 ⊛ g ◂ 1 ⊛ h)) k.0 l.0, l.1)
+      (two (λ g h. with_span (without_tokens s.loop ◂ 2 ⊛ g ◂ 1 ⊛ h)) k.0 l.0, l.1)
   one_stmt b room (s.break at) (s.break bt) r q p o h i e = (refl, cc)
   one_stmt b room (s.continue at) (s.continue bt) r q p o h i e = (refl, cc)
   one_stmt b room (s.return v at) (s.return u bt) r q p o h i e =
       let k = one_returned v u r q (returned_grouped b v p) (returned_grouped b u o) cc in
-      (ap (λ h. spanned (made s.return ◂ 1 ⊛ h ◂ 1)) k.0, k.1)
+      (ap (λ h. with_span (without_tokens s.return ◂ 1 ⊛ h ◂ 1)) k.0, k.1)
   one_stmt b room (s.switch x v at) (s.switch w u bt) r q p o h i e =
       let n = one_name x w (t.sign mark.CloseParen ∷ t.sign mark.OpenBrace ∷ arms_then v (t.sign mark.CloseBrace ∷ r)) (t.sign mark.CloseParen ∷ t.sign mark.OpenBrace ∷ arms_then u (t.sign mark.CloseBrace ∷ q)) tt tt tt tt cc in
       let k = one_arms b room v u r q p.1 o.1 cc in
-      (two (λ g h. spanned (made s.switch ◂ 2 ⊛ g ◂ 2 ⊛ h ◂ 1)) n.0 k.0, k.1)
+      (two (λ g h. with_span (without_tokens s.switch ◂ 2 ⊛ g ◂ 2 ⊛ h ◂ 1)) n.0 k.0, k.1)
   one_stmt b room (s.release x at) (s.release w bt) r q p o h i e =
       let n = one_name x w (t.sign mark.Semicolon ∷ r) (t.sign mark.Semicolon ∷ q) tt tt tt tt cc in
-      (ap (λ h. spanned (made s.release ◂ 1 ⊛ h ◂ 1)) n.0, cc)
+      (ap (λ h. with_span (without_tokens s.release ◂ 1 ⊛ h ◂ 1)) n.0, cc)
   one_stmt b room (s.become x y at) (s.become w z bt) r q p o h i e =
       let n = one_name x w (t.sign mark.At ∷ name_then y (t.sign mark.Semicolon ∷ r)) (t.sign mark.At ∷ name_then z (t.sign mark.Semicolon ∷ q)) tt tt tt tt cc in
       let k = one_name y z (t.sign mark.Semicolon ∷ r) (t.sign mark.Semicolon ∷ q) tt tt tt tt cc in
-      (two (λ g h. spanned (made s.become ◂ 1 ⊛ g ◂ 1 ⊛ h ◂ 1)) n.0 k.0, cc)
+      (two (λ g h. with_span (without_tokens s.become ◂ 1 ⊛ g ◂ 1 ⊛ h ◂ 1)) n.0 k.0, cc)
   one_stmt b room (s.swap x f v at) (s.swap w g u bt) r q p o h i e =
       let n = one_name x w (t.sign mark.Dot ∷ name_then f (t.sign mark.Comma ∷ name_then v (t.sign mark.Semicolon ∷ r))) (t.sign mark.Dot ∷ name_then g (t.sign mark.Comma ∷ name_then u (t.sign mark.Semicolon ∷ q))) tt tt tt tt cc in
       let m = one_name f g (t.sign mark.Comma ∷ name_then v (t.sign mark.Semicolon ∷ r)) (t.sign mark.Comma ∷ name_then u (t.sign mark.Semicolon ∷ q)) tt tt tt tt cc in
       let k = one_name v u (t.sign mark.Semicolon ∷ r) (t.sign mark.Semicolon ∷ q) tt tt tt tt cc in
-      (three (λ g h k. spanned (made s.swap ◂ 1 ⊛ g ◂ 1 ⊛ h ◂ 1 ⊛ k ◂ 1)) n.0 m.0 k.0, cc)
+      (three (λ g h k. with_span (without_tokens s.swap ◂ 1 ⊛ g ◂ 1 ⊛ h ◂ 1 ⊛ k ◂ 1)) n.0 m.0 k.0, cc)
   one_stmt b room (s.open_into x vs at) (s.open_into w us bt) r q p o h i e =
       let n = one_name x w (t.keyword word.Into ∷ t.sign mark.OpenParen ∷ listed_then name_then mark.CloseParen vs (t.sign mark.Semicolon ∷ r)) (t.keyword word.Into ∷ t.sign mark.OpenParen ∷ listed_then name_then mark.CloseParen us (t.sign mark.Semicolon ∷ q)) tt tt tt tt cc in
       let k = one_names mark.CloseParen (λ c. cc) vs us (t.sign mark.Semicolon ∷ r) (t.sign mark.Semicolon ∷ q) p o cc in
-      (two (λ g h. spanned (made s.open_into ◂ 1 ⊛ g ◂ 2 ⊛ h ◂ 1)) n.0 k.0, cc)
+      (two (λ g h. with_span (without_tokens s.open_into ◂ 1 ⊛ g ◂ 2 ⊛ h ◂ 1)) n.0 k.0, cc)
   one_stmt b room (s.focus x k z v at) (s.focus w l y u bt) r q p o h i e =
       let n = one_name x w (t.keyword word.As ∷ t.keyword word.Tracked ∷ t.sign mark.OpenParen ∷ name_then k (t.sign mark.CloseParen ∷ name_then z (block_then v r))) (t.keyword word.As ∷ t.keyword word.Tracked ∷ t.sign mark.OpenParen ∷ name_then l (t.sign mark.CloseParen ∷ name_then y (block_then u q))) tt tt tt tt cc in
       let m = one_name k l (t.sign mark.CloseParen ∷ name_then z (block_then v r)) (t.sign mark.CloseParen ∷ name_then y (block_then u q)) tt tt tt tt cc in
       let d = one_name z y (block_then v r) (block_then u q) tt tt tt tt cc in
       let c = one_block b room v u r q p o d.1 in
-      (three (λ g h k. spanned (made s.focus ◂ 1 ⊛ g ◂ 3 ⊛ h ◂ 1 ⊛ k ⊛ block_at v)) n.0 m.0 d.0 ∙ ap (λ k. spanned (made s.focus ◂ 1 ⊛ name_at w ◂ 3 ⊛ name_at l ◂ 1 ⊛ name_at y ⊛ k)) c.0, c.1)
+      (three (λ g h k. with_span (without_tokens s.focus ◂ 1 ⊛ g ◂ 3 ⊛ h ◂ 1 ⊛ k ⊛ block_at v)) n.0 m.0 d.0 ∙ ap (λ k. with_span (without_tokens s.focus ◂ 1 ⊛ name_at w ◂ 3 ⊛ name_at l ◂ 1 ⊛ name_at y ⊛ k)) c.0, c.1)
   one_stmt b room x y r q p o h i e = let same : index_stmt x ≡ index_stmt y = sym (stmt_class x r) ∙ ap class_stmt e ∙ stmt_class y q in absurd cc
 
   pub one_block : (b : Bounds) (room : ℕ) (x y : Block) (r q : List Token) → IsBlock b room x → IsBlock b room y → block_then x r ≡ block_then y q → Same block_at x y r q
   one_block b room (s.braced v at) (s.braced u bt) r q p o e =
       let k = one_stmts b (room - 1) v u r q p.1 o.1 cc in
-      (ap (λ h. spanned (made s.braced ◂ 1 ⊛ h ◂ 1)) k.0, k.1)
+      (ap (λ h. with_span (without_tokens s.braced ◂ 1 ⊛ h ◂ 1)) k.0, k.1)
 
   one_if : (b : Bounds) (room : ℕ) (x y : If) (r q : List Token) → IsIf b room x → IsIf b room y → no_else r ≡ true → no_else q ≡ true → if_then x r ≡ if_then y q → Same if_at x y r q
   one_if b room (s.choice v c x at) (s.choice u d y bt) r q p o h i e =
       let k = one_value v u (t.sign mark.CloseParen ∷ block_then c (else_then x r)) (t.sign mark.CloseParen ∷ block_then d (else_then y q)) p.0.0 o.0.0 refl refl cc in
       let l = one_block b room c d (else_then x r) (else_then y q) p.1 o.1 cc in
       let m = one_else b room x y r q p.2 o.2 h i l.1 in
-      (three (λ f g h. spanned (made s.choice ◂ 2 ⊛ f ◂ 1 ⊛ g ⊛ h)) k.0 l.0 m.0, m.1)
+      (three (λ f g h. with_span (without_tokens s.choice ◂ 2 ⊛ f ◂ 1 ⊛ g ⊛ h)) k.0 l.0 m.0, m.1)
 
   one_else : (b : Bounds) (room : ℕ) (x y : Else) (r q : List Token) → IsElse b room x → IsElse b room y → no_else r ≡ true → no_else q ≡ true → else_then x r ≡ else_then y q → Same else_at x y r q
   one_else b room s.nothing s.nothing r q p o h i e = (refl, e)
@@ -208,8 +208,8 @@ mutual
   one_else b room s.nothing (s.chained u) r q p o h i e = absurd (else_clash r _ h e)
   one_else b room (s.last v) s.nothing r q p o h i e = absurd (else_clash q _ i (sym e))
   one_else b room (s.chained v) s.nothing r q p o h i e = absurd (else_clash q _ i (sym e))
-  one_else b room (s.last v) (s.last u) r q p o h i e = let k = one_block b room v u r q p o cc in (ap (λ h. made s.last ◂ 1 ⊛ h) k.0, k.1)
-  one_else b room (s.chained v) (s.chained u) r q p o h i e = let k = one_if b (room - 1) v u r q p.1 o.1 h i cc in (ap (λ h. made s.chained ◂ 1 ⊛ h) k.0, k.1)
+  one_else b room (s.last v) (s.last u) r q p o h i e = let k = one_block b room v u r q p o cc in (ap (λ h. without_tokens s.last ◂ 1 ⊛ h) k.0, k.1)
+  one_else b room (s.chained v) (s.chained u) r q p o h i e = let k = one_if b (room - 1) v u r q p.1 o.1 h i cc in (ap (λ h. without_tokens s.chained ◂ 1 ⊛ h) k.0, k.1)
   one_else b room (s.last (s.braced v at)) (s.chained (s.choice u c d bt)) r q p o h i e = absurd cc
   one_else b room (s.chained (s.choice u c d bt)) (s.last (s.braced v at)) r q p o h i e = absurd cc
 
@@ -220,7 +220,7 @@ mutual
   one_stmts b room (s.next x xs) (s.next y ys) r q p o e =
       let k = one_stmt b room x y _ _ p.0 o.0 (no_else_stmts xs r) (no_else_stmts ys q) e in
       let l = one_stmts b room xs ys r q p.1 o.1 k.1 in
-      (two (λ g h. made s.next ⊛ g ⊛ h) k.0 l.0, l.1)
+      (two (λ g h. without_tokens s.next ⊛ g ⊛ h) k.0 l.0, l.1)
 
   one_arms : (b : Bounds) (room : ℕ) (x y : Arms) (r q : List Token) → AreArms b room x → AreArms b room y → arms_then x (t.sign mark.CloseBrace ∷ r) ≡ arms_then y (t.sign mark.CloseBrace ∷ q) → Same arms_at x y r q
   one_arms b room s.no_arms s.no_arms r q p o e = (refl, cc)
@@ -231,4 +231,4 @@ mutual
       let m = one_enclosed_names mark.OpenParen mark.CloseParen (λ c. cc) vs us (t.sign mark.Colon ∷ block_then v (arms_then xs (t.sign mark.CloseBrace ∷ r))) (t.sign mark.Colon ∷ block_then u (arms_then ys (t.sign mark.CloseBrace ∷ q))) (λ c f. cc) (λ c f. cc) n.1 in
       let k = one_block b room v u (arms_then xs (t.sign mark.CloseBrace ∷ r)) (arms_then ys (t.sign mark.CloseBrace ∷ q)) p.0 o.0 cc in
       let l = one_arms b room xs ys r q p.1 o.1 k.1 in
-      (three (λ f g h. spanned (made s.arm ◂ 1 ⊛ f ⊛ g ◂ 1 ⊛ h) ⊛ arms_at xs) n.0 m.0 k.0 ∙ ap (λ h. spanned (made s.arm ◂ 1 ⊛ name_at d ⊛ enclosed_at name_at us ◂ 1 ⊛ block_at u) ⊛ h) l.0, l.1)
+      (three (λ f g h. with_span (without_tokens s.arm ◂ 1 ⊛ f ⊛ g ◂ 1 ⊛ h) ⊛ arms_at xs) n.0 m.0 k.0 ∙ ap (λ h. with_span (without_tokens s.arm ◂ 1 ⊛ name_at d ⊛ enclosed_at name_at us ◂ 1 ⊛ block_at u) ⊛ h) l.0, l.1)

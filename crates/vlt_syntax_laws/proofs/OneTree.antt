@@ -10,7 +10,7 @@ use Rattle.vlt_syntax.specs.Tree.{Name, Ty, States, KeyStates, HeaderKey, Field,
 use Rattle.vlt_syntax.specs.Lists.{each_then, enclosed_then, listed_then, Each, IsFilled}
 use Rattle.vlt_syntax.specs.Spelling.{name_then, marked_name_then, states_then, at_states_then, key_states_then, ty_then, header_key_then, header_then, field_then, release_then, case_then, entry_then, result_type_then, parameter_then, clause_then, head_then, block_then, decl_then, spelling}
 use Rattle.vlt_syntax.specs.Grammar.{Bounds, IsStates, IsKeyStates, IsTy, IsField, IsCase, IsEntry, IsResultType, IsParameter, IsHead, IsDecl, IsTree, IsPlacedTreeOf, language}
-use Rattle.vlt_syntax.specs.Places.{made, ◌◂◌, ◌⊛◌, spanned, cons, each_at, listed_at, enclosed_at, marked_at, name_at, key_states_at, ty_at, header_key_at, field_at, release_at, case_at, entry_at, result_type_at, parameter_at, clause_at, head_at, decl_at, tree_at, span_in}
+use Rattle.vlt_syntax.specs.Places.{without_tokens, ◌◂◌, ◌⊛◌, with_span, cons, each_at, listed_at, enclosed_at, marked_at, name_at, key_states_at, ty_at, header_key_at, field_at, release_at, case_at, entry_at, result_type_at, parameter_at, clause_at, head_at, decl_at, tree_at, span_in}
 use Rattle.vlt_syntax_laws.proofs.OneType.{two, three, Same, One, NoSign, Anything, all_any, EndsType, one_some, one_listed, one_enclosed, one_name, one_case_name, one_names, one_marked_name, one_states, one_at_states, one_key_states, one_ty}
 use Rattle.vlt_syntax_laws.proofs.OneStmt.{one_block}
 
@@ -20,7 +20,7 @@ one_header_key : One header_key_at header_key_then Anything (NoSign mark.Colon)
 one_header_key x y r q p o h i e =
     let a = one_name x.key y.key (marked_name_then mark.Colon x.key_type r) (marked_name_then mark.Colon y.key_type q) tt tt tt tt e in
     let b = one_marked_name mark.Colon x.key_type y.key_type r q h i a.1 in
-    (two (λ f g. made (λ key key_type. let z : HeaderKey = record { key = key; key_type = key_type } in z) ⊛ f ⊛ g) a.0 b.0, b.1)
+    (two (λ f g. without_tokens (λ key key_type. let z : HeaderKey = record { key = key; key_type = key_type } in z) ⊛ f ⊛ g) a.0 b.0, b.1)
 
 one_header : (xs ys : List HeaderKey) (r q : List Token) → NoSign mark.Less r → NoSign mark.Less q → header_then xs r ≡ header_then ys q → Same (enclosed_at header_key_at) xs ys r q
 one_header xs ys r q h i e =
@@ -31,7 +31,7 @@ one_field x y r q p o h i e =
     let a = one_ty x.ty y.ty (name_then x.name (at_states_then x.states (t.sign mark.Semicolon ∷ r))) (name_then y.name (at_states_then y.states (t.sign mark.Semicolon ∷ q))) p.0 o.0 ((λ c f. cc), (λ c f. cc)) ((λ c f. cc), (λ c f. cc)) e in
     let n = one_name x.name y.name (at_states_then x.states (t.sign mark.Semicolon ∷ r)) (at_states_then y.states (t.sign mark.Semicolon ∷ q)) tt tt tt tt a.1 in
     let k = one_at_states x.states y.states (t.sign mark.Semicolon ∷ r) (t.sign mark.Semicolon ∷ q) p.1 o.1 (λ c f. cc) (λ c f. cc) n.1 in
-    (three (λ f g h. spanned (made (λ ty name states at. let z : Field = record { ty = ty; name = name; states = states; at = at } in z) ⊛ f ⊛ g ⊛ h ◂ 1)) a.0 n.0 k.0, cc)
+    (three (λ f g h. with_span (without_tokens (λ ty name states at. let z : Field = record { ty = ty; name = name; states = states; at = at } in z) ⊛ f ⊛ g ⊛ h ◂ 1)) a.0 n.0 k.0, cc)
 
 -- what comes behind the fields of a struct
 abbrev tail : Option States → List Token → List Token
@@ -63,7 +63,7 @@ one_release None (Some y) r q p o e = absurd cc
 one_release (Some x) None r q p o e = absurd cc
 one_release (Some x) (Some y) r q p o e =
     let a = one_states x y (t.sign mark.Semicolon ∷ t.sign mark.CloseBrace ∷ r) (t.sign mark.Semicolon ∷ t.sign mark.CloseBrace ∷ q) p o tt tt cc in
-    (ap (λ f. made (λ ss. Some ss) ◂ 1 ⊛ f ◂ 1) a.0, cc)
+    (ap (λ f. without_tokens (λ ss. Some ss) ◂ 1 ⊛ f ◂ 1) a.0, cc)
 
 one_fields : (xs ys : List Field) (x y : Option States) (r q : List Token) → Each IsField xs → Each IsField ys → IfSome x IsStates → IfSome y IsStates
     → each_then field_then xs (tail x r) ≡ each_then field_then ys (tail y q) → (each_at field_at xs ≡ each_at field_at ys) × Same release_at x y r q
@@ -73,7 +73,7 @@ one_fields (f ∷ fs) [] x y r q p o h i e = absurd (no_field y f q _ e)
 one_fields (f ∷ fs) (g ∷ gs) x y r q p o h i e =
     let a = one_field f g (each_then field_then fs (tail x r)) (each_then field_then gs (tail y q)) p.0 o.0 tt tt e in
     let b = one_fields fs gs x y r q p.1 o.1 h i a.1 in
-    (two (λ f g. made cons ⊛ f ⊛ g) a.0 b.0, b.1)
+    (two (λ f g. without_tokens cons ⊛ f ⊛ g) a.0 b.0, b.1)
 
 abbrev EndsCase : List Token → Type 0
 EndsCase r = NoSign mark.OpenParen r × NoSign mark.OpenBrace r
@@ -87,7 +87,7 @@ one_case b x y r q p o h i e =
     let a = one_case_name x.name y.name (enclosed_then ty_then mark.OpenParen mark.CloseParen x.payload (enclosed_then key_states_then mark.OpenBrace mark.CloseBrace x.keys r)) (enclosed_then ty_then mark.OpenParen mark.CloseParen y.payload (enclosed_then key_states_then mark.OpenBrace mark.CloseBrace y.keys q)) tt tt tt tt e in
     let n = one_enclosed ty_at ty_then IsTy EndsType mark.OpenParen mark.CloseParen one_ty (λ c. ((λ c f. cc), (λ c f. cc))) (λ c. ((λ c f. cc), (λ c f. cc))) (λ c. cc) x.payload y.payload (enclosed_then key_states_then mark.OpenBrace mark.CloseBrace x.keys r) (enclosed_then key_states_then mark.OpenBrace mark.CloseBrace y.keys q) p.0 o.0 (no_paren x.keys r h.0) (no_paren y.keys q i.0) a.1 in
     let k = one_enclosed key_states_at key_states_then IsKeyStates (NoSign mark.At) mark.OpenBrace mark.CloseBrace one_key_states (λ c k f. cc) (λ c k f. cc) (λ c. cc) x.keys y.keys r q p.2 o.2 h.1 i.1 n.1 in
-    (three (λ f g h. spanned (made (λ name payload keys at. let z : Case = record { name = name; payload = payload; keys = keys; at = at } in z) ⊛ f ⊛ g ⊛ h)) a.0 n.0 k.0, k.1)
+    (three (λ f g h. with_span (without_tokens (λ name payload keys at. let z : Case = record { name = name; payload = payload; keys = keys; at = at } in z) ⊛ f ⊛ g ⊛ h)) a.0 n.0 k.0, k.1)
 
 -- ---- heads
 
@@ -100,22 +100,22 @@ held_apart None k a b r q p o h e = h.0 _ e
 held_apart (Some x) k a b r q p o h e = let w = one_states x a r (t.sign mark.Arrow ∷ states_then b q) p o tt tt cc in h.1 _ w.1
 
 one_entry : One entry_at entry_then IsEntry EndsEntry
-one_entry (s.held x) (s.held y) r q p o h i e = let a = one_key_states x y r q p o h.0 i.0 e in (ap (λ f. made s.held ⊛ f) a.0, a.1)
+one_entry (s.held x) (s.held y) r q p o h i e = let a = one_key_states x y r q p o h.0 i.0 e in (ap (λ f. without_tokens s.held ⊛ f) a.0, a.1)
 one_entry (s.changed k a b) (s.changed l c d) r q p o h i e =
     let n = one_name k l (t.sign mark.At ∷ states_then a (t.sign mark.Arrow ∷ states_then b r)) (t.sign mark.At ∷ states_then c (t.sign mark.Arrow ∷ states_then d q)) tt tt tt tt e in
     let v = one_states a c (t.sign mark.Arrow ∷ states_then b r) (t.sign mark.Arrow ∷ states_then d q) p.0 o.0 tt tt cc in
     let w = one_states b d r q p.1 o.1 tt tt cc in
-    (three (λ f g h. made s.changed ⊛ f ◂ 1 ⊛ g ◂ 1 ⊛ h) n.0 v.0 w.0, w.1)
-one_entry (s.taken x at) (s.taken y bt) r q p o h i e = let a = one_key_states x y r q p o h.0 i.0 cc in (ap (λ f. spanned (made s.taken ◂ 1 ⊛ f)) a.0, a.1)
-one_entry (s.given x at) (s.given y bt) r q p o h i e = let a = one_key_states x y r q p o h.0 i.0 cc in (ap (λ f. spanned (made s.given ◂ 1 ⊛ f)) a.0, a.1)
-one_entry (s.fresh x at) (s.fresh y bt) r q p o h i e = let a = one_key_states x y r q p o h.0 i.0 cc in (ap (λ f. spanned (made s.fresh ◂ 1 ⊛ f)) a.0, a.1)
+    (three (λ f g h. without_tokens s.changed ⊛ f ◂ 1 ⊛ g ◂ 1 ⊛ h) n.0 v.0 w.0, w.1)
+one_entry (s.taken x at) (s.taken y bt) r q p o h i e = let a = one_key_states x y r q p o h.0 i.0 cc in (ap (λ f. with_span (without_tokens s.taken ◂ 1 ⊛ f)) a.0, a.1)
+one_entry (s.given x at) (s.given y bt) r q p o h i e = let a = one_key_states x y r q p o h.0 i.0 cc in (ap (λ f. with_span (without_tokens s.given ◂ 1 ⊛ f)) a.0, a.1)
+one_entry (s.fresh x at) (s.fresh y bt) r q p o h i e = let a = one_key_states x y r q p o h.0 i.0 cc in (ap (λ f. with_span (without_tokens s.fresh ◂ 1 ⊛ f)) a.0, a.1)
 one_entry (s.held x) (s.changed l c d) r q p o h i e = absurd (held_apart x.states c c d r q p o.0 h cc)
 one_entry (s.changed k a b) (s.held y) r q p o h i e = absurd (held_apart y.states a a b q r o p.0 i cc)
 one_entry x y r q p o h i e = absurd cc
 
 one_result_type : One result_type_at result_type_then IsResultType EndsType
 one_result_type (s.void at) (s.void bt) r q p o h i e = (refl, cc)
-one_result_type (s.value x) (s.value y) r q p o h i e = let a = one_ty x y r q p o h i e in (ap (λ f. made s.value ⊛ f) a.0, a.1)
+one_result_type (s.value x) (s.value y) r q p o h i e = let a = one_ty x y r q p o h i e in (ap (λ f. without_tokens s.value ⊛ f) a.0, a.1)
 one_result_type (s.void at) (s.value (s.int bt)) r q p o h i e = absurd cc
 one_result_type (s.void at) (s.value (s.bool bt)) r q p o h i e = absurd cc
 one_result_type (s.void at) (s.value (s.tracked k n bt)) r q p o h i e = absurd cc
@@ -133,7 +133,7 @@ one_parameter : One parameter_at parameter_then IsParameter Anything
 one_parameter x y r q p o h i e =
     let a = one_ty x.ty y.ty (name_then x.name r) (name_then y.name q) p o ((λ c f. cc), (λ c f. cc)) ((λ c f. cc), (λ c f. cc)) e in
     let n = one_name x.name y.name r q tt tt tt tt a.1 in
-    (two (λ f g. made (λ ty name. let z : Parameter = record { ty = ty; name = name } in z) ⊛ f ⊛ g) a.0 n.0, n.1)
+    (two (λ f g. without_tokens (λ ty name. let z : Parameter = record { ty = ty; name = name } in z) ⊛ f ⊛ g) a.0 n.0, n.1)
 
 no_closing : (y : Ty) (c : List Token) → NoSign mark.CloseParen (ty_then y c)
 no_closing (s.int at) c d e = cc
@@ -156,7 +156,7 @@ one_clause None (Some y) r q p o h i e = absurd (h _ e)
 one_clause (Some x) None r q p o h i e = absurd (i _ (sym e))
 one_clause (Some x) (Some y) r q p o h i e =
     let a = one_listed entry_at entry_then IsEntry EndsEntry mark.CloseBracket one_entry (λ c. ((λ k f. cc), (λ k f. cc))) (λ c. ((λ k f. cc), (λ k f. cc))) (λ c. cc) (λ x r p. no_bracket x r) x y r q p o cc in
-    (ap (λ f. made (λ z. Some z) ◂ 1 ⊛ f) a.0, a.1)
+    (ap (λ f. without_tokens (λ z. Some z) ◂ 1 ⊛ f) a.0, a.1)
 
 abbrev behind_result_type : Head → List Token → List Token
 behind_result_type h r = name_then h.name (t.sign mark.OpenParen ∷ listed_then parameter_then mark.CloseParen h.parameters (clause_then h.clause r))
@@ -167,8 +167,8 @@ one_head b x y r q p o h i e =
     let n = one_name x.name y.name (t.sign mark.OpenParen ∷ listed_then parameter_then mark.CloseParen x.parameters (clause_then x.clause r)) (t.sign mark.OpenParen ∷ listed_then parameter_then mark.CloseParen y.parameters (clause_then y.clause q)) tt tt tt tt a.1 in
     let m = one_listed parameter_at parameter_then IsParameter Anything mark.CloseParen one_parameter (λ c. tt) (λ c. tt) (λ c. cc) (λ z u g. no_closing z.ty _) x.parameters y.parameters (clause_then x.clause r) (clause_then y.clause q) p.parameters o.parameters cc in
     let k = one_clause x.clause y.clause r q p.clause o.clause h i m.1 in (
-      three (λ f g h. spanned (made (λ result_type name parameters clause at. let z : Head = record { result_type = result_type; name = name; parameters = parameters; clause = clause; at = at } in z) ⊛ f ⊛ g ◂ 1 ⊛ h ⊛ clause_at x.clause)) a.0 n.0 m.0
-          ∙ ap (λ h. spanned (made (λ result_type name parameters clause at. let z : Head = record { result_type = result_type; name = name; parameters = parameters; clause = clause; at = at } in z) ⊛ result_type_at y.result_type ⊛ name_at y.name ◂ 1 ⊛ listed_at parameter_at y.parameters ⊛ h)) k.0,
+      three (λ f g h. with_span (without_tokens (λ result_type name parameters clause at. let z : Head = record { result_type = result_type; name = name; parameters = parameters; clause = clause; at = at } in z) ⊛ f ⊛ g ◂ 1 ⊛ h ⊛ clause_at x.clause)) a.0 n.0 m.0
+          ∙ ap (λ h. with_span (without_tokens (λ result_type name parameters clause at. let z : Head = record { result_type = result_type; name = name; parameters = parameters; clause = clause; at = at } in z) ⊛ result_type_at y.result_type ⊛ name_at y.name ◂ 1 ⊛ listed_at parameter_at y.parameters ⊛ h)) k.0,
       k.1,
     )
 
@@ -218,17 +218,17 @@ one_cases b [] ys r q some others p o e = absurd some
 one_cases b (x ∷ xs) [] r q some others p o e = absurd others
 one_cases b (x ∷ xs) (y ∷ ys) r q some others p o e =
     let a = one_some case_at case_then (IsCase b) EndsCase mark.CloseBrace (one_case b) (λ c. ((λ k f. cc), (λ k f. cc))) (λ c. ((λ k f. cc), (λ k f. cc))) (λ c. cc) x y xs ys r q p o e in
-    (two (λ f g. made cons ⊛ f ⊛ g) a.0 a.1.0, a.1.1)
+    (two (λ f g. without_tokens cons ⊛ f ⊛ g) a.0 a.1.0, a.1.1)
 
 one_decl : (b : Bounds) → One decl_at decl_then (IsDecl b) Anything
 one_decl b (s.stateset n ss at) (s.stateset m us bt) r q p o h i e =
     let a = one_name n m (t.sign mark.OpenBrace ∷ listed_then name_then mark.CloseBrace ss r) (t.sign mark.OpenBrace ∷ listed_then name_then mark.CloseBrace us q) tt tt tt tt cc in
     let k = one_names mark.CloseBrace (λ c. cc) ss us r q p.0 o.0 cc in
-    (two (λ f g. spanned (made s.stateset ◂ 1 ⊛ f ◂ 1 ⊛ g)) a.0 k.0, k.1)
+    (two (λ f g. with_span (without_tokens s.stateset ◂ 1 ⊛ f ◂ 1 ⊛ g)) a.0 k.0, k.1)
 one_decl b (s.abstract n x at) (s.abstract m y bt) r q p o h i e =
     let a = one_name n m (marked_name_then mark.At x (t.sign mark.Semicolon ∷ r)) (marked_name_then mark.At y (t.sign mark.Semicolon ∷ q)) tt tt tt tt cc in
     let k = one_marked_name mark.At x y (t.sign mark.Semicolon ∷ r) (t.sign mark.Semicolon ∷ q) (λ c f. cc) (λ c f. cc) a.1 in
-    (two (λ f g. spanned (made s.abstract ◂ 1 ⊛ f ⊛ g ◂ 1)) a.0 k.0, cc)
+    (two (λ f g. with_span (without_tokens s.abstract ◂ 1 ⊛ f ⊛ g ◂ 1)) a.0 k.0, cc)
 one_decl b (s.struct n ps x fs v at) (s.struct m os y gs u bt) r q p o h i e =
     let inside = t.sign mark.OpenBrace ∷ each_then field_then fs (tail v r) in
     let other = t.sign mark.OpenBrace ∷ each_then field_then gs (tail u q) in
@@ -236,22 +236,22 @@ one_decl b (s.struct n ps x fs v at) (s.struct m os y gs u bt) r q p o h i e =
     let k = one_header ps os (marked_name_then mark.At x inside) (marked_name_then mark.At y other) (no_less x _) (no_less y _) a.1 in
     let l = one_marked_name mark.At x y inside other (λ c f. cc) (λ c f. cc) k.1 in
     let w = one_fields fs gs v u r q p.1 o.1 p.3 o.3 cc in (
-      three (λ f g h. spanned (made s.struct ◂ 1 ⊛ f ⊛ g ⊛ h ◂ 1 ⊛ each_at field_at fs ⊛ release_at v ◂ 1)) a.0 k.0 l.0
-          ∙ two (λ f g. spanned (made s.struct ◂ 1 ⊛ name_at m ⊛ enclosed_at header_key_at os ⊛ marked_at name_at y ◂ 1 ⊛ f ⊛ g ◂ 1)) w.0 w.1.0,
+      three (λ f g h. with_span (without_tokens s.struct ◂ 1 ⊛ f ⊛ g ⊛ h ◂ 1 ⊛ each_at field_at fs ⊛ release_at v ◂ 1)) a.0 k.0 l.0
+          ∙ two (λ f g. with_span (without_tokens s.struct ◂ 1 ⊛ name_at m ⊛ enclosed_at header_key_at os ⊛ marked_at name_at y ◂ 1 ⊛ f ⊛ g ◂ 1)) w.0 w.1.0,
       w.1.1,
     )
 one_decl b (s.variant n ps cs at) (s.variant m os ds bt) r q p o h i e =
     let a = one_name n m (header_then ps (t.sign mark.OpenBrace ∷ listed_then case_then mark.CloseBrace cs r)) (header_then os (t.sign mark.OpenBrace ∷ listed_then case_then mark.CloseBrace ds q)) tt tt tt tt cc in
     let k = one_header ps os (t.sign mark.OpenBrace ∷ listed_then case_then mark.CloseBrace cs r) (t.sign mark.OpenBrace ∷ listed_then case_then mark.CloseBrace ds q) (λ c f. cc) (λ c f. cc) a.1 in
     let l = one_cases b cs ds r q p.1 o.1 p.2 o.2 cc in
-    (three (λ f g h. spanned (made s.variant ◂ 1 ⊛ f ⊛ g ◂ 1 ⊛ h)) a.0 k.0 l.0, l.1)
+    (three (λ f g h. with_span (without_tokens s.variant ◂ 1 ⊛ f ⊛ g ◂ 1 ⊛ h)) a.0 k.0 l.0, l.1)
 one_decl b (s.extern x at) (s.extern y bt) r q p o h i e =
     let a = one_head b x y (t.sign mark.Semicolon ∷ r) (t.sign mark.Semicolon ∷ q) p o (λ c f. cc) (λ c f. cc) cc in
-    (ap (λ f. spanned (made s.extern ◂ 1 ⊛ f ◂ 1)) a.0, cc)
+    (ap (λ f. with_span (without_tokens s.extern ◂ 1 ⊛ f ◂ 1)) a.0, cc)
 one_decl b (s.function x (s.braced v ct) at) (s.function y (s.braced u dt) bt) r q p o h i e =
     let a = one_head b x y (block_then (s.braced v ct) r) (block_then (s.braced u dt) q) p.0 o.0 (λ c f. cc) (λ c f. cc) e in
     let k = one_block b b.depth (s.braced v ct) (s.braced u dt) r q p.1 o.1 a.1 in
-    (two (λ f g. spanned (made s.function ⊛ f ⊛ g)) a.0 k.0, k.1)
+    (two (λ f g. with_span (without_tokens s.function ⊛ f ⊛ g)) a.0 k.0, k.1)
 one_decl b x y r q p o h i e = let same : index_decl x ≡ index_decl y = sym (decl_class x r) ∙ ap class_decl e ∙ decl_class y q in absurd cc
 
 no_decl : (x : Decl) (r : List Token) → [] ≡ decl_then x r → ⊥
@@ -270,11 +270,11 @@ one_decls b [] (y ∷ ys) p o e = absurd (no_decl y _ e)
 one_decls b (x ∷ xs) [] p o e = absurd (no_decl x _ (sym e))
 one_decls b (x ∷ xs) (y ∷ ys) p o e =
     let a = one_decl b x y (each_then decl_then xs []) (each_then decl_then ys []) p.0 o.0 tt tt e in
-    two (λ f g. made cons ⊛ f ⊛ g) a.0 (one_decls b xs ys p.1 o.1 a.1)
+    two (λ f g. without_tokens cons ⊛ f ⊛ g) a.0 (one_decls b xs ys p.1 o.1 a.1)
 
 -- two trees of the same tokens have the same parts at the same places
 pub one_tree : (b : Bounds) (x y : Tree) → IsTree b x → IsTree b y → spelling x ≡ spelling y → tree_at x ≡ tree_at y
-one_tree b x y p o e = ap (λ f. made (λ decls. let z : Tree = record { decls = decls } in z) ⊛ f) (one_decls b x.decls y.decls p.0 o.0 e)
+one_tree b x y p o e = ap (λ f. without_tokens (λ decls. let z : Tree = record { decls = decls } in z) ⊛ f) (one_decls b x.decls y.decls p.0 o.0 e)
 
 -- a text has one tree
 pub one_placed_tree : (ls : List Lexeme) (t u : Tree) → IsPlacedTreeOf ls t → IsPlacedTreeOf ls u → t ≡ u

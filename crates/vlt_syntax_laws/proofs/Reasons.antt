@@ -5,7 +5,7 @@ use Rattle.vlt_lexer.specs.Reading.{Lexeme}
 use Rattle.vlt_syntax.specs.Tokens.{token_from, tokens_in}
 use Rattle.vlt_syntax.specs.Grammar.{language}
 use Rattle.vlt_syntax.specs.Refusals.{unexpected_at, over_limit, ended}
-use Rattle.vlt_automaton.specs.Automaton.{Symbol, Next, to, unexpected, over, step, may_end, Verdict, gone_on, run_over, located_of}
+use Rattle.vlt_automaton.specs.Automaton.{Symbol, Next, to, unexpected, over, step, may_end, Verdict, go_on_with, run_over, located_of}
 use Rattle.vlt_syntax_laws.proofs.After.{after, onward}
 
 -- the automaton has taken the tokens before one of this number, and has this stack there
@@ -67,7 +67,7 @@ reason [] s = by (may_end s) refl where
   by true e = record { stack = s; all = refl; ends = e }
   by false e = record { stack = s; all = refl; ends = e }
 reason (l ∷ ls) s = by (λ z. reason ls z) (step language s (token_from l.kind l.text)) refl where
-  by : ((z : List Symbol) → IsReason ls z (run_over language (map located_of ls) z)) → (m : Next) → step language s (token_from l.kind l.text) ≡ m → IsReason (l ∷ ls) s (gone_on (run_over language (map located_of ls)) l.from m)
+  by : ((z : List Symbol) → IsReason ls z (run_over language (map located_of ls) z)) → (m : Next) → step language s (token_from l.kind l.text) ≡ m → IsReason (l ∷ ls) s (go_on_with (run_over language (map located_of ls)) l.from m)
   by more (to z) e = shifted l ls s z (run_over language (map located_of ls) z) e (more z)
   by more unexpected e = (first_one l ls s unexpected e, refl)
   by more (over n) e = first_one l ls s (over n) e

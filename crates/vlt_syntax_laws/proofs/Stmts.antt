@@ -11,7 +11,7 @@ use Rattle.vlt_syntax.specs.Tree.{Name, Named, Ty, Expr, Init, Right, Returned, 
 use Rattle.vlt_syntax.specs.Lists.{Each, further_then, listed_then, enclosed_then}
 use Rattle.vlt_syntax.specs.Spelling.{operator_of, name_then, expr_then, ty_then, right_then, init_then, sign_of, returned_then, stmt_then, block_then, else_then, stmts_then, arms_then}
 use Rattle.vlt_syntax.specs.Grammar.{IsExpr, IsInit, IsTy, IsRight, IsReturned, IsStmt, IsBlock, IsIf, IsElse, AreStmts, AreArms, IsSomeArm, Bounds, level}
-use Rattle.vlt_automaton.specs.Automaton.{Symbol, an_expr, an_init, a_name, thing, further, listed, enclosed, sign, name, named, right, returned, block, stmts, otherwise, arm, arms, behind_stmt_name, behind_if, keyword, enter, take, Reaction, refuse, followed, settled, operand, level_from, right_of, lowest, climb_by, whole_expr, end_expr, step_behind}
+use Rattle.vlt_automaton.specs.Automaton.{Symbol, an_expr, an_init, a_name, thing, further, listed, enclosed, sign, name, named, right, returned, block, stmts, otherwise, arm, arms, behind_stmt_name, behind_if, keyword, enter, take, Reaction, refuse, with_behind, next_after, operand, level_from, right_of, lowest, climb_by, whole_expr, end_expr, step_behind}
 use Rattle.vlt_syntax_laws.proofs.After.{after, onward}
 use Rattle.vlt_syntax_laws.proofs.Takes.{Takes, take_some, take_names, take_named, keys_there, take_states}
 use Rattle.vlt_syntax_laws.proofs.Exprs.{one_deep, take_expr, begins, as_listed, IsStart}
@@ -202,15 +202,15 @@ as_right extra (t.name n) [] s h i = absurd cc
 as_right extra (t.name n) (t.sign mark.OpenParen ∷ ts) s h i = absurd cc
 as_right extra (t.name n) (t.sign mark.Dot ∷ ts) s h i = refl
 as_right extra (t.name n) (t.sign k ∷ ts) s h i = by_operator (operator_of k) where
-  by_operator : (o : Option Op) → onward (after (wider extra) ts) (settled (followed (climb_by o 1 (whole_expr (wider extra))) (end_expr ∷ [])) s (λ u. step_behind (wider extra) 0 s (t.sign k)))
-      ≡ onward (after (wider extra) ts) (settled (climb_by o 1 (whole_expr (wider extra))) (end_expr ∷ s) (λ u. step_behind (wider extra) 1 (end_expr ∷ s) (t.sign k)))
+  by_operator : (o : Option Op) → onward (after (wider extra) ts) (next_after (with_behind (climb_by o 1 (whole_expr (wider extra))) (end_expr ∷ [])) s (λ u. step_behind (wider extra) 0 s (t.sign k)))
+      ≡ onward (after (wider extra) ts) (next_after (climb_by o 1 (whole_expr (wider extra))) (end_expr ∷ s) (λ u. step_behind (wider extra) 1 (end_expr ∷ s) (t.sign k)))
   by_operator None = refl
   by_operator (Some o) = rw (one_deep extra) (by_level (nat_lt (level o) lowest)) where
     pushed : Reaction
     pushed = take (operand ((wider extra).depth - 1) (level_from (suc (level o)) ((wider extra).depth - 1) ∷ right_of lowest (wider extra).depth 1 ∷ []) ∷ [])
 
-    by_level : (low : Bool) → onward (after (wider extra) ts) (settled (followed (if low then refuse else pushed) (end_expr ∷ [])) s (λ u. step_behind (wider extra) 0 s (t.sign k)))
-        ≡ onward (after (wider extra) ts) (settled (if low then refuse else pushed) (end_expr ∷ s) (λ u. step_behind (wider extra) 1 (end_expr ∷ s) (t.sign k)))
+    by_level : (low : Bool) → onward (after (wider extra) ts) (next_after (with_behind (if low then refuse else pushed) (end_expr ∷ [])) s (λ u. step_behind (wider extra) 0 s (t.sign k)))
+        ≡ onward (after (wider extra) ts) (next_after (if low then refuse else pushed) (end_expr ∷ s) (λ u. step_behind (wider extra) 1 (end_expr ∷ s) (t.sign k)))
     by_level true = refl
     by_level false = refl
 as_right extra (t.name n) (t.name k ∷ ts) s h i = refl

@@ -11,7 +11,7 @@ use Rattle.vlt_syntax.specs.Tree.{Name, States, Named, Ty}
 use Rattle.vlt_syntax.specs.Lists.{further_then, listed_then, enclosed_then, Each, IsFilled}
 use Rattle.vlt_syntax.specs.Spelling.{name_then, states_then, named_then, ty_then}
 use Rattle.vlt_syntax.specs.Grammar.{IsTy, IsStates}
-use Rattle.vlt_automaton.specs.Automaton.{Reaction, take, skip, refuse, exceed, followed, settled, Next, to, Thing, a_name, a_ty, Symbol, thing, further, enclosed, states, named, behind_type_name, name}
+use Rattle.vlt_automaton.specs.Automaton.{Reaction, take, skip, refuse, exceed, with_behind, next_after, Next, to, Thing, a_name, a_ty, Symbol, thing, further, enclosed, states, named, behind_type_name, name}
 use Rattle.vlt_syntax_laws.proofs.After.{after}
 use Rattle.vlt_syntax.specs.Grammar.{Bounds}
 use Rattle.vlt_syntax_laws.proofs.Wider.{wider}
@@ -35,7 +35,7 @@ pub kept : (b : Bool) (x y : Reaction) → IsNoSkip x → IsNoSkip y → IsNoSki
 kept true x y p q = p
 kept false x y p q = q
 
-pub followed_settled : (r : Reaction) (ys s : List Symbol) (below other : Unit {0} → Next) → IsNoSkip r → settled (followed r ys) s below ≡ settled r (ys ++ s) other
+pub followed_settled : (r : Reaction) (ys s : List Symbol) (below other : Unit {0} → Next) → IsNoSkip r → next_after (with_behind r ys) s below ≡ next_after r (ys ++ s) other
 followed_settled (take xs) ys s below other h = ap to (append_assoc xs ys s)
 followed_settled skip ys s below other h = absurd h
 followed_settled refuse ys s below other h = refl

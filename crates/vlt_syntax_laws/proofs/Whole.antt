@@ -11,7 +11,7 @@ use Rattle.vlt_syntax.specs.Tree as s
 use Rattle.vlt_syntax.specs.Tree.{Name, States, KeyStates, Named, Ty, Expr, HeaderKey, Case, Parameter, Entry, Init, ResultType, Stmt, Decl, Head, Block}
 use Rattle.vlt_syntax.specs.Lists.{Each, further_then}
 use Rattle.vlt_syntax.specs.Spelling.{name_then}
-use Rattle.vlt_automaton.specs.Automaton.{Left, Thing, a_name, a_param, a_ty, a_key, a_case, a_parameter, an_entry, an_expr, an_init, a_result_type, a_simple, a_stmt, a_decl, Symbol, tick, sign, keyword, thing, further, listed, enclosed, marked_name, states, at_states, named, behind_tracked, behind_type_name, operand, operations, behind_name, close_group, end_expr, owner, right, behind_right_name, returned, block, stmts, behind_stmt_name, otherwise, behind_else, arm, arms, entry_states, arrow_states, clause, head, fields, behind_fields, decls, Reaction, take, skip, refuse, exceed, followed, start_thing, less, one_more, reaction, react_further, depth_read, whole_depth}
+use Rattle.vlt_automaton.specs.Automaton.{Left, Thing, a_name, a_param, a_ty, a_key, a_case, a_parameter, an_entry, an_expr, an_init, a_result_type, a_simple, a_stmt, a_decl, Symbol, tick, sign, keyword, thing, further, listed, enclosed, marked_name, states, at_states, named, behind_tracked, behind_type_name, operand, operations, behind_name, close_group, end_expr, owner, right, behind_right_name, returned, block, stmts, behind_stmt_name, otherwise, behind_else, arm, arms, entry_states, arrow_states, clause, head, fields, behind_fields, decls, Reaction, take, skip, refuse, exceed, with_behind, start_thing, less, one_more, reaction, react_further, depth_read, whole_depth}
 use Rattle.vlt_syntax_laws.proofs.Back.{Rest, Part, Spells, Spelled, SpelledBehind, Completed, Filled, ThingType, IsThing, spell_of, RoomFor, ended, operations_end}
 use Rattle.vlt_syntax_laws.proofs.Choices.{by_sign}
 use Rattle.vlt_syntax.specs.Grammar.{Bounds}
@@ -88,7 +88,7 @@ Then extra P ys K x c skip = Unit {0}
 Then extra P ys K x c refuse = Unit {0}
 Then extra P ys K x c (exceed n) = Unit {0}
 
-pub followed_back : (extra : Bounds) (k : Thing) (x : Token) (c : List Token) (ys : List Symbol) (K : Rest) (r : Reaction) → Backs extra 0 (thing k) (λ n q. Spells extra n ys K q) x c r → Then extra (λ L ts. Part extra 0 (thing k) L ts) ys K x c (followed r ys)
+pub followed_back : (extra : Bounds) (k : Thing) (x : Token) (c : List Token) (ys : List Symbol) (K : Rest) (r : Reaction) → Backs extra 0 (thing k) (λ n q. Spells extra n ys K q) x c r → Then extra (λ L ts. Part extra 0 (thing k) L ts) ys K x c (with_behind r ys)
 followed_back extra k x c ys K (take xs) b = λ h. b (parted extra 0 xs ys K c h)
 followed_back extra k x c ys K skip b = tt
 followed_back extra k x c ys K refuse b = tt
@@ -147,7 +147,7 @@ listed_back extra k m left d K c x b kept =
     by_sign (λ x r. Backs extra 0 (thing k) (λ n q. Spells extra n (further k m (less left) ∷ []) K q) x c (start_thing (wider extra) k x) → NoSkip (start_thing (wider extra) k x) → Backs extra d (listed k m left) K x c r) m x _ _
     (λ b kept h r. ([], c, (tt, no_room left), refl, h))
     (λ b kept. rest_of (start_thing (wider extra) k x) b kept) b kept where
-      rest_of : (z : Reaction) → Backs extra 0 (thing k) (λ n q. Spells extra n (further k m (less left) ∷ []) K q) x c z → NoSkip z → Backs extra d (listed k m left) K x c (followed z (further k m (less left) ∷ []))
+      rest_of : (z : Reaction) → Backs extra 0 (thing k) (λ n q. Spells extra n (further k m (less left) ∷ []) K q) x c z → NoSkip z → Backs extra d (listed k m left) K x c (with_behind z (further k m (less left) ∷ []))
       rest_of (take xs) b kept = λ h r.
           let q = first_of_list extra k m left K (x ∷ c) r (b (parted extra 0 xs (further k m (less left) ∷ []) K c h)) in
           (q.0 ∷ q.1, q.2, (q.3, q.4), q.5, q.6)

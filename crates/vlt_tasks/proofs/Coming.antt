@@ -18,7 +18,7 @@ use Rattle.vlt_steps.proofs.Writing as writing
 use Rattle.vlt_hosts.proofs.Writing.{silent}
 use Rattle.vlt_steps.specs.declared.stop.Stop.TheVariants.{Trap, SinkFault}
 use Rattle.vlt_tasks.specs.declared.task.Run.{Run}
-use Rattle.vlt_tasks.specs.Halting.{halted}
+use Rattle.vlt_tasks.specs.Halting.{stop_of_result}
 use Rattle.vlt_tasks.specs.Shown.{ShowsConf}
 use Rattle.vlt_tasks.specs.Moves.{GoneOn, CameTo}
 use Rattle.vlt_tasks.proofs.Staying.{IsSameRun, ShowsThen, stays_left}
@@ -65,7 +65,7 @@ module _ (old new : Run) (f : Func) (ts : List m.Task) (frame : Frame) (w : Worl
   }
 
   -- what the host's part comes to
-  pub spoken_came : (r : Result (Unit {0}) Stop) (a : Step) → w.fuel ≡ new.fuel → IsAt frame.depth a → Comes q.items new.heap new.values new.host before after r w a → CameTo w before after (halted r) new (at f ts a) a
+  pub spoken_came : (r : Result (Unit {0}) Stop) (a : Step) → w.fuel ≡ new.fuel → IsAt frame.depth a → Comes q.items new.heap new.values new.host before after r w a → CameTo w before after (stop_of_result r) new (at f ts a) a
   spoken_came (Ok u) (goes next v) fuel d c = went next v (record { tables = c.shows; depth = d; hosts = c.hosts; fuel = c.fuel ∙ fuel }) c.wrote
   spoken_came (Ok u) (ends o v) fuel d c = c
   spoken_came (Ok u) (jumps b next v) fuel d c = absurd c

@@ -6,13 +6,13 @@ use Rattle.vlt_objects.specs.declared.halt.Halt.TheVariants as object
 use Rattle.vlt_steps.specs.declared.stop.Stop.{Stop}
 use Rattle.vlt_steps.specs.declared.stop.Stop.TheVariants.{Trap, HeapEnd}
 
-abbrev pub halted : Result (Unit {0}) Stop → Option Stop
-halted (Ok u) = None
-halted (Err stop) = Some stop
+abbrev pub stop_of_result : Result (Unit {0}) Stop → Option Stop
+stop_of_result (Ok u) = None
+stop_of_result (Err stop) = Some stop
 
-abbrev pub trapped : Result (Unit {0}) TrapKind → Option Stop
-trapped (Ok u) = None
-trapped (Err t) = Some (Trap t)
+abbrev pub stop_of_trap : Result (Unit {0}) TrapKind → Option Stop
+stop_of_trap (Ok u) = None
+stop_of_trap (Err t) = Some (Trap t)
 
 abbrev pub full : Result (Unit {0}) Halt → Option Stop
 full (Ok u) = None

@@ -8,7 +8,7 @@ use Rattle.vlt_meaning.specs.World.{Frame, World, Outcome, is_fault}
 use Rattle.vlt_meaning.specs.Step.{Step, goes, jumps, leaves, ends}
 use Rattle.vlt_meaning.specs.Run.{Setup}
 use Rattle.vlt_machine.specs.Machine as m
-use Rattle.vlt_machine.specs.Machine.{Conf, at, act, enter_block, moved}
+use Rattle.vlt_machine.specs.Machine.{Conf, at, act, enter_block, after_move}
 use Rattle.vlt_machine.specs.Bounds.{tall_of}
 use Rattle.vlt_heap.specs.Shown.{IsSound, IsSameSize, heap_of, slots_of}
 use Rattle.vlt_steps.specs.Writing.{Outside}
@@ -127,10 +127,10 @@ pub record IsRightTask (t : Task) (r : Run) : Type 0 where
   pub setup : Setup
   pub conf : Conf
   pub shown : ShowsWith (t ∷ tasks_left r) r conf
-  pub right : IsRight (moved setup conf).step
+  pub right : IsRight (after_move setup conf).step
 
 -- the task is done, from whatever configuration the run showed with it in front
 pub record DoesTask (t : Task) (s : Setup) (old new : Run) (before after : Outside) (result : Option Stop) : Type 0 where
   pub keeps : Keeps old new
   pub comes : (c : Conf) → ShowsWith (t ∷ tasks_left old) old c →
-      CameTo (world_in c.step) before after result new (moved s c) (moved s c).step
+      CameTo (world_in c.step) before after result new (after_move s c) (after_move s c).step

@@ -1,7 +1,7 @@
 //! The stops of statements.
 
 ghost use Rattle.std.specs.Prelude.{◌≡◌};
-ghost use Rattle.vlt_tasks.specs.Halting.{trapped, full, halted};
+ghost use Rattle.vlt_tasks.specs.Halting.{stop_of_trap, full, stop_of_result};
 
 use vlt_objects::Halt;
 use vlt_ops::TrapKind;
@@ -9,7 +9,7 @@ use vlt_steps::Stop;
 
 /// What a statement that may trap comes to.
 pub fn or_trap(done: Result<(), TrapKind>) -> Option<Stop>
-    ensures { result ≡ trapped done }
+    ensures { result ≡ stop_of_trap done }
 {
     match done {
         Ok(()) => None,
@@ -30,7 +30,7 @@ pub fn or_full(done: Result<(), Halt>) -> Option<Stop>
 
 /// What a statement that speaks with the host comes to.
 pub fn or_halt(done: Result<(), Stop>) -> Option<Stop>
-    ensures { result ≡ halted done }
+    ensures { result ≡ stop_of_result done }
 {
     match done {
         Ok(()) => None,

@@ -14,12 +14,12 @@ use Rattle.vlt_meaning.specs.World.{Part, reference, Value, one, of_case, Object
 use Rattle.vlt_meaning.specs.Found.{Found, ◌>>=◌, or_fault, Named}
 use Rattle.vlt_meaning.specs.Values.{touchable, value_of}
 use Rattle.vlt_values.specs.declared.values.Values.{Values}
-use Rattle.vlt_values.specs.Parts.{padded, head_of, IsObject, IsOwned, HasPart, HasPartAt, HaveParts}
+use Rattle.vlt_values.specs.Parts.{padded_parts, head_of, IsObject, IsOwned, HasPart, HasPartAt, HaveParts}
 use Rattle.vlt_values.specs.Shown.{ShowsObject, ShowsIt, ShowObjects, var_at, Seen, IsFront}
 use Rattle.vlt_values.proofs.Touching.{OrFault, Touched, touched, touch_fault}
 
 -- the first part of a value
-pub front_part : (items : Items) (slots : List Slot) (k n : ℕ) (w : Value) → HaveParts items slots k (padded n w) → HasPartAt items slots k (head_of w)
+pub front_part : (items : Items) (slots : List Slot) (k n : ℕ) (w : Value) → HaveParts items slots k (padded_parts n w) → HasPartAt items slots k (head_of w)
 front_part items slots k n (one a) parts = parts.0
 front_part items slots k n (of_case c ps keys) parts = parts.0
 

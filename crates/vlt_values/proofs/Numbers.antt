@@ -9,7 +9,7 @@ use Rattle.vlt_heap.specs.declared.slots.Slot.TheVariants.{Number}
 use Rattle.vlt_heap.specs.Items.{Items}
 use Rattle.vlt_meaning.specs.World.{Value, one, number, reference, owned, of_case, Object, Frame, Outcome, trap, fault, done, fuel_end, heap_end, depth_end, input_end, answers_end, bad_answer, is_fault}
 use Rattle.vlt_meaning.specs.Found.{Found, ◌>>=◌}
-use Rattle.vlt_meaning.specs.Values.{number_in, or_trap, joined, value_of, number_of}
+use Rattle.vlt_meaning.specs.Values.{number_in, or_trap, value_of_both, value_of, number_of}
 use Rattle.vlt_meaning_laws.proofs.Keeping.{err-ok}
 use Rattle.vlt_values.specs.declared.exprs.Sides.{Sides}
 use Rattle.vlt_values.specs.Shown.{IsNumber, IsFront}
@@ -150,7 +150,7 @@ module _ (p : Program) (f : Func) (frame : Frame) (objects : List Object) (op : 
 
   module _ (d : Expr) where
     abbrev right : ℤ → Found Value
-    right k = joined op k (value_of p f d frame objects)
+    right k = value_of_both op k (value_of p f d frame objects)
 
     pub binary_trap : (t : TrapKind) → r ≡ Err t → IsNumber (Err t) (number_of p f (binary op e d) frame objects)
     binary_trap t is = by (trap_is r (number_of p f e frame objects) t first is)

@@ -6,10 +6,10 @@ use Rattle.vlt_heap.specs.declared.slots.Slot.{Slot}
 use Rattle.vlt_heap.specs.declared.slots.Slot.TheVariants.{Number}
 use Rattle.vlt_heap.specs.Items.{Items}
 use Rattle.vlt_meaning.specs.World.{Part, number, Value, one}
-use Rattle.vlt_values.specs.Parts.{flat, padded, HasPart, HaveParts, HaveValue}
+use Rattle.vlt_values.specs.Parts.{flat, padded_parts, HasPart, HaveParts, HaveValue}
 use Rattle.vlt_values.specs.Filled.{IsFilled, IsSingleSlot}
 
-pub length_padded : (w : ℕ) (a : Value) → length (flat a) ≤ w → length (padded w a) ≡ w
+pub length_padded : (w : ℕ) (a : Value) → length (flat a) ≤ w → length (padded_parts w a) ≡ w
 length_padded w a l =
     let e = length-append (flat a) (replicate (w - length (flat a)) (number (pos 0))) in
     let r = length-replicate (w - length (flat a)) (number (pos 0)) in

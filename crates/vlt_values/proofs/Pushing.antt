@@ -11,13 +11,13 @@ use Rattle.vlt_heap.specs.declared.heap.Heap.{Heap}
 use Rattle.vlt_heap.specs.Items.{Item, Items}
 use Rattle.vlt_meaning.specs.World.{Part, Value, one, owned, reference, Owner, loose, Object, is_gone, is_out, above, World, Frame, trap, fault, done, fuel_end, heap_end, depth_end, input_end, answers_end, bad_answer, no_value}
 use Rattle.vlt_meaning.specs.Found.{Found, or_fault, Named}
-use Rattle.vlt_meaning.specs.Objects.{with_owner, changed, changed_in}
+use Rattle.vlt_meaning.specs.Objects.{with_owner, with_changed_object, changed_in}
 use Rattle.vlt_meaning.specs.Values.{value_of, object_of}
 use Rattle.vlt_meaning.specs.Step.{with_var, with_changed}
 use Rattle.vlt_meaning_laws.proofs.Keeping.{change_here, change_elsewhere}
 use Rattle.vlt_machine.specs.Got.{Got, got, stopped, then_got, found_in, operand_got, operands_got}
 use Rattle.vlt_values.specs.declared.values.Values.{Values}
-use Rattle.vlt_values.specs.Parts.{padded, IsOwned, HasPartAt, HaveParts, HaveValue}
+use Rattle.vlt_values.specs.Parts.{padded_parts, IsOwned, HasPartAt, HaveParts, HaveValue}
 use Rattle.vlt_values.specs.Filled.{IsFilled, IsSingleSlot}
 use Rattle.vlt_values.specs.Shown.{ShowsIt, ShowObjects, var_at, key_at, ShowsFrame, Seen, IsKept, IsGrown, IsCopied, IsWritten}
 use Rattle.vlt_values.specs.Pushed.{HaveValues, Shows, HasPushed, IsPushed, ArePushed}
@@ -34,7 +34,7 @@ parts_grown items old new k [] g h = tt
 parts_grown items old new k (p ∷ ps) g h = (part_grown items old new k p g h.0, parts_grown items old new (suc k) ps g h.1)
 
 pub value_grown : (items : Items) (old new : Values) (k w : ℕ) (a : Value) → IsGrown old new → HaveValue items old.slots.items k w a → HaveValue items new.slots.items k w a
-value_grown items old new k w a g h = record { narrow = h.narrow; parts = parts_grown items old new k (padded w a) g h.parts }
+value_grown items old new k w a g h = record { narrow = h.narrow; parts = parts_grown items old new k (padded_parts w a) g h.parts }
 
 pub values_grown : (items : Items) (old new : Values) (k w : ℕ) (xs : List Value) → IsGrown old new → HaveValues items old.slots.items k w xs → HaveValues items new.slots.items k w xs
 values_grown items old new k w [] g h = tt
@@ -132,21 +132,21 @@ move_pushed h old new g c w same v to is copied = by (c.frame.vars v) copied
 -- ---- objects that get another owner
 
 pub owner_shown : (items : Items) (width n : ℕ) (objects : List Object) (o : Object) (owner : Owner) → ShowObjects items width objects → slice_get objects n ≡ Some o → is_gone owner ≡ is_gone o.owner → above owner ≡ above o.owner → is_out owner ≡ is_out o.owner
-    → ShowObjects items width (changed n (with_owner owner) objects)
+    → ShowObjects items width (with_changed_object n (with_owner owner) objects)
 owner_shown items width n objects o owner h at gone up out = record {
   long = h.long ∙ sym (length_changed objects);
   each = λ m x q at_x at_q. by m x q at_x at_q (equal_or_not m n);
 }
   where
-    length_changed : (os : List Object) → length (changed n (with_owner owner) os) ≡ length os
+    length_changed : (os : List Object) → length (with_changed_object n (with_owner owner) os) ≡ length os
     length_changed os = of_one (slice_get os n)
       where
         of_one : (x : Option Object) → length (changed_in n (with_owner owner) os x) ≡ length os
         of_one None = refl
         of_one (Some q) = length-set os n (with_owner owner q)
 
-    by : (m : ℕ) (x : Option Item) (q : Object) → slice_get items m ≡ Some x → slice_get (changed n (with_owner owner) objects) m ≡ Some q → (m ≡ n) ⊎ (m ≢ n) → ShowsIt items width x q
-    by m x q at_x at_q (inl e) = subst (ShowsIt items width x) (same_Some (with_owner owner o) q (sym (change_here objects n o (with_owner owner) at) ∙ ap (slice_get (changed n (with_owner owner) objects)) (sym e) ∙ at_q)) (same x (h.each m x o at_x (ap (slice_get objects) e ∙ at)))
+    by : (m : ℕ) (x : Option Item) (q : Object) → slice_get items m ≡ Some x → slice_get (with_changed_object n (with_owner owner) objects) m ≡ Some q → (m ≡ n) ⊎ (m ≢ n) → ShowsIt items width x q
+    by m x q at_x at_q (inl e) = subst (ShowsIt items width x) (same_Some (with_owner owner o) q (sym (change_here objects n o (with_owner owner) at) ∙ ap (slice_get (with_changed_object n (with_owner owner) objects)) (sym e) ∙ at_q)) (same x (h.each m x o at_x (ap (slice_get objects) e ∙ at)))
       where
         same : (x : Option Item) → ShowsIt items width x o → ShowsIt items width x (with_owner owner o)
         same None s = gone ∙ s

@@ -14,11 +14,11 @@ use Rattle.vlt_heap.specs.declared.heap.Heap.{Heap}
 use Rattle.vlt_heap.specs.Items.{Items, IsMadeAt}
 use Rattle.vlt_meaning.specs.World.{Part, Value, one, number, reference, owned, of_case, Object as Thing, Frame, Outcome, trap, fault, done, fuel_end, heap_end, depth_end, input_end, answers_end, bad_answer, is_fault, missing, no_value}
 use Rattle.vlt_meaning.specs.Found.{Found, ◌>>=◌, or_fault, Named}
-use Rattle.vlt_meaning.specs.Values.{number_in, or_trap, value_of, number_of, touchable, joined}
+use Rattle.vlt_meaning.specs.Values.{number_in, or_trap, value_of, number_of, touchable, value_of_both}
 use Rattle.vlt_meaning_laws.proofs.Keeping.{err-ok}
 use Rattle.vlt_values.specs.declared.exprs.Sides.{Sides}
 use Rattle.vlt_values.specs.declared.values.Values.{Values}
-use Rattle.vlt_values.specs.Parts.{padded, HaveParts, HaveValue}
+use Rattle.vlt_values.specs.Parts.{padded_parts, HaveParts, HaveValue}
 use Rattle.vlt_values.specs.Filled.{IsFilled, IsCellSlot, IsSingleSlot}
 use Rattle.vlt_values.specs.Asked.{of_both, given_by, IsAsked}
 use Rattle.vlt_values.specs.Shown.{var_at, AreApart, IsPlace, IsVarSlot, Seen, IsNumber, IsNumeric, IsCopied, IsWritten}
@@ -42,8 +42,8 @@ have_moved items slots news from to w d (p ∷ ps) l same parts =
 pub value_moved : (items : Items) (slots news : List Slot) (from to w : ℕ) (a : Value) → ((j : ℕ) (b : Slot) → j < w → slice_get slots (from + j) ≡ Some b → slice_get news (to + j) ≡ Some b) → HaveValue items slots from w a → HaveValue items news to w a
 value_moved items slots news from to w a same has = record {
   narrow = has.narrow;
-  parts = subst (λ k. HaveParts items news k (padded w a)) (omega arith)
-      (have_moved items slots news from to w 0 (padded w a) (let n = length_padded w a has.narrow in omega (arith, n)) same (subst (λ k. HaveParts items slots k (padded w a)) (omega arith) has.parts));
+  parts = subst (λ k. HaveParts items news k (padded_parts w a)) (omega arith)
+      (have_moved items slots news from to w 0 (padded_parts w a) (let n = length_padded w a has.narrow in omega (arith, n)) same (subst (λ k. HaveParts items slots k (padded_parts w a)) (omega arith) has.parts));
 }
 
 pub apart_from : (values : Values) (x to : ℕ) → x < values.vars → IsPlace values to → AreApart (var_at values x) to values.width
@@ -224,7 +224,7 @@ numeric_both op z x = numeric_then x _ (λ y. numeric_trap (applied op z y))
 
 module _ (p : Program) (f : Func) (frame : Frame) (objects : List Thing) (op : Op) (e d : Expr) (r : Result ℤ TrapKind) (first : IsNumber r (number_of p f e frame objects)) (items : Items) (values : Values) (to : ℕ) where
   abbrev right : ℤ → Found Value
-  right k = joined op k (value_of p f d frame objects)
+  right k = value_of_both op k (value_of p f d frame objects)
 
   pub written_binary : (z : ℤ) (s : Result (Unit {0}) TrapKind) (x : Sides) → r ≡ Ok z → IsAsked op z x → IsWritten items values to s (given_by x op z (value_of p f d frame objects)) → IsWritten items values to s (value_of p f (binary op e d) frame objects)
   written_binary z s x is asked given = by (number_is r (number_of p f e frame objects) z first is)

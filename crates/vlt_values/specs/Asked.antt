@@ -4,7 +4,7 @@ use Rattle.vlt_ops.specs.declared.Op.{Op}
 use Rattle.vlt_ops.specs.Operator.{applied}
 use Rattle.vlt_meaning.specs.World.{Value}
 use Rattle.vlt_meaning.specs.Found.{Found, ◌>>=◌}
-use Rattle.vlt_meaning.specs.Values.{number_in, is_number, or_trap, joined}
+use Rattle.vlt_meaning.specs.Values.{number_in, is_number, or_trap, value_of_both}
 use Rattle.vlt_values.specs.declared.exprs.Sides.{Sides}
 use Rattle.vlt_values.specs.declared.exprs.Sides.TheVariants.{Left, Right, Both}
 
@@ -20,4 +20,4 @@ given_by Right op a b = b
 given_by Both op a b = of_both op a b
 
 abbrev pub IsAsked : Op → ℤ → Sides → Type 0
-IsAsked op a x = (b : Found Value) → joined op a b ≡ given_by x op a b
+IsAsked op a x = (b : Found Value) → value_of_both op a b ≡ given_by x op a b

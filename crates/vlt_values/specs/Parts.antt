@@ -17,8 +17,8 @@ head_of (one a) = a
 head_of (of_case c parts keys) = number (pos c)
 
 -- a value in so many slots: its parts, and 0 in the rest
-abbrev pub padded : (width : ℕ) → Value → List Part
-padded width a = flat a ++ replicate (width - length (flat a)) (number (pos 0))
+abbrev pub padded_parts : (width : ℕ) → Value → List Part
+padded_parts width a = flat a ++ replicate (width - length (flat a)) (number (pos 0))
 
 -- a slot that goes to the object of this number, and doesn't own it
 pub record IsObject (items : Items) (n : ℕ) (a : Slot) : Type 0 where
@@ -50,4 +50,4 @@ HaveParts items slots k (p ∷ ps) = HasPartAt items slots k p × HaveParts item
 -- so many slots have the value, from a position on
 pub record HaveValue (items : Items) (slots : List Slot) (from width : ℕ) (a : Value) : Type 0 where
   pub narrow : length (flat a) ≤ width
-  pub parts : HaveParts items slots from (padded width a)
+  pub parts : HaveParts items slots from (padded_parts width a)

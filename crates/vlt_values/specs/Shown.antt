@@ -39,8 +39,8 @@ abbrev pub IsTable : Values → Type 0
 IsTable values = values.base + values.vars * values.width ≤ length values.slots.items
 
 -- the table with the frame that begins there, of so many variables, as the running one
-abbrev pub framed : Values → (base vars : ℕ) → Values
-framed values b n = record values { base = b; vars = n }
+abbrev pub with_frame : Values → (base vars : ℕ) → Values
+with_frame values b n = record values { base = b; vars = n }
 
 -- the position of a variable's first slot, and of a key's
 abbrev pub var_at : Values → (v : ℕ) → ℕ

@@ -79,7 +79,7 @@ fn single(front: Slot, j: u32) -> Slot
 }
 
 impl Values {
-    ghost use Rattle.vlt_values.specs.Shown.{IsTable, var_at, key_at, AreApart, IsKept, IsSlotSet, IsKeySet, IsGrown, IsCut, IsRowSet, IsVarSlot, IsSlotFrom, IsFrontOf, framed};
+    ghost use Rattle.vlt_values.specs.Shown.{IsTable, var_at, key_at, AreApart, IsKept, IsSlotSet, IsKeySet, IsGrown, IsCut, IsRowSet, IsVarSlot, IsSlotFrom, IsFrontOf, with_frame};
 
     /// No frame, and room for so many slots, where each value takes `width`.
     pub fn open(alloc: Global, room: usize, width: u32) -> Result<Values, Memory>
@@ -312,7 +312,7 @@ impl Values {
 
     /// Makes the frame that begins there the running one.
     pub fn run(&mut self, base: usize, vars: u32)
-        ensures { self.new ≡ framed self.old base vars }
+        ensures { self.new ≡ with_frame self.old base vars }
     {
         self.base = base;
         self.vars = vars;

@@ -1,7 +1,7 @@
 -- A part of each kind, from its own parts.
 use Rattle.std.proofs.Common.{◌≡◌, ◌+◌, ℕ, Bool, true, false, List, [], map, length, refl, sym, subst, inl, inr, ⊎_elim, arith}
 use Rattle.vlt_core.specs.Core.{Tok}
-use Rattle.vlt_core.specs.Maps.{Row, gone}
+use Rattle.vlt_core.specs.Maps.{Row, away_row}
 use Rattle.vlt_core.specs.Flow.{step, choose, scope, focus, return, jump, Block, block, Stmts, end_of}
 use Rattle.vlt_core.specs.Found.{One, Exit, to_next, to_break, to_continue}
 use Rattle.vlt_core.specs.Faults.{Spot, join_spot, spots_block, spots_stmts}
@@ -99,19 +99,19 @@ module _ (a : Aim) (at k : ℕ) (rs : List Row) (L P : List Way) (j : Jumps) (m 
 walks_same : (T : Leg) (L : Finds One) (A B R : List Way) → B ≡ R → Walks T L (On A) (On B) → Walks T L (On A) (On R)
 walks_same T L A B R e x = subst (λ l. Walks T L (On A) (On l)) e x
 
-pub searched_jump : (c : Bool) (a : Aim) (at k : ℕ) (left : List Tok) (L P : List Way) (j j' : Jumps) (m m' : List Seen) (r : Went) → Walks (Passes (aim_tok a) (map gone left)) (On L) nothing_found (On P) → Sees (RowsHere a at (map gone left)) (On L) (OnSeen m) (OnSeen m') → IsLanded c P j j' → r.next ≡ [] → r.number ≡ k + length left → SearchedForm a at k (jump c left) L j j' m m' r
+pub searched_jump : (c : Bool) (a : Aim) (at k : ℕ) (left : List Tok) (L P : List Way) (j j' : Jumps) (m m' : List Seen) (r : Went) → Walks (Passes (aim_tok a) (map away_row left)) (On L) nothing_found (On P) → Sees (RowsHere a at (map away_row left)) (On L) (OnSeen m) (OnSeen m') → IsLanded c P j j' → r.next ≡ [] → r.number ≡ k + length left → SearchedForm a at k (jump c left) L j j' m m' r
 searched_jump true a at k left L P j j' m m' r x y l e n = let t = aim_tok a in record {
   next = walks_empty (λ o cs q ds. Through t at (jump true left) o cs to_next q ds) (On L) r.next e (λ o cs q ds z. z.0);
   breaks = walks_same (λ o cs q ds. Through t at (jump true left) o cs to_break q ds) (On L) j.breaks j.breaks j'.breaks (sym l.0) (walks_none (λ o cs q ds. Through t at (jump true left) o cs to_break q ds) (On L) (On j.breaks) (λ o cs q ds z. z.0));
-  continues = walks_map (Passes t (map gone left)) (λ o cs q ds. Through t at (jump true left) o cs to_continue q ds) (On L) (On j.continues) (On j'.continues) (λ o cs q ds z. (tt, z.0, z.1)) (λ o cs q ds z. (z.1, z.2)) (walks_joined (Passes t (map gone left)) (On L) (On j.continues) (On P) (On j'.continues) x l.1);
-  met = sees_map (RowsHere a at (map gone left)) (SeenIn a at k (jump true left)) (On L) (OnSeen m) (OnSeen m') (λ e o cs z. z) (λ e o cs z. z) y;
+  continues = walks_map (Passes t (map away_row left)) (λ o cs q ds. Through t at (jump true left) o cs to_continue q ds) (On L) (On j.continues) (On j'.continues) (λ o cs q ds z. (tt, z.0, z.1)) (λ o cs q ds z. (z.1, z.2)) (walks_joined (Passes t (map away_row left)) (On L) (On j.continues) (On P) (On j'.continues) x l.1);
+  met = sees_map (RowsHere a at (map away_row left)) (SeenIn a at k (jump true left)) (On L) (OnSeen m) (OnSeen m') (λ e o cs z. z) (λ e o cs z. z) y;
   number = n;
 }
 searched_jump false a at k left L P j j' m m' r x y l e n = let t = aim_tok a in record {
   next = walks_empty (λ o cs q ds. Through t at (jump false left) o cs to_next q ds) (On L) r.next e (λ o cs q ds z. z.0);
-  breaks = walks_map (Passes t (map gone left)) (λ o cs q ds. Through t at (jump false left) o cs to_break q ds) (On L) (On j.breaks) (On j'.breaks) (λ o cs q ds z. (tt, z.0, z.1)) (λ o cs q ds z. (z.1, z.2)) (walks_joined (Passes t (map gone left)) (On L) (On j.breaks) (On P) (On j'.breaks) x l.1);
+  breaks = walks_map (Passes t (map away_row left)) (λ o cs q ds. Through t at (jump false left) o cs to_break q ds) (On L) (On j.breaks) (On j'.breaks) (λ o cs q ds z. (tt, z.0, z.1)) (λ o cs q ds z. (z.1, z.2)) (walks_joined (Passes t (map away_row left)) (On L) (On j.breaks) (On P) (On j'.breaks) x l.1);
   continues = walks_same (λ o cs q ds. Through t at (jump false left) o cs to_continue q ds) (On L) j.continues j.continues j'.continues (sym l.0) (walks_none (λ o cs q ds. Through t at (jump false left) o cs to_continue q ds) (On L) (On j.continues) (λ o cs q ds z. z.0));
-  met = sees_map (RowsHere a at (map gone left)) (SeenIn a at k (jump false left)) (On L) (OnSeen m) (OnSeen m') (λ e o cs z. z) (λ e o cs z. z) y;
+  met = sees_map (RowsHere a at (map away_row left)) (SeenIn a at k (jump false left)) (On L) (OnSeen m) (OnSeen m') (λ e o cs z. z) (λ e o cs z. z) y;
   number = n;
 }
 
@@ -158,18 +158,18 @@ module _ (a : Aim) (at k : ℕ) (rs : List Row) (u v : Block) (L P : List Way) (
 -- ---- a block, a scope, a focus
 
 module _ (a : Aim) (k : ℕ) (ss : Stmts) (bound : List Tok) (end : ℕ) (L : List Way) (j j' : Jumps) (m m1 m2 : List Seen) (w r : Went) (inside : SearchedStmts a k ss L j j' m m1 w) where
-  pub searched_block : Walks (Passes (aim_tok a) (map gone bound)) (On w.next) nothing_found (On r.next) → Sees (RowsHere a end (map gone bound)) (On w.next) (OnSeen m1) (OnSeen m2) → r.number ≡ k + spots_stmts ss + length bound → SearchedBlock a k (block ss bound end) L j j' m m2 r
+  pub searched_block : Walks (Passes (aim_tok a) (map away_row bound)) (On w.next) nothing_found (On r.next) → Sees (RowsHere a end (map away_row bound)) (On w.next) (OnSeen m1) (OnSeen m2) → r.number ≡ k + spots_stmts ss + length bound → SearchedBlock a k (block ss bound end) L j j' m m2 r
   searched_block x y n =
       let t = aim_tok a in
       let T : Leg = λ o cs q ds. ThroughStmts t ss o cs to_next q ds in
-      let B = RowsBehind a end (map gone bound) T in
+      let B = RowsBehind a end (map away_row bound) T in
       record {
-        next = walks_map (OnRows t (map gone bound) T) (λ o cs q ds. ThroughBlock t (block ss bound end) o cs to_next q ds) (On L) nothing_found (On r.next) (λ o cs q ds z. z) (λ o cs q ds z. z)
-            (walks_onto t (map gone bound) T (On L) (On w.next) (On r.next) inside.next x);
+        next = walks_map (OnRows t (map away_row bound) T) (λ o cs q ds. ThroughBlock t (block ss bound end) o cs to_next q ds) (On L) nothing_found (On r.next) (λ o cs q ds z. z) (λ o cs q ds z. z)
+            (walks_onto t (map away_row bound) T (On L) (On w.next) (On r.next) inside.next x);
         breaks = walks_map (λ o cs q ds. ThroughStmts t ss o cs to_break q ds) (λ o cs q ds. ThroughBlock t (block ss bound end) o cs to_break q ds) (On L) (On j.breaks) (On j'.breaks) (λ o cs q ds z. z) (λ o cs q ds z. z) inside.breaks;
         continues = walks_map (λ o cs q ds. ThroughStmts t ss o cs to_continue q ds) (λ o cs q ds. ThroughBlock t (block ss bound end) o cs to_continue q ds) (On L) (On j.continues) (On j'.continues) (λ o cs q ds z. z) (λ o cs q ds z. z) inside.continues;
         met = sees_map (EitherSight (SeenInStmts a k ss) B) (SeenInBlock a k (block ss bound end)) (On L) (OnSeen m) (OnSeen m2) (λ e o cs z. z) (λ e o cs z. z)
-            (sees_both (SeenInStmts a k ss) B (On L) (OnSeen m) (OnSeen m1) (OnSeen m2) inside.met (sees_rows_behind a end (map gone bound) T (On L) (On w.next) (OnSeen m1) (OnSeen m2) inside.next y));
+            (sees_both (SeenInStmts a k ss) B (On L) (OnSeen m) (OnSeen m1) (OnSeen m2) inside.met (sees_rows_behind a end (map away_row bound) T (On L) (On w.next) (OnSeen m1) (OnSeen m2) inside.next y));
         number = omega (arith, n);
       }
 

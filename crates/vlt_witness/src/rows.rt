@@ -156,7 +156,7 @@ pub fn pass(
 
 /// The rows that want tokens away.
 pub fn gone_rows(alloc: Global, toks: &[Tok]) -> Result<Items<Row>, AllocError>
-    ensures { IfOk result (λ rs. rows_view rs ≡ map maps.gone (toks_of toks.now)) }
+    ensures { IfOk result (λ rs. rows_view rs ≡ map maps.away_row (toks_of toks.now)) }
 {
     let mut rows = Items::new(alloc);
     for tok in toks {

@@ -5,5 +5,5 @@ use Rattle.c_interp.proofs.stack.receive.Goals as goal
 
 pub returns-in-Some-value-clause-comes : goal.returns-in-Some-value-clause-comes
 returns-in-Some-value-clause-comes c = λ ts w.
-    subst (λ t. IsPlain None ts c.set.new.self w (m.received c.args.n t (given_view c.args.value) (tasks_of ts) (state_of c.args.frames.now w))) (sym c.in-Some.is)
-    (subst (λ x. IsPlain None ts c.set.new.self w (m.received c.args.n (Some c.in-Some.v) (given_view x) (tasks_of ts) (state_of c.args.frames.now w))) (sym c.in-Some-value.is) (refl, sym (c.set.ensures.state w)))
+    subst (λ t. IsPlain None ts c.set.new.self w (m.after_receiving c.args.n t (given_view c.args.value) (tasks_of ts) (state_of c.args.frames.now w))) (sym c.in-Some.is)
+    (subst (λ x. IsPlain None ts c.set.new.self w (m.after_receiving c.args.n (Some c.in-Some.v) (given_view x) (tasks_of ts) (state_of c.args.frames.now w))) (sym c.in-Some-value.is) (refl, sym (c.set.ensures.state w)))

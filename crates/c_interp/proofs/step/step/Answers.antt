@@ -39,7 +39,7 @@ returns-in-Some g c =
       tasks = omega (arith, c.pop.ensures.capacity, c.put.ensures.room, came.tasks);
       slots = came.slots;
       comes = λ things w h made.
-          subst (λ l. CameTo w (record { written = g.K.Sink.written c.args.sink.now; faults = g.K.Sink.faults c.args.sink.now }) (record { written = g.K.Sink.written c.act.new.sink; faults = g.K.Sink.faults c.act.new.sink }) c.act.result c.act.new.tasks.items c.act.new.frames c.act.new.world (m.moved (setup_of c.args.rules.now) l (state_of c.args.frames.now w))) (sym (popped _ _ _ _ c.in-Some-List.ensures.items c.in-Some-List.field-0-is ∙ ap (λ l. m.list c.in-Some-List.n (stmts_of l) ∷ tasks_of c.pop.new.self.items) c.in-Some.ensures.cases.0))
+          subst (λ l. CameTo w (record { written = g.K.Sink.written c.args.sink.now; faults = g.K.Sink.faults c.args.sink.now }) (record { written = g.K.Sink.written c.act.new.sink; faults = g.K.Sink.faults c.act.new.sink }) c.act.result c.act.new.tasks.items c.act.new.frames c.act.new.world (m.move_of (setup_of c.args.rules.now) l (state_of c.args.frames.now w))) (sym (popped _ _ _ _ c.in-Some-List.ensures.items c.in-Some-List.field-0-is ∙ ap (λ l. m.list c.in-Some-List.n (stmts_of l) ∷ tasks_of c.pop.new.self.items) c.in-Some.ensures.cases.0))
           (subst (λ l. CameTo w (record { written = g.K.Sink.written c.args.sink.now; faults = g.K.Sink.faults c.args.sink.now }) (record { written = g.K.Sink.written c.act.new.sink; faults = g.K.Sink.faults c.act.new.sink }) c.act.result c.act.new.tasks.items c.act.new.frames c.act.new.world (m.act (setup_of c.args.rules.now) c.in-Some-List.n (stmt_of c.in-Some.first.now) l (state_of c.args.frames.now w))) (rest_pushed c.pop.new.self.items c.put.new.items.items c.in-Some-List.n c.stmt_count.result c.in-Some.first.now c.in-Some.rest (let k = list_number c.args.rules.now c.args.tasks.now.items _ c.args.frames.now c.args.world.now c.requires.room c.in-Some-List.n (cc.next (stmt_of c.in-Some.first.now) (stmts_of c.in-Some.rest.now)) (tasks_of c.pop.new.self.items) (popped _ _ _ _ c.in-Some-List.ensures.items c.in-Some-List.field-0-is ∙ ap (λ l. m.list c.in-Some-List.n (stmts_of l) ∷ tasks_of c.pop.new.self.items) c.in-Some.ensures.cases.0) in omega (arith, k)) c.stmt_count.ensures c.put.ensures.items) (came.comes things w h made));
     }
 
@@ -51,7 +51,7 @@ returns-in-None-split_first g c = record {
   slots = omega arith;
   comes = λ things w h made.
       let e = popped _ _ _ _ c.in-Some-List.ensures.items c.in-Some-List.field-0-is ∙ ap (λ l. m.list c.in-Some-List.n (stmts_of l) ∷ tasks_of c.pop.new.self.items) (nil_from_length _ c.in-None-split_first.ensures.cases) in
-      subst (λ l. CameTo w (record { written = g.K.Sink.written c.args.sink.now; faults = g.K.Sink.faults c.args.sink.now }) (record { written = g.K.Sink.written c.args.sink.now; faults = g.K.Sink.faults c.args.sink.now }) None c.pop.new.self.items c.args.frames.now c.args.world.now (m.moved (setup_of c.args.rules.now) l (state_of c.args.frames.now w))) (sym e)
+      subst (λ l. CameTo w (record { written = g.K.Sink.written c.args.sink.now; faults = g.K.Sink.faults c.args.sink.now }) (record { written = g.K.Sink.written c.args.sink.now; faults = g.K.Sink.faults c.args.sink.now }) None c.pop.new.self.items c.args.frames.now c.args.world.now (m.move_of (setup_of c.args.rules.now) l (state_of c.args.frames.now w))) (sym e)
       (goes_here things c.args.world.now w (record { written = g.K.Sink.written c.args.sink.now; faults = g.K.Sink.faults c.args.sink.now }) c.args.frames.now c.pop.new.self.items _ h made refl);
 }
 
@@ -64,7 +64,7 @@ returns-in-Some-Again g c =
       tasks = omega (arith, c.pop.ensures.capacity, came.tasks);
       slots = omega arith;
       comes = λ things w h made.
-          subst (λ l. CameTo w (record { written = g.K.Sink.written c.args.sink.now; faults = g.K.Sink.faults c.args.sink.now }) (record { written = g.K.Sink.written c.args.sink.now; faults = g.K.Sink.faults c.args.sink.now }) c.turn.result c.turn.new.tasks.items c.args.frames.now c.turn.new.world (m.moved (setup_of c.args.rules.now) l (state_of c.args.frames.now w))) (sym (popped _ _ _ _ c.in-Some-Again.ensures.items c.in-Some-Again.field-0-is)) (came.comes things w h made);
+          subst (λ l. CameTo w (record { written = g.K.Sink.written c.args.sink.now; faults = g.K.Sink.faults c.args.sink.now }) (record { written = g.K.Sink.written c.args.sink.now; faults = g.K.Sink.faults c.args.sink.now }) c.turn.result c.turn.new.tasks.items c.args.frames.now c.turn.new.world (m.move_of (setup_of c.args.rules.now) l (state_of c.args.frames.now w))) (sym (popped _ _ _ _ c.in-Some-Again.ensures.items c.in-Some-Again.field-0-is)) (came.comes things w h made);
     }
 
 pub returns-in-Some-Back : goal.returns-in-Some-Back
@@ -76,7 +76,7 @@ returns-in-Some-Back g c = record {
   comes = λ things w h made.
       let e : tasks_of c.args.tasks.now.items ≡ m.back (caller_of c.in-Some-Back.caller) ∷ tasks_of c.pop.new.self.items = popped _ _ _ _ c.in-Some-Back.ensures.items c.in-Some-Back.field-0-is in
       let p : tasks_of c.put-in-Some-Back.new.items.items ≡ m.back (caller_of c.in-Some-Back.caller) ∷ tasks_of c.pop.new.self.items = pushed_one _ _ _ c.put-in-Some-Back.ensures.items in
-      subst (λ l. CameTo w (record { written = g.K.Sink.written c.args.sink.now; faults = g.K.Sink.faults c.args.sink.now }) (record { written = g.K.Sink.written c.args.sink.now; faults = g.K.Sink.faults c.args.sink.now }) c.end_body.result c.end_body.new.tasks.items c.end_body.new.frames c.args.world.now (m.moved (setup_of c.args.rules.now) l (state_of c.args.frames.now w))) (sym e)
+      subst (λ l. CameTo w (record { written = g.K.Sink.written c.args.sink.now; faults = g.K.Sink.faults c.args.sink.now }) (record { written = g.K.Sink.written c.args.sink.now; faults = g.K.Sink.faults c.args.sink.now }) c.end_body.result c.end_body.new.tasks.items c.end_body.new.frames c.args.world.now (m.move_of (setup_of c.args.rules.now) l (state_of c.args.frames.now w))) (sym e)
       (plain_came w w (record { written = g.K.Sink.written c.args.sink.now; faults = g.K.Sink.faults c.args.sink.now }) (record { written = g.K.Sink.written c.args.sink.now; faults = g.K.Sink.faults c.args.sink.now }) c.end_body.new.tasks.items c.end_body.new.frames c.args.world.now things c.end_body.result _ h (c.end_body.ensures.kept.made things tt made) (silent w w (record { written = g.K.Sink.written c.args.sink.now; faults = g.K.Sink.faults c.args.sink.now }) refl)
       (subst (λ k. IsPlain c.end_body.result c.end_body.new.tasks.items c.end_body.new.frames w (m.body_end k c.in-Some-Back.caller.given None (m.back (caller_of c.in-Some-Back.caller) ∷ tasks_of c.pop.new.self.items) (state_of c.args.frames.now w))) c.requires.room.rules.count
       (subst (λ l. IsPlain c.end_body.result c.end_body.new.tasks.items c.end_body.new.frames w (m.body_end c.args.rules.now.count c.in-Some-Back.caller.given None l (state_of c.args.frames.now w))) p (c.end_body.ensures.comes w))));
@@ -91,7 +91,7 @@ returns-in-Some-Bottom g c = record {
   comes = λ things w h made.
       let e : tasks_of c.args.tasks.now.items ≡ m.bottom c.in-Some-Bottom.given ∷ tasks_of c.pop.new.self.items = popped _ _ _ _ c.in-Some-Bottom.ensures.items c.in-Some-Bottom.field-0-is in
       let p : tasks_of c.put-in-Some-Bottom.new.items.items ≡ m.bottom c.in-Some-Bottom.given ∷ tasks_of c.pop.new.self.items = pushed_one _ _ _ c.put-in-Some-Bottom.ensures.items in
-      subst (λ l. CameTo w (record { written = g.K.Sink.written c.args.sink.now; faults = g.K.Sink.faults c.args.sink.now }) (record { written = g.K.Sink.written c.args.sink.now; faults = g.K.Sink.faults c.args.sink.now }) c.end_body-in-Some-Bottom.result c.end_body-in-Some-Bottom.new.tasks.items c.end_body-in-Some-Bottom.new.frames c.args.world.now (m.moved (setup_of c.args.rules.now) l (state_of c.args.frames.now w))) (sym e)
+      subst (λ l. CameTo w (record { written = g.K.Sink.written c.args.sink.now; faults = g.K.Sink.faults c.args.sink.now }) (record { written = g.K.Sink.written c.args.sink.now; faults = g.K.Sink.faults c.args.sink.now }) c.end_body-in-Some-Bottom.result c.end_body-in-Some-Bottom.new.tasks.items c.end_body-in-Some-Bottom.new.frames c.args.world.now (m.move_of (setup_of c.args.rules.now) l (state_of c.args.frames.now w))) (sym e)
       (plain_came w w (record { written = g.K.Sink.written c.args.sink.now; faults = g.K.Sink.faults c.args.sink.now }) (record { written = g.K.Sink.written c.args.sink.now; faults = g.K.Sink.faults c.args.sink.now }) c.end_body-in-Some-Bottom.new.tasks.items c.end_body-in-Some-Bottom.new.frames c.args.world.now things c.end_body-in-Some-Bottom.result _ h (c.end_body-in-Some-Bottom.ensures.kept.made things tt made) (silent w w (record { written = g.K.Sink.written c.args.sink.now; faults = g.K.Sink.faults c.args.sink.now }) refl)
       (subst (λ k. IsPlain c.end_body-in-Some-Bottom.result c.end_body-in-Some-Bottom.new.tasks.items c.end_body-in-Some-Bottom.new.frames w (m.body_end k c.in-Some-Bottom.given None (m.bottom c.in-Some-Bottom.given ∷ tasks_of c.pop.new.self.items) (state_of c.args.frames.now w))) c.requires.room.rules.count
       (subst (λ l. IsPlain c.end_body-in-Some-Bottom.result c.end_body-in-Some-Bottom.new.tasks.items c.end_body-in-Some-Bottom.new.frames w (m.body_end c.args.rules.now.count c.in-Some-Bottom.given None l (state_of c.args.frames.now w))) p (c.end_body-in-Some-Bottom.ensures.comes w))));
@@ -112,6 +112,6 @@ returns-in-None g c =
       tasks = omega (arith, c.pop.ensures.capacity);
       slots = omega arith;
       comes = λ things w h made.
-          subst (λ l. CameTo w (record { written = g.K.Sink.written c.args.sink.now; faults = g.K.Sink.faults c.args.sink.now }) (record { written = g.K.Sink.written c.args.sink.now; faults = g.K.Sink.faults c.args.sink.now }) (Some (Stopped Done)) c.pop.new.self.items c.args.frames.now c.args.world.now (m.moved (setup_of c.args.rules.now) (tasks_of l) (state_of c.args.frames.now w))) (sym none)
+          subst (λ l. CameTo w (record { written = g.K.Sink.written c.args.sink.now; faults = g.K.Sink.faults c.args.sink.now }) (record { written = g.K.Sink.written c.args.sink.now; faults = g.K.Sink.faults c.args.sink.now }) (Some (Stopped Done)) c.pop.new.self.items c.args.frames.now c.args.world.now (m.move_of (setup_of c.args.rules.now) (tasks_of l) (state_of c.args.frames.now w))) (sym none)
           (inl (record { outcome = refl; fuel = h.fuel; wrote = silent w w (record { written = g.K.Sink.written c.args.sink.now; faults = g.K.Sink.faults c.args.sink.now }) refl }));
     }

@@ -2,7 +2,7 @@ use Rattle.std.proofs.Common.{ℕ, List, map, Option, Result, Ok, Err, ◌≡◌
 use Rattle.std.proofs.lemmas.Result.{IfOk-weaker}
 use Rattle.std.specs.Prelude.{IfOk}
 use Rattle.vlt_core.specs.Core.{Tok}
-use Rattle.vlt_core.specs.Maps.{HeldMap, gone, Row}
+use Rattle.vlt_core.specs.Maps.{HeldMap, away_row, Row}
 use Rattle.vlt_core.specs.Flow.{Block, block, Stmts, scope, focus, size, size_block, size_stmts, size_arms}
 use Rattle.vlt_rows.specs.declared.tree.FlowBlock.{out-FlowBlock}
 use Rattle.vlt_flow.specs.declared.walking.Walked.{Walked}
@@ -18,7 +18,7 @@ use Rattle.vlt_flow.proofs.Parts.{step_walked, step_none, return_walked, return_
 use Rattle.vlt_flow.proofs.Turning.{room_inside, turn_none, turn_some, turn_rows_none, turn_exit_none, turn_body_none, turn_back_none, turning_first, turning_more, turning_stops, turning_room, turned, gap_less, loop_walked, loop_turns_none, arming_first, arming_room, arming_more, arming_ends, arming_at, arming_passes, arming_rows_none, arming_way_none, listing_first, listing_room, listing_more, listing_ends, listing_at, listing_none, listing_small, arming_small}
 use Rattle.vlt_flow.proofs.walking.+walk.Goals as goal
 
-ok_block : (r : Result Walked Stop) (l : Option ℕ) (n : ℕ) (ss : Stmts) (bound : List Tok) (end : ℕ) (h : HeldMap) (x y : Marks) (o : Option Statuses) → IsWalked (stmts_part l n ss) l n (n + size_stmts ss) h x y o → IfOk r (λ w. IsLeft (map gone bound) o w.held) → IfOk r (λ w. IsWalked (block_part l n (block ss bound end)) l n (n + size_stmts ss) h x y w.held)
+ok_block : (r : Result Walked Stop) (l : Option ℕ) (n : ℕ) (ss : Stmts) (bound : List Tok) (end : ℕ) (h : HeldMap) (x y : Marks) (o : Option Statuses) → IsWalked (stmts_part l n ss) l n (n + size_stmts ss) h x y o → IfOk r (λ w. IsLeft (map away_row bound) o w.held) → IfOk r (λ w. IsWalked (block_part l n (block ss bound end)) l n (n + size_stmts ss) h x y w.held)
 ok_block (Ok w) l n ss bound end h x y o p q = block_walked l n ss bound end h x y o w.held p q
 ok_block (Err e) l n ss bound end h x y o p q = q
 

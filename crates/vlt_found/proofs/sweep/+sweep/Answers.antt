@@ -1,5 +1,5 @@
 use Rattle.std.proofs.Common.{◌≡◌, ◌<◌, ◌≤◌, ◌+◌, length, arith, refl, sym, ap, ◌∙◌, ◌∷◌, map}
-use Rattle.vlt_core.specs.Maps.{gone}
+use Rattle.vlt_core.specs.Maps.{away_row}
 use Rattle.vlt_core.specs.Flow.{size, size_block, size_stmts, size_arms, step, choose, loop, switch, focus, jump, block}
 use Rattle.vlt_core.specs.View.{tok_of}
 use Rattle.vlt_core.specs.HeldView.{toks_of}

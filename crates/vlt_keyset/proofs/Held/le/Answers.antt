@@ -1,5 +1,5 @@
 use Rattle.vlt_keyset.proofs.Joining.{below_both, below_not}
-use Rattle.vlt_keyset.proofs.held.Held.le.Goals as goal
+use Rattle.vlt_keyset.proofs.Held.le.Goals as goal
 
 pub returns-then-all_below : goal.returns-then-all_below
 returns-then-all_below c =

@@ -1,6 +1,6 @@
 use Rattle.vlt_lexer.specs.Text.{lexemes}
 use Rattle.vlt_lexer.proofs.OneAnswer.{one_list, all_tokens, all_refusals, all_slices}
-use Rattle.vlt_lexer.proofs.lexer.lex.Goals as goal
+use Rattle.vlt_lexer.proofs.lex.Goals as goal
 
 pub returns-clause-all_tokens : goal.returns-clause-all_tokens
 returns-clause-all_tokens c = λ ls is few. all_tokens (λ found. lexemes found.items) c.args.text.now c.read.result c.read.ensures.tokens c.read.ensures.refused ls is few

@@ -4,11 +4,11 @@ use Rattle.std.proofs.lemmas.Grind.{common_steps}
 use Rattle.vlt_base.specs.Limits.{limit_of}
 use Rattle.vlt_lexer.specs.Reading.{Lexeme, IsGap, IsToken, IsStuck, Reads, nothing, token}
 use Rattle.vlt_lexer.specs.Text.{lexeme, lexemes, IsRefused}
-use Rattle.vlt_lexer.specs.Places.{placed}
+use Rattle.vlt_lexer.specs.Places.{error_at}
 use Rattle.vlt_lexer.proofs.Bytes.{width_chars}
 use Rattle.vlt_lexer.proofs.Found.{Stands}
 use Rattle.vlt_lexer.proofs.Tokens.{stands_token, found_gap, found_token, found_reads, length_lexemes, placed_refused}
-use Rattle.vlt_lexer.proofs.lexer.read_text.Goals as goal
+use Rattle.vlt_lexer.proofs.read_text.Goals as goal
 
 pub returns-in-Ok-None-clause-tokens : goal.returns-in-Ok-None-clause-tokens
 returns-in-Ok-None-clause-tokens c =
@@ -71,6 +71,6 @@ returns-in-Err-clause-refused c =
     let reads = found_reads total (chars c.args.text.now) c.loop-found.found.items (chars left) c.loop-found.invariant.read in
     let few = c.loop-found.invariant.few in
     let within : length left ≤ total = c.loop-found.invariant.within in
-    let is : c.at.result ≡ placed c.in-Err.stuck at = first_of (search rules, grind (arith, common_steps)) in
+    let is : c.at.result ≡ error_at c.in-Err.stuck at = first_of (search rules, grind (arith, common_steps)) in
     inr (subst (IsRefused c.args.text.now) (sym is) (placed_refused c.in-Err.stuck at c.args.text.now c.utf8.text
     (lexemes c.loop-found.found.items, chars left, reads, omega (arith, length_lexemes c.loop-found.found.items, few), stuck, omega (arith, width_chars left c.loop-found.invariant.utf8))))

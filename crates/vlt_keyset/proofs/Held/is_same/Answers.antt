@@ -1,5 +1,5 @@
 use Rattle.vlt_keyset.proofs.Joining.{same_both, same_not}
-use Rattle.vlt_keyset.proofs.held.Held.is_same.Goals as goal
+use Rattle.vlt_keyset.proofs.Held.is_same.Goals as goal
 
 pub returns-then-all_same : goal.returns-then-all_same
 returns-then-all_same c =

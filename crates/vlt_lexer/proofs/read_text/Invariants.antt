@@ -2,7 +2,7 @@ use Rattle.std.proofs.Common.{◌≤◌, length}
 use Rattle.std.specs.Str.{chars, IsUtf8}
 use Rattle.vlt_base.specs.Limits.{limit_of}
 use Rattle.vlt_lexer.proofs.Tokens.{Found}
-use Rattle.vlt_lexer.proofs.lexer.read_text.Given as goal
+use Rattle.vlt_lexer.proofs.read_text.Given as goal
 
 abbrev pub invariant-loop-found : goal.invariant-loop-found
 invariant-loop-found l = record {
