@@ -26,7 +26,8 @@ use walk::Walk;
 /// The least refusal of the names and types of a text: the least place, and there the least number.
 pub fn least_refusal(alloc: Global, written: &Written<'_>) -> Result<Option<Refusal>, Memory>
     ensures { IfOk result (λ r.
-        option_map refusal_of r ≡ unit_refusal (places_in (lexemes_of written.now.lexemes.items)) (unit_of written.now.unit)) }
+        option_map refusal_of r ≡ unit_refusal (places_in (lexemes_of written.now.lexemes.items))
+        (unit_of written.now.unit)) }
 {
     let mut walk = Walk {
         rest: &written.lexemes,

@@ -145,7 +145,8 @@ impl Blocks {
         requires sound { IsSound self.now }
         requires live { IsLiveAt self.now.places c }
         ensures some { IfSome result (λ k. (i < (shape_at self.now.shapes.items c).references)
-            × (k ≡ c * cells_of self.now + (shape_at self.now.shapes.items c).numbers + i) × (k < length self.now.cells.items)) }
+            × (k ≡ c * cells_of self.now + (shape_at self.now.shapes.items c).numbers + i)
+            × (k < length self.now.cells.items)) }
         ensures none { IfNone result ((shape_at self.now.shapes.items c).references ≤ i) }
     {
         let shape = self.shape(c);
@@ -232,7 +233,8 @@ impl Blocks {
     pub fn write_r(&mut self, p: Option<Ref>, i: u64, v: Option<Ref>) -> Result<(), u8>
         requires sound { IsSound self.old }
         ensures did { (ts : Things) → Holds self.old ts → IsMade ts p → IsMade ts v
-            → Did ts result (write_reference (blocks_of self.old ts) (number_of p) i (number_of v)) self.new }
+            → Did ts result (write_reference (blocks_of self.old ts) (number_of p) i
+            (number_of v)) self.new }
         ensures same { OnErr result (self.new ≡ self.old) }
         ensures heap { heap_of self.new ≡ heap_of self.old }
         ensures cells { cells_of self.new ≡ cells_of self.old }
@@ -309,7 +311,8 @@ impl Blocks {
     pub fn own(&mut self, child: Option<Ref>, parent: Option<Ref>) -> Result<(), u8>
         requires sound { IsSound self.old }
         ensures did { (ts : Things) → Holds self.old ts → IsMade ts child → IsMade ts parent
-            → Did ts result (blocks_after_own (blocks_of self.old ts) (number_of child) (number_of parent)) self.new }
+            → Did ts result (blocks_after_own (blocks_of self.old ts) (number_of child)
+            (number_of parent)) self.new }
         ensures same { OnErr result (self.new ≡ self.old) }
         ensures heap { heap_of self.new ≡ heap_of self.old }
         ensures cells { cells_of self.new ≡ cells_of self.old }

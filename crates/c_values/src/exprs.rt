@@ -86,7 +86,8 @@ pub fn arg(x: &CArg, vars: Vars) -> Result<Value, u8>
 pub fn eval(e: &CExpr, vars: Vars, blocks: &Blocks) -> Result<Value, u8>
     requires sound { IsSound blocks.now }
     ensures { (ts : Things) → Holds blocks.now ts → AreMadeSlots ts vars.entry.values.now
-        → IsValue ts result (value_of (expr_of e.now) (shown_vars vars.entry) (blocks_of blocks.now ts)) }
+        → IsValue ts result
+        (value_of (expr_of e.now) (shown_vars vars.entry) (blocks_of blocks.now ts)) }
 {
     match e {
         CExpr::Number(z) => Ok(Value::Number(*z)),

@@ -30,7 +30,8 @@ pub fn check(alloc: Global, p: &Program) -> Result<Items<Option<Kept>>, CheckErr
     ensures first { OnRefused result (λ x.
         IsWellFormed (program_of p.now) → IsFirstFault (program_of p.now) (fault_of x)) }
     ensures only { OnRefused result (λ x.
-        IsWellFormed (program_of p.now) → (y : FlowFault) → IsFirstFault (program_of p.now) y → y ≡ fault_of x) }
+        IsWellFormed (program_of p.now) → (y : FlowFault) → IsFirstFault (program_of p.now) y
+        → y ≡ fault_of x) }
     ensures not_accepted { OnRefused result (λ x.
         IsWellFormed (program_of p.now) → IsAccepted (program_of p.now) → ⊥) }
 {

@@ -117,7 +117,8 @@ fn check_payload(
     found: &mut Found,
 ) -> Result<(), AllocError>
     ensures { OnOk result (found.new.least ≡ found_each (d.typed_refused (file_seen file.now)
-        (map view.header_key_of params.now) part.Payload) (map view.ty_of payload.now) found.old.least) }
+        (map view.header_key_of params.now) part.Payload)
+        (map view.ty_of payload.now) found.old.least) }
 {
     for ty in payload {
         check_typed(alloc, file, params, Part::Payload, ty, found)?;

@@ -40,7 +40,8 @@ fn check_fields(
     found: &mut Found,
 ) -> Result<(), AllocError>
     ensures { OnOk result (found.new.least ≡ found_each (d.field_refused (file_seen file.now)
-        (map view.header_key_of params.now) (states_seen known.now)) (map view.field_of fields.now) found.old.least) }
+        (map view.header_key_of params.now) (states_seen known.now))
+        (map view.field_of fields.now) found.old.least) }
 {
     for field in fields {
         check_field(alloc, file, params, known, field, found)?;

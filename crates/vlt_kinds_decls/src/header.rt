@@ -67,7 +67,8 @@ fn check_header_key(file: &File<'_>, param: &HeaderKey, found: &mut Found)
 /// Refuses what is no type of an object in a header.
 pub fn check_header(file: &File<'_>, params: &[HeaderKey], found: &mut Found)
     ensures { found.new.least
-        ≡ found_each (d.header_refused (file_seen file.now)) (map view.header_key_of params.now) found.old.least }
+        ≡ found_each (d.header_refused (file_seen file.now))
+        (map view.header_key_of params.now) found.old.least }
 {
     for param in params {
         check_header_key(file, param, found);

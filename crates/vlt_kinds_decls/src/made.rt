@@ -312,7 +312,8 @@ fn add_type(
     requires right { IsDecl language (view.decl_of decl.now) }
     requires known { All (HasKnownSet (length file.now.sets)) types.old }
     ensures types { OnOk result (map core_view.type_of types.new
-        ≡ map core_view.type_of types.old ++ m.core_types_in (file_seen file.now) (view.decl_of decl.now)) }
+        ≡ map core_view.type_of types.old
+        ++ m.core_types_in (file_seen file.now) (view.decl_of decl.now)) }
     ensures known { OnOk result (All (HasKnownSet (length file.now.sets)) types.new) }
 {
     match decl {

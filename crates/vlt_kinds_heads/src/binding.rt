@@ -52,7 +52,8 @@ impl<'a> Names<'a> {
     #[tactic(auto, unfolding(crate::specs::Heads::name_refused))]
     fn check(&self, known: &Globals<'_>, name: &HeadName<'_>, found: &mut Found)
         ensures { found.new.least ≡ least_from found.old.least
-            (h.name_refused (names_seen known.now) (table_seen self.now.seen.entries) (name_seen name.now)) }
+            (h.name_refused (names_seen known.now) (table_seen self.now.seen.entries)
+            (name_seen name.now)) }
     {
         let broken = self.is_repeated(name) || known.has(name.text);
         found.add_if(broken, rules::HEAD_NAME, name.at);

@@ -85,7 +85,8 @@ fn are_host_payload(types: &[TypeDecl], payload: &[Ty]) -> bool
 
 fn has_host_payloads(types: &[TypeDecl], cases: &[CaseDecl]) -> bool
     ensures { result
-        ≡ list_all (e.has_host_payload (map core_view.type_of types.now)) (map core_view.case_of cases.now) }
+        ≡ list_all (e.has_host_payload (map core_view.type_of types.now))
+        (map core_view.case_of cases.now) }
 {
     for case in cases {
         if !are_host_payload(types, case.payload.as_slice()) {
@@ -108,7 +109,8 @@ fn cases_in(decl: Option<&TypeDecl>) -> &[CaseDecl]
 #[tactic(auto, unfolding(crate::specs::Externals::cases_named))]
 fn cases_named<'a>(file: &File<'_>, types: &'a [TypeDecl], named: &Named) -> &'a [CaseDecl]
     ensures { map core_view.case_of result.now
-        ≡ e.cases_named (file_seen file.now) (map core_view.type_of types.now) (view.named_of named.now) }
+        ≡ e.cases_named (file_seen file.now) (map core_view.type_of types.now)
+        (view.named_of named.now) }
 {
     match file.type_named(&named.name) {
         None => &[],
@@ -134,7 +136,8 @@ fn is_struct(sort: Option<Sort>) -> bool
 #[tactic(auto, unfolding(crate::specs::Externals::is_wrong_variant))]
 fn is_wrong_variant(file: &File<'_>, types: &[TypeDecl], named: &Named) -> bool
     ensures { result
-        ≡ e.is_wrong_variant (file_seen file.now) (map core_view.type_of types.now) (view.named_of named.now) }
+        ≡ e.is_wrong_variant (file_seen file.now) (map core_view.type_of types.now)
+        (view.named_of named.now) }
 {
     !has_host_payloads(types, cases_named(file, types, named))
 }

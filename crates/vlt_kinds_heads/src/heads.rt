@@ -79,7 +79,8 @@ fn check_head_names(
     found: &mut Found,
 ) -> Result<(), AllocError>
     ensures { OnOk result (found.new.least ≡ least_from found.old.least
-        (h.names_refused (file_seen file.now).globals (p.head_names (file_seen file.now) (view.head_of head.now)))) }
+        (h.names_refused (file_seen file.now).globals
+        (p.head_names (file_seen file.now) (view.head_of head.now)))) }
 {
     let names = head_names(alloc, file, head)?;
     check_names(alloc, &file.globals, names.as_slice(), found)?;
@@ -96,9 +97,11 @@ fn note_places<'a>(
     found: &mut Found,
 ) -> Result<HeadKeys<'a>, AllocError>
     ensures keys { IfOk result (λ keys. keys_seen keys
-        ≡ k.places_behind (map use_seen results.now) (map use_seen parameters.now) (map view.entry_of clause.now)) }
+        ≡ k.places_behind (map use_seen results.now) (map use_seen parameters.now)
+        (map view.entry_of clause.now)) }
     ensures refused { OnOk result (found.new.least ≡ least_from found.old.least
-        (h.clause_again (map use_seen results.now) (map use_seen parameters.now) (map view.entry_of clause.now))) }
+        (h.clause_again (map use_seen results.now) (map use_seen parameters.now)
+        (map view.entry_of clause.now))) }
 {
     let mut keys = HeadKeys {
         table: IndexMap::new(alloc),
@@ -119,9 +122,11 @@ impl<'a> HeadKeys<'a> {
         found: &mut Found,
     ) -> Result<(), AllocError>
         ensures keys { OnOk result (keys_seen self.new
-            ≡ k.typed_keys (keys_seen self.old) (map use_seen results.now) (map use_seen parameters.now)) }
+            ≡ k.typed_keys (keys_seen self.old) (map use_seen results.now)
+            (map use_seen parameters.now)) }
         ensures refused { OnOk result (found.new.least ≡ least_from found.old.least
-            (h.typings_refused (keys_seen self.old) (map use_seen results.now) (map use_seen parameters.now))) }
+            (h.typings_refused (keys_seen self.old) (map use_seen results.now)
+            (map use_seen parameters.now))) }
     {
         self.note_fresh_types(results)?;
         self.check_parameters(parameters, found)?;
@@ -152,7 +157,8 @@ fn check_head_by<'a>(
     ensures keys { IfOk result (λ keys. keys_seen keys ≡ k.keys_behind (map use_seen results.now)
         (map use_seen parameters.now) (p.clause_in (view.head_of head.now).clause)) }
     ensures refused { OnOk result (found.new.least ≡ least_from found.old.least (h.head_refused_by
-        (file_seen file.now) (view.head_of head.now) (map use_seen results.now) (map use_seen parameters.now))) }
+        (file_seen file.now) (view.head_of head.now) (map use_seen results.now)
+        (map use_seen parameters.now))) }
 {
     let clause = clause_in(&head.clause);
     check_types(alloc, file, head, found)?;
@@ -199,7 +205,8 @@ fn check_extern<'a>(
     ensures keys { IfOk result (λ keys. keys_seen keys
         ≡ k.keys_of (file_seen file.now) (view.head_of head.now)) }
     ensures refused { OnOk result (found.new.least ≡ least_from found.old.least
-        (q.extern_refused (file_seen file.now) (map core_view.type_of types.now) (view.head_of head.now))) }
+        (q.extern_refused (file_seen file.now) (map core_view.type_of types.now)
+        (view.head_of head.now))) }
 {
     let keys = check_head(alloc, file, head, found)?;
     check_external(file, types, head, &keys, found)?;
@@ -217,9 +224,11 @@ fn add_head(
 ) -> Result<(), AllocError>
     requires { IsDecl language (view.decl_of decl.now) }
     ensures heads { OnOk result (map core_view.func_of heads.new
-        ≡ map core_view.func_of heads.old ++ q.core_heads_in (file_seen file.now) (view.decl_of decl.now)) }
+        ≡ map core_view.func_of heads.old
+        ++ q.core_heads_in (file_seen file.now) (view.decl_of decl.now)) }
     ensures refused { OnOk result (found.new.least ≡ least_from found.old.least
-        (q.heads_refused_in (file_seen file.now) (map core_view.type_of types.now) (view.decl_of decl.now))) }
+        (q.heads_refused_in (file_seen file.now) (map core_view.type_of types.now)
+        (view.decl_of decl.now))) }
 {
     match decl {
         Decl::Extern { head, .. } => {

@@ -96,7 +96,8 @@ impl HeadKeys<'_> {
         entry: &vlt_syntax::Entry,
     ) -> Result<Entry, AllocError>
         ensures { IfOk result (λ made. core_view.entry_of made
-            ≡ q.core_entry_in (keys_seen self.now) (states_seen known.now) (view.entry_of entry.now)) }
+            ≡ q.core_entry_in (keys_seen self.now) (states_seen known.now)
+            (view.entry_of entry.now)) }
     {
         match entry {
             vlt_syntax::Entry::Held(states) => {
@@ -171,7 +172,8 @@ impl HeadKeys<'_> {
         clause: &[vlt_syntax::Entry],
     ) -> Result<Items<Entry>, AllocError>
         ensures { IfOk result (λ made. map core_view.entry_of made
-            ≡ map (q.core_entry (file_seen file.now) (keys_seen self.now)) (map view.entry_of clause.now)) }
+            ≡ map (q.core_entry (file_seen file.now) (keys_seen self.now))
+            (map view.entry_of clause.now)) }
     {
         let mut made = Items::new(alloc);
         for entry in clause {
@@ -187,7 +189,8 @@ impl HeadKeys<'_> {
         result_type: &ResultType,
     ) -> Result<Option<Ty>, AllocError>
         ensures { IfOk result (λ made. option_map core_view.ty_of made
-            ≡ q.core_result (file_seen file.now) (keys_seen self.now) (view.result_type_of result_type.now)) }
+            ≡ q.core_result (file_seen file.now) (keys_seen self.now)
+            (view.result_type_of result_type.now)) }
     {
         match result_type {
             ResultType::Void(_) => Ok(None),
@@ -202,7 +205,8 @@ impl HeadKeys<'_> {
         parameter: &Parameter,
     ) -> Result<VarDecl, AllocError>
         ensures { IfOk result (λ made. core_view.var_of made
-            ≡ q.core_parameter (file_seen file.now) (keys_seen self.now) (view.parameter_of parameter.now)) }
+            ≡ q.core_parameter (file_seen file.now) (keys_seen self.now)
+            (view.parameter_of parameter.now)) }
     {
         let name = Items::from_slice(alloc, parameter.name.text.as_slice())?;
         let ty = file.core_type(alloc, self, &parameter.ty)?;
@@ -237,7 +241,8 @@ impl HeadKeys<'_> {
     ) -> Result<Func, AllocError>
         requires { length head.now.parameters ≤ 16 }
         ensures { IfOk result (λ func. core_view.func_of func
-            ≡ q.core_head (file_seen file.now) external (view.head_of head.now) (keys_seen self.now)) }
+            ≡ q.core_head (file_seen file.now) external (view.head_of head.now)
+            (keys_seen self.now)) }
     {
         let name = Items::from_slice(alloc, head.name.text.as_slice())?;
         let result = self.core_result(alloc, file, &head.result_type)?;

@@ -67,7 +67,8 @@ impl<'a> HeadKeys<'a> {
 
     fn note_result(&mut self, place: &KeyUse<'a>) -> Result<(), AllocError>
         ensures { OnOk result (keys_seen self.new
-            ≡ k.note (keys_seen self.old) (use_seen place.now).key (k.with_result (use_seen place.now))) }
+            ≡ k.note (keys_seen self.old) (use_seen place.now).key
+            (k.with_result (use_seen place.now))) }
     {
         let facts = self.facts_of(place.key)?;
         let noted = Facts {
@@ -81,7 +82,8 @@ impl<'a> HeadKeys<'a> {
 
     fn note_parameter(&mut self, place: &KeyUse<'a>) -> Result<(), AllocError>
         ensures { OnOk result (keys_seen self.new
-            ≡ k.note (keys_seen self.old) (use_seen place.now).key (k.with_parameter (use_seen place.now))) }
+            ≡ k.note (keys_seen self.old) (use_seen place.now).key
+            (k.with_parameter (use_seen place.now))) }
     {
         let facts = self.facts_of(place.key)?;
         let noted = Facts {

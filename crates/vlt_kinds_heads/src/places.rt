@@ -183,7 +183,8 @@ fn add_result<'a>(
     names: &mut Items<HeadName<'a>>,
 ) -> Result<(), AllocError>
     ensures { OnOk result (map name_seen names.new ≡ map name_seen names.old
-        ++ map p.used_name (p.result_uses (file_seen file.now) (view.result_type_of result_type.now))) }
+        ++ map p.used_name
+        (p.result_uses (file_seen file.now) (view.result_type_of result_type.now))) }
 {
     let uses = result_uses(alloc, file, result_type)?;
     add_used(uses.as_slice(), names)

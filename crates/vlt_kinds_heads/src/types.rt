@@ -97,7 +97,8 @@ impl<'a> HeadKeys<'a> {
         ensures keys { OnOk result (keys_seen self.new
             ≡ k.parameters_typed (keys_seen self.old) (map use_seen uses.now)) }
         ensures refused { OnOk result (found.new.least
-            ≡ found_along k.behind_use h.clash (keys_seen self.old) (map use_seen uses.now) found.old.least) }
+            ≡ found_along k.behind_use h.clash (keys_seen self.old)
+            (map use_seen uses.now) found.old.least) }
     {
         for place in uses {
             self.check_clash(place, found)?;
@@ -123,7 +124,8 @@ impl<'a> HeadKeys<'a> {
         found: &mut Found,
     ) -> Result<(), AllocError>
         ensures { OnOk result (found.new.least
-            ≡ found_each (h.result_clash (keys_seen self.now)) (map use_seen uses.now) found.old.least) }
+            ≡ found_each (h.result_clash (keys_seen self.now))
+            (map use_seen uses.now) found.old.least) }
     {
         for place in uses {
             self.check_result_clash(place, found)?;
@@ -149,7 +151,8 @@ impl<'a> HeadKeys<'a> {
         found: &mut Found,
     ) -> Result<(), AllocError>
         ensures { OnOk result (found.new.least
-            ≡ found_each (h.result_key_refused (keys_seen self.now)) (map use_seen uses.now) found.old.least) }
+            ≡ found_each (h.result_key_refused (keys_seen self.now))
+            (map use_seen uses.now) found.old.least) }
     {
         for place in uses {
             self.check_result_key(place, found)?;
@@ -175,7 +178,8 @@ impl<'a> HeadKeys<'a> {
         found: &mut Found,
     ) -> Result<(), AllocError>
         ensures keys { OnOk result
-            (keys_seen self.new ≡ k.behind_clause (keys_seen self.old) (map view.entry_of clause.now)) }
+            (keys_seen self.new
+            ≡ k.behind_clause (keys_seen self.old) (map view.entry_of clause.now)) }
         ensures refused { OnOk result (found.new.least
             ≡ found_along k.behind_entry h.again_refused (keys_seen self.old)
             (map view.entry_of clause.now) found.old.least) }

@@ -86,7 +86,8 @@ pub fn refuse_repeated<T: HasName>(rule: u8, named: &[T], found: &mut Found)
 #[tactic(auto, unfolding(crate::specs::Names::header_keys_taken))]
 fn check_taken(params: &[HeaderKey], known: &Globals<'_>, found: &mut Found)
     ensures { found.new.least ≡ least_from found.old.least
-        (n.header_keys_taken (names_seen known.now) (map (λ p. (view.header_key_of p).key) params.now)) }
+        (n.header_keys_taken (names_seen known.now)
+        (map (λ p. (view.header_key_of p).key) params.now)) }
 {
     for param in params {
         if known.has(param.key.text.as_slice()) {
@@ -215,7 +216,8 @@ fn check_main(decls: &[Decl], found: &mut Found)
 
 fn check_decls(decls: &[Decl], known: &Globals<'_>, found: &mut Found)
     ensures { found.new.least
-        ≡ found_each (n.decl_refused (names_seen known.now)) (map view.decl_of decls.now) found.old.least }
+        ≡ found_each (n.decl_refused (names_seen known.now))
+        (map view.decl_of decls.now) found.old.least }
 {
     for decl in decls {
         check_decl(decl, known, found);
@@ -232,7 +234,8 @@ pub fn check_names<'a>(
     requires { length decls.now < 2 ^ 32 - 1 }
     ensures names { IfOk result (λ g. names_seen g ≡ globals_of (map view.decl_of decls.now)) }
     ensures refused { OnOk result
-        (found.new.least ≡ least_from found.old.least (n.names_refused (map view.decl_of decls.now))) }
+        (found.new.least
+        ≡ least_from found.old.least (n.names_refused (map view.decl_of decls.now))) }
 {
     check_main(decls, found);
     let known = globals::known_names(alloc, decls, found)?;

@@ -278,7 +278,8 @@ impl Declared<'_> {
     /// The rounds end where one changes nothing.
     fn last_marks(&self, alloc: Global) -> Result<Items<bool>, AllocError>
         ensures { IfOk result (λ marks. marks
-            ≡ r.marks_after (declared_seen self.now) (suc (length (declared_seen self.now).types))) }
+            ≡ r.marks_after (declared_seen self.now)
+            (suc (length (declared_seen self.now).types))) }
     {
         let mut marks = self.marked_more(alloc, &[])?;
         for round in 0..self.types.len() {

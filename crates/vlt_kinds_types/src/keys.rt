@@ -85,7 +85,8 @@ impl File<'_> {
         uses: &mut Items<KeyUse<'b>>,
     ) -> Result<(), AllocError>
         ensures { OnOk result (map use_seen uses.new
-            ≡ map use_seen uses.old ++ t.named_uses (file_seen self.now) (view.named_of named.now)) }
+            ≡ map use_seen uses.old
+            ++ t.named_uses (file_seen self.now) (view.named_of named.now)) }
     {
         match self.shape_named(&named.name) {
             None => add_open(named.keys.as_slice(), uses),

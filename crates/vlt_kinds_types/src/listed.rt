@@ -170,7 +170,8 @@ fn listed_numbers(
     names: &[Name],
 ) -> Result<Items<u8>, AllocError>
     ensures numbers { IfOk result (λ numbers.
-        numbers ≡ t.listed_numbers (t.known_states (states_seen known.now)) [] (view.names_of names.now)) }
+        numbers ≡ t.listed_numbers (t.known_states (states_seen known.now)) []
+        (view.names_of names.now)) }
     ensures small { IfOk result (All (λ i. i < 32)) }
 {
     let mut seen = Items::new(alloc);

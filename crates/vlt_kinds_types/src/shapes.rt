@@ -158,7 +158,8 @@ fn is_keyed(cases: &[Case]) -> bool
 
 fn is_owning(known: &Globals<'_>, cases: &[Case]) -> bool
     ensures { result
-        ≡ list_any (λ c. list_any (f.owns_payload (names_seen known.now)) c.payload) (map view.case_of cases.now) }
+        ≡ list_any (λ c. list_any (f.owns_payload (names_seen known.now)) c.payload)
+        (map view.case_of cases.now) }
 {
     for case in cases {
         if owns_some(known, case.payload.as_slice()) {
@@ -170,7 +171,8 @@ fn is_owning(known: &Globals<'_>, cases: &[Case]) -> bool
 
 fn is_left_open(known: &Globals<'_>, cases: &[Case]) -> bool
     ensures { result
-        ≡ list_any (λ c. list_any (f.leaves_payload_open (names_seen known.now)) c.payload) (map view.case_of cases.now) }
+        ≡ list_any (λ c. list_any (f.leaves_payload_open (names_seen known.now)) c.payload)
+        (map view.case_of cases.now) }
 {
     for case in cases {
         if leaves_some_open(known, case.payload.as_slice()) {

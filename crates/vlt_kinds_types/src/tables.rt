@@ -62,7 +62,11 @@ fn set_of(alloc: Heap, name: &Name, states: &[Name]) -> Result<SetDecl, AllocErr
     requires some { 1 ≤ length states.now }
     requires few { length states.now ≤ 32 }
     ensures set { IfOk result (λ set. core_view.set_of set
-        ≡ record { name = (view.name_of name.now).text; states = f.texts (view.names_of states.now) }) }
+        ≡ record {
+          name = (view.name_of name.now).text;
+          states = f.texts
+              (view.names_of states.now);
+        }) }
     ensures small { IfOk result IsSmallSet }
 {
     let states = texts(alloc, states)?;
@@ -74,7 +78,8 @@ fn add_set(alloc: Heap, decl: &Decl, sets: &mut Items<SetDecl>) -> Result<(), Al
     requires right { IsDecl language (view.decl_of decl.now) }
     requires small { AreSmallSets sets.old }
     ensures sets { OnOk result
-        (map core_view.set_of sets.new ≡ map core_view.set_of sets.old ++ f.sets_in (view.decl_of decl.now)) }
+        (map core_view.set_of sets.new
+        ≡ map core_view.set_of sets.old ++ f.sets_in (view.decl_of decl.now)) }
     ensures small { OnOk result (AreSmallSets sets.new) }
 {
     if let Decl::StateSet { name, states, .. } = decl {

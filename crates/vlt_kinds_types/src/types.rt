@@ -117,7 +117,8 @@ fn has_states(sort: Option<Sort>) -> bool
 #[tactic(auto, using(vlt_kinds_names::proofs::Least::least_of_both), unfolding(crate::specs::Types::named_refused))]
 fn check_named(shape: Option<&Shape>, ty: &Ty, named: &Named, found: &mut Found)
     ensures { found.new.least ≡ least_from found.old.least
-        (t.named_refused (option_map (λ s. s.now) shape.entry) (view.ty_of ty.now) (view.named_of named.now)) }
+        (t.named_refused (option_map (λ s. s.now) shape.entry) (view.ty_of ty.now)
+        (view.named_of named.now)) }
 {
     check_form(ty, sort_in(shape), ty_place(ty), found);
     check_name(shape, named, found);

@@ -87,7 +87,8 @@ pub fn go_form<'a>(
     point: Point<'a>,
 ) -> Went<'a>
     ensures { (ts : List core.Tok) → IsBound hunt ts left →
-        AlongForm hunt (flow_of (program_of p.now) (func_of f.now) ts (form_of form.now)) at point.entry result }
+        AlongForm hunt (flow_of (program_of p.now) (func_of f.now) ts
+        (form_of form.now)) at point.entry result }
 {
     match form {
         Form::If {
@@ -181,7 +182,8 @@ pub fn go_turn<'a>(
     point: Point<'a>,
 ) -> Went<'a>
     ensures along { AlongTurn hunt (expr_rows (program_of p.now) (func_of f.now) (expr_of cond.now))
-        (flow_of_block (program_of p.now) (func_of f.now) [] (block_of body.now)) at point.entry result }
+        (flow_of_block (program_of p.now) (func_of f.now) []
+        (block_of body.now)) at point.entry result }
     ensures fewer { result.out ≡ Continue →
         length (choices_of result.point.rest.now) < length (choices_of point.entry.rest.now) }
 {
@@ -242,7 +244,8 @@ fn go_while<'a>(
     point: Point<'a>,
 ) -> Went<'a>
     ensures { AlongForm hunt (loop (expr_rows (program_of p.now) (func_of f.now) (expr_of cond.now))
-        (flow_of_block (program_of p.now) (func_of f.now) [] (block_of body.now))) at point.entry result }
+        (flow_of_block (program_of p.now) (func_of f.now) []
+        (block_of body.now))) at point.entry result }
 {
     let mut head = point;
     loop {
@@ -272,7 +275,8 @@ fn go_switch<'a>(
     point: Point<'a>,
 ) -> Went<'a>
     ensures { (end : ℕ) (ts : List core.Tok) → IsBound hunt ts left →
-        AlongForm hunt (flow_of (program_of p.now) (func_of f.now) ts (core.switch v.0 (arms_of arms.now) end)) at point.entry result }
+        AlongForm hunt (flow_of (program_of p.now) (func_of f.now) ts
+        (core.switch v.0 (arms_of arms.now) end)) at point.entry result }
 {
     let behind = past_switch(f, hunt, at, v, point);
     match behind.choose(at) {
@@ -322,7 +326,8 @@ fn go_focus<'a>(
     point: Point<'a>,
 ) -> Went<'a>
     ensures { (ts : List core.Tok) → IsBound hunt ts left →
-        AlongForm hunt (flow_of (program_of p.now) (func_of f.now) ts (core.focus y.0 z.0 (block_of body.now))) at point.entry result }
+        AlongForm hunt (flow_of (program_of p.now) (func_of f.now) ts
+        (core.focus y.0 z.0 (block_of body.now))) at point.entry result }
 {
     let inside = past_focus(p, f, hunt, at, y, z, point);
     let end = go_block(p, f, hunt, left, body, inside);
@@ -348,7 +353,8 @@ pub fn go_block<'a>(
     point: Point<'a>,
 ) -> Went<'a>
     ensures { (ts : List core.Tok) → IsBound hunt ts left →
-        AlongBlock hunt (flow_of_block (program_of p.now) (func_of f.now) ts (block_of block.now)) point.entry result }
+        AlongBlock hunt (flow_of_block (program_of p.now) (func_of f.now) ts
+        (block_of block.now)) point.entry result }
 {
     let inside = is_bound(hunt, left, block.bound.as_slice());
     let end = go_stmts(p, f, hunt, inside, block.stmts.as_slice(), point);
@@ -371,7 +377,8 @@ pub fn go_stmts<'a>(
     point: Point<'a>,
 ) -> Went<'a>
     ensures { (ts : List core.Tok) → IsBound hunt ts left →
-        AlongStmts hunt (flow_of_stmts (program_of p.now) (func_of f.now) ts (stmts_of stmts.now)) point.entry result }
+        AlongStmts hunt (flow_of_stmts (program_of p.now) (func_of f.now) ts
+        (stmts_of stmts.now)) point.entry result }
 {
     let mut here = point;
     for s in stmts {

@@ -42,7 +42,8 @@ fn add_key_names<'k>(
     keys: &'k [KeyDecl],
 ) -> Result<(), AllocError>
     ensures { OnOk result (scope_seen scope.new
-        ≡ e.with_key_names (map entry_of clause.now) (scope_seen scope.old) 0 (map key_of keys.now)) }
+        ≡ e.with_key_names (map entry_of clause.now) (scope_seen scope.old) 0
+        (map key_of keys.now)) }
 {
     for (i, key) in keys.iter().enumerate() {
         let Ok(number) = u32::try_from(i) else {

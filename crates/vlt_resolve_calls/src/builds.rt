@@ -152,7 +152,8 @@ fn check_payload(
     found: &mut Found,
 ) -> Result<(), AllocError>
     ensures { OnOk result (found.new.least ≡ least_from found.old.least
-        (b.payload_refused (kinds_seen kinds.now) (scope_seen scope.now) (case_seen case.now) (tree.build_of build.now))) }
+        (b.payload_refused (kinds_seen kinds.now) (scope_seen scope.now) (case_seen case.now)
+        (tree.build_of build.now))) }
 {
     if case.payload.len() == build.payload.len() {
         check_operands(
@@ -236,9 +237,11 @@ pub fn build(
     found: &mut Found,
 ) -> Result<Form, AllocError>
     ensures refused { OnOk result (found.new.least ≡ least_from found.old.least
-        (b.build_refused (kinds_seen kinds.now) (scope_seen scope.now) (ty_of ty.now) (tree.build_of build.now))) }
+        (b.build_refused (kinds_seen kinds.now) (scope_seen scope.now) (ty_of ty.now)
+        (tree.build_of build.now))) }
     ensures form { IfOk result (λ f. form_of f
-        ≡ b.core_build (kinds_seen kinds.now) (scope_seen scope.now) (ty_of ty.now) v.0 (tree.build_of build.now)) }
+        ≡ b.core_build (kinds_seen kinds.now) (scope_seen scope.now) (ty_of ty.now) v.0
+        (tree.build_of build.now)) }
 {
     let case = case_of_tick(alloc, kinds, ty, &build.case)?;
     check_case(alloc, kinds, scope, &case, build, found)?;

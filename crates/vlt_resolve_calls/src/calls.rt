@@ -61,7 +61,8 @@ fn check_argument(
     found: &mut Found,
 ) -> Result<(), AllocError>
     ensures { OnOk result (found.new.least ≡ least_from found.old.least
-        (c.argument_refused (kinds_seen kinds.now) (scope_seen scope.now) (ty_of wanted.now) (tree.expr_of expr.now))) }
+        (c.argument_refused (kinds_seen kinds.now) (scope_seen scope.now) (ty_of wanted.now)
+        (tree.expr_of expr.now))) }
 {
     check_any(alloc, kinds, scope, expr, found)?;
     let given = type_of(alloc, kinds, scope, expr)?;
@@ -216,7 +217,8 @@ fn check_given_count(
     found: &mut Found,
 ) -> Result<(), AllocError>
     ensures { OnOk result (found.new.least ≡ least_from found.old.least
-        (refuse_if (not (c.target_fits (func_of head.now) [] (target_seen target.now))) rule.WRONG_TYPE name
+        (refuse_if (not (c.target_fits (func_of head.now) []
+        (target_seen target.now))) rule.WRONG_TYPE name
         ++ refusal rule.WRONG_COUNT name ∷ [])) }
 {
     let fits = target_fits(alloc, head, &[], target)?;
@@ -458,7 +460,8 @@ pub fn call(
     found: &mut Found,
 ) -> Result<Form, AllocError>
     ensures refused { OnOk result (found.new.least ≡ least_from found.old.least
-        (c.call_refused (kinds_seen kinds.now) (scope_seen scope.now) (use_seen used.entry) (tree.call_of call.now))) }
+        (c.call_refused (kinds_seen kinds.now) (scope_seen scope.now) (use_seen used.entry)
+        (tree.call_of call.now))) }
     ensures form { IfOk result (λ form. form_of form
         ≡ c.core_call (kinds_seen kinds.now) (scope_seen scope.now) (use_seen used.entry)
         (option_map (λ v. v.0) target) (tree.call_of call.now)) }

@@ -62,7 +62,8 @@ impl Target {
         found: &mut Found,
     ) -> Result<(), AllocError>
         ensures { OnOk result (found.new.least ≡ least_from found.old.least
-            (t.value_refused (kinds_seen kinds.now) (scope_seen scope.now) (target_seen self.now) (tree.expr_of expr.now))) }
+            (t.value_refused (kinds_seen kinds.now) (scope_seen scope.now) (target_seen self.now)
+            (tree.expr_of expr.now))) }
     {
         check_any(alloc, kinds, scope, expr, found)?;
         let given = type_of(alloc, kinds, scope, expr)?;
@@ -73,7 +74,8 @@ impl Target {
     #[tactic(auto, unfolding(crate::specs::Targets::value_form))]
     fn value_form(&self, x: VarId, got: &Option<Ty>, value: vlt_core::Expr) -> Form
         ensures { form_of result
-            ≡ core.simple (t.value_form (target_seen self.now) x.0 (option_map ty_of got.now) (expr_of value)) }
+            ≡ core.simple (t.value_form (target_seen self.now) x.0 (option_map ty_of got.now)
+            (expr_of value)) }
     {
         if self.binds {
             Form::Unpack {

@@ -138,7 +138,8 @@ pub fn add_several<'a>(
     ensures scope { OnOk result (scope_seen scope.new
         ≡ b.with_several (scope_seen scope.old) (tree.names_of names.now) (map ty_of types.now)) }
     ensures numbers { IfOk result (λ vs. vars_of vs
-        ≡ b.several_numbers (scope_seen scope.old) (tree.names_of names.now) (map ty_of types.now)) }
+        ≡ b.several_numbers (scope_seen scope.old) (tree.names_of names.now)
+        (map ty_of types.now)) }
 {
     if types.len() == names.len() {
         let vars = add_each(alloc, kinds, scope, names, types, found)?;

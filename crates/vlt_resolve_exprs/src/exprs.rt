@@ -139,7 +139,8 @@ fn object_field_ty(
     field: &Name,
 ) -> Result<Option<Ty>, AllocError>
     ensures { IfOk result (λ t. option_map ty_of t
-        ≡ e.object_field_ty (kinds_seen kinds.now) (object_seen object.entry) (tree.name_of field.now)) }
+        ≡ e.object_field_ty (kinds_seen kinds.now) (object_seen object.entry)
+        (tree.name_of field.now)) }
 {
     let decl = field_named(kinds, object.type_id, field);
     value_ty(alloc, object.args, decl)
@@ -155,7 +156,8 @@ pub fn field_ty(
     field: &Name,
 ) -> Result<Option<Ty>, AllocError>
     ensures { IfOk result (λ t. option_map ty_of t
-        ≡ e.field_ty (kinds_seen kinds.now) (scope_seen scope.now) (tree.name_of base.now) (tree.name_of field.now)) }
+        ≡ e.field_ty (kinds_seen kinds.now) (scope_seen scope.now) (tree.name_of base.now)
+        (tree.name_of field.now)) }
 {
     let Some(ty) = scope.var_ty(base.text.as_slice()) else {
         return Ok(None);
@@ -216,7 +218,8 @@ pub fn field_number(
     field: &Name,
 ) -> Result<u32, AllocError>
     ensures { IfOk result (λ n. n
-        ≡ e.field_number (kinds_seen kinds.now) (scope_seen scope.now) (tree.name_of base.now) (tree.name_of field.now)) }
+        ≡ e.field_number (kinds_seen kinds.now) (scope_seen scope.now) (tree.name_of base.now)
+        (tree.name_of field.now)) }
 {
     let t = object_type(scope.var_ty(base.text.as_slice()));
     let number = match field_position(kinds, t, field) {
@@ -340,7 +343,8 @@ fn check_left(takes: Takes, ty: &Option<Ty>, at: u32, found: &mut Found)
 #[tactic(auto, unfolding(crate::specs::Refused::unknown_name))]
 pub fn check_known(scope: &Scope<'_>, name: &Name, found: &mut Found)
     ensures { found.new.least ≡ least_from found.old.least
-        (unknown_name (s.var_named (scope_seen scope.now) (tree.name_of name.now).text) (tree.name_of name.now)) }
+        (unknown_name (s.var_named (scope_seen scope.now) (tree.name_of name.now).text)
+        (tree.name_of name.now)) }
 {
     if scope.var_named(name.text.as_slice()).is_none() {
         found.add(UNKNOWN_NAME, name.at.from);
@@ -356,7 +360,8 @@ fn check_guard(
     found: &mut Found,
 )
     ensures { found.new.least ≡ least_from found.old.least
-        (e.guard_refused guarded (option_map (λ d. type_of d.now) decl.entry) (field_of field.now) (tree.name_of base.now)) }
+        (e.guard_refused guarded (option_map (λ d. type_of d.now) decl.entry) (field_of field.now)
+        (tree.name_of base.now)) }
 {
     if !guarded {
         return;
@@ -390,7 +395,8 @@ fn check_touch(
     found: &mut Found,
 )
     ensures { found.new.least ≡ least_from found.old.least
-        (e.touch_refused guarded (option_map (λ d. type_of d.now) decl.entry) (field_of field.now) (tree.name_of base.now)) }
+        (e.touch_refused guarded (option_map (λ d. type_of d.now) decl.entry) (field_of field.now)
+        (tree.name_of base.now)) }
 {
     check_guard(guarded, decl, field, base, found);
     check_owner(field, base, found);
@@ -405,7 +411,8 @@ fn check_named(
     found: &mut Found,
 )
     ensures { found.new.least ≡ least_from found.old.least
-        (e.named_refused guarded (option_map (λ d. type_of d.now) decl.entry) (option_map (λ d. field_of d.now) field.entry)
+        (e.named_refused guarded (option_map (λ d. type_of d.now) decl.entry)
+        (option_map (λ d. field_of d.now) field.entry)
         (tree.name_of base.now) (tree.name_of name.now)) }
 {
     match field {
@@ -422,7 +429,8 @@ fn check_object(
     found: &mut Found,
 )
     ensures { found.new.least ≡ least_from found.old.least
-        (e.object_refused (kinds_seen kinds.now) (option_map object_seen object.entry) (tree.name_of base.now) (tree.name_of field.now)) }
+        (e.object_refused (kinds_seen kinds.now) (option_map object_seen object.entry)
+        (tree.name_of base.now) (tree.name_of field.now)) }
 {
     match object {
         None => found.add(WRONG_TYPE, base.at.from),
@@ -447,7 +455,8 @@ pub fn check_field(
     found: &mut Found,
 )
     ensures { found.new.least ≡ least_from found.old.least
-        (e.field_refused (kinds_seen kinds.now) (scope_seen scope.now) (tree.name_of base.now) (tree.name_of field.now)) }
+        (e.field_refused (kinds_seen kinds.now) (scope_seen scope.now) (tree.name_of base.now)
+        (tree.name_of field.now)) }
 {
     match scope.var_ty(base.text.as_slice()) {
         None => found.add(UNKNOWN_NAME, base.at.from),
@@ -465,7 +474,8 @@ fn check_given(
     found: &mut Found,
 ) -> Result<(), AllocError>
     ensures { OnOk result (found.new.least ≡ least_from found.old.least
-        (e.unfit (option_map ty_of wanted.now) (e.type_of (kinds_seen kinds.now) (scope_seen scope.now) (tree.expr_of expr.now))
+        (e.unfit (option_map ty_of wanted.now)
+        (e.type_of (kinds_seen kinds.now) (scope_seen scope.now) (tree.expr_of expr.now))
         (e.expr_place (tree.expr_of expr.now)))) }
 {
     let given = type_of(alloc, kinds, scope, expr)?;
@@ -482,7 +492,8 @@ fn check_unary_given(
     found: &mut Found,
 ) -> Result<(), AllocError>
     ensures { OnOk result (found.new.least ≡ least_from found.old.least
-        (e.unfit (Some (e.type_given op)) (e.type_of (kinds_seen kinds.now) (scope_seen scope.now) (tree.expr_of operand.now))
+        (e.unfit (Some (e.type_given op))
+        (e.type_of (kinds_seen kinds.now) (scope_seen scope.now) (tree.expr_of operand.now))
         (e.expr_place (tree.expr_of operand.now)))) }
 {
     let wanted = Some(type_given(op));
@@ -499,7 +510,8 @@ fn check_left_given(
     found: &mut Found,
 ) -> Result<(), AllocError>
     ensures { OnOk result (found.new.least ≡ least_from found.old.least
-        (e.left_refused (row_of op).takes (e.type_of (kinds_seen kinds.now) (scope_seen scope.now) (tree.expr_of left.now))
+        (e.left_refused (row_of op).takes
+        (e.type_of (kinds_seen kinds.now) (scope_seen scope.now) (tree.expr_of left.now))
         (e.expr_place (tree.expr_of left.now)))) }
 {
     let given = type_of(alloc, kinds, scope, left)?;
@@ -517,7 +529,8 @@ fn check_right_given(
     found: &mut Found,
 ) -> Result<(), AllocError>
     ensures { OnOk result (found.new.least ≡ least_from found.old.least
-        (e.unfit (e.operand_wanted (row_of op).takes (e.type_of (kinds_seen kinds.now) (scope_seen scope.now) (tree.expr_of left.now)))
+        (e.unfit (e.operand_wanted (row_of op).takes
+        (e.type_of (kinds_seen kinds.now) (scope_seen scope.now) (tree.expr_of left.now)))
         (e.type_of (kinds_seen kinds.now) (scope_seen scope.now) (tree.expr_of right.now))
         (e.expr_place (tree.expr_of right.now)))) }
 {
@@ -536,7 +549,8 @@ pub fn check_expr(
     found: &mut Found,
 ) -> Result<(), AllocError>
     ensures { OnOk result (found.new.least
-        ≡ found_in (kinds_seen kinds.now) (scope_seen scope.now) (tree.expr_of expr.now) found.old.least) }
+        ≡ found_in (kinds_seen kinds.now) (scope_seen scope.now)
+        (tree.expr_of expr.now) found.old.least) }
 {
     match expr {
         Expr::Number(..) | Expr::True(_) | Expr::False(_) => Ok(()),
@@ -576,7 +590,8 @@ pub fn check_wanted(
     found: &mut Found,
 ) -> Result<(), AllocError>
     ensures { OnOk result (found.new.least ≡ least_from found.old.least
-        (e.wanted_refused (kinds_seen kinds.now) (scope_seen scope.now) (option_map ty_of wanted.now) (tree.expr_of expr.now))) }
+        (e.wanted_refused (kinds_seen kinds.now) (scope_seen scope.now)
+        (option_map ty_of wanted.now) (tree.expr_of expr.now))) }
 {
     check_expr(alloc, kinds, scope, expr, found)?;
     check_given(alloc, kinds, scope, wanted, expr, found)?;

@@ -45,7 +45,8 @@ pub fn check_operand(
     found: &mut Found,
 ) -> Result<(), AllocError>
     ensures { OnOk result (found.new.least ≡ least_from found.old.least
-        (o.operand_refused (kinds_seen kinds.now) (scope_seen scope.now) (ty_of wanted.now) (tree.expr_of expr.now))) }
+        (o.operand_refused (kinds_seen kinds.now) (scope_seen scope.now) (ty_of wanted.now)
+        (tree.expr_of expr.now))) }
 {
     check_any(alloc, kinds, scope, expr, found)?;
     let given = type_of(alloc, kinds, scope, expr)?;
@@ -134,7 +135,8 @@ pub fn core_operand(
     expr: &Expr,
 ) -> Result<Operand, AllocError>
     ensures { IfOk result (λ r. operand_of r
-        ≡ o.core_operand (kinds_seen kinds.now) (scope_seen scope.now) (ty_of wanted.now) (tree.expr_of expr.now)) }
+        ≡ o.core_operand (kinds_seen kinds.now) (scope_seen scope.now) (ty_of wanted.now)
+        (tree.expr_of expr.now)) }
 {
     let got = type_of(alloc, kinds, scope, expr)?;
     let made = core_expr(alloc, kinds, scope, expr)?;

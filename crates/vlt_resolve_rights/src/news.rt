@@ -77,7 +77,8 @@ fn check_recipient_fit(recipient: Option<&Ty>, ty: &Ty, at: u32, found: &mut Fou
 #[tactic(auto, using(vlt_kinds_names::proofs::Least::least_of_both), unfolding(crate::specs::News::recipient_refused))]
 fn check_recipient(scope: &Scope<'_>, target: &Target, recipient: &Name, at: u32, found: &mut Found)
     ensures { found.new.least ≡ least_from found.old.least
-        (n.recipient_refused (scope_seen scope.now) (target_seen target.now) (tree.name_of recipient.now) at) }
+        (n.recipient_refused (scope_seen scope.now) (target_seen target.now)
+        (tree.name_of recipient.now) at) }
 {
     check_known(scope, recipient, found);
     check_recipient_fit(
@@ -97,7 +98,8 @@ fn check_adopter(
     found: &mut Found,
 )
     ensures { found.new.least ≡ least_from found.old.least
-        (n.adopter_refused (scope_seen scope.now) (target_seen target.now) (option_map tree.name_of recipient.now) at) }
+        (n.adopter_refused (scope_seen scope.now) (target_seen target.now)
+        (option_map tree.name_of recipient.now) at) }
 {
     match recipient {
         None => {}

@@ -45,7 +45,8 @@ fn keys_of_shape(
     names: &[Name],
 ) -> Result<Option<Items<KeyId>>, AllocError>
     ensures { IfOk result (λ ks. option_map keys_of ks
-        ≡ n.keys_of_shape (option_map (λ s. s.now) shape.entry) (scope_seen scope.now) (tree.names_of names.now)) }
+        ≡ n.keys_of_shape (option_map (λ s. s.now) shape.entry) (scope_seen scope.now)
+        (tree.names_of names.now)) }
 {
     match shape {
         None => Ok(None),

@@ -143,7 +143,8 @@ pub fn right_for(
     found: &mut Found,
 ) -> Result<Forms, AllocError>
     ensures refused { OnOk result (found.new.least ≡ least_from found.old.least (r.right_refused
-        (kinds_seen kinds.now) (scope_seen scope.now) (Some (target_seen target.now)) (tree.right_of right.now))) }
+        (kinds_seen kinds.now) (scope_seen scope.now) (Some (target_seen target.now))
+        (tree.right_of right.now))) }
     ensures forms { IfOk result (λ fs. forms_of fs
         ≡ r.right_forms (kinds_seen kinds.now) (scope_seen scope.now)
         (Some (target_seen target.now)) x.0 hidden.0 (tree.right_of right.now)) }
@@ -165,7 +166,8 @@ pub fn right(
     found: &mut Found,
 ) -> Result<Forms, AllocError>
     ensures refused { OnOk result (found.new.least ≡ least_from found.old.least (r.right_refused
-        (kinds_seen kinds.now) (scope_seen scope.now) (option_map target_seen target.now) (tree.right_of right.now))) }
+        (kinds_seen kinds.now) (scope_seen scope.now) (option_map target_seen target.now)
+        (tree.right_of right.now))) }
     ensures forms { IfOk result (λ fs. forms_of fs
         ≡ r.right_forms (kinds_seen kinds.now) (scope_seen scope.now)
         (option_map target_seen target.now) x.0 hidden.0 (tree.right_of right.now)) }

@@ -123,7 +123,8 @@ fn check_arguments(scope: &Scope<'_>, header: &[Wanted], keys: &[Name], found: &
 
 fn check_keys(shape: Option<&Shape>, scope: &Scope<'_>, keys: &[Name], found: &mut Found)
     ensures { found.new.least ≡ found_each (n.use_refused (scope_seen scope.now))
-        (t.header_uses (option_map (λ s. s.now) shape.entry) (tree.names_of keys.now)) found.old.least }
+        (t.header_uses (option_map (λ s. s.now) shape.entry)
+        (tree.names_of keys.now)) found.old.least }
 {
     match shape {
         None => check_open(scope, keys, found),

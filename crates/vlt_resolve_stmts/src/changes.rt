@@ -214,7 +214,8 @@ pub fn change_state(
 
 fn check_swapped(wanted: &Ty, given: Option<&Ty>, name: &Name, found: &mut Found)
     ensures { found.new.least ≡ least_from found.old.least
-        (s.swapped_misfit (ty_of wanted.now) (option_map (λ t. ty_of t.now) given.entry) (tree.name_of name.now)) }
+        (s.swapped_misfit (ty_of wanted.now) (option_map (λ t. ty_of t.now) given.entry)
+        (tree.name_of name.now)) }
 {
     match given {
         None => {}

@@ -200,7 +200,8 @@ fn declare_keyed<'a>(
     found: &mut Found,
 ) -> Result<Forms, AllocError>
     ensures refused { OnOk result (found.new.least ≡ least_from found.old.least (d.keyed_refused
-        (kinds_seen kinds.now) binds (scope_seen scope.old) (tree.ty_of ty.now) (tree.name_of name.now)
+        (kinds_seen kinds.now) binds (scope_seen scope.old) (tree.ty_of ty.now)
+        (tree.name_of name.now)
         (tree.right_of value.now) at)) }
     ensures became { IfOk result (λ fs. d.keyed_became (kinds_seen kinds.now) binds
         (scope_seen scope.old) (tree.ty_of ty.now) (tree.name_of name.now)
@@ -283,7 +284,8 @@ pub fn assign(
     found: &mut Found,
 ) -> Result<Forms, AllocError>
     ensures refused { OnOk result (found.new.least ≡ least_from found.old.least (d.assign_refused
-        (kinds_seen kinds.now) (scope_seen scope.old) (tree.name_of name.now) (tree.right_of value.now) at)) }
+        (kinds_seen kinds.now) (scope_seen scope.old) (tree.name_of name.now)
+        (tree.right_of value.now) at)) }
     ensures became { IfOk result (λ fs. d.assign_became (kinds_seen kinds.now)
         (scope_seen scope.old) (tree.name_of name.now) (tree.right_of value.now)
         ≡ (forms_of fs, scope_seen scope.new)) }

@@ -55,7 +55,8 @@ fn print(
         ≡ least_from found.old.least (e.wanted_refused (kinds_seen kinds.now)
         (scope_seen scope.now) (Some core.int) (tree.expr_of value.now))) }
     ensures forms { IfOk result (λ fs. forms_of fs ≡ core.simple (core.print
-        (e.core_expr (kinds_seen kinds.now) (scope_seen scope.now) (tree.expr_of value.now))) ∷ []) }
+        (e.core_expr (kinds_seen kinds.now) (scope_seen scope.now) (tree.expr_of value.now)))
+        ∷ []) }
 {
     check_wanted(alloc, kinds, scope, &Some(Ty::Int), value, found)?;
     let e = core_expr(alloc, kinds, scope, value)?;

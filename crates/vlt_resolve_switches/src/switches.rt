@@ -91,7 +91,8 @@ fn variant_covered(
     names: &[&[u8]],
 ) -> Result<bool, AllocError>
     ensures { IfOk result (λ b. b
-        ≡ s.variant_covered (kinds_seen kinds.now) (variant_in (Some (ty_of ty.now))) (texts_seen names.now)) }
+        ≡ s.variant_covered (kinds_seen kinds.now) (variant_in (Some (ty_of ty.now)))
+        (texts_seen names.now)) }
 {
     match ty {
         Ty::Var(t, _) => {
@@ -184,9 +185,11 @@ pub fn bind_arm<'a>(
         (scope_seen scope.old) (option_map case_seen case.now) (tree.name_of tick.now)
         (tree.names_of names.now))) }
     ensures scope { OnOk result (scope_seen scope.new
-        ≡ s.arm_scope (scope_seen scope.old) (option_map case_seen case.now) (tree.names_of names.now)) }
+        ≡ s.arm_scope (scope_seen scope.old) (option_map case_seen case.now)
+        (tree.names_of names.now)) }
     ensures numbers { IfOk result (λ vs. vars_of vs
-        ≡ s.arm_numbers (scope_seen scope.old) (option_map case_seen case.now) (tree.names_of names.now)) }
+        ≡ s.arm_numbers (scope_seen scope.old) (option_map case_seen case.now)
+        (tree.names_of names.now)) }
 {
     match case {
         None => Ok(Items::new(alloc)),

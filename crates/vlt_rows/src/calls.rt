@@ -121,7 +121,8 @@ fn take_clause<S: RowSink>(
     to: &mut S,
 ) -> Result<(), RowError>
     ensures { TookOrStopped S.takes S.stops
-        (clause_rows (program_of p.now) (func_of f.now) (keys_of keys.now) (map entry_of clause.now))
+        (clause_rows (program_of p.now) (func_of f.now) (keys_of keys.now)
+        (map entry_of clause.now))
         to.old to.new result }
 {
     for e in clause {

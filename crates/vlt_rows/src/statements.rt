@@ -43,7 +43,8 @@ fn take_put<S: RowSink>(
     to: &mut S,
 ) -> Result<(), RowError>
     ensures { TookOrStopped S.takes S.stops
-        (simple_rows (program_of p.now) (func_of f.now) (put x.0 position (expr_of e.now))) to.old to.new result }
+        (simple_rows (program_of p.now) (func_of f.now)
+        (put x.0 position (expr_of e.now))) to.old to.new result }
 {
     take_expr(p, f, e, to)?;
     take_touch(p, f, x, position, to)
@@ -58,7 +59,8 @@ fn take_make<S: RowSink>(
     to: &mut S,
 ) -> Result<(), RowError>
     ensures { TookOrStopped S.takes S.stops
-        (simple_rows (program_of p.now) (func_of f.now) (make x.0 (map operand_of args.now))) to.old to.new result }
+        (simple_rows (program_of p.now) (func_of f.now)
+        (make x.0 (map operand_of args.now))) to.old to.new result }
 {
     take_operands(p, f, args, to)?;
     take_key(f, x, Wanted::Absent, After::Set(only(0)), to)
@@ -67,7 +69,8 @@ fn take_make<S: RowSink>(
 /// `become x@s;`
 fn take_become<S: RowSink>(f: &Func, x: VarId, state: u8, to: &mut S) -> Result<(), RowError>
     ensures { TookOrStopped S.takes S.stops
-        (key_row (func_of f.now) x.0 wants_held (becomes_held (λ s. s == state))) to.old to.new result }
+        (key_row (func_of f.now) x.0 wants_held
+        (becomes_held (λ s. s == state))) to.old to.new result }
 {
     match f.reference(x) {
         None => Ok(()),
@@ -84,7 +87,8 @@ fn take_own<S: RowSink>(
     to: &mut S,
 ) -> Result<(), RowError>
     ensures { TookOrStopped S.takes S.stops
-        (simple_rows (program_of p.now) (func_of f.now) (own v.0 (operand_of value.now))) to.old to.new result }
+        (simple_rows (program_of p.now) (func_of f.now)
+        (own v.0 (operand_of value.now))) to.old to.new result }
 {
     take_operand(p, f, value, to)?;
     take_fill(f, v, to)
@@ -155,7 +159,8 @@ fn take_keys<S: RowSink>(
     to: &mut S,
 ) -> Result<(), RowError>
     ensures { TookOrStopped S.takes S.stops
-        (flat_map (case_key_rows (keys_of args.now) opens) (map case_key_of keys.now)) to.old to.new result }
+        (flat_map (case_key_rows (keys_of args.now) opens)
+        (map case_key_of keys.now)) to.old to.new result }
 {
     for key in keys {
         take_case_key(args, opens, *key, to)?;
@@ -173,7 +178,8 @@ fn take_case<S: RowSink>(
     to: &mut S,
 ) -> Result<(), RowError>
     ensures { TookOrStopped S.takes S.stops
-        (case_rows (program_of p.now) opens case (variant_of (func_of f.now) v.0)) to.old to.new result }
+        (case_rows (program_of p.now) opens case
+        (variant_of (func_of f.now) v.0)) to.old to.new result }
 {
     match f.variant(v) {
         None => Ok(()),
@@ -194,7 +200,8 @@ pub fn take_build<S: RowSink>(
     to: &mut S,
 ) -> Result<(), RowError>
     ensures { TookOrStopped S.takes S.stops
-        (simple_rows (program_of p.now) (func_of f.now) (build v.0 case (map operand_of args.now))) to.old to.new result }
+        (simple_rows (program_of p.now) (func_of f.now)
+        (build v.0 case (map operand_of args.now))) to.old to.new result }
 {
     take_operands(p, f, args, to)?;
     take_case(p, f, v, case, false, to)?;
@@ -211,7 +218,8 @@ fn take_swap<S: RowSink>(
     to: &mut S,
 ) -> Result<(), RowError>
     ensures { TookOrStopped S.takes S.stops
-        (simple_rows (program_of p.now) (func_of f.now) (swap x.0 position v.0)) to.old to.new result }
+        (simple_rows (program_of p.now) (func_of f.now)
+        (swap x.0 position v.0)) to.old to.new result }
 {
     take_touch(p, f, x, position, to)?;
     take_row(
@@ -233,7 +241,8 @@ fn take_open<S: RowSink>(
     to: &mut S,
 ) -> Result<(), RowError>
     ensures { TookOrStopped S.takes S.stops
-        (simple_rows (program_of p.now) (func_of f.now) (open_into x.0 (vars_of vs.now))) to.old to.new result }
+        (simple_rows (program_of p.now) (func_of f.now)
+        (open_into x.0 (vars_of vs.now))) to.old to.new result }
 {
     take_end(p, f, x, to)?;
     take_fills(f, vs, to)
@@ -277,7 +286,8 @@ pub fn take_arm<S: RowSink>(
     to: &mut S,
 ) -> Result<(), RowError>
     ensures { TookOrStopped S.takes S.stops
-        (arm_rows (program_of p.now) (func_of f.now) v.0 case (vars_of vs.now)) to.old to.new result }
+        (arm_rows (program_of p.now) (func_of f.now) v.0 case
+        (vars_of vs.now)) to.old to.new result }
 {
     take_case(p, f, v, case, true, to)?;
     take_fills(f, vs, to)
@@ -292,7 +302,8 @@ fn take_guard<S: RowSink>(
     to: &mut S,
 ) -> Result<(), RowError>
     ensures { TookOrStopped S.takes S.stops
-        (on_key (guarded_of (func_of f.now) y.0) (λ g. row (a_key g.key) (wanted_of wanted) (after_of after))) to.old to.new result }
+        (on_key (guarded_of (func_of f.now) y.0)
+        (λ g. row (a_key g.key) (wanted_of wanted) (after_of after))) to.old to.new result }
 {
     match f.guarded(y) {
         None => Ok(()),
@@ -310,7 +321,8 @@ fn take_guard<S: RowSink>(
 /// The key that a focus binds is held in the release set.
 fn take_focused<S: RowSink>(p: &Program, f: &Func, z: VarId, to: &mut S) -> Result<(), RowError>
     ensures { TookOrStopped S.takes S.stops
-        (on_key (reference_of (func_of f.now) z.0) (λ r. row (a_key r.key) wants_absent (becomes_held (release_set (program_of p.now) r.type)))) to.old to.new result }
+        (on_key (reference_of (func_of f.now) z.0) (λ r. row (a_key r.key) wants_absent
+        (becomes_held (release_set (program_of p.now) r.type)))) to.old to.new result }
 {
     match f.reference(z) {
         None => Ok(()),

@@ -27,7 +27,8 @@ pub fn cases_are_given()
     ensures { (p : Program) (f g : Func) (c : Context) (h : HeldMap) (ids : Ids) (frame : Frame)
         (w : World) (os real : List Object) (keys states : List ℕ) (heap : ℕ) (behind : HeldMap)
         (wider : Ids) (go : Option Value → Frame → World → Step) (ty : Ty) (t case : ℕ)
-        (args : List ℕ) (d : CaseDecl) (ss : List ℕ) (ps : List Piece) → Agrees p f c h ids [] frame os →
+        (args : List ℕ) (d : CaseDecl) (ss : List ℕ) (ps : List Piece)
+        → Agrees p f c h ids [] frame os →
         g.result ≡ Some ty →
         variant_in (Some ty) ≡ Some (record { type = t; args = args }) → case_at p t case ≡ Some d →
         IsHostCase p g t args d → AreNamed g keys frame os → GoTogether IsKeyState d.keys ss →

@@ -10,7 +10,8 @@ pub fn keys_name_what_is_under_them()
     ensures named { (type name : Option ℕ) (status : Status) (d k : ℕ) (os : ℕ → Object) →
         KeyAgrees type status d k name os → (m : ℕ) → IsUnder d k (os m).owner → name ≡ Some m }
     ensures none { (type name : Option ℕ) (status : Status) (d k : ℕ) (os : ℕ → Object) →
-        status ≡ absent → KeyAgrees type status d k name os → (m : ℕ) → IsUnder d k (os m).owner → ⊥ }
+        status ≡ absent → KeyAgrees type status d k name os → (m : ℕ) → IsUnder d k (os m).owner
+        → ⊥ }
     ensures kept { (type name : Option ℕ) (status : Status) (d k : ℕ) (os changed : ℕ →
         Object) → SameUnder d k os changed → KeyAgrees type status d k name os →
         KeyAgrees type status d k name changed }

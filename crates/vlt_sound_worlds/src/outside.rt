@@ -28,7 +28,8 @@ pub fn objects_go_out_and_come_back()
         n < length os → h (a_key k) ≡ maps.absent → then (a_key k) ≡ maps.held states →
         ((t : Tok) → (t ≡ a_key k → ⊥) → then t ≡ h t) → IsTrue (states (look os n).state) →
         IsOfType (key_type f k) (look os n).type →
-        Agrees p f c then ids hand frame (with_changed_object n (with_owner (held frame.depth k)) os) }
+        Agrees p f c then ids hand frame
+        (with_changed_object n (with_owner (held frame.depth k)) os) }
 {}
 
 /// What is so of a running function stays so where the host makes an object, gives one another state, and hands one over.

@@ -21,7 +21,8 @@ pub fn scopes_only_widen()
 /// What is known of a scope holds where a body begins, and each binding that breaks no rule keeps it.
 pub fn scopes_are_known()
     ensures start { (p : Program) (f : Func) (c : Context) →
-        ((k : ℕ) → IsTrue (c.head k) → nat_lt k (length f.keys) ≡ true → has (head_keys f) k ≡ true) →
+        ((k : ℕ) → IsTrue (c.head k) → nat_lt k (length f.keys) ≡ true
+        → has (head_keys f) k ≡ true) →
         c.pins ≡ [] → IsScoped f c (first_ids p f) }
     ensures simple { (p : Program) (f : Func) (c : Context) (ids : Ids) (s : Simple) →
         HasKeys f → simple_broken p f ids s ≡ [] → IsScoped f c ids →
