@@ -9,16 +9,20 @@ ghost use Rattle.vaultc_core.specs.View.{seen_taken};
 
 use crate::words::Taken;
 use std::alloc::Global;
+use thiserror::Error;
 use vlt_base::{SOURCE_BYTES, limit};
 use vlt_io::{Store, StoreError};
 
 /// Why the bytes of files aren't had.
-#[derive(Clone, Copy, Debug)]
+#[derive(Clone, Copy, Debug, Error)]
 pub enum FileError<'a> {
     /// There is no file of this name, or reading it failed.
+    #[error("the file isn't read")]
     Unread(&'a str),
     /// A file has more bytes than the limit of this number allows.
+    #[error("the file is too long")]
     TooLong(u8),
+    #[error("there was no memory for the file")]
     Memory,
 }
 

@@ -4,14 +4,17 @@ ghost use Rattle.std.specs.Prelude.{◌≡◌};
 ghost use Rattle.vlt_flow.specs.declared.errors.Stop.TheVariants.{Memory, Refused};
 
 use std::alloc::{AllocError, AllocFailed};
+use thiserror::Error;
 use vlt_keyset::{JoinFault, TokenFault};
 use vlt_rows::RowError;
 
 /// Why a walk gives no maps.
-#[derive(Clone, Copy, Debug, PartialEq, Eq)]
+#[derive(Clone, Copy, Debug, PartialEq, Eq, Error)]
 pub enum Stop {
     /// A row or a join is refused.
+    #[error("a row or a join is refused")]
     Refused,
+    #[error("there was no memory for the maps")]
     Memory,
 }
 

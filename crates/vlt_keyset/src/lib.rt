@@ -16,9 +16,9 @@ mod tables;
 
 pub use faults::{JoinFault, TokenFault};
 use statuses::{changed, is_wanted};
-use tables::{all_below, all_same, first_apart, unite_all};
 use std::alloc::{AllocError, Global};
 use std::marker::Model;
+use tables::{all_below, all_same, first_apart, unite_all};
 use vlt_base::{KeyId, Memory, VarId};
 use vlt_core::{Row, Status, Tok};
 

@@ -14,10 +14,10 @@ ghost use Rattle.vlt_lexer.specs.declared.LexError.{LexError};
 mod scan;
 mod token;
 
-pub use token::{Mark, Token, TokenKind, Word};
 use scan::{Piece, Stuck, next_piece};
 use std::alloc::{AllocError, AllocFailed, Global};
 use thiserror::Error;
+pub use token::{Mark, Token, TokenKind, Word};
 use vlt_base::{Span, limit};
 
 /// Why a text has no list of tokens. A place is the number of bytes before it.

@@ -4,12 +4,15 @@ ghost use Rattle.std.specs.Prelude.{◌≡◌};
 ghost use Rattle.vlt_resolve_walk.specs.declared.stop.Stop.TheVariants as stop;
 
 use std::alloc::AllocError;
+use thiserror::Error;
 use vlt_kinds_names::Refusal;
 
 /// Why a walk stopped.
-#[derive(Clone, Copy, Debug, PartialEq, Eq)]
+#[derive(Clone, Copy, Debug, PartialEq, Eq, Error)]
 pub enum Stop {
+    #[error("a rule on names and types is broken")]
     Refused(Refusal),
+    #[error("there was no memory for the program")]
     Memory,
 }
 

@@ -185,7 +185,8 @@ fn put_case(
     ensures size { IsSameSize heap.old heap.new }
     ensures kept { IsKept to values.old values.new }
     ensures puts { PutsCase (keys_of keys.now) (keys_of args.now) read.entry.case
-        (case_of read.entry.decl.now) read.entry.left.now to values.old values.new heap.old heap.new result }
+        (case_of read.entry.decl.now) read.entry.left.now to
+        values.old values.new heap.old heap.new result }
 {
     let listed = read.decl.keys.as_slice();
     let payload = read.decl.payload.as_slice();
