@@ -75,7 +75,7 @@ impl Stuck {
 }
 
 /// The token of the text between what is left of it before the token and behind it.
-fn token<'a>(kind: TokenKind, text: &str, left: &'a str, after: &str) -> Token<'a>
+fn token_between<'a>(kind: TokenKind, text: &str, left: &'a str, after: &str) -> Token<'a>
     requires size { length text.now < 2 ^ 32 }
     requires within { length left.now ≤ length text.now }
     requires behind { length after.now ≤ length left.now }
@@ -112,7 +112,7 @@ fn read_text(alloc: Global, text: &str) -> Result<Vec<Token<'_>>, LexError>
                 if found.len() as u64 == limit(3) {
                     return Err(LexError::Limit(3));
                 }
-                found.push(token(kind, text, left, after))?;
+                found.push(token_between(kind, text, left, after))?;
                 left = after;
             }
             Err(stuck) => return Err(stuck.at((text.len() - left.len()) as u32)),

@@ -51,15 +51,15 @@ loop-found-preserved c =
     let utf8 : IsUtf8 after = first_of (search rules, grind (arith, common_steps)) in
     let shorter : length after < length left = first_of (search rules, grind (arith, common_steps)) in
     let within : length left ≤ total = c.loop-found.invariant.within in
-    let one = lexeme c.token.result in
+    let one = lexeme c.token_between.result in
     let is : IsToken total (chars left) one (chars after) =
-    stands_token total left after one c.loop-found.invariant.utf8 utf8 (subst (λ k. Stands k (chars left) (chars after)) (sym c.token.ensures.kind) stands) c.token.ensures.text c.token.ensures.from c.token.ensures.to in
-    let pushed : c.push.new.self.items ≡ c.loop-found.found.items ++ c.token.result ∷ [] = first_of (search rules, grind (arith, common_steps)) in
+    stands_token total left after one c.loop-found.invariant.utf8 utf8 (subst (λ k. Stands k (chars left) (chars after)) (sym c.token_between.ensures.kind) stands) c.token_between.ensures.text c.token_between.ensures.from c.token_between.ensures.to in
+    let pushed : c.push.new.self.items ≡ c.loop-found.found.items ++ c.token_between.result ∷ [] = first_of (search rules, grind (arith, common_steps)) in
     record {
       utf8 = utf8;
       within = omega arith;
       few = first_of (search rules, grind (arith, common_steps));
-      read = found_token total (chars c.args.text.now) c.loop-found.found.items c.push.new.self.items c.token.result (chars left) (chars after) pushed is c.loop-found.invariant.read;
+      read = found_token total (chars c.args.text.now) c.loop-found.found.items c.push.new.self.items c.token_between.result (chars left) (chars after) pushed is c.loop-found.invariant.read;
     }
 
 pub returns-in-Err-clause-refused : goal.returns-in-Err-clause-refused
