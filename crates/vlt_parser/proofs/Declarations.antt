@@ -8,7 +8,7 @@ use Rattle.vlt_syntax.specs.Tokens as t
 use Rattle.vlt_syntax.specs.Tokens.{Token}
 use Rattle.vlt_automaton.specs.Language as m
 use Rattle.vlt_syntax.specs.Grammar.{language}
-use Rattle.vlt_automaton.specs.Language.{Symbol, Reaction, Thing, Pending, Left, Located, run, followed, settled, gone_on, reaction_behind, may_skip, depth_read, on_sign}
+use Rattle.vlt_automaton.specs.Language.{Symbol, Reaction, Thing, Pending, Left, Located, run, with_behind, next_after, go_on_with, reaction_behind, may_skip, depth_read, on_sign}
 use Rattle.vlt_automaton.proofs.Sameness.{same_word-refl}
 use Rattle.vlt_lexer.specs.declared.token.Token.{Token as CodeToken}
 use Rattle.vlt_parser_exprs.specs.declared.lists.Most.{Most}
@@ -37,7 +37,7 @@ ty_shape (t.keyword word.Tracked) = inr (_, refl)
 ty_shape (t.name text) = inr (_, refl)
 ty_shape _ = inl refl
 
-followed_shape : (r : Reaction) (ys : List Symbol) → IsTakenOrRefused r → IsTakenOrRefused (followed r ys)
+followed_shape : (r : Reaction) (ys : List Symbol) → IsTakenOrRefused r → IsTakenOrRefused (with_behind r ys)
 followed_shape r ys (inl e) = inl (rw e refl)
 followed_shape r ys (inr (xs, e)) = inr (xs ++ ys, rw e refl)
 
@@ -79,11 +79,11 @@ pub decl_can : (ts : List Located) → can_begin m.start_decl ts ≡ true → Ca
 decl_can = can m.start_decl decl_shape
 
 -- what is no declaration by its word begins one where a type begins
-pub other_begins : (x : Token) (ts rest : List Located) → m.start_decl x ≡ followed (followed (m.start_ty x) m.head_rest) (m.block language.depth ∷ []) → Begins x ts rest
+pub other_begins : (x : Token) (ts rest : List Located) → m.start_decl x ≡ with_behind (with_behind (m.start_ty x) m.head_rest) (m.block language.depth ∷ []) → Begins x ts rest
     → can_begin m.start_decl ts ≡ can_begin m.start_ty ts
-other_begins x ts rest is b = rw b.is (rw is (takes_followed (followed (m.start_ty x) m.head_rest) _ ∙ takes_followed (m.start_ty x) m.head_rest))
+other_begins x ts rest is b = rw b.is (rw is (takes_followed (with_behind (m.start_ty x) m.head_rest) _ ∙ takes_followed (m.start_ty x) m.head_rest))
   where
-    takes_followed : (r : Reaction) (ys : List Symbol) → takes (followed r ys) ≡ takes r
+    takes_followed : (r : Reaction) (ys : List Symbol) → takes (with_behind r ys) ≡ takes r
     takes_followed (m.take xs) ys = refl
     takes_followed m.skip ys = refl
     takes_followed m.refuse ys = refl
@@ -127,10 +127,10 @@ pub decl_word : (w : Word) (xs s : List Symbol) (ts rest : List Located) → m.s
 decl_word w xs s ts rest is b = rw b.is (rw is (rw (same_word-refl w) refl))
 
 -- a declaration that none of the words begins
-pub decl_other : (x : Token) (s : List Symbol) (ts rest : List Located) → m.start_decl x ≡ followed (m.start_head x) (m.block language.depth ∷ []) → Begins x ts rest
+pub decl_other : (x : Token) (s : List Symbol) (ts rest : List Located) → m.start_decl x ≡ with_behind (m.start_head x) (m.block language.depth ∷ []) → Begins x ts rest
     → run (m.thing m.a_decl ∷ s) ts ≡ run (m.head ∷ m.block language.depth ∷ s) ts
 decl_other x s ts rest is b =
-    rw b.is (rw is (ap (gone_on (m.run_over rest) b.at) (settled_followed (m.start_head x) (m.block language.depth ∷ []) s _ _ (skips_followed (m.start_result_type x) m.head_rest ∙ result_type_takes x))))
+    rw b.is (rw is (ap (go_on_with (m.run_over rest) b.at) (settled_followed (m.start_head x) (m.block language.depth ∷ []) s _ _ (skips_followed (m.start_result_type x) m.head_rest ∙ result_type_takes x))))
 
 pub decls_one : (n next : ℕ) (s : List Symbol) (ts : List Located) → CanBegin m.start_decl ts → next ≡ n + 1 → next ≤ language.decls
     → run (m.decls (decls_left n) ∷ s) ts ≡ run (m.thing m.a_decl ∷ m.decls (decls_left next) ∷ s) ts

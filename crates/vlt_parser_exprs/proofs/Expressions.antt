@@ -9,7 +9,7 @@ use Rattle.vlt_syntax.specs.Tokens as t
 use Rattle.vlt_syntax.specs.Tokens.{Token}
 use Rattle.vlt_automaton.specs.Language as m
 use Rattle.vlt_syntax.specs.Grammar.{language, level}
-use Rattle.vlt_automaton.specs.Language.{Symbol, Reaction, Thing, Pending, Left, Located, run, followed, settled, gone_on, reaction_behind, may_skip, depth_read, on_sign}
+use Rattle.vlt_automaton.specs.Language.{Symbol, Reaction, Thing, Pending, Left, Located, run, with_behind, next_after, go_on_with, reaction_behind, may_skip, depth_read, on_sign}
 use Rattle.vlt_parser_exprs.specs.declared.error.ParseError.{ParseError}
 use Rattle.vlt_parser_exprs.specs.declared.error.ParseError.TheVariants.{Limit}
 use Rattle.vlt_parser_exprs.proofs.Runs.{fails_with, begins, name_takes, operand_takes}
@@ -124,13 +124,13 @@ pub right_ended : (l inside depth right least room : ℕ) (fs : List Pending) (s
 right_ended l inside depth right least room fs s [] ends = refl
 right_ended l inside depth right least room fs s (x ∷ xs) ends = by_token x.token ends
   where
-    by_operator : (o : Option Op) → level_of o < l → (below : Unit {0} → m.Next) → settled (m.climb_by o right (m.level_from l inside ∷ m.right_of least room depth ∷ fs)) s below ≡ settled (m.climb_by o (suc (max depth right)) (m.level_from least room ∷ fs)) s below
+    by_operator : (o : Option Op) → level_of o < l → (below : Unit {0} → m.Next) → next_after (m.climb_by o right (m.level_from l inside ∷ m.right_of least room depth ∷ fs)) s below ≡ next_after (m.climb_by o (suc (max depth right)) (m.level_from least room ∷ fs)) s below
     by_operator None ends below = refl
     by_operator (Some o) ends below = rw (lt-ltb (level o) l ends) refl
 
     by_token : (t : Token) → sign_level (sign_in t) < l
-        → gone_on (m.run_over xs) x.at (m.step (m.operations right (m.level_from l inside ∷ m.right_of least room depth ∷ fs) ∷ s) t) ≡ gone_on (m.run_over xs) x.at (m.step (m.operations (suc (max depth right)) (m.level_from least room ∷ fs) ∷ s) t)
-    by_token (t.sign sg) ends = ap (gone_on (m.run_over xs) x.at) (by_operator (operator_of sg) ends _)
+        → go_on_with (m.run_over xs) x.at (m.step (m.operations right (m.level_from l inside ∷ m.right_of least room depth ∷ fs) ∷ s) t) ≡ go_on_with (m.run_over xs) x.at (m.step (m.operations (suc (max depth right)) (m.level_from least room ∷ fs) ∷ s) t)
+    by_token (t.sign sg) ends = ap (go_on_with (m.run_over xs) x.at) (by_operator (operator_of sg) ends _)
     by_token _ ends = refl
 
 -- no operator between operands has a level below 2

@@ -9,7 +9,7 @@ use Rattle.vlt_syntax.specs.Tokens as t
 use Rattle.vlt_syntax.specs.Tokens.{Token}
 use Rattle.vlt_automaton.specs.Language as m
 use Rattle.vlt_syntax.specs.Grammar.{language}
-use Rattle.vlt_automaton.specs.Language.{Symbol, Reaction, Thing, Pending, Left, Located, run, followed, settled, gone_on, reaction_behind, may_skip, depth_read, on_sign}
+use Rattle.vlt_automaton.specs.Language.{Symbol, Reaction, Thing, Pending, Left, Located, run, with_behind, next_after, go_on_with, reaction_behind, may_skip, depth_read, on_sign}
 use Rattle.vlt_automaton.proofs.Sameness.{same_mark-refl}
 use Rattle.vlt_lexer.specs.declared.token.Token.{Token as CodeToken}
 use Rattle.vlt_parser_exprs.specs.declared.lists.Most.{Most}
@@ -38,19 +38,19 @@ abbrev pub is_skip : Reaction → Bool
 is_skip m.skip = true
 is_skip _ = false
 
-pub skips_followed : (r : Reaction) (xs : List Symbol) → is_skip (followed r xs) ≡ is_skip r
+pub skips_followed : (r : Reaction) (xs : List Symbol) → is_skip (with_behind r xs) ≡ is_skip r
 skips_followed (m.take ys) xs = refl
 skips_followed m.skip xs = refl
 skips_followed m.refuse xs = refl
 skips_followed (m.exceed n) xs = refl
 
-pub settled_followed : (r : Reaction) (rest s : List Symbol) (a b : Unit {0} → m.Next) → is_skip r ≡ false → settled (followed r rest) s a ≡ settled r (rest ++ s) b
+pub settled_followed : (r : Reaction) (rest s : List Symbol) (a b : Unit {0} → m.Next) → is_skip r ≡ false → next_after (with_behind r rest) s a ≡ next_after r (rest ++ s) b
 settled_followed (m.take xs) rest s a b e = ap m.to (append_assoc xs rest s)
 settled_followed m.skip rest s a b e = absurd cc
 settled_followed m.refuse rest s a b e = refl
 settled_followed (m.exceed n) rest s a b e = refl
 
-pub settled_alike : (r : Reaction) (s : List Symbol) (a b : Unit {0} → m.Next) → is_skip r ≡ false → settled r s a ≡ settled r s b
+pub settled_alike : (r : Reaction) (s : List Symbol) (a b : Unit {0} → m.Next) → is_skip r ≡ false → next_after r s a ≡ next_after r s b
 settled_alike (m.take xs) s a b e = refl
 settled_alike m.skip s a b e = absurd cc
 settled_alike m.refuse s a b e = refl
@@ -58,11 +58,11 @@ settled_alike (m.exceed n) s a b e = refl
 
 -- a symbol that begins as another does, and then has these
 pub begins : (y z : Symbol) (rest : List Symbol) → may_skip y ≡ false → may_skip z ≡ false
-    → ((x : Token) → reaction_behind 0 y x ≡ followed (reaction_behind 0 z x) rest) → ((x : Token) → is_skip (reaction_behind 0 z x) ≡ false)
+    → ((x : Token) → reaction_behind 0 y x ≡ with_behind (reaction_behind 0 z x) rest) → ((x : Token) → is_skip (reaction_behind 0 z x) ≡ false)
     → (s : List Symbol) (ts : List Located) → run (y ∷ s) ts ≡ run (z ∷ rest ++ s) ts
 begins y z rest at_y at_z same takes s [] = rw (at_y, at_z) refl
 begins y z rest at_y at_z same takes s (x ∷ xs) =
-    rw (same x.token) (ap (gone_on (m.run_over xs) x.at) (settled_followed (reaction_behind 0 z x.token) rest s _ _ (takes x.token)))
+    rw (same x.token) (ap (go_on_with (m.run_over xs) x.at) (settled_followed (reaction_behind 0 z x.token) rest s _ _ (takes x.token)))
 
 -- a symbol that begins with a sign, and that comes
 pub sign_taken : (y : Symbol) (opening : Mark) (xs : List Symbol) (other : Token → Reaction) → ((x : Token) → reaction_behind 0 y x ≡ on_sign opening x (m.take xs) (other x))
@@ -163,7 +163,7 @@ simple_takes (t.keyword word.Become) = refl
 simple_takes (t.keyword word.Swap) = refl
 simple_takes (t.keyword word.Open) = refl
 simple_takes (t.name text) = refl
-simple_takes x = skips_followed (m.start_ty x) m.declared ∙ ty_takes x
+simple_takes x = skips_followed (m.start_ty x) m.declaration_tail ∙ ty_takes x
 
 pub stmt_takes : (room : ℕ) (x : Token) → is_skip (m.start_stmt room x) ≡ false
 stmt_takes room (t.sign mark.OpenBrace) = enter_takes room _
@@ -198,7 +198,7 @@ thing_takes m.a_decl x = decl_takes x
 
 pub listed_closed : (k : Thing) (closing : Mark) (left : Option Left) (s : List Symbol) (ts rest : List Located)
     → Begins (t.sign closing) ts rest → run (m.listed k closing left ∷ s) ts ≡ run s rest
-listed_closed k closing left s ts rest = sign_taken (m.listed k closing left) closing [] (λ x. followed (m.start_thing k x) (m.further k closing (m.less left) ∷ [])) (λ x. refl) s ts rest
+listed_closed k closing left s ts rest = sign_taken (m.listed k closing left) closing [] (λ x. with_behind (m.start_thing k x) (m.further k closing (m.less left) ∷ [])) (λ x. refl) s ts rest
 
 -- a limit with one less
 less_one : (most : Option Most) → m.less (left_of most 0) ≡ left_of most 1
@@ -209,7 +209,7 @@ pub listed_some : (k : Thing) (closing : Mark) (most : Option Most) (s : List Sy
     → LacksSign closing ts → run (m.listed k closing (left_of most 0) ∷ s) ts ≡ run (m.thing k ∷ m.further k closing (left_of most 1) ∷ s) ts
 listed_some k closing most s [] lacks = refl
 listed_some k closing most s (x ∷ xs) lacks =
-    rw lacks (rw (less_one most) (ap (gone_on (m.run_over xs) x.at) (settled_followed (m.start_thing k x.token) (m.further k closing (left_of most 1) ∷ []) s _ _ (thing_takes k x.token))))
+    rw lacks (rw (less_one most) (ap (go_on_with (m.run_over xs) x.at) (settled_followed (m.start_thing k x.token) (m.further k closing (left_of most 1) ∷ []) s _ _ (thing_takes k x.token))))
 
 pub enclosed_some : (k : Thing) (opening closing : Mark) (most : Option Most) (s : List Symbol) (ts rest : List Located)
     → Begins (t.sign opening) ts rest → run (m.enclosed k opening closing (left_of most 0) ∷ s) ts ≡ run (m.thing k ∷ m.further k closing (left_of most 1) ∷ s) rest
@@ -234,7 +234,7 @@ states_several s ts rest = sign_taken m.states mark.OpenBrace (m.name ∷ m.furt
 
 pub states_one : (s : List Symbol) (ts : List Located) → LacksSign mark.OpenBrace ts → run (m.states ∷ s) ts ≡ run (m.name ∷ s) ts
 states_one s [] lacks = refl
-states_one s (x ∷ xs) lacks = rw lacks (ap (gone_on (m.run_over xs) x.at) (settled_alike (m.start_name x.token) s _ _ (name_takes x.token)))
+states_one s (x ∷ xs) lacks = rw lacks (ap (go_on_with (m.run_over xs) x.at) (settled_alike (m.start_name x.token) s _ _ (name_takes x.token)))
 
 pub at_states_some : (s : List Symbol) (ts rest : List Located) → Begins (t.sign mark.At) ts rest → run (m.at_states ∷ s) ts ≡ run (m.states ∷ s) rest
 at_states_some s ts rest = sign_taken m.at_states mark.At (m.states ∷ []) (λ x. m.skip) (λ x. refl) s ts rest
@@ -250,16 +250,16 @@ named_is s ts = begins m.named m.name m.named_rest refl refl (λ x. refl) name_t
 
 pub tracked_keyed : (s : List Symbol) (ts rest : List Located) → Begins (t.sign mark.OpenParen) ts rest → run (m.behind_tracked ∷ s) ts ≡ run (m.name ∷ m.sign mark.CloseParen ∷ m.named ∷ s) rest
 tracked_keyed s ts rest = sign_taken m.behind_tracked mark.OpenParen (m.name ∷ m.sign mark.CloseParen ∷ m.named ∷ [])
-    (λ x. on_sign mark.At x (m.take (m.states ∷ m.named ∷ [])) (followed (m.start_name x) m.named_rest)) (λ x. refl) s ts rest
+    (λ x. on_sign mark.At x (m.take (m.states ∷ m.named ∷ [])) (with_behind (m.start_name x) m.named_rest)) (λ x. refl) s ts rest
 
 pub tracked_plain : (s : List Symbol) (ts : List Located) → LacksSign mark.OpenParen ts → run (m.behind_tracked ∷ s) ts ≡ run (m.at_states ∷ m.named ∷ s) ts
 tracked_plain s [] lacks = refl
 tracked_plain s (x ∷ xs) lacks = rw lacks (by_at (m.is_sign mark.At x.token))
   where
-    by_at : (b : Bool) → gone_on (m.run_over xs) x.at (settled (if b then m.take (m.states ∷ m.named ∷ []) else followed (m.start_name x.token) m.named_rest) s (λ u. m.step_behind 0 s x.token))
-        ≡ gone_on (m.run_over xs) x.at (settled (if b then m.take (m.states ∷ []) else m.skip) (m.named ∷ s) (λ u. m.step_behind 0 (m.named ∷ s) x.token))
+    by_at : (b : Bool) → go_on_with (m.run_over xs) x.at (next_after (if b then m.take (m.states ∷ m.named ∷ []) else with_behind (m.start_name x.token) m.named_rest) s (λ u. m.step_behind 0 s x.token))
+        ≡ go_on_with (m.run_over xs) x.at (next_after (if b then m.take (m.states ∷ []) else m.skip) (m.named ∷ s) (λ u. m.step_behind 0 (m.named ∷ s) x.token))
     by_at true = refl
-    by_at false = ap (gone_on (m.run_over xs) x.at) (settled_alike (followed (m.start_name x.token) m.named_rest) s _ _ (skips_followed (m.start_name x.token) m.named_rest ∙ name_takes x.token))
+    by_at false = ap (go_on_with (m.run_over xs) x.at) (settled_alike (with_behind (m.start_name x.token) m.named_rest) s _ _ (skips_followed (m.start_name x.token) m.named_rest ∙ name_takes x.token))
 
 pub type_name_guards : (s : List Symbol) (ts rest : List Located) → Begins (t.sign mark.Colon) ts rest → run (m.behind_type_name ∷ s) ts ≡ run (m.named ∷ s) rest
 type_name_guards s ts rest = sign_taken m.behind_type_name mark.Colon (m.named ∷ []) (λ x. on_sign mark.Less x (m.take (m.name ∷ m.further m.a_name mark.Greater None ∷ [])) m.skip) (λ x. refl) s ts rest

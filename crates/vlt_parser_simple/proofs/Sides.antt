@@ -5,7 +5,7 @@ use Rattle.vlt_lexer.specs.declared.token.Mark.TheVariants as mark
 use Rattle.vlt_syntax.specs.Tokens as t
 use Rattle.vlt_syntax.specs.Tokens.{Token}
 use Rattle.vlt_automaton.specs.Language as m
-use Rattle.vlt_automaton.specs.Language.{Symbol, Reaction, Thing, Pending, Left, Located, run, followed, settled, gone_on, reaction_behind, may_skip, depth_read, on_sign}
+use Rattle.vlt_automaton.specs.Language.{Symbol, Reaction, Thing, Pending, Left, Located, run, with_behind, next_after, go_on_with, reaction_behind, may_skip, depth_read, on_sign}
 use Rattle.vlt_parser_exprs.proofs.Runs.{sign_taken, sign_skipped}
 use Rattle.vlt_parser_exprs.specs.Ahead.{Begins, LacksSign}
 
@@ -32,16 +32,16 @@ pub right_variable : (text : List ℕ) (s : List Symbol) (ts rest : List Located
 right_variable text s ts [] b lacks = rw b.is refl
 right_variable text s ts (x ∷ xs) b lacks = rw b.is (rw lacks (by_dot (m.is_sign mark.Dot x.token)))
   where
-    by_reaction : (r : Reaction) → settled (followed r (m.end_expr ∷ [])) s (λ u. m.step_behind 0 s x.token) ≡ settled r (m.end_expr ∷ s) (λ u. m.step_behind 1 (m.end_expr ∷ s) x.token)
+    by_reaction : (r : Reaction) → next_after (with_behind r (m.end_expr ∷ [])) s (λ u. m.step_behind 0 s x.token) ≡ next_after r (m.end_expr ∷ s) (λ u. m.step_behind 1 (m.end_expr ∷ s) x.token)
     by_reaction (m.take ys) = ap m.to (append_assoc ys (m.end_expr ∷ []) s)
     by_reaction m.skip = refl
     by_reaction m.refuse = refl
     by_reaction (m.exceed n) = refl
 
-    by_dot : (b : Bool) → gone_on (m.run_over xs) x.at (settled (if b then m.take (m.name ∷ m.operations 1 m.whole_expr ∷ m.end_expr ∷ []) else followed (m.react_operations 1 m.whole_expr x.token) (m.end_expr ∷ [])) s (λ u. m.step_behind 0 s x.token))
-        ≡ gone_on (m.run_over xs) x.at (settled (if b then m.take (m.name ∷ m.operations 1 m.whole_expr ∷ []) else m.react_operations 1 m.whole_expr x.token) (m.end_expr ∷ s) (λ u. m.step_behind 1 (m.end_expr ∷ s) x.token))
+    by_dot : (b : Bool) → go_on_with (m.run_over xs) x.at (next_after (if b then m.take (m.name ∷ m.operations 1 m.whole_expr ∷ m.end_expr ∷ []) else with_behind (m.react_operations 1 m.whole_expr x.token) (m.end_expr ∷ [])) s (λ u. m.step_behind 0 s x.token))
+        ≡ go_on_with (m.run_over xs) x.at (next_after (if b then m.take (m.name ∷ m.operations 1 m.whole_expr ∷ []) else m.react_operations 1 m.whole_expr x.token) (m.end_expr ∷ s) (λ u. m.step_behind 1 (m.end_expr ∷ s) x.token))
     by_dot true = refl
-    by_dot false = ap (gone_on (m.run_over xs) x.at) (by_reaction (m.react_operations 1 m.whole_expr x.token))
+    by_dot false = ap (go_on_with (m.run_over xs) x.at) (by_reaction (m.react_operations 1 m.whole_expr x.token))
 
 pub returned_nothing : (s : List Symbol) (ts rest : List Located) → Begins (t.sign mark.Semicolon) ts rest → run (m.returned ∷ s) ts ≡ run s ts
 returned_nothing s ts rest b = rw b.is refl

@@ -5,7 +5,7 @@ use Rattle.vlt_lexer.specs.declared.token.Mark.TheVariants as mark
 use Rattle.vlt_syntax.specs.Tokens as t
 use Rattle.vlt_syntax.specs.Tokens.{Token}
 use Rattle.vlt_automaton.specs.Language as m
-use Rattle.vlt_automaton.specs.Language.{Symbol, Reaction, Thing, Pending, Left, Located, run, followed, settled, gone_on, reaction_behind, may_skip, depth_read, on_sign}
+use Rattle.vlt_automaton.specs.Language.{Symbol, Reaction, Thing, Pending, Left, Located, run, with_behind, next_after, go_on_with, reaction_behind, may_skip, depth_read, on_sign}
 use Rattle.vlt_automaton.proofs.Sameness.{same_word-refl}
 use Rattle.vlt_parser_exprs.specs.Ahead.{Begins, LacksSign}
 
@@ -28,7 +28,7 @@ stmt_declares text s ts [] b assign dot paren = rw b.is refl
 stmt_declares text s ts (x ∷ xs) b assign dot paren = rw b.is (by_token x.token assign dot paren)
   where
     by_token : (y : Token) → m.is_sign mark.Assign y ≡ false → m.is_sign mark.Dot y ≡ false → m.is_sign mark.OpenParen y ≡ false
-        → gone_on (m.run_over xs) x.at (m.step (m.behind_stmt_name ∷ s) y) ≡ gone_on (m.run_over xs) x.at (m.step (m.behind_type_name ∷ m.name ∷ m.sign mark.Assign ∷ m.right ∷ m.sign mark.Semicolon ∷ s) y)
+        → go_on_with (m.run_over xs) x.at (m.step (m.behind_stmt_name ∷ s) y) ≡ go_on_with (m.run_over xs) x.at (m.step (m.behind_type_name ∷ m.name ∷ m.sign mark.Assign ∷ m.right ∷ m.sign mark.Semicolon ∷ s) y)
     by_token (t.sign mark.Assign) assign dot paren = absurd cc
     by_token (t.sign mark.Dot) assign dot paren = absurd cc
     by_token (t.sign mark.OpenParen) assign dot paren = absurd cc

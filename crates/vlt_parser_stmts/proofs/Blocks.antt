@@ -7,7 +7,7 @@ use Rattle.vlt_lexer.specs.declared.token.Mark.TheVariants as mark
 use Rattle.vlt_syntax.specs.Tokens as t
 use Rattle.vlt_syntax.specs.Tokens.{Token}
 use Rattle.vlt_automaton.specs.Language as m
-use Rattle.vlt_automaton.specs.Language.{Symbol, Reaction, Thing, Pending, Left, Located, run, followed, settled, gone_on, reaction_behind, may_skip, depth_read, on_sign}
+use Rattle.vlt_automaton.specs.Language.{Symbol, Reaction, Thing, Pending, Left, Located, run, with_behind, next_after, go_on_with, reaction_behind, may_skip, depth_read, on_sign}
 use Rattle.vlt_parser_exprs.specs.declared.error.ParseError.{ParseError}
 use Rattle.vlt_parser_exprs.specs.declared.error.ParseError.TheVariants.{Limit}
 use Rattle.vlt_parser_exprs.proofs.Runs.{is_skip, fails_with, begins, sign_taken, settled_followed, stmt_takes}
@@ -28,7 +28,7 @@ sign_takes sg x = by_sign (m.is_sign sg x)
     by_sign true = refl
     by_sign false = refl
 
-begins_if : (b : Bool) (xs : List Symbol) → (if b then m.take xs else m.refuse) ≡ followed (if b then m.take [] else m.refuse) xs
+begins_if : (b : Bool) (xs : List Symbol) → (if b then m.take xs else m.refuse) ≡ with_behind (if b then m.take [] else m.refuse) xs
 begins_if true xs = refl
 begins_if false xs = refl
 
@@ -36,12 +36,12 @@ pub block_is : (room : ℕ) (s : List Symbol) (ts : List Located) → run (m.blo
 block_is room s ts = begins (m.block room) (m.sign mark.OpenBrace) (m.stmts (room - 1) ∷ []) refl refl (λ x. begins_if (m.is_sign mark.OpenBrace x) (m.stmts (room - 1) ∷ [])) (sign_takes mark.OpenBrace) s ts
 
 pub stmts_closed : (room : ℕ) (s : List Symbol) (ts rest : List Located) → Begins (t.sign mark.CloseBrace) ts rest → run (m.stmts room ∷ s) ts ≡ run s rest
-stmts_closed room s ts rest = sign_taken (m.stmts room) mark.CloseBrace [] (λ x. followed (m.start_stmt room x) (m.stmts room ∷ [])) (λ x. refl) s ts rest
+stmts_closed room s ts rest = sign_taken (m.stmts room) mark.CloseBrace [] (λ x. with_behind (m.start_stmt room x) (m.stmts room ∷ [])) (λ x. refl) s ts rest
 
 pub stmts_one : (room : ℕ) (s : List Symbol) (ts : List Located) → LacksSign mark.CloseBrace ts → run (m.stmts room ∷ s) ts ≡ run (m.thing (m.a_stmt room) ∷ m.stmts room ∷ s) ts
 stmts_one room s [] lacks = refl
 stmts_one room s (x ∷ xs) lacks =
-    rw lacks (ap (gone_on (m.run_over xs) x.at) (settled_followed (m.start_stmt room x.token) (m.stmts room ∷ []) s _ _ (stmt_takes room x.token)))
+    rw lacks (ap (go_on_with (m.run_over xs) x.at) (settled_followed (m.start_stmt room x.token) (m.stmts room ∷ []) s _ _ (stmt_takes room x.token)))
 
 -- a statement with blocks, where a block may stand
 pub stmt_enters : (x : Token) (room : ℕ) (xs s : List Symbol) (ts rest : List Located) → m.start_stmt room x ≡ m.enter room xs → 1 ≤ room → Begins x ts rest
@@ -80,11 +80,11 @@ arm_is room s ts = begins (m.arm room) (m.keyword word.Case) (m.tick ∷ m.enclo
     (λ x. begins_if (m.is_keyword word.Case x) (m.tick ∷ m.enclosed m.a_name mark.OpenParen mark.CloseParen None ∷ m.sign mark.Colon ∷ m.block room ∷ [])) (keyword_takes word.Case) s ts
 
 pub arms_closed : (room : ℕ) (s : List Symbol) (ts rest : List Located) → Begins (t.sign mark.CloseBrace) ts rest → run (m.arms room ∷ s) ts ≡ run s rest
-arms_closed room s ts rest = sign_taken (m.arms room) mark.CloseBrace [] (λ x. followed (m.start_arm room x) (m.arms room ∷ [])) (λ x. refl) s ts rest
+arms_closed room s ts rest = sign_taken (m.arms room) mark.CloseBrace [] (λ x. with_behind (m.start_arm room x) (m.arms room ∷ [])) (λ x. refl) s ts rest
 
 pub arms_one : (room : ℕ) (s : List Symbol) (ts : List Located) → LacksSign mark.CloseBrace ts → run (m.arms room ∷ s) ts ≡ run (m.arm room ∷ m.arms room ∷ s) ts
 arms_one room s [] lacks = refl
-arms_one room s (x ∷ xs) lacks = rw lacks (ap (gone_on (m.run_over xs) x.at) (settled_followed (m.start_arm room x.token) (m.arms room ∷ []) s _ _ (arm_takes x.token)))
+arms_one room s (x ∷ xs) lacks = rw lacks (ap (go_on_with (m.run_over xs) x.at) (settled_followed (m.start_arm room x.token) (m.arms room ∷ []) s _ _ (arm_takes x.token)))
   where
     by_word : (b : Bool) (ys : List Symbol) → is_skip (if b then m.take ys else m.refuse) ≡ false
     by_word true ys = refl
