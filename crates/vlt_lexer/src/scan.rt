@@ -212,7 +212,8 @@ fn first_spelled(words: &[Word], name: &[u8]) -> Option<Word>
 
 /// The first of the signs that begins the text, and the text behind it.
 fn first_begun<'a>(marks: &[Mark], text: &'a str) -> Option<(Mark, &'a str)>
-    ensures sign { MatchOption result (first_beginning sign_text marks.now (chars text.now) ≡ None)
+    ensures sign { MatchOption result
+        (first_beginning sign_text marks.now (chars text.now) ≡ None)
         (λ x. first_beginning sign_text marks.now (chars text.now) ≡ Some (x.0, chars x.1.now)) }
     ensures shorter { IfSome result (λ x. length x.1.now < length text.now) }
 {
