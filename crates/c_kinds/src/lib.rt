@@ -1,5 +1,5 @@
 //! A C text as it is written in, the least refusal of its names and types out.
-//! Read `c_syntax/specs/Kinds.antt` (refused) first.
+//! Read `c_syntax/specs/Kinds.antt` (unit_refusal) first.
 //! Rests on it: which texts stand for programs, and `c_kinds_laws`.
 #![tactic(auto)]
 

@@ -1,5 +1,5 @@
 //! A core program in; the run of a machine on plain data out.
-//! Read `specs/Machine.antt` (moved) first, then `specs/Laws.antt`: they serve `vlt_interp` alone.
+//! Read `specs/Machine.antt` (after_move) first, then `specs/Laws.antt`: they serve `vlt_interp` alone.
 //! That a machine with a stack runs a program as the definition of runs says rests on it.
 #![tactic(auto)]
 
