@@ -2,3 +2,4 @@ pub mod Limits
 pub mod Place
 pub mod States
 pub mod Parents
+pub mod Refusals

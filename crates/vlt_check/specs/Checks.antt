@@ -1,5 +1,6 @@
 -- What the check of a program says.
-use Rattle.std.specs.Prelude.{◌≡◌, ℕ, true, false, List, [], ◌∷◌, Option, None, Some, slice_get, Result, Err}
+use Rattle.std.specs.Prelude.{◌≡◌, ℕ, true, false, List, [], ◌∷◌, Option, None, Some, slice_get, Result}
+use Rattle.vlt_base.specs.Refusals as refusals
 use Rattle.vlt_core.specs.Core.{Func, Program}
 use Rattle.vlt_core.specs.Kinded.{IsKinded}
 use Rattle.vlt_core.specs.Local.{Notes, IsLocalIn}
@@ -14,8 +15,8 @@ use Rattle.vlt_check.specs.declared.program.CheckError.{CheckError}
 use Rattle.vlt_check.specs.declared.program.CheckError.TheVariants.{Refused}
 
 -- a fact on the fault that is refused
-pub record OnRefused {A : Type 0} (r : Result A CheckError) (P : FlowFault → Type 0) : Type 0 where
-  pub holds : (x : FlowFault) → r ≡ Err (Refused x) → P x
+abbrev pub OnRefused : {A : Type 0} → Result A CheckError → (FlowFault → Type 0) → Type 0
+OnRefused r P = refusals.OnRefused Refused r P
 
 -- the code's fault as a plain one
 abbrev pub fault_of : FlowFault → faults.FlowFault

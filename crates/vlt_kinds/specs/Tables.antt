@@ -1,5 +1,6 @@
 -- Which declarations are refused, and what the others are.
-use Rattle.std.specs.Prelude.{◌≡◌, List, Option, Some, None, Result, Ok, Err}
+use Rattle.std.specs.Prelude.{List, Option, Some, None, Result, Ok, Err}
+use Rattle.vlt_base.specs.Refusals as refusals
 use Rattle.vlt_syntax.specs.Tree.{Decl, Tree}
 use Rattle.vlt_kinds_names.specs.declared.found.Refusal.{Refusal}
 use Rattle.vlt_kinds_names.specs.Refusals.{least}
@@ -38,5 +39,5 @@ abbrev pub kinds_told : Tree → Result Kinds Refusal
 kinds_told t = names_told t.decls
 
 -- a fact for the rule that refuses, and its place
-pub record OnRefused {A : Type 0} (r : Result A KindError) (p : Refusal → Type 0) : Type 0 where
-  pub holds : (x : Refusal) → r ≡ Err (Rule x.rule x.at) → p x
+abbrev pub OnRefused : {A : Type 0} → Result A KindError → (Refusal → Type 0) → Type 0
+OnRefused r p = refusals.OnRefused (λ (x : Refusal). Rule x.rule x.at) r p

@@ -170,4 +170,4 @@ error_same e x same = cc
 
 -- a refusal is handed on
 pub refused_on : {A B : Type 0} (stop : Stop) (r : Result A Stop) (s : Result B Stop) (P Q : Type 0) → r ≡ Err stop → s ≡ Err stop → OnRefused r P → (P → Q) → OnRefused s Q
-refused_on stop r s P Q is was f g = record { holds = λ e. g (f.holds (is ∙ ap Err (error_same stop Refused (sym was ∙ e)))) }
+refused_on stop r s P Q is was f g = record { holds = λ u e. g (f.holds u (is ∙ ap Err (error_same stop Refused (sym was ∙ e)))) }

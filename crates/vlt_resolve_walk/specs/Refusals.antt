@@ -1,9 +1,10 @@
 -- What a refusal says.
-use Rattle.std.specs.Prelude.{◌≡◌, Result, Err}
+use Rattle.std.specs.Prelude.{Result}
+use Rattle.vlt_base.specs.Refusals as refusals
 use Rattle.vlt_kinds_names.specs.declared.found.Refusal.{Refusal}
 use Rattle.vlt_resolve_walk.specs.declared.stop.Stop.{Stop}
 use Rattle.vlt_resolve_walk.specs.declared.stop.Stop.TheVariants.{Refused}
 
 -- a fact for the refusal at which the walk stopped
-pub record OnRefused {A : Type 0} (r : Result A Stop) (p : Refusal → Type 0) : Type 0 where
-  pub holds : (x : Refusal) → r ≡ Err (Refused x) → p x
+abbrev pub OnRefused : {A : Type 0} → Result A Stop → (Refusal → Type 0) → Type 0
+OnRefused r p = refusals.OnRefused Refused r p
