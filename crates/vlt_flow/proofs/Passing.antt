@@ -5,23 +5,23 @@ use Rattle.std.proofs.lemmas.List.{drop_all}
 use Rattle.vlt_core.specs.Maps.{Row, HeldMap, CanPass, map_after}
 use Rattle.vlt_flow.specs.declared.errors.Stop.{Stop}
 use Rattle.vlt_flow.specs.declared.errors.Stop.TheVariants.{Refused, Memory}
-use Rattle.vlt_flow.specs.Walks.{OnRefused, Passes}
+use Rattle.vlt_flow.specs.Walks.{IfRefused, Passes}
 
 -- an error that a `?` hands on
-pub refused_through : {A B P Q : Type 0} (r : Result A Stop) (s : Result B Stop) → (r ≡ Err Refused → s ≡ Err Refused) → (P → Q) → OnRefused s P → OnRefused r Q
-refused_through r s same f h = record { holds = λ u e. f (h.holds u (same e)) }
+pub refused_through : {A B P Q : Type 0} (r : Result A Stop) (s : Result B Stop) → (r ≡ Err Refused → s ≡ Err Refused) → (P → Q) → IfRefused s P → IfRefused r Q
+refused_through r s same f h = record { holds = λ e. f (h.holds (same e)) }
 
-pub handed : {A B P Q : Type 0} (r : Result A Stop) (s : Result B Stop) (d : Stop) → IsErrAnd r (λ x. x ≡ d) → s ≡ Err d → (P → Q) → OnRefused s P → OnRefused r Q
+pub handed : {A B P Q : Type 0} (r : Result A Stop) (s : Result B Stop) (d : Stop) → IsErrAnd r (λ x. x ≡ d) → s ≡ Err d → (P → Q) → IfRefused s P → IfRefused r Q
 handed (Ok x) s d gives was f h = absurd gives
-handed (Err x) s d gives was f h = record { holds = λ u e. f (h.holds u (was ∙ ap Err (sym gives ∙ error x e))) }
+handed (Err x) s d gives was f h = record { holds = λ e. f (h.holds (was ∙ ap Err (sym gives ∙ error x e))) }
   where
     error : {A : Type 0} (x : Stop) → (let r : Result A Stop = Err x in r ≡ Err Refused) → x ≡ Refused
     error x e = cc
 
 -- an error that isn't a refusal
-pub memory_only : {A P : Type 0} (r : Result A Stop) → IsErrAnd r (λ x. x ≡ Memory) → OnRefused r P
+pub memory_only : {A P : Type 0} (r : Result A Stop) → IsErrAnd r (λ x. x ≡ Memory) → IfRefused r P
 memory_only (Ok x) gives = absurd gives
-memory_only (Err x) gives = record { holds = λ u e. absurd (never x gives e) }
+memory_only (Err x) gives = record { holds = λ e. absurd (never x gives e) }
   where
     never : {A : Type 0} (x : Stop) → x ≡ Memory → (let r : Result A Stop = Err x in r ≡ Err Refused) → ⊥
     never x g e = cc

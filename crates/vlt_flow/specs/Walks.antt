@@ -1,6 +1,5 @@
 -- What a walk keeps, and what it gives.
-use Rattle.std.specs.Prelude.{Unit, ◌≡◌, ◌≢◌, ◌<◌, ◌≤◌, ◌+◌, ◌^◌, ℕ, Bool, true, false, List, Option, Some, None, IsSome, ◌⊎◌, length, map, slice_index_or, Result}
-use Rattle.vlt_base.specs.Refusals as refusals
+use Rattle.std.specs.Prelude.{◌≡◌, ◌≢◌, ◌<◌, ◌≤◌, ◌+◌, ◌^◌, ℕ, Bool, true, false, List, Option, Some, None, IsSome, ◌⊎◌, length, map, slice_index_or, Result, Err}
 use Rattle.vlt_core.specs.Core.{Tok, Func, Program}
 use Rattle.vlt_core.specs.Maps.{Row, HeldMap, IsBelow, CanPass, map_after, away_row}
 use Rattle.vlt_core.specs.Flow.{loop as while_form, choose, Flow, Block, Stmts, Arms, size, size_block, size_arms}
@@ -14,8 +13,8 @@ use Rattle.vlt_flow.specs.declared.errors.Stop.TheVariants.{Refused}
 use Rattle.vlt_keyset.specs.Held.{Statuses, map_of, gap}
 
 -- a fact for the one error that refuses
-abbrev pub OnRefused : {A : Type 0} → Result A Stop → Type 0 → Type 0
-OnRefused r p = refusals.OnRefused (λ (u : Unit {0}). Refused) r (λ u. p)
+pub record IfRefused {A : Type 0} (r : Result A Stop) (p : Type 0) : Type 0 where
+  pub holds : r ≡ Err Refused → p
 
 -- the rows were passed
 pub record Passes (rs : List Row) (old new : HeldMap) : Type 0 where

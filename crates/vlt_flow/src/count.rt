@@ -3,14 +3,14 @@
 ghost use Rattle.std.specs.Prelude.{◌≡◌, ◌+◌, IfOk};
 ghost use Rattle.vlt_rows.specs.FlowView.{flow_view, block_view, stmts_view, arms_view};
 ghost use Rattle.vlt_core.specs.Flow.{size, size_block, size_stmts, size_arms};
-ghost use Rattle.vlt_flow.specs.Walks.{OnRefused};
+ghost use Rattle.vlt_flow.specs.Walks.{IfRefused};
 
 use crate::errors::Stop;
 use vlt_rows::{Flow, FlowArm, FlowBlock, FlowStmt};
 
 fn add(a: usize, b: usize) -> Result<usize, Stop>
     ensures sum { IfOk result (λ n. n ≡ a + b) }
-    ensures never { OnRefused result ⊥ }
+    ensures never { IfRefused result ⊥ }
 {
     match a.checked_add(b) {
         Some(n) => Ok(n),
@@ -21,7 +21,7 @@ fn add(a: usize, b: usize) -> Result<usize, Stop>
 #[cycle(count)]
 pub fn count_form(form: &Flow) -> Result<usize, Stop>
     ensures count { IfOk result (λ n. n ≡ size (flow_view form.now)) }
-    ensures never { OnRefused result ⊥ }
+    ensures never { IfRefused result ⊥ }
 {
     match form {
         Flow::If {
@@ -44,7 +44,7 @@ pub fn count_form(form: &Flow) -> Result<usize, Stop>
 #[cycle(count)]
 pub fn count_block(block: &FlowBlock) -> Result<usize, Stop>
     ensures count { IfOk result (λ n. n ≡ size_block (block_view block.now)) }
-    ensures never { OnRefused result ⊥ }
+    ensures never { IfRefused result ⊥ }
 {
     count_list(block.stmts.as_slice())
 }
@@ -52,7 +52,7 @@ pub fn count_block(block: &FlowBlock) -> Result<usize, Stop>
 #[cycle(count)]
 fn count_list(stmts: &[FlowStmt]) -> Result<usize, Stop>
     ensures count { IfOk result (λ n. n ≡ size_stmts (stmts_view stmts.now)) }
-    ensures never { OnRefused result ⊥ }
+    ensures never { IfRefused result ⊥ }
 {
     let mut sum = 0;
     for s in stmts {
@@ -64,7 +64,7 @@ fn count_list(stmts: &[FlowStmt]) -> Result<usize, Stop>
 #[cycle(count)]
 fn count_arms(arms: &[FlowArm]) -> Result<usize, Stop>
     ensures count { IfOk result (λ n. n ≡ size_arms (arms_view arms.now)) }
-    ensures never { OnRefused result ⊥ }
+    ensures never { IfRefused result ⊥ }
 {
     let mut sum = 0;
     for arm in arms {

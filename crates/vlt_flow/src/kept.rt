@@ -3,7 +3,7 @@
 ghost use Rattle.std.specs.Prelude.{◌≡◌, ◌≢◌, ◌<◌, ◌↔◌, ℕ, length, IsTrue, IfOk, OnOk, Some, None};
 ghost use Rattle.vlt_core.specs.Maps.{HeldMap, IsBelow};
 ghost use Rattle.vlt_keyset.specs.Held.{map_of};
-ghost use Rattle.vlt_flow.specs.Walks.{OnRefused, slot, Above, IsInto, IsSameAt};
+ghost use Rattle.vlt_flow.specs.Walks.{IfRefused, slot, Above, IsInto, IsSameAt};
 
 use crate::errors::Stop;
 use std::alloc::{AllocError, Global};
@@ -28,7 +28,7 @@ impl Model for Kept {
 /// Unites a map with what came before.
 fn join_into(slot: &mut Option<Held>, held: Held) -> Result<(), Stop>
     ensures ok { OnOk result (IsInto slot.old held slot.new) }
-    ensures refused { OnRefused result ((m : HeldMap) → Above slot.old m →
+    ensures refused { IfRefused result ((m : HeldMap) → Above slot.old m →
         IsBelow (map_of held) m → ⊥) }
 {
     match slot {
@@ -48,7 +48,7 @@ fn join_into(slot: &mut Option<Held>, held: Held) -> Result<(), Stop>
 
 fn copy_in(alloc: Global, slot: &Option<Held>) -> Result<Held, Stop>
     ensures same { IfOk result (λ h. slot.now ≡ Some h) }
-    ensures never { OnRefused result ⊥ }
+    ensures never { IfRefused result ⊥ }
 {
     match slot {
         None => Err(Stop::Memory),
@@ -87,7 +87,7 @@ impl Kept {
         ensures others { (i : ℕ) → i ≢ n →
             slot self.new.around i ≡ slot self.old.around i }
         ensures behind { self.new.behind ≡ self.old.behind }
-        ensures refused { OnRefused result ((m : HeldMap) → Above (slot self.old.around n) m →
+        ensures refused { IfRefused result ((m : HeldMap) → Above (slot self.old.around n) m →
             IsBelow (map_of held) m → ⊥) }
     {
         join_into(&mut self.around[n], held)
@@ -100,7 +100,7 @@ impl Kept {
         ensures others { (i : ℕ) → i ≢ n →
             slot self.new.behind i ≡ slot self.old.behind i }
         ensures around { self.new.around ≡ self.old.around }
-        ensures refused { OnRefused result ((m : HeldMap) → Above (slot self.old.behind n) m →
+        ensures refused { IfRefused result ((m : HeldMap) → Above (slot self.old.behind n) m →
             IsBelow (map_of held) m → ⊥) }
     {
         join_into(&mut self.behind[n], held)
@@ -109,7 +109,7 @@ impl Kept {
     pub fn copy_around(&self, alloc: Global, n: usize) -> Result<Held, Stop>
         requires { n < length self.now.around }
         ensures same { IfOk result (λ h. slot self.now.around n ≡ Some h) }
-        ensures never { OnRefused result ⊥ }
+        ensures never { IfRefused result ⊥ }
     {
         copy_in(alloc, &self.around[n])
     }
@@ -117,7 +117,7 @@ impl Kept {
     pub fn copy_behind(&self, alloc: Global, n: usize) -> Result<Held, Stop>
         requires { n < length self.now.behind }
         ensures same { IfOk result (λ h. slot self.now.behind n ≡ Some h) }
-        ensures never { OnRefused result ⊥ }
+        ensures never { IfRefused result ⊥ }
     {
         copy_in(alloc, &self.behind[n])
     }

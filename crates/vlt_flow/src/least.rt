@@ -5,7 +5,7 @@ ghost use Rattle.vlt_core.specs.Flow.{size_block};
 ghost use Rattle.vlt_rows.specs.FlowView.{block_view};
 ghost use Rattle.vlt_core.specs.Local.{Notes, IsLocalBlock};
 ghost use Rattle.vlt_keyset.specs.Held.{map_of};
-ghost use Rattle.vlt_flow.specs.Walks.{OnRefused, IsLeastLocal};
+ghost use Rattle.vlt_flow.specs.Walks.{IfRefused, IsLeastLocal};
 
 use crate::count::count_block;
 use crate::errors::Stop;
@@ -21,7 +21,7 @@ pub fn least_maps(alloc: Global, start: Held, body: &FlowBlock) -> Result<Kept, 
     ensures around { IfOk result (λ k. length k.around ≡ size_block (block_view body.now)) }
     ensures behind { IfOk result (λ k. length k.behind ≡ size_block (block_view body.now)) }
     ensures few { IfOk result (λ k. length k.around < 2 ^ 63) }
-    ensures refused { OnRefused result ((a : Notes) →
+    ensures refused { IfRefused result ((a : Notes) →
         IsLocalBlock a None 0 (map_of start) (block_view body.now) → ⊥) }
 {
     let count = count_block(body)?;

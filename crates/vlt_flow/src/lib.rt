@@ -6,7 +6,7 @@
 ghost use Rattle.std.specs.Prelude.{IfOk};
 ghost use Rattle.vlt_core.specs.View.{program_of, func_of};
 ghost use Rattle.vlt_core.specs.Local.{Notes, IsLocalIn};
-ghost use Rattle.vlt_flow.specs.Walks.{OnRefused, IsLeastIn};
+ghost use Rattle.vlt_flow.specs.Walks.{IfRefused, IsLeastIn};
 
 mod count;
 mod errors;
@@ -27,7 +27,7 @@ use vlt_rows::body_flow;
 /// The least maps of a function's body, by statement; `Refused` where no annotation holds in it.
 pub fn walk(alloc: Global, p: &Program, f: &Func) -> Result<Kept, Stop>
     ensures ok { IfOk result (IsLeastIn (program_of p.now) (func_of f.now)) }
-    ensures refused { OnRefused result ((a : Notes) →
+    ensures refused { IfRefused result ((a : Notes) →
         IsLocalIn (program_of p.now) (func_of f.now) a → ⊥) }
 {
     let flow = body_flow(alloc, p, f)?;

@@ -6,7 +6,7 @@ ghost use Rattle.vlt_core.specs.HeldView.{row_of, toks_of};
 ghost use Rattle.vlt_rows.specs.FlowView.{rows_view};
 ghost use Rattle.vlt_core.specs.Maps.{CanPass, away_row};
 ghost use Rattle.vlt_keyset.specs.Held.{map_of};
-ghost use Rattle.vlt_flow.specs.Walks.{OnRefused, Passes};
+ghost use Rattle.vlt_flow.specs.Walks.{IfRefused, Passes};
 
 use crate::errors::Stop;
 use vlt_core::{After, Row, Tok, Wanted};
@@ -14,7 +14,7 @@ use vlt_keyset::Held;
 
 fn pass_row(held: &mut Held, row: Row) -> Result<(), Stop>
     ensures ok { OnOk result (Passes (row_of row ∷ []) (map_of held.old) (map_of held.new)) }
-    ensures refused { OnRefused result (CanPass (row_of row ∷ []) (map_of held.old) → ⊥) }
+    ensures refused { IfRefused result (CanPass (row_of row ∷ []) (map_of held.old) → ⊥) }
 {
     if !held.has(row.tok) {
         return Err(Stop::Memory);
@@ -25,7 +25,7 @@ fn pass_row(held: &mut Held, row: Row) -> Result<(), Stop>
 
 pub fn pass_rows(held: &mut Held, rows: &[Row]) -> Result<(), Stop>
     ensures ok { OnOk result (Passes (rows_view rows.now) (map_of held.old) (map_of held.new)) }
-    ensures refused { OnRefused result (CanPass (rows_view rows.now) (map_of held.old) → ⊥) }
+    ensures refused { IfRefused result (CanPass (rows_view rows.now) (map_of held.old) → ⊥) }
 {
     for row in rows {
         pass_row(held, *row)?;
@@ -36,7 +36,7 @@ pub fn pass_rows(held: &mut Held, rows: &[Row]) -> Result<(), Stop>
 pub fn pass_gone(held: &mut Held, toks: &[Tok]) -> Result<(), Stop>
     ensures ok { OnOk result (Passes (map away_row (toks_of toks.now)) (map_of held.old)
         (map_of held.new)) }
-    ensures refused { OnRefused result (CanPass (map away_row (toks_of toks.now))
+    ensures refused { IfRefused result (CanPass (map away_row (toks_of toks.now))
         (map_of held.old) → ⊥) }
 {
     for tok in toks {

@@ -7,7 +7,7 @@ ghost use Rattle.vlt_core.specs.Flow.{passes_block, passes_arms};
 ghost use Rattle.vlt_core.specs.HeldView.{toks_of};
 ghost use Rattle.vlt_rows.specs.FlowView.{flow_view, block_view, stmts_view, arms_view, rows_view};
 ghost use Rattle.vlt_keyset.specs.Held.{map_of};
-ghost use Rattle.vlt_flow.specs.Walks.{OnRefused, Passes, slot, HasRoom, IsWalked, HasNone, form_part, block_part, stmts_part, IsJoinedWay, HasNoWay, IsTurn, HasNoTurn, IsJump, HasNoJump, IsLeft, NoLeft, IsPlace, IsWalkedOn, HasNoneOn, IsTurned, IsJoinedArms, HasNoArms, HasRoomFor, ForLoop, IsLoop, choice_of};
+ghost use Rattle.vlt_flow.specs.Walks.{IfRefused, Passes, slot, HasRoom, IsWalked, HasNone, form_part, block_part, stmts_part, IsJoinedWay, HasNoWay, IsTurn, HasNoTurn, IsJump, HasNoJump, IsLeft, NoLeft, IsPlace, IsWalkedOn, HasNoneOn, IsTurned, IsJoinedArms, HasNoArms, HasRoomFor, ForLoop, IsLoop, choice_of};
 
 use crate::count::count_form;
 use crate::errors::Stop;
@@ -59,7 +59,7 @@ fn either(a: bool, b: bool) -> bool
 
 fn pass(held: Held, rows: &[Row]) -> Result<Held, Stop>
     ensures ok { IfOk result (λ h. Passes (rows_view rows.now) (map_of held) (map_of h)) }
-    ensures refused { OnRefused result (CanPass (rows_view rows.now) (map_of held) → ⊥) }
+    ensures refused { IfRefused result (CanPass (rows_view rows.now) (map_of held) → ⊥) }
 {
     let mut held = held;
     pass_rows(&mut held, rows)?;
@@ -71,7 +71,7 @@ fn behind(alloc: Global, kept: &Kept, n: usize, way: Way) -> Result<Walked, Stop
     requires { n < length kept.now.behind }
     ensures place { IfOk result (λ w. IsPlace kept.now n way.passes w.held) }
     ensures at { IfOk result (λ w. w.at ≡ way.at) }
-    ensures never { OnRefused result ⊥ }
+    ensures never { IfRefused result ⊥ }
 {
     let held = if way.passes {
         Some(kept.copy_behind(alloc, n)?)
@@ -85,7 +85,7 @@ fn behind(alloc: Global, kept: &Kept, n: usize, way: Way) -> Result<Walked, Stop
 fn leave_rows(walked: Walked, rows: &[Row]) -> Result<Walked, Stop>
     ensures ok { IfOk result (λ w. IsLeft (rows_view rows.now) walked.held w.held) }
     ensures at { IfOk result (λ w. w.at ≡ walked.at) }
-    ensures refused { OnRefused result (NoLeft (rows_view rows.now) walked.held) }
+    ensures refused { IfRefused result (NoLeft (rows_view rows.now) walked.held) }
 {
     let Walked { held, at } = walked;
     match held {
@@ -103,7 +103,7 @@ fn leave_rows(walked: Walked, rows: &[Row]) -> Result<Walked, Stop>
 fn leave_gone(walked: Walked, toks: &[Tok]) -> Result<Walked, Stop>
     ensures ok { IfOk result (λ w. IsLeft (map away_row (toks_of toks.now)) walked.held w.held) }
     ensures at { IfOk result (λ w. w.at ≡ walked.at) }
-    ensures refused { OnRefused result (NoLeft (map away_row (toks_of toks.now)) walked.held) }
+    ensures refused { IfRefused result (NoLeft (map away_row (toks_of toks.now)) walked.held) }
 {
     let Walked { held, at } = walked;
     match held {
@@ -130,7 +130,7 @@ fn jump(
     requires around { ForLoop l (IsLoop kept.old) }
     ensures ok { OnOk result (IsJump l continues (toks_of left.now)
         (map_of held) kept.old kept.new) }
-    ensures refused { OnRefused result (HasNoJump l continues (toks_of left.now)
+    ensures refused { IfRefused result (HasNoJump l continues (toks_of left.now)
         (map_of held) kept.old) }
 {
     let mut held = held;
@@ -161,7 +161,7 @@ pub fn walk_form(
     ensures ok { IfOk result (λ w. IsWalked (form_part l n (flow_view form.now))
         l n (n + size (flow_view form.now)) (map_of held) kept.old kept.new w.held) }
     ensures at { IfOk result (λ w. w.at ≡ n + size (flow_view form.now)) }
-    ensures refused { OnRefused result (HasNone (form_part l n (flow_view form.now))
+    ensures refused { IfRefused result (HasNone (form_part l n (flow_view form.now))
         (map_of held) kept.old) }
 {
     match form {
@@ -223,7 +223,7 @@ fn walk_if(
         (choice_of rows.now then_block.now else_block.now) (Some held) kept.old kept.new w.held) }
     ensures at { IfOk result (λ w. w.at
         ≡ n + size (choice_of rows.now then_block.now else_block.now)) }
-    ensures refused { OnRefused result (HasNoneOn l n
+    ensures refused { IfRefused result (HasNoneOn l n
         (choice_of rows.now then_block.now else_block.now) (Some held) kept.old) }
 {
     let inside = pass(held, rows)?;
@@ -253,7 +253,7 @@ fn walk_way(
         IsJoinedWay l k n (block_view body.now) (map_of held) kept.old kept.new) }
     ensures passes { IfOk result (λ w. w.passes ≡ passes_block (block_view body.now)) }
     ensures at { IfOk result (λ w. w.at ≡ n + size_block (block_view body.now)) }
-    ensures refused { OnRefused result (HasNoWay l k n (block_view body.now)
+    ensures refused { IfRefused result (HasNoWay l k n (block_view body.now)
         (map_of held) kept.old) }
 {
     let Walked { held, at } = walk_block(alloc, kept, body, l, n, held)?;
@@ -281,7 +281,7 @@ fn walk_arms(
         (map_of held) kept.old kept.new) }
     ensures passes { IfOk result (λ w. w.passes ≡ passes_arms (arms_view arms.now)) }
     ensures at { IfOk result (λ w. w.at ≡ n + 1 + size_arms (arms_view arms.now)) }
-    ensures refused { OnRefused result (HasNoArms l n (arms_view arms.now) (map_of held) kept.old) }
+    ensures refused { IfRefused result (HasNoArms l n (arms_view arms.now) (map_of held) kept.old) }
 {
     let mut passes = false;
     let mut at = n + 1;
@@ -309,7 +309,7 @@ fn walk_turn(
     ensures ok { OnOk result (IsTurn (rows_view rows.now) (block_view body.now)
         n (n + 1 + size_block (block_view body.now)) before.now kept.old kept.new) }
     ensures at { IfOk result (λ m. m ≡ n + 1 + size_block (block_view body.now)) }
-    ensures refused { OnRefused result (HasNoTurn (rows_view rows.now)
+    ensures refused { IfRefused result (HasNoTurn (rows_view rows.now)
         (block_view body.now) n kept.old) }
 {
     let inside = pass(before.copy(alloc)?, rows)?;
@@ -338,7 +338,7 @@ fn walk_turns(
     ensures ok { OnOk result (IsTurned (rows_view rows.now)
         (block_view body.now) n kept.old kept.new) }
     ensures at { IfOk result (λ m. m ≡ n + 1 + size_block (block_view body.now)) }
-    ensures refused { OnRefused result (HasNoTurn (rows_view rows.now)
+    ensures refused { IfRefused result (HasNoTurn (rows_view rows.now)
         (block_view body.now) n kept.old) }
 {
     loop {
@@ -363,7 +363,7 @@ pub fn walk_block(
     ensures ok { IfOk result (λ w. IsWalked (block_part l n (block_view block.now))
         l n (n + size_block (block_view block.now)) (map_of held) kept.old kept.new w.held) }
     ensures at { IfOk result (λ w. w.at ≡ n + size_block (block_view block.now)) }
-    ensures refused { OnRefused result (HasNone (block_part l n (block_view block.now))
+    ensures refused { IfRefused result (HasNone (block_part l n (block_view block.now))
         (map_of held) kept.old) }
 {
     let walked = walk_list(alloc, kept, block.stmts.as_slice(), l, n, held)?;
@@ -383,7 +383,7 @@ fn walk_on(
     ensures ok { IfOk result (λ w. IsWalkedOn l flow.at
         (flow_view form.now) flow.held kept.old kept.new w.held) }
     ensures at { IfOk result (λ w. w.at ≡ flow.at + size (flow_view form.now)) }
-    ensures refused { OnRefused result (HasNoneOn l flow.at
+    ensures refused { IfRefused result (HasNoneOn l flow.at
         (flow_view form.now) flow.held kept.old) }
 {
     let Walked { held, at } = flow;
@@ -412,7 +412,7 @@ fn walk_list(
     ensures ok { IfOk result (λ w. IsWalked (stmts_part l n (stmts_view stmts.now))
         l n (n + size_stmts (stmts_view stmts.now)) (map_of held) kept.old kept.new w.held) }
     ensures at { IfOk result (λ w. w.at ≡ n + size_stmts (stmts_view stmts.now)) }
-    ensures refused { OnRefused result (HasNone (stmts_part l n (stmts_view stmts.now))
+    ensures refused { IfRefused result (HasNone (stmts_part l n (stmts_view stmts.now))
         (map_of held) kept.old) }
 {
     let mut flow = Walked {

@@ -70,7 +70,7 @@ fn is_named_one<T: HasName>(name: &Name, others: &[T]) -> bool
 }
 
 /// Refuses each name that stands here for another time. The lists that come here are bounded by limits of the grammar.
-#[tactic(auto, unfolding(crate::specs::Names::repeated))]
+#[tactic(auto, unfolding(crate::specs::Names::repeated_names))]
 pub fn refuse_repeated<T: HasName>(rule: u8, named: &[T], found: &mut Found)
     ensures { found.new.least ≡ least_from found.old.least
         (refuse rule (n.repeated_names (map T.name named.now))) }

@@ -9,7 +9,7 @@ ghost use Rattle.vlt_core.specs.Least.{IsLeast};
 ghost use Rattle.vlt_core.specs.Local.{Notes, IsLocalBlock, IsLocalIn};
 ghost use Rattle.vlt_keyset.specs.Held.{map_of};
 ghost use Rattle.vlt_rows.specs.FlowView.{block_view};
-ghost use Rattle.vlt_flow.specs.Walks.{OnRefused};
+ghost use Rattle.vlt_flow.specs.Walks.{IfRefused};
 ghost use Rattle.vlt_notes.specs.Listed.{note_of, AreNotes};
 
 mod listing;
@@ -30,7 +30,7 @@ use vlt_rows::{FlowBlock, body_flow};
 pub fn annotate_block(alloc: Global, start: Held, flow: &FlowBlock) -> Result<Annotation, Stop>
     ensures listed { IfOk result (λ a. AreNotes (block_view flow.now) (map_of start)
         (map note_of a.maps)) }
-    ensures refused { OnRefused result ((a : Notes) →
+    ensures refused { IfRefused result ((a : Notes) →
         IsLocalBlock a None 0 (map_of start) (block_view flow.now) → ⊥) }
 {
     match least_maps(alloc, start, flow) {
@@ -47,7 +47,7 @@ pub fn annotate_block(alloc: Global, start: Held, flow: &FlowBlock) -> Result<An
 pub fn annotate(alloc: Global, p: &Program, f: &Func) -> Result<Annotation, Stop>
     ensures least { IfOk result (λ a. IsLeast (program_of p.now) (func_of f.now)
         (map note_of a.maps)) }
-    ensures refused { OnRefused result ((a : Notes) →
+    ensures refused { IfRefused result ((a : Notes) →
         IsLocalIn (program_of p.now) (func_of f.now) a → ⊥) }
 {
     let flow = body_flow(alloc, p, f)?;

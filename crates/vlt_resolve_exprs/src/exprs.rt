@@ -312,7 +312,7 @@ fn check_basic(ty: &Option<Ty>, at: u32, found: &mut Found)
 }
 
 /// What an operator wants of its second operand.
-#[tactic(auto, unfolding(crate::specs::Exprs::taken))]
+#[tactic(auto, unfolding(crate::specs::Exprs::operand_wanted))]
 fn taken(takes: Takes, left: &Option<Ty>) -> Option<Ty>
     ensures { option_map ty_of result ≡ e.operand_wanted takes (option_map ty_of left.now) }
 {
