@@ -1,0 +1,17 @@
+//! Laws on the lowering: nothing goes in and nothing comes out.
+//! Read `specs/Operators.antt` first.
+//! That a C program does what its source does is going to rest on them.
+#![tactic(auto)]
+
+ghost use Rattle.c_lower_laws.specs.Operators.{AreRightBinary, AreRightUnary};
+
+/// The code of an operator between two values traps exactly where the operator does, and else sets the variable to
+/// what the operator gives: of each binary operator but `&&` and `||`, for all numbers of 64 bits.
+pub fn binary_operators_are_lowered_rightly()
+    ensures { AreRightBinary }
+{}
+
+/// So does the code of `-` and `!` before one value.
+pub fn prefix_operators_are_lowered_rightly()
+    ensures { AreRightUnary }
+{}
