@@ -3,6 +3,7 @@ use Rattle.std.proofs.Common.{◌≡◌, ℕ, pos, true, false, List, [], ◌∷
 use Rattle.std.specs.List.{list_any}
 use Rattle.vlt_ops.specs.declared.Op.TheVariants as op
 use Rattle.vlt_core.specs.Core as s
+use Rattle.vlt_core.specs.Lookups.{every_state}
 use Rattle.c_syntax.specs.declared.program.CResult.{CResult}
 use Rattle.c_syntax.specs.declared.program.CResult.TheVariants as result
 use Rattle.c_syntax.specs.declared.program.CVar.{CVar}
@@ -25,8 +26,8 @@ struct types = s.a_struct (record {
   name = [];
   header = [];
   set = None;
-  release = these [];
-  fields = map (λ t. record { name = []; ty = t; states = these [] }) types;
+  release = every_state;
+  fields = map (λ t. record { name = []; ty = t; states = every_state }) types;
 })
 
 abbrev case : List s.Ty → List s.CaseKey → s.CaseDecl
@@ -55,13 +56,13 @@ abbrev arms : List (s.Arms → s.Arms) → s.Arms
 arms [] = s.no_arms
 arms (x ∷ xs) = x (arms xs)
 
-abbrev function : Option s.Ty → (params : ℕ) → List s.KeyDecl → List s.VarDecl → List s.Form → s.Func
-function result params keys vars xs = record {
+abbrev function : Option s.Ty → (params : ℕ) → List s.Entry → List s.KeyDecl → List s.VarDecl → List s.Form → s.Func
+function result params clause keys vars xs = record {
   name = [];
   external = false;
   result = result;
   params = params;
-  clause = [];
+  clause = clause;
   keys = keys;
   vars = vars;
   body = stmts xs;
@@ -150,7 +151,7 @@ c_function i result params vars xs =
 --         }
 --     }
 -- }
-abbrev lists : s.Program
+abbrev pub lists : s.Program
 lists = record {
   sets = [];
   types =
@@ -160,7 +161,7 @@ lists = record {
       []);
   fns =
       (
-      function (Some (s.owning_variant 0 [])) 2
+      function (Some (s.owning_variant 0 [])) 2 []
       (anonymous (Some 1 ∷ []))
       (typed (s.int ∷ s.owning_variant 0 [] ∷ s.tracked 0 1 [] ∷ s.owning_variant 0 [] ∷ []))
       (
@@ -168,7 +169,7 @@ lists = record {
       s.simple (s.build 3 1 (s.pack 2 (these (0 ∷ [])) ∷ [])) ∷
       s.return (Some (s.move 3)) ∷
       []) ∷
-      function None 0
+      function None 0 []
       (anonymous (Some 1 ∷ []))
       (typed (
       s.owning_variant 0 [] ∷
@@ -302,14 +303,14 @@ lists_in_c = refl
 --     print(second.bytes);
 --     release p;
 -- }
-abbrev pool : s.Program
+abbrev pub pool : s.Program
 pool = record {
   sets = (set ([] ∷ [] ∷ []) ∷ []);
   types =
       (struct (s.int ∷ []) ∷ struct (s.int ∷ s.int ∷ []) ∷ []);
   fns =
       (
-      function None 4
+      function None 4 (record { mode = s.kept; key = 0; before = None; after = None } ∷ [])
       (anonymous (Some 0 ∷ Some 1 ∷ []))
       (typed (s.tracked 0 0 [] ∷ s.guarded 0 1 [] ∷ s.int ∷ s.int ∷ s.tracked 1 1 [] ∷ []))
       (
@@ -322,7 +323,7 @@ pool = record {
       [])) ∷
       s.return None ∷
       []) ∷
-      function None 0
+      function None 0 []
       (anonymous (Some 0 ∷ Some 1 ∷ Some 1 ∷ []))
       (typed (
       s.tracked 0 0 [] ∷
@@ -455,7 +456,7 @@ pool_in_c = refl
 -- void main() {
 --     serve(8080);
 -- }
-abbrev sockets : s.Program
+abbrev pub sockets : s.Program
 sockets = record {
   sets = (set ([] ∷ [] ∷ [] ∷ []) ∷ []);
   types =
@@ -496,7 +497,7 @@ sockets = record {
       (record { mode = s.taken; key = 0; before = None; after = None } ∷ [])
       (anonymous (Some 0 ∷ []))
       (typed (s.tracked 0 0 [] ∷ [])) ∷
-      function None 1
+      function None 1 []
       (anonymous (Some 0 ∷ []))
       (typed (s.int ∷ s.tracked 0 0 [] ∷ s.owning_variant 1 (0 ∷ []) ∷ s.int ∷ s.int ∷ []))
       (
@@ -519,7 +520,7 @@ sockets = record {
       [])) 0 ∷
       s.return None ∷
       []) ∷
-      function None 0
+      function None 0 []
       (anonymous [])
       (typed [])
       (s.call 5 None [] (s.pure (s.number (pos 8080)) ∷ []) ∷ s.return None ∷ []) ∷

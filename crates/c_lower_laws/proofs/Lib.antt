@@ -3,3 +3,6 @@ pub mod Products
 pub mod Guards
 pub mod Doing
 pub mod Operators
+pub mod SourceRuns
+pub mod CRuns
+pub mod Samples
