@@ -139,7 +139,9 @@ c_function i result params vars xs =
 --         if (value / 2 == 0) { continue; }
 --         all = push(value, all);
 --     }
---     switch (all) {
+--     { print(0); }
+--     tracked list taken = all;
+--     switch (taken) {
 --         case 'End: {}
 --         case 'More(first): {
 --             tracked(K) cell c = first;
@@ -175,6 +177,7 @@ lists = record {
       s.owning_variant 0 [] ∷
       s.bool ∷
       s.int ∷
+      s.owning_variant 0 [] ∷
       s.owning (these (0 ∷ [])) 1 [] ∷
       s.tracked 0 1 [] ∷
       s.owning_variant 0 [] ∷
@@ -189,15 +192,17 @@ lists = record {
       s.choose (s.binary op.Equal (s.binary op.Divide (s.var 2) (s.number (pos 2))) (s.number (pos 0))) (block (s.jump true ∷ [])) (block []) ∷
       s.call 0 (Some 0) [] (s.pure (s.var 2) ∷ s.move 0 ∷ []) ∷
       [])) ∷
-      s.switch 0 (arms (
+      s.scope (block (s.simple (s.print (s.number (pos 0))) ∷ [])) ∷
+      s.simple (s.own 3 (s.move 0)) ∷
+      s.switch 3 (arms (
       arm 0 [] [] ∷
-      arm 1 (3 ∷ []) (
-      s.simple (s.unpack 4 3) ∷
-      s.simple (s.build 5 0 []) ∷
-      s.simple (s.swap 4 1 5) ∷
-      s.simple (s.drop 5) ∷
-      s.simple (s.open_into 4 (6 ∷ [])) ∷
+      arm 1 (4 ∷ []) (
+      s.simple (s.unpack 5 4) ∷
+      s.simple (s.build 6 0 []) ∷
+      s.simple (s.swap 5 1 6) ∷
       s.simple (s.drop 6) ∷
+      s.simple (s.open_into 5 (7 ∷ [])) ∷
+      s.simple (s.drop 7) ∷
       []) ∷
       [])) 0 ∷
       s.return None ∷
@@ -225,7 +230,23 @@ lists_in_c : lowered lists ≡ record {
       c.return (Some (val (n 2))) ∷
       []) ∷
       c_function 1 result.Nothing []
-      (n 0 ∷ n 1 ∷ n 2 ∷ n 3 ∷ n 4 ∷ n 5 ∷ n 6 ∷ p 0 ∷ p 1 ∷ p 2 ∷ p 3 ∷ p 4 ∷ p 5 ∷ [])
+      (
+      n 0 ∷
+      n 1 ∷
+      n 2 ∷
+      n 3 ∷
+      n 4 ∷
+      n 5 ∷
+      n 6 ∷
+      n 7 ∷
+      p 0 ∷
+      p 1 ∷
+      p 2 ∷
+      p 3 ∷
+      p 4 ∷
+      p 5 ∷
+      p 6 ∷
+      [])
       (
       c.set (n 0) (num 0) ∷
       c.set (p 0) c.null ∷
@@ -237,33 +258,36 @@ lists_in_c : lowered lists ≡ record {
       c.when (c.binary op.Equal (num 2) (num 0)) (code (do_call prim.Trap (int 2 ∷ []) ∷ [])) ∷
       c.when (c.binary op.And (c.binary op.Equal (val (n 2)) (c.binary op.Subtract (c.unary op.Negate (num 9223372036854775807)) (num 1)))
       (c.binary op.Equal (num 2) (c.unary op.Negate (num 1)))) (code (do_call prim.Trap (int 1 ∷ []) ∷ [])) ∷
-      c.set (n 5) (c.binary op.Divide (val (n 2)) (num 2)) ∷
-      c.set (n 6) (c.binary op.Equal (val (n 5)) (num 0)) ∷
-      c.choose (c.binary op.NotEqual (val (n 6)) (num 0)) (code (c.continue ∷ [])) (code []) ∷
+      c.set (n 6) (c.binary op.Divide (val (n 2)) (num 2)) ∷
+      c.set (n 7) (c.binary op.Equal (val (n 6)) (num 0)) ∷
+      c.choose (c.binary op.NotEqual (val (n 7)) (num 0)) (code (c.continue ∷ [])) (code []) ∷
       c.set_call (n 0) (f 0 (to (n 2) ∷ to (n 0) ∷ to (p 0) ∷ [])) ∷
       get_call (p 0) prim.GetP (int 0 ∷ []) ∷
       [])) ∷
-      c.set (n 5) (val (n 0)) ∷
-      c.when (c.binary op.Equal (val (n 5)) (num 0)) (code []) ∷
-      c.when (c.binary op.Equal (val (n 5)) (num 1)) (code (
+      do_call prim.Print (int 0 ∷ []) ∷
+      c.set (n 3) (val (n 0)) ∷
       c.set (p 1) (val (p 0)) ∷
+      c.set (n 6) (val (n 3)) ∷
+      c.when (c.binary op.Equal (val (n 6)) (num 0)) (code []) ∷
+      c.when (c.binary op.Equal (val (n 6)) (num 1)) (code (
       c.set (p 2) (val (p 1)) ∷
-      c.set (n 3) (num 0) ∷
-      c.set (p 3) c.null ∷
-      c.set (n 6) (c.cell (cell.Number 2 1)) ∷
-      c.put (cell.Number 2 1) (val (n 3)) ∷
-      c.set (n 3) (val (n 6)) ∷
-      c.set (p 5) (c.cell (cell.Reference 2 0)) ∷
-      do_call prim.Disown (to (p 5) ∷ []) ∷
-      do_call prim.Own (to (p 3) ∷ to (p 2) ∷ []) ∷
-      c.put (cell.Reference 2 0) (val (p 3)) ∷
-      c.set (p 3) (val (p 5)) ∷
-      do_call prim.Release (to (p 3) ∷ []) ∷
-      c.set (n 4) (c.cell (cell.Number 2 1)) ∷
-      c.set (p 4) (c.cell (cell.Reference 2 0)) ∷
-      do_call prim.Disown (to (p 4) ∷ []) ∷
-      do_call prim.Release (to (p 2) ∷ []) ∷
+      c.set (p 3) (val (p 2)) ∷
+      c.set (n 4) (num 0) ∷
+      c.set (p 4) c.null ∷
+      c.set (n 7) (c.cell (cell.Number 3 1)) ∷
+      c.put (cell.Number 3 1) (val (n 4)) ∷
+      c.set (n 4) (val (n 7)) ∷
+      c.set (p 6) (c.cell (cell.Reference 3 0)) ∷
+      do_call prim.Disown (to (p 6) ∷ []) ∷
+      do_call prim.Own (to (p 4) ∷ to (p 3) ∷ []) ∷
+      c.put (cell.Reference 3 0) (val (p 4)) ∷
+      c.set (p 4) (val (p 6)) ∷
       do_call prim.Release (to (p 4) ∷ []) ∷
+      c.set (n 5) (c.cell (cell.Number 3 1)) ∷
+      c.set (p 5) (c.cell (cell.Reference 3 0)) ∷
+      do_call prim.Disown (to (p 5) ∷ []) ∷
+      do_call prim.Release (to (p 3) ∷ []) ∷
+      do_call prim.Release (to (p 5) ∷ []) ∷
       [])) ∷
       c.return None ∷
       []) ∷
