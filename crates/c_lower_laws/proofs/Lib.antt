@@ -6,3 +6,5 @@ pub mod Operators
 pub mod SourceRuns
 pub mod CRuns
 pub mod Samples
+pub mod Codes
+pub mod Expressions

@@ -1,1 +1,4 @@
 pub mod Operators
+pub mod Codes
+pub mod Expressions
+pub mod Sides
