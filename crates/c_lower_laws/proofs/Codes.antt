@@ -87,7 +87,7 @@ stops_then xs ys f w o first r rest n = by xs n f w (first r rest n)
 
 -- ---- frames
 
-below_more : {t u : Numbers} → AreUpTo t u → (v : CVar) → IsBelow t v → IsBelow u v
+pub below_more : {t u : Numbers} → AreUpTo t u → (v : CVar) → IsBelow t v → IsBelow u v
 below_more {t} {u} m v b = by v.reference b
   where
     by : (r : Bool) → v.number < (if r then t.p else t.n) → v.number < (if r then u.p else u.n)

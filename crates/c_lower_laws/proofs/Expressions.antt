@@ -32,15 +32,15 @@ use Rattle.c_lower_laws.proofs.Codes.{codes_are_right, alike_self, alike_more, m
 
 -- ---- temps only go up
 
-up_self : (u : Numbers) → AreUpTo u u
+pub up_self : (u : Numbers) → AreUpTo u u
 up_self u = record { n = omega (arith); p = omega (arith) }
 
-up_past : (u : Numbers) (s : Sort) → AreUpTo u (past u s)
+pub up_past : (u : Numbers) (s : Sort) → AreUpTo u (past u s)
 up_past u of_number = record { n = omega (arith); p = omega (arith) }
 up_past u of_reference = record { n = omega (arith); p = omega (arith) }
 up_past u of_owner = record { n = omega (arith); p = omega (arith) }
 
-up_all : (u : Numbers) (ss : List Sort) → AreUpTo u (past_all u ss)
+pub up_all : (u : Numbers) (ss : List Sort) → AreUpTo u (past_all u ss)
 up_all u [] = up_self u
 up_all u (s ∷ ss) = more_more (up_past u s) (up_all (past u s) ss)
 

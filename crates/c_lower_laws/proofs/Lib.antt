@@ -8,3 +8,4 @@ pub mod CRuns
 pub mod Samples
 pub mod Codes
 pub mod Expressions
+pub mod Slots

@@ -1,10 +1,11 @@
 //! Laws on the lowering: nothing goes in and nothing comes out.
-//! Read `specs/Operators.antt` first, then `Codes` and `Expressions`.
+//! Read `specs/Operators.antt` first, then `Codes`, `Expressions` and `Slots`.
 //! That a C program does what its source does is going to rest on them.
 #![tactic(auto)]
 
 ghost use Rattle.c_lower_laws.specs.Operators.{AreRightBinary, AreRightUnary};
 ghost use Rattle.c_lower_laws.specs.Expressions.{AreRightExpressions};
+ghost use Rattle.c_lower_laws.specs.Slots.{LeavesStandThere};
 
 /// The code of an operator between two values traps exactly where the operator does, and else sets the variable to
 /// what the operator gives: of each binary operator but `&&` and `||`, for all numbers of 64 bits.
@@ -21,4 +22,10 @@ pub fn prefix_operators_are_lowered_rightly()
 /// as variables and fields stand in C as they do in the source. It changes no variable below its temps.
 pub fn expressions_are_lowered_rightly()
     ensures { AreRightExpressions }
+{}
+
+/// Variables and fields whose numbers stand in their slots and cells keep them as long as no slot of a variable changes: so
+/// no temp of an expression's code takes them away.
+pub fn numbers_stand_in_their_slots()
+    ensures { LeavesStandThere }
 {}
