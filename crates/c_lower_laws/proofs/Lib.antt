@@ -3,9 +3,9 @@ pub mod Products
 pub mod Guards
 pub mod Doing
 pub mod Operators
-pub mod SourceRuns
-pub mod CRuns
-pub mod Samples
 pub mod Codes
 pub mod Expressions
 pub mod Slots
+pub mod SourceRuns
+pub mod CRuns
+pub mod Samples

@@ -1,5 +1,5 @@
 pub mod Operators
 pub mod Codes
 pub mod Expressions
-pub mod Sides
 pub mod Slots
+pub mod Sides
