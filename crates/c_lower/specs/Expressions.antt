@@ -10,7 +10,7 @@ use Rattle.c_syntax.specs.declared.program.CCell.{CCell}
 use Rattle.c_syntax.specs.View.{stmts_made}
 use Rattle.c_syntax.specs.C as c
 use Rattle.c_syntax.specs.C.{Stmt}
-use Rattle.c_lower.specs.Slots.{of_number, Numbers, past, past_all, var_at, vars_at, slots_of, cells_of, cell_sorts}
+use Rattle.c_lower.specs.Slots.{of_number, Numbers, past, past_all, var_at, vars_at, slot_vars, touched_cells, cell_sorts}
 use Rattle.c_lower.specs.Guards.{whole, equal, unequal, unary_guards, binary_guards}
 
 -- what has a value without code
@@ -81,10 +81,10 @@ binary_code o left right =
 abbrev pub expr_code : Program → Func → Numbers → core.Expr → Code
 expr_code p f t (core.number z) = record { stmts = []; atoms = number z ∷ []; next = t }
 expr_code p f t (core.truth b) = record { stmts = []; atoms = number (if b then pos 1 else pos 0) ∷ []; next = t }
-expr_code p f t (core.var v) = record { stmts = []; atoms = map variable (slots_of p f v); next = t }
+expr_code p f t (core.var v) = record { stmts = []; atoms = map variable (slot_vars p f v); next = t }
 expr_code p f t (core.field x i) =
     let temps = vars_at t (cell_sorts p f x i) in
-    record { stmts = reads temps (cells_of p f x i); atoms = map variable temps; next = past_all t (cell_sorts p f x i) }
+    record { stmts = reads temps (touched_cells p f x i); atoms = map variable temps; next = past_all t (cell_sorts p f x i) }
 expr_code p f t (core.unary o e) =
     let code = expr_code p f t e in
     let a = value_of code in
@@ -93,8 +93,8 @@ expr_code p f t (core.binary o a b) = binary_code o (expr_code p f t a) (λ t. e
 
 abbrev pub operand_code : Program → Func → Numbers → Operand → Code
 operand_code p f t (pure e) = expr_code p f t e
-operand_code p f t (move v) = record { stmts = []; atoms = map variable (slots_of p f v); next = t }
-operand_code p f t (pack x states) = record { stmts = []; atoms = map variable (slots_of p f x); next = t }
+operand_code p f t (move v) = record { stmts = []; atoms = map variable (slot_vars p f v); next = t }
+operand_code p f t (pack x states) = record { stmts = []; atoms = map variable (slot_vars p f x); next = t }
 
 -- the code of several operands, with the atoms of each
 pub record Codes : Type 0 where

@@ -3,7 +3,7 @@
 use Rattle.std.specs.Prelude.{ℕ, ◌^◌, ◌==◌, nat_le, pos, Bool, true, false, if◌then◌else◌, List, [], ◌∷◌, ◌++◌, map, filter, length, Option, Some, None, slice_get}
 use Rattle.std.specs.List.{flat_map, zip, enumerate_from, range_with_len, sum_by}
 use Rattle.vlt_core.specs.Core.{States, Ty, int, bool, tracked, owning, guarded, variant, owning_variant, CaseDecl, Mode, taken, given, Func, Program}
-use Rattle.vlt_core.specs.Lookups.{is_owning, cases_of, var_type, after_set, is_held_after}
+use Rattle.vlt_core.specs.Lookups.{is_owning, is_owning_var, cases_of, var_type, after_set, is_held_after}
 use Rattle.c_syntax.specs.declared.program.CVar.{CVar}
 use Rattle.c_syntax.specs.declared.program.CPrim.TheVariants as prim
 use Rattle.c_syntax.specs.View.{stmts_made}
@@ -12,7 +12,7 @@ use Rattle.c_syntax.specs.C.{Stmt}
 use Rattle.c_lower.specs.Slots.{past_all, vars_at, slot_of, first_slot, no_slot, first_temps, sorts_of}
 use Rattle.c_lower.specs.Guards.{whole, equal}
 use Rattle.c_lower.specs.Expressions.{variable}
-use Rattle.c_lower.specs.Statements.{calls, gives, count_arg, Part, part, case_positions, return_stmts}
+use Rattle.c_lower.specs.Statements.{runtime_call, runtime_value, count_arg, StmtCode, stmt_code, case_positions, return_stmts}
 
 abbrev pub var_arg : CVar → c.Arg
 var_arg v = c.variable v
@@ -20,7 +20,7 @@ var_arg v = c.variable v
 -- ---- the call
 
 abbrev pub argument_call : CVar → Stmt
-argument_call s = calls (if s.reference then prim.ArgP else prim.ArgN) (var_arg s ∷ [])
+argument_call s = runtime_call (if s.reference then prim.ArgP else prim.ArgN) (var_arg s ∷ [])
 
 abbrev pub params_of : Func → List ℕ
 params_of f = range_with_len 0 f.params
@@ -28,8 +28,8 @@ params_of f = range_with_len 0 f.params
 -- what tells the host of the call
 abbrev pub question : Program → Func → List Stmt
 question p f =
-    calls prim.Call (c.text f.name ∷ [])
-    ∷ map (λ v. argument_call (slot_of p f v)) (params_of f) ++ calls prim.Ask [] ∷ []
+    runtime_call prim.Call (c.text f.name ∷ [])
+    ∷ map (λ v. argument_call (slot_of p f v)) (params_of f) ++ runtime_call prim.Ask [] ∷ []
 
 -- ---- objects that go out, and that come back
 
@@ -53,17 +53,13 @@ abbrev pub is_given : Mode → Bool
 is_given given = true
 is_given _ = false
 
-abbrev pub is_owned : Option Ty → Bool
-is_owned None = false
-is_owned (Some t) = is_owning t
-
 abbrev pub go_out : Program → Func → List Stmt
 go_out p f =
-    map (λ e. calls prim.Out (var_arg (key_slot p f e.key) ∷ [])) (filter (λ e. is_taken e.mode) f.clause)
-    ++ map (λ v. calls prim.Out (var_arg (slot_of p f v) ∷ [])) (filter (λ v. is_owned (var_type f v)) (params_of f))
+    map (λ e. runtime_call prim.Out (var_arg (key_slot p f e.key) ∷ [])) (filter (λ e. is_taken e.mode) f.clause)
+    ++ map (λ v. runtime_call prim.Out (var_arg (slot_of p f v) ∷ [])) (filter (is_owning_var f) (params_of f))
 
 abbrev pub come_back : Program → Func → List Stmt
-come_back p f = map (λ e. calls prim.Back (var_arg (key_slot p f e.key) ∷ [])) (filter (λ e. is_given e.mode) f.clause)
+come_back p f = map (λ e. runtime_call prim.Back (var_arg (key_slot p f e.key) ∷ [])) (filter (λ e. is_given e.mode) f.clause)
 
 -- ---- numbers of the answer
 
@@ -76,14 +72,14 @@ mask ns = c.number (pos (sum_by (λ n. 2 ^ n) ns))
 
 -- Which state it is: the host is asked where there is more than one.
 abbrev pub pick_state : States → List Stmt
-pick_state states = if nat_le 2 (length (states_in states)) then calls prim.Pick (mask (states_in states) ∷ []) ∷ [] else []
+pick_state states = if nat_le 2 (length (states_in states)) then runtime_call prim.Pick (mask (states_in states) ∷ []) ∷ [] else []
 
 abbrev pub pick_clause : Program → Func → List Stmt
 pick_clause p f = flat_map (λ e. pick_state (after_set p f e)) (filter is_held_after f.clause)
 
 abbrev pub payload_number : CVar → Ty → List Stmt
-payload_number s int = gives s prim.Int [] ∷ []
-payload_number s bool = gives s prim.Pick (mask (0 ∷ 1 ∷ []) ∷ []) ∷ []
+payload_number s int = runtime_value s prim.Int [] ∷ []
+payload_number s bool = runtime_value s prim.Pick (mask (0 ∷ 1 ∷ []) ∷ []) ∷ []
 payload_number s (owning states t args) = pick_state states
 payload_number s _ = []
 
@@ -124,10 +120,10 @@ key_in args i = there (slice_get args i)
     there (Some k) = k
 
 abbrev pub case_keys_back : Program → Func → (args : List ℕ) → CaseAt → List Stmt
-case_keys_back p f args q = map (λ k. calls prim.Back (var_arg (key_slot p f (key_in args k.position)) ∷ [])) q.1.keys
+case_keys_back p f args q = map (λ k. runtime_call prim.Back (var_arg (key_slot p f (key_in args k.position)) ∷ [])) q.1.keys
 
 abbrev pub new_object : CVar → List Stmt
-new_object s = gives s prim.New (count_arg 0 ∷ count_arg 0 ∷ []) ∷ []
+new_object s = runtime_value s prim.New (count_arg 0 ∷ count_arg 0 ∷ []) ∷ []
 
 abbrev pub case_objects : Program → (type : ℕ) → List CVar → CaseAt → List Stmt
 case_objects p t slots q = flat_map (λ x. if is_owning x.1 then new_object x.0 else []) (payloads p t slots q)
@@ -159,15 +155,15 @@ variant_code p f t args slots =
     record {
       clears = map clear slots;
       numbers =
-          gives case prim.Pick (mask (range_with_len 0 (length cases)) ∷ []) ∷ per_case cases case (case_numbers p t slots);
+          runtime_value case prim.Pick (mask (range_with_len 0 (length cases)) ∷ []) ∷ per_case cases case (case_numbers p t slots);
       backs = per_case cases case (case_keys_back p f args);
       objects = per_case cases case (case_objects p t slots);
     }
 
 abbrev pub result_code : Program → Func → List CVar → Option Ty → ResultCode
 result_code p f slots None = plain_code [] []
-result_code p f slots (Some int) = plain_code (gives (first_slot slots) prim.Int [] ∷ []) []
-result_code p f slots (Some bool) = plain_code (gives (first_slot slots) prim.Pick (mask (0 ∷ 1 ∷ []) ∷ []) ∷ []) []
+result_code p f slots (Some int) = plain_code (runtime_value (first_slot slots) prim.Int [] ∷ []) []
+result_code p f slots (Some bool) = plain_code (runtime_value (first_slot slots) prim.Pick (mask (0 ∷ 1 ∷ []) ∷ []) ∷ []) []
 result_code p f slots (Some (tracked k t args)) = plain_code [] (new_object (first_slot slots))
 result_code p f slots (Some (guarded k t args)) = plain_code [] []
 result_code p f slots (Some (owning states t args)) = plain_code (pick_state states) (new_object (first_slot slots))
@@ -179,13 +175,13 @@ give_back None slots = c.return None ∷ []
 give_back (Some t) slots = return_stmts (Some t) (map variable slots)
 
 -- the body of an external's function; the slots of its result are temps
-abbrev pub glue_code : Program → Func → Part
+abbrev pub glue_code : Program → Func → StmtCode
 glue_code p f =
     let t = first_temps p f in
     let sorts = sorts_of p f.result in
     let slots = vars_at t sorts in
     let code = result_code p f slots f.result in
-    part
+    stmt_code
     (question p f ++ code.clears ++ go_out p f ++ pick_clause p f ++ code.numbers ++ come_back p f ++ code.backs
-    ++ calls prim.End [] ∷ code.objects ++ give_back f.result slots)
+    ++ runtime_call prim.End [] ∷ code.objects ++ give_back f.result slots)
     (past_all t sorts)

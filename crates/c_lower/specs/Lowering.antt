@@ -7,7 +7,7 @@ use Rattle.c_syntax.specs.declared.program.CResult.{CResult}
 use Rattle.c_syntax.specs.declared.program.CResult.TheVariants as result
 use Rattle.c_syntax.specs.C as c
 use Rattle.c_lower.specs.Slots.{Numbers, past_all, first_numbers, var_sorts, param_slots, first_temps}
-use Rattle.c_lower.specs.Statements.{Part, most_of_both, body_of, list_code, name_of}
+use Rattle.c_lower.specs.Statements.{StmtCode, most_of_both, body_of, list_code, name_of}
 use Rattle.c_lower.specs.Glue.{glue_code}
 
 -- what a function gives in C; a variant goes by the number of its case
@@ -27,7 +27,7 @@ abbrev pub param_numbers : Program → Func → Numbers
 param_numbers p f = past_all first_numbers (var_sorts p (take f.params f.vars))
 
 -- Declared are the slots of all variables but the parameters, and all temps.
-abbrev pub func_with : Program → (number : ℕ) → Func → Part → c.Func
+abbrev pub func_with : Program → (number : ℕ) → Func → StmtCode → c.Func
 func_with p number f code = record {
   number = number;
   result = result_of f.result;

@@ -71,8 +71,8 @@ abbrev pub var_sorts : Program → List VarDecl → List Sort
 var_sorts p = flat_map (λ d. slot_sorts p d.ty)
 
 -- the slots of a function's variable: variables take slots in the order of their numbers
-abbrev pub slots_of : Program → Func → (v : ℕ) → List CVar
-slots_of p f v = vars_at (past_all first_numbers (var_sorts p (take v f.vars))) (sorts_of p (var_type f v))
+abbrev pub slot_vars : Program → Func → (v : ℕ) → List CVar
+slot_vars p f v = vars_at (past_all first_numbers (var_sorts p (take v f.vars))) (sorts_of p (var_type f v))
 
 abbrev pub param_slots : Program → Func → List CVar
 param_slots p f = vars_at first_numbers (var_sorts p (take f.params f.vars))
@@ -90,7 +90,7 @@ first_slot (v ∷ vs) = v
 
 -- the one slot of a variable that is no variant
 abbrev pub slot_of : Program → Func → (v : ℕ) → CVar
-slot_of p f v = first_slot (slots_of p f v)
+slot_of p f v = first_slot (slot_vars p f v)
 
 -- a slot with what stands in it
 pub record Slot : Type 0 where
@@ -101,7 +101,7 @@ abbrev pub sorted_slots : List Sort → List CVar → List Slot
 sorted_slots sorts vars = map (λ q. record { var = q.1; sort = q.0 }) (zip sorts vars)
 
 abbrev pub var_slots : Program → Func → (v : ℕ) → List Slot
-var_slots p f v = sorted_slots (sorts_of p (var_type f v)) (slots_of p f v)
+var_slots p f v = sorted_slots (sorts_of p (var_type f v)) (slot_vars p f v)
 
 -- ---- cells
 
@@ -142,8 +142,8 @@ abbrev pub object_type : Func → (x : ℕ) → ℕ
 object_type f x = object_type_of (var_type f x)
 
 -- the cells of a field of the object that a variable refers to, and their sorts
-abbrev pub cells_of : Program → Func → (x position : ℕ) → List CCell
-cells_of p f x i = field_cells p (object_type f x) i (slot_of p f x).number
+abbrev pub touched_cells : Program → Func → (x position : ℕ) → List CCell
+touched_cells p f x i = field_cells p (object_type f x) i (slot_of p f x).number
 
 abbrev pub cell_sorts : Program → Func → (x position : ℕ) → List Sort
 cell_sorts p f x i = sorts_at p (object_type f x) i

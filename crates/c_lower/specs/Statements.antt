@@ -12,17 +12,17 @@ use Rattle.c_syntax.specs.declared.program.CPrim.TheVariants as prim
 use Rattle.c_syntax.specs.View.{stmts_made}
 use Rattle.c_syntax.specs.C as c
 use Rattle.c_syntax.specs.C.{Stmt, Arg}
-use Rattle.c_lower.specs.Slots.{Sort, of_number, of_reference, is_owner_sort, Numbers, past, past_all, var_at, vars_at, slots_of, slot_of, no_slot, Slot, var_slots, cell_counts, field_cells, sorts_at, object_type, cells_of, cell_sorts, variant_starts, payload_positions}
+use Rattle.c_lower.specs.Slots.{Sort, of_number, of_reference, is_owner_sort, Numbers, past, past_all, var_at, vars_at, slot_vars, slot_of, no_slot, Slot, var_slots, cell_counts, field_cells, sorts_at, object_type, touched_cells, cell_sorts, variant_starts, payload_positions}
 use Rattle.c_lower.specs.Guards.{whole, equal, unequal}
 use Rattle.c_lower.specs.Expressions.{Atom, number, variable, null, atom_expr, atom_arg, first_atom, value_of, copies, expr_code, operand_code, operand_codes}
 
 -- ---- calls of the runtime
 
-abbrev pub calls : CPrim → List Arg → Stmt
-calls f xs = c.call (c.primitive f xs)
+abbrev pub runtime_call : CPrim → List Arg → Stmt
+runtime_call f xs = c.call (c.primitive f xs)
 
-abbrev pub gives : CVar → CPrim → List Arg → Stmt
-gives v f xs = c.set_call v (c.primitive f xs)
+abbrev pub runtime_value : CVar → CPrim → List Arg → Stmt
+runtime_value v f xs = c.set_call v (c.primitive f xs)
 
 abbrev pub count_arg : ℕ → Arg
 count_arg n = c.number (pos n)
@@ -32,7 +32,7 @@ puts cells atoms = map (λ q. c.put q.0 (atom_expr q.1)) (zip cells atoms)
 
 -- ---- code with the temps that it takes
 
-pub record Part : Type 0 where
+pub record StmtCode : Type 0 where
   pub stmts : List Stmt
   -- the numbers behind its temps
   pub most : Numbers
@@ -40,14 +40,14 @@ pub record Part : Type 0 where
 abbrev pub most_of_both : Numbers → Numbers → Numbers
 most_of_both a b = record { n = max a.n b.n; p = max a.p b.p }
 
-abbrev pub in_turn : Part → Part → Part
+abbrev pub in_turn : StmtCode → StmtCode → StmtCode
 in_turn a b = record { stmts = a.stmts ++ b.stmts; most = most_of_both a.most b.most }
 
-abbrev pub part : List Stmt → Numbers → Part
-part stmts most = record { stmts = stmts; most = most }
+abbrev pub stmt_code : List Stmt → Numbers → StmtCode
+stmt_code stmts most = record { stmts = stmts; most = most }
 
 -- the list of a block
-abbrev pub body_of : Part → c.Stmts
+abbrev pub body_of : StmtCode → c.Stmts
 body_of x = stmts_made x.stmts
 
 -- ---- objects
@@ -65,16 +65,16 @@ abbrev pub owner_atoms : Program → (type position : ℕ) → List (List Atom) 
 owner_atoms p t i [] = []
 owner_atoms p t i (atoms ∷ rest) = owner_atoms_in (sorts_at p t i) atoms ++ owner_atoms p t (suc i) rest
 
-abbrev pub make_code : Program → Func → Numbers → (x : ℕ) → List Operand → Part
+abbrev pub make_code : Program → Func → Numbers → (x : ℕ) → List Operand → StmtCode
 make_code p f t x os =
     let args = operand_codes p f t os in
     let block = slot_of p f x in
     let type = object_type f x in
     let counts = cell_counts p type in
-    part
-    (args.stmts ++ gives block prim.New (count_arg counts.n ∷ count_arg counts.p ∷ [])
+    stmt_code
+    (args.stmts ++ runtime_value block prim.New (count_arg counts.n ∷ count_arg counts.p ∷ [])
     ∷ field_puts p type block.number 0 args.atoms
-    ++ map (λ a. calls prim.Own (atom_arg a ∷ c.variable block ∷ [])) (owner_atoms p type 0 args.atoms))
+    ++ map (λ a. runtime_call prim.Own (atom_arg a ∷ c.variable block ∷ [])) (owner_atoms p type 0 args.atoms))
     args.next
 
 -- a value's slots that own their objects
@@ -86,7 +86,7 @@ abbrev pub swap_slot : (block temp : CVar) → CCell → Slot → List Stmt
 swap_slot block temp cell s =
     c.set temp (c.cell cell)
     ∷ (if is_owner_sort s.sort then
-    calls prim.Disown (c.variable temp ∷ []) ∷ calls prim.Own (c.variable s.var ∷ c.variable block ∷ []) ∷ []
+    runtime_call prim.Disown (c.variable temp ∷ []) ∷ runtime_call prim.Own (c.variable s.var ∷ c.variable block ∷ []) ∷ []
     else [])
     ++ c.put cell (c.variable s.var) ∷ c.set s.var (c.variable temp) ∷ []
 
@@ -99,7 +99,7 @@ swap_slots block _ _ _ = []
 abbrev pub open_slots : List CCell → List Slot → List Stmt
 open_slots (cell ∷ cells) (s ∷ slots) =
     c.set s.var (c.cell cell)
-    ∷ (if is_owner_sort s.sort then calls prim.Disown (c.variable s.var ∷ []) ∷ [] else []) ++ open_slots cells slots
+    ∷ (if is_owner_sort s.sort then runtime_call prim.Disown (c.variable s.var ∷ []) ∷ [] else []) ++ open_slots cells slots
 open_slots _ _ = []
 
 -- the positions of the owning fields
@@ -107,7 +107,7 @@ abbrev pub owning_positions : List FieldDecl → List ℕ
 owning_positions ds = map (λ q. q.0) (filter (λ q. is_owning q.1.ty) (enumerate_from 0 ds))
 
 abbrev pub open_fields : Program → Func → (x : ℕ) → (positions vs : List ℕ) → List Stmt
-open_fields p f x (i ∷ is) (v ∷ vs) = open_slots (cells_of p f x i) (var_slots p f v) ++ open_fields p f x is vs
+open_fields p f x (i ∷ is) (v ∷ vs) = open_slots (touched_cells p f x i) (var_slots p f v) ++ open_fields p f x is vs
 open_fields p f x _ _ = []
 
 -- ---- variants
@@ -148,41 +148,41 @@ abbrev pub behind_first : {A : Type 0} → List A → List A
 behind_first [] = []
 behind_first (x ∷ xs) = xs
 
-abbrev pub build_code : Program → Func → Numbers → (v case : ℕ) → List Operand → Part
+abbrev pub build_code : Program → Func → Numbers → (v case : ℕ) → List Operand → StmtCode
 build_code p f t v k os =
     let args = operand_codes p f t os in
-    part
+    stmt_code
     (args.stmts ++ c.set (slot_of p f v) (whole k)
     ∷ build_slots 1 (case_positions p (variant_type f v) k) (map first_atom args.atoms) (behind_first (var_slots p f v)))
     args.next
 
 -- ---- simple statements
 
-abbrev pub simple_code : Program → Func → Numbers → Simple → Part
-simple_code p f t (core.set v e) = let x = expr_code p f t e in part (x.stmts ++ copies (slots_of p f v) x.atoms) x.next
-simple_code p f t (core.input v more) = part (gives (slot_of p f v) (if more then prim.More else prim.Read) [] ∷ []) t
+abbrev pub simple_code : Program → Func → Numbers → Simple → StmtCode
+simple_code p f t (core.set v e) = let x = expr_code p f t e in stmt_code (x.stmts ++ copies (slot_vars p f v) x.atoms) x.next
+simple_code p f t (core.input v more) = stmt_code (runtime_value (slot_of p f v) (if more then prim.More else prim.Read) [] ∷ []) t
 simple_code p f t (core.print e) =
-    let x = expr_code p f t e in part (x.stmts ++ calls prim.Print (atom_arg (first_atom x.atoms) ∷ []) ∷ []) x.next
-simple_code p f t (core.put x i e) = let y = expr_code p f t e in part (y.stmts ++ puts (cells_of p f x i) y.atoms) y.next
+    let x = expr_code p f t e in stmt_code (x.stmts ++ runtime_call prim.Print (atom_arg (first_atom x.atoms) ∷ []) ∷ []) x.next
+simple_code p f t (core.put x i e) = let y = expr_code p f t e in stmt_code (y.stmts ++ puts (touched_cells p f x i) y.atoms) y.next
 simple_code p f t (core.make x os) = make_code p f t x os
-simple_code p f t (core.become x state) = part [] t
-simple_code p f t (core.release x) = part (calls prim.Release (c.variable (slot_of p f x) ∷ []) ∷ []) t
+simple_code p f t (core.become x state) = stmt_code [] t
+simple_code p f t (core.release x) = stmt_code (runtime_call prim.Release (c.variable (slot_of p f x) ∷ []) ∷ []) t
 simple_code p f t (core.drop v) =
-    part (map (λ s. calls prim.Release (c.variable s ∷ [])) (owner_slots (var_slots p f v))) t
+    stmt_code (map (λ s. runtime_call prim.Release (c.variable s ∷ [])) (owner_slots (var_slots p f v))) t
 simple_code p f t (core.own v o) =
-    let x = operand_code p f t o in part (x.stmts ++ copies (slots_of p f v) x.atoms) x.next
-simple_code p f t (core.unpack x v) = part (c.set (slot_of p f x) (c.variable (slot_of p f v)) ∷ []) t
+    let x = operand_code p f t o in stmt_code (x.stmts ++ copies (slot_vars p f v) x.atoms) x.next
+simple_code p f t (core.unpack x v) = stmt_code (c.set (slot_of p f x) (c.variable (slot_of p f v)) ∷ []) t
 simple_code p f t (core.build v k os) = build_code p f t v k os
 simple_code p f t (core.swap x i v) =
     let sorts = cell_sorts p f x i in
-    part (swap_slots (slot_of p f x) (vars_at t sorts) (cells_of p f x i) (var_slots p f v)) (past_all t sorts)
+    stmt_code (swap_slots (slot_of p f x) (vars_at t sorts) (touched_cells p f x i) (var_slots p f v)) (past_all t sorts)
 simple_code p f t (core.open_into x vs) =
-    part
+    stmt_code
     (open_fields p f x (owning_positions (fields_of p (object_type f x))) vs
-    ++ calls prim.Release (c.variable (slot_of p f x) ∷ []) ∷ []) t
+    ++ runtime_call prim.Release (c.variable (slot_of p f x) ∷ []) ∷ []) t
 simple_code p f t (core.adopt y x r) =
-    part
-    (calls prim.Own (c.variable (slot_of p f x) ∷ c.variable (slot_of p f r) ∷ [])
+    stmt_code
+    (runtime_call prim.Own (c.variable (slot_of p f x) ∷ c.variable (slot_of p f r) ∷ [])
     ∷ c.set (slot_of p f y) (c.variable (slot_of p f x)) ∷ []) t
 
 -- ---- calls and returns
@@ -204,7 +204,7 @@ name_of p g =
 
 -- what the slots behind the first get of the runtime: those of each kind are numbered from 0
 abbrev pub result_gets : CPrim → List CVar → List Stmt
-result_gets f vs = map (λ q. gives q.1 f (count_arg q.0 ∷ [])) (enumerate_from 0 vs)
+result_gets f vs = map (λ q. runtime_value q.1 f (count_arg q.0 ∷ [])) (enumerate_from 0 vs)
 
 abbrev pub number_vars : List CVar → List CVar
 number_vars = filter (λ v. is_alike v.reference false)
@@ -219,12 +219,12 @@ abbrev pub call_stmts : Program → Func → c.Call → Option ℕ → List Stmt
 call_stmts p f call None = c.call call ∷ []
 call_stmts p f call (Some v) =
     c.set_call (slot_of p f v) call
-    ∷ (if is_variant (var_type f v) then results (behind_first (slots_of p f v)) else [])
+    ∷ (if is_variant (var_type f v) then results (behind_first (slot_vars p f v)) else [])
 
-abbrev pub call_code : Program → Func → Numbers → (g : ℕ) → Option ℕ → List Operand → Part
+abbrev pub call_code : Program → Func → Numbers → (g : ℕ) → Option ℕ → List Operand → StmtCode
 call_code p f t g target os =
     let args = operand_codes p f t os in
-    part (args.stmts ++ call_stmts p f (c.function (name_of p g) (flat_map (map atom_arg) args.atoms)) target) args.next
+    stmt_code (args.stmts ++ call_stmts p f (c.function (name_of p g) (flat_map (map atom_arg) args.atoms)) target) args.next
 
 abbrev pub is_reference_atom : Atom → Bool
 is_reference_atom (number z) = false
@@ -232,7 +232,7 @@ is_reference_atom (variable v) = v.reference
 is_reference_atom null = true
 
 abbrev pub result_puts : CPrim → List Atom → List Stmt
-result_puts f atoms = map (λ q. calls f (count_arg q.0 ∷ atom_arg q.1 ∷ [])) (enumerate_from 0 atoms)
+result_puts f atoms = map (λ q. runtime_call f (count_arg q.0 ∷ atom_arg q.1 ∷ [])) (enumerate_from 0 atoms)
 
 -- a variant's slots behind the first are handed over by the runtime
 abbrev pub rest_puts : List Atom → List Stmt
@@ -245,16 +245,16 @@ return_stmts ty atoms =
     (if is_variant ty then rest_puts (behind_first atoms) else [])
     ++ c.return (Some (atom_expr (first_atom atoms))) ∷ []
 
-abbrev pub return_code : Program → Func → Numbers → Option Operand → Part
-return_code p f t None = part (c.return None ∷ []) t
+abbrev pub return_code : Program → Func → Numbers → Option Operand → StmtCode
+return_code p f t None = stmt_code (c.return None ∷ []) t
 return_code p f t (Some o) =
-    let x = operand_code p f t o in part (x.stmts ++ return_stmts f.result x.atoms) x.next
+    let x = operand_code p f t o in stmt_code (x.stmts ++ return_stmts f.result x.atoms) x.next
 
 -- ---- all statements
 
 abbrev pub arm_copies : Program → Func → (v : ℕ) → (positions vs : List ℕ) → List Stmt
 arm_copies p f v (i ∷ is) (w ∷ ws) =
-    c.set (slot_of p f w) (c.variable (slot_at (slice_get (slots_of p f v) i))) ∷ arm_copies p f v is ws
+    c.set (slot_of p f w) (c.variable (slot_at (slice_get (slot_vars p f v) i))) ∷ arm_copies p f v is ws
   where
     slot_at : Option CVar → CVar
     slot_at None = no_slot
@@ -263,53 +263,53 @@ arm_copies p f v _ _ = []
 
 abbrev mutual
   -- Nested lists take their temps from where the statement does, but behind those that a switch or a focus needs.
-  pub form_code : Program → Func → Numbers → core.Form → Part
+  pub form_code : Program → Func → Numbers → core.Form → StmtCode
   form_code p f t (core.simple s) = simple_code p f t s
   form_code p f t (core.call g target keys os) = call_code p f t g target os
   form_code p f t (core.choose e a b) =
       let x = expr_code p f t e in
       let yes = block_code p f t a in
       let no = block_code p f t b in
-      part (x.stmts ++ c.choose (unequal (value_of x) (whole 0)) (body_of yes) (body_of no) ∷ [])
+      stmt_code (x.stmts ++ c.choose (unequal (value_of x) (whole 0)) (body_of yes) (body_of no) ∷ [])
       (most_of_both x.next (most_of_both yes.most no.most))
   form_code p f t (core.loop e b) =
       let x = expr_code p f t e in
       let body = block_code p f t b in
-      part
+      stmt_code
       (c.loop (stmts_made
       (x.stmts ++ c.when (equal (value_of x) (whole 0)) (c.next c.break c.done) ∷ body.stmts)) ∷ [])
       (most_of_both x.next body.most)
   form_code p f t (core.switch v arms end) =
       let case = var_at t of_number in
       let rest = arms_code p f (past t of_number) v case arms in
-      part (c.set case (c.variable (slot_of p f v)) ∷ rest.stmts) rest.most
+      stmt_code (c.set case (c.variable (slot_of p f v)) ∷ rest.stmts) rest.most
   form_code p f t (core.focus y z b) =
       let object = var_at t of_reference in
       let adopter = var_at (past t of_reference) of_reference in
       let body = block_code p f (past (past t of_reference) of_reference) b in
-      part
-      (c.set object (c.variable (slot_of p f y)) ∷ gives adopter prim.Parent (c.variable object ∷ [])
-      ∷ calls prim.Disown (c.variable object ∷ []) ∷ c.set (slot_of p f z) (c.variable object)
-      ∷ body.stmts ++ calls prim.Own (c.variable object ∷ c.variable adopter ∷ []) ∷ [])
+      stmt_code
+      (c.set object (c.variable (slot_of p f y)) ∷ runtime_value adopter prim.Parent (c.variable object ∷ [])
+      ∷ runtime_call prim.Disown (c.variable object ∷ []) ∷ c.set (slot_of p f z) (c.variable object)
+      ∷ body.stmts ++ runtime_call prim.Own (c.variable object ∷ c.variable adopter ∷ []) ∷ [])
       body.most
   form_code p f t (core.scope b) = block_code p f t b
   form_code p f t (core.return o) = return_code p f t o
-  form_code p f t (core.jump continues) = part ((if continues then c.continue else c.break) ∷ []) t
+  form_code p f t (core.jump continues) = stmt_code ((if continues then c.continue else c.break) ∷ []) t
 
-  pub block_code : Program → Func → Numbers → core.Block → Part
+  pub block_code : Program → Func → Numbers → core.Block → StmtCode
   block_code p f t (core.block stmts bound end) = list_code p f t stmts
 
   -- each statement's temps are those of the list
-  pub list_code : Program → Func → Numbers → core.Stmts → Part
-  list_code p f t core.done = part [] t
+  pub list_code : Program → Func → Numbers → core.Stmts → StmtCode
+  list_code p f t core.done = stmt_code [] t
   list_code p f t (core.next at form rest) = in_turn (form_code p f t form) (list_code p f t rest)
 
-  pub arms_code : Program → Func → Numbers → (v : ℕ) → (case : CVar) → core.Arms → Part
-  arms_code p f t v case core.no_arms = part [] t
+  pub arms_code : Program → Func → Numbers → (v : ℕ) → (case : CVar) → core.Arms → StmtCode
+  arms_code p f t v case core.no_arms = stmt_code [] t
   arms_code p f t v case (core.arm k vs b arms) =
       let body = block_code p f t b in
       in_turn
-      (part
+      (stmt_code
       (c.when (equal (c.variable case) (whole k))
       (stmts_made (arm_copies p f v (case_positions p (variant_type f v) k) vs ++ body.stmts)) ∷ [])
       body.most)

@@ -13,7 +13,7 @@ use Rattle.c_syntax.specs.C.{Stmt}
 use Rattle.c_meaning.specs.World.{World, Value, number, trap, Outcome}
 use Rattle.c_meaning.specs.Values.{value_of}
 use Rattle.c_meaning.specs.Run.{Frame, Step, goes, breaks, continues, leaves, stops, with_var, does_stmts, then_do, with_found}
-use Rattle.c_lower.specs.Slots.{Numbers, past, of_number, var_at}
+use Rattle.c_lower.specs.Slots.{Numbers, Sort, past, of_number, of_reference, of_owner, var_at}
 use Rattle.c_lower.specs.Expressions as code
 use Rattle.c_lower.specs.Expressions.{Code, binary_code}
 use Rattle.std.proofs.lemmas.List.{append_assoc}
@@ -86,6 +86,14 @@ stops_then xs ys f w o first r rest n = by xs n f w (first r rest n)
     by (x ∷ xs) n f v e = stops_on _ _ _ o w e (λ f v e. by xs _ f v e)
 
 -- ---- frames
+
+pub up_self : (u : Numbers) → AreUpTo u u
+up_self u = record { n = omega (arith); p = omega (arith) }
+
+pub up_past : (u : Numbers) (s : Sort) → AreUpTo u (past u s)
+up_past u of_number = record { n = omega (arith); p = omega (arith) }
+up_past u of_reference = record { n = omega (arith); p = omega (arith) }
+up_past u of_owner = record { n = omega (arith); p = omega (arith) }
 
 pub below_more : {t u : Numbers} → AreUpTo t u → (v : CVar) → IsBelow t v → IsBelow u v
 below_more {t} {u} m v b = by v.reference b
@@ -214,12 +222,6 @@ test_tells false u x f w = record { tells = rw (temp_is u) (by (equals x (pos 0)
     by true = refl
     by false = refl
 
-up_to_self : (u : Numbers) → AreUpTo u u
-up_to_self u = record { n = omega (arith); p = omega (arith) }
-
-past_up : (u : Numbers) → AreUpTo u (past u of_number)
-past_up u = record { n = omega (arith); p = omega (arith) }
-
 -- the temp of the left side holds its number as long as no variable below the next temps changes
 temp_stays : (u next : Numbers) (f : Frame) (w : World) (z : ℤ) → AreUpTo (past u of_number) next → (h : Frame) →
     AreAlike next (with_var (var_at u of_number) (number z) f) h → value_of (c.variable (var_at u of_number)) h.vars w.blocks ≡ Ok (number z)
@@ -268,8 +270,8 @@ lazy_comes is_and left right t f w x y m k h after = by (lazy_wants_right is_and
           (subst (Tells (lazy_test is_and temp) set.vars w.blocks) e (test_tells is_and left.next x h.to w))
           (goes_then rest.stmts (c.set temp (code.value_of rest) ∷ []) set comes.to w _ comes.does
           (set_goes temp (code.value_of rest) (number b) comes.to w (comes.stays comes.to (alike_self rest.next comes.to)))));
-      alike = alike_more m h.alike (alike_more (up_to_self left.next) (set_alike left.next (number x) h.to)
-          (alike_more (up_to_self left.next) (alike_more (past_up left.next) (alike_self left.next set) comes.alike)
+      alike = alike_more m h.alike (alike_more (up_self left.next) (set_alike left.next (number x) h.to)
+          (alike_more (up_self left.next) (alike_more (up_past left.next of_number) (alike_self left.next set) comes.alike)
           (set_alike left.next (number b) comes.to)));
       stays = temp_stays left.next rest.next comes.to w b k;
     }
@@ -332,7 +334,7 @@ lazy_right : (is_and : Bool) (left : Code) (right : Numbers → Code) (t : Numbe
 unfolding lazy_make
 lazy_right is_and left right t f w (Ok x) y up m comes after =
     lazy_comes is_and left right t f w x y m (up (past left.next of_number)) comes
-    (λ e. after e _ (past left.next of_number) (more_more m (past_up left.next)) (alike_more m comes.alike (set_alike left.next (number x) comes.to)))
+    (λ e. after e _ (past left.next of_number) (more_more m (up_past left.next of_number)) (alike_more m comes.alike (set_alike left.next (number x) comes.to)))
 lazy_right is_and left right t f w (Err k) y up m comes after =
     stops_then left.stmts _ f w (trap k) comes
 

@@ -1,5 +1,5 @@
 -- The code of an expression, by what the expression is made of.
-use Rattle.std.proofs.Common.{◌≡◌, ℕ, Bool, true, false, ◌&&◌, if◌then◌else◌, ℤ, pos, List, [], ◌∷◌, ◌++◌, Option, Some, None, slice_get, Result, Ok, Err, refl, sym, ap, ◌∙◌, subst, arith, true≢false}
+use Rattle.std.proofs.Common.{◌≡◌, ℕ, Bool, true, false, if◌then◌else◌, ℤ, pos, List, [], ◌∷◌, ◌++◌, Option, Some, None, slice_get, Result, Ok, Err, refl, sym, ap, ◌∙◌, subst, true≢false}
 use Rattle.vlt_ops.specs.declared.Op.{Op}
 use Rattle.vlt_ops.specs.declared.Op.TheVariants as op
 use Rattle.vlt_ops.specs.declared.TrapKind.{TrapKind}
@@ -14,7 +14,7 @@ use Rattle.vlt_core.specs.Lookups.{Reference, reference_of, guarded_of}
 use Rattle.vlt_meaning.specs.Values.{number_of}
 use Rattle.c_meaning.specs.World.{World}
 use Rattle.c_meaning.specs.Run.{Frame}
-use Rattle.c_lower.specs.Slots.{Numbers, Sort, of_number, of_reference, of_owner, past, past_all, cell_sorts}
+use Rattle.c_lower.specs.Slots.{Numbers, Sort, of_number, past, past_all, cell_sorts}
 use Rattle.c_lower.specs.Slots.{var_at}
 use Rattle.c_lower.specs.Guards.{unary_guards}
 use Rattle.c_lower.specs.Expressions.{Code, value_of, into_temp, expr_code, binary_code}
@@ -28,17 +28,10 @@ use Rattle.c_lower_laws.proofs.Operators.{unary_is_right}
 use Rattle.c_lower_laws.specs.Codes.{AreAlike, AreUpTo, Gives, is_binary}
 use Rattle.c_lower_laws.specs.Sides.{ComesTo, AreInRange, both_make, wants, wants_right}
 use Rattle.c_lower_laws.specs.Expressions.{Follows, has_arities, AreRightExpressions}
-use Rattle.c_lower_laws.proofs.Codes.{codes_are_right, alike_self, alike_more, more_more, temp_gives, goes_then, stops_then}
+use Rattle.c_lower_laws.proofs.Guards.{and_left, and_right}
+use Rattle.c_lower_laws.proofs.Codes.{codes_are_right, up_self, up_past, alike_self, alike_more, more_more, temp_gives, goes_then, stops_then}
 
 -- ---- temps only go up
-
-pub up_self : (u : Numbers) → AreUpTo u u
-up_self u = record { n = omega (arith); p = omega (arith) }
-
-pub up_past : (u : Numbers) (s : Sort) → AreUpTo u (past u s)
-up_past u of_number = record { n = omega (arith); p = omega (arith) }
-up_past u of_reference = record { n = omega (arith); p = omega (arith) }
-up_past u of_owner = record { n = omega (arith); p = omega (arith) }
 
 pub up_all : (u : Numbers) (ss : List Sort) → AreUpTo u (past_all u ss)
 up_all u [] = up_self u
@@ -393,14 +386,6 @@ leaf_follows : (r : Found ℤ) (x : Code) (u : Numbers) (g : Frame) (w : World) 
 leaf_follows (Ok z) x u g w untrapped h = h z refl
 leaf_follows (Err o) x u g w untrapped h = ends_alike o x u g w (λ k q. absurd (untrapped.never k (ap Err q)))
 
-and_first : (s t : Bool) → (s && t) ≡ true → s ≡ true
-and_first true t h = refl
-and_first false t h = absurd (true≢false (sym h))
-
-and_second : (s t : Bool) → (s && t) ≡ true → t ≡ true
-and_second true t h = h
-and_second false t h = absurd (true≢false (sym h))
-
 pub expressions_are_right : AreRightExpressions
 unfolding prefix_code
 expressions_are_right p f s objects t frame w leaves (core.number z) arity ranges u g m a =
@@ -421,18 +406,18 @@ expressions_are_right p f s objects t frame w leaves (core.field x i) arity rang
     leaf_follows (number_of p f (core.field x i) s objects) (expr_code p f u (core.field x i)) u g w (field_no_trap p f x i s objects)
     (λ z e. leaves.fields x i z e u g m a)
 expressions_are_right p f s objects t frame w leaves (core.unary o e) arity ranges u g m a =
-    prefix_follows o (expr_code p f u e) u g w (meaning.value_of p f e s objects) (and_first (is_prefix o) (has_arities e) arity) (expr_up p f e u)
+    prefix_follows o (expr_code p f u e) u g w (meaning.value_of p f e s objects) (and_left (is_prefix o) (has_arities e) arity) (expr_up p f e u)
     ranges.0
-    (expressions_are_right p f s objects t frame w leaves e (and_second (is_prefix o) (has_arities e) arity) ranges.1 u g m a)
+    (expressions_are_right p f s objects t frame w leaves e (and_right (is_prefix o) (has_arities e) arity) ranges.1 u g m a)
 expressions_are_right p f s objects t frame w leaves (core.binary o a b) arity ranges u g m alike =
     binary_follows o (expr_code p f u a) (λ v. expr_code p f v b) u g w (meaning.value_of p f a s objects) (meaning.value_of p f b s objects)
-    (and_first (is_binary o) _ arity)
+    (and_left (is_binary o) _ arity)
     (record {
       up_left = expr_up p f a u;
       up_right = λ v. expr_up p f b v;
       range_left = ranges.0.0;
       range_right = ranges.1.0;
-      left_is = expressions_are_right p f s objects t frame w leaves a (and_first (has_arities a) (has_arities b) (and_second (is_binary o) _ arity)) ranges.0.1 u g m alike;
+      left_is = expressions_are_right p f s objects t frame w leaves a (and_left (has_arities a) (has_arities b) (and_right (is_binary o) _ arity)) ranges.0.1 u g m alike;
       right_is = λ h v k b2. expressions_are_right p f s objects t frame w leaves b
-          (and_second (has_arities a) (has_arities b) (and_second (is_binary o) _ arity)) ranges.1.1 v h (more_more m k) (alike_more m alike b2);
+          (and_right (has_arities a) (has_arities b) (and_right (is_binary o) _ arity)) ranges.1.1 v h (more_more m k) (alike_more m alike b2);
     })

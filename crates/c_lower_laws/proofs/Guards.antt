@@ -132,11 +132,11 @@ product_decided x y false true false true h l k m = product_of_negative x y l m
 signs_tell : (a b : Expr) (vars : Vars) (bs : Blocks) (s t : Bool) → Tells a vars bs s → Tells b vars bs t → Tells (both a b) vars bs (s && t)
 signs_tell a b vars bs s t ha hb = both_tell a b vars bs s t ha (λ u. hb)
 
-and_left : (s t : Bool) → (s && t) ≡ true → s ≡ true
+pub and_left : (s t : Bool) → (s && t) ≡ true → s ≡ true
 and_left true t h = refl
 and_left false t h = absurd (true≢false (sym h))
 
-and_right : (s t : Bool) → (s && t) ≡ true → t ≡ true
+pub and_right : (s t : Bool) → (s && t) ≡ true → t ≡ true
 and_right true t h = h
 and_right false t h = absurd (true≢false (sym h))
 

@@ -17,9 +17,9 @@ use Rattle.c_lower.specs.Expressions as code
 use Rattle.c_lower.specs.Expressions.{expr_code}
 use Rattle.c_lower_laws.specs.Codes.{IsBelow, AreAlike, AreUpTo, Gives}
 use Rattle.c_lower_laws.specs.Slots.{NumbersStand, HasCell, LeavesStandThere}
-use Rattle.c_lower_laws.proofs.Codes.{below_more, alike_self, temp_gives}
+use Rattle.c_lower_laws.proofs.Codes.{below_more, up_self, alike_self, temp_gives}
 use Rattle.c_lower_laws.proofs.Doing.{set_goes}
-use Rattle.c_lower_laws.proofs.Expressions.{up_self, up_all}
+use Rattle.c_lower_laws.proofs.Expressions.{up_all}
 
 past_all_append : (t : Numbers) (xs ys : List Sort) → past_all t (xs ++ ys) ≡ past_all (past_all t xs) ys
 past_all_append t [] ys = refl

@@ -9,7 +9,7 @@ use Rattle.c_meaning.specs.Values.{value_of}
 use Rattle.c_meaning.specs.Run.{Frame}
 use Rattle.c_syntax.specs.C as c
 use Rattle.c_syntax.specs.declared.program.CCell.TheVariants as cell
-use Rattle.c_lower.specs.Slots.{of_number, slot_of, cells_of, cell_sorts, first_temps}
+use Rattle.c_lower.specs.Slots.{of_number, slot_of, touched_cells, cell_sorts, first_temps}
 use Rattle.c_lower_laws.specs.Expressions.{LeavesStand}
 
 -- each variable that has a number is one of the function's, and has the number in its slot
@@ -21,7 +21,7 @@ pub record NumbersStand (p : Program) (f : Func) (s : source.Frame) (frame : Fra
 -- A field has one cell, of the block that the variable refers to, and the cell's value in C is this number.
 pub record HasCell (p : Program) (f : Func) (x position : ℕ) (frame : Frame) (w : World) (z : ℤ) : Type 0 where
   pub index : ℕ
-  pub cells : cells_of p f x position ≡ cell.Number (slot_of p f x).number index ∷ []
+  pub cells : touched_cells p f x position ≡ cell.Number (slot_of p f x).number index ∷ []
   pub sorts : cell_sorts p f x position ≡ of_number ∷ []
   pub declared : (d : VarDecl) × (slice_get f.vars x ≡ Some d)
   pub refers : (slot_of p f x).reference ≡ true

@@ -18,8 +18,9 @@ pub fn prefix_operators_are_lowered_rightly()
     ensures { AreRightUnary }
 {}
 
-/// The code of an expression, however deep, gives the number that the source finds, or traps where the source does: as far
-/// as variables and fields stand in C as they do in the source. It changes no variable below its temps.
+/// The code of an expression, however deep, gives the number that the source finds, or traps where the source does, and
+/// changes no variable below its temps: where variables and fields that have a number in the source have it in C, the
+/// numbers of operands are of 64 bits, and each operator has as many operands as it wants.
 pub fn expressions_are_lowered_rightly()
     ensures { AreRightExpressions }
 {}
