@@ -19,7 +19,7 @@ abbrev these : List ℕ → s.States
 these ns n = list_any (λ m. m == n) ns
 
 abbrev set : List s.Name → s.SetDecl
-set states = record { name = []; states = states }
+set states = record { name = []; states = states; links = [] }
 
 abbrev struct : List s.Ty → s.TypeDecl
 struct types = s.a_struct (record {

@@ -1,9 +1,10 @@
 -- The function that stands for an external: it tells the host of the call and asks, and makes of the answer what the
 -- clause and the result say.
-use Rattle.std.specs.Prelude.{ℕ, ◌^◌, ◌==◌, nat_le, pos, Bool, true, false, if◌then◌else◌, List, [], ◌∷◌, ◌++◌, map, filter, length, Option, Some, None, slice_get}
+use Rattle.std.specs.Prelude.{ℕ, ◌^◌, ◌==◌, nat_le, pos, Bool, true, false, not, ◌&&◌, if◌then◌else◌, List, [], ◌∷◌, ◌++◌, map, filter, length, Option, Some, None, slice_get}
 use Rattle.std.specs.List.{flat_map, zip, enumerate_from, range_with_len, sum_by}
 use Rattle.vlt_core.specs.Core.{States, Ty, int, bool, tracked, owning, guarded, variant, owning_variant, CaseDecl, Mode, taken, given, Func, Program}
 use Rattle.vlt_core.specs.Lookups.{is_owning, is_owning_var, cases_of, var_type, after_set, is_held_after}
+use Rattle.vlt_core.specs.KindedHeads.{is_bound_entry}
 use Rattle.c_syntax.specs.declared.program.CVar.{CVar}
 use Rattle.c_syntax.specs.declared.program.CPrim.TheVariants as prim
 use Rattle.c_syntax.specs.View.{stmts_made}
@@ -75,7 +76,7 @@ abbrev pub pick_state : States → List Stmt
 pick_state states = if nat_le 2 (length (states_in states)) then runtime_call prim.Pick (mask (states_in states) ∷ []) ∷ [] else []
 
 abbrev pub pick_clause : Program → Func → List Stmt
-pick_clause p f = flat_map (λ e. pick_state (after_set p f e)) (filter is_held_after f.clause)
+pick_clause p f = flat_map (λ e. pick_state (after_set p f e)) (filter (λ e. is_held_after e && not (is_bound_entry e)) f.clause)
 
 abbrev pub payload_number : CVar → Ty → List Stmt
 payload_number s int = runtime_value s prim.Int [] ∷ []

@@ -4,6 +4,7 @@ use Rattle.vlt_core.specs.View.{func_of, program_of}
 use Rattle.vlt_core.specs.Core.{Operand, Form, call, Func, Program}
 use Rattle.vlt_meaning.specs.World.{Value, World, Frame}
 use Rattle.vlt_meaning.specs.Step.{goes}
+use Rattle.vlt_meaning.specs.Calls.{called_instance}
 use Rattle.vlt_meaning.specs.Run.{Setup}
 use Rattle.vlt_meaning.specs.Externals.{call_external}
 use Rattle.vlt_machine.specs.Got.{got, operands_got}
@@ -77,7 +78,8 @@ abbrev pub entering_body : (target : Option ℕ) → (keys : List ℕ) → Func 
 entering_body target keys g s f ts args frame w = enter_body s f target keys g args ts frame w
 
 abbrev pub going_in : (target : Option ℕ) → (keys : List ℕ) → Func → CallPart
-going_in target keys g s f ts args frame w = spending f ts w (λ w. enter_by g.external s f target keys g args ts frame w)
+going_in target keys g s f ts args frame w =
+    spending f ts w (λ w. enter_by g.external s f target keys (called_instance s.program g keys frame w.objects) args ts frame w)
 
 -- what a part of a call of g asks: the call names variables and keys of the running function, and there is room
 pub record IsReadyIn (p : Program) (depth : ℕ) (g : Func) (target : Option ℕ) (keys : List ℕ) (r : Run) : Type 0 where

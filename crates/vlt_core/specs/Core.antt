@@ -25,9 +25,16 @@ pub data Ty : Type 0 where
   variant : (type : ℕ) → (args : List ℕ) → Ty
   owning_variant : (type : ℕ) → (args : List ℕ) → Ty
 
+-- a state that stands right below another one of its set
+pub record Link : Type 0 where
+  pub lower : ℕ
+  pub upper : ℕ
+
 pub record SetDecl : Type 0 where
   pub name : Name
   pub states : List Name
+  -- none for a set without order
+  pub links : List Link
 
 pub record FieldDecl : Type 0 where
   pub name : Name
@@ -144,14 +151,16 @@ mutual
     no_arms : Arms
     arm : (case : ℕ) → (vs : List ℕ) → Block → Arms → Arms
 
--- Where the key of an entry is held: before and after, before alone, after alone, or after, for a new object.
+-- Where the key of an entry is held: before and after, before alone, after alone, or after, for a new object; or before, in
+-- any state up to this one, and after, in the state that it had.
 pub data Mode : Type 0 where
   kept : Mode
   taken : Mode
   given : Mode
   fresh : Mode
+  up_to : (state : ℕ) → Mode
 
--- a key of a clause; a side has no states where the key is absent on it, and where the entry names none
+-- a key of a clause; a side has no states where the key is absent on it, where the entry names none, and where it is bound
 pub record Entry : Type 0 where
   pub mode : Mode
   pub key : ℕ

@@ -1,7 +1,8 @@
 -- Which programs follow the rules on keys: between the statements of each body some maps exist.
-use Rattle.std.specs.Prelude.{◌≡◌, ℕ, ◌==◌, nat_lt, Bool, true, false, ◌&&◌, if◌then◌else◌, List, [], ◌∷◌, map, Some, slice_get}
+use Rattle.std.specs.Prelude.{◌≡◌, ℕ, ◌==◌, nat_lt, Bool, true, false, ◌&&◌, if◌then◌else◌, List, [], ◌∷◌, map, Option, Some, slice_get}
 use Rattle.vlt_core.specs.Core.{a_key, a_var, Entry, Func, Program}
 use Rattle.vlt_core.specs.Lookups.{is_owning_var, is_held_before, before_set}
+use Rattle.vlt_core.specs.Instances.{instance, IsOrigin}
 use Rattle.vlt_core.specs.Maps.{Status, absent, held, full, HeldMap, CanPass, map_after, IsBelow, away_row}
 use Rattle.vlt_core.specs.Flow.{Flow, step, choose, loop, switch, scope, focus, return, jump, Block, block, Stmts, done, next, Arms, no_arms, arm}
 use Rattle.vlt_core.specs.Bodies.{body_flow}
@@ -59,6 +60,7 @@ start_map p f (a_var v) = if nat_lt v f.params && is_owning_var f v then full el
 abbrev pub IsAcceptedFunc : Program → Func → Type 0
 IsAcceptedFunc p f = IsDerived (body_flow p f) (start_map p f)
 
--- each function with a body is accepted
+-- each instance of each function with a body is accepted
 abbrev pub IsAccepted : Program → Type 0
-IsAccepted p = (g : ℕ) (f : Func) → slice_get p.fns g ≡ Some f → f.external ≡ false → IsAcceptedFunc p f
+IsAccepted p = (g : ℕ) (f : Func) (o : Option ℕ) → slice_get p.fns g ≡ Some f → f.external ≡ false → IsOrigin p f o →
+    IsAcceptedFunc p (instance p f o)

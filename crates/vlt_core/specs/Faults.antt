@@ -1,6 +1,7 @@
 -- Where a body breaks the rules on keys, and which fault is told: the first, by place.
-use Rattle.std.specs.Prelude.{◌≡◌, ℕ, ◌+◌, ◌<◌, ◌≤◌, Bool, true, false, List, [], ◌∷◌, map, length, ◌⊎◌, Some, slice_get}
+use Rattle.std.specs.Prelude.{◌≡◌, ℕ, ◌+◌, ◌<◌, ◌≤◌, Bool, true, false, List, [], ◌∷◌, map, length, ◌⊎◌, Option, Some, slice_get}
 use Rattle.vlt_core.specs.Core.{Tok, a_key, a_var, Func, Program}
+use Rattle.vlt_core.specs.Instances.{instance, IsOrigin}
 use Rattle.vlt_core.specs.Maps.{Status, Wanted, Row, is_tok, away_row}
 use Rattle.vlt_core.specs.Flow.{Flow, step, choose, loop, switch, scope, focus, return, jump, Block, block, Stmts, done, next, Arms, no_arms, arm, end_of}
 use Rattle.vlt_core.specs.Bodies.{body_flow}
@@ -163,9 +164,10 @@ TellsJoin (at_join present) S = StandsFor present (present_of S)
 abbrev pub IsToldOf : Program → Func → FaultKind → Spot → Tok → Type 0
 IsToldOf p f kind q t = SpotAtBlock (TellsRow kind) (TellsJoin kind) q t 0 (body_flow p f) (Has (start_map p f t))
 
--- where and how a function breaks the rules on keys
+-- where and how a function breaks the rules on keys; the instance goes by its origin
 pub record FlowFault : Type 0 where
   pub function : ℕ
+  pub origin : Option ℕ
   pub at : ℕ
   pub tok : Tok
   pub kind : FaultKind
@@ -178,10 +180,24 @@ pub record IsFirstIn (p : Program) (f : Func) (at : ℕ) (t : Tok) (kind : Fault
   pub told : IsToldOf p f kind spot t
   pub first : (q : Spot) (u : Tok) → IsFaultIn p f q u → IsNoLater spot t q u
 
--- The fault is the first one of the first function with a body that has one.
+abbrev pub IsNoLaterOrigin : Option ℕ → Option ℕ → Type 0
+IsNoLaterOrigin (Some o) (Some q) = o ≤ q
+IsNoLaterOrigin _ _ = Unit {0}
+
+-- The fault is the first one of its instance, and those of the function's other instances are later: at another spot, of a
+-- later token, or of a greater origin.
+pub record IsFirstOfAll (p : Program) (f : Func) (origin : Option ℕ) (at : ℕ) (t : Tok) (kind : FaultKind) : Type 0 where
+  pub is : IsOrigin p f origin
+  pub first : IsFirstIn p (instance p f origin) at t kind
+  pub least : (o : Option ℕ) (q : Spot) (u : Tok) → IsOrigin p f o → IsFaultIn p (instance p f o) q u →
+      IsNoLater first.spot t q u
+  pub origins : (o : Option ℕ) → IsOrigin p f o → IsFaultIn p (instance p f o) first.spot t → IsNoLaterOrigin origin o
+
+-- The fault is the first one of the first function with a body that has one in some instance.
 pub record IsFirstFault (p : Program) (x : FlowFault) : Type 0 where
   pub func : Func
   pub there : slice_get p.fns x.function ≡ Some func
   pub with_body : func.external ≡ false
-  pub first : IsFirstIn p func x.at x.tok x.kind
-  pub before : (g : ℕ) (f : Func) → g < x.function → slice_get p.fns g ≡ Some f → f.external ≡ false → HasFault p f → ⊥
+  pub first : IsFirstOfAll p func x.origin x.at x.tok x.kind
+  pub before : (g : ℕ) (f : Func) (o : Option ℕ) → g < x.function → slice_get p.fns g ≡ Some f → f.external ≡ false →
+      IsOrigin p f o → HasFault p (instance p f o) → ⊥

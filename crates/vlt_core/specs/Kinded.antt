@@ -2,7 +2,7 @@
 use Rattle.std.specs.Prelude.{◌≡◌, ℕ, suc, nat_lt, Bool, false, not, if◌then◌else◌, List, [], ◌∷◌, ◌++◌, map, Option, Some, None, slice_get}
 use Rattle.std.specs.List.{flat_map, enumerate_from}
 use Rattle.vlt_core.specs.Core.{Func, Program}
-use Rattle.vlt_core.specs.KindedHeads.{Rules, unless, type_rows, head_broken}
+use Rattle.vlt_core.specs.KindedHeads.{Rules, unless, set_broken, type_rows, head_broken}
 use Rattle.vlt_core.specs.declared.rules.TheConstants as rule
 use Rattle.vlt_core.specs.KindedBodies.{body_rows, end_broken}
 
@@ -25,7 +25,7 @@ function_rows p q = (head_broken p q.0 q.1 ++ end_broken p q.1) ∷ body_rows p 
 abbrev pub rows_broken : Program → List Rules
 rows_broken p =
     unless (has_main p) rule.NO_MAIN ∷
-    map (λ d. []) p.sets ++
+    map set_broken p.sets ++
     flat_map (λ q. type_rows p q.0 q.1) (enumerate_from 0 p.types) ++
     flat_map (function_rows p) (enumerate_from 0 p.fns)
 

@@ -2,8 +2,8 @@
 -- the rules that are broken.
 use Rattle.std.specs.Prelude.{ℕ, suc, nat_lt, nat_le, ◌==◌, Bool, true, false, not, ◌&&◌, ◌||◌, if◌then◌else◌, List, [], ◌∷◌, ◌++◌, length, map, filter, take, drop, Option, Some, None, slice_get}
 use Rattle.std.specs.List.{list_any, list_all, flat_map}
-use Rattle.vlt_core.specs.Core.{States, Ty, int, bool, tracked, owning, guarded, variant, owning_variant, FieldDecl, CaseKey, CaseDecl, TypeDecl, an_abstract, a_struct, a_variant, Header, Entry, KeyDecl, Func, Program}
-use Rattle.vlt_core.specs.Lookups.{set_in, all_states, is_new, cases_of}
+use Rattle.vlt_core.specs.Core.{States, Ty, int, bool, tracked, owning, guarded, variant, owning_variant, FieldDecl, CaseKey, CaseDecl, TypeDecl, an_abstract, a_struct, a_variant, Header, SetDecl, Mode, up_to, Entry, KeyDecl, Func, Program}
+use Rattle.vlt_core.specs.Lookups.{set_in, all_states, leads_up, is_new, cases_of}
 use Rattle.vlt_core.specs.Types.{decl_of, is_struct, is_abstract, is_variant, header_of, is_keyed, is_owning_type, lies_within, args_of, keys_of_ty, type_in}
 use Rattle.vlt_core.specs.declared.rules.TheConstants as rule
 
@@ -124,6 +124,10 @@ case_broken p header c =
     flat_map (λ ty. part_broken p header ty ++ unless (is_payload_type ty) rule.PAYLOAD_TYPE) c.payload ++
     unless (are_apart (map (λ k. k.position) c.keys)) rule.CASE_KEY ++
     flat_map (case_key_broken p header) c.keys
+
+-- no state is below itself
+abbrev pub set_broken : SetDecl → Rules
+set_broken d = unless (not (list_any (λ l. leads_up d.links 31 l.upper l.lower) d.links)) rule.ORDER_LOOP
 
 -- the rows of a declared type: its own, and one for each case
 abbrev pub type_rows : Program → (type : ℕ) → TypeDecl → List Rules
@@ -247,8 +251,15 @@ key_broken p f k d =
         is_it None u = rule.WRONG_TYPE ∷ []
         is_it (Some t) u = unless (t == u) rule.WRONG_TYPE
 
+abbrev pub is_bounded : Mode → Bool
+is_bounded (up_to b) = true
+is_bounded m = false
+
+abbrev pub is_bound_entry : Entry → Bool
+is_bound_entry e = is_bounded e.mode
+
 abbrev pub names_states : Entry → Bool
-names_states e = is_given e.before || is_given e.after
+names_states e = is_bounded e.mode || is_given e.before || is_given e.after
   where
     is_given : Option States → Bool
     is_given None = false
@@ -260,11 +271,15 @@ entry_broken p f e =
     then unless (is_new e || has (keys_of_parameters f) e.key) rule.CLAUSE_KEY_UNBOUND ++ of_types (given_types p f e.key)
     else rule.UNKNOWN_NAME ∷ []
   where
+    bound_broken : (type : ℕ) → Mode → Rules
+    bound_broken t (up_to b) = state_broken p t b
+    bound_broken t m = []
+
     of_types : List ℕ → Rules
     of_types [] = unless (not (names_states e)) rule.STATES_UNTYPED
     of_types (t ∷ ts) =
         if are_all t ts
-        then when_some (decl_of p t) (λ d. when_some e.before (states_broken p t) ++ when_some e.after (states_broken p t))
+        then when_some (decl_of p t) (λ d. when_some e.before (states_broken p t) ++ when_some e.after (states_broken p t) ++ bound_broken t e.mode)
         else []
 
 -- a `new` key is the key of the result, a reference, and stands nowhere else
@@ -356,4 +371,5 @@ head_broken p g f =
     flat_map (entry_broken p f) f.clause ++
     result_broken f ++
     (if f.external then external_broken p f else []) ++
-    (if g == p.main then unless (is_main_head f) rule.MAIN_HEAD else [])
+    (if g == p.main then unless (is_main_head f) rule.MAIN_HEAD else []) ++
+    unless (nat_le (length (filter is_bound_entry f.clause)) 1) rule.SECOND_BOUND

@@ -10,6 +10,7 @@ pub mod KindedCalls
 pub mod KindedBodies
 pub mod Kinded
 pub mod Maps
+pub mod Instances
 pub mod Rows
 pub mod Flow
 pub mod Bodies

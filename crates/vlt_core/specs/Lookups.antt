@@ -1,8 +1,8 @@
 -- What the numbers of a program stand for: types with their states, fields and cases; variables, keys and clauses.
-use Rattle.std.specs.Prelude.{ℕ, nat_lt, Bool, true, false, ◌&&◌, not, List, [], length, filter, Option, None, Some, slice_get}
-use Rattle.std.specs.List.{range_with_len, filter_map}
+use Rattle.std.specs.Prelude.{ℕ, zero, suc, ◌==◌, nat_lt, Bool, true, false, ◌&&◌, ◌||◌, not, List, [], length, filter, Option, None, Some, slice_get}
+use Rattle.std.specs.List.{range_with_len, filter_map, list_any}
 use Rattle.std.specs.Option.{option_map}
-use Rattle.vlt_core.specs.Core.{States, Ty, tracked, owning, guarded, variant, owning_variant, SetDecl, FieldDecl, CaseDecl, TypeDecl, an_abstract, a_struct, a_variant, Mode, kept, taken, fresh, Entry, KeyDecl, Func, Program}
+use Rattle.vlt_core.specs.Core.{States, Ty, tracked, owning, guarded, variant, owning_variant, Link, SetDecl, FieldDecl, CaseDecl, TypeDecl, an_abstract, a_struct, a_variant, Mode, kept, taken, fresh, up_to, Entry, KeyDecl, Func, Program}
 
 -- ---- states
 
@@ -39,6 +39,27 @@ state_count p t = of_set (set_in (slice_get p.types t))
 
 abbrev pub all_states : Program → (type : ℕ) → States
 all_states p t s = nat_lt s (state_count p t)
+
+-- ---- order of states
+
+abbrev pub links_in : Option SetDecl → List Link
+links_in None = []
+links_in (Some d) = d.links
+
+-- at most so many links lead from the first state to the second one
+abbrev pub leads_up : List Link → (steps : ℕ) → (from to : ℕ) → Bool
+leads_up ls zero x y = x == y
+leads_up ls (suc n) x y = x == y || list_any (λ l. l.lower == x && leads_up ls n l.upper y) ls
+
+-- the states of a type up to this one; of a type without order that one alone
+abbrev pub states_up_to : Program → (type state : ℕ) → States
+states_up_to p t b s = all_states p t s && leads_up (of_set (set_in (slice_get p.types t))) 31 s b
+  where
+    of_set : Option ℕ → List Link
+    of_set None = []
+    of_set (Some i) = links_in (slice_get p.sets i)
+
+-- ---- release
 
 abbrev pub release_in : Program → (type : ℕ) → Option TypeDecl → States
 release_in p t (Some (a_struct d)) = d.release
@@ -166,11 +187,20 @@ states_of_type p (Some t) = all_states p t
 abbrev pub states_of_key : Program → Func → (key : ℕ) → States
 states_of_key p f k = states_of_type p (key_type f k)
 
+-- the states of a key's object up to one; none of a key without a type
+abbrev pub key_states_up_to : Program → Func → (key state : ℕ) → States
+key_states_up_to p f k b = of_type (key_type f k)
+  where
+    of_type : Option ℕ → States
+    of_type None = no_states
+    of_type (Some t) = states_up_to p t b
+
 -- ---- clauses
 
 abbrev pub is_before : Mode → Bool
 is_before kept = true
 is_before taken = true
+is_before (up_to b) = true
 is_before _ = false
 
 abbrev pub is_after : Mode → Bool

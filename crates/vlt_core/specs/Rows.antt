@@ -1,8 +1,8 @@
 -- What each step wants of the tokens, and what it leaves.
 use Rattle.std.specs.Prelude.{ℕ, ◌==◌, if◌then◌else◌, List, [], ◌∷◌, ◌++◌, length, map, filter, Option, Some, None, slice_get}
 use Rattle.std.specs.List.{flat_map, list_any, range_with_len}
-use Rattle.vlt_core.specs.Core.{States, Expr, var, field, unary, binary, Operand, pure, move, pack, Tok, a_key, a_var, Simple, set, input, print, put, make, become, release, drop, own, unpack, build, swap, open_into, adopt, Form, simple, call, choose, loop, switch, focus, scope, return, jump, Entry, Func, Program}
-use Rattle.vlt_core.specs.Lookups.{first_state, Reference, reference_of, guarded_of, variant_of, case_keys, is_owning_var, owning_vars, owning_states, permitted_in, release_set, after_set, is_held_before, is_held_after, is_new, is_given_back, states_or_all}
+use Rattle.vlt_core.specs.Core.{States, Expr, var, field, unary, binary, Operand, pure, move, pack, Tok, a_key, a_var, Simple, set, input, print, put, make, become, release, drop, own, unpack, build, swap, open_into, adopt, Form, simple, call, choose, loop, switch, focus, scope, return, jump, Mode, up_to, Entry, Func, Program}
+use Rattle.vlt_core.specs.Lookups.{first_state, Reference, reference_of, guarded_of, variant_of, case_keys, is_owning_var, owning_vars, owning_states, permitted_in, release_set, after_set, is_held_before, is_held_after, is_new, is_given_back, states_or_all, key_states_up_to}
 use Rattle.vlt_core.specs.Maps.{Wanted, wants_absent, wants_held, wants_in, wants_lent, wants_full, After, becomes_absent, becomes_held, stays, becomes_full, becomes_lent, comes_back, Row, is_tok, away_row}
 
 -- ---- rows on references and variables
@@ -73,10 +73,22 @@ entry_after p f k e = if is_held_after e then becomes_held (states_or_all p f k 
 abbrev pub entry_row : Program → Func → (k : ℕ) → Entry → Row
 entry_row p f k e = row (a_key k) (entry_wanted e) (entry_after p f k e)
 
+-- a bound entry's key keeps its state, which is one up to the bound
+abbrev pub called_row : Program → Func → (k : ℕ) → Entry → Row
+called_row p f k e = of_mode e.mode
+  where
+    of_mode : Mode → Row
+    of_mode (up_to b) = row (a_key k) (wants_in (key_states_up_to p f k b)) stays
+    of_mode m = entry_row p f k e
+
 -- the rows of the callee's clause; `keys` has the caller's key for each key of the callee's head
 abbrev pub clause_rows : Program → Func → (keys : List ℕ) → List Entry → List Row
 clause_rows p f keys [] = []
 clause_rows p f keys (e ∷ es) = on_option (slice_get keys e.key) (λ k. entry_row p f k e ∷ []) ++ clause_rows p f keys es
+
+abbrev pub called_rows : Program → Func → (keys : List ℕ) → List Entry → List Row
+called_rows p f keys [] = []
+called_rows p f keys (e ∷ es) = on_option (slice_get keys e.key) (λ k. called_row p f k e ∷ []) ++ called_rows p f keys es
 
 abbrev pub target_rows : Func → Option ℕ → List Row
 target_rows f target = on_option target (λ v. fill_rows f (v ∷ []))
@@ -136,7 +148,7 @@ in_order f ts = filter (λ t. list_any (is_tok t) ts) (tokens_of f)
 abbrev pub rows_of : Program → Func → (left : List Tok) → Form → List Row
 rows_of p f left (simple s) = simple_rows p f s
 rows_of p f left (call g target keys args) =
-    operands_rows p f args ++ on_option (slice_get p.fns g) (λ h. clause_rows p f keys h.clause) ++ target_rows f target
+    operands_rows p f args ++ on_option (slice_get p.fns g) (λ h. called_rows p f keys h.clause) ++ target_rows f target
 rows_of p f left (choose e a b) = expr_rows p f e
 rows_of p f left (loop e b) = expr_rows p f e
 rows_of p f left (switch v arms end) = if is_owning_var f v then empty_row v ∷ [] else []

@@ -57,7 +57,11 @@ ty_of (ty.Var t args) = s.variant t.0 (keys_of args)
 ty_of (ty.OwnVar t args) = s.owning_variant t.0 (keys_of args)
 
 abbrev pub set_of : SetDecl → s.SetDecl
-set_of d = record { name = d.name; states = map (λ n. n) d.states }
+set_of d = record {
+  name = d.name;
+  states = map (λ n. n) d.states;
+  links = map (λ l. record { lower = l.lower; upper = l.upper }) d.links;
+}
 
 abbrev pub field_of : FieldDecl → s.FieldDecl
 field_of d = record { name = d.name; ty = ty_of d.ty; states = has_state d.states }
@@ -89,6 +93,7 @@ mode_of mode.Kept = s.kept
 mode_of mode.Taken = s.taken
 mode_of mode.Given = s.given
 mode_of mode.New = s.fresh
+mode_of (mode.Bound b) = s.up_to b
 
 abbrev pub entry_of : Entry → s.Entry
 entry_of e = record { mode = mode_of e.mode; key = e.key.0; before = states_of e.before; after = states_of e.after }

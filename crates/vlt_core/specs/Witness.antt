@@ -1,6 +1,7 @@
 -- Paths through a body that show a fault: one to a row, or two to a join.
 use Rattle.std.specs.Prelude.{◌≡◌, ◌⊎◌, ℕ, zero, suc, ◌+◌, Bool, true, false, List, [], ◌∷◌, map, length, Option, Some, None, slice_get}
 use Rattle.vlt_core.specs.Core.{Tok, Func, Program}
+use Rattle.vlt_core.specs.Instances.{instance, IsOrigin}
 use Rattle.vlt_core.specs.Maps.{Wanted, Row, is_tok, away_row}
 use Rattle.vlt_core.specs.Flow.{Flow, step, choose, loop, switch, scope, focus, return, jump, Block, block, Stmts, done, next, Arms, no_arms, arm, end_of}
 use Rattle.vlt_core.specs.Bodies.{body_flow}
@@ -185,4 +186,5 @@ pub record IsWitness (p : Program) (x : FlowFault) (first : List Choice) (second
   pub func : Func
   pub there : slice_get p.fns x.function ≡ Some func
   pub with_body : func.external ≡ false
-  pub shows : IsWitnessIn p func x first second
+  pub origin : IsOrigin p func x.origin
+  pub shows : IsWitnessIn p (instance p func x.origin) x first second

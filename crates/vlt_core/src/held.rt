@@ -59,6 +59,8 @@ pub struct Row {
 #[derive(Clone, Copy, Debug, PartialEq, Eq)]
 pub struct FlowFault {
     pub fn_id: FnId,
+    /// The state that the bound entry's key has in the instance that breaks them; none for a function without such an entry.
+    pub origin: Option<u8>,
     /// The place, as a byte of the source counted from 0.
     pub at: u32,
     pub tok: Tok,

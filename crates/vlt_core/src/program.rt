@@ -22,6 +22,15 @@ pub struct Program {
 pub struct SetDecl {
     pub name: Items<u8>,
     pub states: Items<Items<u8>>,
+    /// The links as written; none of a set without order.
+    pub links: Items<Link>,
+}
+
+/// `low < mid` in a set: the first state stands right below the second one.
+#[derive(Clone, Copy, Debug, PartialEq, Eq)]
+pub struct Link {
+    pub lower: u8,
+    pub upper: u8,
 }
 
 /// A declared type. In its fields and cases a `KeyId` is the position of a key of the header. The header has for each of
@@ -124,6 +133,8 @@ pub enum Mode {
     Given,
     /// `new K`: after it, for an object that the call makes.
     New,
+    /// `K@(s <= b)`: before it, in any state up to this one, and after it, in the state that it had. Both sides are `None`.
+    Bound(u8),
 }
 
 #[derive(Drop)]

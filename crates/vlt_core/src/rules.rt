@@ -1,7 +1,7 @@
 //! The rules on names and types by name. Each has a number, which is what a refusal shows.
 //!
 //! Rules 1 to 6 are on declared names, 7 to 17 on declared types, 18 to 26 on heads, and 27 to 44 on bodies; 7 to 13
-//! and 18 hold of each type wherever it stands.
+//! and 18 hold of each type wherever it stands. Rule 45 is on declared state sets, 46 on heads.
 
 /// No function with a body is named `main`.
 pub const NO_MAIN: u8 = 1;
@@ -136,3 +136,9 @@ pub const RETURNED_KEY: u8 = 43;
 
 /// A `return` has a value where the function gives none, or none where it gives one.
 pub const WRONG_RETURN: u8 = 44;
+
+/// In a state set `<` leads from a state to itself.
+pub const ORDER_LOOP: u8 = 45;
+
+/// A clause has a second bound entry, or its state variable has the name of something else.
+pub const SECOND_BOUND: u8 = 46;

@@ -3,10 +3,10 @@ use Rattle.std.proofs.Common.{◌≡◌, ◌≤◌, ◌+◌, ℕ, zero, suc, Boo
 use Rattle.std.specs.Prelude.{nat_lt, slice_get, filter, IfSome}
 use Rattle.std.specs.List.{flat_map, list_any, list_all, enumerate_from}
 use Rattle.std.proofs.lemmas.List.Concat.{flat_map-cons}
-use Rattle.vlt_core.specs.Core.{States, Ty, int, bool, tracked, owning, guarded, variant, owning_variant, Tok, a_key, Operand, Entry, VarDecl, Func, Program}
+use Rattle.vlt_core.specs.Core.{States, Ty, int, bool, tracked, owning, guarded, variant, owning_variant, Tok, a_key, Operand, Mode, kept, taken, given, fresh, up_to, Entry, VarDecl, Func, Program}
 use Rattle.vlt_core.specs.Lookups.{every_state, key_type, states_of_type, states_or_all, is_held_before, is_held_after, is_new, var_type}
 use Rattle.vlt_core.specs.Maps.{wants_absent, becomes_absent, becomes_held}
-use Rattle.vlt_core.specs.Rows.{on_option, held_in, entry_row, clause_rows, target_rows, operand_rows, operands_rows}
+use Rattle.vlt_core.specs.Rows.{on_option, held_in, entry_row, called_row, called_rows, target_rows, operand_rows, operands_rows}
 use Rattle.vlt_core.specs.Types.{same_ty, with_keys, stands_for}
 use Rattle.vlt_core.specs.KindedHeads.{unless, when_some, has, new_keys, keys_of_parameters, parameters_of}
 use Rattle.vlt_core.specs.KindedScopes.{Ids, own_key, tracked_key, with_binding, with_target, binding_broken, target_broken}
@@ -60,13 +60,23 @@ entry_good p f g k e s some =
     let a = after_good (is_held_after e) (states_or_all p f k e.after) k some in
     record { scoped = s; wanted = wanted_plain (is_held_before e) e.before; after = a.0; filled = a.1; own = a.2 }
 
+called_good : (p : Program) (f : Func) (g : Tok → Bool) (k : ℕ) (e : Entry) → g (a_key k) ≡ true → IsFilledSet (states_or_all p f k e.after) → Good g (called_row p f k e)
+called_good p f g k e s some = by e.mode
+  where
+    by : (m : Mode) → Good g (called_row p f k (record e { mode = m }))
+    by kept = entry_good p f g k (record e { mode = kept }) s some
+    by taken = entry_good p f g k (record e { mode = taken }) s some
+    by given = entry_good p f g k (record e { mode = given }) s some
+    by fresh = entry_good p f g k (record e { mode = fresh }) s some
+    by (up_to b) = record { scoped = s; wanted = tt; after = tt; filled = tt; own = tt }
+
 pub clause_good : (p : Program) (f : Func) (g : Tok → Bool) (keys : List ℕ) (es : List Entry) →
     ((j k : ℕ) → slice_get keys j ≡ Some k → g (a_key k) ≡ true) → ((i : ℕ) (e : Entry) (k : ℕ) → slice_get es i ≡ Some e → IsFilledSet (states_or_all p f k e.after)) →
-    AllRows (Good g) (clause_rows p f keys es)
+    AllRows (Good g) (called_rows p f keys es)
 clause_good p f g keys [] s some = tt
 clause_good p f g keys (e ∷ es) s some =
-    all_both (Good g) _ (clause_rows p f keys es)
-    (option_rows (Good g) (slice_get keys e.key) _ (λ k at. (entry_good p f g k e (s e.key k at) (some zero e k refl), tt)))
+    all_both (Good g) _ (called_rows p f keys es)
+    (option_rows (Good g) (slice_get keys e.key) _ (λ k at. (called_good p f g k e (s e.key k at) (some zero e k refl), tt)))
     (clause_good p f g keys es s (λ i d k at. some (suc i) d k at))
 
 -- ---- the caller's keys
@@ -215,7 +225,7 @@ module _ (p : Program) (f : Func) (ranged : (v k : ℕ) → has (type_keys f v) 
 
   call_by : (o : Option Func) (m : ℕ) → slice_get p.fns m ≡ o → HaveNewResults p → (target : Option ℕ) (keys : List ℕ) (args : List Operand) → call_broken p f ids o target keys args ≡ [] →
       Covers f g (with_call_target f o target ids) →
-      AllRows (Good g) (operands_rows p f args ++ on_option o (λ fn. clause_rows p f keys fn.clause) ++ target_rows f target)
+      AllRows (Good g) (operands_rows p f args ++ on_option o (λ fn. called_rows p f keys fn.clause) ++ target_rows f target)
   call_by None m there heads target keys args e c =
       absurd (filled_not_empty _ _ (right_empty (flat_map (λ k. unless (nat_lt k (length f.keys)) rule.UNKNOWN_NAME) keys) (rule.UNKNOWN_NAME ∷ operands_broken p f ids [] args) (left_empty _ (target_alone_broken f ids target) e)))
   call_by (Some fn) m there heads target keys args e c =
@@ -229,11 +239,11 @@ module _ (p : Program) (f : Func) (ranged : (v k : ℕ) → has (type_keys f v) 
       let range = left_empty (flat_map (λ k. unless (nat_lt k (length f.keys)) rule.UNKNOWN_NAME) keys) (unless (keys_fit fn keys) rule.TWO_CALLER_KEYS) e2 in
       let fit = unless_holds (keys_fit fn keys) rule.TWO_CALLER_KEYS (right_empty (flat_map (λ k. unless (nat_lt k (length f.keys)) rule.UNKNOWN_NAME) keys) (unless (keys_fit fn keys) rule.TWO_CALLER_KEYS) e2) in
       all_both (Good g) _ (target_rows f target)
-      (all_both (Good g) (operands_rows p f args) (clause_rows p f keys fn.clause) (arguments_good (map (caller_type keys) (parameters_of fn)) args arguments)
+      (all_both (Good g) (operands_rows p f args) (called_rows p f keys fn.clause) (arguments_good (map (caller_type keys) (parameters_of fn)) args arguments)
       (clause_good p f g keys fn.clause (key_in fn target keys (heads m fn there) fit range callers target_ok covers.keys c) (λ i d k at. left_filled p h f k m i fn d there at)))
       (target_good (Some fn) target (target_there fn keys target target_ok) c)
 
   pub call_good : HaveNewResults p → (m : ℕ) (target : Option ℕ) (keys : List ℕ) (args : List Operand) → call_broken p f ids (slice_get p.fns m) target keys args ≡ [] →
       Covers f g (with_call_target f (slice_get p.fns m) target ids) →
-      AllRows (Good g) (operands_rows p f args ++ on_option (slice_get p.fns m) (λ fn. clause_rows p f keys fn.clause) ++ target_rows f target)
+      AllRows (Good g) (operands_rows p f args ++ on_option (slice_get p.fns m) (λ fn. called_rows p f keys fn.clause) ++ target_rows f target)
   call_good heads m target keys args e c = call_by (slice_get p.fns m) m refl heads target keys args e c

@@ -1,6 +1,6 @@
 -- Each part of a body that breaks no rule is fine.
 use Rattle.std.proofs.Common.{◌≡◌, ℕ, Bool, true, false, not, ◌==◌, cond, if◌then◌else◌, List, [], ◌∷◌, ◌++◌, map, length, Some, refl, sym, ap, subst, ◌∙◌, ◌⊎◌, inl, inr, ⊎_elim}
-use Rattle.std.specs.Prelude.{nat_lt, slice_get, filter}
+use Rattle.std.specs.Prelude.{nat_lt, filter}
 use Rattle.vlt_core.specs.Core as core
 use Rattle.vlt_core.specs.Core.{Tok, a_key, a_var, Func, Program}
 use Rattle.vlt_core.specs.Lookups.{is_owning_var, variant_of}
@@ -17,7 +17,7 @@ use Rattle.vlt_core.specs.declared.rules.TheConstants as rule
 use Rattle.vlt_core_laws.specs.Scoped.{is_bound, with_bound, within, AreInScope}
 use Rattle.vlt_core_laws.specs.Tame.{ArePlain}
 use Rattle.vlt_core_laws.specs.Shown.{AreFilled}
-use Rattle.vlt_core_laws.specs.States.{HasStates}
+use Rattle.vlt_core_laws.specs.States.{HasStates, OwnsFilled}
 use Rattle.vlt_core_laws.specs.Heads.{HaveNewResults}
 use Rattle.vlt_core_laws.specs.Arms.{HasArms, HasArmsBlock, HasArmsStmts, HasArmsArms}
 use Rattle.vlt_core_laws.proofs.Unbroken.{EachEmpty, left_empty, right_empty, unless_holds, each_left, each_right}
@@ -67,7 +67,7 @@ record FineArm (g : Tok → Bool) (rs : List Row) (s : flow.Block) : Type 0 wher
   pub fill : AreFilled rs
   pub block : FineBlock g s
 
-module _ (p : Program) (f : Func) (ranged : (v k : ℕ) → has (type_keys f v) k ≡ true → nat_lt k (length f.keys) ≡ true) (h : HasStates p) (heads : HaveNewResults p) (n : ℕ) (there : slice_get p.fns n ≡ Some f) where
+module _ (p : Program) (f : Func) (ranged : (v k : ℕ) → has (type_keys f v) k ≡ true → nat_lt k (length f.keys) ≡ true) (h : HasStates p) (heads : HaveNewResults p) (owned : OwnsFilled f) where
   nothing_more : (ids : Ids) → Enters f ids ids []
   nothing_more ids = record { grows = λ t w. w; fresh = λ t b. not_both false b refl; made = λ t b. not_both false b refl }
 
@@ -179,7 +179,7 @@ module _ (p : Program) (f : Func) (ranged : (v k : ℕ) → has (type_keys f v) 
         Apart f g ids (ids_behind p f s ids) → Final f g (ids_behind p f s ids) → Fine g (flow_of p f left s)
     form_fine (core.simple s) around ids left g a e rows pt apart final =
         let q = form_goes p f ranged (core.simple s) around ids e rows in
-        let good = simple_good p f ranged g h n there ids pt.covers pt.typed s e (covers_on f g ids _ pt.others q pt.covers final) (q.typed pt.typed) in
+        let good = simple_good p f ranged g h owned ids pt.covers pt.typed s e (covers_on f g ids _ pt.others q pt.covers final) (q.typed pt.typed) in
         record { scoped = in_scope g _ good; tame = plain g _ good; filled = filled g _ good }
     form_fine (core.call c target keys args) around ids left g a e rows pt apart final =
         let q = form_goes p f ranged (core.call c target keys args) around ids e rows in

@@ -1,12 +1,12 @@
 -- What a head that breaks no rule gives.
 use Rattle.std.proofs.Common.{◌≡◌, ℕ, zero, suc, true, false, not, ◌||◌, ◌==◌, if◌then◌else◌, List, [], ◌∷◌, ◌++◌, map, length, Option, Some, None, refl, sym, ap, subst, ◌∙◌, ⊎_elim}
-use Rattle.std.specs.Prelude.{nat_lt, nat_le, slice_get}
+use Rattle.std.specs.Prelude.{nat_lt, nat_le, slice_get, filter}
 use Rattle.std.specs.List.{flat_map, enumerate_from}
 use Rattle.std.specs.Option.{option_map}
 use Rattle.std.proofs.lemmas.List.Concat.{flat_map-cons}
 use Rattle.vlt_core.specs.Core.{Ty, tracked, int, bool, owning, guarded, variant, owning_variant, VarDecl, Func, Program}
 use Rattle.vlt_core.specs.Types.{keys_of_ty}
-use Rattle.vlt_core.specs.KindedHeads.{Rules, unless, when_some, has, are_apart, type_rows, own_typings, reference_broken, type_broken, entry_broken, listed_broken, keys_of_parameters, new_keys, keys_of_result, is_key_of_result, new_key_broken, result_broken, external_broken, is_main_head, head_broken}
+use Rattle.vlt_core.specs.KindedHeads.{Rules, unless, when_some, has, are_apart, is_bound_entry, set_broken, type_rows, own_typings, reference_broken, type_broken, entry_broken, listed_broken, keys_of_parameters, new_keys, keys_of_result, is_key_of_result, new_key_broken, result_broken, external_broken, is_main_head, head_broken}
 use Rattle.vlt_core.specs.KindedBodies.{end_broken}
 use Rattle.vlt_core.specs.Kinded.{has_main, rows_broken, function_rows, IsKinded}
 use Rattle.vlt_core.specs.declared.rules.TheConstants as rule
@@ -15,7 +15,7 @@ use Rattle.vlt_core_laws.proofs.Unbroken.{EachEmpty, left_empty, right_empty, un
 use Rattle.vlt_core_laws.proofs.Ids.{keys_in_type, type_keys, or_split, or_left, or_right, and_left, not_both, each_has, same_number}
 
 abbrev front_rows : Program → List Rules
-front_rows p = unless (has_main p) rule.NO_MAIN ∷ map (λ d. []) p.sets ++ flat_map (λ q. type_rows p q.0 q.1) (enumerate_from 0 p.types)
+front_rows p = unless (has_main p) rule.NO_MAIN ∷ map set_broken p.sets ++ flat_map (λ q. type_rows p q.0 q.1) (enumerate_from 0 p.types)
 
 -- the rows of a function
 pub function_empty : (p : Program) (n : ℕ) (f : Func) → IsKinded p → slice_get p.fns n ≡ Some f → (m : ℕ) × EachEmpty (function_rows p (m, f))
@@ -49,7 +49,11 @@ module _ (p : Program) (m : ℕ) (f : Func) (e : head_broken p m f ≡ []) where
   upto_clause = upto_keys ++ flat_map (entry_broken p f) f.clause
 
   e7 : upto_clause ++ result_broken f ≡ []
-  e7 = left_empty (upto_clause ++ result_broken f) (if f.external then external_broken p f else []) (left_empty _ (if m == p.main then unless (is_main_head f) rule.MAIN_HEAD else []) e)
+  e7 = left_empty (upto_clause ++ result_broken f) (if f.external then external_broken p f else []) (left_empty _ (if m == p.main then unless (is_main_head f) rule.MAIN_HEAD else []) (left_empty _ (unless (nat_le (length (filter is_bound_entry f.clause)) 1) rule.SECOND_BOUND) e))
+
+  -- at most one entry is bound
+  pub one_bound : nat_le (length (filter is_bound_entry f.clause)) 1 ≡ true
+  one_bound = unless_holds _ rule.SECOND_BOUND (right_empty _ (unless (nat_le (length (filter is_bound_entry f.clause)) 1) rule.SECOND_BOUND) e)
 
   e6 : upto_clause ≡ []
   e6 = left_empty upto_clause (result_broken f) e7

@@ -14,6 +14,7 @@ pub mod Focus
 pub mod Arms
 pub mod Fitting
 pub mod Headed
+pub mod Instanced
 pub mod Starting
 pub mod Changes
 pub mod Founds

@@ -13,7 +13,7 @@ use Rattle.vlt_core.specs.KindedScopes.{Ids, own_key, with_binding, use_broken, 
 use Rattle.vlt_core.specs.KindedOperands.{misfit, unless_owning, type_of_expr, expr_broken, touch_broken, operands_broken, field_type, not_owning_broken}
 use Rattle.vlt_core.specs.KindedStatements.{tracked_broken, tracked_type, wanted_of, is_owning_object, set_broken, made_broken, made_types, owning_object, objects_apart, guarded_object, is_guarded_type, guard_key, keys_differ, droppable_broken, swap_broken, with_bindings, opened_broken, simple_broken, ids_after}
 use Rattle.vlt_core.specs.declared.rules.TheConstants as rule
-use Rattle.vlt_core_laws.specs.States.{HasStates}
+use Rattle.vlt_core_laws.specs.States.{HasStates, OwnsFilled}
 use Rattle.vlt_core_laws.proofs.Unbroken.{left_empty, right_empty, some_same, some_not_none}
 use Rattle.vlt_core_laws.proofs.Ids.{type_keys, keys_in_type, AreTyped, or_right, or_split, not_both, same_number}
 use Rattle.vlt_core_laws.proofs.Binding.{has_first, binding_var, target_var}
@@ -84,7 +84,7 @@ module _ (p : Program) (f : Func) (ranged : (v k : ℕ) → has (type_keys f v) 
       (λ there. opened_vars us ws ids2 v rest there) (or_split (u == v) (has us v) h)
 
   -- what a part binds and what was in scope before is in scope
-  module _ (h : HasStates p) (n : ℕ) (there : slice_get p.fns n ≡ Some f) (ids : Ids) (covers : Covers f g ids) (typed : AreTyped f ids) where
+  module _ (h : HasStates p) (owned : OwnsFilled f) (ids : Ids) (covers : Covers f g ids) (typed : AreTyped f ids) where
     use_keys : (x : ℕ) → use_broken f ids x ≡ [] → KeysIn g f x
     use_keys x u = keys_of_var p f g ids covers typed x (use_in p f g ids covers typed x u)
 
@@ -130,7 +130,7 @@ module _ (p : Program) (f : Func) (ranged : (v k : ℕ) → has (type_keys f v) 
         let there2 = binding_var f ranged ids (own_key f x) x (right_empty _ made b) in
         let front = left_empty (use_broken f ids v ++ wanted_of (var_type f v) is_owning_object) _ (left_empty _ (objects_apart (owning_object (var_type f v)) (tracked_type (var_type f x))) (left_empty _ made b)) in (
           empty_good g v (owned_by v (left_empty (use_broken f ids v) _ front)),
-          option_rows (Good g) (owning_states f v) _ (λ states e. key_good g f x _ _ (λ r q. let some = h.owned n f v states there e in
+          option_rows (Good g) (owning_states f v) _ (λ states e. key_good g f x _ _ (λ r q. let some = owned v states e in
               made_good g r.key wants_absent states tt (reference_in g f x (behind_keys (ids_after f (unpack x v) ids) c t x there2) r q) some.state some.has)),
         )
     simple_good (build v case args) b c t =

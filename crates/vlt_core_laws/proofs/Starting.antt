@@ -1,29 +1,31 @@
 -- Where a body begins: what is in scope, and the map that it begins with.
 use Rattle.std.proofs.Common.{◌≡◌, ◌<◌, ◌≤◌, ◌+◌, ℕ, zero, suc, Bool, true, false, not, ◌&&◌, ◌||◌, ◌==◌, if◌then◌else◌, List, [], ◌∷◌, ◌++◌, map, take, length, Option, Some, None, refl, sym, ap, subst, ◌∙◌, ⊎_elim, arith}
-use Rattle.std.specs.Prelude.{nat_lt, nat_le, slice_get, IfSome}
+use Rattle.std.specs.Prelude.{nat_lt, nat_le, slice_get, IfSome, IsTrue, filter}
 use Rattle.std.specs.List.{flat_map, range_with_len}
 use Rattle.std.specs.Option.{option_map}
 use Rattle.std.proofs.lemmas.List.Concat.{flat_map-cons}
 use Rattle.std.proofs.lemmas.Bool.Decides.{nat_tests}
-use Rattle.vlt_core.specs.Core.{States, Tok, a_key, a_var, Mode, kept, taken, given, fresh, Entry, VarDecl, Func, Program}
-use Rattle.vlt_core.specs.Lookups.{is_owning_var, is_new, is_before, is_fresh, is_held_before, before_set, states_or_all, key_type}
+use Rattle.std.proofs.lemmas.Bool.{eq-eqb}
+use Rattle.vlt_core.specs.Core.{States, Tok, a_key, a_var, Mode, kept, taken, given, fresh, up_to, Entry, VarDecl, Func, Program}
+use Rattle.vlt_core.specs.Lookups.{is_owning_var, is_new, is_before, is_fresh, is_held_before, before_set, states_or_all, key_type, key_states_up_to}
+use Rattle.vlt_core.specs.Instances.{bound_at, or_else, bound_in, mode_of_instance, origin_states, entry_of_instance, instance, IsOriginOf, IsOrigin}
 use Rattle.vlt_core.specs.Maps.{Status, absent, held, lent, full}
 use Rattle.vlt_core.specs.Bodies.{flow_of_stmts}
 use Rattle.vlt_core.specs.Derives.{status_at_start, start_map}
 use Rattle.vlt_core.specs.Found.{One, one_absent, one_held, one_lent, one_full, Has}
 use Rattle.vlt_core.specs.Types.{keys_of_ty}
-use Rattle.vlt_core.specs.KindedHeads.{unless, has, keys_of_parameters, head_keys, keys_of_result, entry_broken, head_broken}
+use Rattle.vlt_core.specs.KindedHeads.{unless, has, is_bounded, is_bound_entry, keys_of_parameters, head_keys, keys_of_result, entry_broken, head_broken}
 use Rattle.vlt_core.specs.KindedScopes.{Ids, Around}
-use Rattle.vlt_core.specs.KindedBodies.{first_ids, ids_behind_stmts, stmts_rows}
+use Rattle.vlt_core.specs.KindedBodies.{first_ids, ids_behind_stmts, stmts_rows, body_rows}
 use Rattle.vlt_core.specs.Kinded.{IsKinded}
 use Rattle.vlt_core.specs.declared.rules.TheConstants as rule
 use Rattle.vlt_core_laws.specs.Scoped.{is_bound, with_bound, IsAbsentOut}
 use Rattle.vlt_core_laws.specs.Shown.{IsGood, IsStart}
-use Rattle.vlt_core_laws.specs.States.{HasStates, IsFilledSet}
+use Rattle.vlt_core_laws.specs.States.{HasStates, IsFilledSet, OwnsFilled}
 use Rattle.vlt_core_laws.specs.Heads.{HaveNewResults}
 use Rattle.vlt_core_laws.specs.Arms.{HasArmsStmts}
 use Rattle.vlt_core_laws.specs.Fit.{IsFitBody}
-use Rattle.vlt_core_laws.proofs.Unbroken.{EachEmpty, left_empty, right_empty, unless_holds}
+use Rattle.vlt_core_laws.proofs.Unbroken.{EachEmpty, left_empty, right_empty, unless_holds, some_same, some_not_none}
 use Rattle.vlt_core_laws.proofs.Ids.{keys_in_type, type_keys, AreTyped, Goes, or_split, or_left, or_right, not_both, same_number, true_or_false, and_left, and_right}
 use Rattle.vlt_core_laws.proofs.Binding.{in_range, chosen}
 use Rattle.vlt_core_laws.proofs.Calls.{type_filled}
@@ -31,7 +33,8 @@ use Rattle.vlt_core_laws.proofs.Going.{stmts_go}
 use Rattle.vlt_core_laws.proofs.Jumping.{jumping_stmts}
 use Rattle.vlt_core_laws.proofs.Body.{Point, Apart, Final, FineStmts, both_false}
 use Rattle.vlt_core_laws.proofs.Fitting.{stmts_fine}
-use Rattle.vlt_core_laws.proofs.Headed.{has_left, has_right, head_empty, function_empty, params_fit, ranged_keys, has_new_result, entries_fit}
+use Rattle.vlt_core_laws.proofs.Headed.{has_left, has_right, head_empty, function_empty, params_fit, ranged_keys, has_new_result, entries_fit, one_bound}
+use Rattle.vlt_core_laws.proofs.Instanced.{body_rows_same}
 
 range_has : (a n m : ℕ) → has (range_with_len a n) m ≡ true → (a ≤ m) × (m < a + n)
 range_has a zero m e = not_both false e refl
@@ -95,6 +98,7 @@ held_entry kept e = refl
 held_entry taken e = refl
 held_entry given e = not_both false e refl
 held_entry fresh e = not_both false e refl
+held_entry (up_to b) e = refl
 
 start_absent : (p : Program) (f : Func) (es : List Entry) (k : ℕ) → flat_map (entry_broken p f) es ≡ [] → has (keys_of_parameters f) k ≡ false → status_at_start p f es k ≡ absent
 start_absent p f [] k e out = refl
@@ -146,14 +150,11 @@ absent_start = record { some = (one_absent, tt); good = good }
     good k (one_lent s) e = absurd e
     good k one_full e = absurd e
 
-module _ (p : Program) (n : ℕ) (f : Func) (h : HasStates p) (there : slice_get p.fns n ≡ Some f) where
-  before_filled : (i : ℕ) (e : Entry) → slice_get f.clause i ≡ Some e → IsFilledSet (before_set p f e)
-  before_filled i e at = by e.before (h.before n f i e there at)
-    where
-      by : (o : Option States) → IfSome o IsFilledSet → IsFilledSet (states_or_all p f e.key o)
-      by None s = type_filled p h (key_type f e.key)
-      by (Some states) s = s
+-- the keys of a clause are held at the start in sets that have states
+abbrev IsFilledStart : Program → Func → Type 0
+IsFilledStart p f = (i : ℕ) (e : Entry) → slice_get f.clause i ≡ Some e → IsFilledSet (before_set p f e)
 
+module _ (p : Program) (f : Func) (before_filled : IsFilledStart p f) where
   key_start : (es : List Entry) (k : ℕ) → ((i : ℕ) (e : Entry) → slice_get es i ≡ Some e → IsFilledSet (before_set p f e)) → IsKeyStart (status_at_start p f es k)
   key_start [] k q = absent_start
   key_start (e ∷ es) k q = by (is_held_before e && (k == e.key)) (q zero e refl) (key_start es k (λ i d at. q (suc i) d at))
@@ -189,15 +190,11 @@ module _ (p : Program) (n : ℕ) (f : Func) (h : HasStates p) (there : slice_get
 
   -- ---- the whole
 
-  module _ (kinded : IsKinded p) (arms : HasArmsStmts f.body) (body : f.external ≡ false) where
-    head : (m : ℕ) × (head_broken p m f ≡ [])
-    head = head_empty p n f kinded there
-
-    ranged : (v k : ℕ) → has (type_keys f v) k ≡ true → nat_lt k (length f.keys) ≡ true
-    ranged = ranged_keys p head.0 f head.1
-
-    heads : HaveNewResults p
-    heads = λ g fn at. let x = head_empty p g fn kinded at in has_new_result p x.0 fn x.1
+  module _ (h : HasStates p) (heads : HaveNewResults p) (owned : OwnsFilled f)
+      (ranged : (v k : ℕ) → has (type_keys f v) k ≡ true → nat_lt k (length f.keys) ≡ true)
+      (params_within : nat_le f.params (length f.vars) ≡ true)
+      (unheld : (k : ℕ) → has (keys_of_parameters f) k ≡ false → status_at_start p f f.clause k ≡ absent)
+      (rows_of_body : EachEmpty (body_rows p f)) (arms : HasArmsStmts f.body) (body : f.external ≡ false) where
 
     around : Around
     around = record { jumps = false; returns = true }
@@ -206,13 +203,13 @@ module _ (p : Program) (n : ℕ) (f : Func) (h : HasStates p) (there : slice_get
     first = first_ids p f
 
     rows : EachEmpty (stmts_rows p f (record { jumps = false; returns = true }) (first_ids p f) false f.body)
-    rows = subst (λ b. EachEmpty (if b then [] else stmts_rows p f (record { jumps = false; returns = true }) (first_ids p f) false f.body)) body (function_empty p n f kinded there).1.1
+    rows = subst (λ b. EachEmpty (if b then [] else stmts_rows p f (record { jumps = false; returns = true }) (first_ids p f) false f.body)) body rows_of_body
 
     abbrev last : Ids
     last = ids_behind_stmts p f f.body (first_ids p f)
 
     params : count_of f ≡ f.params
-    params = count_is f (params_fit p head.0 f head.1)
+    params = count_is f params_within
 
     goes : Goes f (first_ids p f) last
     goes = stmts_go p f ranged f.body (record { jumps = false; returns = true }) (first_ids p f) false rows
@@ -269,7 +266,7 @@ module _ (p : Program) (n : ℕ) (f : Func) (h : HasStates p) (there : slice_get
         (⊎_elim (λ m. not_both (has (range_with_len 0 (count_of f)) v) (in_params v m) w0) (λ m. m) (true_or_false (nat_lt v (count_of f)))) nb)) refl
 
     fine : FineStmts g (flow_of_stmts p f [] f.body)
-    fine = stmts_fine p f ranged h heads n there f.body (record { jumps = false; returns = true }) (first_ids p f) false [] g arms rows point apart final
+    fine = stmts_fine p f ranged h heads owned f.body (record { jumps = false; returns = true }) (first_ids p f) false [] g arms rows point apart final
 
     absent_out : IsAbsentOut (scope_of p f last) (start_map p f)
     absent_out = record { each = each }
@@ -287,14 +284,128 @@ module _ (p : Program) (n : ℕ) (f : Func) (h : HasStates p) (there : slice_get
         var_absent false e o = refl
 
         each : (t : Tok) → scope_of p f last t ≡ false → start_map p f t ≡ absent
-        each (a_key k) e = start_absent p f f.clause k (entries_fit p head.0 f head.1) (left_false (has (keys_of_parameters f) k) _ e)
+        each (a_key k) e = unheld k (left_false (has (keys_of_parameters f) k) _ e)
         each (a_var v) e = var_absent (nat_lt v f.params) (subst (λ c. nat_lt v c ≡ false) params (left_false (nat_lt v (count_of f)) _ (right_false (not (is_owning_var f v)) _ e))) (is_owning_var f v)
 
-    pub fit_body : IsFitBody p f
-    fit_body = record {
+    fits : IsFitBody p f
+    fits = record {
       scope = scope_of p f last;
       scoped = (λ t b. not_both false b refl, fine.scoped);
       absent = absent_out;
       fit = record { tame = fine.tame; filled = (fine.filled); jumping = jumping_stmts p f f.body [] (record { jumps = false; returns = true }) (first_ids p f) false rows };
       start = starts;
     }
+
+-- ---- instances
+
+module _ (p : Program) (f : Func) (o : ℕ) where
+  held_same : (e : Entry) → is_held_before (entry_of_instance p f o e) ≡ is_held_before e
+  held_same e = by e.mode
+    where
+      by : (m : Mode) → is_before (mode_of_instance m) ≡ is_before m
+      by kept = refl
+      by taken = refl
+      by given = refl
+      by fresh = refl
+      by (up_to b) = refl
+
+  unheld_there : (es : List Entry) (k : ℕ) → status_at_start p f es k ≡ absent → status_at_start p (instance p f (Some o)) (map (entry_of_instance p f o) es) k ≡ absent
+  unheld_there [] k e = refl
+  unheld_there (x ∷ xs) k e = rw (held_same x) (by (λ e. unheld_there xs k e) (is_held_before x && k == x.key) e)
+    where
+      by : (status_at_start p f xs k ≡ absent → status_at_start p (instance p f (Some o)) (map (entry_of_instance p f o) xs) k ≡ absent) → (b : Bool) → (if b then held (before_set p f x) else status_at_start p f xs k) ≡ absent →
+          (if b then held (before_set p (instance p f (Some o)) (entry_of_instance p f o x)) else status_at_start p (instance p f (Some o)) (map (entry_of_instance p f o) xs) k) ≡ absent
+      by more true e = cc
+      by more false e = more e
+
+unheld_instance : (p : Program) (f : Func) (o : Option ℕ) (k : ℕ) → status_at_start p f f.clause k ≡ absent → status_at_start p (instance p f o) (instance p f o).clause k ≡ absent
+unheld_instance p f None k e = e
+unheld_instance p f (Some o) k e = unheld_there p f o f.clause k e
+
+module _ (p : Program) (n : ℕ) (f : Func) (h : HasStates p) (there : slice_get p.fns n ≡ Some f) where
+  side_filled : (k : ℕ) (side : Option States) → IfSome side IsFilledSet → IsFilledSet (states_or_all p f k side)
+  side_filled k None s = type_filled p h (key_type f k)
+  side_filled k (Some states) s = s
+
+  -- an entry of an instance, from the function's own
+  made_filled : (o : ℕ) (e : Entry) → ((b : ℕ) → e.mode ≡ up_to b → IsTrue (key_states_up_to p f e.key b o)) → IfSome e.before IsFilledSet →
+      IsFilledSet (before_set p f (entry_of_instance p f o e))
+  made_filled o e within some = by e.mode within
+    where
+      itself : (b : ℕ) → IsTrue (key_states_up_to p f e.key b o) → IsTrue (o == o && key_states_up_to p f e.key b o)
+      itself b t = rw (eq-eqb o o refl) t
+
+      by : (m : Mode) → ((b : ℕ) → m ≡ up_to b → IsTrue (key_states_up_to p f e.key b o)) → IsFilledSet (states_or_all p f e.key (origin_states p f e.key o m e.before))
+      by kept w = side_filled e.key e.before some
+      by taken w = side_filled e.key e.before some
+      by given w = side_filled e.key e.before some
+      by fresh w = side_filled e.key e.before some
+      by (up_to b) w = record { state = o; has = itself b (w b refl) }
+
+-- ---- a clause has one bound entry at most
+
+bound_counts : (es : List Entry) (i : ℕ) (e : Entry) (b : ℕ) → slice_get es i ≡ Some e → e.mode ≡ up_to b → 1 ≤ length (filter is_bound_entry es)
+bound_counts [] i e b at is = absurd (some_not_none e (sym at))
+bound_counts (x ∷ xs) zero e b at is =
+    let t : is_bounded x.mode ≡ true = ap (λ e. is_bounded e.mode) (some_same x e at) ∙ ap is_bounded is in
+    rw t (omega arith)
+bound_counts (x ∷ xs) (suc i) e b at is = let more = bound_counts xs i e b at is in by (is_bounded x.mode) more
+  where
+    by : (c : Bool) → 1 ≤ length (filter is_bound_entry xs) → 1 ≤ length (if c then x ∷ filter is_bound_entry xs else filter is_bound_entry xs)
+    by true m = omega (arith, m)
+    by false m = m
+
+-- a bound entry is the one that the clause's bound is of
+pub bound_is : (es : List Entry) → length (filter is_bound_entry es) ≤ 1 → (i : ℕ) (e : Entry) (b : ℕ) → slice_get es i ≡ Some e → e.mode ≡ up_to b →
+    bound_in es ≡ Some (record { key = e.key; state = b })
+bound_is [] few i e b at is = absurd (some_not_none e (sym at))
+bound_is (x ∷ xs) few zero e b at is =
+    let same = some_same x e at in
+    ap (λ o. or_else o (bound_in xs)) (ap (λ e. bound_at e.key e.mode) same ∙ ap (bound_at e.key) is)
+bound_is (x ∷ xs) few (suc i) e b at is = by x.mode (λ few. bound_is xs few i e b at is) few
+  where
+    counted : 1 ≤ length (filter is_bound_entry xs)
+    counted = bound_counts xs i e b at is
+
+    two : suc (length (filter is_bound_entry xs)) ≤ 1 → ⊥
+    two few = let c = counted in omega (arith, few, c)
+
+    by : (m : Mode) → (length (filter is_bound_entry xs) ≤ 1 → bound_in xs ≡ Some (record { key = e.key; state = b })) →
+        length (filter is_bound_entry (record x { mode = m } ∷ xs)) ≤ 1 → or_else (bound_at x.key m) (bound_in xs) ≡ Some (record { key = e.key; state = b })
+    by kept more few = more few
+    by taken more few = more few
+    by given more few = more few
+    by fresh more few = more few
+    by (up_to c) more few = absurd (two few)
+
+module _ (p : Program) (n : ℕ) (f : Func) (h : HasStates p) (there : slice_get p.fns n ≡ Some f) (kinded : IsKinded p) where
+  head_of_f : (m : ℕ) × (head_broken p m f ≡ [])
+  head_of_f = head_empty p n f kinded there
+
+  within_origin : (o : ℕ) → IsOrigin p f (Some o) → (i : ℕ) (e : Entry) → slice_get f.clause i ≡ Some e → (b : ℕ) → e.mode ≡ up_to b → IsTrue (key_states_up_to p f e.key b o)
+  within_origin o origin i e at b is =
+      subst (λ x. IsOriginOf p f x (Some o)) (bound_is f.clause (few (length (filter is_bound_entry f.clause)) (one_bound p head_of_f.0 f head_of_f.1)) i e b at is) origin
+    where
+      few : (n : ℕ) → nat_le n 1 ≡ true → n ≤ 1
+      few n e = grind (arith, nat_tests)
+
+  made_at : (o : ℕ) (es : List Entry) (i : ℕ) (e : Entry) → slice_get (map (entry_of_instance p f o) es) i ≡ Some e → (d : Entry) × (slice_get es i ≡ Some d) × (entry_of_instance p f o d ≡ e)
+  made_at o [] i e at = absurd (some_not_none e (sym at))
+  made_at o (x ∷ xs) zero e at = (x, refl, some_same (entry_of_instance p f o x) e at)
+  made_at o (x ∷ xs) (suc i) e at = made_at o xs i e at
+
+  filled_start : (o : Option ℕ) → IsOrigin p f o → IsFilledStart p (instance p f o)
+  filled_start None origin i e at = side_filled p n f h there e.key e.before (h.before n f i e there at)
+  filled_start (Some o) origin i e at =
+      let d = made_at o f.clause i e at in
+      subst (λ e. IsFilledSet (before_set p f e)) d.2
+      (made_filled p n f h there o d.0 (within_origin o origin i d.0 d.1) (h.before n f i d.0 there d.1))
+
+  pub fit_body : (o : Option ℕ) → IsOrigin p f o → HasArmsStmts f.body → f.external ≡ false → IsFitBody p (instance p f o)
+  fit_body o origin arms body =
+      fits p (instance p f o) (filled_start o origin) h
+      (λ g fn at. let x = head_empty p g fn kinded at in has_new_result p x.0 fn x.1)
+      (λ v states e. h.owned n f v states there e)
+      (ranged_keys p head_of_f.0 f head_of_f.1) (params_fit p head_of_f.0 f head_of_f.1)
+      (λ k out. unheld_instance p f o k (start_absent p f f.clause k (entries_fit p head_of_f.0 f head_of_f.1) out))
+      (subst EachEmpty (sym (body_rows_same p f o)) (function_empty p n f kinded there).1.1) arms body

@@ -7,6 +7,10 @@ pub record IsFilledSet (states : States) : Type 0 where
   pub state : ℕ
   pub has : IsTrue (states state)
 
+-- each set of states in a function's owning types has one
+abbrev pub OwnsFilled : Func → Type 0
+OwnsFilled f = (v : ℕ) (states : States) → owning_states f v ≡ Some states → IsFilledSet states
+
 -- Each set that a program says has a state. What the code calls a set of states always has one.
 pub record HasStates (p : Program) : Type 0 where
   pub all : (t : ℕ) → IsFilledSet (all_states p t)

@@ -3,8 +3,9 @@
 //! `vlt_flow` and `vlt_check` rest on them: a body is derived just where some annotation holds in it, and where none does something is faulty.
 #![tactic(auto)]
 
-ghost use Rattle.std.specs.Prelude.{◌≡◌, ℕ, false, Some, slice_get, Bool, None};
+ghost use Rattle.std.specs.Prelude.{◌≡◌, ℕ, false, Some, slice_get, Bool, Option, None};
 ghost use Rattle.vlt_core.specs.Core.{Func, Program, Tok};
+ghost use Rattle.vlt_core.specs.Instances.{instance, IsOrigin};
 ghost use Rattle.vlt_core.specs.Kinded.{IsKinded};
 ghost use Rattle.vlt_core_laws.specs.States.{HasStates};
 ghost use Rattle.vlt_core_laws.specs.Arms.{HasArmsStmts};
@@ -21,10 +22,11 @@ ghost use Rattle.vlt_core_laws.specs.Sweep.{Stock, IsFoundIn};
 ghost use Rattle.vlt_core_laws.specs.Shown.{IsFit, IsStart, IsReadOf};
 ghost use Rattle.vlt_core_laws.specs.FaultLaws.{HasOneFirstFault};
 
-/// Each body of a program that breaks no rule on names and types is fit for the check.
+/// Each body of a program that breaks no rule on names and types is fit for the check, in each instance.
 pub fn kinded_bodies_are_fit()
-    ensures { (p : Program) (n : ℕ) (f : Func) → IsKinded p → HasStates p →
-        slice_get p.fns n ≡ Some f → f.external ≡ false → HasArmsStmts f.body → IsFitBody p f }
+    ensures { (p : Program) (n : ℕ) (f : Func) (o : Option ℕ) → IsKinded p → HasStates p →
+        slice_get p.fns n ≡ Some f → f.external ≡ false → IsOrigin p f o →
+        HasArmsStmts f.body → IsFitBody p (instance p f o) }
 {}
 
 /// A body in which some annotation holds is derived, where its rows name tokens in scope alone and the others are absent.

@@ -190,7 +190,7 @@ runs_focus =
 --   }
 abbrev pub program_states : Program
 program_states = record {
-  sets = (record { name = (codes "ab"); states = ((codes "a") ∷ (codes "b") ∷ []) } ∷ []);
+  sets = (record { name = (codes "ab"); states = ((codes "a") ∷ (codes "b") ∷ []); links = [] } ∷ []);
   types =
       a_struct (record {
         name = (codes "region");

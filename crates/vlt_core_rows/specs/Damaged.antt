@@ -132,7 +132,7 @@ program_raw = record {
       (record {
         name = (codes "conn");
         states = ((codes "raw") ∷ (codes "named") ∷ (codes "listening") ∷
-            (codes "ready") ∷ []);
+            (codes "ready") ∷ []); links = [];
       } ∷ []);
   types =
       an_abstract (codes "sock") (Some 0) ∷
@@ -256,7 +256,7 @@ runs_raw =
 --   }
 abbrev pub program_field : Program
 program_field = record {
-  sets = (record { name = (codes "ab"); states = ((codes "a") ∷ (codes "b") ∷ []) } ∷ []);
+  sets = (record { name = (codes "ab"); states = ((codes "a") ∷ (codes "b") ∷ []); links = [] } ∷ []);
   types =
       a_struct
       (record {
@@ -526,7 +526,7 @@ runs_lent =
 --   }
 abbrev pub program_unfocused : Program
 program_unfocused = record {
-  sets = (record { name = (codes "ab"); states = ((codes "a") ∷ (codes "b") ∷ []) } ∷ []);
+  sets = (record { name = (codes "ab"); states = ((codes "a") ∷ (codes "b") ∷ []); links = [] } ∷ []);
   types =
       a_struct (record {
         name = (codes "region");

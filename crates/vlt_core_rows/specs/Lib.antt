@@ -5,6 +5,7 @@ pub mod Adoption
 pub mod Lists
 pub mod Locks
 pub mod Requests
+pub mod Levels
 pub mod Numbers
 pub mod Damaged
 pub mod Shown

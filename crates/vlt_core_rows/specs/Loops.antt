@@ -18,7 +18,7 @@ use Rattle.vlt_core_rows.specs.Told.{in_set, ◌▹◌, a_key_of, a_var_of, Case
 --   }
 abbrev pub program : Program
 program = record {
-  sets = (record { name = (codes "ab"); states = ((codes "a") ∷ (codes "b") ∷ []) } ∷ []);
+  sets = (record { name = (codes "ab"); states = ((codes "a") ∷ (codes "b") ∷ []); links = [] } ∷ []);
   types =
       a_struct
       (record {

@@ -38,7 +38,7 @@ use Rattle.vlt_core_rows.specs.Told.{in_set, ◌▹◌, a_key_of, a_var_of, Case
 --   }
 abbrev pub program : Program
 program = record {
-  sets = (record { name = (codes "irp_st"); states = ((codes "pending") ∷ (codes "done") ∷ []) } ∷ []);
+  sets = (record { name = (codes "irp_st"); states = ((codes "pending") ∷ (codes "done") ∷ []); links = [] } ∷ []);
   types =
       an_abstract (codes "irp") (Some 0) ∷
       a_variant

@@ -31,7 +31,7 @@ program = record {
       (record {
         name = (codes "conn");
         states = ((codes "raw") ∷ (codes "named") ∷ (codes "listening") ∷
-            (codes "ready") ∷ []);
+            (codes "ready") ∷ []); links = [];
       } ∷ []);
   types =
       an_abstract (codes "sock") (Some 0) ∷

@@ -3,6 +3,7 @@
 //! Nothing rests on them: each is a theorem that is proved by computing.
 #![tactic(auto)]
 
+ghost use Rattle.vlt_core.specs.Derives.{IsAccepted};
 ghost use Rattle.vlt_core_rows.specs.Told.{AreTold};
 ghost use Rattle.vlt_core_rows.specs.Shown.{HaveRows};
 ghost use Rattle.vlt_core_rows.specs.Sockets as sockets;
@@ -11,6 +12,7 @@ ghost use Rattle.vlt_core_rows.specs.Adoption as adoption;
 ghost use Rattle.vlt_core_rows.specs.Lists as lists;
 ghost use Rattle.vlt_core_rows.specs.Locks as locks;
 ghost use Rattle.vlt_core_rows.specs.Requests as requests;
+ghost use Rattle.vlt_core_rows.specs.Levels as levels;
 ghost use Rattle.vlt_core_rows.specs.Numbers as numbers;
 ghost use Rattle.vlt_core_rows.specs.Damaged as damaged;
 ghost use Rattle.vlt_core_rows.specs.Rows as rows;
@@ -20,6 +22,14 @@ pub fn externals_are_told()
     ensures sockets { AreTold sockets.program sockets.runs }
     ensures locks { AreTold locks.program locks.runs }
     ensures requests { AreTold requests.program requests.runs }
+    ensures levels { AreTold levels.program levels.runs }
+    ensures raised { AreTold levels.program_raised levels.runs_raised }
+    ensures read { levels.AreRead }
+{}
+
+/// A program with a bound entry is accepted: each instance of each body has a derivation.
+pub fn levels_are_accepted()
+    ensures { IsAccepted levels.program }
 {}
 
 /// Objects in one another, adopted and in focus.

@@ -13,7 +13,7 @@ pub fn is_taken(e: &Entry) -> bool
 {
     match e.mode {
         Mode::Taken => true,
-        Mode::Kept | Mode::Given | Mode::New => false,
+        Mode::Kept | Mode::Given | Mode::New | Mode::Bound(_) => false,
     }
 }
 
@@ -23,7 +23,7 @@ pub fn is_given(e: &Entry) -> bool
 {
     match e.mode {
         Mode::Given => true,
-        Mode::Kept | Mode::Taken | Mode::New => false,
+        Mode::Kept | Mode::Taken | Mode::New | Mode::Bound(_) => false,
     }
 }
 

@@ -49,7 +49,7 @@ fn is_held_after(e: &Entry) -> bool
     ensures { result ≡ is_held_after (entry_of e.now) }
 {
     match e.mode {
-        Mode::Kept | Mode::Given | Mode::New => true,
+        Mode::Kept | Mode::Given | Mode::New | Mode::Bound(_) => true,
         Mode::Taken => false,
     }
 }

@@ -2,7 +2,7 @@
 use Rattle.std.proofs.Common.{◌≡◌, ℕ, suc, Bool, true, false, ◌&&◌, not, List, [], ◌∷◌, Some, refl, ap, ◌∙◌, slice_get}
 use Rattle.std.specs.Option.{option_and_then}
 use Rattle.std.proofs.lemmas.Bool.{false≢true}
-use Rattle.vlt_core.specs.Core.{CaseKey, Mode, kept, taken, given, fresh, Entry, Func, Program}
+use Rattle.vlt_core.specs.Core.{CaseKey, Mode, kept, taken, given, fresh, up_to, Entry, Func, Program}
 use Rattle.vlt_core.specs.Lookups.{is_before, is_fresh, is_held_before, is_new}
 use Rattle.vlt_meaning.specs.World.{Frame}
 use Rattle.vlt_machine.specs.Reached.{NamesKeys}
@@ -19,6 +19,7 @@ right_false false b h = absurd (false≢true h)
 
 before_old : (m : Mode) → is_before m ≡ true → is_fresh m ≡ false
 before_old kept h = refl
+before_old (up_to u) h = refl
 before_old taken h = refl
 before_old given h = absurd (false≢true h)
 before_old fresh h = absurd (false≢true h)

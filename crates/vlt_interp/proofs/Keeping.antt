@@ -1,14 +1,16 @@
 -- What holds of all statements that are left holds of them after each move.
-use Rattle.std.proofs.Common.{◌≡◌, ℕ, ◌==◌, nat_lt, Bool, true, false, if◌then◌else◌, List, [], ◌∷◌, length, map, Option, Some, None, Ok, Err, slice_get, refl, ap}
+use Rattle.std.proofs.Common.{◌≡◌, ℕ, ◌==◌, nat_lt, Bool, true, false, if◌then◌else◌, List, [], ◌∷◌, length, map, Option, Some, None, Ok, Err, slice_get, refl, sym, ap, subst}
+use Rattle.std.specs.Option.{option_map}
 use Rattle.vlt_ops.specs.Operator.{is_true}
 use Rattle.vlt_core.specs.Core.{Operand, Expr, Form, Block, block, Stmts, done, next, Arms, no_arms, arm, simple, call, choose, loop, switch, focus, scope, return, jump, Func, Program}
+use Rattle.vlt_core.specs.Instances.{bound_in, instance}
 use Rattle.vlt_core.specs.Lookups.{reference_of, guarded_of, variant_of, case_keys}
-use Rattle.vlt_meaning.specs.World.{Value, one, World, Frame, missing, Reason}
+use Rattle.vlt_meaning.specs.World.{Value, one, Object, World, Frame, missing, Reason}
 use Rattle.vlt_meaning.specs.Found.{Found, or_fault}
 use Rattle.vlt_meaning.specs.Values.{held_object, guarded_object, number_of}
 use Rattle.vlt_meaning.specs.Step.{Step, goes, jumps, leaves, ends}
 use Rattle.vlt_meaning.specs.Operands.{Case, case_in, with_empty_variable}
-use Rattle.vlt_meaning.specs.Calls.{passed_objects}
+use Rattle.vlt_meaning.specs.Calls.{state_under, called_instance, passed_objects}
 use Rattle.vlt_meaning.specs.Run.{Setup}
 use Rattle.vlt_meaning_laws.proofs.Keeping.{err-ok}
 use Rattle.vlt_machine.specs.Got.{Got, got, stopped, operands_got, opened_got, filled_got}
@@ -37,6 +39,7 @@ pub record IsClosed (p : Program) (L : Func → Stmts → Type 0) (F : Func → 
   pub focus_in : (f : Func) (y z : ℕ) (b : Block) → F f (focus y z b) → B f b
   pub scope_in : (f : Func) (b : Block) → F f (scope b) → B f b
   pub body_of : (i : ℕ) (f : Func) → slice_get p.fns i ≡ Some f → L f f.body
+  pub plain : (i : ℕ) (f : Func) → slice_get p.fns i ≡ Some f → bound_in f.clause ≡ None
 
 module _ (r : Setup) (L : Func → Stmts → Type 0) (F : Func → Form → Type 0) (B : Func → Block → Type 0) (A : Func → Arms → Type 0) (k : IsClosed r.program L F B A) where
   abbrev In : Func → List Task → Type 0
@@ -97,12 +100,17 @@ module _ (r : Setup) (L : Func → Stmts → Type 0) (F : Func → Form → Type
   by_holds true f target keys g args ts frame w s o = s
   by_holds false f target keys g args ts frame w s o = body_holds f target keys g args ts frame w s o
 
+  -- a function without a bound entry is its own instance
+  itself : (g : Func) → bound_in g.clause ≡ None → (keys : List ℕ) (frame : Frame) (os : List Object) → called_instance r.program g keys frame os ≡ g
+  itself g none keys frame os = ap (λ q. instance r.program g (option_map (λ b. state_under keys frame os b.key) q)) none
+
   call_holds : (f : Func) (target : Option ℕ) (keys : List ℕ) (g : Func) (args : List Operand) (ts : List Task) (frame : Frame) (w : World) → In f ts → IsOf r.program g → Holds (enter r f target keys g args ts frame w)
   unfolding enter
   call_holds f target keys g args ts frame w s o =
       so_holds (length args == g.params) missing f ts w _ s
       (got_holds (operands_got r.program f args frame w) f ts _ s (λ values frame2 v. spend_holds f ts v _ s (λ u.
-      by_holds g.external f target keys g values ts frame2 u s o)))
+      subst (λ h. Holds (enter_by g.external r f target keys h values ts frame2 u)) (sym (itself g (k.plain o.position g o.at) keys frame2 u.objects))
+      (by_holds g.external f target keys g values ts frame2 u s o))))
 
   act_holds : (f : Func) (form : Form) (ts : List Task) (frame : Frame) (w : World) → In f ts → F f form → Holds (act r f form ts frame w)
   act_holds f (simple x) ts frame w s h = s

@@ -1,5 +1,5 @@
 -- The run goes on, and comes to its end.
-use Rattle.std.proofs.Common.{◌≡◌, inl, inr, ◌⊎◌, ⊎_elim, ℕ, zero, suc, ◌<◌, ◌≤◌, ◌+◌, ◌*◌, true, false, List, [], ◌∷◌, length, Some, None, refl, sym, ap, ◌∙◌, subst, arith}
+use Rattle.std.proofs.Common.{◌≡◌, inl, inr, ⊎_elim, ℕ, zero, suc, ◌<◌, ◌≤◌, ◌+◌, ◌*◌, false, List, [], ◌∷◌, length, Some, None, refl, sym, ap, ◌∙◌, subst, arith}
 use Rattle.std.proofs.lemmas.Bool.{false≢true}
 use Rattle.std.proofs.lemmas.Option.{none-some, same_Some}
 use Rattle.vlt_core.specs.View.{program_of}
@@ -59,6 +59,7 @@ own_closed p h = record {
   focus_in = λ f y z b k. k.1;
   scope_in = λ f b k. k;
   body_of = λ i f at. (h.all i f at).body;
+  plain = h.plain;
 }
 
 module _ (r : Setup) (c : Conf) (reached : IsReached r c) where
@@ -76,10 +77,10 @@ module _ (r : Setup) (c : Conf) (reached : IsReached r c) where
       along (IsOwnConf r.program) (moved_holds r (AreOwn r.program) (IsOwn r.program) (IsOwnBlock r.program) (AreOwnArms r.program) k)
       (first_holds r (AreOwn r.program) (IsOwn r.program) (IsOwnBlock r.program) (AreOwnArms r.program) k r.program.main reached.main reached.is_main)
 
-  reached_small : HoldsIn (IsSmallList (size_of r.program)) (IsSmall (size_of r.program)) r.program c.func c.tasks
-  reached_small =
+  reached_small : HasOwn r.program → HoldsIn (IsSmallList (size_of r.program)) (IsSmall (size_of r.program)) r.program c.func c.tasks
+  reached_small h =
       let n = size_of r.program in
-      let k = small_closed r.program in
+      let k = small_closed r.program h.plain in
       along (λ d. HoldsIn (IsSmallList n) (IsSmall n) r.program d.func d.tasks) (moved_holds r (IsSmallList n) (IsSmall n) (IsSmallBlock n) (AreSmallArms n) k)
       (first_holds r (IsSmallList n) (IsSmall n) (IsSmallBlock n) (AreSmallArms n) k r.program.main reached.main reached.is_main)
 
@@ -197,7 +198,7 @@ module _ (rules : Rules) (goal : Step) (w0 : World) (a b c : Outside) (old new :
       let next = after_move s running.conf in
       let same : setup_in rules new ≡ s = ap (setup_of rules) keeps.size.heap in
       let reached = reached_next s running.conf running.reached in
-      let fall = moved_falls s running.conf u vs e (suffices s next (suffices s running.conf fine.fits).next).tasks (reached_small s next reached) in
+      let fall = moved_falls s running.conf u vs e (suffices s next (suffices s running.conf fine.fits).next).tasks (reached_small s next reached running.runnable.own) in
       record {
         goes = record {
           runnable = running.runnable;

@@ -1,8 +1,9 @@
 -- The moves of a run come to an end: each spends fuel, or leaves less to do; and never more is left than so much.
-use Rattle.std.proofs.Common.{◌≡◌, ◌⊎◌, ⊎_elim, ◌<◌, ◌≤◌, ◌+◌, ◌*◌, ◌-◌, ℕ, suc, max, List, [], ◌∷◌, length, refl, sym, ap, subst, arith}
+use Rattle.std.proofs.Common.{◌≡◌, ◌⊎◌, ⊎_elim, ◌<◌, ◌≤◌, ◌+◌, ◌*◌, ◌-◌, ℕ, suc, max, List, [], ◌∷◌, length, Some, None, slice_get, refl, sym, ap, subst, arith}
 use Rattle.std.proofs.Math.Nat.{mul-le-mul_right}
 use Rattle.vlt_core.specs.View.{stmts_of}
 use Rattle.vlt_core.specs.Core.{Form, choose, loop, switch, focus, scope, simple, call, return, jump, Block, block, Stmts, done, next, Arms, no_arms, arm, Func, Program}
+use Rattle.vlt_core.specs.Instances.{bound_in}
 use Rattle.vlt_core.specs.Widths.{greatest}
 use Rattle.vlt_heap.specs.Items.{Items}
 use Rattle.vlt_meaning.specs.Run.{Setup}
@@ -81,8 +82,8 @@ module _ (n : ℕ) where
   abbrev pub AreSmallArms : Func → Arms → Type 0
   AreSmallArms f arms = arms_size arms ≤ n
 
-pub small_closed : (p : Program) → IsClosed p (IsSmallList (size_of p)) (IsSmall (size_of p)) (IsSmallBlock (size_of p)) (AreSmallArms (size_of p))
-small_closed p = record {
+pub small_closed : (p : Program) → ((i : ℕ) (f : Func) → slice_get p.fns i ≡ Some f → bound_in f.clause ≡ None) → IsClosed p (IsSmallList (size_of p)) (IsSmall (size_of p)) (IsSmallBlock (size_of p)) (AreSmallArms (size_of p))
+small_closed p plain = record {
   first_of = λ f place form rest h. omega (arith, h);
   rest_of = λ f place form rest h. omega (arith, h);
   list_in = λ f ss bound end h. omega (arith, h);
@@ -95,6 +96,7 @@ small_closed p = record {
   focus_in = λ f y z b h. omega (arith, h);
   scope_in = λ f b h. omega (arith, h);
   body_of = λ i f at. let k = greatest_at (λ (f : Func). list_size f.body) p.fns i f at in omega (arith, k);
+  plain = plain;
 }
 
 more_by : (a b n : ℕ) → (suc a) * n ≡ n + a * n

@@ -8,7 +8,7 @@ use Rattle.vlt_meaning.specs.Found.{Found, or_fault}
 use Rattle.vlt_meaning.specs.Values.{held_object, guarded_object, number_of}
 use Rattle.vlt_meaning.specs.Step.{Step, goes, jumps, leaves, ends, with_found, where_so, spend, left_block, then_do, then_turn}
 use Rattle.vlt_meaning.specs.Operands.{Case, case_in, with_empty_variable, with_operands}
-use Rattle.vlt_meaning.specs.Calls.{passed_objects, back_in}
+use Rattle.vlt_meaning.specs.Calls.{called_instance, passed_objects, back_in}
 use Rattle.vlt_meaning.specs.Run.{Setup, focus_end, does_block, does_arm, call_body, call_by}
 use Rattle.vlt_meaning.specs.Does.{does}
 use Rattle.vlt_meaning_laws.specs.Laws.{does_one}
@@ -95,12 +95,12 @@ module _ (r : Setup) where
 
   call_ends : (f : Func) (target : Option ℕ) (keys : List ℕ) (g : Func) (args : List Operand) (ts : List Task) (frame : Frame) (w : World) →
       ending r (enter r f target keys g args ts frame w)
-      ≡ finishes r f ts (where_so (length args == g.params) missing None w (λ w. with_operands r.program f args frame w (λ values frame w. spend w (λ w. call_by g.external r (does r) f target keys g values frame w))))
+      ≡ finishes r f ts (where_so (length args == g.params) missing None w (λ w. with_operands r.program f args frame w (λ values frame w. spend w (λ w. call_by g.external r (does r) f target keys (called_instance r.program g keys frame w.objects) values frame w))))
   unfolding enter
   call_ends f target keys g args ts frame w =
       so_ends (length args == g.params) missing f ts w _ _
-      (got_ends (operands_got r.program f args frame w) f ts _ _ (λ values frame2 v. spend_ends f ts v _ _ (λ v. by_ends g.external f target keys g values ts frame2 v))
-      ∙ ap (finishes r f ts) (sym (operands_step r.program f args frame w (λ values frame w. spend w (λ w. call_by g.external r (does r) f target keys g values frame w)))))
+      (got_ends (operands_got r.program f args frame w) f ts _ _ (λ values frame2 v. spend_ends f ts v _ _ (λ v. by_ends g.external f target keys (called_instance r.program g keys frame2 v.objects) values ts frame2 v))
+      ∙ ap (finishes r f ts) (sym (operands_step r.program f args frame w (λ values frame w. spend w (λ w. call_by g.external r (does r) f target keys (called_instance r.program g keys frame w.objects) values frame w)))))
 
   -- ---- statements
 

@@ -11,7 +11,7 @@ use Rattle.vlt_meaning.specs.Found.{Found, or_fault}
 use Rattle.vlt_meaning.specs.Values.{held_object, object_of, guarded_object, number_of, value_of}
 use Rattle.vlt_meaning.specs.Step.{Step, goes, jumps, leaves, ends, is_fillable, with_var}
 use Rattle.vlt_meaning.specs.Operands.{Case, case_in, case_object, with_empty_variable}
-use Rattle.vlt_meaning.specs.Calls.{passed_objects}
+use Rattle.vlt_meaning.specs.Calls.{called_instance, passed_objects}
 use Rattle.vlt_meaning.specs.Run.{Setup}
 use Rattle.vlt_meaning_laws.proofs.Keeping.{err-ok}
 use Rattle.vlt_machine.specs.Got.{Got, got, stopped, then_got, found_in, got_if, operand_got, operands_got, opened_got, filled_got}
@@ -174,7 +174,7 @@ module _ (r : Setup) where
   call_fits f target keys g args ts frame w s l n e =
       so_fits (length args == g.params) missing f ts w _ s
       (got_fits (operands_got r.program f args frame w) f ts _ s (operands_level (frames ts) r.program f args frame w e) (λ values frame2 v k. spend_fits f ts v _ s (λ u.
-      by_fits g.external f target keys g values ts frame2 u s l n k)))
+      by_fits g.external f target keys (called_instance r.program g keys frame2 u.objects) values ts frame2 u s l n k)))
 
   -- a statement of a list, of which the rest is left
   act_fits : (f : Func) (s : Form) (ts : List Task) (frame : Frame) (w : World) → Stands ts → length ts + inner s ≤ frames ts * (tall_of r.program + 1) + 1 → 1 ≤ length ts → length ts ≤ reach ts → frame.depth ≡ frames ts → Fits r (act r f s ts frame w)

@@ -9,7 +9,7 @@ use Rattle.vlt_meaning.specs.Found.{Found, or_fault}
 use Rattle.vlt_meaning.specs.Values.{held_object, guarded_object, number_of, value_of, object_of}
 use Rattle.vlt_meaning.specs.Step.{Step, goes, jumps, leaves, ends, is_fillable, with_var, left_block}
 use Rattle.vlt_meaning.specs.Operands.{Case, case_in, with_empty_variable, case_object}
-use Rattle.vlt_meaning.specs.Calls.{passed_objects, back_in}
+use Rattle.vlt_meaning.specs.Calls.{called_instance, passed_objects, back_in}
 use Rattle.vlt_meaning.specs.Run.{Setup, does_form, focus_end}
 use Rattle.vlt_meaning.specs.Does.{does}
 use Rattle.vlt_meaning_laws.specs.Keeping.{world_after}
@@ -201,7 +201,7 @@ module _ (r : Setup) where
   call_shrinks n m f target keys g args ts frame w l u =
       so_shrinks n m (length args == g.params) missing f ts w _ l u
       (got_shrinks n m (operands_got r.program f args frame w) f ts _ (less_sinks w.fuel n (operands_got r.program f args frame w) l (operands_sink r.program f args frame w)) u (λ values frame2 v h.
-      spend_shrinks n m f ts v _ h u (λ x. by_most x.fuel g.external f target keys g values ts frame2 x (omega arith))))
+      spend_shrinks n m f ts v _ h u (λ x. by_most x.fuel g.external f target keys (called_instance r.program g keys frame2 x.objects) values ts frame2 x (omega arith))))
 
   does_keeps : (w : World) (f : Func) (ss : Stmts) (frame : Frame) (v : World) → HasNoMoreFuel w v → To HasNoMoreFuel w (does r f ss frame v)
   does_keeps w f ss frame v h =

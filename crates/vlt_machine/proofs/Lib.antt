@@ -4,3 +4,4 @@ pub mod Halting
 pub mod Theorem
 pub mod Depths
 pub mod Fitting
+mod Instanced

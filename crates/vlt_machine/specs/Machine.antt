@@ -10,7 +10,7 @@ use Rattle.vlt_meaning.specs.Objects.{with_owner}
 use Rattle.vlt_meaning.specs.Values.{held_object, guarded_object, number_of}
 use Rattle.vlt_meaning.specs.Step.{Step, goes, jumps, ends, with_changed, with_objects, with_var, with_key, left_block}
 use Rattle.vlt_meaning.specs.Operands.{Case, case_in, with_empty_variable}
-use Rattle.vlt_meaning.specs.Calls.{passed_objects, handed_over, callee_frame, back_in, with_returned}
+use Rattle.vlt_meaning.specs.Calls.{called_instance, passed_objects, handed_over, callee_frame, back_in, with_returned}
 use Rattle.vlt_meaning.specs.Externals.{call_external}
 use Rattle.vlt_meaning.specs.Run.{Setup, does_simple, left_function, focus_end}
 use Rattle.vlt_machine.specs.Got.{Got, got, stopped, operands_got, opened_got, filled_got}
@@ -90,7 +90,7 @@ unfoldable pub enter : Setup → Func → (target : Option ℕ) → (keys : List
 enter r f target keys g args ts frame w =
     when_so (length args == g.params) missing f ts w
     (when_got (operands_got r.program f args frame w) f ts (λ values frame w.
-    spending f ts w (λ w. enter_by g.external r f target keys g values ts frame w)))
+    spending f ts w (λ w. enter_by g.external r f target keys (called_instance r.program g keys frame w.objects) values ts frame w)))
 
 -- ---- statements
 

@@ -5,6 +5,7 @@ use Rattle.std.specs.List.{list_any, list_all}
 use Rattle.std.specs.Option.{option_map, option_to_list, option_and_then}
 use Rattle.vlt_core.specs.Core.{var, Operand, pure, Entry, Func, Program}
 use Rattle.vlt_core.specs.Lookups.{owning_vars, is_held_before, is_held_after, is_new, before_set, after_set}
+use Rattle.vlt_core.specs.Instances.{bound_in, instance}
 use Rattle.vlt_meaning.specs.World.{Value, held, Object, is_at, World, Frame, fault, missing, no_return}
 use Rattle.vlt_meaning.specs.Found.{Found, ◌>>=◌, or_fault, Named}
 use Rattle.vlt_meaning.specs.Objects.{in_states, with_owner, with_changed_object, with_numbers}
@@ -38,6 +39,21 @@ passed_objects p g keys frame objects (e ∷ es) =
     else passed_objects p g keys frame objects es
 
 -- ---- to the callee
+
+abbrev pub state_in : Option Object → ℕ
+state_in None = 0
+state_in (Some o) = o.state
+
+-- the state of the object that the caller's key names which stands for a key of the callee
+abbrev pub state_under : (keys : List ℕ) → Frame → List Object → (key : ℕ) → ℕ
+state_under keys frame objects k =
+    state_in (option_and_then (slice_get objects) (option_and_then frame.keys (slice_get keys k)))
+
+-- The callee's instance for the state that the object of its bound entry has now. In a state that the entry doesn't allow it
+-- has no state for the object, so the call is a fault.
+abbrev pub called_instance : Program → Func → (keys : List ℕ) → Frame → List Object → Func
+called_instance p g keys frame objects =
+    instance p g (option_map (λ b. state_under keys frame objects b.key) (bound_in g.clause))
 
 abbrev pub changed_if : Option ℕ → (Object → Object) → List Object → List Object
 changed_if None change objects = objects

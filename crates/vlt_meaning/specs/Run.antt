@@ -13,7 +13,7 @@ use Rattle.vlt_meaning.specs.Objects.{object_at, in_states, owned_at, with_owner
 use Rattle.vlt_meaning.specs.Values.{held_object, object_of, guarded_object, touchable, value_of, number_of}
 use Rattle.vlt_meaning.specs.Step.{Step, goes, jumps, leaves, ends, with_found, where_so, with_objects, with_changed, with_event, spend, with_input, with_made, with_moved, with_released, with_dropped, with_var, with_key, fill, with_filled, left_block, then_do, then_turn}
 use Rattle.vlt_meaning.specs.Operands.{with_operand, with_operands, owning_cells, parts_of, with_case_packed, with_case_opened, Case, case_in, with_empty_variable, owned_in}
-use Rattle.vlt_meaning.specs.Calls.{entries_after, passed_objects, handed_over, callee_frame, back_in, with_returned, returned_objects, holds_only, is_emptied}
+use Rattle.vlt_meaning.specs.Calls.{entries_after, called_instance, passed_objects, handed_over, callee_frame, back_in, with_returned, returned_objects, holds_only, is_emptied}
 use Rattle.vlt_meaning.specs.Externals.{payload_in, call_external}
 
 -- what never changes in a run
@@ -165,7 +165,8 @@ abbrev mutual
       with_found (or_fault missing (slice_get r.program.fns g)) w (λ g.
       where_so (length args == g.params) missing None w (λ w.
       with_operands r.program f args frame w (λ values frame w.
-      spend w (λ w. call_by g.external r rest_of f target keys g values frame w))))
+      spend w (λ w.
+      call_by g.external r rest_of f target keys (called_instance r.program g keys frame w.objects) values frame w))))
   does_form r rest_of f (choose e a b) frame w =
       with_found (number_of r.program f e frame w.objects) w (λ z.
       if is_true z then does_block r rest_of f a frame w else does_block r rest_of f b frame w)

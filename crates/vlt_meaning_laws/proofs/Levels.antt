@@ -8,7 +8,7 @@ use Rattle.vlt_meaning.specs.World.{Value, one, World, Frame, Reason, fuel_end, 
 use Rattle.vlt_meaning.specs.Found.{Found}
 use Rattle.vlt_meaning.specs.Step.{Step, goes, jumps, leaves, ends, with_found, where_so, spend, with_filled, then_do, then_turn, left_block}
 use Rattle.vlt_meaning.specs.Operands.{with_operand, with_operands, with_case_opened, Case}
-use Rattle.vlt_meaning.specs.Calls.{back_in}
+use Rattle.vlt_meaning.specs.Calls.{back_in, called_instance}
 use Rattle.vlt_meaning.specs.Run.{Setup, Meaning, call_body, call_by, focus_end, does_form, does_block, does_stmts, does_arm, less}
 use Rattle.vlt_meaning.specs.Does.{does}
 use Rattle.vlt_meaning_laws.specs.Keeping.{world_after}
@@ -163,7 +163,8 @@ mutual
       found_same _ w _ _ (λ g'. so_same _ _ _ w _ _
       (operands_same b r.program f args frame w _ _ l (λ values frame' v i.
       spend_same b v _ _ i (λ u j.
-      call_same g'.external r m1 m2 f target keys g' values frame' u (λ ss fr x k. h g' ss fr x (omega arith))))))
+      call_same g'.external r m1 m2 f target keys (called_instance r.program g' keys frame' u.objects) values frame' u
+      (λ ss fr x k. h (called_instance r.program g' keys frame' u.objects) ss fr x (omega arith))))))
   form_same r b m1 m2 fm h f (choose e x y) frame w l =
       found_same _ w _ _
       (λ z. if_same (is_true z) _ _ _ _ (block_same r b m1 m2 fm h f x frame w l)

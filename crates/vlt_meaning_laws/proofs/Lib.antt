@@ -5,3 +5,4 @@ pub mod Later
 pub mod Levels
 pub mod Ends
 pub mod Equations
+pub mod Instanced

@@ -9,7 +9,7 @@ use Rattle.vlt_meaning.specs.Found.{Found}
 use Rattle.vlt_meaning.specs.Objects.{with_owner, with_state, with_cell}
 use Rattle.vlt_meaning.specs.Step.{Step, goes, jumps, leaves, ends, with_found, where_so, with_objects, with_changed, with_event, spend, first_input, with_input, first_answer, with_answer, with_made, with_moved, with_released, with_dropped, fill, with_filled, deliver, then_do, then_turn, left_block}
 use Rattle.vlt_meaning.specs.Operands.{with_operand, with_operands, with_case_packed, with_case_opened, Case}
-use Rattle.vlt_meaning.specs.Calls.{Binding, bindings, entries_after, back_in, with_returned}
+use Rattle.vlt_meaning.specs.Calls.{Binding, bindings, entries_after, back_in, with_returned, called_instance}
 use Rattle.vlt_meaning.specs.HostAnswers.{Piece, plain, new_in, nothing, piece, case_with}
 use Rattle.vlt_meaning.specs.HostAnswers as answers
 use Rattle.vlt_meaning.specs.Externals.{or_bad, fitting, with_pieces, with_fresh, with_result, call_external}
@@ -330,7 +330,7 @@ module _ (I : World → World → Type 0) (k : IsKept I) (w0 : World) where
     form_to r m ks f (call g target keys args) frame w h =
         found_to _ w _ h (λ g'. so_to _ _ _ w _ h (λ w1 h1.
         operands_to r.program f args frame w1 _ h1 (λ values frame' w2 h2.
-        spend_to w2 _ h2 (λ w3 h3. call_to g'.external r m ks f target keys g' values frame' w3 h3))))
+        spend_to w2 _ h2 (λ w3 h3. call_to g'.external r m ks f target keys (called_instance r.program g' keys frame' w3.objects) values frame' w3 h3))))
     form_to r m ks f (choose e a b) frame w h =
         found_to _ w _ h (λ z. if_to (is_true z) _ _ (block_to r m ks f a frame w h) (block_to r m ks f b frame w h))
     form_to r m ks f (loop e b) frame w h =

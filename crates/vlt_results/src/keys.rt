@@ -16,7 +16,7 @@ pub fn is_new(e: &Entry) -> bool
 {
     match e.mode {
         Mode::New => true,
-        Mode::Kept | Mode::Taken | Mode::Given => false,
+        Mode::Kept | Mode::Taken | Mode::Given | Mode::Bound(_) => false,
     }
 }
 

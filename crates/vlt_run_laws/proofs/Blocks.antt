@@ -1,5 +1,5 @@
 -- Blocks, scopes, choices and loops keep that what comes next is known.
-use Rattle.std.proofs.Common.{◌≡◌, ℕ, zero, suc, ◌==◌, ◌-◌, Bool, true, false, if◌then◌else◌, List, [], ◌∷◌, ◌++◌, Some, Ok, Err, refl, sym, ap, ◌∙◌, subst, arith, slice_get}
+use Rattle.std.proofs.Common.{◌≡◌, ℕ, zero, suc, ◌==◌, ◌-◌, Bool, true, false, if◌then◌else◌, List, [], ◌∷◌, ◌++◌, Some, Ok, Err, refl, sym, ap, ◌∙◌, subst, arith}
 use Rattle.vlt_ops.specs.Operator.{is_true}
 use Rattle.vlt_core.specs.Core.{bool, Tok, Expr, choose, loop, scope, Block, block, Stmts, next, Form, Func, Program}
 use Rattle.vlt_core.specs.Maps.{HeldMap, IsBelow, CanPass}
@@ -38,13 +38,13 @@ use Rattle.vlt_sound_statements.proofs.Tokens.{all_away, listed_owning}
 use Rattle.vlt_sound_statements.proofs.Unbroken.{none_left, none_right}
 use Rattle.vlt_sound_statements.proofs.Control.{weaker, end_safe}
 use Rattle.vlt_run_laws.specs.Named.{HasNamedHead}
-use Rattle.vlt_run_laws.specs.Known.{IsKnown}
+use Rattle.vlt_run_laws.specs.Known.{IsInstanceOf, IsKnown}
 use Rattle.vlt_run_laws.proofs.Moves.{Good, Follows, GoodLists, AllLists, GoodForm, lists_now, fewer}
 
 -- what is known of a block that is entered
 pub record IsKnownBlock (p : Program) (f : Func) (b : Block) (frame : Frame) (w : World) : Type 0 where
   pub position : ℕ
-  pub function : slice_get p.fns position ≡ Some f
+  pub function : IsInstanceOf p position f
   pub site : Site
   pub ids : Ids
   pub map : HeldMap
@@ -174,7 +174,7 @@ module _ (r : Setup) {f : Func} (typed : IsTyped r.program f) {c : Context} {h :
 block_vars : (p : Program) (f : Func) (b : Block) (ids : Ids) → (ids_behind_block p f b ids).vars ≡ ids.vars
 block_vars p f (block ss bound end) ids = refl
 
-module _ (r : Setup) (typed : (i : ℕ) (f : Func) → slice_get r.program.fns i ≡ Some f → IsTyped r.program f) where
+module _ (r : Setup) (typed : (i : ℕ) (f : Func) → IsInstanceOf r.program i f → IsTyped r.program f) where
   pub choose_good : (n : ℕ) → AllLists r n → (f : Func) (e : Expr) (a b : Block) → GoodForm r n f (choose e a b)
   choose_good n all f e a b frame w x ts follows =
       let ids2 = ids_behind_block r.program f a x.ids in

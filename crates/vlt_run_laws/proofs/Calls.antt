@@ -22,6 +22,7 @@ use Rattle.vlt_sound.specs.Sizes.{HasSizes}
 use Rattle.vlt_sound.proofs.Functions.{has_functions}
 use Rattle.vlt_core_laws.proofs.Ids.{or_split}
 use Rattle.vlt_run_laws.specs.Named.{NamesScope}
+use Rattle.vlt_run_laws.proofs.Instanced.{typed_of}
 use Rattle.vlt_run_laws.specs.Known.{IsKnown, KnowsItsSteps}
 use Rattle.vlt_run_laws.proofs.ReachedNaming.{key_names, scope_names}
 
@@ -102,7 +103,7 @@ module _ (p : Program) (functions : HasFunctions p) {f : Func} (i : ℕ) (g : Fu
 
   fits : IsCall p f g s.ids keys
   fits =
-      let typed = functions.typed s.position f s.function in
+      let typed = typed_of functions s.position f s.function in
       is_call target keys args (functions.heads i g at) typed s.here.scoped (functions.meet f typed i g at) unbroken
 
   pub call_names : NamesKeys g keys frame

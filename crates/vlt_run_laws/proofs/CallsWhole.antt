@@ -6,7 +6,7 @@ use Rattle.vlt_core.specs.Kinded.{IsKinded}
 use Rattle.vlt_core.specs.Derives.{IsAccepted}
 use Rattle.vlt_core.specs.Lookups.{is_new}
 use Rattle.vlt_core.specs.Maps.{CanPass, IsBelow, map_after}
-use Rattle.vlt_core.specs.Rows.{on_option, operands_rows, clause_rows, target_rows}
+use Rattle.vlt_core.specs.Rows.{on_option, operands_rows, called_rows, target_rows}
 use Rattle.vlt_core.specs.KindedHeads.{unless, has, when_some, parameters_of, tracked_keys, is_external_parameter, is_declared_result, external_result_broken, external_broken}
 use Rattle.vlt_core.specs.KindedCalls.{call_broken}
 use Rattle.vlt_core.specs.declared.rules.TheConstants as rule
@@ -27,6 +27,7 @@ use Rattle.vlt_sound.specs.Narrow.{HasNarrowHeads}
 use Rattle.vlt_sound.proofs.Functions.{has_functions}
 use Rattle.vlt_sound.proofs.HeadsLaws.{has_hosts}
 use Rattle.vlt_sound.proofs.Vars.{head_kinded}
+use Rattle.vlt_run_laws.proofs.Instanced.{typed_of}
 use Rattle.vlt_run_laws.specs.Known.{IsKnown}
 use Rattle.vlt_run_laws.proofs.Calls.{call_names}
 use Rattle.vlt_run_laws.proofs.ReachedWhole.{knows_its_steps}
@@ -63,7 +64,7 @@ module _ (p : Program) (kinded : IsKinded p) (sizes : HasSizes p) (filled : HasS
 
     fits : IsCall p f g x.ids keys
     fits =
-        let typed = functions.typed x.position f x.function in
+        let typed = typed_of functions x.position f x.function in
         is_call target keys args (functions.heads n g at) typed x.here.scoped (functions.meet f typed n g at) unbroken
 
     lists : g.external ≡ true → IsExternalCall p g keys
@@ -74,15 +75,15 @@ module _ (p : Program) (kinded : IsKinded p) (sizes : HasSizes p) (filled : HasS
     leads : CanPass (operands_rows p f args) x.map
     leads =
         let A = operands_rows p f args in
-        let B = clause_rows p f keys g.clause in
+        let B = called_rows p f keys g.clause in
         let C = target_rows f target in
-        let all : CanPass (A ++ B ++ C) x.map × IsBelow (map_after (A ++ B ++ C) x.map) x.behind = subst (λ o. CanPass (A ++ on_option o (λ g. clause_rows p f keys g.clause) ++ C) x.map × IsBelow (map_after (A ++ on_option o (λ g. clause_rows p f keys g.clause) ++ C) x.map) x.behind) at x.leads in
+        let all : CanPass (A ++ B ++ C) x.map × IsBelow (map_after (A ++ B ++ C) x.map) x.behind = subst (λ o. CanPass (A ++ on_option o (λ g. called_rows p f keys g.clause) ++ C) x.map × IsBelow (map_after (A ++ on_option o (λ g. called_rows p f keys g.clause) ++ C) x.map) x.behind) at x.leads in
         (pass_split A B x.map (pass_split (A ++ B) C x.map all.0).0).0
 
     names : (values : List Value) (after : Frame) (v : World) → g.external ≡ true → operands_got p f args frame w ≡ got values after v →
         KnowsExternal g keys values after
     names values after v external e =
-        let typed = functions.typed x.position f x.function in
+        let typed = typed_of functions x.position f x.function in
         let head = functions.heads n g at in
         let meet = functions.meet f typed n g at in
         record {

@@ -4,14 +4,20 @@ use Rattle.std.proofs.lemmas.Option.{same_Some, none-some}
 use Rattle.vlt_core.specs.Core.{Ty, call, next, Form, Stmts, Operand, Func, Program}
 use Rattle.vlt_core.specs.Kinded.{IsKinded}
 use Rattle.vlt_core.specs.Derives.{start_map, IsAcceptedFunc, IsAccepted}
-use Rattle.vlt_core.specs.Maps.{IsBelow, Row, CanPass, map_after}
-use Rattle.vlt_core.specs.Rows.{on_option, operands_rows, clause_rows, target_rows}
-use Rattle.vlt_core.specs.KindedBodies.{first_ids, stmts_rows, ids_behind_stmts}
+use Rattle.vlt_core.specs.Instances.{instance}
+use Rattle.vlt_core.specs.Maps.{HeldMap, IsBelow, Row, CanPass, map_after}
+use Rattle.vlt_core.proofs.Maps.{map_trans, can_below, passed_below}
+use Rattle.vlt_core_laws.proofs.Instanced.{body_rows_same}
+use Rattle.vlt_sound_calls.specs.ReturnHeads.{HasHostHead, HasHosts}
+use Rattle.vlt_sound_calls.proofs.Narrowing.{narrowed}
+use Rattle.vlt_sound_calls.proofs.Instanced.{typed_instance, head_instance, meet_instance, callee_same, with_target_same, host_instance}
+use Rattle.vlt_core.specs.Rows.{on_option, operands_rows, clause_rows, called_rows, target_rows}
+use Rattle.vlt_core.specs.KindedBodies.{first_ids, stmts_rows, body_rows, ids_behind_stmts}
 use Rattle.vlt_core.specs.KindedCalls.{call_broken, call_target_broken, with_call_target}
 use Rattle.vlt_meaning.specs.World.{Value, World, Frame, depth_end, fuel_end, missing}
 use Rattle.vlt_meaning.specs.Found.{Found, or_fault}
 use Rattle.vlt_meaning.specs.Step.{Step, goes, jumps, leaves, ends, with_objects}
-use Rattle.vlt_meaning.specs.Calls.{passed_objects, handed_over, callee_frame, back_in}
+use Rattle.vlt_meaning.specs.Calls.{called_instance, passed_objects, handed_over, callee_frame, back_in}
 use Rattle.vlt_meaning.specs.Run.{Setup}
 use Rattle.vlt_machine.specs.Got.{Got, got, stopped, then_step, operands_got}
 use Rattle.vlt_machine.specs.Machine.{Task, Caller, list, back, Conf, at, when_found, when_got, when_so, spending, enter_body, enter_by, enter}
@@ -27,7 +33,6 @@ use Rattle.vlt_sound_calls.specs.Callee.{IsCall, callee_context}
 use Rattle.vlt_sound_calls.proofs.EnteringLaws.{argument_types, callee_agrees, callee_entered, callee_scoped}
 use Rattle.vlt_sound_calls.specs.Heads.{HasHead}
 use Rattle.vlt_sound_calls.specs.Fresh.{IsFreshCall}
-use Rattle.vlt_meaning.specs.Externals.{call_external}
 use Rattle.vlt_sound_calls.specs.Meet.{HasFunctions}
 use Rattle.vlt_sound_calls.specs.Externals.{ExternalsAreSafe}
 use Rattle.vlt_sound_calls.proofs.Delivering.{left_safe}
@@ -36,7 +41,8 @@ use Rattle.vlt_sound_statements.specs.Kinded.{BreakNone}
 use Rattle.vlt_sound_statements.specs.Sites.{Site, comes_to}
 use Rattle.vlt_sound_statements.proofs.Control.{weaker}
 use Rattle.vlt_sound.proofs.Facts.{body_kinded}
-use Rattle.vlt_run_laws.specs.Known.{IsKnown}
+use Rattle.vlt_run_laws.proofs.Instanced.{typed_of}
+use Rattle.vlt_run_laws.specs.Known.{IsInstanceOf, IsKnown}
 use Rattle.vlt_run_laws.proofs.ReachedNaming.{callee_head}
 use Rattle.vlt_run_laws.proofs.Moves.{Good, Follows, GoodForm, AllLists, lists_now, fewer}
 use Rattle.vlt_run_laws.proofs.Ending.{ended_good}
@@ -115,7 +121,7 @@ got_good r n P (stopped o w) f ts conf safe good = ended_good r o w n f ts
 -- ---- calls
 
 module _ (r : Setup) (kinded : IsKinded r.program) (accepted : IsAccepted r.program) (functions : HasFunctions r.program)
-    (externals : ExternalsAreSafe r) (n : ℕ) (all : AllLists r n) where
+    (hosts : HasHosts r.program) (externals : ExternalsAreSafe r) (n : ℕ) (all : AllLists r n) where
   -- where a callee has left
   back_good : (m : ℕ) (p : Program) (f g : Func) (frame : Frame) (target : Option ℕ) (keys : List ℕ) (ts : List Task) (a : Step) →
       ((v : Option Value) (kept : List ℕ) (w : World) → a ≡ leaves v kept w → Good r m (at f ts (back_in f target keys g frame a))) →
@@ -155,13 +161,13 @@ module _ (r : Setup) (kinded : IsKinded r.program) (accepted : IsAccepted r.prog
     operands = operands_rows r.program f args
 
     abbrev clause : List Row
-    clause = clause_rows r.program f keys g.clause
+    clause = called_rows r.program f keys g.clause
 
     unbroken : call_broken r.program f x.ids (Some g) target keys args ≡ []
     unbroken = subst (λ o. call_broken r.program f x.ids o target keys args ≡ []) known x.kinded.row
 
     leads : CanPass (operands ++ clause ++ target_rows f target) x.map × IsBelow (map_after (operands ++ clause ++ target_rows f target) x.map) x.behind
-    leads = subst (λ o. CanPass (operands ++ on_option o (λ g. clause_rows r.program f keys g.clause) ++ target_rows f target) x.map × IsBelow (map_after (operands ++ on_option o (λ g. clause_rows r.program f keys g.clause) ++ target_rows f target) x.map) x.behind) known x.leads
+    leads = subst (λ o. CanPass (operands ++ on_option o (λ g. called_rows r.program f keys g.clause) ++ target_rows f target) x.map × IsBelow (map_after (operands ++ on_option o (λ g. called_rows r.program f keys g.clause) ++ target_rows f target) x.map) x.behind) known x.leads
 
     same_map : map_after (operands ++ clause ++ target_rows f target) x.map ≡ map_after (target_rows f target) (map_after clause (map_after operands x.map))
     same_map = passed_split (operands ++ clause) (target_rows f target) x.map ∙ ap (map_after (target_rows f target)) (passed_split operands clause x.map)
@@ -175,71 +181,117 @@ module _ (r : Setup) (kinded : IsKinded r.program) (accepted : IsAccepted r.prog
     abbrev C : Goal
     C = comes_to r.program f x.site x.behind (with_call_target f (Some g) target x.ids)
 
-    -- the site of the callee's body
-    abbrev inner : IsAcceptedFunc r.program g → Frame → Site
-    inner body frame' = record {
-      context = callee_context f (map_after operands x.map) x.ids frame' x.site.context g keys;
-      around = record { jumps = false; returns = true };
-      left = [];
-      breaks = body.0;
-      turns = body.1;
-      outer = first_ids r.program g;
-    }
+    -- the call of a function with a plain clause, whose arguments are handed over
+    module _ (h : Func) (K : HeldMap) (values : List Value) (frame' : Frame) (w' : World) (many : length values ≡ length (argument_types h keys))
+        (now : Agrees r.program f x.site.context K x.ids (handed_values (argument_types h keys) values) frame' w'.objects)
+        (typed : IsTyped r.program f) (typed_callee : IsTyped r.program h) (head : HasHead r.program h) (fits : IsCall r.program f h x.ids keys)
+        (new : IsFreshCall f x.site.context h x.ids keys) (broken : call_target_broken f x.ids h keys target ≡ [])
+        (pass : CanPass (clause_rows r.program f keys h.clause) K)
+        (rows : CanPass (target_rows f target) (map_after (clause_rows r.program f keys h.clause) K))
+        (below : IsBelow (map_after (target_rows f target) (map_after (clause_rows r.program f keys h.clause) K)) x.behind)
+        (same : with_call_target f (Some h) target x.ids ≡ with_call_target f (Some g) target x.ids) where
+      abbrev H : Goal
+      H = goes_to r.program f x.site.context (map_after (target_rows f target) (map_after (clause_rows r.program f keys h.clause) K)) (with_call_target f (Some h) target x.ids) []
 
-    enters_body : (values : List Value) (frame' : Frame) (w' : World) → g.external ≡ false → (many : length values ≡ length types) →
-        (now : Agrees r.program f x.site.context (map_after operands x.map) x.ids (handed_values types values) frame' w'.objects) →
-        (typed : IsTyped r.program f) (typed_callee : IsTyped r.program g) (head : HasHead r.program g) (fits : IsCall r.program f g x.ids keys) →
-        IsFreshCall f x.site.context g x.ids keys → call_target_broken f x.ids g keys target ≡ [] →
-        (pass : CanPass clause (map_after operands x.map)) → CanPass (target_rows f target) (map_after clause (map_after operands x.map)) →
+      onward : (a : Step) → Safe H a → Safe C a
+      onward a safe =
+          weaker H C a (λ fr v now. subst (λ ids. Agrees r.program f x.site.context x.behind ids [] fr v.objects) same (agrees_below below now))
+          (λ c fr v never. absurd never) (λ v kept u never. absurd never) safe
+
+      -- the site of the callee's body
+      abbrev inner : IsAcceptedFunc r.program h → Site
+      inner body = record {
+        context = callee_context f K x.ids frame' x.site.context h keys;
+        around = record { jumps = false; returns = true };
+        left = [];
+        breaks = body.0;
+        turns = body.1;
+        outer = first_ids r.program h;
+      }
+
+      enters_body : IsInstanceOf r.program i h → h.external ≡ false → IsAcceptedFunc r.program h → BreakNone (body_rows r.program h) →
+          Good r n (enter_body r f target keys h values ts frame' w')
+      unfolding enter_body
+      enters_body of internal body unbroken_rows =
+          let site = inner body in
+          by (nat_lt frame'.depth r.depth) _
+          (any_found r n (passed_objects r.program h keys frame' w'.objects h.clause) f ts w' _ (λ ns is.
+          lists_now r n all h h.body (callee_frame h keys values frame') (with_objects w' (handed_over keys frame' h.clause w'.objects))
+          (record {
+            position = i;
+            function = of;
+            site = site;
+            ids = first_ids r.program h;
+            map = start_map r.program h;
+            behind = body.2.1.0;
+            ended = false;
+            here = record {
+              entered = callee_entered h keys values now many fits typed typed_callee head x.here.entered x.here.scoped pass;
+              scoped = callee_scoped h keys values now many fits typed typed_callee head x.here.entered x.here.scoped pass;
+              outer = λ v e. e;
+            };
+            kinded = subst (λ b. BreakNone (if b then [] else stmts_rows r.program h site.around (first_ids r.program h) false h.body)) internal unbroken_rows;
+            leads = body.2.1.1;
+            agrees = callee_agrees h keys values now many fits typed typed_callee head x.here.entered x.here.scoped pass;
+            head = callee_head r.program f now x.here.entered x.here.scoped x.head h keys fits;
+          })
+          (back (record { func = f; frame = frame'; target = target; keys = keys }) ∷ ts)
+          (λ a safe. back_good n r.program f h frame' target keys ts a (λ v kept u left.
+          follows _ (onward _
+          (subst (λ q. Safe H (back_in f target keys h frame' q)) (sym left)
+          (left_safe w' now h keys fits new head typed x.here.entered x.here.scoped pass u
+          (subst (Safe (comes_to r.program h site body.2.1.0 (ids_behind_stmts r.program h h.body (first_ids r.program h)))) left safe).returned target broken rows)))))))
+        where
+          by : (b : Bool) (c : Conf) → Good r n c → Good r n (if b then c else at f ts (ends depth_end w'))
+          by true c good = good
+          by false c good = ended_good r depth_end w' n f ts
+
+      plain_enters : (b : Bool) → (b ≡ true → HasHostHead r.program h) → (b ≡ false → Good r n (enter_body r f target keys h values ts frame' w')) →
+          Good r n (enter_by b r f target keys h values ts frame' w')
+      unfolding enter_by
+      plain_enters true host inside =
+          follows _ (onward _ (externals.each f x.site.context K x.ids frame' w' h keys values target (host refl) typed typed_callee head x.here.entered x.here.scoped fits new broken many now pass rows))
+      plain_enters false host inside = inside refl
+
+    -- that of the instance for the state that the bound entry's object has
+    called_enters : (values : List Value) (frame' : Frame) (w' : World) → length values ≡ length types →
+        Agrees r.program f x.site.context (map_after operands x.map) x.ids (handed_values types values) frame' w'.objects →
+        CanPass clause (map_after operands x.map) → CanPass (target_rows f target) (map_after clause (map_after operands x.map)) →
         IsBelow (map_after (target_rows f target) (map_after clause (map_after operands x.map))) x.behind →
-        Good r n (enter_body r f target keys g values ts frame' w')
-    unfolding enter_body
-    enters_body values frame' w' internal many now typed typed_callee head fits new broken pass rows below =
-        let body = accepted i g known internal in
-        let site = inner body frame' in
-        by (nat_lt frame'.depth r.depth) _
-        (any_found r n (passed_objects r.program g keys frame' w'.objects g.clause) f ts w' _ (λ ns is.
-        lists_now r n all g g.body (callee_frame g keys values frame') (with_objects w' (handed_over keys frame' g.clause w'.objects))
-        (record {
-          position = i;
-          function = known;
-          site = site;
-          ids = first_ids r.program g;
-          map = start_map r.program g;
-          behind = body.2.1.0;
-          ended = false;
-          here = record {
-            entered = callee_entered g keys values now many fits typed typed_callee head x.here.entered x.here.scoped pass;
-            scoped = callee_scoped g keys values now many fits typed typed_callee head x.here.entered x.here.scoped pass;
-            outer = λ v e. e;
-          };
-          kinded = subst (λ b. BreakNone (if b then [] else stmts_rows r.program g site.around (first_ids r.program g) false g.body)) internal (body_kinded r.program i g kinded known);
-          leads = body.2.1.1;
-          agrees = callee_agrees g keys values now many fits typed typed_callee head x.here.entered x.here.scoped pass;
-          head = callee_head r.program f now x.here.entered x.here.scoped x.head g keys fits;
-        })
-        (back (record { func = f; frame = frame'; target = target; keys = keys }) ∷ ts)
-        (λ a safe. back_good n r.program f g frame' target keys ts a (λ v kept u left.
-        follows _ (weaker G C _ (λ fr v now. agrees_below below now) (λ c fr v never. absurd never) (λ v kept u never. absurd never)
-        (subst (λ q. Safe G (back_in f target keys g frame' q)) (sym left)
-        (left_safe w' now g keys fits new head typed x.here.entered x.here.scoped pass u
-        (subst (Safe (comes_to r.program g site body.2.1.0 (ids_behind_stmts r.program g g.body (first_ids r.program g)))) left safe).returned target broken rows)))))))
-      where
-        by : (b : Bool) (c : Conf) → Good r n c → Good r n (if b then c else at f ts (ends depth_end w'))
-        by true c good = good
-        by false c good = ended_good r depth_end w' n f ts
+        Good r n (enter_by g.external r f target keys (called_instance r.program g keys frame' w'.objects) values ts frame' w')
+    called_enters values frame' w' many now pass rows below =
+        let p = r.program in
+        let typed = typed_of functions x.position f x.function in
+        let scoped = x.here.scoped in
+        let head = functions.heads i g known in
+        let meet = functions.meet f typed i g known in
+        let q = narrowed now g keys (is_call target keys args head typed scoped meet unbroken) (functions.bounds i g known) pass in
+        let o = q.origin in
+        let head = head_instance p g o head in
+        let meet = meet_instance p g f o meet in
+        let broken = callee_same p g f x.ids o target keys args ∙ unbroken in
+        let less = passed_below (target_rows f target) _ _ q.below in
+        let rows = can_below (target_rows f target) _ _ q.below rows in
+        let typed_callee = typed_instance p g o (functions.typed i g known) in
+        let fits = is_call target keys args head typed scoped meet broken in
+        let new = is_fresh_too target keys args head typed scoped meet broken in
+        let fit = target_fit target keys args head typed scoped meet broken in
+        let lower = map_trans _ _ _ less below in
+        let same = with_target_same p g f o target x.ids in
+        subst (λ h. Good r n (enter_by g.external r f target keys h values ts frame' w')) (sym q.called)
+        (plain_enters (instance p g o) q.map values frame' w' many q.agrees typed typed_callee head fits new fit q.pass rows lower same
+        g.external (λ e. host_instance p g o (hosts.heads i g known e))
+        (λ e. enters_body (instance p g o) q.map values frame' w' many q.agrees typed typed_callee head fits new fit q.pass rows lower same
+        (record { declared = g; origin = o; at = known; is = refl }) e (accepted i g o known e q.allowed)
+        (subst BreakNone (sym (body_rows_same p g o)) (body_kinded p i g kinded known))))
 
     enters : Good r n (enter r f target keys g args ts frame w)
-    unfolding enter enter_by enter_body
+    unfolding enter
     enters =
-        let typed = functions.typed x.position f x.function in
-        let typed_callee = functions.typed i g known in
+        let typed = typed_of functions x.position f x.function in
         let head = functions.heads i g known in
         let meet = functions.meet f typed i g known in
         let scoped = x.here.scoped in
-        let fits = is_call target keys args head typed scoped meet unbroken in
-        let new = is_fresh_too target keys args head typed scoped meet unbroken in
-        let broken = target_fit target keys args head typed scoped meet unbroken in
         let last = pass_split (operands ++ clause) (target_rows f target) x.map leads.0 in
         let first = pass_split operands clause x.map last.0 in
         let rows = subst (CanPass (target_rows f target)) (passed_split operands clause x.map) last.1 in
@@ -251,18 +303,7 @@ module _ (r : Setup) (kinded : IsKinded r.program) (accepted : IsAccepted r.prog
         (args_long target keys args head typed scoped meet unbroken) (args_fit target keys args head typed scoped meet unbroken) first.0
         (λ values frame' w' many next. record { values = values; frame = frame'; same = refl; holds = (many, next) })))
         (λ values frame' w' ready. any_spend r n f ts w' _
-        (by g.external refl values frame' (record w' { fuel = w'.fuel - 1 }) ready.0 ready.1
-        (λ e. follows _ (weaker G C _ (λ fr v now. agrees_below below now) (λ c fr v never. absurd never) (λ v kept u never. absurd never)
-        (externals.each f x.site.context (map_after operands x.map) x.ids frame' (record w' { fuel = w'.fuel - 1 }) i g keys values target known e typed typed_callee head x.here.entered scoped fits new broken ready.0 ready.1 first.1 rows)))
-        (λ e. enters_body values frame' (record w' { fuel = w'.fuel - 1 }) e ready.0 ready.1 typed typed_callee head fits new broken first.1 rows below))))
-      where
-        by : (b : Bool) → g.external ≡ b → (values : List Value) (frame' : Frame) (w' : World) → length values ≡ length types →
-            Agrees r.program f x.site.context (map_after operands x.map) x.ids (handed_values types values) frame' w'.objects →
-            (g.external ≡ true → Good r n (at f ts (call_external r.heap r.program f target keys g values frame' w'))) →
-            (g.external ≡ false → Good r n (enter_body r f target keys g values ts frame' w')) →
-            Good r n (enter_by b r f target keys g values ts frame' w')
-        by true e values frame' w' many now outside inside = outside e
-        by false e values frame' w' many now outside inside = inside e
+        (called_enters values frame' (record w' { fuel = w'.fuel - 1 }) ready.0 ready.1 first.1 rows below)))
 
   pub call_good : (f : Func) (i : ℕ) (target : Option ℕ) (keys : List ℕ) (args : List Operand) → GoodForm r n f (call i target keys args)
   call_good f i target keys args frame w x ts follows =

@@ -1,3 +1,4 @@
+pub mod Instanced
 mod Keys
 mod OwnNaming
 mod OwnWhole

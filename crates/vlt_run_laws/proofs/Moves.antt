@@ -1,5 +1,5 @@
 -- By the number of moves: all statements that come next are known, where each statement keeps that.
-use Rattle.std.proofs.Common.{◌≡◌, ℕ, zero, suc, Bool, not, List, [], ◌∷◌, Option, Some, ap, subst, slice_get}
+use Rattle.std.proofs.Common.{◌≡◌, ℕ, zero, suc, Bool, not, List, [], ◌∷◌, Option, ap, subst}
 use Rattle.vlt_core.specs.Core.{Form, Stmts, done, next, Func, Program}
 use Rattle.vlt_core.specs.Kinded.{IsKinded}
 use Rattle.vlt_core.specs.Maps.{HeldMap}
@@ -23,9 +23,9 @@ use Rattle.vlt_sound_worlds.proofs.Scoping.{form_scoped}
 use Rattle.vlt_sound_statements.specs.Kinded.{AreKinded}
 use Rattle.vlt_sound_statements.specs.Sites.{Site, comes_to, IsAt}
 use Rattle.vlt_sound_statements.proofs.Unbroken.{none_left, none_right}
-use Rattle.vlt_sound.proofs.Facts.{has_keys}
 use Rattle.vlt_run_laws.specs.Named.{HasNamedHead}
-use Rattle.vlt_run_laws.specs.Known.{IsKnown}
+use Rattle.vlt_run_laws.proofs.Instanced.{keys_of}
+use Rattle.vlt_run_laws.specs.Known.{IsInstanceOf, IsKnown}
 
 -- the statement that comes next, if one does, is known
 abbrev pub Tells : Setup → Conf → Type 0
@@ -43,7 +43,7 @@ Follows r n f ts g = (a : Step) → Safe g a → Good r n (at f ts a)
 -- what is known of statements that come next
 pub record AreKnown (p : Program) (f : Func) (ss : Stmts) (frame : Frame) (w : World) : Type 0 where
   pub position : ℕ
-  pub function : slice_get p.fns position ≡ Some f
+  pub function : IsInstanceOf p position f
   pub site : Site
   pub ids : Ids
   pub map : HeldMap
@@ -161,7 +161,7 @@ module _ (r : Setup) (kinded : IsKinded r.program) {f : Func} {place : ℕ} {for
     ended = ends_list form;
     here = record {
       entered = x.here.entered;
-      scoped = form_scoped r.program (has_keys r.program x.position f kinded x.function) x.site.around form first_row x.here.scoped;
+      scoped = form_scoped r.program (keys_of r.program x.position f kinded x.function) x.site.around form first_row x.here.scoped;
       outer = λ v e. (form_widens r.program f form x.ids).vars v (x.here.outer v e);
     };
     kinded =

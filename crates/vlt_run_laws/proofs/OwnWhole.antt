@@ -1,16 +1,16 @@
 -- Each function of a program that breaks no rule.
-use Rattle.std.proofs.Common.{◌≡◌, ◌≤◌, ◌<◌, ℕ, Bool, true, false, if◌then◌else◌, List, [], length, Some, refl, sym, subst, arith}
-use Rattle.std.specs.Prelude.{nat_lt, nat_le, slice_get}
+use Rattle.std.proofs.Common.{◌≡◌, ◌≤◌, ℕ, Bool, true, false, if◌then◌else◌, List, [], length, Some, refl, sym, subst, arith}
+use Rattle.std.specs.Prelude.{nat_le, slice_get}
 use Rattle.std.proofs.lemmas.Bool.Decides.{nat_tests}
-use Rattle.vlt_core.specs.Core.{done, Func, Program}
-use Rattle.vlt_core.specs.Kinded.{function_rows, IsKinded}
+use Rattle.vlt_core.specs.Core.{Func, Program}
+use Rattle.vlt_core.specs.Kinded.{IsKinded}
 use Rattle.vlt_core.specs.KindedHeads.{head_broken}
 use Rattle.vlt_core.specs.KindedCalls.{keys_fit}
 use Rattle.vlt_core.specs.KindedBodies.{first_ids, stmts_rows, end_broken}
 use Rattle.vlt_core_laws.proofs.Unbroken.{EachEmpty, left_empty}
 use Rattle.vlt_core_laws.proofs.Headed.{function_empty, head_empty, params_fit}
-use Rattle.vlt_tasks.specs.Own.{AreOwn, IsOwnFunc, HasOwn}
-use Rattle.vlt_run_laws.specs.Blank.{HasBlankExternals, HasFewVars}
+use Rattle.vlt_tasks.specs.Own.{AreOwn, HasOwn}
+use Rattle.vlt_run_laws.specs.Blank.{HasNoBounds, HasBlankExternals, HasFewVars}
 use Rattle.vlt_run_laws.proofs.Keys.{few_keys, own_reference}
 use Rattle.vlt_run_laws.proofs.OwnNaming.{own_stmts}
 
@@ -28,8 +28,9 @@ own_body p i f kinded blank at rows = by f.external refl rows
     by true is rows = subst (AreOwn p f) (sym (blank i f at is)) tt
     by false is rows = own_stmts p f (fits p kinded) f.body (record { jumps = false; returns = true }) (first_ids p f) false rows
 
-pub names_own : (p : Program) → IsKinded p → HasFewVars p → HasBlankExternals p → HasOwn p
-names_own p kinded few blank = record {
+pub names_own : (p : Program) → IsKinded p → HasFewVars p → HasBlankExternals p → HasNoBounds p → HasOwn p
+names_own p kinded few blank plain = record {
+  plain = plain;
   all = λ i f at.
       (let x = function_empty p i f kinded at in
       let head = left_empty (head_broken p x.0 f) (end_broken p f) x.1.0 in

@@ -1,5 +1,5 @@
 -- All statements that runs come to are known.
-use Rattle.std.proofs.Common.{◌≡◌, ℕ, zero, suc, true, false, if◌then◌else◌, List, [], ◌∷◌, Some, refl, sym, subst, slice_get}
+use Rattle.std.proofs.Common.{◌≡◌, ℕ, zero, suc, true, false, if◌then◌else◌, List, [], ◌∷◌, Some, None, refl, sym, subst, slice_get}
 use Rattle.vlt_core.specs.Core.{Form, simple, call, choose, loop, switch, focus, scope, return, jump, Stmts, next, Func, Program}
 use Rattle.vlt_core.specs.Kinded.{IsKinded}
 use Rattle.vlt_core.specs.Derives.{start_map, IsAccepted}
@@ -12,17 +12,21 @@ use Rattle.vlt_machine.specs.Machine.{list, Task, Conf, at, first_conf}
 use Rattle.vlt_machine.specs.Reached.{IsReached}
 use Rattle.vlt_sound_worlds.specs.Agrees.{Agrees}
 use Rattle.vlt_sound_calls.specs.Meet.{HasFunctions}
+use Rattle.vlt_core.specs.Instances.{IsOriginOf}
+use Rattle.vlt_sound.proofs.Bounded.{none_bound}
+use Rattle.vlt_sound_calls.specs.ReturnHeads.{HasHosts}
 use Rattle.vlt_sound_calls.specs.Externals.{ExternalsAreSafe}
 use Rattle.vlt_sound_calls.proofs.HostsLaws.{externals_are_safe}
 use Rattle.vlt_sound_calls.proofs.HostResults.{answers_safe}
 use Rattle.vlt_sound_statements.specs.Kinded.{BreakNone}
 use Rattle.vlt_sound.specs.Sizes.{HasSizes}
 use Rattle.vlt_sound.specs.Narrow.{HasNarrowHeads}
-use Rattle.vlt_sound.proofs.Facts.{has_keys, has_cases, body_kinded}
+use Rattle.vlt_sound.proofs.Facts.{body_kinded}
 use Rattle.vlt_sound.proofs.Functions.{has_functions}
 use Rattle.vlt_sound.proofs.HeadsLaws.{has_hosts}
 use Rattle.vlt_sound.proofs.Start.{main_context, main_agrees, main_entered, main_scoped}
 use Rattle.vlt_sound.proofs.Whole.{is_main}
+use Rattle.vlt_run_laws.proofs.Instanced.{typed_of, head_of, keys_of, cases_of}
 use Rattle.vlt_run_laws.specs.Known.{IsKnown, KnowsItsSteps}
 use Rattle.vlt_run_laws.proofs.ReachedNaming.{no_head}
 use Rattle.vlt_run_laws.proofs.Moves.{Good, Tells, GoodForm, AllLists, lists_now, lists_all, tells_all}
@@ -46,37 +50,40 @@ module _ (r : Setup) (kinded : IsKinded r.program) (accepted : IsAccepted r.prog
   functions = has_functions r.program kinded sizes
 
   externals : ExternalsAreSafe r
-  externals = externals_are_safe r (answers_safe r (has_hosts r.program kinded narrow))
+  externals = externals_are_safe r (answers_safe r)
+
+  hosts : HasHosts r.program
+  hosts = has_hosts r.program kinded narrow
 
   forms : (n : ℕ) → AllLists r n → (f : Func) (form : Form) → GoodForm r n f form
   forms n all f (simple s) frame w x ts follows =
-      simple_good r n f (functions.typed x.position f x.function) (has_keys r.program x.position f kinded x.function)
-      (has_cases r.program x.position f kinded filled x.function) s frame w x ts follows
+      simple_good r n f (typed_of functions x.position f x.function) (keys_of r.program x.position f kinded x.function)
+      (cases_of r.program x.position f kinded filled x.function) s frame w x ts follows
   forms n all f (call i target keys args) frame w x ts follows =
-      call_good r kinded accepted functions externals n all f i target keys args frame w x ts follows
-  forms n all f (choose e a b) frame w x ts follows = choose_good r functions.typed n all f e a b frame w x ts follows
-  forms n all f (loop e b) frame w x ts follows = loop_good r functions.typed n all f e b frame w x ts follows
+      call_good r kinded accepted functions hosts externals n all f i target keys args frame w x ts follows
+  forms n all f (choose e a b) frame w x ts follows = choose_good r (typed_of functions) n all f e a b frame w x ts follows
+  forms n all f (loop e b) frame w x ts follows = loop_good r (typed_of functions) n all f e b frame w x ts follows
   forms n all f (switch v arms end) frame w x ts follows =
-      switch_good r n all f (functions.typed x.position f x.function) (has_keys r.program x.position f kinded x.function)
-      (has_cases r.program x.position f kinded filled x.function) v arms end frame w x ts follows
+      switch_good r n all f (typed_of functions x.position f x.function) (keys_of r.program x.position f kinded x.function)
+      (cases_of r.program x.position f kinded filled x.function) v arms end frame w x ts follows
   forms n all f (focus y z b) frame w x ts follows =
-      focus_good r n all f (functions.typed x.position f x.function) (has_keys r.program x.position f kinded x.function) y z b frame w x ts follows
+      focus_good r n all f (typed_of functions x.position f x.function) (keys_of r.program x.position f kinded x.function) y z b frame w x ts follows
   forms n all f (scope b) frame w x ts follows = scope_good r n all f b frame w x ts follows
   forms n all f (return value) frame w x ts follows =
-      return_good r n f (functions.typed x.position f x.function) (has_keys r.program x.position f kinded x.function)
-      (functions.heads x.position f x.function) value frame w x ts follows
+      return_good r n f (typed_of functions x.position f x.function) (keys_of r.program x.position f kinded x.function)
+      (head_of functions x.position f x.function) value frame w x ts follows
   forms n all f (jump c) frame w x ts follows =
-      jump_good r n f (functions.typed x.position f x.function) (has_keys r.program x.position f kinded x.function) c frame w x ts follows
+      jump_good r n f (typed_of functions x.position f x.function) (keys_of r.program x.position f kinded x.function) c frame w x ts follows
 
   first_good : (f : Func) → slice_get r.program.fns r.program.main ≡ Some f → f.external ≡ false → (w : World) → w.objects ≡ [] → (n : ℕ) →
       Good r n (first_conf f (first_frame 1) w)
   first_good f known internal w empty n =
       let m = is_main r.program kinded f known in
-      let body = accepted r.program.main f known internal in
+      let body = accepted r.program.main f None known internal (subst (λ q. IsOriginOf r.program f q None) (sym (none_bound f.clause m.before)) tt) in
       lists_now r n (lists_all r kinded forms n) f f.body (first_frame 1) w
       (record {
         position = r.program.main;
-        function = known;
+        function = record { declared = f; origin = None; at = known; is = refl };
         site = record {
           context = main_context f;
           around = record { jumps = false; returns = true };

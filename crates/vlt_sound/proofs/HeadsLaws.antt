@@ -4,10 +4,10 @@ use Rattle.std.proofs.lemmas.Bool.{cases_Bool, eqb-true, eq-eqb}
 use Rattle.std.proofs.lemmas.Option.{none-some, same_Some}
 use Rattle.std.specs.List.{flat_map}
 use Rattle.std.specs.Option.{option_map}
-use Rattle.vlt_core.specs.Core.{States, Ty, int, bool, tracked, owning, guarded, variant, owning_variant, CaseKey, CaseDecl, TypeDecl, KeyDecl, VarDecl, Entry, Func, Program}
+use Rattle.vlt_core.specs.Core.{States, Ty, int, bool, tracked, owning, guarded, variant, owning_variant, CaseKey, CaseDecl, TypeDecl, KeyDecl, VarDecl, Entry, Func, Program, Mode, up_to}
 use Rattle.vlt_core.specs.Lookups.{VariantOf, variant_in, var_type, key_type, key_type_in, all_states, fields_of, cases_of, case_at, is_new, states_of_type, states_or_all, after_set}
 use Rattle.vlt_core.specs.Types.{decl_of, is_struct, is_abstract, is_variant, header_of, args_of, keys_of_ty, type_in}
-use Rattle.vlt_core.specs.KindedHeads.{Rules, unless, when_some, has, parameters_of, new_keys, own_typings, given_types, are_all, is_only_type, states_broken, entry_broken, names_states, tracked_keys, is_external_payload, is_external_parameter, external_case_broken, external_result_broken, is_declared_result, external_broken, key_broken}
+use Rattle.vlt_core.specs.KindedHeads.{Rules, unless, when_some, has, parameters_of, new_keys, own_typings, given_types, are_all, is_only_type, states_broken, entry_broken, names_states, tracked_keys, is_external_payload, is_external_parameter, external_case_broken, external_result_broken, is_declared_result, external_broken, key_broken, state_broken}
 use Rattle.vlt_core.specs.declared.rules.TheConstants as rule
 use Rattle.vlt_core.specs.Kinded.{IsKinded}
 use Rattle.vlt_sound_worlds.specs.Members.{In}
@@ -72,11 +72,15 @@ abbrev is_there : Option TypeDecl → Bool
 is_there None = false
 is_there (Some t) = true
 
-abbrev entry_types : Program → Entry → List ℕ → Rules
+abbrev pub bound_states : Program → (type : ℕ) → Mode → Rules
+bound_states p t (up_to b) = state_broken p t b
+bound_states p t m = []
+
+abbrev pub entry_types : Program → Entry → List ℕ → Rules
 entry_types p e [] = unless (not (names_states e)) rule.STATES_UNTYPED
 entry_types p e (t ∷ ts) =
     if are_all t ts
-    then when_some (decl_of p t) (λ d. when_some e.before (states_broken p t) ++ when_some e.after (states_broken p t))
+    then when_some (decl_of p t) (λ d. when_some e.before (states_broken p t) ++ when_some e.after (states_broken p t) ++ bound_states p t e.mode)
     else []
 
 module _ (p : Program) (n : ℕ) (f : Func) (kinded : IsKinded p) (narrow : IsNarrowHead p f) (at : slice_get p.fns n ≡ Some f)
@@ -162,26 +166,27 @@ module _ (p : Program) (n : ℕ) (f : Func) (kinded : IsKinded p) (narrow : IsNa
       there : (d : TypeDecl) × (decl_of p t ≡ Some d)
       there = type_known e.key t type
 
-      of_type : when_some (decl_of p t) (λ d. when_some e.before (states_broken p t) ++ when_some e.after (states_broken p t)) ≡ [] →
+      of_type : when_some (decl_of p t) (λ d. when_some e.before (states_broken p t) ++ when_some e.after (states_broken p t) ++ bound_states p t e.mode) ≡ [] →
           states_broken p t states ≡ []
       of_type e' =
-          let r = subst (λ o. when_some o (λ d. when_some e.before (states_broken p t) ++ when_some e.after (states_broken p t)) ≡ [])
+          let r = subst (λ o. when_some o (λ d. when_some e.before (states_broken p t) ++ when_some e.after (states_broken p t) ++ bound_states p t e.mode) ≡ [])
           there.1 e' in
           subst (λ o. when_some o (states_broken p t) ≡ []) after
-          (both_empty (when_some e.before (states_broken p t)) (when_some e.after (states_broken p t)) r).1
+          (both_empty (when_some e.before (states_broken p t)) (when_some e.after (states_broken p t))
+          (both_empty (when_some e.before (states_broken p t) ++ when_some e.after (states_broken p t)) (bound_states p t e.mode) r).0).1
 
       by : (us : List ℕ) → listed_agrees (Some t) us ≡ [] → entry_types p e us ≡ [] → states_broken p t states ≡ []
       by [] l r = absurd (none_broken _ _ l)
       by (u ∷ us) l r = case (are_all u us) l r
         where
           case : (b : Bool) → (if b then unless (t == u) rule.WRONG_TYPE else rule.TWO_KEY_TYPES ∷ []) ≡ [] →
-              (if b then when_some (decl_of p u) (λ d. when_some e.before (states_broken p u) ++ when_some e.after (states_broken p u))
+              (if b then when_some (decl_of p u) (λ d. when_some e.before (states_broken p u) ++ when_some e.after (states_broken p u) ++ bound_states p u e.mode)
               else []) ≡ [] →
               states_broken p t states ≡ []
           case true l r =
               let same : t ≡ u = eqb-true t u (unless_so (t == u) rule.WRONG_TYPE l) in
               of_type
-              (subst (λ u. when_some (decl_of p u) (λ d. when_some e.before (states_broken p u) ++ when_some e.after (states_broken p u)) ≡ [])
+              (subst (λ u. when_some (decl_of p u) (λ d. when_some e.before (states_broken p u) ++ when_some e.after (states_broken p u) ++ bound_states p u e.mode) ≡ [])
               (sym same) r)
           case false l r = absurd (none_broken _ _ l)
 

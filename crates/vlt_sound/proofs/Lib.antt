@@ -9,6 +9,7 @@ pub mod Vars
 pub mod Facts
 pub mod Meeting
 pub mod HeadsDeclared
+pub mod Bounded
 pub mod Functions
 pub mod ExternsDeclared
 pub mod HeadsLaws

@@ -4,7 +4,7 @@ use Rattle.std.proofs.lemmas.Bool.{eqb-true, eq-eqb}
 use Rattle.std.proofs.lemmas.Option.{none-some, same_Some}
 use Rattle.std.specs.List.{flat_map, enumerate_from}
 use Rattle.vlt_core.specs.Core.{TypeDecl, Func, Program}
-use Rattle.vlt_core.specs.KindedHeads.{Rules, unless, has, type_rows}
+use Rattle.vlt_core.specs.KindedHeads.{Rules, unless, has, set_broken, type_rows}
 use Rattle.vlt_core.specs.declared.rules.TheConstants as rule
 use Rattle.vlt_core.specs.Kinded.{has_main, function_rows, first_broken, least_of, IsKinded}
 use Rattle.vlt_sound_worlds.specs.Members.{In}
@@ -80,7 +80,7 @@ first_none n ((r ∷ rs) ∷ rows) e = absurd (none-some (n, least_of r rs) (sym
 
 module _ (p : Program) (kinded : IsKinded p) where
   abbrev head_rows : List Rules
-  head_rows = unless (has_main p) rule.NO_MAIN ∷ map (λ d. []) p.sets
+  head_rows = unless (has_main p) rule.NO_MAIN ∷ map set_broken p.sets
 
   abbrev all_types : List Rules
   all_types = flat_map (λ q. type_rows p q.0 q.1) (enumerate_from 0 p.types)

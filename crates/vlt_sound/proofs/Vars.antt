@@ -7,7 +7,7 @@ use Rattle.std.specs.Option.{option_map}
 use Rattle.vlt_core.specs.Core.{Ty, int, bool, tracked, owning, guarded, variant, owning_variant, KeyDecl, VarDecl, Entry, Func, Program}
 use Rattle.vlt_core.specs.Lookups.{var_type, key_type, key_type_in, is_new}
 use Rattle.vlt_core.specs.Types.{keys_of_ty, type_in, args_of}
-use Rattle.vlt_core.specs.KindedHeads.{Rules, unless, when_some, has, are_apart, parameters_of, keys_of_parameters, new_keys, keys_of_result, head_keys, Typing, own_typings, typings, types_at, given_types, is_left_out, are_all, is_only_type, argument_broken, reference_broken, type_broken, key_broken, entry_broken, is_key_of_result, new_key_broken, result_broken, external_broken, is_main_head, listed_broken, head_broken}
+use Rattle.vlt_core.specs.KindedHeads.{Rules, unless, when_some, has, are_apart, parameters_of, keys_of_parameters, new_keys, keys_of_result, head_keys, Typing, own_typings, typings, types_at, given_types, is_left_out, are_all, is_only_type, argument_broken, reference_broken, type_broken, key_broken, entry_broken, is_key_of_result, new_key_broken, result_broken, external_broken, is_main_head, listed_broken, head_broken, is_bound_entry}
 use Rattle.vlt_core.specs.declared.rules.TheConstants as rule
 use Rattle.vlt_core.specs.Kinded.{IsKinded}
 use Rattle.vlt_core.specs.KindedBodies.{end_broken}
@@ -30,6 +30,7 @@ pub record HeadKinded (p : Program) (f : Func) : Type 0 where
   pub entries : flat_map (entry_broken p f) f.clause ≡ []
   pub result : result_broken f ≡ []
   pub external : (if f.external then external_broken p f else []) ≡ []
+  pub bounds : unless (nat_le (length (filter is_bound_entry f.clause)) 1) rule.SECOND_BOUND ≡ []
 
 pub head_kinded : (p : Program) (g : ℕ) (f : Func) → IsKinded p → slice_get p.fns g ≡ Some f → HeadKinded p f
 head_kinded p g f kinded at =
@@ -44,7 +45,9 @@ head_kinded p g f kinded at =
     let G = result_broken f in
     let H = if f.external then external_broken p f else [] in
     let M = if g == p.main then unless (is_main_head f) rule.MAIN_HEAD else [] in
-    let e8 = both_empty (A ++ B ++ C ++ D ++ E ++ F ++ G ++ H) M e in
+    let N = unless (nat_le (length (filter is_bound_entry f.clause)) 1) rule.SECOND_BOUND in
+    let e9 = both_empty (A ++ B ++ C ++ D ++ E ++ F ++ G ++ H ++ M) N e in
+    let e8 = both_empty (A ++ B ++ C ++ D ++ E ++ F ++ G ++ H) M e9.0 in
     let e7 = both_empty (A ++ B ++ C ++ D ++ E ++ F ++ G) H e8.0 in
     let e6 = both_empty (A ++ B ++ C ++ D ++ E ++ F) G e7.0 in
     let e5 = both_empty (A ++ B ++ C ++ D ++ E) F e6.0 in
@@ -61,6 +64,7 @@ head_kinded p g f kinded at =
       entries = e5.1;
       result = e6.1;
       external = e7.1;
+      bounds = e9.1;
     }
 
 -- ---- copies of what rules say inside, by their clauses

@@ -1,12 +1,15 @@
 -- Whole runs of programs that break no rule and are accepted.
-use Rattle.std.proofs.Common.{◌≡◌, ◌⊎◌, inl, inr, ⊎_elim, ℕ, zero, suc, ◌==◌, ◌+◌, Bool, true, false, ◌&&◌, not, if◌then◌else◌, List, [], ◌∷◌, ◌++◌, map, Option, Some, None, refl, sym, ap, ◌∙◌, subst, arith, slice_get}
+use Rattle.std.proofs.Common.{◌≡◌, ◌⊎◌, inl, inr, ⊎_elim, ℕ, zero, suc, ◌==◌, ◌+◌, nat_le, length, Bool, true, false, ◌&&◌, not, if◌then◌else◌, List, [], ◌∷◌, ◌++◌, map, Option, Some, None, refl, sym, ap, ◌∙◌, subst, arith, slice_get}
 use Rattle.std.proofs.lemmas.Bool.{eqb-true, eq-eqb}
 use Rattle.std.proofs.lemmas.Option.{none-some, same_Some}
+use Rattle.std.specs.Prelude.{filter}
 use Rattle.std.specs.List.{flat_map, enumerate_from}
-use Rattle.vlt_core.specs.Core.{Ty, int, bool, tracked, owning, guarded, variant, owning_variant, Mode, kept, taken, given, fresh, Entry, Func, Program}
+use Rattle.vlt_core.specs.Core.{Ty, int, bool, tracked, owning, guarded, variant, owning_variant, Mode, kept, taken, given, fresh, up_to, Entry, Func, Program}
 use Rattle.vlt_core.specs.Lookups.{is_before, is_fresh, is_held_before, is_new}
+use Rattle.vlt_core.specs.Instances.{IsOriginOf}
 use Rattle.vlt_core.specs.Derives.{start_map, IsAccepted}
-use Rattle.vlt_core.specs.KindedHeads.{Rules, unless, type_rows, is_main_head, head_broken}
+use Rattle.vlt_sound.proofs.Bounded.{none_bound}
+use Rattle.vlt_core.specs.KindedHeads.{Rules, unless, set_broken, is_bound_entry, type_rows, is_main_head, head_broken}
 use Rattle.vlt_core.specs.Kinded.{has_main, rows_broken, function_rows, IsKinded}
 use Rattle.vlt_core.specs.KindedBodies.{first_ids, end_broken}
 use Rattle.vlt_core.specs.declared.rules.TheConstants as rule
@@ -49,7 +52,7 @@ each_at p from (suc i) (x ∷ fs) f e at =
 
 no_rows_before : (p : Program) → List Rules
 no_rows_before p =
-    unless (has_main p) rule.NO_MAIN ∷ map (λ d. []) p.sets ++
+    unless (has_main p) rule.NO_MAIN ∷ map set_broken p.sets ++
     flat_map (λ q. type_rows p q.0 q.1) (enumerate_from 0 p.types)
 
 module _ (p : Program) (kinded : IsKinded p) where
@@ -75,7 +78,8 @@ module _ (p : Program) (kinded : IsKinded p) where
 
   main_head : (f : Func) → slice_get p.fns p.main ≡ Some f → is_main_head f ≡ true
   main_head f at =
-      let last = right_empty _ (if (0 + p.main) == p.main then unless (is_main_head f) rule.MAIN_HEAD else []) (main_row f at) in
+      let before = left_empty _ (unless (nat_le (length (filter is_bound_entry f.clause)) 1) rule.SECOND_BOUND) (main_row f at) in
+      let last = right_empty _ (if (0 + p.main) == p.main then unless (is_main_head f) rule.MAIN_HEAD else []) before in
       let here : ((0 + p.main) == p.main) ≡ true = eq-eqb (0 + p.main) p.main (omega arith) in
       unless_holds (is_main_head f) rule.MAIN_HEAD
       (subst (λ b. (if b then unless (is_main_head f) rule.MAIN_HEAD else []) ≡ []) here last)
@@ -85,6 +89,7 @@ module _ (p : Program) (kinded : IsKinded p) where
     where
       by : (m : Mode) → is_fresh m ≡ true → is_before m ≡ false
       by kept t = cc
+      by (up_to u) t = cc
       by taken t = cc
       by given t = cc
       by fresh t = refl
@@ -143,7 +148,8 @@ module _ (p : Program) (kinded : IsKinded p) (accepted : IsAccepted p) (sizes : 
       Safe (returns_to p f (main_context f)) (main_run setup fuel (Some f) w)
   main_safe f at =
       let m = is_main p kinded f at in
-      (level p heap depth kinded accepted sizes filled narrow (suc fuel)).callees.each p.main f (main_context f) (first_frame 1) w at m.body
+      (level p heap depth kinded accepted sizes filled narrow (suc fuel)).callees.each p.main f None at m.body
+      (subst (λ q. IsOriginOf p f q None) (sym (none_bound f.clause m.before)) tt) (main_context f) (first_frame 1) w
       (main_entered p f m) (main_scoped p f m)
       (subst (λ os. Agrees p f (main_context f) (start_map p f) (first_ids p f) [] (first_frame 1) os) (sym empty) (main_agrees p f m))
 

@@ -1,13 +1,12 @@
 -- A callee has left, and its caller goes on.
-use Rattle.std.proofs.Common.{◌≡◌, ◌⊎◌, inl, inr, ⊎_elim, ℕ, suc, ◌<◌, ◌≤◌, Bool, true, false, nat_lt, ◌||◌, not, if◌then◌else◌, IsTrue, List, [], ◌∷◌, map, filter, length, Option, Some, None, refl, sym, ap, ◌∙◌, subst, arith, slice_get}
+use Rattle.std.proofs.Common.{◌≡◌, inl, inr, ⊎_elim, ℕ, suc, ◌<◌, ◌≤◌, Bool, true, false, nat_lt, ◌||◌, not, if◌then◌else◌, IsTrue, List, [], ◌∷◌, length, Option, Some, None, refl, sym, ap, ◌∙◌, subst, arith}
 use Rattle.std.proofs.lemmas.Bool.{cases_eq, cases_Bool}
 use Rattle.std.proofs.lemmas.Option.{same_Some}
-use Rattle.vlt_core.specs.Core.{States, Ty, tracked, a_key, a_var, Mode, kept, taken, given, fresh, Entry, Func, Program}
+use Rattle.vlt_core.specs.Core.{States, tracked, a_key, a_var, Mode, kept, taken, given, fresh, up_to, Entry, Func, Program}
 use Rattle.vlt_core.specs.Lookups.{is_owning_var, key_type, states_or_all, states_of_type, is_before, is_after, is_held_before, is_held_after, is_new}
-use Rattle.vlt_core.specs.Types.{keys_of_ty, stands_for, with_keys}
+use Rattle.vlt_core.specs.Types.{stands_for}
 use Rattle.vlt_core.specs.Maps.{Status, absent, held, lent, full, kind_of, is_absent, HeldMap, IsWanted, wants_absent, becomes_held, becomes_absent, status_after, CanPass, map_after}
-use Rattle.vlt_core.specs.Rows.{held_in, entry_wanted, entry_after, clause_rows}
-use Rattle.vlt_core.specs.KindedHeads.{has, new_keys, keys_of_parameters, keys_of_result}
+use Rattle.vlt_core.specs.Rows.{held_in, clause_rows}
 use Rattle.vlt_core.specs.KindedScopes.{Ids}
 use Rattle.vlt_meaning.specs.World as world
 use Rattle.vlt_meaning.specs.World.{Value, Owner, gone, objects_in, Object, Frame, World}
@@ -18,26 +17,25 @@ use Rattle.vlt_sound_worlds.specs.Look.{look}
 use Rattle.vlt_sound_worlds.proofs.Look.{live_within}
 use Rattle.vlt_sound_worlds.specs.Members.{In}
 use Rattle.vlt_sound_worlds.specs.Placed.{IsPlaced}
-use Rattle.vlt_sound_worlds.specs.Roots.{owned_by, content, home, owner_of}
+use Rattle.vlt_sound_worlds.specs.Roots.{content, home, owner_of}
 use Rattle.vlt_sound_worlds.proofs.Members.{in_or_not}
 use Rattle.vlt_sound_worlds.specs.Keys.{IsOfType, KeyAgrees, IsUnder, SameUnder}
 use Rattle.vlt_sound_worlds.proofs.KeysLaws.{key_kept, key_held, none_under}
 use Rattle.vlt_sound_worlds.specs.Scene.{Scene}
-use Rattle.vlt_sound_worlds.specs.Fits.{Fits}
-use Rattle.vlt_sound_worlds.proofs.Fits.{fits_named, fits_before}
+use Rattle.vlt_sound_worlds.proofs.Fits.{fits_named}
 use Rattle.vlt_sound_worlds.specs.Scopes.{NonePins}
-use Rattle.vlt_sound_worlds.specs.Agrees.{HasVar, VarsFit, VarsAgree, Handed, values_of, FitHanded, Waiting, Pin, PinsAgree, Context, WaitsWell, scene, stock, Agrees}
+use Rattle.vlt_sound_worlds.specs.Agrees.{HasVar, VarsFit, Handed, values_of, FitHanded, Waiting, Pin, PinsAgree, Context, WaitsWell, scene, Agrees}
 use Rattle.vlt_sound_worlds.specs.Typed.{IsTyped}
 use Rattle.vlt_sound_worlds.proofs.Kept.{vars_kept, handed_kept, waits_kept}
 use Rattle.vlt_sound_worlds.proofs.Leaving.{key_same, var_is_no_key}
 use Rattle.vlt_sound_worlds.specs.Scoped.{IsKeyInScope, IsScoped}
-use Rattle.vlt_sound_calls.specs.Returned.{is_lasting, IsEntered, IsKept, AreKept, FitsResult, Returned}
+use Rattle.vlt_sound_calls.specs.Returned.{is_lasting, IsEntered, IsKept, FitsResult, Returned}
 use Rattle.vlt_sound_calls.specs.Heads.{HasHead}
 use Rattle.vlt_sound_calls.proofs.Contexts.{kept_held}
 use Rattle.vlt_sound_calls.specs.Callee.{Among, AreApartBy, caller_key, IsParamKey, IsCall, without, with_waiting, callee_context}
 use Rattle.vlt_sound_calls.proofs.Entries.{same_entry, Sought, sought}
 use Rattle.vlt_sound_calls.proofs.ClauseRows.{AreThere, clause_wanted, clause_here, clause_other, without_here, without_other}
-use Rattle.vlt_sound_calls.proofs.Rekeyed.{Rekeyed, state_same, type_same, rekeyed_grows, rekeyed_states, rekeyed_objects, rekeyed_adopted, rekeyed_placed, rekeyed_ranked, rekeyed_foci}
+use Rattle.vlt_sound_calls.proofs.Rekeyed.{Rekeyed, rekeyed_grows, rekeyed_states, rekeyed_objects, rekeyed_adopted, rekeyed_placed, rekeyed_ranked, rekeyed_foci}
 use Rattle.vlt_sound_calls.proofs.Parameters.{waiting_here, waiting_other}
 use Rattle.vlt_sound_calls.proofs.Typing.{keys_typed}
 use Rattle.vlt_sound_calls.proofs.Begins.{states_fit}
@@ -54,6 +52,7 @@ absent_is full e = cc
 -- each entry is held before, or after
 before_or_after : (m : Mode) → is_before m ≡ false → is_after m ≡ false → ⊥
 before_or_after kept b a = cc
+before_or_after (up_to u) b a = cc
 before_or_after taken b a = cc
 before_or_after given b a = cc
 before_or_after fresh b a = cc

@@ -3,7 +3,7 @@ use Rattle.std.proofs.Common.{◌≡◌, ◌⊎◌, inl, inr, ⊎_elim, ℕ, ℤ
 use Rattle.std.proofs.lemmas.Bool.{cases_Bool}
 use Rattle.std.proofs.lemmas.Option.{none-some}
 use Rattle.std.specs.List.{zip}
-use Rattle.vlt_core.specs.Core.{States, Ty, int, bool, tracked, owning, guarded, variant, owning_variant, Mode, kept, taken, given, fresh, Entry, Func, Program}
+use Rattle.vlt_core.specs.Core.{States, Ty, int, bool, tracked, owning, guarded, variant, owning_variant, Mode, kept, taken, given, fresh, up_to, Entry, Func, Program}
 use Rattle.vlt_core.specs.Lookups.{VariantOf, key_type, variant_in, is_before, is_after, is_fresh, is_held_after, is_new, states_of_type, states_or_all}
 use Rattle.vlt_core.specs.Types.{stands_for}
 use Rattle.vlt_core.specs.Maps.{HeldMap, CanPass, map_after}
@@ -43,7 +43,7 @@ use Rattle.vlt_sound_calls.proofs.Telling.{agrees_told}
 use Rattle.vlt_sound_calls.specs.ReturnGiven.{IsGiven}
 use Rattle.vlt_sound_calls.proofs.DeliveredLaws.{delivered}
 use Rattle.vlt_sound_calls.proofs.PiecesLaws.{number_safe, new_safe}
-use Rattle.vlt_sound_calls.specs.ReturnHeads.{HasHostHead, HasHosts}
+use Rattle.vlt_sound_calls.specs.ReturnHeads.{HasHostHead}
 use Rattle.vlt_sound_calls.specs.TakenOver as over
 use Rattle.vlt_sound_calls.specs.TakenOver.{AreTakenOver, NamesObject}
 use Rattle.vlt_sound_calls.proofs.TakenOver.{same_ok, taken_over, over_all}
@@ -112,6 +112,7 @@ module _ (p : Program) (heap : ℕ) (f : Func) (c : Context) (h : HeldMap) (ids 
         where
           by : (m : Mode) → (not (is_before m) && not (is_fresh m)) ≡ true → is_after m ≡ true
           by kept q = cc
+          by (up_to u) q = cc
           by taken q = cc
           by given q = refl
           by fresh q = cc
@@ -121,6 +122,7 @@ module _ (p : Program) (heap : ℕ) (f : Func) (c : Context) (h : HeldMap) (ids 
         where
           by : (m : Mode) → (not (is_before m) && not (is_fresh m)) ≡ true → is_fresh m ≡ true → ⊥
           by kept q t = cc
+          by (up_to u) q t = cc
           by taken q t = cc
           by given q t = cc
           by fresh q t = cc
@@ -373,11 +375,11 @@ module _ (p : Program) (heap : ℕ) (f : Func) (c : Context) (h : HeldMap) (ids 
           let fit = fitted p g keys frame numbers w.objects q is in
           result_safe q fit g.result q.answer.result refl refl (said q fit).result
 
-pub answers_safe : (r : Setup) → HasHosts r.program → AnswersAreSafe r
-answers_safe r hosts = record {
-  each = λ f c h ids frame w i g keys numbers target known external typed typed_callee head entered scoped call new broken agrees
+pub answers_safe : (r : Setup) → AnswersAreSafe r
+answers_safe r = record {
+  each = λ f c h ids frame w g keys numbers target host typed typed_callee head entered scoped call new broken agrees
       named pass rows.
-      answer_safe r.program r.heap f c h ids frame w g keys numbers target (hosts.heads i g known external) typed head entered scoped
+      answer_safe r.program r.heap f c h ids frame w g keys numbers target host typed head entered scoped
       call new
       broken agrees named pass rows;
 }

@@ -1,5 +1,5 @@
 -- Calls of externals are safe where answers are.
-use Rattle.std.proofs.Common.{◌≡◌, ⊎_elim, inl, inr, ℕ, ◌+◌, ◌<◌, ℤ, true, List, [], ◌∷◌, ◌++◌, length, map, filter, Option, Some, refl, sym, ap, ◌∙◌, subst, arith, slice_get}
+use Rattle.std.proofs.Common.{◌≡◌, ⊎_elim, inl, inr, ℕ, ◌+◌, ◌<◌, ℤ, true, List, [], ◌∷◌, ◌++◌, length, map, filter, Option, Some, refl, sym, ap, ◌∙◌, subst, arith}
 use Rattle.std.specs.List.{flat_map}
 use Rattle.vlt_core.specs.Core.{Ty, int, bool, tracked, owning, guarded, variant, owning_variant, a_key, a_var, Entry, Func, Program}
 use Rattle.vlt_core.specs.Types.{stands_for, with_keys}
@@ -32,6 +32,7 @@ use Rattle.vlt_sound_worlds.proofs.Binding.{first_or_other}
 use Rattle.vlt_sound_worlds.specs.Handed.{handed_values}
 use Rattle.vlt_sound_worlds.specs.Moved.{ArePassing, IsMoved}
 use Rattle.vlt_sound_worlds.proofs.Moved.{moved_all, moved_safe}
+use Rattle.vlt_sound_calls.specs.ReturnHeads.{HasHostHead}
 use Rattle.vlt_sound_calls.specs.Returned.{IsEntered}
 use Rattle.vlt_sound_calls.specs.Heads.{HasHead}
 use Rattle.vlt_sound_calls.specs.Callee.{AreApartBy, IsCall, caller_key}
@@ -167,8 +168,8 @@ module _ {p : Program} {f : Func} {c : Context} {h : HeldMap} {ids : Ids} {hand 
   agrees_out = agrees_sent agrees (map (caller_key keys) taken_ones) (xs ++ values_of hand) all_sent
 
 module _ (r : Setup) (answers : AnswersAreSafe r) (f : Func) (c : Context) (h : HeldMap) (ids : Ids) (frame : Frame) (w : World)
-    (i : ℕ) (g : Func) (keys : List ℕ) (values : List Value) (target : Option ℕ)
-    (known : slice_get r.program.fns i ≡ Some g) (external : g.external ≡ true) (typed : IsTyped r.program f)
+    (g : Func) (keys : List ℕ) (values : List Value) (target : Option ℕ)
+    (host : HasHostHead r.program g) (typed : IsTyped r.program f)
     (typed_callee : IsTyped r.program g) (head : HasHead r.program g) (entered : IsEntered r.program f c) (scoped : IsScoped f c ids)
     (fits : IsCall r.program f g ids keys) (new : IsFreshCall f c g ids keys) (broken : call_target_broken f ids g keys target ≡ [])
     (long : length values ≡ length (map (with_keys keys) (parameters_of g)))
@@ -210,7 +211,7 @@ module _ (r : Setup) (answers : AnswersAreSafe r) (f : Func) (c : Context) (h : 
       (subst (λ ns. Safe goal (with_moved is_loose out ns (with_objects w2 first.objects) (λ w. answer_step r.heap r.program f target keys g numbers frame w)))
       these
       (moved_safe goal is_loose out (values_of (handed_values types values)) (with_objects w2 first.objects) _ moved2
-      (answers.each f c h ids frame (with_objects (with_objects w2 first.objects) moved2.objects) i g keys numbers target known external typed
+      (answers.each f c h ids frame (with_objects (with_objects w2 first.objects) moved2.objects) g keys numbers target host typed
       typed_callee head entered scoped fits new broken (agrees_out now keys g fits.callers all first moved2) (params_named now) pass rows)))
 
   external_safe : Safe goal (call_external r.heap r.program f target keys g values frame w)
@@ -222,6 +223,6 @@ module _ (r : Setup) (answers : AnswersAreSafe r) (f : Func) (c : Context) (h : 
 
 pub externals_are_safe : (r : Setup) → AnswersAreSafe r → ExternalsAreSafe r
 externals_are_safe r answers = record {
-  each = λ f c h ids frame w i g keys values target known external typed typed_callee head entered scoped fits new broken long agrees pass rows.
-      external_safe r answers f c h ids frame w i g keys values target known external typed typed_callee head entered scoped fits new broken long agrees pass rows;
+  each = λ f c h ids frame w g keys values target host typed typed_callee head entered scoped fits new broken long agrees pass rows.
+      external_safe r answers f c h ids frame w g keys values target host typed typed_callee head entered scoped fits new broken long agrees pass rows;
 }

@@ -2,6 +2,8 @@ pub mod Contexts
 pub mod Entries
 pub mod Rekeyed
 pub mod ClauseRows
+pub mod Narrowing
+pub mod Instanced
 pub mod Over
 pub mod Parameters
 pub mod Typing

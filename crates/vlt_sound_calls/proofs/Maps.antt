@@ -1,6 +1,6 @@
 -- What the held map says of each key once an answer's keys have come back and have their states.
 use Rattle.std.proofs.Common.{◌≡◌, inl, inr, ⊎_elim, ℕ, Bool, true, false, ◌&&◌, not, if◌then◌else◌, List, [], ◌∷◌, filter, Option, Some, None, refl, sym, ap, ◌∙◌, subst}
-use Rattle.vlt_core.specs.Core.{States, Tok, a_key, a_var, Mode, kept, taken, given, fresh, Entry, Func, Program}
+use Rattle.vlt_core.specs.Core.{States, Tok, a_key, a_var, Mode, kept, taken, given, fresh, up_to, Entry, Func, Program}
 use Rattle.vlt_core.specs.Lookups.{is_before, is_after, is_fresh, is_held_before, is_held_after, is_new, states_or_all}
 use Rattle.vlt_core.specs.Maps as maps
 use Rattle.vlt_core.specs.Maps.{Status, absent, held, kind_of, is_absent, states_of, HeldMap, IsWanted, wants_absent, After, becomes_absent, becomes_held, status_after, row_passed, CanPass, map_after}
@@ -142,12 +142,14 @@ module _ (p : Program) (f g : Func) (keys : List ℕ) (there : AreThere keys g.c
     where
       of_mode : (m : Mode) → (not (is_before m) && not (is_fresh m)) ≡ true → (is_before m && not (is_after m)) ≡ false
       of_mode kept q = refl
+      of_mode (up_to u) q = refl
       of_mode taken q = cc
       of_mode given q = refl
       of_mode fresh q = cc
 
       of_given : (m : Mode) → (not (is_before m) && not (is_fresh m)) ≡ true → is_before m ≡ false
       of_given kept q = cc
+      of_given (up_to u) q = cc
       of_given taken q = cc
       of_given given q = refl
       of_given fresh q = refl
@@ -170,6 +172,13 @@ module _ (p : Program) (f g : Func) (keys : List ℕ) (there : AreThere keys g.c
 
       by : (m : Mode) → e.mode ≡ m → IsHeldAt back (caller_key keys e)
       by kept q = record {
+        states = states_of (h (at keys e));
+        is =
+            came_own e both.0 (ap (λ m. not (is_before m) && not (is_fresh m)) q) ∙
+            (sent_own e both.0 (ap (λ m. is_before m && not (is_after m)) q) ∙
+            held_is (h (at keys e)) (held_kind e (h (at keys e)) (ap is_before q) (wanted e both.0)));
+      }
+      by (up_to u) q = record {
         states = states_of (h (at keys e));
         is =
             came_own e both.0 (ap (λ m. not (is_before m) && not (is_fresh m)) q) ∙
@@ -208,6 +217,7 @@ module _ (p : Program) (f g : Func) (keys : List ℕ) (there : AreThere keys g.c
     where
       by : (m : Mode) → e.mode ≡ m → now (at keys e) ≡ behind (at keys e)
       by kept q = told_now e i (ap is_after q) (ap is_fresh q) ∙ sym (behind_after e i (ap is_after q))
+      by (up_to u) q = told_now e i (ap is_after q) (ap is_fresh q) ∙ sym (behind_after e i (ap is_after q))
       by given q = told_now e i (ap is_after q) (ap is_fresh q) ∙ sym (behind_after e i (ap is_after q))
       by taken q =
           told_own e i (λ d same after none. false_true (sym (ap is_after q) ∙ (ap is_held_after (sym same) ∙ after))) ∙
@@ -249,6 +259,7 @@ module _ (p : Program) (f g : Func) (keys : List ℕ) (there : AreThere keys g.c
     where
       fresh_is : (m : Mode) → is_fresh m ≡ true → (go : Mode → Bool) → go fresh ≡ false → go m ≡ false
       fresh_is kept q go r = cc
+      fresh_is (up_to u) q go r = cc
       fresh_is taken q go r = cc
       fresh_is given q go r = cc
       fresh_is fresh q go r = r
@@ -263,6 +274,7 @@ module _ (p : Program) (f g : Func) (keys : List ℕ) (there : AreThere keys g.c
     where
       after_fresh : (m : Mode) → is_fresh m ≡ true → is_after m ≡ true
       after_fresh kept q = cc
+      after_fresh (up_to u) q = cc
       after_fresh taken q = cc
       after_fresh given q = cc
       after_fresh fresh q = refl

@@ -1,14 +1,13 @@
 -- What a call gives fits the variable that it is for.
-use Rattle.std.proofs.Common.{◌≡◌, ◌⊎◌, inl, inr, ⊎_elim, ℕ, ◌<◌, ◌==◌, nat_lt, Bool, true, false, ◌&&◌, ◌||◌, not, if◌then◌else◌, List, [], ◌∷◌, ◌++◌, map, filter, length, Option, Some, None, refl, sym, ap, ◌∙◌, subst, slice_get}
+use Rattle.std.proofs.Common.{◌≡◌, ◌⊎◌, inl, inr, ⊎_elim, ℕ, ◌<◌, ◌==◌, nat_lt, Bool, true, false, ◌&&◌, ◌||◌, not, if◌then◌else◌, List, [], ◌∷◌, map, filter, length, Option, Some, None, refl, sym, ap, subst}
 use Rattle.std.proofs.lemmas.Bool.{cases_Bool, lt-ltb, eqb-true, eq-eqb}
-use Rattle.std.proofs.lemmas.Option.{slice_get_within}
 use Rattle.std.specs.List.{list_all}
-use Rattle.vlt_core.specs.Core.{States, Ty, int, bool, tracked, owning, guarded, variant, owning_variant, Mode, kept, taken, given, fresh, Entry, Func}
+use Rattle.vlt_core.specs.Core.{States, Ty, int, bool, tracked, owning, guarded, variant, owning_variant, Mode, kept, taken, given, fresh, up_to, Entry, Func}
 use Rattle.vlt_core.specs.Lookups.{is_owning, is_fresh, is_after, is_held_after, is_new}
-use Rattle.vlt_core.specs.Types.{same_ty, same_keys, same_object, same_states, is_same_bool, lies_within, state_numbers, with_keys, args_of, keys_of_ty}
-use Rattle.vlt_core.specs.KindedHeads.{has, new_keys}
+use Rattle.vlt_core.specs.Types.{same_ty, same_keys, same_object, same_states, is_same_bool, state_numbers, with_keys, args_of, keys_of_ty}
+use Rattle.vlt_core.specs.KindedHeads.{has}
 use Rattle.vlt_core.specs.declared.rules.TheConstants as rule
-use Rattle.vlt_core.specs.KindedScopes.{Ids, with_key, with_var, with_binding}
+use Rattle.vlt_core.specs.KindedScopes.{Ids, with_key, with_binding}
 use Rattle.vlt_core.specs.KindedOperands.{fits_owning}
 use Rattle.vlt_core.specs.KindedStatements.{is_tracked_type}
 use Rattle.vlt_core.specs.KindedCalls.{is_fresh_call, same_but_keys, caller_type, result_misfit}
@@ -148,6 +147,7 @@ new_is_after e t = by e.mode t
   where
     by : (m : Mode) → is_fresh m ≡ true → is_after m ≡ true
     by kept e = cc
+    by (up_to u) e = cc
     by taken e = cc
     by given e = cc
     by fresh e = refl

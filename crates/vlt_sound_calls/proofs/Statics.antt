@@ -2,11 +2,11 @@
 use Rattle.std.proofs.Common.{◌≡◌, ◌⊎◌, inl, inr, ⊎_elim, ℕ, zero, suc, ◌+◌, ◌<◌, ◌==◌, nat_lt, Bool, true, false, ◌&&◌, ◌||◌, not, if◌then◌else◌, List, [], ◌∷◌, ◌++◌, map, filter, length, take, Option, Some, None, refl, sym, ap, ◌∙◌, subst, arith, slice_get}
 use Rattle.std.proofs.lemmas.Bool.{cases_Bool, eqb-true, eq-eqb, ltb-true}
 use Rattle.std.proofs.lemmas.List.{length-map}
-use Rattle.std.proofs.lemmas.Option.{none-some, same_Some, slice_get-get_or, slice_get_within, slice_get_cases}
+use Rattle.std.proofs.lemmas.Option.{none-some, same_Some, slice_get-get_or, slice_get_cases}
 use Rattle.std.specs.List.{list_any, list_all, flat_map, filter_map, range_with_len, enumerate_from}
 use Rattle.std.specs.Option.{option_map}
-use Rattle.vlt_core.specs.Core.{Ty, int, bool, tracked, owning, guarded, variant, owning_variant, VarDecl, Mode, kept, taken, given, fresh, Operand, Entry, Func, Program}
-use Rattle.vlt_core.specs.Lookups.{var_type, key_type, is_before, is_fresh, is_held_before, is_held_after, is_new}
+use Rattle.vlt_core.specs.Core.{Ty, int, bool, tracked, owning, guarded, variant, owning_variant, VarDecl, Mode, kept, taken, given, fresh, up_to, Operand, Entry, Func, Program}
+use Rattle.vlt_core.specs.Lookups.{var_type, is_before, is_fresh, is_held_before, is_new}
 use Rattle.vlt_core.specs.Types.{same_ty, same_keys, same_object, keys_of_ty, stands_for, with_keys}
 use Rattle.vlt_core.specs.KindedHeads.{has, are_apart, unless, when_some, parameters_of, keys_of_parameters, new_keys, keys_of_result}
 use Rattle.vlt_core.specs.declared.rules.TheConstants as rule
@@ -19,7 +19,7 @@ use Rattle.vlt_sound_worlds.proofs.Members.{in_either}
 use Rattle.vlt_sound_worlds.specs.Agrees.{Context}
 use Rattle.vlt_sound_worlds.specs.Typed.{IsTyped}
 use Rattle.vlt_sound_worlds.proofs.Empty.{both_empty, both_so, unless_so}
-use Rattle.vlt_sound_worlds.proofs.TypeFacts.{var_known, target_known}
+use Rattle.vlt_sound_worlds.proofs.TypeFacts.{var_known}
 use Rattle.vlt_sound_worlds.specs.Scoped.{IsKeyInScope, IsScoped}
 use Rattle.vlt_sound_worlds.proofs.Starting.{has_left, has_right, has_in}
 use Rattle.vlt_sound_worlds.proofs.Binding.{first_or_other, binding_kept}
@@ -106,6 +106,7 @@ before_not_new e b n = by e.mode b n
   where
     by : (m : Mode) → is_before m ≡ true → is_fresh m ≡ true → ⊥
     by kept b n = cc
+    by (up_to u) b n = cc
     by taken b n = cc
     by given b n = cc
     by fresh b n = cc

@@ -1,5 +1,5 @@
 -- What is promised of calls of externals.
-use Rattle.std.specs.Prelude.{◌≡◌, ℕ, true, List, [], length, map, Option, Some, slice_get}
+use Rattle.std.specs.Prelude.{◌≡◌, ℕ, List, [], length, map, Option, Some}
 use Rattle.vlt_core.specs.Core.{Func}
 use Rattle.vlt_core.specs.Types.{with_keys}
 use Rattle.vlt_core.specs.Maps.{HeldMap, CanPass, map_after}
@@ -18,14 +18,15 @@ use Rattle.vlt_sound_worlds.specs.Handed.{handed_values}
 use Rattle.vlt_sound_calls.specs.Returned.{IsEntered}
 use Rattle.vlt_sound_calls.specs.Heads.{HasHead}
 use Rattle.vlt_sound_calls.specs.Callee.{IsCall}
+use Rattle.vlt_sound_calls.specs.ReturnHeads.{HasHostHead}
 use Rattle.vlt_sound_calls.specs.Fresh.{IsFreshCall}
 
 -- Where the arguments are handed over and the held map passes the clause's rows, a call of an external ends in no fault, and
 -- what the map behind says is so behind it.
 pub record ExternalsAreSafe (r : Setup) : Type 0 where
-  pub each : (f : Func) (c : Context) (h : HeldMap) (ids : Ids) (frame : Frame) (w : World) (i : ℕ) (g : Func)
+  pub each : (f : Func) (c : Context) (h : HeldMap) (ids : Ids) (frame : Frame) (w : World) (g : Func)
       (keys : List ℕ) (values : List Value) (target : Option ℕ) →
-      slice_get r.program.fns i ≡ Some g → g.external ≡ true → IsTyped r.program f → IsTyped r.program g →
+      HasHostHead r.program g → IsTyped r.program f → IsTyped r.program g →
       HasHead r.program g → IsEntered r.program f c → IsScoped f c ids →
       IsCall r.program f g ids keys → IsFreshCall f c g ids keys → call_target_broken f ids g keys target ≡ [] →
       length values ≡ length (map (with_keys keys) (parameters_of g)) →

@@ -1,5 +1,5 @@
 -- What is promised of the answers of externals, once the objects that the host takes are out.
-use Rattle.std.specs.Prelude.{◌≡◌, ℕ, ℤ, true, List, [], map, filter, Option, Some, slice_get}
+use Rattle.std.specs.Prelude.{◌≡◌, ℕ, ℤ, true, List, [], map, filter, Option, Some}
 use Rattle.vlt_core.specs.Core.{a_key, Func, Program}
 use Rattle.vlt_core.specs.Maps.{HeldMap, wants_absent, becomes_absent, CanPass, map_after}
 use Rattle.vlt_core.specs.Rows.{row, clause_rows, target_rows}
@@ -18,6 +18,7 @@ use Rattle.vlt_sound_worlds.specs.Scoped.{IsScoped}
 use Rattle.vlt_sound_calls.specs.Returned.{IsEntered}
 use Rattle.vlt_sound_calls.specs.Heads.{HasHead}
 use Rattle.vlt_sound_calls.specs.Callee.{caller_key, IsCall}
+use Rattle.vlt_sound_calls.specs.ReturnHeads.{HasHostHead}
 use Rattle.vlt_sound_calls.specs.Fresh.{IsFreshCall}
 
 -- the map where the host has what it takes: each key that is taken is absent
@@ -39,9 +40,9 @@ AreNamed g keys frame = (k : ℕ) → has (tracked_keys g) k ≡ true → (n : �
 
 -- Whatever the numbers are, an answer ends in no fault, and what the held map behind the call says is so behind it.
 pub record AnswersAreSafe (r : Setup) : Type 0 where
-  pub each : (f : Func) (c : Context) (h : HeldMap) (ids : Ids) (frame : Frame) (w : World) (i : ℕ) (g : Func)
+  pub each : (f : Func) (c : Context) (h : HeldMap) (ids : Ids) (frame : Frame) (w : World) (g : Func)
       (keys : List ℕ) (numbers : List ℤ) (target : Option ℕ) →
-      slice_get r.program.fns i ≡ Some g → g.external ≡ true → IsTyped r.program f → IsTyped r.program g →
+      HasHostHead r.program g → IsTyped r.program f → IsTyped r.program g →
       HasHead r.program g → IsEntered r.program f c → IsScoped f c ids →
       IsCall r.program f g ids keys → IsFreshCall f c g ids keys → call_target_broken f ids g keys target ≡ [] →
       Agrees r.program f c (map_after_sending g keys h) ids [] frame w.objects → AreNamed g keys frame →

@@ -2,6 +2,7 @@ pub mod Returned
 pub mod Heads
 pub mod Calls
 pub mod Callee
+pub mod Bounds
 pub mod Ready
 pub mod Told
 pub mod Given

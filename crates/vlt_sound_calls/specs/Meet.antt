@@ -9,6 +9,7 @@ use Rattle.vlt_core.specs.KindedOperands.{operands_broken}
 use Rattle.vlt_sound_worlds.specs.Typed.{IsTyped}
 use Rattle.vlt_sound_calls.specs.Heads.{HasHead}
 use Rattle.vlt_sound_calls.specs.Callee.{IsParamKey}
+use Rattle.vlt_sound_calls.specs.Bounds.{HasBound}
 
 -- Where arguments break no rule, each key of the callee's parameters has the type of the caller's key that stands for it.
 pub record KeysMeet (p : Program) (f g : Func) : Type 0 where
@@ -22,3 +23,4 @@ pub record HasFunctions (p : Program) : Type 0 where
   pub heads : (i : ℕ) (g : Func) → slice_get p.fns i ≡ Some g → HasHead p g
   pub typed : (i : ℕ) (g : Func) → slice_get p.fns i ≡ Some g → IsTyped p g
   pub meet : (f : Func) → IsTyped p f → (i : ℕ) (g : Func) → slice_get p.fns i ≡ Some g → KeysMeet p f g
+  pub bounds : (i : ℕ) (g : Func) → slice_get p.fns i ≡ Some g → HasBound g

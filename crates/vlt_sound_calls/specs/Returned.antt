@@ -2,6 +2,7 @@
 use Rattle.std.specs.Prelude.{◌≡◌, ℕ, ◌≤◌, ◌<◌, false, IsTrue, List, [], ◌∷◌, length, Option, None, Some, slice_get, nat_lt, ◌||◌, not, Bool, true}
 use Rattle.vlt_core.specs.Core.{Ty, Entry, Func, Program}
 use Rattle.vlt_core.specs.Lookups.{key_type, after_set}
+use Rattle.vlt_core.specs.Instances.{instance, IsOrigin}
 use Rattle.vlt_core.specs.Maps.{HeldMap}
 use Rattle.vlt_core.specs.Derives.{start_map}
 use Rattle.vlt_core.specs.KindedHeads.{has, keys_of_parameters}
@@ -84,10 +85,14 @@ returns_to p f c = record {
 
 -- ---- callees
 
--- What comes after a unit of fuel was spent is safe for each body, from where a call leaves it.
+-- What comes after a unit of fuel was spent is safe for this body, from where a call leaves it.
+abbrev pub IsSafeCallee : Setup → Meaning → Func → Type 0
+IsSafeCallee r rest_of g = (c : Context) (frame : Frame) (w : World) →
+    IsEntered r.program g c → IsScoped g c (first_ids r.program g) →
+    Agrees r.program g c (start_map r.program g) (first_ids r.program g) [] frame w.objects →
+    Safe (returns_to r.program g c) (rest_of g g.body frame w)
+
+-- and for each body of a program, in each instance
 pub record CalleesAreSafe (r : Setup) (rest_of : Meaning) : Type 0 where
-  pub each : (i : ℕ) (g : Func) (c : Context) (frame : Frame) (w : World) →
-      slice_get r.program.fns i ≡ Some g → g.external ≡ false →
-      IsEntered r.program g c → IsScoped g c (first_ids r.program g) →
-      Agrees r.program g c (start_map r.program g) (first_ids r.program g) [] frame w.objects →
-      Safe (returns_to r.program g c) (rest_of g g.body frame w)
+  pub each : (i : ℕ) (g : Func) (o : Option ℕ) → slice_get r.program.fns i ≡ Some g → g.external ≡ false →
+      IsOrigin r.program g o → IsSafeCallee r rest_of (instance r.program g o)

@@ -13,3 +13,14 @@ returns-clause-locks c = (refl, tt)
 pub returns-clause-requests : goal.returns-clause-requests
 unfolding told_run
 returns-clause-requests c = (refl, (refl, (refl, tt)))
+
+pub returns-clause-levels : goal.returns-clause-levels
+unfolding told_run
+returns-clause-levels c = (refl, (refl, tt))
+
+pub returns-clause-raised : goal.returns-clause-raised
+unfolding told_run
+returns-clause-raised c = (refl, (refl, tt))
+
+pub returns-clause-read : goal.returns-clause-read
+returns-clause-read c = (refl, refl, refl, refl)

@@ -2,4 +2,4 @@ use Rattle.vlt_sound_calls.proofs.BodiesLaws as bodies
 use Rattle.vlt_sound_calls.proofs.bodies.calls_are_safe.Goals as goal
 
 pub returns : goal.returns
-returns c = λ r rest_of functions externals callees. bodies.calls_are_safe r rest_of functions externals callees
+returns c = λ r rest_of functions hosts externals callees. bodies.calls_are_safe r rest_of functions hosts externals callees
