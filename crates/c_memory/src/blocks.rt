@@ -76,6 +76,7 @@ impl Blocks {
     pub fn open(alloc: Global, budget: u32, cells: u32) -> Result<Blocks, Memory>
         ensures fresh { IfOk result IsFresh }
         ensures sound { IfOk result IsSound }
+        ensures none { IfOk result (λ b. Holds b []) }
         ensures heap { IfOk result (λ b. heap_of b ≡ budget) }
         ensures cells { IfOk result (λ b. cells_of b ≡ cells) }
     {

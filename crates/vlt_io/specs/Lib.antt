@@ -3,3 +3,4 @@ pub mod Memory
 pub mod Real
 pub mod Faults
 pub mod Calls
+pub mod Log

@@ -6,6 +6,7 @@
 mod calls;
 mod dir_store;
 mod faults;
+mod logged;
 mod mem_sink;
 mod mem_store;
 mod out_sink;
@@ -13,6 +14,7 @@ mod sink;
 mod store;
 
 pub use dir_store::DirStore;
+pub use logged::Logged;
 pub use mem_sink::MemSink;
 pub use mem_store::MemStore;
 pub use out_sink::OutSink;

@@ -6,3 +6,4 @@ pub mod Levels
 pub mod Ends
 pub mod Equations
 pub mod Instanced
+pub mod Done

@@ -1,3 +1,4 @@
 pub mod Keeping
 pub mod Ends
 pub mod Laws
+pub mod Done

@@ -3,6 +3,7 @@
 //! The layers above see runs by these equations alone, and nothing of the bound.
 #![tactic(auto)]
 
+ghost use Rattle.vlt_meaning_laws.specs.Done.{DoneIsMainsEnd, DoneIsClean};
 ghost use Rattle.vlt_meaning_laws.specs.Laws.{IsBoundless, GoesOn, TurnsAgain, IsRun, OnlyAdds, EndsStop};
 
 /// The bound that a run's definition counts down doesn't matter.
@@ -21,4 +22,10 @@ pub fn runs_only_add()
 /// Statements of which the last one ends never come to what is behind them.
 pub fn ends_stop()
     ensures { EndsStop }
+{}
+
+/// A run that is done has come to main's end.
+pub fn done_is_mains_end()
+    ensures end { DoneIsMainsEnd }
+    ensures clean { DoneIsClean }
 {}

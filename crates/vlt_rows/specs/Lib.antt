@@ -4,3 +4,4 @@ pub mod FlowView
 pub mod Unfit
 pub mod Pieces
 pub mod Made
+pub mod Passing

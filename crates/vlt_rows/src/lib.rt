@@ -12,6 +12,7 @@ ghost use Rattle.vlt_rows.specs.Unfit.{UnfitBy, HasNoFlow};
 mod body;
 mod calls;
 mod expr;
+mod held;
 mod list;
 mod pieces;
 mod sink;
