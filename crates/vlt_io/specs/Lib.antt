@@ -1,4 +1,5 @@
 pub mod Outside
+pub mod Parts
 pub mod Memory
 pub mod Real
 pub mod Faults

@@ -9,7 +9,9 @@ ghost use Rattle.vlt_numbers.specs.Text.{answers_of, input_numbers};
 
 pub use answers::Answers;
 pub use error::NumbersError;
-use line::{cut, push_numbers};
+pub use word::number;
+pub use line::cut;
+use line::push_numbers;
 use std::alloc::Global;
 
 mod answers;

@@ -94,7 +94,7 @@ module _ (p : Program) (kinded : IsKinded p) (sizes : HasSizes p) (filled : HasS
               (args_fit target keys args head typed x.here.scoped meet unbroken) leads values after v e;
         }
 
-  knows_call : (f : Func) (form : Form) (frame : Frame) (w : World) → IsKnown p f form frame w → IsKnownCall p f form frame w
+  pub knows_call : (f : Func) (form : Form) (frame : Frame) (w : World) → IsKnown p f form frame w → IsKnownCall p f form frame w
   knows_call f (call n target keys args) frame w x = record {
     lists = λ callee at external. lists n target keys args x callee at external;
     known = λ callee values after v at external e. names n target keys args x callee at values after v external e;

@@ -37,7 +37,7 @@ use Rattle.vlt_run_laws.proofs.Focuses.{focus_good}
 use Rattle.vlt_run_laws.proofs.Switches.{switch_good}
 
 -- with nothing left to do, no statement comes next
-none_left : (r : Setup) (n : ℕ) (f : Func) (a : Step) → Good r n (at f [] a)
+pub none_left : (r : Setup) (n : ℕ) (f : Func) (a : Step) → Good r n (at f [] a)
 none_left r zero f a = tt
 none_left r (suc n) f a = (λ form frame w e. absurd (clash e.are), none_left r n f a)
   where
@@ -55,7 +55,7 @@ module _ (r : Setup) (kinded : IsKinded r.program) (accepted : IsAccepted r.prog
   hosts : HasHosts r.program
   hosts = has_hosts r.program kinded narrow
 
-  forms : (n : ℕ) → AllLists r n → (f : Func) (form : Form) → GoodForm r n f form
+  pub forms : (n : ℕ) → AllLists r n → (f : Func) (form : Form) → GoodForm r n f form
   forms n all f (simple s) frame w x ts follows =
       simple_good r n f (typed_of functions x.position f x.function) (keys_of r.program x.position f kinded x.function)
       (cases_of r.program x.position f kinded filled x.function) s frame w x ts follows
