@@ -120,12 +120,12 @@ field_sorts p = flat_map (λ d. slot_sorts p d.ty)
 abbrev pub cell_counts : Program → (type : ℕ) → Numbers
 cell_counts p t = past_all first_numbers (field_sorts p (fields_of p t))
 
-abbrev pub sorts_of_field : Option FieldDecl → Program → List Sort
-sorts_of_field None p = []
-sorts_of_field (Some d) p = slot_sorts p d.ty
+abbrev pub sorts_of_field : Program → Option FieldDecl → List Sort
+sorts_of_field p None = []
+sorts_of_field p (Some d) = slot_sorts p d.ty
 
 abbrev pub sorts_at : Program → (type position : ℕ) → List Sort
-sorts_at p t i = sorts_of_field (slice_get (fields_of p t) i) p
+sorts_at p t i = sorts_of_field p (slice_get (fields_of p t) i)
 
 -- the cells of a field: fields take cells in the order of the struct
 abbrev pub field_cells : Program → (type position block : ℕ) → List CCell
