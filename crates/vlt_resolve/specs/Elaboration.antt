@@ -105,8 +105,9 @@ walk_decls kinds (h ∷ hs) (d ∷ ds) =
 abbrev pub is_main : Func → Bool
 is_main h = bytes_eq h.name (codes "main") && not h.external
 
+-- where no function is main, the number past all of them
 abbrev pub main_of : List Func → ℕ
-main_of hs = unwrap_or (position is_main hs) 0
+main_of hs = unwrap_or (position is_main hs) (length hs)
 
 abbrev pub walk_tree : Tree → Kinds → Result Program Refusal
 walk_tree t kinds =

@@ -263,13 +263,13 @@ fn find_main(heads: &[Func]) -> Option<usize>
     None
 }
 
-/// The function that a run begins with.
+/// The function that a run begins with; where there is none, the number past all functions.
 pub fn main_of(heads: &[Func]) -> Result<FnId, AllocError>
     ensures { IfOk result (λ f. f.0 ≡ e.main_of (map func_of heads.now)) }
 {
     let number = match find_main(heads) {
         Some(i) => i,
-        None => 0,
+        None => heads.len(),
     };
     match u32::try_from(number) {
         Ok(f) => Ok(FnId(f)),
