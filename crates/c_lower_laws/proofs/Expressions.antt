@@ -1,5 +1,6 @@
 -- The code of an expression, by what the expression is made of.
 use Rattle.std.proofs.Common.{◌≡◌, ℕ, Bool, true, false, if◌then◌else◌, ℤ, pos, List, [], ◌∷◌, ◌++◌, Option, Some, None, slice_get, Result, Ok, Err, refl, sym, ap, ◌∙◌, subst, true≢false}
+use Rattle.vlt_core.specs.Proper.{is_prefix, is_binary, has_arities}
 use Rattle.vlt_ops.specs.declared.Op.{Op}
 use Rattle.vlt_ops.specs.declared.Op.TheVariants as op
 use Rattle.vlt_ops.specs.declared.TrapKind.{TrapKind}
@@ -23,11 +24,11 @@ use Rattle.c_syntax.specs.C as c
 use Rattle.std.proofs.lemmas.List.{append_assoc}
 use Rattle.c_meaning.specs.World.{trap}
 use Rattle.c_meaning.specs.Run.{stops}
-use Rattle.c_lower_laws.specs.Operators.{is_strict, is_prefix, Does, takes}
+use Rattle.c_lower_laws.specs.Operators.{is_strict, Does, takes}
 use Rattle.c_lower_laws.proofs.Operators.{unary_is_right}
-use Rattle.c_lower_laws.specs.Codes.{AreAlike, AreUpTo, Gives, is_binary}
+use Rattle.c_lower_laws.specs.Codes.{AreAlike, AreUpTo, Gives}
 use Rattle.c_lower_laws.specs.Sides.{ComesTo, AreInRange, both_make, wants, wants_right}
-use Rattle.c_lower_laws.specs.Expressions.{Follows, has_arities, AreRightExpressions}
+use Rattle.c_lower_laws.specs.Expressions.{Follows, AreRightExpressions}
 use Rattle.c_lower_laws.proofs.Guards.{and_left, and_right}
 use Rattle.c_lower_laws.proofs.Codes.{codes_are_right, up_self, up_past, alike_self, alike_more, more_more, temp_gives, goes_then, stops_then}
 

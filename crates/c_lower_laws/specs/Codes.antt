@@ -32,8 +32,3 @@ pub record Gives (x : Code) (t : Numbers) (frame : Frame) (w : World) (z : ℤ) 
   pub does : Does x.stmts frame w (goes to w)
   pub alike : AreAlike t frame to
   pub stays : (g : Frame) → AreAlike x.next to g → value_of (code.value_of x) g.vars w.blocks ≡ Ok (number z)
-
-abbrev pub is_binary : Op → Bool
-is_binary op.Negate = false
-is_binary op.Not = false
-is_binary _ = true

@@ -1,5 +1,6 @@
 -- What the code of an expression comes to, where variables and fields stand in C as they do in the source.
 use Rattle.std.specs.Prelude.{◌≡◌, ℕ, ℤ, Bool, true, ◌&&◌, List, Ok, Err}
+use Rattle.vlt_core.specs.Proper.{has_arities}
 use Rattle.vlt_ops.specs.Operator.{is_in_range}
 use Rattle.vlt_core.specs.Core as core
 use Rattle.vlt_core.specs.Core.{Func, Program}
@@ -12,8 +13,8 @@ use Rattle.c_meaning.specs.Run.{Frame, stops}
 use Rattle.c_lower.specs.Slots.{Numbers}
 use Rattle.c_lower.specs.Expressions as code
 use Rattle.c_lower.specs.Expressions.{Code, expr_code}
-use Rattle.c_lower_laws.specs.Operators.{is_prefix, Does}
-use Rattle.c_lower_laws.specs.Codes.{is_binary, AreAlike, AreUpTo, Gives}
+use Rattle.c_lower_laws.specs.Operators.{Does}
+use Rattle.c_lower_laws.specs.Codes.{AreAlike, AreUpTo, Gives}
 
 -- The code gives the number that the source finds, or traps as the source does. Where the source's step can't be done nothing is
 -- said: no accepted program comes there.
@@ -42,12 +43,6 @@ AreOperandsInRange p f s objects (core.binary o a b) =
     (IsInRange p f s objects a × AreOperandsInRange p f s objects a)
     × (IsInRange p f s objects b × AreOperandsInRange p f s objects b)
 AreOperandsInRange p f s objects e = Unit {0}
-
--- each operator of the expression has as many operands as it wants
-abbrev pub has_arities : core.Expr → Bool
-has_arities (core.unary o a) = is_prefix o && has_arities a
-has_arities (core.binary o a b) = is_binary o && (has_arities a && has_arities b)
-has_arities _ = true
 
 abbrev pub AreRightExpressions : Type 0
 AreRightExpressions = (p : Program) (f : Func) (s : source.Frame) (objects : List source.Object)

@@ -1,5 +1,6 @@
 -- What the code of an operator comes to.
 use Rattle.std.specs.Prelude.{◌≡◌, ℕ, ℤ, pos, Bool, true, false, List, [], ◌∷◌, ◌++◌, Result, Ok, Err}
+use Rattle.vlt_core.specs.Proper.{is_prefix}
 use Rattle.vlt_ops.specs.declared.Op.{Op}
 use Rattle.vlt_ops.specs.declared.Op.TheVariants as op
 use Rattle.vlt_ops.specs.declared.TrapKind.{TrapKind}
@@ -20,11 +21,6 @@ is_strict op.Not = false
 is_strict op.And = false
 is_strict op.Or = false
 is_strict _ = true
-
-abbrev pub is_prefix : Op → Bool
-is_prefix op.Negate = true
-is_prefix op.Not = true
-is_prefix _ = false
 
 -- the expression has this number, one of 64 bits
 pub record HasNumber (e : Expr) (frame : Frame) (w : World) (z : ℤ) : Type 0 where

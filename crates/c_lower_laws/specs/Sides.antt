@@ -1,5 +1,6 @@
 -- How the codes of both sides make that of an operator. Only proofs cite this.
 use Rattle.std.specs.Prelude.{◌≡◌, ℤ, Bool, true, false, not, if◌then◌else◌, Result, Ok, Err}
+use Rattle.vlt_core.specs.Proper.{is_binary}
 use Rattle.vlt_ops.specs.declared.Op.{Op}
 use Rattle.vlt_ops.specs.declared.Op.TheVariants as op
 use Rattle.vlt_ops.specs.declared.TrapKind.{TrapKind}
@@ -9,7 +10,7 @@ use Rattle.c_meaning.specs.Run.{Frame, stops}
 use Rattle.c_lower.specs.Slots.{Numbers}
 use Rattle.c_lower.specs.Expressions.{Code, binary_code}
 use Rattle.c_lower_laws.specs.Operators.{Does}
-use Rattle.c_lower_laws.specs.Codes.{is_binary, AreAlike, AreUpTo, Gives}
+use Rattle.c_lower_laws.specs.Codes.{AreAlike, AreUpTo, Gives}
 
 abbrev pub ComesTo : Code → Numbers → Frame → World → Result ℤ TrapKind → Type 0
 ComesTo x t frame w (Ok z) = Gives x t frame w z
