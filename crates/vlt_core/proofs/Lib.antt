@@ -1,3 +1,5 @@
 pub mod Sets
 pub mod Maps
 pub mod Views
+pub mod Orders
+pub mod Entries

@@ -1,7 +1,7 @@
 -- Statuses, maps and rows.
-use Rattle.std.proofs.Common.{◌≡◌, ◌↔◌, ◌++◌, ℕ, Bool, true, false, IsTrue, cond, List, [], ◌∷◌, refl, sym, ap, ◌∙◌, subst}
+use Rattle.std.proofs.Common.{◌≡◌, Bool, true, false, cond, List, [], ◌∷◌, refl, sym, ap, ◌∙◌}
 use Rattle.vlt_core.specs.Core.{States, Tok}
-use Rattle.vlt_core.specs.Maps.{Wanted, wants_absent, wants_held, wants_in, wants_lent, wants_full, After, becomes_absent, becomes_held, stays, becomes_full, becomes_lent, comes_back, Row, Status, absent, held, lent, full, HeldMap, IsWithin, Kind, is_absent, is_held, is_lent, is_full, kind_of, states_of, IsWanted, status_after, is_tok, row_passed, CanPass, map_after, IsStatusBelow, IsBelow}
+use Rattle.vlt_core.specs.Maps.{Wanted, wants_absent, wants_held, wants_in, wants_lent, wants_full, After, becomes_absent, becomes_held, stays, becomes_full, becomes_lent, comes_back, Row, Status, absent, held, lent, full, HeldMap, IsWithin, Kind, is_held, is_lent, kind_of, states_of, IsWanted, status_after, is_tok, row_passed, CanPass, map_after, IsStatusBelow, IsBelow}
 
 pub within_refl : (a : States) → IsWithin a a
 within_refl a = record { each = λ s p. p }

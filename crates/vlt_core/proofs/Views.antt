@@ -1,5 +1,5 @@
 -- What the view of a form, a block, an arm and an expression is, by its constructor.
-use Rattle.std.proofs.Common.{◌≡◌, ◌∙◌, ℕ, ℤ, Bool, List, Option, map, ap, sym}
+use Rattle.std.proofs.Common.{◌≡◌, ◌∙◌, ℕ, Bool, List, Option, map, ap, sym}
 use Rattle.std.specs.Option.{option_map}
 use Rattle.vlt_base.specs.declared.ids.FnId.{FnId}
 use Rattle.vlt_base.specs.declared.ids.KeyId.{KeyId}

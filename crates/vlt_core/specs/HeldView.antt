@@ -3,6 +3,7 @@ use Rattle.std.specs.Prelude.{◌≡◌, List, map, Option, None, Some}
 use Rattle.vlt_base.specs.States.{has_state}
 use Rattle.vlt_base.specs.declared.states.StateSet.{StateSet}
 use Rattle.vlt_core.specs.Core.{States}
+use Rattle.vlt_core.specs.Lookups.{no_states}
 use Rattle.vlt_core.specs.Core as s
 use Rattle.vlt_core.specs.Maps as maps
 use Rattle.vlt_core.specs.View.{tok_of}
@@ -47,3 +48,8 @@ toks_of = map tok_of
 abbrev pub IsSetOf : States → Option StateSet → Type 0
 IsSetOf states None = (s : StateSet) → has_state s ≡ states → ⊥
 IsSetOf states (Some s) = has_state s ≡ states
+
+-- of states below 32: their set, or nothing where there are none
+abbrev pub IsSetOrNone : States → Option StateSet → Type 0
+IsSetOrNone states None = no_states ≡ states
+IsSetOrNone states (Some s) = has_state s ≡ states

@@ -1,7 +1,6 @@
 -- Functions whose clause keeps a key in any state up to a bound: the instance for each state that the key's object can have.
-use Rattle.std.specs.Prelude.{ℕ, ◌==◌, ◌&&◌, List, [], ◌∷◌, map, filter, Option, Some, None}
+use Rattle.std.specs.Prelude.{◌≡◌, ℕ, ◌==◌, ◌&&◌, IsTrue, List, [], ◌∷◌, map, filter, Option, Some, None, slice_get}
 use Rattle.std.specs.List.{range_with_len}
-use Rattle.std.specs.Prelude.{IsTrue}
 use Rattle.vlt_core.specs.Core.{States, Mode, kept, up_to, Entry, Func, Program}
 use Rattle.vlt_core.specs.Lookups.{state_count, key_type, key_states_up_to}
 
@@ -22,6 +21,10 @@ or_else None y = y
 abbrev pub bound_in : List Entry → Option Bound
 bound_in [] = None
 bound_in (e ∷ es) = or_else (bound_at e.key e.mode) (bound_in es)
+
+-- no function of the program has a bound entry, as long as no text has one
+abbrev pub HasNoBounds : Program → Type 0
+HasNoBounds p = (i : ℕ) (f : Func) → slice_get p.fns i ≡ Some f → bound_in f.clause ≡ None
 
 -- ---- instances
 
@@ -46,6 +49,15 @@ entry_of_instance p f o e = record {
 abbrev pub clause_of_instance : Program → Func → (origin : Option ℕ) → List Entry → List Entry
 clause_of_instance p f None es = es
 clause_of_instance p f (Some o) es = map (entry_of_instance p f o) es
+
+abbrev pub entry_in : Program → Func → (origin : Option ℕ) → Entry → Entry
+entry_in p f None e = e
+entry_in p f (Some o) e = entry_of_instance p f o e
+
+-- the origin is a state up to the bound, where the entry is bound
+abbrev pub IsWithinBound : Program → Func → (origin : Option ℕ) → Entry → Type 0
+IsWithinBound p f None e = Unit {0}
+IsWithinBound p f (Some o) e = (b : ℕ) → e.mode ≡ up_to b → IsTrue (key_states_up_to p f e.key b o)
 
 -- The function for calls with the object of the bound entry's key in this state: a function without such an entry. One that
 -- has none anyway is its only instance.

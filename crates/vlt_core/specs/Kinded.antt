@@ -20,14 +20,16 @@ has_main p = of_func (slice_get p.fns p.main)
 abbrev pub function_rows : Program → ℕ × Func → List Rules
 function_rows p q = (head_broken p q.0 q.1 ++ end_broken p q.1) ∷ body_rows p q.1
 
--- What each row of a program breaks: the first row stands for the whole, then come the sets, the types with their cases, and
--- the functions with their statements.
-abbrev pub rows_broken : Program → List Rules
-rows_broken p =
-    unless (has_main p) rule.NO_MAIN ∷
+-- what the rows of a program's parts break: the sets, the types with their cases, and the functions with their statements
+abbrev pub parts_broken : Program → List Rules
+parts_broken p =
     map set_broken p.sets ++
     flat_map (λ q. type_rows p q.0 q.1) (enumerate_from 0 p.types) ++
     flat_map (function_rows p) (enumerate_from 0 p.fns)
+
+-- what each row of a program breaks: the first row stands for the whole, and behind it come the parts
+abbrev pub rows_broken : Program → List Rules
+rows_broken p = unless (has_main p) rule.NO_MAIN ∷ parts_broken p
 
 abbrev pub least_of : (rule : ℕ) → Rules → ℕ
 least_of r [] = r
@@ -41,6 +43,10 @@ first_broken n ((r ∷ rs) ∷ rows) = Some (n, least_of r rs)
 -- the first row that breaks a rule, with the least rule that it breaks
 abbrev pub breaks : Program → Option (ℕ × ℕ)
 breaks p = first_broken 0 (rows_broken p)
+
+-- The program's parts break no rule on names and types. A module's need no main.
+abbrev pub HasKindedParts : Program → Type 0
+HasKindedParts p = first_broken 1 (parts_broken p) ≡ None
 
 -- The program breaks no rule on names and types.
 abbrev pub IsKinded : Program → Type 0

@@ -265,21 +265,22 @@ names_states e = is_bounded e.mode || is_given e.before || is_given e.after
     is_given None = false
     is_given (Some s) = true
 
+-- the state that bounds an entry is one of the type
+abbrev pub bound_broken : Program → (type : ℕ) → Mode → Rules
+bound_broken p t (up_to b) = state_broken p t b
+bound_broken p t m = []
+
 abbrev pub entry_broken : Program → Func → Entry → Rules
 entry_broken p f e =
     if nat_lt e.key (length f.keys)
     then unless (is_new e || has (keys_of_parameters f) e.key) rule.CLAUSE_KEY_UNBOUND ++ of_types (given_types p f e.key)
     else rule.UNKNOWN_NAME ∷ []
   where
-    bound_broken : (type : ℕ) → Mode → Rules
-    bound_broken t (up_to b) = state_broken p t b
-    bound_broken t m = []
-
     of_types : List ℕ → Rules
     of_types [] = unless (not (names_states e)) rule.STATES_UNTYPED
     of_types (t ∷ ts) =
         if are_all t ts
-        then when_some (decl_of p t) (λ d. when_some e.before (states_broken p t) ++ when_some e.after (states_broken p t) ++ bound_broken t e.mode)
+        then when_some (decl_of p t) (λ d. when_some e.before (states_broken p t) ++ when_some e.after (states_broken p t) ++ bound_broken p t e.mode)
         else []
 
 -- a `new` key is the key of the result, a reference, and stands nowhere else

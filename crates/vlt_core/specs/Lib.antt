@@ -11,6 +11,7 @@ pub mod KindedBodies
 pub mod Kinded
 pub mod Maps
 pub mod Instances
+pub mod Proper
 pub mod Rows
 pub mod Flow
 pub mod Bodies

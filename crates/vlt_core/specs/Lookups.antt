@@ -46,18 +46,23 @@ abbrev pub links_in : Option SetDecl → List Link
 links_in None = []
 links_in (Some d) = d.links
 
--- at most so many links lead from the first state to the second one
-abbrev pub leads_up : List Link → (steps : ℕ) → (from to : ℕ) → Bool
+-- at most so many links lead from the first state to the second one, each to a state below 32
+unfoldable pub leads_up : List Link → (steps : ℕ) → (from to : ℕ) → Bool
 leads_up ls zero x y = x == y
-leads_up ls (suc n) x y = x == y || list_any (λ l. l.lower == x && leads_up ls n l.upper y) ls
+leads_up ls (suc n) x y = x == y || list_any (λ l. l.lower == x && (every_state l.upper && leads_up ls n l.upper y)) ls
 
--- the states of a type up to this one; of a type without order that one alone
-abbrev pub states_up_to : Program → (type state : ℕ) → States
-states_up_to p t b s = all_states p t s && leads_up (of_set (set_in (slice_get p.types t))) 31 s b
+-- the links of a type's set
+abbrev pub links_of_type : Program → (type : ℕ) → List Link
+links_of_type p t = of_set (set_in (slice_get p.types t))
   where
     of_set : Option ℕ → List Link
     of_set None = []
     of_set (Some i) = links_in (slice_get p.sets i)
+
+-- The states of a type up to this one; of a type without order that one alone. As there are 32 states, 31 links lead to
+-- all that any number of links does.
+abbrev pub states_up_to : Program → (type state : ℕ) → States
+states_up_to p t b s = every_state s && (all_states p t s && leads_up (links_of_type p t) 31 s b)
 
 -- ---- release
 
@@ -187,13 +192,13 @@ states_of_type p (Some t) = all_states p t
 abbrev pub states_of_key : Program → Func → (key : ℕ) → States
 states_of_key p f k = states_of_type p (key_type f k)
 
+abbrev pub up_to_in : Program → Option ℕ → (state : ℕ) → States
+up_to_in p None b = no_states
+up_to_in p (Some t) b = states_up_to p t b
+
 -- the states of a key's object up to one; none of a key without a type
 abbrev pub key_states_up_to : Program → Func → (key state : ℕ) → States
-key_states_up_to p f k b = of_type (key_type f k)
-  where
-    of_type : Option ℕ → States
-    of_type None = no_states
-    of_type (Some t) = states_up_to p t b
+key_states_up_to p f k b = up_to_in p (key_type f k) b
 
 -- ---- clauses
 

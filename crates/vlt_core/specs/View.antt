@@ -1,5 +1,5 @@
--- The plain program that a program of the code stands for. Nothing is forgotten. In the code `If`, `While` and `New` are
--- what is `choose`, `loop` and `make` here; a statement without a block is `simple` here.
+-- The plain program that a program of the code stands for. Nothing is forgotten but the names of state variables. In the code
+-- `If`, `While` and `New` are what is `choose`, `loop` and `make` here; a statement without a block is `simple` here.
 use Rattle.std.specs.Prelude.{ℕ, List, [], ◌∷◌, map, Option}
 use Rattle.std.specs.Option.{option_map}
 use Rattle.vlt_base.specs.States.{has_state}
@@ -10,6 +10,7 @@ use Rattle.vlt_base.specs.declared.states.StateSet.{StateSet}
 use Rattle.vlt_core.specs.Core as s
 use Rattle.vlt_core.specs.declared.held.Tok.{Tok}
 use Rattle.vlt_core.specs.declared.held.Tok.TheVariants as tok
+use Rattle.vlt_core.specs.declared.program.Link.{Link}
 use Rattle.vlt_core.specs.declared.program.SetDecl.{SetDecl}
 use Rattle.vlt_core.specs.declared.program.FieldDecl.{FieldDecl}
 use Rattle.vlt_core.specs.declared.program.CaseDecl.{CaseDecl}
@@ -56,12 +57,11 @@ ty_of (ty.Guard k t args) = s.guarded k.0 t.0 (keys_of args)
 ty_of (ty.Var t args) = s.variant t.0 (keys_of args)
 ty_of (ty.OwnVar t args) = s.owning_variant t.0 (keys_of args)
 
+abbrev pub link_of : Link → s.Link
+link_of l = record { lower = l.lower; upper = l.upper }
+
 abbrev pub set_of : SetDecl → s.SetDecl
-set_of d = record {
-  name = d.name;
-  states = map (λ n. n) d.states;
-  links = map (λ l. record { lower = l.lower; upper = l.upper }) d.links;
-}
+set_of d = record { name = d.name; states = map (λ n. n) d.states; links = map link_of d.links }
 
 abbrev pub field_of : FieldDecl → s.FieldDecl
 field_of d = record { name = d.name; ty = ty_of d.ty; states = has_state d.states }

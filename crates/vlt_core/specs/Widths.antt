@@ -1,7 +1,7 @@
 -- How many value slots a run takes: those of all frames, and the cells of all objects.
 use Rattle.std.specs.Prelude.{ℕ, ◌+◌, ◌*◌, max, Bool, true, false, List, [], ◌∷◌, length}
 use Rattle.std.specs.List.{sum_by, count_by, range_with_len}
-use Rattle.vlt_core.specs.Core.{Ty, int, bool, guarded, variant, owning_variant, CaseDecl, Func, Program}
+use Rattle.vlt_core.specs.Core.{Ty, int, bool, guarded, variant, owning_variant, Func, Program}
 use Rattle.vlt_core.specs.Lookups.{is_owning, cases_of, fields_of}
 
 -- the greatest number that is given to an element, 0 where there is none

@@ -10,9 +10,9 @@ mod program;
 pub mod rules;
 
 pub use held::{After, FaultKind, FlowFault, Row, Status, Tok, Wanted};
-pub use lookups::{Reference, VariantOf};
+pub use lookups::{Bound, Reference, VariantOf};
 pub use notes::{Annotation, Choice, Note, Pick, TokMap, Witness};
 pub use program::{
-    Arm, Block, CaseDecl, Entry, Expr, FieldDecl, Form, Func, KeyDecl, Link, Mode, Operand, Program,
-    SetDecl, Stmt, Ty, TypeDecl, VarDecl,
+    Arm, Block, CaseDecl, Entry, Expr, FieldDecl, Form, Func, KeyDecl, Link, Mode, Operand,
+    Program, SetDecl, Stmt, Ty, TypeDecl, VarDecl,
 };

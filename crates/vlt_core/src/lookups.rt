@@ -1,14 +1,17 @@
 //! What the numbers of a program stand for.
 
-ghost use Rattle.std.specs.Prelude.{◌≡◌, nat_lt, slice_get};
+ghost use Rattle.std.specs.Prelude.{◌≡◌, ◌==◌, ◌||◌, ◌&&◌, ◌<◌, ◌≤◌, ℕ, map, nat_lt, Some, slice_get};
+ghost use Rattle.std.specs.List.{list_any};
 ghost use Rattle.std.specs.Option.{option_map, option_copied};
 ghost use Rattle.vlt_base.specs.States.{has_state};
-ghost use Rattle.vlt_core.specs.View.{program_of, func_of, ty_of, type_of, field_of, case_of, states_of};
-ghost use Rattle.vlt_core.specs.HeldView.{IsSetOf};
-ghost use Rattle.vlt_core.specs.LookupViews.{reference_view, variant_view};
-ghost use Rattle.vlt_core.specs.Lookups.{var_type, reference_of, guarded_of, is_owning, is_owning_var, owning_states, variant_of, key_type, count_in, fields_of, case_at, state_count, all_states, release_set, permitted_in, states_of_key, states_or_all};
+ghost use Rattle.vlt_core.specs.View.{program_of, func_of, ty_of, type_of, field_of, case_of, states_of, set_of, link_of, entry_of};
+ghost use Rattle.vlt_core.specs.Core.{kept};
+ghost use Rattle.vlt_core.specs.Instances.{bound_in, entry_in, IsWithinBound};
+ghost use Rattle.vlt_core.specs.HeldView.{IsSetOf, IsSetOrNone};
+ghost use Rattle.vlt_core.specs.LookupViews.{reference_view, bound_view, variant_view};
+ghost use Rattle.vlt_core.specs.Lookups.{var_type, reference_of, guarded_of, is_owning, is_owning_var, owning_states, variant_of, key_type, count_in, fields_of, case_at, state_count, all_states, links_in, leads_up, links_of_type, states_up_to, key_states_up_to, release_set, permitted_in, states_of_key, states_or_all};
 
-use crate::program::{CaseDecl, FieldDecl, Func, Program, Ty, TypeDecl};
+use crate::program::{CaseDecl, Entry, FieldDecl, Func, Link, Mode, Program, Ty, TypeDecl};
 use vlt_base::{KeyId, SetId, StateSet, TypeId, VarId};
 
 /// A key, and the type of its object.
@@ -23,6 +26,13 @@ pub struct Reference {
 pub struct VariantOf<'a> {
     pub type_id: TypeId,
     pub args: &'a [KeyId],
+}
+
+/// The key of a clause's bound entry, and the state that bounds it.
+#[derive(Clone, Copy, Debug, PartialEq, Eq)]
+pub struct Bound {
+    pub key: KeyId,
+    pub state: u8,
 }
 
 impl Ty {
@@ -109,6 +119,18 @@ impl Func {
         }
     }
 
+    /// The clause's bound entry, if it has one.
+    pub fn bound(&self) -> Option<Bound>
+        ensures { option_map bound_view result ≡ bound_in (func_of self.now).clause }
+    {
+        for e in self.clause.as_slice() {
+            if let Mode::Bound(state) = e.mode {
+                return Some(Bound { key: e.key, state });
+            }
+        }
+        None
+    }
+
     /// The type of a key's object, where one is given.
     pub fn key_type(&self, k: KeyId) -> Option<TypeId>
         ensures { option_map (λ t. t.0) result ≡ key_type (func_of self.now) k.0 }
@@ -151,6 +173,62 @@ impl Program {
         ensures { IsSetOf (all_states (program_of self.now) t.0) result }
     {
         first_states(self.state_count(t))
+    }
+
+    /// The links of a set.
+    fn set_links(&self, set: SetId) -> &[Link]
+        ensures { map link_of result.now ≡ links_in (slice_get (program_of self.now).sets set.0) }
+    {
+        match self.sets.get(set.0 as usize) {
+            None => &[],
+            Some(d) => d.links.as_slice(),
+        }
+    }
+
+    /// The links of the type's set.
+    fn links(&self, t: TypeId) -> &[Link]
+        ensures { map link_of result.now ≡ links_of_type (program_of self.now) t.0 }
+    {
+        match self.type_decl(t) {
+            Some(TypeDecl::Abstract { set: Some(set), .. }) => self.set_links(*set),
+            Some(TypeDecl::Struct { set: Some(set), .. }) => self.set_links(*set),
+            _ => &[],
+        }
+    }
+
+    /// The states of the type up to this one; of a type without order that one alone.
+    pub fn states_up_to(&self, t: TypeId, state: u8) -> Option<StateSet>
+        ensures { IsSetOrNone (states_up_to (program_of self.now) t.0 state) result }
+    {
+        let count = self.state_count(t);
+        if count == 0 || state >= 32 {
+            return None;
+        }
+        let up = leading_up(self.links(t), state);
+        both(first_up_to_32(count), up)
+    }
+
+    /// The states of a key's object up to this one; none of a key without a type.
+    pub fn key_states_up_to(&self, f: &Func, k: KeyId, state: u8) -> Option<StateSet>
+        ensures { IsSetOrNone
+            (key_states_up_to (program_of self.now) (func_of f.now) k.0 state) result }
+    {
+        match f.key_type(k) {
+            None => None,
+            Some(t) => self.states_up_to(t, state),
+        }
+    }
+
+    /// The entry as it stands in the instance of this origin: a bound one's key is kept in that state alone.
+    pub fn entry_in(&self, f: &Func, origin: Option<u8>, e: Entry) -> Entry
+        requires { IsWithinBound (program_of self.now) (func_of f.now) origin (entry_of e) }
+        ensures { entry_of result
+            ≡ entry_in (program_of self.now) (func_of f.now) origin (entry_of e) }
+    {
+        match (origin, e.mode) {
+            (Some(o), Mode::Bound(_)) => kept_in(e.key, o),
+            _ => e,
+        }
     }
 
     /// The states in which an object of the type may be released.
@@ -227,4 +305,70 @@ pub fn first_states(n: usize) -> Option<StateSet>
     } else {
         None
     }
+}
+
+/// An entry that keeps its key in this state.
+fn kept_in(key: KeyId, state: u8) -> Entry
+    requires { state < 32 }
+    ensures { entry_of result ≡ record {
+      mode = kept;
+      key = key.0;
+      before = Some (λ s. s == state);
+      after = Some (λ s. s == state);
+    } }
+{
+    let only = Some(StateSet::only(state));
+    Entry {
+        mode: Mode::Kept,
+        key,
+        before: only,
+        after: only,
+    }
+}
+
+/// The numbers below n and below 32.
+fn first_up_to_32(n: usize) -> StateSet
+    requires { 1 ≤ n }
+    ensures { (s : ℕ) → has_state result s ≡ (nat_lt s 32 && nat_lt s n) }
+{
+    if n < 32 {
+        StateSet::first(n as u8)
+    } else {
+        StateSet::first(32)
+    }
+}
+
+/// The numbers that are in both sets, if there are any.
+fn both(a: StateSet, b: StateSet) -> Option<StateSet>
+    ensures { IsSetOrNone (λ s. has_state a s && has_state b s) result }
+{
+    StateSet::of(a.mask() & b.mask())
+}
+
+/// The state, and each one from which a link leads into the set.
+fn with_lower(links: &[Link], set: StateSet, state: u8) -> StateSet
+    requires { state < 32 }
+    ensures { (s : ℕ) → s < 32 → has_state result s
+        ≡ (s == state || list_any (λ l. l.lower == s && has_state set l.upper) links.now) }
+{
+    let mut all = StateSet::only(state);
+    for l in links {
+        if l.lower < 32 && set.has(l.upper) {
+            all = all.join(StateSet::only(l.lower));
+        }
+    }
+    all
+}
+
+/// The states from which at most 31 links lead to this one.
+fn leading_up(links: &[Link], state: u8) -> StateSet
+    requires { state < 32 }
+    ensures { (s : ℕ) → s < 32 → has_state result s
+        ≡ leads_up (map link_of links.now) 31 s state }
+{
+    let mut set = StateSet::only(state);
+    for n in 0..31_usize {
+        set = with_lower(links, set, state);
+    }
+    set
 }

@@ -3,7 +3,7 @@ use Rattle.std.proofs.Common.{◌≡◌, ⊎_elim, ℕ, zero, suc, ◌==◌, Boo
 use Rattle.std.proofs.lemmas.Bool.{cases_Bool, eqb-true}
 use Rattle.std.proofs.lemmas.Option.{same_Some, none-some}
 use Rattle.vlt_core.specs.Core.{Func}
-use Rattle.vlt_core.specs.Lookups.{key_states_up_to}
+use Rattle.vlt_core.specs.Lookups.{leads_up, key_states_up_to}
 use Rattle.vlt_core.specs.Instances.{instance, IsOrigin}
 use Rattle.vlt_core.specs.Maps.{HeldMap, absent, IsWithin}
 use Rattle.vlt_core.specs.Derives.{IsAcceptedFunc, IsAccepted}
@@ -20,6 +20,7 @@ right false b e = cc
 
 -- low is a state up to mid
 low_up : (s : ℕ) → IsTrue (in_set (0 ∷ []) s) → IsTrue (key_states_up_to program main 0 1 s)
+unfolding leads_up
 low_up s e = ⊎_elim
     (λ same. subst (λ s. IsTrue (key_states_up_to program main 0 1 s)) (eqb-true 0 s same) refl)
     (λ other. let q = rw other at e in absurd (false_true q))
@@ -31,14 +32,24 @@ low_up s e = ⊎_elim
 twice_accepted : (s : ℕ) → IsAcceptedFunc program (instance program (twice logs) (Some s))
 twice_accepted s =
     let up : IsWithin (λ x. x == s && key_states_up_to program (twice logs) 0 1 x) (key_states_up_to program (twice logs) 0 1) =
-    record { each = λ x e. right (x == s) _ e } in
-    (nothing, nothing, (nothing,
-    (_, (_, (((refl, up), tt), map_refl _), (_, (((refl, up), tt), map_refl _), (_, ((refl, within_refl _), (refl, tt)), map_refl nothing))), tt, map_refl nothing)))
+    record { each = λ x e. right (x == s) _ e } in (
+      nothing,
+      nothing,
+      (
+        nothing,
+        (_, (_, (((refl, up), tt), map_refl _), (_, (((refl, up), tt), map_refl _), (_, ((refl, within_refl _), (refl, tt)), map_refl nothing))), tt, map_refl nothing),
+      ),
+    )
 
 main_accepted : IsAcceptedFunc program main
-main_accepted =
-    (nothing, nothing, (nothing,
-    (_, (_, ((refl, tt), map_refl _), (_, (((refl, record { each = low_up }), tt), map_refl _), (_, (((refl, within_refl _), tt), map_refl _), (_, (refl, tt), map_refl nothing)))), tt, map_refl nothing)))
+main_accepted = (
+  nothing,
+  nothing,
+  (
+    nothing,
+    (_, (_, ((refl, tt), map_refl _), (_, (((refl, record { each = low_up }), tt), map_refl _), (_, (((refl, within_refl _), tt), map_refl _), (_, (refl, tt), map_refl nothing)))), tt, map_refl nothing),
+  ),
+)
 
 true_false : true ≡ false → ⊥
 true_false e = cc

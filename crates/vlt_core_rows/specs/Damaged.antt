@@ -132,7 +132,8 @@ program_raw = record {
       (record {
         name = (codes "conn");
         states = ((codes "raw") ∷ (codes "named") ∷ (codes "listening") ∷
-            (codes "ready") ∷ []); links = [];
+            (codes "ready") ∷ []);
+        links = [];
       } ∷ []);
   types =
       an_abstract (codes "sock") (Some 0) ∷

@@ -257,6 +257,7 @@ impl HeadKeys<'_> {
             result,
             params,
             clause,
+            state_var: Items::new(alloc),
             keys,
             vars,
             body,

@@ -103,7 +103,7 @@ texts = map (λ n. n.text)
 
 -- the set that is declared here, if it is one
 abbrev pub sets_in : Decl → List SetDecl
-sets_in (s.stateset n ss at) = record { name = n.text; states = texts ss } ∷ []
+sets_in (s.stateset n ss at) = record { name = n.text; states = texts ss; links = [] } ∷ []
 sets_in _ = []
 
 -- Sets and types are numbered in the order of their declarations.

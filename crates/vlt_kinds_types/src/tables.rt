@@ -1,6 +1,6 @@
 //! How the file's table is made, and what it knows.
 
-ghost use Rattle.std.specs.Prelude.{◌≡◌, ◌≤◌, ◌++◌, map, option_map, length, IfOk, OnOk};
+ghost use Rattle.std.specs.Prelude.{◌≡◌, ◌≤◌, ◌++◌, [], map, option_map, length, IfOk, OnOk};
 ghost use Rattle.vlt_syntax.specs.View as view;
 ghost use Rattle.vlt_syntax.specs.Lists.{Each};
 ghost use Rattle.vlt_syntax.specs.Grammar.{IsDecl, language};
@@ -66,12 +66,17 @@ fn set_of(alloc: Heap, name: &Name, states: &[Name]) -> Result<SetDecl, AllocErr
           name = (view.name_of name.now).text;
           states = f.texts
               (view.names_of states.now);
+          links = [];
         }) }
     ensures small { IfOk result IsSmallSet }
 {
     let states = texts(alloc, states)?;
     let name = Items::from_slice(alloc, name.text.as_slice())?;
-    Ok(SetDecl { name, states })
+    Ok(SetDecl {
+        name,
+        states,
+        links: Items::new(alloc),
+    })
 }
 
 fn add_set(alloc: Heap, decl: &Decl, sets: &mut Items<SetDecl>) -> Result<(), AllocError>

@@ -24,6 +24,7 @@ fn copy_set(alloc: Heap, set: &SetDecl) -> Result<SetDecl, AllocError>
     Ok(SetDecl {
         name: copy_bytes(alloc, &set.name)?,
         states: copy_names(alloc, set.states.as_slice())?,
+        links: Items::from_slice(alloc, set.links.as_slice())?,
     })
 }
 

@@ -3,7 +3,7 @@ use Rattle.std.proofs.Common.{◌≡◌, inl, inr, ⊎_elim, ℕ, zero, suc, ◌
 use Rattle.std.specs.List.{list_any, filter_map, enumerate_from}
 use Rattle.std.proofs.lemmas.Option.{none-some, same_Some}
 use Rattle.vlt_core.specs.Core.{Ty, tracked, CaseKey, CaseDecl, Mode, kept, taken, given, fresh, up_to, Entry, Operand, Func, Program}
-use Rattle.vlt_core.specs.Lookups.{var_type, is_fresh, is_new, key_type, after_set, all_states, key_states_up_to}
+use Rattle.vlt_core.specs.Lookups.{var_type, is_fresh, is_new, key_type, after_set, every_state, all_states, key_states_up_to}
 use Rattle.vlt_core.specs.Instances.{mode_of_instance, entry_of_instance, instance}
 use Rattle.vlt_core.specs.KindedHeads.{when_some, has, keys_of_parameters, are_apart, tracked_keys}
 use Rattle.vlt_core.specs.KindedScopes.{Ids}
@@ -165,7 +165,7 @@ module _ (p : Program) (f : Func) where
   after_of (Some o) d e t s same typed was is = by d.mode was (subst (λ e. IsTrue (after_set p (instance p f (Some o)) e s)) same is)
     where
       within : (b : ℕ) → IsTrue (s == o && key_states_up_to p f d.key b s) → IsTrue (all_states p t s)
-      within b e = let q = rw typed at e in both_left (all_states p t s) _ (both_right (s == o) _ q)
+      within b e = let q = rw typed at e in both_left (all_states p t s) _ (both_right (every_state s) _ (both_right (s == o) _ q))
         where
           both_left : (a b : Bool) → IsTrue (a && b) → IsTrue a
           both_left true b e = refl

@@ -134,9 +134,10 @@ module _ (p : Program) (f g : Func) (keys : List ℕ) (o : ℕ) where
       by given at w = (wanted_below (entry_wanted (record e { mode = given })) (h' (a_key k)) (h (a_key k)) (below.each (a_key k)) w, row_below (entry_row p f k (record e { mode = given })) h' h below)
       by fresh at w = (wanted_below (entry_wanted (record e { mode = fresh })) (h' (a_key k)) (h (a_key k)) (below.each (a_key k)) w, row_below (entry_row p f k (record e { mode = fresh })) h' h below)
       by (up_to b) at w =
-          let here = at b refl in
-          (subst (IsWanted (wants_in (one_state p g e.key b o))) (sym here) (refl, within_refl (one_state p g e.key b o)),
-          record { each = λ t. at_token t here (is_tok t (a_key k)) })
+          let here = at b refl in (
+            subst (IsWanted (wants_in (one_state p g e.key b o))) (sym here) (refl, within_refl (one_state p g e.key b o)),
+            record { each = λ t. at_token t here (is_tok t (a_key k)) },
+          )
         where
           at_token : (t : Tok) → h' (a_key k) ≡ held (one_state p g e.key b o) → (c : Bool) →
               IsStatusBelow (if c then held (one_state p g e.key b o) else h' t) (if c then h (a_key k) else h t)
@@ -158,10 +159,11 @@ module _ (p : Program) (f g : Func) (keys : List ℕ) (o : ℕ) where
       let rest =
       narrow es (λ d j. there d (inr j)) apart.1 (row_passed (entry_row p f k (entry_of_instance p g o e)) h') (row_passed (called_row p f k e) h) first.1
       (λ d b j is. row_other (entry_row p f k (entry_of_instance p g o e)) h' (a_key (caller_key keys d)) (λ t. apart.0 d j (key_same t)) ∙ at d b (inr j) is)
-      pass.1 in
-      (subst (λ rs. CanPass rs h') (sym made) (first.0, rest.0),
-      subst (λ rs. IsBelow (map_after rs h') (map_after (called_rows p f keys (e ∷ es)) h)) (sym made)
-      (subst (λ rs. IsBelow (map_after (clause_rows p f keys (map (entry_of_instance p g o) es)) (row_passed (entry_row p f k (entry_of_instance p g o e)) h')) (map_after rs h)) (sym called) rest.1))
+      pass.1 in (
+        subst (λ rs. CanPass rs h') (sym made) (first.0, rest.0),
+        subst (λ rs. IsBelow (map_after rs h') (map_after (called_rows p f keys (e ∷ es)) h)) (sym made)
+            (subst (λ rs. IsBelow (map_after (clause_rows p f keys (map (entry_of_instance p g o) es)) (row_passed (entry_row p f k (entry_of_instance p g o e)) h')) (map_after rs h)) (sym called) rest.1),
+      )
 
 -- ---- the instance of a call
 

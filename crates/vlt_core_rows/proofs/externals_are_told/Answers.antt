@@ -1,4 +1,5 @@
 use Rattle.std.proofs.Common.{refl}
+use Rattle.vlt_core.specs.Lookups.{leads_up}
 use Rattle.vlt_core_rows.specs.Told.{told_run}
 use Rattle.vlt_core_rows.proofs.externals_are_told.Goals as goal
 
@@ -15,12 +16,13 @@ unfolding told_run
 returns-clause-requests c = (refl, (refl, (refl, tt)))
 
 pub returns-clause-levels : goal.returns-clause-levels
-unfolding told_run
+unfolding told_run leads_up
 returns-clause-levels c = (refl, (refl, tt))
 
 pub returns-clause-raised : goal.returns-clause-raised
-unfolding told_run
+unfolding told_run leads_up
 returns-clause-raised c = (refl, (refl, tt))
 
 pub returns-clause-read : goal.returns-clause-read
+unfolding leads_up
 returns-clause-read c = (refl, refl, refl, refl)
