@@ -18,9 +18,8 @@ fn is_before(mode: Mode) -> bool
     ensures { result ≡ is_before (mode_of mode) }
 {
     match mode {
-        Mode::Kept => true,
-        Mode::Taken => true,
-        _ => false,
+        Mode::Kept | Mode::Taken | Mode::Bound(_) => true,
+        Mode::Given | Mode::New => false,
     }
 }
 

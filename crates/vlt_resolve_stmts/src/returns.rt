@@ -47,7 +47,7 @@ fn same_but_key(wanted: &Ty, got: &Ty) -> bool
 fn is_given_back(entry: &Entry) -> bool
     ensures { result ≡ is_given_back (entry_of entry.now) }
 {
-    matches!(entry.mode, Mode::Kept | Mode::Given)
+    matches!(entry.mode, Mode::Kept | Mode::Given | Mode::Bound(_))
 }
 
 fn gives_key_back(key: KeyId, clause: &[Entry]) -> bool

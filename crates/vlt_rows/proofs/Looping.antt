@@ -7,7 +7,7 @@ use Rattle.std.proofs.lemmas.List.{drop_all}
 use Rattle.vlt_core.specs.Core.{Tok, Entry, CaseKey, CaseDecl, Func, Program}
 use Rattle.vlt_core.specs.Lookups.{VariantOf, case_at, keys_in}
 use Rattle.vlt_core.specs.Maps.{Row, away_row}
-use Rattle.vlt_core.specs.Rows.{clause_rows, on_option}
+use Rattle.vlt_core.specs.Rows.{called_rows, on_option}
 use Rattle.vlt_rows.specs.Pieces.{entry_rows, case_row, case_rows, case_key_rows}
 use Rattle.vlt_rows.specs.declared.sink.RowError.{RowError}
 use Rattle.vlt_rows.specs.Taking.{Takes, Stops, TookOrStopped}
@@ -55,7 +55,7 @@ flat_filter {X} {Y} g test f (x ∷ xs) = one (test (f x)) (flat_filter g test f
     one true e = ap (λ l. g (f x) ++ l) e
     one false e = e
 
-pub clause_flat : {X : Type 0} (p : Program) (f : Func) (keys : List ℕ) (g : X → Entry) (es : List X) → flat_map (λ e. entry_rows p f keys (g e)) es ≡ clause_rows p f keys (map g es)
+pub clause_flat : {X : Type 0} (p : Program) (f : Func) (keys : List ℕ) (g : X → Entry) (es : List X) → flat_map (λ e. entry_rows p f keys (g e)) es ≡ called_rows p f keys (map g es)
 clause_flat p f keys g [] = refl
 clause_flat p f keys g (e ∷ es) = ap (λ l. entry_rows p f keys (g e) ++ l) (clause_flat p f keys g es)
 

@@ -3,13 +3,13 @@ use Rattle.std.specs.Prelude.{ℕ, Bool, true, false, if◌then◌else◌, List,
 use Rattle.vlt_core.specs.Core.{Operand, Entry, CaseKey, Func, Program, a_key, Form, simple, call}
 use Rattle.vlt_core.specs.Lookups.{VariantOf, KeyIn, case_keys, after_set, is_new, is_given_back, owning_states, is_owning_var, guarded_of, reference_of, release_set}
 use Rattle.vlt_core.specs.Maps.{Row, becomes_absent, becomes_held, becomes_lent, wants_absent, wants_held, wants_in}
-use Rattle.vlt_core.specs.Rows.{row, on_key, key_row, empty_row, on_option, operand_rows, entry_row, clause_rows, returned_row, new_rows, given_back_rows, simple_rows, rows_of}
+use Rattle.vlt_core.specs.Rows.{row, on_key, key_row, empty_row, on_option, operand_rows, called_row, called_rows, returned_row, new_rows, given_back_rows, simple_rows, rows_of}
 
 abbrev pub entry_rows : Program → Func → (keys : List ℕ) → Entry → List Row
-entry_rows p f keys e = on_option (slice_get keys e.key) (λ k. entry_row p f k e ∷ [])
+entry_rows p f keys e = on_option (slice_get keys e.key) (λ k. called_row p f k e ∷ [])
 
 abbrev pub callee_rows : Program → Func → (g : ℕ) → (keys : List ℕ) → List Row
-callee_rows p f g keys = on_option (slice_get p.fns g) (λ h. clause_rows p f keys h.clause)
+callee_rows p f g keys = on_option (slice_get p.fns g) (λ h. called_rows p f keys h.clause)
 
 abbrev pub value_rows : Program → Func → Option Operand → List Row
 value_rows p f value = on_option value (operand_rows p f)

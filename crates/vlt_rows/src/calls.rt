@@ -7,7 +7,7 @@ ghost use Rattle.vlt_core.specs.HeldView.{wanted_of, toks_of};
 ghost use Rattle.vlt_core.specs.Maps.{wants_in, becomes_absent};
 ghost use Rattle.vlt_core.specs.Core.{call, return};
 ghost use Rattle.vlt_core.specs.Lookups.{is_before, is_after, is_fresh};
-ghost use Rattle.vlt_core.specs.Rows.{rows_of, operand_rows, held_in, key_row, entry_row, entry_wanted, clause_rows, target_rows, new_rows, given_back_rows, return_rows, tokens_of, on_option};
+ghost use Rattle.vlt_core.specs.Rows.{rows_of, operand_rows, held_in, key_row, entry_row, entry_wanted, called_row, called_rows, target_rows, new_rows, given_back_rows, return_rows, tokens_of, on_option};
 ghost use Rattle.vlt_rows.specs.Taking.{TookOrStopped};
 ghost use Rattle.vlt_rows.specs.Wide.{states_named};
 ghost use Rattle.vlt_rows.specs.Pieces.{entry_rows, callee_rows, value_rows, new_row, given_back_row, handed_back_rows};
@@ -15,7 +15,7 @@ ghost use Rattle.vlt_rows.specs.Pieces.{entry_rows, callee_rows, value_rows, new
 use crate::expr::{take_operand, take_operands};
 use crate::pieces::{take_fill, take_gone, take_left, take_row, take_wanted};
 use crate::sink::{RowError, RowSink};
-use crate::states::{States, side_states};
+use crate::states::{States, side_states, states_up_to};
 use vlt_base::{FnId, KeyId, StateSet, VarId};
 use vlt_core::{After, Entry, Expr, Func, Mode, Operand, Program, Row, Tok, Wanted};
 
@@ -24,9 +24,8 @@ fn is_before(mode: Mode) -> bool
     ensures { result ≡ is_before (mode_of mode) }
 {
     match mode {
-        Mode::Kept => true,
-        Mode::Taken => true,
-        _ => false,
+        Mode::Kept | Mode::Taken | Mode::Bound(_) => true,
+        Mode::Given | Mode::New => false,
     }
 }
 
@@ -36,7 +35,7 @@ fn is_after(mode: Mode) -> bool
 {
     match mode {
         Mode::Taken => false,
-        _ => true,
+        Mode::Kept | Mode::Given | Mode::New | Mode::Bound(_) => true,
     }
 }
 
@@ -45,7 +44,7 @@ fn is_new(mode: Mode) -> bool
 {
     match mode {
         Mode::New => true,
-        _ => false,
+        Mode::Kept | Mode::Taken | Mode::Given | Mode::Bound(_) => false,
     }
 }
 
@@ -94,6 +93,26 @@ fn take_entry_at<S: RowSink>(
     }
 }
 
+/// The same, where a bound entry's key keeps its state.
+fn take_called_at<S: RowSink>(
+    p: &Program,
+    f: &Func,
+    k: KeyId,
+    e: Entry,
+    to: &mut S,
+) -> Result<(), RowError>
+    ensures { TookOrStopped S.takes S.stops
+        (called_row (program_of p.now) (func_of f.now) k.0 (entry_of e) ∷ [])
+        to.old to.new result }
+{
+    match e.mode {
+        Mode::Bound(state) => {
+            take_wanted(to, Tok::Key(k), states_up_to(p, f, k, state), After::Same)
+        }
+        _ => take_entry_at(p, f, k, e, to),
+    }
+}
+
 /// The row of a clause's entry at a call.
 fn take_entry<S: RowSink>(
     p: &Program,
@@ -108,7 +127,7 @@ fn take_entry<S: RowSink>(
 {
     match keys.get(e.key.0 as usize) {
         None => Ok(()),
-        Some(k) => take_entry_at(p, f, *k, e, to),
+        Some(k) => take_called_at(p, f, *k, e, to),
     }
 }
 
@@ -121,7 +140,7 @@ fn take_clause<S: RowSink>(
     to: &mut S,
 ) -> Result<(), RowError>
     ensures { TookOrStopped S.takes S.stops
-        (clause_rows (program_of p.now) (func_of f.now) (keys_of keys.now)
+        (called_rows (program_of p.now) (func_of f.now) (keys_of keys.now)
         (map entry_of clause.now))
         to.old to.new result }
 {

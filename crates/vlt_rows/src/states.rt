@@ -2,7 +2,7 @@
 
 ghost use Rattle.std.specs.Prelude.{◌≡◌, ◌==◌, nat_lt, ℕ};
 ghost use Rattle.vlt_core.specs.View.{program_of, func_of, states_of};
-ghost use Rattle.vlt_core.specs.Lookups.{release_set, permitted_in, states_or_all, states_of_type, key_type};
+ghost use Rattle.vlt_core.specs.Lookups.{release_set, permitted_in, states_or_all, states_of_type, key_type, key_states_up_to};
 ghost use Rattle.vlt_core.specs.HeldView.{IsSetOf};
 ghost use Rattle.vlt_rows.specs.Wide.{states_named};
 
@@ -93,6 +93,17 @@ pub fn side_states(p: &Program, f: &Func, k: KeyId, named: Option<StateSet>) -> 
     match p.states_or_all(f, k, named) {
         Some(states) => States::Set(states),
         None => states_of_key(p, f, k),
+    }
+}
+
+/// The states of a key's object up to this one.
+pub fn states_up_to(p: &Program, f: &Func, k: KeyId, state: u8) -> States
+    ensures { states_named result
+        ≡ key_states_up_to (program_of p.now) (func_of f.now) k.0 state }
+{
+    match p.key_states_up_to(f, k, state) {
+        Some(states) => States::Set(states),
+        None => States::Nothing,
     }
 }
 
