@@ -46,7 +46,7 @@ use Rattle.vlt_sound_worlds.proofs.Adopting.{object_found}
 use Rattle.vlt_sound_worlds.specs.Moved.{ArePassing, IsMoved}
 use Rattle.vlt_sound_worlds.proofs.Moved.{moved_all, moved_safe}
 use Rattle.vlt_sound_worlds.proofs.Chains.{ranked_roots}
-use Rattle.vlt_sound_worlds.specs.Parts.{IsFree}
+use Rattle.vlt_core_laws.specs.Parts.{IsFree}
 use Rattle.vlt_sound_statements.specs.Ended.{MayEnd}
 use Rattle.vlt_sound_statements.proofs.Below.{all_below, releasable, ended_none, ended_more}
 use Rattle.vlt_sound_statements.proofs.Parts.{droppable_free, below_ends}

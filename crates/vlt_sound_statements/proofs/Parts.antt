@@ -21,8 +21,8 @@ use Rattle.vlt_sound_worlds.specs.Typed.{IsTyped}
 use Rattle.vlt_sound_worlds.proofs.Empty.{both_so, within_at}
 use Rattle.vlt_sound_worlds.proofs.Kept.{cells_in}
 use Rattle.vlt_sound_worlds.proofs.Plain.{neither, no_keys, none_at, plain_part, plain_value}
-use Rattle.vlt_sound_worlds.specs.Parts.{IsAmong, IsFree}
-use Rattle.vlt_sound_worlds.proofs.Dropping.{part_is_free}
+use Rattle.vlt_core_laws.specs.Parts.{IsAmong, IsFree}
+use Rattle.vlt_core_laws.proofs.Dropping.{part_is_free}
 use Rattle.vlt_sound_statements.specs.Ended.{MayEnd}
 
 -- ---- parts of a declared type

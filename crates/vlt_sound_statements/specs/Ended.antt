@@ -7,7 +7,7 @@ use Rattle.vlt_sound_worlds.specs.Look.{look, EndsThose}
 use Rattle.vlt_sound_worlds.specs.Ranks.{IsRanked}
 use Rattle.vlt_sound_worlds.specs.Below.{HasUpper}
 use Rattle.vlt_sound_worlds.specs.Members.{In}
-use Rattle.vlt_sound_worlds.specs.Parts.{IsFree}
+use Rattle.vlt_core_laws.specs.Parts.{IsFree}
 
 -- The objects of the list pass, what is in or was adopted by one that passes does, and nothing else.
 pub record IsBelowAll (os : ℕ → Object) (xs : List ℕ) (test : ℕ → Bool) : Type 0 where

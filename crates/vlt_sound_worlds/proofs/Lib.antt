@@ -5,8 +5,6 @@ pub mod Members
 pub mod Placed
 pub mod Roots
 pub mod Reading
-pub mod Counting
-pub mod Dropping
 pub mod KeysLaws
 pub mod Scene
 pub mod Fits

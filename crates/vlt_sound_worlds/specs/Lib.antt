@@ -5,7 +5,6 @@ pub mod Members
 pub mod Placed
 pub mod Roots
 pub mod Said
-pub mod Parts
 pub mod Keys
 pub mod Scene
 pub mod Fits

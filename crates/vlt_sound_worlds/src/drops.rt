@@ -3,7 +3,7 @@
 ghost use Rattle.std.specs.Prelude.{◌≡◌, ℕ, false};
 ghost use Rattle.vlt_core.specs.Core.{Ty, Program};
 ghost use Rattle.vlt_core.specs.Types.{owning_parts, is_fast, part_type};
-ghost use Rattle.vlt_sound_worlds.specs.Parts.{IsAmong, IsFree};
+ghost use Rattle.vlt_core_laws.specs.Parts.{IsAmong, IsFree};
 
 /// What a type that may be dropped owns may be dropped, however deep it lies: the bounded search finds all.
 pub fn parts_of_what_may_be_dropped()

@@ -6,8 +6,8 @@ use Rattle.std.specs.List.{list_any, flat_map}
 use Rattle.vlt_core.specs.Core.{Ty, Program, TypeDecl}
 use Rattle.vlt_core.specs.Lookups.{is_owning, fields_in, cases_in}
 use Rattle.vlt_core.specs.Types.{owning_parts, is_fast, part_type, holds_fast}
-use Rattle.vlt_sound_worlds.specs.Parts.{IsAmong, IsFree}
-use Rattle.vlt_sound_worlds.proofs.Counting.{count, count_all, AreSame, count_grows}
+use Rattle.vlt_core_laws.specs.Parts.{IsAmong, IsFree}
+use Rattle.vlt_core_laws.proofs.Counting.{count, count_all, AreSame, count_grows}
 
 or_none : (a b : Bool) → (a || b) ≡ false → (a ≡ false) × (b ≡ false)
 or_none true b e = cc
