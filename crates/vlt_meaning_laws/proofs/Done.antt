@@ -14,7 +14,7 @@ use Rattle.vlt_meaning.specs.Objects.{named_in, object_at, in_states, owned_at, 
 use Rattle.vlt_meaning.specs.Values.{held_object, reference_in, tracked_object, object_of, guarded_object, object_behind, touchable, number_in, is_number, or_trap, value_of_both, value_of, number_of}
 use Rattle.vlt_meaning.specs.Step.{Step, goes, jumps, leaves, ends, with_found, where_so, spend, first_input, with_input, first_answer, with_answer, with_made, with_moved, with_released, with_dropped, fill, with_filled, deliver, then_do, then_turn, left_block}
 use Rattle.vlt_meaning.specs.Operands.{with_operand, with_operands, part_of, parts_of, with_case_packed, case_object, with_case_opened, Case, case_in, owned_in}
-use Rattle.vlt_meaning.specs.Calls.{passed_object, passed_objects, back_in, with_returned, new_object, returned_object, returned_objects}
+use Rattle.vlt_meaning.specs.Calls.{passed_object, passed_objects, back_in, with_returned, new_object, returned_object, returned_objects, called_instance}
 use Rattle.vlt_meaning.specs.HostAnswers.{Piece, plain, new_in, nothing, piece, case_with}
 use Rattle.vlt_meaning.specs.HostAnswers as answers
 use Rattle.vlt_meaning.specs.Externals.{or_bad, fitting, with_pieces, with_fresh, with_result, call_external}
@@ -459,7 +459,7 @@ mutual
   form_u r m ks f (simple s) frame w = simple_u r f s frame w
   form_u r m ks f (call g target keys args) frame w =
       found_u _ w _ (option_found _ _) (λ g'. so_u _ _ _ w _ (λ w1.
-      operands_u r.program f args frame w1 _ (λ values fr w2. spend_u w2 _ (λ w3. call_u g'.external r m ks f target keys g' values fr w3))))
+      operands_u r.program f args frame w1 _ (λ values fr w2. spend_u w2 _ (λ w3. call_u g'.external r m ks f target keys (called_instance r.program g' keys fr w3.objects) values fr w3))))
   form_u r m ks f (choose e a b) frame w =
       found_u _ w _ (count_found r.program f e frame w.objects) (λ z. if_u (is_true z) _ _ (block_u r m ks f a frame w) (block_u r m ks f b frame w))
   form_u r m ks f (loop e b) frame w =

@@ -17,6 +17,7 @@ use Rattle.vlt_meaning.specs.World.{Value, World, is_fault, depth_end}
 use Rattle.vlt_meaning.specs.World as world
 use Rattle.vlt_meaning.specs.Step.{Step, goes, jumps, leaves, ends}
 use Rattle.vlt_meaning.specs.Clean.{IsClean}
+use Rattle.vlt_meaning_laws.proofs.Done.{done_is_clean}
 use Rattle.vlt_meaning.specs.Run.{Setup, first_frame, start, ran, ran_of, main_run}
 use Rattle.vlt_core_laws.specs.States.{HasStates}
 use Rattle.vlt_core_laws.proofs.Unbroken.{EachEmpty, each_left, each_right, each_of_first, left_empty, right_empty, unless_holds}
@@ -190,6 +191,6 @@ pub promises : (p : Program) → IsKinded p → IsAccepted p → HasSizes p → 
 promises p kinded accepted sizes filled narrow = (
   λ fuel heap depth zs answers.
       never p kinded accepted sizes filled narrow heap depth fuel (start fuel zs answers) refl,
-  λ fuel heap depth zs answers a ns w e.
-      leaves_clean p kinded accepted sizes filled narrow heap depth fuel (start fuel zs answers) refl a ns w e,
+  done_is_clean p (λ fuel heap depth zs answers a ns w e.
+      leaves_clean p kinded accepted sizes filled narrow heap depth fuel (start fuel zs answers) refl a ns w e),
 )

@@ -19,8 +19,8 @@ pub use externs::kinded_externals_are_known;
 pub use heads::kinded_functions_are_known;
 pub use typed::kinded_programs_are_typed;
 
-/// No run of an accepted program ends in a fault, and one that comes to main's end leaves only what
-/// its clause or the host has: whatever the bounds, the input and the answers.
+/// No run of an accepted program ends in a fault, and one that is done leaves only what its clause or
+/// the host has: whatever the bounds, the input and the answers.
 pub fn accepted_programs_go_right()
     ensures never { (p : Program) → IsKinded p → IsAccepted p → HasSizes p → HasStates p →
         HasNarrowHeads p → NeverGoesWrong p }
