@@ -5,10 +5,10 @@ use Rattle.std.proofs.lemmas.List.{drop_all, append-nil, append_assoc}
 use Rattle.std.proofs.lemmas.Option.{slice_get-map, slice_get-get_or}
 use Rattle.vlt_core.specs.Core.{Func, Program}
 use Rattle.vlt_core.specs.Local.{Notes, IsLocalIn}
-use Rattle.vlt_core.specs.Derives.{IsAccepted, start_map}
+use Rattle.vlt_core.specs.Derives.{IsAcceptedFunc, IsAccepted, start_map}
 use Rattle.vlt_core.specs.Bodies.{body_flow}
 use Rattle.vlt_flow.specs.Walks.{Marks, notes_of}
-use Rattle.vlt_core_laws.proofs.Starting.{fit_body}
+use Rattle.vlt_core_laws.proofs.Formed.{own_instance, formed_body, first_alone, of_instance, in_instance}
 use Rattle.vlt_core_laws.proofs.Deriving.{accepted, annotated}
 use Rattle.vlt_core.specs.Found.{Has}
 use Rattle.vlt_core.specs.Faults.{HasFault, IsFirstFault}
@@ -20,7 +20,8 @@ use Rattle.std.proofs.lemmas.Bool.{cases_lt}
 use Rattle.vlt_check.specs.Tellings.{IsTold}
 use Rattle.vlt_check.specs.declared.program.CheckError.{CheckError}
 use Rattle.vlt_check.specs.declared.program.CheckError.TheVariants.{Refused}
-use Rattle.vlt_check.specs.Checks.{OnRefused, IsLeastOf, AreLeast, IsChecked, IsRefusedIn, HasRefused, IsWellFormed}
+use Rattle.vlt_check.specs.Checks.{OnRefused, IsLeastOf, AreLeast, IsChecked, IsRefusedIn, HasRefused}
+use Rattle.vlt_core_laws.specs.Fit.{IsWellFormed}
 
 -- What holds of the rest of the functions with more lists holds of all; those before have maps that hold.
 pub record Checking {X : Type 0} (g : X → Func) (p : Program) (fs : List X) (i : ℕ) (all : List (Option Marks)) : Type 0 where
@@ -87,15 +88,15 @@ module _ {X : Type 0} (g : X → Func) (p : Program) (fs : List X) where
   pub first_at : (i : ℕ) (all : List (Option Marks)) (f : X) (x : faults.FlowFault) → i < length fs → f ≡ get_or fs i f → map g fs ≡ p.fns → Checking g p fs i all → IsRefusedIn p (g f) → IsTold p (g f) i x → IsWellFormed p → IsFirstFault p x
   first_at i all f x lt read is c q told well =
       let here : slice_get p.fns i ≡ Some (g f) = ap (λ l. slice_get l i) (sym is) ∙ there_at i f lt read in
-      let fit = fit_body p i (g f) well.states here well.kinded (well.arms i (g f) here) q.with_body in
+      let fit = formed_body p i (g f) well here q.with_body in
       record {
         func = g f;
         there = subst (λ m. slice_get p.fns m ≡ Some (g f)) (sym told.function) here;
         with_body = q.with_body;
-        first = told.first (record { fit = fit.fit; start = fit.start });
-        before = λ n h less there body fault.
+        first = first_alone p (g f) x.origin x.at x.tok x.kind (well.plain i (g f) here) told.origin (told.first (record { fit = fit.fit; start = fit.start }));
+        before = λ n h o less there body origin fault.
             let a = c.before n h (subst (λ m. n < m) told.function less) (subst (λ l. slice_get l n ≡ Some h) (sym is) there) body in
-            none_in_local p h a.0 a.1 fault;
+            none_in_local p h a.0 a.1 (in_instance p h o (HasFault p) (well.plain n h there) origin fault);
       }
 
 -- an error that is handed on
@@ -124,14 +125,16 @@ least_at p (x ∷ fs) (Some k ∷ ks) zero f q there body = (notes_of k, subst (
 least_at p (x ∷ fs) (k ∷ ks) (suc i) f q there body = least_at p fs ks i f q.1 there body
 
 pub checked_accepted : (p : Program) (ks : List (Option Marks)) → IsChecked p ks → IsWellFormed p → IsAccepted p
-checked_accepted p ks q well g f there body =
-    let fit = fit_body p g f well.states there well.kinded (well.arms g f there) body in
-    accepted (body_flow p f) fit.scope (start_map p f) fit.scoped fit.absent (least_at p p.fns ks g f q.each there body)
+checked_accepted p ks q well g f o there body origin =
+    let fit = formed_body p g f well there body in
+    of_instance p f o (IsAcceptedFunc p) (well.plain g f there) origin
+    (accepted (body_flow p f) fit.scope (start_map p f) fit.scoped fit.absent (least_at p p.fns ks g f q.each there body))
 
 pub refused_rejected : (p : Program) (n : ℕ) → HasRefused p n → IsWellFormed p → IsAccepted p → ⊥
 refused_rejected p n r well ok =
-    let fit = fit_body p n r.func well.states r.there well.kinded (well.arms n r.func r.there) r.refused.with_body in
-    let some = annotated (body_flow p r.func) (start_map p r.func) fit.fit.jumping (ok n r.func r.there r.refused.with_body) in
+    let fit = formed_body p n r.func well r.there r.refused.with_body in
+    let own = own_instance p r.func (well.plain n r.func r.there) in
+    let some = annotated (body_flow p r.func) (start_map p r.func) fit.fit.jumping (ok n r.func None r.there r.refused.with_body own) in
     r.refused.none some.0 some.1
 
 pub on_ok : {A : Type 0} {P : A → Type 0} {Q : Type 0} (r : Result A CheckError) → ((x : A) → P x → Q) → IfOk r P → OnOk r Q

@@ -2,11 +2,8 @@
 use Rattle.std.specs.Prelude.{◌≡◌, ℕ, true, false, List, [], ◌∷◌, Option, None, Some, slice_get, Result}
 use Rattle.vlt_base.specs.Refusals as refusals
 use Rattle.vlt_core.specs.Core.{Func, Program}
-use Rattle.vlt_core.specs.Kinded.{IsKinded}
 use Rattle.vlt_core.specs.Local.{Notes, IsLocalIn}
 use Rattle.vlt_flow.specs.Walks.{Marks, IsLeastIn}
-use Rattle.vlt_core_laws.specs.States.{HasStates}
-use Rattle.vlt_core_laws.specs.Arms.{HasArmsStmts}
 use Rattle.vlt_core.specs.Faults as faults
 use Rattle.vlt_core.specs.View.{tok_of}
 use Rattle.vlt_core.specs.declared.held.FlowFault.{FlowFault}
@@ -20,7 +17,7 @@ OnRefused r P = refusals.OnRefused Refused r P
 
 -- the code's fault as a plain one
 abbrev pub fault_of : FlowFault → faults.FlowFault
-fault_of x = record { function = x.fn_id.0; at = x.at; tok = tok_of x.tok; kind = kind_of x.kind }
+fault_of x = record { function = x.fn_id.0; origin = x.origin; at = x.at; tok = tok_of x.tok; kind = kind_of x.kind }
 
 -- a function with a body has its least maps, an external has none
 abbrev pub IsLeastOf : Program → Func → Option Marks → Type 0
@@ -46,9 +43,3 @@ pub record HasRefused (p : Program) (number : ℕ) : Type 0 where
   pub func : Func
   pub there : slice_get p.fns number ≡ Some func
   pub refused : IsRefusedIn p func
-
--- No rule on names and types is broken; each set has a state, and each switch an arm, as in the code and by the grammar.
-pub record IsWellFormed (p : Program) : Type 0 where
-  pub kinded : IsKinded p
-  pub states : HasStates p
-  pub arms : (g : ℕ) (f : Func) → slice_get p.fns g ≡ Some f → HasArmsStmts f.body

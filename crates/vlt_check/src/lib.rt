@@ -7,7 +7,8 @@ ghost use Rattle.std.specs.Prelude.{◌≡◌, IfOk, OnOk};
 ghost use Rattle.vlt_core.specs.View.{program_of};
 ghost use Rattle.vlt_core.specs.Derives.{IsAccepted};
 ghost use Rattle.vlt_core.specs.Faults.{IsFirstFault, FlowFault};
-ghost use Rattle.vlt_check.specs.Checks.{OnRefused, IsChecked, HasRefused, IsWellFormed, fault_of};
+ghost use Rattle.vlt_check.specs.Checks.{OnRefused, IsChecked, HasRefused, fault_of};
+ghost use Rattle.vlt_core_laws.specs.Fit.{IsWellFormed};
 
 mod laws;
 mod program;

@@ -3,7 +3,8 @@
 ghost use Rattle.std.specs.Prelude.{◌≡◌, IfOk};
 ghost use Rattle.vlt_core.specs.View.{program_of, func_of};
 ghost use Rattle.vlt_core.specs.Faults.{IsFirstFault};
-ghost use Rattle.vlt_check.specs.Checks.{OnRefused, IsChecked, IsLeastOf, HasRefused, IsRefusedIn, IsWellFormed, fault_of};
+ghost use Rattle.vlt_check.specs.Checks.{OnRefused, IsChecked, IsLeastOf, HasRefused, IsRefusedIn, fault_of};
+ghost use Rattle.vlt_core_laws.specs.Fit.{IsWellFormed};
 ghost use Rattle.vlt_check.specs.Tellings.{IsTold};
 ghost use Rattle.vlt_check.specs.declared.program.CheckError.TheVariants.{Memory, Refused};
 ghost use Rattle.vlt_core.specs.declared.held.FlowFault.{FlowFault};

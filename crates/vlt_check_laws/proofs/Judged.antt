@@ -1,11 +1,10 @@
 -- A program is, surely, accepted, or it has a first fault.
-use Rattle.std.proofs.Common.{◌≡◌, ℕ, Bool, true, false, Some, slice_get, refl, sym, ◌∙◌, inl, inr, ⊎_elim, true≢false, arith}
+use Rattle.std.proofs.Common.{◌≡◌, ℕ, Bool, true, false, None, Some, slice_get, refl, sym, ◌∙◌, inl, inr, ⊎_elim, true≢false, arith}
 use Rattle.vlt_core.specs.Core.{Tok, Func, Program}
 use Rattle.vlt_core.specs.Derives.{IsAcceptedFunc, IsAccepted}
 use Rattle.vlt_core.specs.Faults.{FaultKind, FlowFault, HasFault, IsFaultIn, IsFirstIn, IsFirstFault}
-use Rattle.vlt_core_laws.specs.Fit.{IsFitBody}
-use Rattle.vlt_core_laws.proofs.Starting.{fit_body}
-use Rattle.vlt_check.specs.Checks.{IsWellFormed}
+use Rattle.vlt_core_laws.specs.Fit.{IsFitBody, IsWellFormed}
+use Rattle.vlt_core_laws.proofs.Formed.{formed_body, first_alone, of_instance, in_instance}
 use Rattle.vlt_check_laws.specs.Sure.{Surely}
 use Rattle.vlt_check_laws.specs.Judged.{IsJudged}
 use Rattle.vlt_check_laws.proofs.Surely.{sure, surely, so, one_way, all_in, Least, least}
@@ -40,26 +39,29 @@ module _ (p : Program) where
 
   module _ (well : IsWellFormed p) where
     fits : (g : ℕ) (f : Func) → slice_get p.fns g ≡ Some f → f.external ≡ false → IsFitBody p f
-    fits g f there body = fit_body p g f well.states there well.kinded (well.arms g f there) body
+    fits g f there body = formed_body p g f well there body
 
     -- the first of the functions that have a fault
     faulty : Least IsFaulty → Surely ((x : FlowFault) × IsFirstFault p x)
     faulty m =
         let a = m.there in
         so (first_told a.func (fits m.number a.func a.there a.with_body) a.fault) (λ x. (
-          record { function = m.number; at = x.at; tok = x.tok; kind = x.kind },
+          record { function = m.number; origin = None; at = x.at; tok = x.tok; kind = x.kind },
           record {
             func = a.func;
             there = a.there;
             with_body = a.with_body;
-            first = x.first;
-            before = λ g f less there body fault.
-                let le = m.least g (record { func = f; there = there; with_body = body; fault = fault }) in omega (arith, less, le);
+            first = first_alone p a.func None x.at x.tok x.kind (well.plain m.number a.func a.there) refl x.first;
+            before = λ g f o less there body origin fault.
+                let own = in_instance p f o (HasFault p) (well.plain g f there) origin fault in
+                let le = m.least g (record { func = f; there = there; with_body = body; fault = own }) in omega (arith, less, le);
           },
         ))
 
     faultless : ((g : ℕ) → IsFaulty g → ⊥) → Surely (IsAccepted p)
-    faultless none = all_in p.fns (λ f. f.external ≡ false → IsAcceptedFunc p f) (λ g f there. each g f there f.external refl)
+    faultless none =
+        so (all_in p.fns (λ f. f.external ≡ false → IsAcceptedFunc p f) (λ g f there. each g f there f.external refl))
+        (λ all. λ g f o there body origin. of_instance p f o (IsAcceptedFunc p) (well.plain g f there) origin (all g f there body))
       where
         each : (g : ℕ) (f : Func) → slice_get p.fns g ≡ Some f → (b : Bool) → f.external ≡ b → Surely (f.external ≡ false → IsAcceptedFunc p f)
         each g f there true e = sure (λ body. absurd (true≢false (sym e ∙ body)))

@@ -139,7 +139,7 @@ pub refuted : (p : Program) (f : Func) (x : FlowFault) (first : List Choice) (se
 refuted p f x first second a w d = by x.kind second w
   where
     by : (kind : FaultKind) (second : Option (List Choice)) →
-        IsWitnessIn p f (record { function = x.function; at = x.at; tok = x.tok; kind = kind }) first second → ⊥
+        IsWitnessIn p f (record { function = x.function; origin = x.origin; at = x.at; tok = x.tok; kind = kind }) first second → ⊥
     by (at_row found wanted) None y = body x.tok x.at wanted (body_flow p f) 0 a None 0 (start_map p f) y.0 first y.1 d y.2
     by (at_join present) (Some second) y =
         let t = x.tok in let h = start_map p f in let s = body_flow p f in

@@ -1,6 +1,7 @@
 -- The first fault of a body has a witness.
-use Rattle.std.proofs.Common.{◌≡◌, ℕ, List, Option, None, Some, slice_get, refl, sym}
+use Rattle.std.proofs.Common.{◌≡◌, ℕ, List, Option, None, Some, refl, sym}
 use Rattle.vlt_core.specs.Core.{Tok, Func, Program}
+use Rattle.vlt_core.specs.Instances.{instance}
 use Rattle.vlt_core.specs.Maps.{Wanted, Row}
 use Rattle.vlt_core.specs.Bodies.{body_flow}
 use Rattle.vlt_core.specs.Derives.{start_map}
@@ -33,14 +34,14 @@ pub record Shows (p : Program) (f : Func) (x : FlowFault) : Type 0 where
   pub second : Option (List Choice)
   pub shown : IsWitnessIn p f x first second
 
-module _ (p : Program) (f : Func) (function at : ℕ) (t : Tok) (tame : IsTameBlock (body_flow p f)) where
+module _ (p : Program) (f : Func) (function : ℕ) (origin : Option ℕ) (at : ℕ) (t : Tok) (tame : IsTameBlock (body_flow p f)) where
   -- what is told of the spot, and that it is faulty
   pub told_fault : (kind : FaultKind) (q : Spot) → IsFaultIn p f q t → IsToldOf p f kind q t →
       SpotAtBlock (λ r S. IsUnwanted r S × TellsRow kind r S) (λ S. IsMixed S × TellsJoin kind S) q t 0 (body_flow p f) (Has (start_map p f t))
   told_fault kind q x y = block_together IsUnwanted (TellsRow kind) IsMixed (TellsJoin kind) q t (body_flow p f) 0 (Has (start_map p f t)) x y
 
   shows : (kind : FaultKind) (q : Spot) → q.at ≡ at → IsFaultIn p f q t → IsToldOf p f kind q t →
-      Shows p f (record { function = function; at = at; tok = t; kind = kind })
+      Shows p f (record { function = function; origin = origin; at = at; tok = t; kind = kind })
   shows (at_row found wanted) q e x y =
       let s = body_flow p f in let S = Has (start_map p f t) in
       let both = told_fault (at_row found wanted) q x y in
@@ -56,9 +57,12 @@ module _ (p : Program) (f : Func) (function at : ℕ) (t : Tok) (tame : IsTameBl
       let b = body Never (Holds IsPresent) NoRow (IsJoin q IsPresent) q t (join_singles IsPresent q t) s 0 S tame there in
       record { first = a.choices; second = Some b.choices; shown = (q, e, (a.start, a.comes, a.fact), (b.start, b.comes, b.fact)) }
 
-pub first_shown : (p : Program) (x : FlowFault) → IsFirstFault p x →
-    ((f : Func) → slice_get p.fns x.function ≡ Some f → IsTameBlock (body_flow p f)) → HasWitness p x
+pub first_shown : (p : Program) (x : FlowFault) → (w : IsFirstFault p x) → IsTameBlock (body_flow p (instance p w.func x.origin)) → HasWitness p x
 first_shown p x w tame =
-    let q = w.first in
-    let z = shows p w.func x.function x.at x.tok (tame w.func w.there) x.kind q.spot q.place q.faulty q.told in
-    record { first = z.first; second = z.second; shown = record { func = w.func; there = w.there; with_body = w.with_body; shows = z.shown } }
+    let q = w.first.first in
+    let z = shows p (instance p w.func x.origin) x.function x.origin x.at x.tok tame x.kind q.spot q.place q.faulty q.told in
+    record {
+      first = z.first;
+      second = z.second;
+      shown = record { func = w.func; there = w.there; with_body = w.with_body; origin = w.first.is; shows = z.shown };
+    }

@@ -4,7 +4,7 @@
 #![tactic(auto)]
 
 ghost use Rattle.vlt_core.specs.Core.{Program, Func};
-ghost use Rattle.vlt_check.specs.Checks.{IsWellFormed};
+ghost use Rattle.vlt_core_laws.specs.Fit.{IsWellFormed};
 ghost use Rattle.vlt_check_laws.specs.Sure.{Surely};
 ghost use Rattle.vlt_check_laws.specs.Judged.{IsJudged};
 ghost use Rattle.std.specs.Prelude.{List, Option};

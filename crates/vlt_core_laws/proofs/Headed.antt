@@ -8,20 +8,28 @@ use Rattle.vlt_core.specs.Core.{Ty, tracked, int, bool, owning, guarded, variant
 use Rattle.vlt_core.specs.Types.{keys_of_ty}
 use Rattle.vlt_core.specs.KindedHeads.{Rules, unless, when_some, has, are_apart, is_bound_entry, set_broken, type_rows, own_typings, reference_broken, type_broken, entry_broken, listed_broken, keys_of_parameters, new_keys, keys_of_result, is_key_of_result, new_key_broken, result_broken, external_broken, is_main_head, head_broken}
 use Rattle.vlt_core.specs.KindedBodies.{end_broken}
-use Rattle.vlt_core.specs.Kinded.{has_main, rows_broken, function_rows, IsKinded}
+use Rattle.vlt_core.specs.Kinded.{has_main, parts_broken, first_broken, function_rows, HasKindedParts, IsKinded}
 use Rattle.vlt_core.specs.declared.rules.TheConstants as rule
 use Rattle.vlt_core_laws.specs.Heads.{HasNewResult}
 use Rattle.vlt_core_laws.proofs.Unbroken.{EachEmpty, left_empty, right_empty, unless_holds, each_right, each_of_first, each_numbered, some_same, some_not_none}
 use Rattle.vlt_core_laws.proofs.Ids.{keys_in_type, type_keys, or_split, or_left, or_right, and_left, not_both, each_has, same_number}
 
 abbrev front_rows : Program → List Rules
-front_rows p = unless (has_main p) rule.NO_MAIN ∷ map set_broken p.sets ++ flat_map (λ q. type_rows p q.0 q.1) (enumerate_from 0 p.types)
+front_rows p = map set_broken p.sets ++ flat_map (λ q. type_rows p q.0 q.1) (enumerate_from 0 p.types)
+
+-- a program that breaks no rule breaks none in its parts
+pub kinded_parts : (p : Program) → IsKinded p → HasKindedParts p
+kinded_parts p kinded = by (unless (has_main p) rule.NO_MAIN) kinded
+  where
+    by : (rs : Rules) → first_broken 0 (rs ∷ parts_broken p) ≡ None → HasKindedParts p
+    by [] e = e
+    by (r ∷ rs) e = absurd (some_not_none _ e)
 
 -- the rows of a function
-pub function_empty : (p : Program) (n : ℕ) (f : Func) → IsKinded p → slice_get p.fns n ≡ Some f → (m : ℕ) × EachEmpty (function_rows p (m, f))
-function_empty p n f kinded at = each_numbered (function_rows p) 0 n p.fns f (each_right (front_rows p) (flat_map (function_rows p) (enumerate_from 0 p.fns)) (each_of_first 0 (rows_broken p) kinded)) at
+pub function_empty : (p : Program) (n : ℕ) (f : Func) → HasKindedParts p → slice_get p.fns n ≡ Some f → (m : ℕ) × EachEmpty (function_rows p (m, f))
+function_empty p n f kinded at = each_numbered (function_rows p) 0 n p.fns f (each_right (front_rows p) (flat_map (function_rows p) (enumerate_from 0 p.fns)) (each_of_first 1 (parts_broken p) kinded)) at
 
-pub head_empty : (p : Program) (n : ℕ) (f : Func) → IsKinded p → slice_get p.fns n ≡ Some f → (m : ℕ) × (head_broken p m f ≡ [])
+pub head_empty : (p : Program) (n : ℕ) (f : Func) → HasKindedParts p → slice_get p.fns n ≡ Some f → (m : ℕ) × (head_broken p m f ≡ [])
 head_empty p n f kinded at = let x = function_empty p n f kinded at in (x.0, left_empty (head_broken p x.0 f) (end_broken p f) x.1.0)
 
 pub has_left : (xs ys : List ℕ) (n : ℕ) → has xs n ≡ true → has (xs ++ ys) n ≡ true

@@ -145,8 +145,10 @@ module _ (p : Program) (f : Func) (o : Option ℕ) where
     arms_rows_same : (around : Around) (ids : Ids) (arms : Arms) → arms_rows p f' around ids arms ≡ arms_rows p f around ids arms
     arms_rows_same around ids no_arms = refl
     arms_rows_same around ids (arm c vs b rest) =
-        rw (block_rows_same around (with_vars f vs ids) b,
-        arms_rows_same around (left_behind ids (ids_behind_block p f b (with_vars f vs ids))) rest) refl
+        rw (
+          block_rows_same around (with_vars f vs ids) b,
+          arms_rows_same around (left_behind ids (ids_behind_block p f b (with_vars f vs ids))) rest,
+        ) refl
 
   first_same : first_ids p f' ≡ first_ids p f
   first_same = ap (λ ks. record (first_ids p f) { keys_ever = ks }) (head_keys_same p f o)

@@ -30,3 +30,6 @@ pub mod FlowFitting
 pub mod Together
 pub mod Told
 pub mod One
+pub mod Counting
+pub mod Dropping
+pub mod Formed

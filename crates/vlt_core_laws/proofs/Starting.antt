@@ -17,7 +17,7 @@ use Rattle.vlt_core.specs.Types.{keys_of_ty}
 use Rattle.vlt_core.specs.KindedHeads.{unless, has, is_bounded, is_bound_entry, keys_of_parameters, head_keys, keys_of_result, entry_broken, head_broken}
 use Rattle.vlt_core.specs.KindedScopes.{Ids, Around}
 use Rattle.vlt_core.specs.KindedBodies.{first_ids, ids_behind_stmts, stmts_rows, body_rows}
-use Rattle.vlt_core.specs.Kinded.{IsKinded}
+use Rattle.vlt_core.specs.Kinded.{HasKindedParts}
 use Rattle.vlt_core.specs.declared.rules.TheConstants as rule
 use Rattle.vlt_core_laws.specs.Scoped.{is_bound, with_bound, IsAbsentOut}
 use Rattle.vlt_core_laws.specs.Shown.{IsGood, IsStart}
@@ -195,7 +195,6 @@ module _ (p : Program) (f : Func) (before_filled : IsFilledStart p f) where
       (params_within : nat_le f.params (length f.vars) ≡ true)
       (unheld : (k : ℕ) → has (keys_of_parameters f) k ≡ false → status_at_start p f f.clause k ≡ absent)
       (rows_of_body : EachEmpty (body_rows p f)) (arms : HasArmsStmts f.body) (body : f.external ≡ false) where
-
     around : Around
     around = record { jumps = false; returns = true }
 
@@ -378,7 +377,7 @@ bound_is (x ∷ xs) few (suc i) e b at is = by x.mode (λ few. bound_is xs few i
     by fresh more few = more few
     by (up_to c) more few = absurd (two few)
 
-module _ (p : Program) (n : ℕ) (f : Func) (h : HasStates p) (there : slice_get p.fns n ≡ Some f) (kinded : IsKinded p) where
+module _ (p : Program) (n : ℕ) (f : Func) (h : HasStates p) (there : slice_get p.fns n ≡ Some f) (kinded : HasKindedParts p) where
   head_of_f : (m : ℕ) × (head_broken p m f ≡ [])
   head_of_f = head_empty p n f kinded there
 

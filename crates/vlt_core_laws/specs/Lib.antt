@@ -8,3 +8,4 @@ pub mod Faulted
 pub mod Sweep
 pub mod Shown
 pub mod FaultLaws
+pub mod Parts

@@ -6,7 +6,7 @@
 ghost use Rattle.std.specs.Prelude.{◌≡◌, ℕ, false, Some, slice_get, Bool, Option, None};
 ghost use Rattle.vlt_core.specs.Core.{Func, Program, Tok};
 ghost use Rattle.vlt_core.specs.Instances.{instance, IsOrigin};
-ghost use Rattle.vlt_core.specs.Kinded.{IsKinded};
+ghost use Rattle.vlt_core.specs.Kinded.{HasKindedParts};
 ghost use Rattle.vlt_core_laws.specs.States.{HasStates};
 ghost use Rattle.vlt_core_laws.specs.Arms.{HasArmsStmts};
 ghost use Rattle.vlt_core_laws.specs.Fit.{IsFitBody};
@@ -22,9 +22,10 @@ ghost use Rattle.vlt_core_laws.specs.Sweep.{Stock, IsFoundIn};
 ghost use Rattle.vlt_core_laws.specs.Shown.{IsFit, IsStart, IsReadOf};
 ghost use Rattle.vlt_core_laws.specs.FaultLaws.{HasOneFirstFault};
 
-/// Each body of a program that breaks no rule on names and types is fit for the check, in each instance.
+/// Each body of a program whose parts break no rule on names and types is fit for the check, in each instance.
 pub fn kinded_bodies_are_fit()
-    ensures { (p : Program) (n : ℕ) (f : Func) (o : Option ℕ) → IsKinded p → HasStates p →
+    ensures { (p : Program) (n : ℕ) (f : Func) (o : Option ℕ) →
+        HasKindedParts p → HasStates p →
         slice_get p.fns n ≡ Some f → f.external ≡ false → IsOrigin p f o →
         HasArmsStmts f.body → IsFitBody p (instance p f o) }
 {}

@@ -3,7 +3,7 @@ use Rattle.std.proofs.Common.{◌≡◌, ℕ, ◌==◌, nat_lt, Bool, true, fals
 use Rattle.std.specs.Option.{option_map}
 use Rattle.vlt_ops.specs.Operator.{is_true}
 use Rattle.vlt_core.specs.Core.{Operand, Expr, Form, Block, block, Stmts, done, next, Arms, no_arms, arm, simple, call, choose, loop, switch, focus, scope, return, jump, Func, Program}
-use Rattle.vlt_core.specs.Instances.{bound_in, instance}
+use Rattle.vlt_core.specs.Instances.{bound_in, instance, HasNoBounds}
 use Rattle.vlt_core.specs.Lookups.{reference_of, guarded_of, variant_of, case_keys}
 use Rattle.vlt_meaning.specs.World.{Value, one, Object, World, Frame, missing, Reason}
 use Rattle.vlt_meaning.specs.Found.{Found, or_fault}
@@ -39,7 +39,7 @@ pub record IsClosed (p : Program) (L : Func → Stmts → Type 0) (F : Func → 
   pub focus_in : (f : Func) (y z : ℕ) (b : Block) → F f (focus y z b) → B f b
   pub scope_in : (f : Func) (b : Block) → F f (scope b) → B f b
   pub body_of : (i : ℕ) (f : Func) → slice_get p.fns i ≡ Some f → L f f.body
-  pub plain : (i : ℕ) (f : Func) → slice_get p.fns i ≡ Some f → bound_in f.clause ≡ None
+  pub plain : HasNoBounds p
 
 module _ (r : Setup) (L : Func → Stmts → Type 0) (F : Func → Form → Type 0) (B : Func → Block → Type 0) (A : Func → Arms → Type 0) (k : IsClosed r.program L F B A) where
   abbrev In : Func → List Task → Type 0

@@ -3,7 +3,7 @@ use Rattle.std.proofs.Common.{◌≡◌, ◌⊎◌, ⊎_elim, ◌<◌, ◌≤◌
 use Rattle.std.proofs.Math.Nat.{mul-le-mul_right}
 use Rattle.vlt_core.specs.View.{stmts_of}
 use Rattle.vlt_core.specs.Core.{Form, choose, loop, switch, focus, scope, simple, call, return, jump, Block, block, Stmts, done, next, Arms, no_arms, arm, Func, Program}
-use Rattle.vlt_core.specs.Instances.{bound_in}
+use Rattle.vlt_core.specs.Instances.{HasNoBounds}
 use Rattle.vlt_core.specs.Widths.{greatest}
 use Rattle.vlt_heap.specs.Items.{Items}
 use Rattle.vlt_meaning.specs.Run.{Setup}
@@ -82,7 +82,7 @@ module _ (n : ℕ) where
   abbrev pub AreSmallArms : Func → Arms → Type 0
   AreSmallArms f arms = arms_size arms ≤ n
 
-pub small_closed : (p : Program) → ((i : ℕ) (f : Func) → slice_get p.fns i ≡ Some f → bound_in f.clause ≡ None) → IsClosed p (IsSmallList (size_of p)) (IsSmall (size_of p)) (IsSmallBlock (size_of p)) (AreSmallArms (size_of p))
+pub small_closed : (p : Program) → HasNoBounds p → IsClosed p (IsSmallList (size_of p)) (IsSmall (size_of p)) (IsSmallBlock (size_of p)) (AreSmallArms (size_of p))
 small_closed p plain = record {
   first_of = λ f place form rest h. omega (arith, h);
   rest_of = λ f place form rest h. omega (arith, h);

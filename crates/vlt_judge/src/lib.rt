@@ -3,7 +3,7 @@
 //! The check rests on it: a refusal tells this fault, and a body without one isn't refused.
 #![tactic(auto)]
 
-ghost use Rattle.std.specs.Prelude.{◌≡◌, IfOk, IfSome, IsNone};
+ghost use Rattle.std.specs.Prelude.{◌≡◌, IfOk, IfSome, IsNone, None};
 ghost use Rattle.vlt_core.specs.Faults.{HasFault, IsFirstIn};
 ghost use Rattle.vlt_core.specs.Local.{Notes, IsLocalIn};
 ghost use Rattle.vlt_core.specs.View.{program_of, func_of, tok_of};
@@ -27,12 +27,14 @@ use vlt_rows::body_flow;
 
 fn fault_of(fn_id: FnId, blame: Blame) -> FlowFault
     ensures function { result.fn_id ≡ fn_id }
+    ensures origin { result.origin ≡ None }
     ensures at { result.at ≡ blame.at }
     ensures tok { result.tok ≡ blame.tok }
     ensures kind { result.kind ≡ blame.kind }
 {
     FlowFault {
         fn_id,
+        origin: None,
         at: blame.at,
         tok: blame.tok,
         kind: blame.kind,
@@ -50,6 +52,7 @@ pub fn fault_in(
         (λ y. IsFitIn (program_of p.now) (func_of f.now) →
         IsFirstIn (program_of p.now) (func_of f.now) y.at (tok_of y.tok) (kind_of y.kind))) }
     ensures function { IfOk result (λ x. IfSome x (λ y. y.fn_id ≡ fn_id)) }
+    ensures origin { IfOk result (λ x. IfSome x (λ y. y.origin ≡ None)) }
     ensures none { IfOk result (λ x. IsNone x →
         HasFault (program_of p.now) (func_of f.now) → ⊥) }
     ensures always { IfOk result (λ x. IsNone x → IsFitIn (program_of p.now) (func_of f.now) →

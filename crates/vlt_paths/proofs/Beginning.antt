@@ -1,7 +1,9 @@
 -- Where a path begins, and what it shows.
 use Rattle.std.proofs.Common.{◌≡◌, ◌∙◌, ◌↔◌, ◌<◌, ◌≤◌, ℕ, ◌+◌, ◌&&◌, ◌==◌, if◌then◌else◌, Bool, true, false, IsTrue, List, [], ◌∷◌, map, drop, drop-cons, add-one, get_or, suc, length, Option, Some, None, slice_get, sym, ap, subst, inl, inr, ⊎_elim, rules, arith}
 use Rattle.vlt_core.specs.Core.{States, Tok, Entry, Func, Program}
+use Rattle.vlt_core.specs.Instances.{IsOrigin, HasNoBounds}
 use Rattle.vlt_core.specs.Bodies.{flow_of_stmts}
+use Rattle.vlt_core_laws.proofs.Formed.{own_instance, only_instance, of_instance, in_instance}
 use Rattle.vlt_core.specs.Derives.{start_map, status_at_start}
 use Rattle.vlt_core.specs.Found.{One, one_absent, one_held, one_lent, one_full, Has}
 use Rattle.std.proofs.lemmas.List.{drop_all}
@@ -86,11 +88,11 @@ pub looked_all : {X : Type 0} (p : Program) (f : Func) (g : X → Entry) (es : L
 looked_all p f g es k i past l = ap (λ xs. status_at_start p f (map g xs) k) (sym (drop_all i es past)) ∙ l.same
 
 -- of a function with a body; and of one without
-pub row_shown : (p : Program) (f : Func) (g at : ℕ) (t : Tok) (found : Status) (wanted : Wanted) (first : List Choice) (b : Bool) → f.external ≡ false → (IsTrue b ↔ PathMeets p f t (Refuses t at wanted) NoJoin first) → IsTrue b ↔ ((f.external ≡ false) × IsWitnessIn p f (record { function = g; at = at; tok = t; kind = at_row found wanted }) first None)
-row_shown p f g at t found wanted first b body e = (λ h. (body, e.0 h), λ x. e.1 x.1)
+pub row_shown : (p : Program) (f : Func) (g : ℕ) (o : Option ℕ) (at : ℕ) (t : Tok) (found : Status) (wanted : Wanted) (first : List Choice) (b : Bool) → f.external ≡ false → (IsTrue b ↔ PathMeets p f t (Refuses t at wanted) NoJoin first) → IsTrue b ↔ ((f.external ≡ false) × IsWitnessIn p f (record { function = g; origin = o; at = at; tok = t; kind = at_row found wanted }) first None)
+row_shown p f g o at t found wanted first b body e = (λ h. (body, e.0 h), λ x. e.1 x.1)
 
-pub join_shown : (p : Program) (f : Func) (g at : ℕ) (t : Tok) (present : Status) (first second : List Choice) (b : Bool) → f.external ≡ false → (IsTrue b ↔ IsWitnessIn p f (join_fault t at) first (Some second)) → IsTrue b ↔ ((f.external ≡ false) × IsWitnessIn p f (record { function = g; at = at; tok = t; kind = at_join present }) first (Some second))
-join_shown p f g at t present first second b body e = (λ h. (body, e.0 h), λ x. e.1 x.1)
+pub join_shown : (p : Program) (f : Func) (g : ℕ) (o : Option ℕ) (at : ℕ) (t : Tok) (present : Status) (first second : List Choice) (b : Bool) → f.external ≡ false → (IsTrue b ↔ IsWitnessIn p f (join_fault t at) first (Some second)) → IsTrue b ↔ ((f.external ≡ false) × IsWitnessIn p f (record { function = g; origin = o; at = at; tok = t; kind = at_join present }) first (Some second))
+join_shown p f g o at t present first second b body e = (λ h. (body, e.0 h), λ x. e.1 x.1)
 
 pub not_shown : (p : Program) (f : Func) (x : FlowFault) (first : List Choice) (second : Option (List Choice)) → (IsWitnessIn p f x first second → ⊥) → IsTrue false ↔ ((f.external ≡ false) × IsWitnessIn p f x first second)
 not_shown p f x first second none = (λ h. absurd (never h), λ y. absurd (none y.1))
@@ -104,11 +106,31 @@ some_same f g e = grind arith
 none_some : (f : Func) → None ≡ Some f → ⊥
 none_some f e = grind arith
 
-pub judged : (p : Program) (f : Func) (x : FlowFault) (first : List Choice) (second : Option (List Choice)) (b : Bool) → slice_get p.fns x.function ≡ Some f → (IsTrue b ↔ ((f.external ≡ false) × IsWitnessIn p f x first second)) → IsTrue b ↔ IsWitness p x first second
-judged p f x first second b there h = (
-  λ t. let z = h.0 t in record { func = f; there = there; with_body = z.0; shows = z.1 },
+-- with an origin none is shown, and without one what is shown in the body
+pub shown_alone : (o : Option ℕ) (P : Type 0) (b : Bool) → o ≡ None → (IsTrue b ↔ P) → IsTrue b ↔ ((o ≡ None) × P)
+shown_alone o P b none h = (λ t. (none, h.0 t), λ z. h.1 z.1)
+
+pub not_alone : (o : Option ℕ) (n : ℕ) (P : Type 0) → o ≡ Some n → IsTrue false ↔ ((o ≡ None) × P)
+not_alone o n P is = (λ t. absurd (never t), λ z. absurd (apart (sym z.0 ∙ is)))
+  where
+    apart : None ≡ Some n → ⊥
+    apart e = grind arith
+
+pub judged : (p : Program) (f : Func) (x : FlowFault) (first : List Choice) (second : Option (List Choice)) (b : Bool) → HasNoBounds p → slice_get p.fns x.function ≡ Some f →
+    (IsTrue b ↔ ((x.origin ≡ None) × ((f.external ≡ false) × IsWitnessIn p f x first second))) → IsTrue b ↔ IsWitness p x first second
+judged p f x first second b plain there h = (
+  λ t. let z = h.0 t in
+      let own = subst (λ o. IsOrigin p f o) (sym z.0) (own_instance p f (plain x.function f there)) in
+      record { func = f; there = there; with_body = z.1.0; origin = own; shows = of_instance p f x.origin (λ f. IsWitnessIn p f x first second) (plain x.function f there) own z.1.1 },
   λ w. let same : w.func ≡ f = some_same w.func f (sym w.there ∙ there) in
-      h.1 (subst (λ f. f.external ≡ false) same w.with_body, subst (λ f. IsWitnessIn p f x first second) same w.shows),
+      let bound = plain x.function w.func w.there in
+      h.1 (
+        only_instance p w.func x.origin bound w.origin,
+        (
+          subst (λ f. f.external ≡ false) same w.with_body,
+          subst (λ f. IsWitnessIn p f x first second) same (in_instance p w.func x.origin (λ f. IsWitnessIn p f x first second) bound w.origin w.shows),
+        ),
+      ),
 )
 
 pub judged_none : (p : Program) (x : FlowFault) (first : List Choice) (second : Option (List Choice)) → None ≡ slice_get p.fns x.function → IsTrue false ↔ IsWitness p x first second

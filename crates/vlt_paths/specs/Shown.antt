@@ -1,5 +1,5 @@
 -- A fault of the code, as a plain one.
-use Rattle.std.specs.Prelude.{ℕ}
+use Rattle.std.specs.Prelude.{ℕ, None}
 use Rattle.vlt_core.specs.Core.{Tok}
 use Rattle.vlt_core.specs.Maps.{absent}
 use Rattle.vlt_core.specs.Faults as s
@@ -8,8 +8,8 @@ use Rattle.vlt_core.specs.FaultView.{kind_of}
 use Rattle.vlt_core.specs.declared.held.FlowFault.{FlowFault}
 
 abbrev pub fault_view : FlowFault → s.FlowFault
-fault_view x = record { function = x.fn_id.0; at = x.at; tok = tok_of x.tok; kind = kind_of x.kind }
+fault_view x = record { function = x.fn_id.0; origin = x.origin; at = x.at; tok = tok_of x.tok; kind = kind_of x.kind }
 
--- A fault at a join of this place. In which function, and what is present there, doesn't count for whether paths show it.
+-- A fault at a join of this place. In which function and instance, and what is present there, doesn't count for whether paths show it.
 abbrev pub join_fault : Tok → (at : ℕ) → s.FlowFault
-join_fault t at = record { function = 0; at = at; tok = t; kind = s.at_join absent }
+join_fault t at = record { function = 0; origin = None; at = at; tok = t; kind = s.at_join absent }

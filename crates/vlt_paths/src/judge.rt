@@ -9,6 +9,7 @@ ghost use Rattle.vlt_core.specs.FaultView.{choices_of};
 ghost use Rattle.vlt_core.specs.HeldView.{wanted_of};
 ghost use Rattle.vlt_core.specs.Lookups.{is_before, is_held_before, is_owning_var};
 ghost use Rattle.vlt_core.specs.View.{program_of, func_of, tok_of, mode_of, entry_of};
+ghost use Rattle.vlt_core.specs.Instances.{HasNoBounds};
 ghost use Rattle.vlt_core.specs.Witness.{IsWitness, IsWitnessIn, PathMeets, Refuses, NoJoin};
 ghost use Rattle.vlt_paths.specs.Comes.{Brings};
 ghost use Rattle.vlt_paths.specs.Shown.{fault_view, join_fault};
@@ -28,9 +29,8 @@ fn is_held(mode: Mode) -> bool
     ensures { result ≡ is_before (mode_of mode) }
 {
     match mode {
-        Mode::Kept => true,
-        Mode::Taken => true,
-        _ => false,
+        Mode::Kept | Mode::Taken | Mode::Bound(_) => true,
+        Mode::Given | Mode::New => false,
     }
 }
 
@@ -111,6 +111,18 @@ pub fn is_shown_in(p: &Program, f: &Func, fault: &FlowFault, path: &[Choice]) ->
     }
 }
 
+/// The same, where the function has no bound entry: its faults have no origin.
+pub fn is_shown_alone(p: &Program, f: &Func, fault: &FlowFault, path: &[Choice]) -> bool
+    ensures { IsTrue result ↔ ((fault.now.origin ≡ None) × (((func_of f.now).external ≡ false) ×
+        IsWitnessIn (program_of p.now) (func_of f.now) (fault_view fault.now)
+        (choices_of path.now) None)) }
+{
+    match fault.origin {
+        None => is_shown_in(p, f, fault, path),
+        Some(_) => false,
+    }
+}
+
 pub fn func_at(p: &Program, fn_id: FnId) -> Option<&Func>
     ensures { option_map func_of (option_copied result)
         ≡ slice_get (program_of p.now).fns fn_id.0 }
@@ -168,13 +180,32 @@ fn are_shown_in(
     }
 }
 
+/// The same, where the function has no bound entry: its faults have no origin.
+fn are_shown_alone(
+    p: &Program,
+    f: &Func,
+    fault: &FlowFault,
+    first: &[Choice],
+    second: &[Choice],
+) -> bool
+    ensures { IsTrue result ↔ ((fault.now.origin ≡ None) × (((func_of f.now).external ≡ false) ×
+        IsWitnessIn (program_of p.now) (func_of f.now) (fault_view fault.now)
+        (choices_of first.now) (Some (choices_of second.now)))) }
+{
+    match fault.origin {
+        None => are_shown_in(p, f, fault, first, second),
+        Some(_) => false,
+    }
+}
+
 /// Whether two paths are a witness of the fault.
 pub fn is_join_witness(p: &Program, fault: &FlowFault, first: &[Choice], second: &[Choice]) -> bool
+    requires plain { HasNoBounds (program_of p.now) }
     ensures { IsTrue result ↔ IsWitness (program_of p.now) (fault_view fault.now)
         (choices_of first.now) (Some (choices_of second.now)) }
 {
     match func_at(p, fault.fn_id) {
         None => false,
-        Some(f) => are_shown_in(p, f, fault, first, second),
+        Some(f) => are_shown_alone(p, f, fault, first, second),
     }
 }

@@ -8,9 +8,10 @@ use Rattle.vlt_core.specs.KindedHeads.{head_broken}
 use Rattle.vlt_core.specs.KindedCalls.{keys_fit}
 use Rattle.vlt_core.specs.KindedBodies.{first_ids, stmts_rows, end_broken}
 use Rattle.vlt_core_laws.proofs.Unbroken.{EachEmpty, left_empty}
-use Rattle.vlt_core_laws.proofs.Headed.{function_empty, head_empty, params_fit}
+use Rattle.vlt_core_laws.proofs.Headed.{kinded_parts, function_empty, head_empty, params_fit}
 use Rattle.vlt_tasks.specs.Own.{AreOwn, HasOwn}
-use Rattle.vlt_run_laws.specs.Blank.{HasNoBounds, HasBlankExternals, HasFewVars}
+use Rattle.vlt_core.specs.Instances.{HasNoBounds}
+use Rattle.vlt_run_laws.specs.Blank.{HasBlankExternals, HasFewVars}
 use Rattle.vlt_run_laws.proofs.Keys.{few_keys, own_reference}
 use Rattle.vlt_run_laws.proofs.OwnNaming.{own_stmts}
 
@@ -18,7 +19,7 @@ no_more : (a b : ℕ) → nat_le a b ≡ true → a ≤ b
 no_more a b t = grind (arith, nat_tests)
 
 fits : (p : Program) → IsKinded p → (n : ℕ) (g : Func) (keys : List ℕ) → slice_get p.fns n ≡ Some g → keys_fit g keys ≡ true → length keys ≤ length g.keys
-fits p kinded n g keys at fit = let e = head_empty p n g kinded at in few_keys p e.0 g keys e.1 fit
+fits p kinded n g keys at fit = let e = head_empty p n g (kinded_parts p kinded) at in few_keys p e.0 g keys e.1 fit
 
 own_body : (p : Program) (i : ℕ) (f : Func) → IsKinded p → HasBlankExternals p → slice_get p.fns i ≡ Some f →
     EachEmpty (if f.external then [] else stmts_rows p f (record { jumps = false; returns = true }) (first_ids p f) false f.body) → AreOwn p f f.body
@@ -32,7 +33,7 @@ pub names_own : (p : Program) → IsKinded p → HasFewVars p → HasBlankExtern
 names_own p kinded few blank plain = record {
   plain = plain;
   all = λ i f at.
-      (let x = function_empty p i f kinded at in
+      (let x = function_empty p i f (kinded_parts p kinded) at in
       let head = left_empty (head_broken p x.0 f) (end_broken p f) x.1.0 in
       record {
         keys = own_reference p x.0 f head;

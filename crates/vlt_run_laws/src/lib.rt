@@ -6,7 +6,8 @@
 ghost use Rattle.vlt_core.specs.Core.{Program, Form, Func};
 ghost use Rattle.vlt_core.specs.Kinded.{IsKinded};
 ghost use Rattle.vlt_tasks.specs.Own.{HasOwn};
-ghost use Rattle.vlt_run_laws.specs.Blank.{HasBlankExternals, HasFewVars, HasNoBounds};
+ghost use Rattle.vlt_run_laws.specs.Blank.{HasBlankExternals, HasFewVars};
+ghost use Rattle.vlt_core.specs.Instances.{HasNoBounds};
 ghost use Rattle.std.specs.Prelude.{ℕ};
 ghost use Rattle.vlt_core.specs.Derives.{IsAccepted};
 ghost use Rattle.vlt_core_laws.specs.States.{HasStates};

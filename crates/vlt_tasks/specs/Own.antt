@@ -1,7 +1,7 @@
 -- Statements that fill and name variables and keys of their own function alone, as those of programs that break no rule on names
 -- and types do.
 use Rattle.std.specs.Prelude.{◌≡◌, ◌<◌, ◌≤◌, ◌^◌, ℕ, List, [], ◌∷◌, length, Option, Some, slice_get, IfSome, None}
-use Rattle.vlt_core.specs.Instances.{bound_in}
+use Rattle.vlt_core.specs.Instances.{HasNoBounds}
 use Rattle.vlt_core.specs.Core.{Simple, set, input, make, drop, own, unpack, build, swap, open_into, adopt, Form, simple, call, choose, loop, switch, focus, scope, return, jump, Block, block, Stmts, done, next, Arms, no_arms, arm, Func, Program}
 use Rattle.vlt_core.specs.Lookups.{Reference, reference_of}
 
@@ -68,7 +68,7 @@ pub record IsOwnFunc (p : Program) (f : Func) : Type 0 where
 pub record HasOwn (p : Program) : Type 0 where
   pub all : (i : ℕ) (f : Func) → slice_get p.fns i ≡ Some f → IsOwnFunc p f
   -- as long as no text has a bound entry
-  pub plain : (i : ℕ) (f : Func) → slice_get p.fns i ≡ Some f → bound_in f.clause ≡ None
+  pub plain : HasNoBounds p
 
 -- it is one of the program's functions
 pub record IsOf (p : Program) (f : Func) : Type 0 where

@@ -2,6 +2,8 @@
 use Rattle.std.proofs.Common.{◌≡◌, ◌∙◌, ◌++◌, ◌+◌, ◌<◌, ◌≤◌, ◌↔◌, ℕ, false, Option, Some, None, List, [], ◌∷◌, length, take, get_or, slice_get, IfSome, refl, sym, ap, subst, inl, ⊎_elim, arith}
 use Rattle.std.specs.Option.{option_map}
 use Rattle.std.proofs.lemmas.List.{take_all}
+use Rattle.vlt_core.specs.Instances.{IsOrigin, HasNoBounds}
+use Rattle.vlt_core_laws.proofs.Formed.{own_instance, only_instance, of_instance, in_instance}
 use Rattle.vlt_core.specs.Core.{Tok, Func, Program}
 use Rattle.vlt_core.specs.Maps.{Status}
 use Rattle.vlt_core.specs.Flow.{Block}
@@ -122,7 +124,7 @@ join_unshown t at s S A B x y none first (Some second) z =
 same_by : (s : Block) (S T : Ones) (x : FlowFault) → ((o : One) → S o → T o) → (first : List Choice) (second : Option (List Choice)) → IsShownBy s S x first second → IsShownBy s T x first second
 same_by s S T x to first second z = by x.tok x.at x.kind second z
   where
-    by : (t : Tok) (at : ℕ) (kind : FaultKind) (second : Option (List Choice)) → IsShownBy s S (record { function = 0; at = at; tok = t; kind = kind }) first second → IsShownBy s T (record { function = 0; at = at; tok = t; kind = kind }) first second
+    by : (t : Tok) (at : ℕ) (kind : FaultKind) (second : Option (List Choice)) → IsShownBy s S (record { function = 0; origin = None; at = at; tok = t; kind = kind }) first second → IsShownBy s T (record { function = 0; origin = None; at = at; tok = t; kind = kind }) first second
     by t at (at_row found wanted) None z = (z.0, to z.0 z.1, z.2)
     by t at (at_row found wanted) (Some second) z = z
     by t at (at_join present) None z = z
@@ -131,7 +133,7 @@ same_by s S T x to first second z = by x.tok x.at x.kind second z
 pub as_witness : (p : Program) (f : Func) (x : FlowFault) (first : List Choice) (second : Option (List Choice)) → IsShownBy (body_flow p f) (Has (start_map p f x.tok)) x first second ↔ IsWitnessIn p f x first second
 as_witness p f x first second = by x.function x.tok x.at x.kind second
   where
-    by : (n : ℕ) (t : Tok) (at : ℕ) (kind : FaultKind) (second : Option (List Choice)) → IsShownBy (body_flow p f) (Has (start_map p f t)) (record { function = n; at = at; tok = t; kind = kind }) first second ↔ IsWitnessIn p f (record { function = n; at = at; tok = t; kind = kind }) first second
+    by : (n : ℕ) (t : Tok) (at : ℕ) (kind : FaultKind) (second : Option (List Choice)) → IsShownBy (body_flow p f) (Has (start_map p f t)) (record { function = n; origin = None; at = at; tok = t; kind = kind }) first second ↔ IsWitnessIn p f (record { function = n; origin = None; at = at; tok = t; kind = kind }) first second
     by n t at (at_row found wanted) None = (λ z. z, λ z. z)
     by n t at (at_row found wanted) (Some second) = (λ z. z, λ z. z)
     by n t at (at_join present) None = (λ z. z, λ z. z)
@@ -151,14 +153,29 @@ some_same f g e = grind arith
 none_some : (f : Func) → None ≡ Some f → ⊥
 none_some f e = grind arith
 
-pub some_witness : (p : Program) (f : Func) (x : FlowFault) (r : Option Paths) → slice_get p.fns x.function ≡ Some f → IfSome r (λ y. (f.external ≡ false) × IsWitnessIn p f x (choices_of y.first) (option_map choices_of y.second)) → IfSome r (λ y. IsWitness p x (choices_of y.first) (option_map choices_of y.second))
-some_witness p f x None there z = z
-some_witness p f x (Some y) there z = record { func = f; there = there; with_body = z.0; shows = z.1 }
+pub some_witness : (p : Program) (f : Func) (x : FlowFault) (r : Option Paths) → HasNoBounds p → slice_get p.fns x.function ≡ Some f →
+    IfSome r (λ y. (x.origin ≡ None) × ((f.external ≡ false) × IsWitnessIn p f x (choices_of y.first) (option_map choices_of y.second))) →
+    IfSome r (λ y. IsWitness p x (choices_of y.first) (option_map choices_of y.second))
+some_witness p f x None plain there z = z
+some_witness p f x (Some y) plain there z =
+    let bound = plain x.function f there in
+    let own = subst (λ o. IsOrigin p f o) (sym z.0) (own_instance p f bound) in
+    record {
+      func = f;
+      there = there;
+      with_body = z.1.0;
+      origin = own;
+      shows = of_instance p f x.origin (λ f. IsWitnessIn p f x (choices_of y.first) (option_map choices_of y.second)) bound own z.1.1;
+    }
 
-pub no_witness : (p : Program) (f : Func) (x : FlowFault) → slice_get p.fns x.function ≡ Some f → (f.external ≡ false → (first : List Choice) (second : Option (List Choice)) → IsWitnessIn p f x first second → ⊥) → HasWitness p x → ⊥
-no_witness p f x there none h =
-    let same : h.shown.func ≡ f = some_same h.shown.func f (sym h.shown.there ∙ there) in
-    none (subst (λ f. f.external ≡ false) same h.shown.with_body) h.first h.second (subst (λ f. IsWitnessIn p f x h.first h.second) same h.shown.shows)
+pub no_witness : (p : Program) (f : Func) (x : FlowFault) → HasNoBounds p → slice_get p.fns x.function ≡ Some f →
+    (x.origin ≡ None → f.external ≡ false → (first : List Choice) (second : Option (List Choice)) → IsWitnessIn p f x first second → ⊥) → HasWitness p x → ⊥
+no_witness p f x plain there none h =
+    let w = h.shown in
+    let same : w.func ≡ f = some_same w.func f (sym w.there ∙ there) in
+    let bound = plain x.function w.func w.there in
+    none (only_instance p w.func x.origin bound w.origin) (subst (λ f. f.external ≡ false) same w.with_body) h.first h.second
+    (subst (λ f. IsWitnessIn p f x h.first h.second) same (in_instance p w.func x.origin (λ f. IsWitnessIn p f x h.first h.second) bound w.origin w.shows))
 
 pub no_func : (p : Program) (x : FlowFault) → None ≡ slice_get p.fns x.function → HasWitness p x → ⊥
 no_func p x e h = none_some h.shown.func (e ∙ h.shown.there)

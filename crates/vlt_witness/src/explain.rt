@@ -4,6 +4,7 @@ ghost use Rattle.std.specs.Prelude.{◌≡◌, ◌↔◌, false, List, Option, S
 ghost use Rattle.std.specs.Option.{option_map, option_copied};
 ghost use Rattle.vlt_core.specs.Found.{One, Has};
 ghost use Rattle.vlt_core.specs.Witness as w;
+ghost use Rattle.vlt_core.specs.Instances.{HasNoBounds};
 ghost use Rattle.vlt_core.specs.Witness.{IsWitness, IsWitnessIn};
 ghost use Rattle.vlt_core.specs.HeldView.{wanted_of};
 ghost use Rattle.vlt_core.specs.View.{program_of, func_of, tok_of};
@@ -300,8 +301,33 @@ fn paths_at(
     }
 }
 
+/// The same, where the function has no bound entry: its faults have no origin.
+fn paths_alone(
+    alloc: Global,
+    p: &Program,
+    f: &Func,
+    fault: &FlowFault,
+) -> Result<Option<Paths>, RowError>
+    ensures some { IfOk result (λ r.
+        IfSome r (λ x. (fault.now.origin ≡ None) × (((func_of f.now).external ≡ false) ×
+        IsWitnessIn (program_of p.now) (func_of f.now) (fault_of fault.now) (choices_of x.first)
+        (option_map choices_of x.second)))) }
+    ensures none { IfOk result (λ r. r ≡ None → fault.now.origin ≡ None →
+        (func_of f.now).external ≡ false →
+        (first : List w.Choice) (second : Option (List w.Choice)) →
+        IsWitnessIn (program_of p.now) (func_of f.now) (fault_of fault.now) first second → ⊥) }
+    ensures unfit { IfErr result (UnfitBy (((func_of f.now).external ≡ false) ×
+        IsUnfit (program_of p.now) (func_of f.now))) }
+{
+    match fault.origin {
+        None => paths_at(alloc, p, f, fault),
+        Some(_) => Ok(None),
+    }
+}
+
 /// The paths of a witness of the fault, if it has one.
 pub fn paths_for(alloc: Global, p: &Program, fault: &FlowFault) -> Result<Option<Paths>, RowError>
+    requires plain { HasNoBounds (program_of p.now) }
     ensures shows { IfOk result (λ r.
         IfSome r (λ x. IsWitness (program_of p.now) (fault_of fault.now) (choices_of x.first)
         (option_map choices_of x.second))) }
@@ -312,6 +338,6 @@ pub fn paths_for(alloc: Global, p: &Program, fault: &FlowFault) -> Result<Option
 {
     match func_at(p, fault.fn_id) {
         None => Ok(None),
-        Some(f) => paths_at(alloc, p, f, fault),
+        Some(f) => paths_alone(alloc, p, f, fault),
     }
 }

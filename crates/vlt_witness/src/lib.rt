@@ -6,11 +6,13 @@
 ghost use Rattle.std.specs.Prelude.{◌≡◌, None, IfOk, IfErr, IfSome};
 ghost use Rattle.std.specs.Option.{option_map};
 ghost use Rattle.vlt_core.specs.Faults.{IsFirstFault};
+ghost use Rattle.vlt_core.specs.Instances.{HasNoBounds};
 ghost use Rattle.vlt_core.specs.Witness.{IsWitness};
 ghost use Rattle.vlt_core.specs.View.{program_of};
 ghost use Rattle.vlt_core.specs.FaultView.{choices_of};
 ghost use Rattle.vlt_rows.specs.Unfit.{UnfitBy};
-ghost use Rattle.vlt_check.specs.Checks.{IsWellFormed, fault_of};
+ghost use Rattle.vlt_check.specs.Checks.{fault_of};
+ghost use Rattle.vlt_core_laws.specs.Fit.{IsWellFormed};
 ghost use Rattle.vlt_check_laws.specs.Shown.{HasWitness};
 ghost use Rattle.vlt_witness.specs.Unfit.{IsUnfitAt};
 
@@ -32,6 +34,7 @@ use vlt_rows::RowError;
 /// is: its rows and joins, its keys or variables, or the arms of a switch are more than there are numbers, or a row names
 /// states of which there is no set. Any other error is want of memory.
 pub fn witness(alloc: Global, p: &Program, fault: &FlowFault) -> Result<Option<Witness>, RowError>
+    requires plain { HasNoBounds (program_of p.now) }
     ensures shows { IfOk result (λ r.
         IfSome r (λ x. IsWitness (program_of p.now) (fault_of fault.now) (choices_of x.first)
         (option_map choices_of x.second))) }

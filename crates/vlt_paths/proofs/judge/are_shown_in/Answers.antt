@@ -13,4 +13,4 @@ pub returns-in-Row : goal.returns-in-Row
 returns-in-Row c = not_shown (program_of c.args.p.now) (func_of c.args.f.now) (fault_view c.args.fault.now) (choices_of c.args.first.now) (Some (choices_of c.args.second.now)) (rw c.in-Row.is (λ h. h))
 
 pub returns-in-Join : goal.returns-in-Join
-returns-in-Join c = rw c.in-Join.is (join_shown (program_of c.args.p.now) (func_of c.args.f.now) c.args.fault.now.fn_id.0 _ _ absent (choices_of c.args.first.now) (choices_of c.args.second.now) c.shows_join.result c.if-f.false c.shows_join.ensures)
+returns-in-Join c = rw c.in-Join.is (join_shown (program_of c.args.p.now) (func_of c.args.f.now) c.args.fault.now.fn_id.0 c.args.fault.now.origin _ _ absent (choices_of c.args.first.now) (choices_of c.args.second.now) c.shows_join.result c.if-f.false c.shows_join.ensures)

@@ -10,7 +10,7 @@ pub returns-then-f : goal.returns-then-f
 returns-then-f c = no_body (program_of c.args.p.now) (func_of c.args.f.now) (fault_view c.args.fault.now) (choices_of c.args.path.now) None c.if-f.true
 
 pub returns-in-Row : goal.returns-in-Row
-returns-in-Row c = rw c.in-Row.is (row_shown (program_of c.args.p.now) (func_of c.args.f.now) c.args.fault.now.fn_id.0 _ _ absent _ (choices_of c.args.path.now) c.shows_row.result c.if-f.false c.shows_row.ensures)
+returns-in-Row c = rw c.in-Row.is (row_shown (program_of c.args.p.now) (func_of c.args.f.now) c.args.fault.now.fn_id.0 c.args.fault.now.origin _ _ absent _ (choices_of c.args.path.now) c.shows_row.result c.if-f.false c.shows_row.ensures)
 
 pub returns-in-Join : goal.returns-in-Join
 returns-in-Join c = not_shown (program_of c.args.p.now) (func_of c.args.f.now) (fault_view c.args.fault.now) (choices_of c.args.path.now) None (rw c.in-Join.is (λ h. h))

@@ -20,8 +20,8 @@ returns-in-Some-clause-shows c =
     let x = fault_of c.args.fault.now in
     let f = func_of c.in-Some.f.now in
     let there = rw c.in-Some.is at c.func_at.ensures in
-    IfOk-weaker c.paths_at.result (λ r. IfSome r (λ y. (f.external ≡ false) × IsWitnessIn p f x (choices_of y.first) (option_map choices_of y.second))) (λ r. IfSome r (λ y. IsWitness p x (choices_of y.first) (option_map choices_of y.second)))
-    (λ r z. some_witness p f x r (sym there) z) c.paths_at.ensures.some
+    IfOk-weaker c.paths_alone.result (λ r. IfSome r (λ y. (x.origin ≡ None) × ((f.external ≡ false) × IsWitnessIn p f x (choices_of y.first) (option_map choices_of y.second)))) (λ r. IfSome r (λ y. IsWitness p x (choices_of y.first) (option_map choices_of y.second)))
+    (λ r z. some_witness p f x r c.requires.plain (sym there) z) c.paths_alone.ensures.some
 
 pub returns-in-Some-clause-none : goal.returns-in-Some-clause-none
 returns-in-Some-clause-none c =
@@ -29,5 +29,5 @@ returns-in-Some-clause-none c =
     let x = fault_of c.args.fault.now in
     let f = func_of c.in-Some.f.now in
     let there = rw c.in-Some.is at c.func_at.ensures in
-    IfOk-weaker c.paths_at.result (λ r. r ≡ None → f.external ≡ false → (first : List Choice) (second : Option (List Choice)) → IsWitnessIn p f x first second → ⊥) (λ r. r ≡ None → HasWitness p x → ⊥)
-    (λ r k e. no_witness p f x (sym there) (k e)) c.paths_at.ensures.none
+    IfOk-weaker c.paths_alone.result (λ r. r ≡ None → x.origin ≡ None → f.external ≡ false → (first : List Choice) (second : Option (List Choice)) → IsWitnessIn p f x first second → ⊥) (λ r. r ≡ None → HasWitness p x → ⊥)
+    (λ r k e. no_witness p f x c.requires.plain (sym there) (k e)) c.paths_alone.ensures.none
