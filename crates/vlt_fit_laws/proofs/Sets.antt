@@ -15,7 +15,7 @@ sets_small : (ds : List Decl) → Each (IsDecl language) ds → (i : ℕ) (d : S
     slice_get (of_each sets_in ds) i ≡ Some d → length d.states ≤ 32
 sets_small [] right i d at = absurd (none-some d at)
 sets_small (s.stateset n ss place ∷ ds) right zero d at =
-    subst (λ d. length d.states ≤ 32) (same_Some (record { name = n.text; states = texts ss }) d at)
+    subst (λ d. length d.states ≤ 32) (same_Some (record { name = n.text; states = texts ss; links = [] }) d at)
     (subst (λ n. n ≤ 32) (sym (length-map ss (λ n. n.text))) right.0.1)
 sets_small (s.stateset n ss place ∷ ds) right (suc i) d at = sets_small ds right.1 i d at
 sets_small (s.abstract n ss place ∷ ds) right i d at = sets_small ds right.1 i d at

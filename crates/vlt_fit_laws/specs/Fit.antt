@@ -4,11 +4,13 @@ use Rattle.vlt_syntax.specs.Tree.{Tree}
 use Rattle.vlt_syntax.specs.Lists.{Each}
 use Rattle.vlt_syntax.specs.Grammar.{IsTree, language}
 use Rattle.vlt_core.specs.Core.{done, Func, Program}
+use Rattle.vlt_core.specs.Kinded.{IsKinded}
+use Rattle.vlt_core.specs.Proper.{HasArities}
 use Rattle.vlt_core.specs.Lookups.{fields_of}
 use Rattle.vlt_kinds.specs.Kinds.{Kinds}
 use Rattle.vlt_kinds.specs.Tables.{kinds_told}
 use Rattle.vlt_resolve.specs.Elaboration.{elaborated}
-use Rattle.vlt_check.specs.Checks.{IsWellFormed}
+use Rattle.vlt_core_laws.specs.Fit.{IsWellFormed}
 use Rattle.vlt_sound.specs.Sizes.{HasSizes}
 use Rattle.vlt_sound.specs.Narrow.{HasNarrowHeads}
 use Rattle.vlt_syntax_laws.specs.Ticks.{HasTicks}
@@ -19,12 +21,15 @@ pub record HasFewParts (p : Program) : Type 0 where
   pub vars : (i : ℕ) (f : Func) → slice_get p.fns i ≡ Some f → length f.vars ≤ 256
 
 -- All that the laws on checks and runs want to know of a program: it breaks no rule on names and types, each of its sets has a
--- state and at most 32, all below 32 where a host gives one, each of its switches has an arm, and fields and variables are few.
+-- state and at most 32, all below 32 where a host gives one, each of its switches has an arm, no clause has a bound entry (as
+-- long as no text has one), fields and variables are few, and each operator has as many operands as it wants.
 pub record IsFitProgram (p : Program) : Type 0 where
+  pub kinded : IsKinded p
   pub well_formed : IsWellFormed p
   pub sizes : HasSizes p
   pub narrow : HasNarrowHeads p
   pub few : HasFewParts p
+  pub arities : HasArities p
   -- externals have no statements
   pub blank : (i : ℕ) (f : Func) → slice_get p.fns i ≡ Some f → f.external ≡ true → f.body ≡ done
 

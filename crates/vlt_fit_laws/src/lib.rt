@@ -11,8 +11,9 @@ ghost use Rattle.vlt_fit_laws.specs.Fit.{ProgramsAreFit};
 pub use narrow::declared_externals_are_narrow;
 pub use sizes::{declared_sets_are_small, declared_structs_are_small};
 use vlt_resolve_laws::{
-    elaborated_programs_are_kinded, elaborated_programs_have_arms,
-    elaborated_programs_have_blank_externals, elaborated_programs_have_few_variables,
+    elaborated_programs_are_kinded, elaborated_programs_have_arities,
+    elaborated_programs_have_arms, elaborated_programs_have_blank_externals,
+    elaborated_programs_have_few_variables, elaborated_programs_have_no_bounds,
     elaborated_programs_have_sets, elaborated_programs_have_states,
 };
 
@@ -23,6 +24,8 @@ pub fn programs_are_fit()
     elaborated_programs_are_kinded();
     elaborated_programs_have_states();
     elaborated_programs_have_arms();
+    elaborated_programs_have_no_bounds();
+    elaborated_programs_have_arities();
     elaborated_programs_have_sets();
     elaborated_programs_have_few_variables();
     elaborated_programs_have_blank_externals();

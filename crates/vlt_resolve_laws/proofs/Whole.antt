@@ -8,15 +8,17 @@ use Rattle.vlt_syntax.specs.Tree as s
 use Rattle.vlt_syntax.specs.Tree.{Block, Head, Decl, Tree}
 use Rattle.vlt_syntax.specs.Lists.{Each}
 use Rattle.vlt_core.specs.Core as core
-use Rattle.vlt_core.specs.Core.{Ty, SetDecl, Func, Program}
+use Rattle.vlt_core.specs.Core.{Ty, Func, Program}
 use Rattle.vlt_core.specs.Types.{keys_of_ty}
-use Rattle.vlt_core.specs.KindedHeads.{Rules, has, keys_of_parameters, new_keys, type_rows}
+use Rattle.vlt_core.specs.Instances.{bound_in, HasNoBounds}
+use Rattle.vlt_core.specs.KindedHeads.{Rules, has, keys_of_parameters, new_keys, set_broken, type_rows}
 use Rattle.vlt_core.specs.Kinded.{has_main, function_rows, rows_broken, first_broken, IsKinded}
 use Rattle.vlt_core.specs.declared.rules.TheConstants as rule
 use Rattle.vlt_kinds_names.specs.Names as names
 use Rattle.vlt_kinds_names.specs.Names.{no_main, names_again, names_refused}
 use Rattle.vlt_kinds_names.specs.Refusals.{of_each}
-use Rattle.vlt_kinds_types.specs.Files.{File, file_of}
+use Rattle.vlt_kinds_types.specs.Files.{File, sets_in, file_of}
+use Rattle.vlt_kinds_heads.specs.Places.{clause_in}
 use Rattle.vlt_kinds_heads.specs.Keys.{Keys, keys_of}
 use Rattle.vlt_kinds_heads.specs.Phase.{core_head, core_heads_in, core_heads}
 use Rattle.vlt_kinds.specs.Kinds.{Kinds}
@@ -27,6 +29,7 @@ use Rattle.vlt_kinds_laws.proofs.Empty.{cons_not_nil, no_left, not_broken, holds
 use Rattle.vlt_kinds_laws.proofs.Rows.{each_joined, declarations_unbroken}
 use Rattle.vlt_kinds_laws.proofs.Headers.{declarations_described}
 use Rattle.vlt_kinds_laws.specs.Heads.{IsMainAlone}
+use Rattle.vlt_kinds_laws.proofs.Unbound.{none_bound}
 use Rattle.vlt_resolve.specs.Elaboration.{is_main, main_of, elaborated}
 use Rattle.vlt_resolve_laws.specs.Agrees.{HasFields}
 use Rattle.vlt_resolve_laws.specs.Steps.{IsTyped}
@@ -52,9 +55,15 @@ none_broken n [] e = refl
 none_broken n ([] ∷ rows) e = none_broken (suc n) rows e.1
 none_broken n ((r ∷ rs) ∷ rows) e = absurd (cons_not_nil r rs e.0)
 
-sets_right : (sets : List SetDecl) → BreakNothing (map (λ d. []) sets)
+-- the sets of a text have no links
+sets_right : (ds : List Decl) → BreakNothing (map set_broken (of_each sets_in ds))
 sets_right [] = tt
-sets_right (d ∷ ds) = (refl, sets_right ds)
+sets_right (s.stateset n ss at ∷ ds) = (refl, sets_right ds)
+sets_right (s.abstract n ss at ∷ ds) = sets_right ds
+sets_right (s.struct n ps ss fs r at ∷ ds) = sets_right ds
+sets_right (s.variant n ps cs at ∷ ds) = sets_right ds
+sets_right (s.extern h at ∷ ds) = sets_right ds
+sets_right (s.function h b at ∷ ds) = sets_right ds
 
 rows_each : (p : Program) (n : ℕ) (fs : List Func) → ((i : ℕ) (f : Func) → slice_get fs i ≡ Some f → BreakNothing (function_rows p (n + i, f))) → BreakNothing (flat_map (function_rows p) (enumerate_from n fs))
 rows_each p n [] go = tt
@@ -115,7 +124,7 @@ main_is : (hs : List Func) → list_any is_main hs ≡ true → IsMain hs
 main_is hs e =
     let x = first_passing is_main hs e in
     let less = slice_get_within hs (position_or_len is_main hs) x.0 x.1 in
-    let place : main_of hs ≡ position_or_len is_main hs = ap (λ b. unwrap_or (cond b (Some (position_or_len is_main hs)) None) 0) (lt-ltb _ (length hs) less) in
+    let place : main_of hs ≡ position_or_len is_main hs = ap (λ b. unwrap_or (cond b (Some (position_or_len is_main hs)) None) (length hs)) (lt-ltb _ (length hs) less) in
     record { head = x.0; there = ap (slice_get hs) place ∙ x.1; main = x.2 }
 
 abbrev of_func : Option Func → Bool
@@ -133,6 +142,7 @@ pub record Facts (kinds : Kinds) (p : Program) : Type 0 where
   pub parts : HasParts p
   pub cases : HasCases kinds
   pub main : IsMain kinds.heads
+  pub sets : BreakNothing (map set_broken p.sets)
 
 pub passed_of : (t : Tree) (kinds : Kinds) (p : Program) → IsElaborated t kinds p → IsPassed t.decls
 passed_of t kinds p e = let x = told t.decls kinds e.told in record { language = e.tree.0; names = x.names; types = x.types }
@@ -159,6 +169,7 @@ facts_of t kinds p e =
           parts = parts.0;
           cases = cases_distinct t.decls e.ticks x.names;
           main = main_is (core_heads (file_of t.decls) t.decls) (some_main (file_of t.decls) t.decls (main_there t.decls x.names));
+          sets = subst (λ ss. BreakNothing (map set_broken ss)) (sym fs.sets) (sets_right t.decls);
         }
 
 module _ (kinds : Kinds) (p : Program) (x : Facts kinds p) where
@@ -226,13 +237,26 @@ module _ (kinds : Kinds) (p : Program) (x : Facts kinds p) where
   kinded =
       none_broken 0 (rows_broken p) (
         holds (has_main p) rule.NO_MAIN main_right,
-        each_joined (λ r. r ≡ []) (map (λ d. []) p.sets ++ flat_map (λ q. type_rows p q.0 q.1) (enumerate_from 0 p.types)) _
-            (each_joined (λ r. r ≡ []) (map (λ d. []) p.sets) _ (sets_right p.sets) x.types)
+        each_joined (λ r. r ≡ []) (map set_broken p.sets ++ flat_map (λ q. type_rows p q.0 q.1) (enumerate_from 0 p.types)) _
+            (each_joined (λ r. r ≡ []) (map set_broken p.sets) _ x.sets x.types)
             (rows_each p 0 p.fns (λ i f at. subst (λ m. BreakNothing (function_rows p (m, f))) (zero_more i) (functions_right i f at))),
       )
     where
       zero_more : (i : ℕ) → i ≡ 0 + i
       zero_more i = omega arith
+
+-- no clause of a text has a bound entry
+head_unbound : (kinds : Kinds) (h : Head) (b : Option Block) → bound_in (head_made kinds h b).clause ≡ None
+unfolding core_head
+head_unbound kinds h b = none_bound kinds.file (keys_of kinds.file h) (clause_in h.clause)
+
+pub unbound : (kinds : Kinds) (p : Program) → Facts kinds p → HasNoBounds p
+unbound kinds p x i f at =
+    let m = made_at kinds kinds.heads p.fns x.functions.made i f at in
+    ap bound_in (made_head kinds (head_made kinds m.head m.body) m.body f m.made.walked).clause ∙ head_unbound kinds m.head m.body
+
+pub elaborated_unbound : (t : Tree) (kinds : Kinds) (p : Program) → IsElaborated t kinds p → HasNoBounds p
+elaborated_unbound t kinds p e = unbound kinds p (facts_of t kinds p e)
 
 pub elaborated_kinded : (t : Tree) (kinds : Kinds) (p : Program) → IsElaborated t kinds p → IsKinded p
 elaborated_kinded t kinds p e = kinded kinds p (facts_of t kinds p e)
