@@ -2,13 +2,14 @@
 use Rattle.std.proofs.Common.{◌≡◌, inl, inr, Result, Ok, Err, refl}
 use Rattle.vlt_syntax.specs.Tree.{Tree}
 use Rattle.vlt_core.specs.Core.{Program}
-use Rattle.vlt_check.specs.Checks.{IsWellFormed}
+use Rattle.vlt_core_laws.specs.Fit.{IsWellFormed}
 use Rattle.vlt_fit_laws.specs.Fit.{ProgramsAreFit}
 use Rattle.vlt_resolve.specs.Elaboration.{Told}
 use Rattle.vlt_check_laws.specs.Sure.{Surely}
 use Rattle.vlt_check_laws.specs.Judged.{IsJudged}
 use Rattle.vlt_check_laws.proofs.Surely.{sure, so}
-use Rattle.vlt_verdict.specs.Verdicts.{Verdict, refused, faulty, accepted, program_told, IsVerdictOf, HasSomeVerdict}
+use Rattle.vlt_verdict.specs.Verdicts.{Verdict, refused, faulty, accepted, program_told, IsVerdictOf}
+use Rattle.vlt_verdict.specs.Laws.{HasSomeVerdict}
 use Rattle.vlt_verdict.proofs.Single.{fit_program}
 
 abbrev Judged : Tree → Type 0

@@ -1,7 +1,6 @@
 -- What a tree is as a program: refused by a rule on names and types or by a limit, faulty, or accepted.
 use Rattle.std.specs.Prelude.{◌≡◌, Some, Result, Ok, Err, slice_get}
 use Rattle.vlt_syntax.specs.Tree.{Tree}
-use Rattle.vlt_fit_laws.specs.Fit.{IsTextTree}
 use Rattle.vlt_core.specs.Core.{Func, Program}
 use Rattle.vlt_core.specs.Derives.{IsAccepted}
 use Rattle.vlt_core.specs.Faults.{FlowFault, IsFirstFault}
@@ -9,7 +8,6 @@ use Rattle.vlt_kinds_names.specs.declared.found.Refusal.{Refusal}
 use Rattle.vlt_kinds.specs.Kinds.{Kinds}
 use Rattle.vlt_kinds.specs.Tables.{kinds_told}
 use Rattle.vlt_resolve.specs.Elaboration.{Told, broken, elaborated}
-use Rattle.vlt_check_laws.specs.Sure.{Surely}
 
 -- the core program where the declarations are told so
 abbrev pub with_kinds : Tree → Result Kinds Refusal → Result Program Told
@@ -35,11 +33,3 @@ abbrev pub IsVerdictOf : Tree → Verdict → Type 0
 IsVerdictOf t (refused r) = program_told t ≡ Err r
 IsVerdictOf t (faulty p f x) = (program_told t ≡ Ok p) × IsFaultyIn p f x
 IsVerdictOf t (accepted p) = (program_told t ≡ Ok p) × IsAccepted p
-
--- A tree that a text has is of one verdict.
-abbrev pub HasOneVerdict : Type 0
-HasOneVerdict = (t : Tree) (v w : Verdict) → IsTextTree t → IsVerdictOf t v → IsVerdictOf t w → v ≡ w
-
--- It can't be that it is of none.
-abbrev pub HasSomeVerdict : Type 0
-HasSomeVerdict = (t : Tree) → IsTextTree t → Surely ((v : Verdict) × IsVerdictOf t v)

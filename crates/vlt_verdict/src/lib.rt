@@ -7,7 +7,8 @@ ghost use Rattle.std.specs.Prelude.{IfOk};
 ghost use Rattle.vlt_syntax.specs.View.{tree_of};
 ghost use Rattle.vlt_fit_laws.specs.Fit.{IsTextTree};
 ghost use Rattle.vlt_verdict.specs.Verdicts as v;
-ghost use Rattle.vlt_verdict.specs.Verdicts.{IsVerdictOf, HasOneVerdict, HasSomeVerdict};
+ghost use Rattle.vlt_verdict.specs.Verdicts.{IsVerdictOf};
+ghost use Rattle.vlt_verdict.specs.Laws.{HasOneVerdict, HasSomeVerdict};
 ghost use Rattle.vlt_verdict.specs.Seen.{IsSeenAs, IsTellable};
 
 use std::alloc::{AllocError, Global};
