@@ -68,8 +68,8 @@ module _ (law : ProgramsAreFit) (ticks : TextsHaveTicks) (right : GoRight) where
         program = p;
         reads = record { short = short; tree = t; reads = reads; elaborates = is.0 };
         accepted = is.1;
-        never_goes_wrong = right.never p fit.well_formed.kinded is.1 fit.sizes fit.well_formed.states fit.narrow;
-        leaves_only_its_clause = right.leaves p fit.well_formed.kinded is.1 fit.sizes fit.well_formed.states fit.narrow;
+        never_goes_wrong = right.never p fit.kinded is.1 fit.sizes fit.well_formed.states fit.narrow;
+        leaves_only_its_clause = right.leaves p fit.kinded is.1 fit.sizes fit.well_formed.states fit.narrow;
         there = λ told tells. read_there store told (text_in name) bytes read short tells;
         written = subst (λ x. Grew old new x) (ap (λ r. r.text) e) grew;
       }

@@ -3,6 +3,7 @@ use Rattle.std.proofs.Common.{◌≤◌, ◌<◌, ℕ, length, arith}
 use Rattle.std.specs.Prelude.{◌^◌}
 use Rattle.vlt_core.specs.Core.{Program}
 use Rattle.vlt_core.specs.Derives.{IsAccepted}
+use Rattle.vlt_core.specs.Instances.{HasNoBounds}
 use Rattle.vlt_core.specs.Kinded.{IsKinded}
 use Rattle.vlt_core_laws.specs.States.{HasStates}
 use Rattle.vlt_fit_laws.specs.Fit.{IsTextTree, ProgramsAreFit}
@@ -26,7 +27,7 @@ pub record RunLaws : Type 0 where
   pub fit : ProgramsAreFit
   pub never : OfAccepted NeverGoesWrong
   pub calls : OfAccepted KnowsItsCalls
-  pub own : (p : Program) → IsKinded p → HasFewVars p → HasBlankExternals p → HasOwn p
+  pub own : (p : Program) → IsKinded p → HasFewVars p → HasBlankExternals p → HasNoBounds p → HasOwn p
 
 few_vars : (n : ℕ) → n ≤ 256 → n < 2 ^ 32
 few_vars n le = omega (arith, le)
@@ -34,10 +35,10 @@ few_vars n le = omega (arith, le)
 pub runnable : RunLaws → (t : Tree) (p : Program) → IsTextTree t → IsVerdictOf t (accepted p) → IsRunnable p
 runnable laws t p tree is =
     let x = fit_program laws.fit t p tree is.0 in
-    let kinded = x.well_formed.kinded in
+    let kinded = x.kinded in
     let states = x.well_formed.states in
     record {
       never = laws.never p kinded is.1 x.sizes states x.narrow;
-      own = laws.own p kinded (λ i f at. few_vars (length f.vars) (x.few.vars i f at)) x.blank;
+      own = laws.own p kinded (λ i f at. few_vars (length f.vars) (x.few.vars i f at)) x.blank x.well_formed.plain;
       calls = laws.calls p kinded is.1 x.sizes states x.narrow;
     }

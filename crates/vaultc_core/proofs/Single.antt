@@ -8,7 +8,8 @@ use Rattle.vlt_meaning.specs.Run as meaning
 use Rattle.vlt_syntax.specs.Tree.{Tree}
 use Rattle.vlt_fit_laws.specs.Fit.{IsTextTree}
 use Rattle.vlt_given.specs.Given.{Given, numbers, bad_input, bad_answers, given_by}
-use Rattle.vlt_verdict.specs.Verdicts.{Verdict, IsVerdictOf, HasOneVerdict}
+use Rattle.vlt_verdict.specs.Verdicts.{Verdict, IsVerdictOf}
+use Rattle.vlt_verdict.specs.Laws.{HasOneVerdict}
 use Rattle.vlt_verdict.specs.Verdicts as verdict
 use Rattle.vaultc_core.specs.Commands.{Command, check, explain, run, fmt, crun}
 use Rattle.vaultc_core.specs.Sources.{Read, had, unread, too_long, sources_of, read_in}

@@ -10,7 +10,7 @@ use Rattle.vlt_printer.specs.Layout.{layout}
 use Rattle.vlt_core.specs.Core.{Program}
 use Rattle.vlt_core.specs.Faults.{FlowFault, IsFirstFault}
 use Rattle.vlt_core.specs.Widths.{slots_needed}
-use Rattle.vlt_check.specs.Checks.{IsWellFormed}
+use Rattle.vlt_core_laws.specs.Fit.{IsWellFormed}
 use Rattle.vlt_fit_laws.specs.Fit.{IsTextTree, ProgramsAreFit}
 use Rattle.vlt_given.specs.Given.{Given, numbers, bad_input, bad_answers, given_by}
 use Rattle.vlt_meaning.specs.Run as meaning
@@ -21,7 +21,8 @@ use Rattle.vlt_sound.specs.Promise.{NeverGoesWrong}
 use Rattle.vlt_check_laws.specs.Sure.{Surely}
 use Rattle.vlt_check_laws.proofs.Surely.{sure, so}
 use Rattle.vlt_verdict.proofs.Single.{fit_program}
-use Rattle.vlt_verdict.specs.Verdicts.{Verdict, refused, faulty, accepted, IsVerdictOf, HasSomeVerdict}
+use Rattle.vlt_verdict.specs.Verdicts.{Verdict, refused, faulty, accepted, IsVerdictOf}
+use Rattle.vlt_verdict.specs.Laws.{HasSomeVerdict}
 use Rattle.vlt_check_laws.specs.Shown.{HasWitness}
 use Rattle.vaultc_core.specs.declared.status.TheConstants.{DONE, NOT_ACCEPTED}
 use Rattle.vaultc_core.specs.Commands.{Command, check, explain, run, fmt, crun}
@@ -79,7 +80,7 @@ module _ (laws : Laws) where
   of_verdict text given b t tree (faulty p f x) is = (check_reply text (faulty p f x), refl)
   of_verdict text given b t tree (accepted p) is =
       let x = fit_program laws.fit t p tree is.0 in
-      of_program p given b (laws.never p x.well_formed.kinded is.1 x.sizes x.well_formed.states x.narrow)
+      of_program p given b (laws.never p x.kinded is.1 x.sizes x.well_formed.states x.narrow)
 
   -- ---- texts
 

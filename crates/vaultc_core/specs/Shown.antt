@@ -13,7 +13,8 @@ use Rattle.vlt_io.specs.declared.sink.Sink.{Ghosts}
 use Rattle.vlt_syntax.specs.Tree.{Tree}
 use Rattle.vlt_core.specs.Faults.{IsFirstFault}
 use Rattle.vlt_core.specs.View as core
-use Rattle.vlt_check.specs.Checks.{IsWellFormed, fault_of}
+use Rattle.vlt_check.specs.Checks.{fault_of}
+use Rattle.vlt_core_laws.specs.Fit.{IsWellFormed}
 use Rattle.vlt_verdict.specs.Verdicts as verdicts
 use Rattle.vlt_verdict.specs.Seen.{IsSeenAs}
 use Rattle.vlt_verdict.specs.declared.Verdict.{Verdict}
