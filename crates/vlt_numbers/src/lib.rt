@@ -9,10 +9,10 @@ ghost use Rattle.vlt_numbers.specs.Text.{answers_of, input_numbers};
 
 pub use answers::Answers;
 pub use error::NumbersError;
-pub use word::number;
 pub use line::cut;
 use line::push_numbers;
 use std::alloc::Global;
+pub use word::number;
 
 mod answers;
 mod error;
