@@ -18,8 +18,8 @@ use Rattle.vlt_meaning.specs.World.{Ran, is_fault, event_text}
 use Rattle.vlt_reports.specs.Reports.{fault_line, paths_text}
 use Rattle.vlt_run.specs.Ends.{IsTooWide}
 use Rattle.vlt_sound.specs.Promise.{NeverGoesWrong}
-use Rattle.vlt_check_laws.specs.Sure.{Surely}
-use Rattle.vlt_check_laws.proofs.Surely.{sure, so}
+use Rattle.vlt_base.specs.Sure.{Surely}
+use Rattle.vlt_base.proofs.Surely.{sure, so}
 use Rattle.vlt_verdict.proofs.Single.{fit_program}
 use Rattle.vlt_verdict.specs.Verdicts.{Verdict, refused, faulty, accepted, IsVerdictOf}
 use Rattle.vlt_verdict.specs.Laws.{HasSomeVerdict}

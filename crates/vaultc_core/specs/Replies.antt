@@ -10,7 +10,7 @@ use Rattle.vaultc_core.specs.Commands.{Command, check, explain, run, fmt, crun, 
 use Rattle.vaultc_core.specs.Sources.{Read, had, unread, too_long, sources_of, read_in, MayRead}
 use Rattle.vaultc_core.specs.Lines.{Reply, reply, usage_reply, unread_reply, over_reply}
 use Rattle.vaultc_core.specs.Texts.{Refusal, AreRefused, IsTextOf, refusal_reply}
-use Rattle.vlt_check_laws.specs.Sure.{Surely}
+use Rattle.vlt_base.specs.Sure.{Surely}
 use Rattle.vlt_verdict.specs.Verdicts.{Verdict, accepted, IsVerdictOf}
 use Rattle.vaultc_core.specs.Verdicts.{check_reply, IsExplained}
 use Rattle.vlt_given.specs.Given.{Given, given_by}

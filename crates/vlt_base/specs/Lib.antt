@@ -3,3 +3,4 @@ pub mod Place
 pub mod States
 pub mod Parents
 pub mod Refusals
+pub mod Sure

@@ -3,6 +3,8 @@
 //! Every other crate rests on it.
 #![tactic(auto)]
 
+ghost use Rattle.std.specs.Prelude.{◌≡◌, ◌||◌};
+
 mod ids;
 mod limits;
 mod places;
@@ -40,6 +42,13 @@ impl<T: Drop> From<AllocFailed<T>> for Memory {
 #[derive(Clone, Copy, Debug, PartialEq, Eq, Error)]
 #[error("as many objects are live as the budget allows")]
 pub struct HeapEnd;
+
+/// Whether one of two facts holds. Both are evaluated, so a proof goes on with one value and not along two paths.
+pub fn either(a: bool, b: bool) -> bool
+    ensures { result ≡ (a || b) }
+{
+    a || b
+}
 
 /// What a run may use.
 #[derive(Clone, Copy, Debug, PartialEq, Eq)]

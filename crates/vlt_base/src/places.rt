@@ -47,25 +47,3 @@ pub fn place(text: &[u8], at: u32) -> (u32, u32)
 {
     (line(text, at), column(text, at))
 }
-
-#[cfg(test)]
-mod tests {
-    use super::*;
-
-    #[test]
-    fn places(rt: HostRuntime) {
-        let text = b"ab\n\ncd\n";
-        let cases = [
-            (0, (1, 1)),
-            (2, (1, 3)),
-            (3, (2, 1)),
-            (4, (3, 1)),
-            (5, (3, 2)),
-            (7, (4, 1)),
-        ];
-        for (at, want) in cases {
-            assert!(rt; at <= 7);
-            assert_eq!(rt; place(text, at), want, "at {at}");
-        }
-    }
-}

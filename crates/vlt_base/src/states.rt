@@ -76,37 +76,3 @@ impl StateSet {
         s < 32 && self.mask >> s & 1 == 1
     }
 }
-
-#[cfg(test)]
-mod tests {
-    use super::*;
-
-    #[test]
-    fn sets(rt: HostRuntime) {
-        assert_eq!(rt; StateSet::of(0), None);
-        let cases = [
-            (0b101, 0b101, 0b101, true, 0, true),
-            (0b001, 0b101, 0b101, true, 2, false),
-            (0b101, 0b010, 0b111, false, 1, false),
-            (0x8000_0000, 1, 0x8000_0001, false, 31, true),
-            (u32::MAX, 1, u32::MAX, false, 32, false),
-        ];
-        for (mask, other, both, within, state, has) in cases {
-            let set = StateSet::of(mask).expect(&rt, "not empty");
-            let other = StateSet::of(other).expect(&rt, "not empty");
-            assert_eq!(rt; set.join(other).mask(), both, "join at {mask}");
-            assert_eq!(rt; set.within(other), within, "within at {mask}");
-            assert_eq!(rt; set.has(state), has, "{state} in {mask}");
-        }
-        let counts = [(1, 1), (2, 3), (31, 0x7fff_ffff), (32, u32::MAX)];
-        for (count, mask) in counts {
-            assert!(rt; 1 <= count && count <= 32);
-            assert_eq!(rt; StateSet::first(count).mask(), mask, "the first {count}");
-        }
-        let numbers = [(0, 1), (31, 0x8000_0000)];
-        for (number, mask) in numbers {
-            assert!(rt; number < 32);
-            assert_eq!(rt; StateSet::only(number).mask(), mask, "only {number}");
-        }
-    }
-}

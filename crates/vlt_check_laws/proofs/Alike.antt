@@ -2,8 +2,8 @@
 use Rattle.std.proofs.Common.{◌≡◌, ℕ, Bool, true, false, List, [], ◌∷◌, ◌++◌, refl, sym, ◌∙◌}
 use Rattle.vlt_core.specs.Core.{States, Tok}
 use Rattle.vlt_core.specs.Maps.{is_tok}
-use Rattle.vlt_check_laws.specs.Sure.{Surely}
-use Rattle.vlt_check_laws.proofs.Surely.{surely, so, IsTest, tested}
+use Rattle.vlt_base.specs.Sure.{Surely}
+use Rattle.vlt_base.proofs.Surely.{surely, so, IsTest, tested}
 
 pub data Test : Type 0 where
   -- whether a token is this one

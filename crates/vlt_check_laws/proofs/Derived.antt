@@ -15,8 +15,8 @@ use Rattle.vlt_core_laws.specs.Sweep.{Stock, IsFoundIn, found_head_block, found_
 use Rattle.vlt_core_laws.proofs.Deriving.{accepted}
 use Rattle.vlt_core_laws.proofs.Showing.{faultless_local}
 use Rattle.vlt_core_laws.proofs.Spots.{some_spot_block}
-use Rattle.vlt_check_laws.specs.Sure.{Surely}
-use Rattle.vlt_check_laws.proofs.Surely.{sure, surely, so, one_way}
+use Rattle.vlt_base.specs.Sure.{Surely}
+use Rattle.vlt_base.proofs.Surely.{sure, surely, so, one_way}
 use Rattle.vlt_check_laws.proofs.Alike.{Test, Keeps, keeps_left, keeps_right, keeps_own}
 use Rattle.vlt_check_laws.proofs.Closed.{tests_block, IsClosed}
 use Rattle.vlt_check_laws.proofs.Told.{IsTabled, heads_block, exits_block}

@@ -3,8 +3,8 @@ use Rattle.std.proofs.Common.{◌≡◌, ◌<◌, ◌≤◌, ℕ, List, [], ◌�
 use Rattle.std.proofs.lemmas.Bool.{cases_lt}
 use Rattle.vlt_core.specs.Core.{Tok, a_key, a_var}
 use Rattle.vlt_core.specs.Faults.{Spot, IsNoLaterTok, IsNoLater}
-use Rattle.vlt_check_laws.specs.Sure.{Surely}
-use Rattle.vlt_check_laws.proofs.Surely.{sure, surely, so, least_by}
+use Rattle.vlt_base.specs.Sure.{Surely}
+use Rattle.vlt_base.proofs.Surely.{sure, surely, so, least_by}
 
 -- a spot with a token
 record Place : Type 0 where

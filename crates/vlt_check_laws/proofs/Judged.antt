@@ -5,9 +5,9 @@ use Rattle.vlt_core.specs.Derives.{IsAcceptedFunc, IsAccepted}
 use Rattle.vlt_core.specs.Faults.{FaultKind, FlowFault, HasFault, IsFaultIn, IsFirstIn, IsFirstFault}
 use Rattle.vlt_core_laws.specs.Fit.{IsFitBody, IsWellFormed}
 use Rattle.vlt_core_laws.proofs.Formed.{formed_body, first_alone, of_instance, in_instance}
-use Rattle.vlt_check_laws.specs.Sure.{Surely}
+use Rattle.vlt_base.specs.Sure.{Surely}
 use Rattle.vlt_check_laws.specs.Judged.{IsJudged}
-use Rattle.vlt_check_laws.proofs.Surely.{sure, surely, so, one_way, all_in, Least, least}
+use Rattle.vlt_base.proofs.Surely.{sure, surely, so, one_way, all_in, Least, least}
 use Rattle.vlt_check_laws.proofs.Derived.{derived_or_faulty}
 use Rattle.vlt_check_laws.proofs.First.{first_of}
 use Rattle.vlt_check_laws.proofs.Telling.{fault_told}

@@ -1,4 +1,3 @@
-pub mod Surely
 pub mod Alike
 pub mod Closed
 pub mod Told

@@ -6,7 +6,7 @@ use Rattle.vlt_core.specs.Found.{One, one_absent, one_held, one_lent, one_full, 
 use Rattle.vlt_core.specs.Faults.{StandsFor}
 use Rattle.vlt_core_laws.specs.Shown.{Every, IsOneKind}
 use Rattle.vlt_core_laws.specs.Sweep.{Many, In}
-use Rattle.vlt_check_laws.proofs.Surely.{IsTest}
+use Rattle.vlt_base.proofs.Surely.{IsTest}
 use Rattle.vlt_check_laws.proofs.Told.{IsTabled}
 
 abbrev read_by : Many → (absent full lent : Bool) → Status

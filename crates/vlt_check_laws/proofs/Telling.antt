@@ -11,8 +11,8 @@ use Rattle.vlt_core_laws.specs.Fit.{IsFitBody}
 use Rattle.vlt_core_laws.specs.Tame.{ArePlain, IsFocus, IsTame, IsTameBlock, IsTameStmts, IsTameArms}
 use Rattle.vlt_core_laws.specs.Shown.{Every, one_kind, IsGood, IsOneKind, AreFilled, HasFilled, HasFilledBlock, HasFilledStmts, HasFilledArms}
 use Rattle.vlt_core_laws.proofs.Showing.{one_kind_of, good_form, good_block, good_stmts, focus_enter}
-use Rattle.vlt_check_laws.specs.Sure.{Surely}
-use Rattle.vlt_check_laws.proofs.Surely.{so}
+use Rattle.vlt_base.specs.Sure.{Surely}
+use Rattle.vlt_base.proofs.Surely.{so}
 use Rattle.vlt_check_laws.proofs.Alike.{Test, Keeps, keeps_left, keeps_right}
 use Rattle.vlt_check_laws.proofs.Closed.{tests, tests_block, tests_rows, tests_stmts, tests_arms, IsClosed, Related, row_closed, rest_kept, rows_closed, form_closed, head_closed, block_closed, stmts_closed, round_of}
 use Rattle.vlt_check_laws.proofs.Told.{closed_tabled}

@@ -7,8 +7,8 @@ use Rattle.vlt_core.specs.Flow.{Flow, step, choose, loop, switch, scope, focus, 
 use Rattle.vlt_core.specs.Found.{One, one_absent, one_held, one_lent, one_full, images, both, to_next, out, head_of}
 use Rattle.vlt_core_laws.specs.Shown.{Every}
 use Rattle.vlt_core_laws.specs.Sweep.{Many, found_head, found_head_block, found_head_stmts, found_head_arms, found_exit, found_exit_block, found_exit_stmts, found_exit_arms}
-use Rattle.vlt_check_laws.specs.Sure.{Surely}
-use Rattle.vlt_check_laws.proofs.Surely.{sure, surely, so, IsTest}
+use Rattle.vlt_base.specs.Sure.{Surely}
+use Rattle.vlt_base.proofs.Surely.{sure, surely, so, IsTest}
 use Rattle.vlt_check_laws.proofs.Alike.{Test, Case, case_of, StatesAlike, same_state, toks_alike, states_alike, IsDecided, decided, Keeps, keeps_left, keeps_right}
 use Rattle.vlt_check_laws.proofs.Closed.{tests, tests_block, tests_rows, tests_stmts, tests_arms, Related, IsClosed, rows_closed, form_closed, head_closed}
 

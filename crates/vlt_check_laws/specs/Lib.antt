@@ -1,3 +1,2 @@
-pub mod Sure
 pub mod Judged
 pub mod Shown

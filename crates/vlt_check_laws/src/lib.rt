@@ -5,7 +5,7 @@
 
 ghost use Rattle.vlt_core.specs.Core.{Program, Func};
 ghost use Rattle.vlt_core_laws.specs.Fit.{IsWellFormed};
-ghost use Rattle.vlt_check_laws.specs.Sure.{Surely};
+ghost use Rattle.vlt_base.specs.Sure.{Surely};
 ghost use Rattle.vlt_check_laws.specs.Judged.{IsJudged};
 ghost use Rattle.std.specs.Prelude.{List, Option};
 ghost use Rattle.vlt_core.specs.Derives.{IsAccepted};

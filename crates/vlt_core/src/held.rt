@@ -1,5 +1,9 @@
 //! Tokens, their statuses, and the rows of the step table.
 
+ghost use Rattle.std.specs.Prelude.{◌≡◌};
+ghost use Rattle.vlt_core.specs.Maps.{is_tok};
+ghost use Rattle.vlt_core.specs.View.{tok_of};
+
 use vlt_base::{FnId, KeyId, StateSet, VarId};
 
 /// What a path through a function holds or doesn't: a key, or the value of an owning variable.
@@ -7,6 +11,19 @@ use vlt_base::{FnId, KeyId, StateSet, VarId};
 pub enum Tok {
     Key(KeyId),
     Var(VarId),
+}
+
+impl Tok {
+    /// Whether both are the same token.
+    pub fn is_same(self, other: Tok) -> bool
+        ensures { result ≡ is_tok (tok_of self) (tok_of other) }
+    {
+        match (self, other) {
+            (Tok::Key(k), Tok::Key(j)) => k.0 == j.0,
+            (Tok::Var(v), Tok::Var(w)) => v.0 == w.0,
+            _ => false,
+        }
+    }
 }
 
 /// The status of a token at a point.

@@ -14,6 +14,7 @@ use crate::errors::Stop;
 use crate::kept::Kept;
 use crate::pass::{pass_gone, pass_rows};
 use std::alloc::Global;
+use vlt_base::either;
 use vlt_core::{Row, Tok};
 use vlt_keyset::Held;
 use vlt_rows::{Flow, FlowArm, FlowBlock, FlowStmt};
@@ -49,12 +50,6 @@ fn stops(at: usize) -> Walked
     ensures at { result.at ≡ at }
 {
     Walked { held: None, at }
-}
-
-fn either(a: bool, b: bool) -> bool
-    ensures { result ≡ (a || b) }
-{
-    a || b
 }
 
 fn pass(held: Held, rows: &[Row]) -> Result<Held, Stop>

@@ -20,7 +20,7 @@ mod tables;
 use crate::sweep::spread;
 pub use ones::Ones;
 pub use pass::pass_row;
-pub use singles::{is_empty, is_same_tok, made, nothing};
+pub use singles::{is_empty, made, nothing};
 use std::alloc::{AllocError, Global};
 pub use tables::Tables;
 use vlt_core::Tok;

@@ -10,14 +10,14 @@ ghost use Rattle.vlt_found.specs.Ones.{many_of};
 ghost use Rattle.vlt_found.specs.Passes.{IsMoved};
 
 use crate::ones::Ones;
-use crate::singles::{is_same_tok, moved};
+use crate::singles::moved;
 use vlt_core::{After, Row, Tok, Wanted};
 
 /// What a row leaves of a token of which these are found.
 pub fn pass_row(tok: Tok, row: Row, m: Ones) -> Ones
     ensures { IsMoved (tok_of tok) (row_of row) (many_of m) (many_of result) }
 {
-    if is_same_tok(tok, row.tok) {
+    if tok.is_same(row.tok) {
         moved(row.wanted, row.after, m)
     } else {
         m

@@ -9,7 +9,8 @@ ghost use Rattle.vlt_core_laws.specs.Sweep.{In};
 ghost use Rattle.vlt_found.specs.Ones.{many_of, gap_of};
 
 use crate::ones::Ones;
-use vlt_core::{After, Tok, Wanted};
+use vlt_base::either;
+use vlt_core::{After, Wanted};
 
 /// A table by its parts.
 pub fn made(absent: bool, full: bool, held: u32, lent: u32) -> Ones
@@ -51,12 +52,6 @@ pub fn is_empty(a: Ones) -> bool
         return false;
     }
     true
-}
-
-fn either(a: bool, b: bool) -> bool
-    ensures { result ≡ (a || b) }
-{
-    a || b
 }
 
 pub fn union(a: Ones, b: Ones) -> Ones
@@ -109,17 +104,6 @@ pub fn moved(wanted: Wanted, after: After, s: Ones) -> Ones
         LeftBy (after_of after) o' o) }
 {
     left_by(after, wanted_in(wanted, s))
-}
-
-/// Whether both are the same token.
-pub fn is_same_tok(a: Tok, b: Tok) -> bool
-    ensures { result ≡ is_tok (tok_of a) (tok_of b) }
-{
-    match (a, b) {
-        (Tok::Key(i), Tok::Key(j)) => i.0 == j.0,
-        (Tok::Var(i), Tok::Var(j)) => i.0 == j.0,
-        _ => false,
-    }
 }
 
 /// What a token comes with at first.

@@ -97,35 +97,3 @@ impl Store for MemStore {
         Ok(Vec::from_slice(alloc, front)?)
     }
 }
-
-#[cfg(test)]
-mod tests {
-    use super::*;
-    use std::test::Fail;
-
-    #[test]
-    fn reads(rt: HostRuntime) -> Result<(), Fail> {
-        let alloc = rt.alloc();
-        let mut store = MemStore::new(alloc, &[4])?;
-        store.add("a.v", b"first")?;
-        store.add("b.v", b"")?;
-        store.add("a.v", b"second")?;
-        let cases = [
-            ("a.v", 6, Ok("second")),
-            ("a.v", 2, Ok("sec")),
-            ("c.v", 9, Err(StoreError::Failed)),
-            ("a.v", 6, Err(StoreError::Failed)),
-            ("b.v", 0, Ok("")),
-            ("a.v", 0, Ok("s")),
-        ];
-        for (name, limit, want) in cases {
-            assert!(rt; limit < 10);
-            match (store.read(alloc, name, limit), want) {
-                (Ok(bytes), Ok(want)) => assert_eq!(rt; bytes.as_slice(), want.as_bytes()),
-                (Err(error), Err(want)) => assert_eq!(rt; error, want),
-                _ => panic!(rt; "{name} up to {limit}"),
-            }
-        }
-        Ok(())
-    }
-}

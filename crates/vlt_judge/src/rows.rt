@@ -12,7 +12,7 @@ ghost use Rattle.vlt_judge.specs.Blames.{class_of, FirstOfRow, FirstOfRows, Firs
 use crate::blame::{Blame, Class, earlier};
 use crate::telling::{is_mixed, is_unwanted, present_status, status_in};
 use vlt_core::{After, FaultKind, Row, Tok, Wanted};
-use vlt_found::{Ones, is_same_tok, pass_row};
+use vlt_found::{Ones, pass_row};
 
 /// The first fault of rows, and what they leave.
 #[derive(Clone, Copy)]
@@ -24,7 +24,7 @@ pub struct Passed {
 fn judge_row(tok: Tok, row: Row, at: u32, number: usize, m: Ones) -> Option<Blame>
     ensures { FirstOfRow (tok_of tok) at number (row_of row) (In (many_of m)) result }
 {
-    if is_same_tok(tok, row.tok) && is_unwanted(row.wanted, m) {
+    if tok.is_same(row.tok) && is_unwanted(row.wanted, m) {
         Some(Blame {
             at,
             class: Class::Row,

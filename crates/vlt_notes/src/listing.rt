@@ -10,7 +10,7 @@ ghost use Rattle.vlt_notes.specs.Listed.{IsLong, IsHeld, IsNoted, map_in};
 use crate::passing::{passes_arms, passes_block};
 use crate::statuses::listed;
 use std::alloc::Global;
-use vlt_base::{Items, Memory, StmtId};
+use vlt_base::{Items, Memory, StmtId, either};
 use vlt_core::{Note, TokMap};
 use vlt_flow::Kept;
 use vlt_rows::{Flow, FlowArm, FlowBlock, FlowStmt};
@@ -42,12 +42,6 @@ fn behind(alloc: Global, kept: &Kept, n: usize) -> Result<TokMap, Memory>
         Ok(held) => listed(alloc, &held),
         Err(_) => Err(Memory),
     }
-}
-
-fn either(a: bool, b: bool) -> bool
-    ensures { result ≡ (a || b) }
-{
-    a || b
 }
 
 fn note_loop(alloc: Global, notes: &mut Items<Note>, kept: &Kept, n: usize) -> Result<(), Memory>

@@ -17,8 +17,6 @@ pub use word::number;
 mod answers;
 mod error;
 mod line;
-#[cfg(test)]
-mod tests;
 mod word;
 
 const LINE_ENDS: &[u8] = b"\n";

@@ -7,9 +7,6 @@ ghost use Rattle.std.specs.Prelude.{◌≡◌, if◌then◌else◌, ok_or, pos};
 ghost use Rattle.vlt_ops.specs.Operator.{applied, bool_number, equals, is_true, row_of, trap_number};
 
 mod rows;
-#[cfg(test)]
-mod tests;
-
 /// An operator. `-` is `Negate` before one operand and `Subtract` between two.
 #[derive(Clone, Copy, Debug, PartialEq, Eq, Hash)]
 pub enum Op {

@@ -16,8 +16,8 @@ ghost use Rattle.vlt_paths.specs.Along.{state_of, IsBound, AlongForm, AlongBlock
 ghost use Rattle.vlt_paths.specs.Legs.{Led, Onward, IsNext};
 
 use crate::passing::{
-    is_same_tok, past_arm, past_expr, past_focus, past_focus_end, past_form, past_gone, past_left,
-    past_return, past_switch,
+    past_arm, past_expr, past_focus, past_focus_end, past_form, past_gone, past_left, past_return,
+    past_switch,
 };
 use crate::point::{Hunt, Point};
 use vlt_base::VarId;
@@ -57,7 +57,7 @@ fn is_among(tok: Tok, toks: &[Tok]) -> bool
     ensures { result ≡ list_any (is_tok (tok_of tok)) (toks_of toks.now) }
 {
     for t in toks {
-        if is_same_tok(tok, *t) {
+        if tok.is_same(*t) {
             return true;
         }
     }

@@ -32,16 +32,6 @@ struct Passing<'a> {
     point: Point<'a>,
 }
 
-pub fn is_same_tok(a: Tok, b: Tok) -> bool
-    ensures { result ≡ is_tok (tok_of a) (tok_of b) }
-{
-    match (a, b) {
-        (Tok::Key(k), Tok::Key(j)) => k.0 == j.0,
-        (Tok::Var(v), Tok::Var(w)) => v.0 == w.0,
-        _ => false,
-    }
-}
-
 impl Hunt {
     /// Whether a row of this token at this place, which wants this, is the one.
     fn is_sought(self, at: u32, tok: Tok, wants: Wants) -> bool
@@ -50,7 +40,7 @@ impl Hunt {
     {
         match self.row {
             None => false,
-            Some(row) => at == row.at && is_same_tok(self.tok, tok) && wants.is_same(row.wants),
+            Some(row) => at == row.at && self.tok.is_same(tok) && wants.is_same(row.wants),
         }
     }
 
@@ -80,7 +70,7 @@ impl<'a> Passing<'a> {
     fn pass(&mut self, tok: Tok, wants: Wants, leaves: Leaves)
         ensures { IsTaken (row (tok_of tok) (wants_of wants) (leaves_of leaves)) self.old self.new }
     {
-        if !is_same_tok(self.hunt.tok, tok) {
+        if !self.hunt.tok.is_same(tok) {
             return;
         }
         let point = self.point;

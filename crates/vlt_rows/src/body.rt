@@ -20,21 +20,11 @@ use std::alloc::{AllocError, Global};
 use vlt_base::{Items, KeyId, VarId};
 use vlt_core::{Arm, Block, Form, Func, Program, Stmt, Tok};
 
-fn is_same(a: Tok, b: Tok) -> bool
-    ensures { result ≡ is_tok (tok_of a) (tok_of b) }
-{
-    match (a, b) {
-        (Tok::Key(k), Tok::Key(j)) => k.0 == j.0,
-        (Tok::Var(v), Tok::Var(w)) => v.0 == w.0,
-        _ => false,
-    }
-}
-
 fn is_among(t: Tok, toks: &[Tok]) -> bool
     ensures { result ≡ list_any (is_tok (tok_of t)) (toks_of toks.now) }
 {
     for u in toks {
-        if is_same(t, *u) {
+        if t.is_same(*u) {
             return true;
         }
     }

@@ -5,9 +5,9 @@ use Rattle.vlt_core.specs.Core.{Program}
 use Rattle.vlt_core_laws.specs.Fit.{IsWellFormed}
 use Rattle.vlt_fit_laws.specs.Fit.{ProgramsAreFit}
 use Rattle.vlt_resolve.specs.Elaboration.{Told}
-use Rattle.vlt_check_laws.specs.Sure.{Surely}
+use Rattle.vlt_base.specs.Sure.{Surely}
 use Rattle.vlt_check_laws.specs.Judged.{IsJudged}
-use Rattle.vlt_check_laws.proofs.Surely.{sure, so}
+use Rattle.vlt_base.proofs.Surely.{sure, so}
 use Rattle.vlt_verdict.specs.Verdicts.{Verdict, refused, faulty, accepted, program_told, IsVerdictOf}
 use Rattle.vlt_verdict.specs.Laws.{HasSomeVerdict}
 use Rattle.vlt_verdict.proofs.Single.{fit_program}

@@ -2,7 +2,7 @@
 use Rattle.std.specs.Prelude.{◌≡◌}
 use Rattle.vlt_syntax.specs.Tree.{Tree}
 use Rattle.vlt_fit_laws.specs.Fit.{IsTextTree}
-use Rattle.vlt_check_laws.specs.Sure.{Surely}
+use Rattle.vlt_base.specs.Sure.{Surely}
 use Rattle.vlt_verdict.specs.Verdicts.{Verdict, IsVerdictOf}
 
 -- A tree that a text has is of one verdict.

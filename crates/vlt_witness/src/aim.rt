@@ -14,7 +14,7 @@ use crate::seen::JoinName;
 use crate::single::{Single, has, without};
 use vlt_base::StateSet;
 use vlt_core::{After, Row, Tok, Wanted};
-use vlt_found::{Ones, is_empty, is_same_tok, made, pass_row};
+use vlt_found::{Ones, is_empty, made, pass_row};
 
 /// What a path is to meet.
 #[derive(Clone, Copy)]
@@ -79,7 +79,7 @@ pub fn is_met_at_row(aim: Aim, at: u32, row: Row, m: Ones) -> bool
     match aim.goal {
         Goal::Refusal(wanted) => {
             at == aim.at
-                && is_same_tok(aim.tok, row.tok)
+                && aim.tok.is_same(row.tok)
                 && is_same_wanted(row.wanted, wanted)
                 && !is_empty(refused(row, m))
         }

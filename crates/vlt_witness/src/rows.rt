@@ -17,21 +17,15 @@ use crate::aim::{Aim, is_met_at_row};
 use crate::seen::{Seen, note};
 use crate::ways::{Way, add};
 use std::alloc::{AllocError, Global};
-use vlt_base::Items;
+use vlt_base::{Items, either};
 use vlt_core::{After, Row, Tok, Wanted};
-use vlt_found::{Ones, is_same_tok, pass_row};
+use vlt_found::{Ones, pass_row};
 
 /// What rows leave, and whether the aim is met at one of them.
 #[derive(Clone, Copy)]
 struct Looked {
     ones: Ones,
     met: bool,
-}
-
-fn either(a: bool, b: bool) -> bool
-    ensures { result ≡ (a || b) }
-{
-    a || b
 }
 
 fn look(aim: Aim, at: u32, rows: &[Row], m: Ones) -> Looked
@@ -126,7 +120,7 @@ fn has_rows_of(tok: Tok, rows: &[Row]) -> bool
     ensures { IsTrue result ⊎ HasNoRow (tok_of tok) (rows_view rows.now) }
 {
     for row in rows {
-        if is_same_tok(tok, row.tok) {
+        if tok.is_same(row.tok) {
             return true;
         }
     }

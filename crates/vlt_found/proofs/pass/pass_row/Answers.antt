@@ -5,8 +5,8 @@ use Rattle.vlt_found.specs.Ones.{many_of}
 use Rattle.vlt_found.proofs.Passing.{moved_own, moved_other}
 use Rattle.vlt_found.proofs.pass.pass_row.Goals as goal
 
-pub returns-then-is_same_tok : goal.returns-then-is_same_tok
-returns-then-is_same_tok c = moved_own (tok_of c.args.tok) (row_of c.args.row) (many_of c.args.m) (many_of c.moved.result) (sym c.is_same_tok.ensures ∙ c.if-is_same_tok.true) c.moved.ensures
+pub returns-then-is_same : goal.returns-then-is_same
+returns-then-is_same c = moved_own (tok_of c.args.tok) (row_of c.args.row) (many_of c.args.m) (many_of c.moved.result) (sym c.is_same.ensures ∙ c.if-is_same.true) c.moved.ensures
 
-pub returns-else-is_same_tok : goal.returns-else-is_same_tok
-returns-else-is_same_tok c = moved_other (tok_of c.args.tok) (row_of c.args.row) (many_of c.args.m) (sym c.is_same_tok.ensures ∙ c.if-is_same_tok.false)
+pub returns-else-is_same : goal.returns-else-is_same
+returns-else-is_same c = moved_other (tok_of c.args.tok) (row_of c.args.row) (many_of c.args.m) (sym c.is_same.ensures ∙ c.if-is_same.false)

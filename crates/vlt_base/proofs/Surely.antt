@@ -2,7 +2,7 @@
 use Rattle.std.proofs.Common.{◌≡◌, ◌<◌, ◌≤◌, ℕ, zero, suc, Bool, true, false, IsTrue, List, [], ◌∷◌, Some, slice_get, ◌⊎◌, inl, inr, ⊎_elim, refl, sym, subst, true≢false, arith}
 use Rattle.std.proofs.lemmas.Bool.{cases_lt}
 use Rattle.std.proofs.lemmas.Option.{none-some, same_Some}
-use Rattle.vlt_check_laws.specs.Sure.{Surely}
+use Rattle.vlt_base.specs.Sure.{Surely}
 
 pub sure : {A : Type 0} → A → Surely A
 sure a = λ never. never a
