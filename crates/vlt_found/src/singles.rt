@@ -1,9 +1,7 @@
 //! Single statuses.
 
 ghost use Rattle.std.specs.Prelude.{◌≡◌, ◌↔◌, ◌⊎◌, ◌||◌, true, IsTrue};
-ghost use Rattle.vlt_core.specs.View.{tok_of};
 ghost use Rattle.vlt_core.specs.HeldView.{wanted_of, after_of};
-ghost use Rattle.vlt_core.specs.Maps.{is_tok};
 ghost use Rattle.vlt_core.specs.Found.{One, WantsOne, LeftBy};
 ghost use Rattle.vlt_core_laws.specs.Sweep.{In};
 ghost use Rattle.vlt_found.specs.Ones.{many_of, gap_of};
