@@ -1,6 +1,7 @@
 //! The program: words and real files go in, a status comes out, and lines go to standard output.
 //! Read `status_of` first.
-//! Rests on it: nothing. It rests on `vaultc_core::vaultc`, which does the rest.
+//! Rests on `vaultc_core::vaultc`, which does the rest; the store keeps what it read, so that the promise of `check` is one on
+//! these bytes.
 #![tactic(auto)]
 
 ghost use Rattle.std.specs.Prelude.{◌≡◌, ◌≢◌, ◌⊎◌, IfErr};
@@ -12,7 +13,7 @@ use std::process::ExitCode;
 use std::rt::{Env, Files};
 use vaultc_core::status::{NO_COMMAND, NO_MEMORY, SINK_FAILED};
 use vaultc_core::vaultc;
-use vlt_io::{DirStore, OutSink};
+use vlt_io::{DirStore, Logged, OutSink};
 
 /// The words behind the program's name.
 fn words_of<R: Env + AllocGlobal>(rt: &R) -> io::Result<Vec<String>> {
@@ -32,7 +33,7 @@ fn status_of<R: Files + Print + AllocGlobal>(rt: &R, words: io::Result<Vec<Strin
     ensures no_memory { IfErr words (λ e. error_kind e ≡ ErrorKind.OutOfMemory →
         result ≡ NO_MEMORY) }
 {
-    let mut store = DirStore::new(rt);
+    let mut store = Logged::new(rt.alloc(), DirStore::new(rt));
     let mut out = OutSink::new(io::writer(rt));
     match words {
         Ok(words) => vaultc(rt.alloc(), words.as_slice(), &mut store, &mut out),
