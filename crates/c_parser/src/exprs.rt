@@ -69,21 +69,23 @@ fn behind_paren(
     match token(lexemes, at) {
         Some(Token::Operator(Op::Subtract)) => {
             let (operand, next) = expr(alloc, lexemes, at + 1, depth)?;
+            let operand = Boxed::new(alloc, operand)?;
             let next = sign(lexemes, next, CSign::CloseParen)?;
-            Ok((CExpr::Unary(Op::Negate, Boxed::new(alloc, operand)?), next))
+            Ok((CExpr::Unary(Op::Negate, operand), next))
         }
         Some(Token::Operator(Op::Not)) => {
             let (operand, next) = expr(alloc, lexemes, at + 1, depth)?;
+            let operand = Boxed::new(alloc, operand)?;
             let next = sign(lexemes, next, CSign::CloseParen)?;
-            Ok((CExpr::Unary(Op::Not, Boxed::new(alloc, operand)?), next))
+            Ok((CExpr::Unary(Op::Not, operand), next))
         }
         _ => {
             let (left, here) = expr(alloc, lexemes, at, depth)?;
+            let left = Boxed::new(alloc, left)?;
             let op = operator(lexemes, here)?;
             let (right, next) = expr(alloc, lexemes, here + 1, depth)?;
-            let next = sign(lexemes, next, CSign::CloseParen)?;
-            let left = Boxed::new(alloc, left)?;
             let right = Boxed::new(alloc, right)?;
+            let next = sign(lexemes, next, CSign::CloseParen)?;
             Ok((CExpr::Binary(op, left, right), next))
         }
     }

@@ -1,6 +1,6 @@
 //! The rules on heads, and the heads of a file.
 
-ghost use Rattle.std.specs.Prelude.{◌≡◌, ◌++◌, map, IfOk, OnOk};
+ghost use Rattle.std.specs.Prelude.{◌≡◌, ◌≤◌, ◌++◌, ◌∷◌, [], length, map, IfOk, OnOk};
 ghost use Rattle.vlt_syntax.specs.View as view;
 ghost use Rattle.vlt_syntax.specs.Lists.{Each};
 ghost use Rattle.vlt_syntax.specs.Grammar.{IsDecl, IsHead, language};
@@ -213,6 +213,23 @@ fn check_extern<'a>(
     Ok(keys)
 }
 
+/// Adds the head that has these keys.
+fn push_head(
+    alloc: Heap,
+    file: &File<'_>,
+    external: bool,
+    head: &Head,
+    keys: &HeadKeys<'_>,
+    heads: &mut Items<Func>,
+) -> Result<(), AllocError>
+    requires { length head.now.parameters ≤ 16 }
+    ensures { OnOk result (map core_view.func_of heads.new ≡ map core_view.func_of heads.old
+        ++ q.core_head (file_seen file.now) external (view.head_of head.now)
+        (keys_seen keys.now) ∷ []) }
+{
+    heads.push(keys.core_head(alloc, file, external, head)?)
+}
+
 /// Adds the head that is declared here, if one is. What is wrong in it is refused.
 fn add_head(
     alloc: Heap,
@@ -233,11 +250,11 @@ fn add_head(
     match decl {
         Decl::Extern { head, .. } => {
             let keys = check_extern(alloc, file, types, head, found)?;
-            heads.push(keys.core_head(alloc, file, true, head)?)
+            push_head(alloc, file, true, head, &keys, heads)
         }
         Decl::Function { head, .. } => {
             let keys = check_head(alloc, file, head, found)?;
-            heads.push(keys.core_head(alloc, file, false, head)?)
+            push_head(alloc, file, false, head, &keys, heads)
         }
         _ => Ok(()),
     }

@@ -1,7 +1,7 @@
 //! Single tokens. Each part of the parser takes the position of a token, counted from 0, and answers what it
 //! read with the position behind it.
 
-ghost use Rattle.std.specs.Prelude.{◌≡◌, ◌∷◌, [], ◌+◌, ℕ, List, IfOk, IfErr, IfSome, IfNone};
+ghost use Rattle.std.specs.Prelude.{◌≡◌, ◌∷◌, [], ◌+◌, ℕ, List, IfOk, IfErr, IfSome, IfNone, IsTrue, IsFalse};
 ghost use Rattle.vlt_syntax.specs.Tokens.{token_from, sign as a_sign, keyword as a_keyword};
 ghost use Rattle.vlt_syntax.specs.Spelling.{name_then, case_name_then};
 ghost use Rattle.vlt_syntax.specs.View.{name_of};
@@ -68,6 +68,20 @@ pub fn span(tokens: &[Token<'_>], from: usize, to: usize) -> Span
     }
 }
 
+/// Whether a sign stands at a position.
+fn is_sign(tokens: &[Token<'_>], at: usize, mark: Mark) -> bool
+    ensures here { IsTrue result →
+        tokens_from tokens.now at ≡ a_sign mark ∷ tokens_from tokens.now (at + 1) }
+    ensures within { IsTrue result → Moves tokens.now at (at + 1) }
+    ensures ahead { IsTrue result → Comes (a_sign mark) tokens.now at (at + 1) }
+    ensures lacks { IsFalse result → LacksSign mark (lexemes_from tokens.now at) }
+{
+    match kind(tokens, at) {
+        Some(TokenKind::Sign(found)) => found == mark,
+        _ => false,
+    }
+}
+
 /// The position behind a sign, if it comes next.
 pub fn behind_sign(tokens: &[Token<'_>], at: usize, mark: Mark) -> Option<usize>
     ensures spelled { IfSome result (λ next.
@@ -77,9 +91,10 @@ pub fn behind_sign(tokens: &[Token<'_>], at: usize, mark: Mark) -> Option<usize>
     ensures ahead { IfSome result (λ next. Comes (a_sign mark) tokens.now at next) }
     ensures lacks { IfNone result (LacksSign mark (lexemes_from tokens.now at)) }
 {
-    match tokens.get(at)?.kind {
-        TokenKind::Sign(found) if found == mark => Some(at + 1),
-        _ => None,
+    if is_sign(tokens, at, mark) {
+        Some(at + 1)
+    } else {
+        None
     }
 }
 
@@ -100,6 +115,20 @@ pub fn sign(tokens: &[Token<'_>], at: usize, mark: Mark) -> Result<usize, ParseE
     }
 }
 
+/// Whether a keyword stands at a position.
+fn is_keyword(tokens: &[Token<'_>], at: usize, word: Word) -> bool
+    ensures here { IsTrue result →
+        tokens_from tokens.now at ≡ a_keyword word ∷ tokens_from tokens.now (at + 1) }
+    ensures within { IsTrue result → Moves tokens.now at (at + 1) }
+    ensures ahead { IsTrue result → Comes (a_keyword word) tokens.now at (at + 1) }
+    ensures lacks { IsFalse result → LacksKeyword word (lexemes_from tokens.now at) }
+{
+    match kind(tokens, at) {
+        Some(TokenKind::Keyword(found)) => found == word,
+        _ => false,
+    }
+}
+
 /// The position behind a keyword.
 pub fn keyword(tokens: &[Token<'_>], at: usize, word: Word) -> Result<usize, ParseError>
     ensures spelled { IfOk result (λ next.
@@ -112,15 +141,10 @@ pub fn keyword(tokens: &[Token<'_>], at: usize, word: Word) -> Result<usize, Par
         (e ≡ refusal (lexemes_from tokens.now at)) ×
         LacksKeyword word (lexemes_from tokens.now at)) }
 {
-    match tokens.get(at) {
-        Some(
-            Token {
-                kind: TokenKind::Keyword(found),
-                ..
-            },
-        ) if *found == word => Ok(at + 1),
-        _ => Err(unexpected(tokens, at)),
+    if !is_keyword(tokens, at, word) {
+        return Err(unexpected(tokens, at));
     }
+    Ok(at + 1)
 }
 
 pub fn name(alloc: Global, tokens: &[Token<'_>], at: usize) -> Result<(Name, usize), ParseError>

@@ -5,11 +5,11 @@ ghost use Rattle.vlt_lexer.specs.declared.token.TokenKind.TheVariants as kinds;
 ghost use Rattle.vlt_lexer.specs.declared.token.Word.TheVariants.{Print, Return, Release, Become, Swap, Open, Into};
 ghost use Rattle.vlt_lexer.specs.declared.token.Mark.TheVariants.{OpenParen, CloseParen, Assign, Semicolon, Dot, At, Comma};
 ghost use Rattle.vlt_syntax.specs.Spelling.{condition_then, stmt_then};
-ghost use Rattle.vlt_syntax.specs.Grammar.{IsExpr, language};
+ghost use Rattle.vlt_syntax.specs.Grammar.{IsExpr, IsRight, language};
 ghost use Rattle.vlt_syntax.specs.Places.{stmt_at};
-ghost use Rattle.vlt_syntax.specs.View.{expr_of, stmt_of};
+ghost use Rattle.vlt_syntax.specs.View.{expr_of, right_of, stmt_of};
 ghost use Rattle.vlt_automaton.specs.Language as automaton;
-ghost use Rattle.vlt_parser_simple.specs.Simple.{IsSimple, condition_at};
+ghost use Rattle.vlt_parser_simple.specs.Simple.{IsSimple, condition_at, set_then, set_at};
 ghost use Rattle.vlt_parser_exprs.specs.Ahead.{lexemes_from, BeginsWith};
 ghost use Rattle.vlt_parser_exprs.specs.Promises.{Advances, Holds, Lies, Spells, Takes};
 
@@ -21,7 +21,7 @@ use vlt_parser_exprs::exprs::expr;
 use vlt_parser_exprs::lists::some_listed;
 use vlt_parser_exprs::tokens::{keyword, kind, name, next_sign, sign, span, unexpected};
 use vlt_parser_exprs::types::ty;
-use vlt_syntax::{Expr, Stmt};
+use vlt_syntax::{Expr, Right, Stmt};
 
 /// An expression in parentheses.
 pub fn condition(
@@ -42,6 +42,21 @@ pub fn condition(
     Ok((found, next))
 }
 
+/// `= 1;`
+fn set_to(alloc: Global, tokens: &[Token<'_>], at: usize) -> Result<(Right, usize), ParseError>
+    ensures spelled { Spells right_of set_then tokens.now at result }
+    ensures placed { Lies right_of set_at tokens.now at result }
+    ensures right { Holds right_of (IsRight language) result }
+    ensures moves { Advances tokens.now at result }
+    ensures place { Takes (automaton.sign Assign ∷ automaton.right ∷
+        automaton.sign Semicolon ∷ []) tokens.now at result }
+{
+    let next = sign(tokens, at, Mark::Assign)?;
+    let (value, next) = right(alloc, tokens, next)?;
+    let next = sign(tokens, next, Mark::Semicolon)?;
+    Ok((value, next))
+}
+
 /// `int x = 1;`
 fn declare(alloc: Global, tokens: &[Token<'_>], at: usize) -> Result<(Stmt, usize), ParseError>
     ensures spelled { Spells stmt_of stmt_then tokens.now at result }
@@ -54,9 +69,7 @@ fn declare(alloc: Global, tokens: &[Token<'_>], at: usize) -> Result<(Stmt, usiz
 {
     let (ty, next) = ty(alloc, tokens, at)?;
     let (name, next) = name(alloc, tokens, next)?;
-    let next = sign(tokens, next, Mark::Assign)?;
-    let (value, next) = right(alloc, tokens, next)?;
-    let next = sign(tokens, next, Mark::Semicolon)?;
+    let (value, next) = set_to(alloc, tokens, next)?;
     let at = span(tokens, at, next);
     Ok((
         Stmt::Declare {
@@ -79,9 +92,7 @@ fn assign(alloc: Global, tokens: &[Token<'_>], at: usize) -> Result<(Stmt, usize
         automaton.sign Semicolon ∷ []) tokens.now at result }
 {
     let (name, next) = name(alloc, tokens, at)?;
-    let next = sign(tokens, next, Mark::Assign)?;
-    let (value, next) = right(alloc, tokens, next)?;
-    let next = sign(tokens, next, Mark::Semicolon)?;
+    let (value, next) = set_to(alloc, tokens, next)?;
     let at = span(tokens, at, next);
     Ok((Stmt::Assign { name, value, at }, next))
 }

@@ -1,5 +1,7 @@
 -- Tokens are the spelling of at most one statement.
-use Rattle.std.proofs.Common.{◌≡◌, ℕ, ◌-◌, true, List, [], ◌∷◌, refl, sym, ap, subst, ◌∙◌}
+use Rattle.std.proofs.Common.{◌≡◌, ℕ, ◌-◌, true, false, List, [], ◌∷◌, refl, sym, ap, subst, ◌∙◌}
+use Rattle.std.proofs.Math.Dec.{eqb}
+use Rattle.std.proofs.lemmas.Bool.{eq-eqb}
 use Rattle.vlt_lexer.specs.declared.token.Word.TheVariants as word
 use Rattle.vlt_lexer.specs.declared.token.Mark.TheVariants as mark
 use Rattle.vlt_syntax.specs.Tokens as t
@@ -108,6 +110,13 @@ stmt_class (s.swap x f v at) r = refl
 stmt_class (s.open_into x vs at) r = refl
 stmt_class (s.focus x k z b at) r = refl
 
+-- the same tokens begin one form
+same_form : (x y : Stmt) (r q : List Token) → stmt_then x r ≡ stmt_then y q → eqb (index_stmt x) (index_stmt y) ≡ true
+same_form x y r q e = eq-eqb (index_stmt x) (index_stmt y) (sym (stmt_class x r) ∙ ap class_stmt e ∙ stmt_class y q)
+
+never : false ≡ true → ⊥
+never e = cc
+
 -- a statement doesn't begin with a closing brace
 closed_class : (x : Stmt) (r c : List Token) → stmt_then x r ≡ t.sign mark.CloseBrace ∷ c → index_stmt x ≡ 0
 closed_class x r c e = sym (stmt_class x r) ∙ ap class_stmt e
@@ -188,7 +197,7 @@ mutual
       let d = one_name z y (block_then v r) (block_then u q) tt tt tt tt cc in
       let c = one_block b room v u r q p o d.1 in
       (three (λ g h k. with_span (without_tokens s.focus ◂ 1 ⊛ g ◂ 3 ⊛ h ◂ 1 ⊛ k ⊛ block_at v)) n.0 m.0 d.0 ∙ ap (λ k. with_span (without_tokens s.focus ◂ 1 ⊛ name_at w ◂ 3 ⊛ name_at l ◂ 1 ⊛ name_at y ⊛ k)) c.0, c.1)
-  one_stmt b room x y r q p o h i e = let same : index_stmt x ≡ index_stmt y = sym (stmt_class x r) ∙ ap class_stmt e ∙ stmt_class y q in absurd cc
+  one_stmt b room x y r q p o h i e = absurd (never (same_form x y r q e))
 
   pub one_block : (b : Bounds) (room : ℕ) (x y : Block) (r q : List Token) → IsBlock b room x → IsBlock b room y → block_then x r ≡ block_then y q → Same block_at x y r q
   one_block b room (s.braced v at) (s.braced u bt) r q p o e =
