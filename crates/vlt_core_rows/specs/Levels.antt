@@ -1,7 +1,10 @@
 -- Levels: an ordered set of states, and functions that keep a key in any state up to a bound.
 use Rattle.std.specs.Prelude.{◌≡◌, ℕ, pos, true, false, List, [], ◌∷◌, map, Option, Some, None, codes}
-use Rattle.vlt_core.specs.Core.{tracked, an_abstract, pure, var, call, return, done, kept, taken, fresh, up_to, Entry, Form, Func, Program}
-use Rattle.vlt_core.specs.Instances.{origins}
+use Rattle.vlt_core.specs.Core.{a_key, tracked, an_abstract, pure, var, call, return, done, kept, taken, fresh, up_to, Entry, Form, Func, Program}
+use Rattle.vlt_core.specs.Instances.{instance, origins}
+use Rattle.vlt_core.specs.Maps.{held, Wanted}
+use Rattle.vlt_core.specs.Found.{one_held, WantsOne}
+use Rattle.vlt_core.specs.Faults.{Spot, row_spot, IsFaultIn, IsToldOf, at_row}
 use Rattle.vlt_core.specs.Kinded.{breaks}
 use Rattle.vlt_meaning.specs.World as world
 use Rattle.vlt_core_rows.specs.Told.{in_set, ◌▹◌, a_key_of, a_var_of, Case, defaults, ran_call}
@@ -35,9 +38,9 @@ on_cpu name e = record {
   body = done;
 }
 
--- what `twice` does first is given
-abbrev pub twice : Form → Func
-twice first = record {
+-- the two statements of `twice` are given
+abbrev pub twice : (first second : Form) → Func
+twice first second = record {
   name = (codes "twice");
   external = false;
   result = None;
@@ -48,7 +51,7 @@ twice first = record {
   vars = (a_var_of (tracked 0 0 []) ∷ []);
   body =
       first ▹
-      call 2 None (0 ∷ []) ((pure (var 0)) ∷ []) ▹
+      second ▹
       return None ▹
       done;
 }
@@ -71,9 +74,9 @@ main = record {
       done;
 }
 
--- the program, with what `twice` does first
-abbrev pub program_with : Form → Program
-program_with first = record {
+-- the program, with the statements of `twice`
+abbrev pub program_with : (first second : Form) → Program
+program_with first second = record {
   sets = (record {
     name = (codes "level");
     states = ((codes "low") ∷ (codes "mid") ∷ (codes "high") ∷ []);
@@ -96,15 +99,18 @@ program_with first = record {
       (record { mode = kept; key = 0; before = (Some (in_set (0 ∷ 1 ∷ []))); after = (Some (in_set (1 ∷ 2 ∷ []))) }) ∷
       on_cpu (codes "log") (record { mode = up_to 1; key = 0; before = None; after = None }) ∷
       on_cpu (codes "halt") (record { mode = taken; key = 0; before = (Some (in_set (0 ∷ []))); after = None }) ∷
-      twice first ∷ main ∷ [];
+      twice first second ∷ main ∷ [];
   main = 5;
 }
 
 abbrev pub logs : Form
 logs = call 2 None (0 ∷ []) ((pure (var 0)) ∷ [])
 
+abbrev pub raises : Form
+raises = call 1 None (0 ∷ []) ((pure (var 0)) ∷ [])
+
 abbrev pub program : Program
-program = program_with logs
+program = program_with logs logs
 
 abbrev pub runs : List Case
 runs =
@@ -133,7 +139,7 @@ runs =
 
 -- with `raise(c);` first the object comes back in another state than it had
 abbrev pub program_raised : Program
-program_raised = program_with (call 1 None (0 ∷ []) ((pure (var 0)) ∷ []))
+program_raised = program_with raises logs
 
 abbrev pub runs_raised : List Case
 runs_raised =
@@ -159,6 +165,24 @@ runs_raised =
         events = ((ran_call (codes "boot") []) ∷ (ran_call (codes "raise") ((world.reference 0) ∷ [])) ∷ []);
       };
     } ∷ []
+
+-- With `raise(c);` last, `twice` breaks the rules on keys. Of an object that comes in low it keeps one in mid or high: at its end
+-- the key is found held in these two, and its clause wants low.
+abbrev pub program_left : Program
+program_left = program_with logs raises
+
+abbrev pub twice_in_low : Func
+twice_in_low = instance program_left (twice logs raises) (Some 0)
+
+abbrev pub at_its_end : Spot
+at_its_end = row_spot 0 2
+
+pub record BreaksTheRules : Type 0 where
+  pub faulty : IsFaultIn program_left twice_in_low at_its_end (a_key 0)
+  pub wanted : Wanted
+  pub told : IsToldOf program_left twice_in_low (at_row (held (in_set (1 ∷ 2 ∷ []))) wanted) at_its_end (a_key 0)
+  pub low : WantsOne wanted (one_held 0)
+  pub alone : (s : ℕ) → WantsOne wanted (one_held s) → s ≡ 0
 
 -- an order that leads from a state to itself
 abbrev pub program_looped : Program

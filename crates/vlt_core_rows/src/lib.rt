@@ -32,6 +32,11 @@ pub fn levels_are_accepted()
     ensures { IsAccepted levels.program }
 {}
 
+/// An instance of a body breaks the rules on keys where another one doesn't.
+pub fn levels_are_refused()
+    ensures { levels.BreaksTheRules }
+{}
+
 /// Objects in one another, adopted and in focus.
 pub fn owners_are_told()
     ensures adoption { AreTold adoption.program adoption.runs }
