@@ -6,7 +6,8 @@
 ghost use Rattle.std.specs.Prelude.{◌≡◌, option_map, IfOk};
 ghost use Rattle.c_syntax.specs.Kinds.{unit_refusal};
 ghost use Rattle.c_syntax.specs.Reading.{places_in};
-ghost use Rattle.c_parser.specs.View.{lexemes_of, unit_of};
+ghost use Rattle.c_parser.specs.View.{unit_of};
+ghost use Rattle.c_lexer.specs.View.{lexemes_of};
 ghost use Rattle.c_kinds.specs.View.{refusal_of};
 
 mod calls;

@@ -14,11 +14,11 @@ use Rattle.c_automaton.specs.Laws.{RefusesAsTheGrammar}
 use Rattle.c_automaton.specs.Automaton.{Symbol, Verdict, run, start, bodies, body, sign, type, head_rest, operand, value, args, cell_rest, is_string_taker}
 use Rattle.c_automaton.specs.Ahead.{Begins, begins_sign, begins_word, functions_symbol, behind_head_of, behind_variable_of}
 use Rattle.c_automaton.proofs.Taking.{head_begins, body_begins, semicolon_functions, reference_assigned}
-use Rattle.c_parser.specs.declared.token.Lexeme.{Lexeme}
+use Rattle.c_lexer.specs.declared.token.Lexeme.{Lexeme}
 use Rattle.c_parser.specs.declared.unit.Body.{Body}
 use Rattle.c_parser.specs.declared.error.ParseError.{ParseError}
 use Rattle.c_parser.specs.declared.error.ParseError.TheVariants.{Unexpected, EndOfText, Limit, Memory}
-use Rattle.c_parser.specs.View.{lexemes_of}
+use Rattle.c_lexer.specs.View.{lexemes_of}
 use Rattle.c_parser.specs.Following.{ahead, told_of, Fails, Takes, TurnsWhere, before_bodies}
 use Rattle.c_parser.specs.Refusals.{IsRefusedAs}
 

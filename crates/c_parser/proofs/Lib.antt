@@ -1,6 +1,4 @@
 mod Arguments
 mod Automata
 mod Heads
-mod Lexing
-mod Runs
 mod Statements

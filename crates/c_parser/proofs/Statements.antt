@@ -16,8 +16,8 @@ use Rattle.c_syntax.specs.declared.program.CExpr.{CExpr}
 use Rattle.c_syntax.specs.declared.program.CStmt.{CStmt, the_lemmas}
 use Rattle.c_syntax.specs.declared.program.CStmt.{Set as CodeSet, Put as CodePut, If as CodeIf, IfElse as CodeIfElse, While as CodeWhile, Return as CodeReturn}
 use Rattle.c_syntax.specs.View.{expr_of, stmt_of, stmts_of, stmts_made}
-use Rattle.c_parser.specs.declared.token.Lexeme.{Lexeme}
-use Rattle.c_parser.specs.View.{tokens_from}
+use Rattle.c_lexer.specs.declared.token.Lexeme.{Lexeme}
+use Rattle.c_lexer.specs.View.{tokens_from}
 use Rattle.c_parser.specs.Parsing.{Reads, ReadsBehind, ReadsBehindTwo}
 
 pub max_le : (a b n : ℕ) → a ≤ n → b ≤ n → max a b ≤ n

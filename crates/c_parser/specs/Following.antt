@@ -6,11 +6,11 @@ use Rattle.c_syntax.specs.Grammar.{language}
 use Rattle.c_automaton.specs.Refusals.{Refusal, unexpected_at, cut_short, over_limit}
 use Rattle.c_automaton.specs.Automaton.{Symbol, Verdict, stmts, blocks_in, parens_in, run}
 use Rattle.c_automaton.specs.Ahead.{Begins}
-use Rattle.c_parser.specs.declared.token.Lexeme.{Lexeme}
+use Rattle.c_lexer.specs.declared.token.Lexeme.{Lexeme}
 use Rattle.c_parser.specs.declared.error.ParseError.{ParseError}
 use Rattle.c_parser.specs.declared.error.ParseError.TheVariants.{Unexpected, EndOfText, Limit, Memory}
 use Rattle.c_parser.specs.declared.unit.Body.{Body}
-use Rattle.c_parser.specs.View.{lexemes_of}
+use Rattle.c_lexer.specs.View.{lexemes_of}
 
 -- the tokens from a position on, with their places
 abbrev pub ahead : List Lexeme → ℕ → List text.Lexeme

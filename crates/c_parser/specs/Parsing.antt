@@ -3,8 +3,8 @@ use Rattle.std.specs.Prelude.{◌≡◌, ◌<◌, ◌≤◌, ℕ, List, ◌∷�
 use Rattle.c_syntax.specs.Tokens.{Token}
 use Rattle.c_syntax.specs.Unit.{Declaration, Head, Body}
 use Rattle.c_syntax.specs.Spelling.{declaration_then, params_then, head_then, body_then}
-use Rattle.c_parser.specs.declared.token.Lexeme.{Lexeme}
-use Rattle.c_parser.specs.View.{tokens_from}
+use Rattle.c_lexer.specs.declared.token.Lexeme.{Lexeme}
+use Rattle.c_lexer.specs.View.{tokens_from}
 
 -- The tokens from the first position up to the second are the part's own: `spelled` puts them before those that come.
 pub record Reads (ls : List Lexeme) (at next : ℕ) (spelled : List Token → List Token) : Type 0 where

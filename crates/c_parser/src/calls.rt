@@ -11,7 +11,7 @@ ghost use Rattle.c_automaton.specs.Ahead.{begins_with, is_callee};
 
 use crate::cursor::{is_sign, refuse, sign, token};
 use crate::error::ParseError;
-use crate::token::{Lexeme, Token};
+use c_lexer::{Lexeme, Token};
 use c_syntax::{CArg, CCall, CPrim, CSign, CWord};
 use std::alloc::Global;
 use vlt_base::Items;

@@ -2,14 +2,14 @@
 
 ghost use Rattle.std.specs.Prelude.{◌≡◌, ◌∷◌, [], ◌+◌, ◌≤◌, Some, length, MatchOption, IfErr, IfOk, IsTrue};
 ghost use Rattle.c_syntax.specs.Tokens as t;
-ghost use Rattle.c_parser.specs.View.{token_of, tokens_from};
+ghost use Rattle.c_lexer.specs.View.{token_of, tokens_from};
 ghost use Rattle.c_parser.specs.Parsing.{Reads};
 ghost use Rattle.c_automaton.specs.Automaton as machine;
 ghost use Rattle.c_parser.specs.Following.{ahead, told_of, Comes, Turns};
 ghost use Rattle.c_automaton.specs.Ahead.{begins_sign, begins_word, refusal_at};
 
 use crate::error::ParseError;
-use crate::token::{Lexeme, Token};
+use c_lexer::{Lexeme, Token};
 use c_syntax::{CSign, CWord};
 
 /// The token at a position.

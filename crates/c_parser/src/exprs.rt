@@ -14,7 +14,7 @@ ghost use Rattle.c_parser.specs.Following.{AtDepth, Takes, Turns, TurnsWhere};
 
 use crate::cursor::{is_sign, refuse, sign, token};
 use crate::error::ParseError;
-use crate::token::{Lexeme, Token};
+use c_lexer::{Lexeme, Token};
 use c_syntax::{CArg, CCall, CCell, CExpr, CPrim, CSign, CWord};
 use std::alloc::Global;
 use vlt_base::{Boxed, C_EXPRESSION_DEPTH, Items};

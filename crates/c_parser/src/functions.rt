@@ -4,7 +4,8 @@ ghost use Rattle.std.specs.Prelude.{◌≡◌, ◌+◌, ◌≤◌, ◌<◌, [], 
 ghost use Rattle.c_syntax.specs.Tokens as t;
 ghost use Rattle.c_syntax.specs.Spelling.{declaration_then, head_then, params_then, result_then, spelling, type_then, vars_then};
 ghost use Rattle.c_syntax.specs.Grammar.{AreStmts, IsUnit, language};
-ghost use Rattle.c_parser.specs.View.{body_of, declaration_of, head_of, tokens_from, unit_of};
+ghost use Rattle.c_parser.specs.View.{body_of, declaration_of, head_of, unit_of};
+ghost use Rattle.c_lexer.specs.View.{tokens_from};
 ghost use Rattle.c_parser.specs.Parsing.{Reads, ReadsBody, ReadsParams, ReadsSome};
 ghost use Rattle.c_syntax.specs.declared.token.CSign.TheVariants.{OpenBrace, Semicolon};
 ghost use Rattle.c_automaton.specs.Automaton as machine;
@@ -14,8 +15,8 @@ ghost use Rattle.c_automaton.specs.Ahead.{begins_sign, begins_with, behind_head_
 use crate::cursor::{is_sign, is_word, refuse, sign, token, word};
 use crate::error::ParseError;
 use crate::stmts::stmts;
-use crate::token::{Lexeme, Token};
 use crate::unit::{Body, Declaration, Head, Unit};
+use c_lexer::{Lexeme, Token};
 use c_syntax::{CName, CResult, CSign, CWord};
 use std::alloc::Global;
 use vlt_base::Items;

@@ -5,7 +5,8 @@
 
 ghost use Rattle.std.specs.Prelude.{◌≡◌, ◌<◌, ◌-◌, ◌^◌, length, IfErr, IfOk};
 ghost use Rattle.c_syntax.specs.Reading.{IsUnitOf};
-ghost use Rattle.c_parser.specs.View.{lexemes_of, unit_of};
+ghost use Rattle.c_parser.specs.View.{unit_of};
+ghost use Rattle.c_lexer.specs.View.{lexemes_of};
 ghost use Rattle.c_parser.specs.Refusals.{IsRefusedAs};
 
 mod calls;
@@ -13,16 +14,14 @@ mod cursor;
 mod error;
 mod exprs;
 mod functions;
-mod lex;
 mod stmts;
-mod token;
 mod unit;
 
 use c_automaton::automaton_refuses_as_the_grammar;
+use c_lexer::lex;
+pub use c_lexer::{Lexeme, Token, before_mark};
 pub use error::ParseError;
-pub use lex::before_mark;
 use std::alloc::Global;
-pub use token::{Lexeme, Token};
 pub use unit::{Body, Declaration, Head, Unit};
 
 /// A C text as it is written, with the tokens that it has.
@@ -43,7 +42,7 @@ pub fn read_unit(alloc: Global, text: &[u8]) -> Result<Written<'_>, ParseError>
     ensures refused { IfErr result (IsRefusedAs text.now) }
 {
     automaton_refuses_as_the_grammar();
-    let lexemes = lex::lex(alloc, before_mark(text))?;
+    let lexemes = lex(alloc, before_mark(text))?;
     let unit = functions::unit(alloc, &lexemes)?;
     Ok(Written { lexemes, unit })
 }

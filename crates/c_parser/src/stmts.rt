@@ -16,7 +16,7 @@ use crate::calls::call;
 use crate::cursor::{is_sign, is_word, refuse, sign, token, word};
 use crate::error::ParseError;
 use crate::exprs::{cell_behind, expr};
-use crate::token::{Lexeme, Token};
+use c_lexer::{Lexeme, Token};
 use c_syntax::{CSign, CStmt, CVar, CWord};
 use std::alloc::Global;
 use vlt_base::{C_BLOCK_DEPTH, Items};

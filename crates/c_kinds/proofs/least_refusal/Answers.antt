@@ -1,7 +1,8 @@
 use Rattle.std.proofs.Common.{List, map, sym, ap, ◌∙◌}
 use Rattle.std.proofs.lemmas.Simd.{map-map}
 use Rattle.c_syntax.specs.Kinds.{unit_refusal}
-use Rattle.c_parser.specs.View.{lexeme_of, unit_of}
+use Rattle.c_parser.specs.View.{unit_of}
+use Rattle.c_lexer.specs.View.{lexeme_of}
 use Rattle.c_kinds.proofs.least_refusal.Goals as goal
 
 pub returns : goal.returns

@@ -1,7 +1,7 @@
 use Rattle.std.proofs.Common.{◌∙◌, ap, sym, subst, arith}
 use Rattle.c_syntax.specs.Text.{IsTokensOf}
-use Rattle.c_parser.specs.View.{lexemes_of, tokens_from}
-use Rattle.c_parser.proofs.Lexing.{tokens_same}
+use Rattle.c_lexer.specs.View.{lexemes_of, tokens_from}
+use Rattle.c_lexer.proofs.Lexing.{tokens_same}
 use Rattle.c_parser.proofs.read_unit.Goals as goal
 
 pub lex-requires : goal.lex-requires

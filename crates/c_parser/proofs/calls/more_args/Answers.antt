@@ -4,7 +4,7 @@ use Rattle.c_syntax.specs.declared.token.CSign.TheVariants.{Comma}
 use Rattle.c_automaton.specs.Ahead.{begins_sign}
 use Rattle.c_syntax.specs.Spelling.{arg_token}
 use Rattle.c_syntax.specs.View.{arg_of}
-use Rattle.c_parser.specs.View.{tokens_from}
+use Rattle.c_lexer.specs.View.{tokens_from}
 use Rattle.c_syntax.specs.Grammar.{language}
 use Rattle.c_automaton.specs.Automaton.{more_args, run}
 use Rattle.c_automaton.proofs.Taking.{comma_arg, more_args_end}

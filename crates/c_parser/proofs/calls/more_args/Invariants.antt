@@ -2,7 +2,7 @@ use Rattle.std.proofs.Common.{◌≡◌, ◌≤◌, ◌-◌, false, List, length
 use Rattle.c_syntax.specs.declared.program.CArg.{CArg}
 use Rattle.c_syntax.specs.Grammar.{HasNoText}
 use Rattle.c_syntax.specs.View.{arg_of}
-use Rattle.c_parser.specs.View.{tokens_from}
+use Rattle.c_lexer.specs.View.{tokens_from}
 use Rattle.c_syntax.specs.Grammar.{language}
 use Rattle.c_automaton.specs.Automaton as machine
 use Rattle.c_parser.specs.Following.{ahead}

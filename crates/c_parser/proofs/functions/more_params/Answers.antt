@@ -2,7 +2,7 @@ use Rattle.std.proofs.Common.{◌+◌, ◌++◌, ◌∷◌, [], ◌≡◌, false
 use Rattle.std.proofs.lemmas.Grind.{common_steps}
 use Rattle.c_syntax.specs.declared.token.CSign.TheVariants.{Comma}
 use Rattle.c_automaton.specs.Ahead.{begins_sign}
-use Rattle.c_parser.specs.View.{tokens_from}
+use Rattle.c_lexer.specs.View.{tokens_from}
 use Rattle.c_automaton.specs.Automaton.{more_params}
 use Rattle.c_automaton.proofs.Taking.{comma_param, more_params_end}
 use Rattle.c_parser.specs.Following.{ahead}

@@ -1,6 +1,7 @@
 use Rattle.std.proofs.Common.{◌≡◌, ◌≤◌, ◌-◌, List, length, map, ◌∷◌}
 use Rattle.c_parser.specs.declared.unit.Declaration.{Declaration}
-use Rattle.c_parser.specs.View.{declaration_of, tokens_from}
+use Rattle.c_parser.specs.View.{declaration_of}
+use Rattle.c_lexer.specs.View.{tokens_from}
 use Rattle.c_syntax.specs.Grammar.{language}
 use Rattle.c_automaton.specs.Automaton as machine
 use Rattle.c_parser.specs.Following.{ahead}

@@ -3,7 +3,7 @@ use Rattle.std.proofs.lemmas.Grind.{common_steps}
 use Rattle.c_syntax.specs.declared.token.CSign.TheVariants.{Semicolon}
 use Rattle.c_automaton.specs.Automaton.{bodies}
 use Rattle.c_automaton.specs.Ahead.{begins_sign}
-use Rattle.c_parser.specs.View.{tokens_from}
+use Rattle.c_lexer.specs.View.{tokens_from}
 use Rattle.c_parser.specs.Following.{ahead, before_bodies}
 use Rattle.c_parser.proofs.Heads.{head_read, body_read, bodies_are}
 use Rattle.c_parser.proofs.Automata.{head_ends, body_comes, bodies_come}

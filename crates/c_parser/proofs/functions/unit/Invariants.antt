@@ -1,7 +1,8 @@
 use Rattle.std.proofs.Common.{◌≡◌, ◌≤◌, ◌-◌, length, map, ◌∷◌, []}
 use Rattle.c_syntax.specs.Spelling.{heads_then, bodies_then}
 use Rattle.c_syntax.specs.Grammar.{AreBodies, language}
-use Rattle.c_parser.specs.View.{head_of, body_of, tokens_from}
+use Rattle.c_parser.specs.View.{head_of, body_of}
+use Rattle.c_lexer.specs.View.{tokens_from}
 use Rattle.c_automaton.specs.Automaton as machine
 use Rattle.c_automaton.specs.Ahead.{functions_symbol}
 use Rattle.c_parser.specs.Following.{ahead, before_bodies}

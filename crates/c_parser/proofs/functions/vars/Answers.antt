@@ -1,5 +1,5 @@
 use Rattle.std.proofs.Common.{arith, ◌≡◌, true, ◌∷◌, ◌∙◌, rules}
-use Rattle.c_parser.specs.View.{tokens_from}
+use Rattle.c_lexer.specs.View.{tokens_from}
 use Rattle.std.proofs.lemmas.Grind.{common_steps}
 use Rattle.c_syntax.specs.declared.token.CSign.TheVariants.{Semicolon}
 use Rattle.c_automaton.specs.Automaton.{sign, body}

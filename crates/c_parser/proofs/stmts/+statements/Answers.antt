@@ -10,7 +10,7 @@ use Rattle.c_parser.specs.Following.{ahead, WithRoom}
 use Rattle.c_parser.proofs.Automata.{takes_before, turns_before}
 use Rattle.c_syntax.specs.Spelling.{stmts_then}
 use Rattle.c_syntax.specs.View.{stmts_of}
-use Rattle.c_parser.specs.View.{tokens_from}
+use Rattle.c_lexer.specs.View.{tokens_from}
 use Rattle.c_parser.proofs.Statements.{one_more_stmt, one_more_is}
 use Rattle.c_parser.proofs.stmts.+statements.Goals as goal
 

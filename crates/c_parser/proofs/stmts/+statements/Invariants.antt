@@ -2,7 +2,7 @@ use Rattle.std.proofs.Common.{◌≡◌, ◌≤◌, ◌+◌, ◌-◌, ◌*◌, l
 use Rattle.c_syntax.specs.Spelling.{stmts_then}
 use Rattle.c_syntax.specs.Grammar.{AreStmts, language}
 use Rattle.c_syntax.specs.View.{stmts_of}
-use Rattle.c_parser.specs.View.{tokens_from}
+use Rattle.c_lexer.specs.View.{tokens_from}
 use Rattle.c_automaton.specs.Automaton as machine
 use Rattle.c_parser.specs.Following.{ahead, WithRoom}
 use Rattle.c_parser.proofs.stmts.+statements.Given as goal

@@ -1,15 +1,14 @@
-//! From bytes to tokens.
+//! From bytes to one token after another.
 
 ghost use Rattle.std.specs.Prelude.{◌≡◌, ◌≤◌, ◌<◌, ◌+◌, ◌^◌, ◌-◌, ℕ, List, [], ◌∷◌, length, map, MatchOption, Some, None, IfOk, IfSome, OnOk};
 ghost use Rattle.c_syntax.specs.Tokens as t;
-ghost use Rattle.c_syntax.specs.Text.{before_mark, first_beginning, behind, fixed_piece, is_blank, is_digit, is_run_byte, max_number, letter_token, number_of, named_token, Piece, past_run, piece, prim_of, quoted_piece, run, run_token, sign_piece, item_with_text, with_digit, word_of, digits_after, IsTokensOf, is_text_name};
+ghost use Rattle.c_syntax.specs.Text.{before_mark, first_beginning, behind, fixed_piece, is_blank, is_digit, is_run_byte, max_number, letter_token, number_of, named_token, Piece, past_run, piece, prim_of, quoted_piece, run, run_token, sign_piece, item_with_text, with_digit, word_of, digits_after, is_text_name};
 ghost use Rattle.c_syntax.specs.Tokens.{prim_text, word_text, token_text};
-ghost use Rattle.c_parser.specs.View.{token_of, lexemes_of};
-ghost use Rattle.c_parser.specs.Steps.{mark_token, is_in, AreOthers, IsFirst, IsPiece, first_piece};
+ghost use Rattle.c_lexer.specs.View.{token_of, lexemes_of};
+ghost use Rattle.c_lexer.specs.Steps.{mark_token, is_in, AreOthers, IsFirst, IsPiece, first_piece};
 
 use crate::token::{Lexeme, Token};
 use c_syntax::{CName, CPrim, CSign, CVar, CWord};
-use std::alloc::Global;
 use vlt_base::Memory;
 use vlt_ops::{Op, row};
 
@@ -338,7 +337,7 @@ fn piece(text: &[u8]) -> Option<(Token<'_>, &[u8])>
 
 /// What stands in the two first lines.
 #[derive(Clone, Copy, Debug, PartialEq, Eq)]
-enum First {
+pub enum First {
     Include,
     LineEnd,
     Define,
@@ -346,7 +345,7 @@ enum First {
 }
 
 impl First {
-    const LINES: [First; 5] = [
+    pub const LINES: [First; 5] = [
         First::Include,
         First::LineEnd,
         First::Define,
@@ -355,7 +354,7 @@ impl First {
     ];
 
     /// What stands at the front of a text where this is wanted, and what stands behind it.
-    fn take(self, text: &[u8]) -> Option<(Token<'_>, &[u8])>
+    pub fn take(self, text: &[u8]) -> Option<(Token<'_>, &[u8])>
         ensures piece { MatchOption result (text.now ≡ [])
             (λ x. IsFirst (first_piece self) text.now (token_of x.0) x.1.now) }
         ensures shorter { IfSome result (λ x. length x.1.now < length text.now) }
@@ -385,7 +384,7 @@ fn fixed<'a>(text: &'a [u8], front: &[u8], token: Token<'a>) -> Option<(Token<'a
 }
 
 /// A token with its place: what is left of the text begins with it.
-fn lexeme<'a>(token: Token<'a>, text: &[u8], left: &[u8]) -> Lexeme<'a>
+pub fn lexeme<'a>(token: Token<'a>, text: &[u8], left: &[u8]) -> Lexeme<'a>
     requires size { length text.now < 2 ^ 32 }
     requires within { length left.now ≤ length text.now }
     ensures token { result.token ≡ token.entry }
@@ -398,7 +397,7 @@ fn lexeme<'a>(token: Token<'a>, text: &[u8], left: &[u8]) -> Lexeme<'a>
 }
 
 /// Puts the tokens of what is left of the text behind those before.
-fn others<'a>(text: &[u8], left: &'a [u8], lexemes: &mut Vec<Lexeme<'a>>) -> Result<(), Memory>
+pub fn others<'a>(text: &[u8], left: &'a [u8], lexemes: &mut Vec<Lexeme<'a>>) -> Result<(), Memory>
     requires size { length text.now < 2 ^ 32 }
     requires within { length left.now ≤ length text.now }
     ensures { OnOk result (AreOthers (length text.now) left.now (lexemes_of lexemes.old.items)
@@ -410,26 +409,6 @@ fn others<'a>(text: &[u8], left: &'a [u8], lexemes: &mut Vec<Lexeme<'a>>) -> Res
         rest = past(Class::Blank, after);
     }
     Ok(())
-}
-
-/// The tokens of a C text without certificate.
-pub fn lex(alloc: Global, text: &[u8]) -> Result<Vec<Lexeme<'_>>, Memory>
-    requires { length text.now < 2 ^ 32 }
-    ensures { IfOk result (λ lexemes. IsTokensOf text.now (lexemes_of lexemes.items)) }
-{
-    let mut lexemes = Vec::new(alloc);
-    let mut left = text;
-    for &first in &First::LINES {
-        match first.take(left) {
-            Some((token, after)) => {
-                lexemes.push(lexeme(token, text, left))?;
-                left = after;
-            }
-            None => return Ok(lexemes),
-        }
-    }
-    others(text, left, &mut lexemes)?;
-    Ok(lexemes)
 }
 
 /// What a certificate begins with.

@@ -3,12 +3,12 @@ use Rattle.std.proofs.Math.ListN.{get_or}
 use Rattle.std.proofs.Math.Seq.{drop-cons}
 use Rattle.std.proofs.lemmas.List.{append-nil}
 use Rattle.c_syntax.specs.Text.{IsTokensOf, AreFirst}
-use Rattle.c_parser.specs.declared.lex.First.TheVariants.{Include}
-use Rattle.c_parser.specs.declared.lex.TheConstants.First as first
-use Rattle.c_parser.specs.Steps.{first_piece}
-use Rattle.c_parser.specs.View.{token_of, lexeme_of, lexemes_of}
-use Rattle.c_parser.proofs.Lexing.{first_step, one_more, no_first}
-use Rattle.c_parser.proofs.lex.lex.Goals as goal
+use Rattle.c_lexer.specs.declared.scan.First.TheVariants.{Include}
+use Rattle.c_lexer.specs.declared.scan.TheConstants.First as first
+use Rattle.c_lexer.specs.Steps.{first_piece}
+use Rattle.c_lexer.specs.View.{token_of, lexeme_of, lexemes_of}
+use Rattle.c_lexer.proofs.Lexing.{first_step, one_more, no_first}
+use Rattle.c_lexer.proofs.lex.Goals as goal
 
 pub returns-in-None : goal.returns-in-None
 returns-in-None c =

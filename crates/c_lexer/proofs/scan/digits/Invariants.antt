@@ -1,6 +1,6 @@
 use Rattle.std.proofs.Common.{◌≡◌, ◌≤◌, drop}
 use Rattle.c_syntax.specs.Text.{digits_after, max_number}
-use Rattle.c_parser.proofs.lex.digits.Given as goal
+use Rattle.c_lexer.proofs.scan.digits.Given as goal
 
 abbrev pub invariant-loop-byte : goal.invariant-loop-byte
 invariant-loop-byte l = record {

@@ -1,9 +1,9 @@
 use Rattle.std.proofs.Common.{◌≤◌, List, ◌++◌, length, drop, map}
 use Rattle.c_syntax.specs.Text.{Lexeme, AreFirst, IsTokensOf}
-use Rattle.c_parser.specs.declared.lex.TheConstants.First as first
-use Rattle.c_parser.specs.View.{lexemes_of}
-use Rattle.c_parser.specs.Steps.{first_piece}
-use Rattle.c_parser.proofs.lex.lex.Given as goal
+use Rattle.c_lexer.specs.declared.scan.TheConstants.First as first
+use Rattle.c_lexer.specs.View.{lexemes_of}
+use Rattle.c_lexer.specs.Steps.{first_piece}
+use Rattle.c_lexer.proofs.lex.Given as goal
 
 abbrev pub invariant-loop-first : goal.invariant-loop-first
 invariant-loop-first l = record {

@@ -1,6 +1,6 @@
 use Rattle.std.proofs.Common.{◌≡◌, ◌≤◌, ◌+◌, length, drop}
 use Rattle.c_syntax.specs.Text.{behind}
-use Rattle.c_parser.proofs.lex.behind.Given as goal
+use Rattle.c_lexer.proofs.scan.behind.Given as goal
 
 abbrev pub invariant-loop-want : goal.invariant-loop-want
 invariant-loop-want l = record {

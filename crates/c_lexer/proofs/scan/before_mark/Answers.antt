@@ -1,8 +1,8 @@
 use Rattle.std.proofs.Common.{◌≡◌, ◌∷◌, None, rules, arith}
 use Rattle.std.proofs.lemmas.Grind.{common_steps}
 use Rattle.c_syntax.specs.Text.{behind, mark}
-use Rattle.c_parser.proofs.Lexing.{cut_more}
-use Rattle.c_parser.proofs.lex.before_mark.Goals as goal
+use Rattle.c_lexer.proofs.Lexing.{cut_more}
+use Rattle.c_lexer.proofs.scan.before_mark.Goals as goal
 
 pub loop-after-preserved : goal.loop-after-preserved
 loop-after-preserved c =

@@ -3,10 +3,10 @@ use Rattle.std.proofs.Common.{◌≡◌, ℕ, ◌+◌, ◌-◌, List, [], ◌∷
 use Rattle.std.proofs.lemmas.List.{map-append, length-append, take_at, append-nil}
 use Rattle.c_syntax.specs.Tokens.{Token}
 use Rattle.c_syntax.specs.Text.{before_mark, behind, cut_at, mark, Lexeme, Piece, piece, past_run, is_blank, IsAt, AreTokensOf, AreFirst}
-use Rattle.c_parser.specs.declared.token.Lexeme.{Lexeme as CodeLexeme}
+use Rattle.c_lexer.specs.declared.token.Lexeme.{Lexeme as CodeLexeme}
 use Rattle.c_syntax.specs.Reading.{tokens_in}
-use Rattle.c_parser.specs.View.{lexeme_of, lexemes_of, tokens_from}
-use Rattle.c_parser.specs.Steps.{IsFirst, IsPiece}
+use Rattle.c_lexer.specs.View.{lexeme_of, lexemes_of, tokens_from}
+use Rattle.c_lexer.specs.Steps.{IsFirst, IsPiece}
 
 -- the tokens of the rest of a text, which begins with no blank
 abbrev pub AreNext : ℕ → List ℕ → List Lexeme → Type 0

@@ -1,9 +1,9 @@
 use Rattle.std.proofs.Common.{◌≤◌, List, ◌++◌, length}
 use Rattle.c_syntax.specs.Text.{Lexeme}
-use Rattle.c_parser.specs.View.{lexemes_of}
-use Rattle.c_parser.specs.Steps.{AreOthers}
-use Rattle.c_parser.proofs.Lexing.{AreNext}
-use Rattle.c_parser.proofs.lex.others.Given as goal
+use Rattle.c_lexer.specs.View.{lexemes_of}
+use Rattle.c_lexer.specs.Steps.{AreOthers}
+use Rattle.c_lexer.proofs.Lexing.{AreNext}
+use Rattle.c_lexer.proofs.scan.others.Given as goal
 
 abbrev pub decreases-loop-token : goal.decreases-loop-token
 decreases-loop-token l = length l.rest

@@ -2,12 +2,12 @@
 use Rattle.std.specs.Prelude.{◌≡◌, ℕ, Bool, List, ◌∷◌, ◌++◌}
 use Rattle.c_syntax.specs.Tokens as t
 use Rattle.c_syntax.specs.Text.{Lexeme, AreTokensOf, fixed_piece, is_blank, is_run_byte, piece, Piece}
-use Rattle.c_parser.specs.declared.lex.Class.{Class}
-use Rattle.c_parser.specs.declared.lex.Class.TheVariants as class
-use Rattle.c_parser.specs.declared.lex.Mark.{Mark}
-use Rattle.c_parser.specs.declared.lex.Mark.TheVariants as mark
-use Rattle.c_parser.specs.declared.lex.First.{First}
-use Rattle.c_parser.specs.declared.lex.First.TheVariants as first
+use Rattle.c_lexer.specs.declared.scan.Class.{Class}
+use Rattle.c_lexer.specs.declared.scan.Class.TheVariants as class
+use Rattle.c_lexer.specs.declared.scan.Mark.{Mark}
+use Rattle.c_lexer.specs.declared.scan.Mark.TheVariants as mark
+use Rattle.c_lexer.specs.declared.scan.First.{First}
+use Rattle.c_lexer.specs.declared.scan.First.TheVariants as first
 
 abbrev pub is_in : Class → ℕ → Bool
 is_in class.Blank b = is_blank b

@@ -1,9 +1,9 @@
 use Rattle.std.proofs.Common.{◌∷◌, [], length, sym, ap, subst, arith}
 use Rattle.std.proofs.lemmas.List.{append-nil}
-use Rattle.c_parser.specs.View.{token_of, lexeme_of, lexemes_of}
-use Rattle.c_parser.specs.Steps.{AreOthers}
-use Rattle.c_parser.proofs.Lexing.{AreNext, next_step, one_more}
-use Rattle.c_parser.proofs.lex.others.Goals as goal
+use Rattle.c_lexer.specs.View.{token_of, lexeme_of, lexemes_of}
+use Rattle.c_lexer.specs.Steps.{AreOthers}
+use Rattle.c_lexer.proofs.Lexing.{AreNext, next_step, one_more}
+use Rattle.c_lexer.proofs.scan.others.Goals as goal
 
 pub loop-token-preserved : goal.loop-token-preserved
 loop-token-preserved c =

@@ -1,6 +1,6 @@
 use Rattle.std.proofs.Common.{◌≤◌, length}
-use Rattle.c_parser.proofs.Lexing.{Cuts}
-use Rattle.c_parser.proofs.lex.before_mark.Given as goal
+use Rattle.c_lexer.proofs.Lexing.{Cuts}
+use Rattle.c_lexer.proofs.scan.before_mark.Given as goal
 
 abbrev pub decreases-loop-after : goal.decreases-loop-after
 decreases-loop-after l = length l.rest

@@ -1,7 +1,7 @@
 use Rattle.std.proofs.Common.{◌≡◌, ◌≤◌, length}
 use Rattle.c_syntax.specs.Text.{past_run}
-use Rattle.c_parser.specs.Steps.{is_in}
-use Rattle.c_parser.proofs.lex.past.Given as goal
+use Rattle.c_lexer.specs.Steps.{is_in}
+use Rattle.c_lexer.proofs.scan.past.Given as goal
 
 abbrev pub decreases-loop-byte : goal.decreases-loop-byte
 decreases-loop-byte l = length l.rest
