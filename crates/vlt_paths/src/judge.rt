@@ -113,7 +113,8 @@ pub fn is_shown_in(p: &Program, f: &Func, fault: &FlowFault, path: &[Choice]) ->
 
 /// The same, where the function has no bound entry: its faults have no origin.
 pub fn is_shown_alone(p: &Program, f: &Func, fault: &FlowFault, path: &[Choice]) -> bool
-    ensures { IsTrue result ↔ ((fault.now.origin ≡ None) × (((func_of f.now).external ≡ false) ×
+    ensures { IsTrue result ↔
+        ((fault.now.origin ≡ None) × (((func_of f.now).external ≡ false) ×
         IsWitnessIn (program_of p.now) (func_of f.now) (fault_view fault.now)
         (choices_of path.now) None)) }
 {
@@ -188,7 +189,8 @@ fn are_shown_alone(
     first: &[Choice],
     second: &[Choice],
 ) -> bool
-    ensures { IsTrue result ↔ ((fault.now.origin ≡ None) × (((func_of f.now).external ≡ false) ×
+    ensures { IsTrue result ↔
+        ((fault.now.origin ≡ None) × (((func_of f.now).external ≡ false) ×
         IsWitnessIn (program_of p.now) (func_of f.now) (fault_view fault.now)
         (choices_of first.now) (Some (choices_of second.now)))) }
 {
