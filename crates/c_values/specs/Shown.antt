@@ -57,10 +57,6 @@ IsReference ts (Err r) (Err rule) = r ≡ rule
 IsReference ts (Ok a) (Err rule) = ⊥
 IsReference ts (Err r) (Ok b) = ⊥
 
--- a value of the variables, with made references
-pub record IsSlot (ts : Things) (a : Value) (slots : List (Option Value)) : Type 0 where
-  pub made : AreMadeSlots ts slots → IsMadeValue ts a
-
 -- what the operator gives of both sides
 abbrev pub operator_value : Op → ℤ → Result model.Value ℕ → Result model.Value ℕ
 operator_value o x b = do

@@ -64,6 +64,13 @@ IsWithinBound p f (Some o) e = (b : ℕ) → e.mode ≡ up_to b → IsTrue (key_
 abbrev pub instance : Program → Func → (origin : Option ℕ) → Func
 instance p f o = record f { clause = clause_of_instance p f o f.clause }
 
+-- the function is an instance of the program's function of this number
+pub record IsInstanceOf (p : Program) (number : ℕ) (f : Func) : Type 0 where
+  pub declared : Func
+  pub origin : Option ℕ
+  pub at : slice_get p.fns number ≡ Some declared
+  pub is : instance p declared origin ≡ f
+
 -- the states that a bound entry's object can have, and nothing for a function without such an entry
 abbrev pub IsOriginOf : Program → Func → Option Bound → Option ℕ → Type 0
 IsOriginOf p f None None = Unit {0}

@@ -4,7 +4,7 @@ use Rattle.vlt_core.specs.Core.{Tok}
 use Rattle.vlt_core.specs.Maps.{Wanted, wants_held, wants_lent, After, becomes_lent, comes_back, Row}
 use Rattle.vlt_core.specs.Flow.{Flow, step, choose, loop, switch, scope, focus, return, jump, Block, block, Stmts, done, next, Arms, no_arms, arm}
 use Rattle.vlt_core_laws.specs.Scoped.{IsJumpingBlock}
-use Rattle.vlt_core.specs.Found.{One, one_lent, Ones}
+use Rattle.vlt_core.specs.Found.{One, one_lent}
 
 abbrev pub IsPlainWanted : Wanted → Type 0
 IsPlainWanted wants_lent = ⊥
@@ -55,9 +55,3 @@ abbrev mutual
 abbrev pub IsLentOne : One → Type 0
 IsLentOne (one_lent i) = Unit {0}
 IsLentOne _ = ⊥
-
-pub record NoneLent (S : Ones) : Type 0 where
-  pub none : (o : One) → S o → IsLentOne o → ⊥
-
-pub record OnlyLent (S : Ones) : Type 0 where
-  pub only : (o : One) → S o → IsLentOne o

@@ -38,7 +38,8 @@ use Rattle.vlt_sound_statements.proofs.Tokens.{all_away, listed_owning}
 use Rattle.vlt_sound_statements.proofs.Unbroken.{none_left, none_right}
 use Rattle.vlt_sound_statements.proofs.Control.{weaker, end_safe}
 use Rattle.vlt_run_laws.specs.Named.{HasNamedHead}
-use Rattle.vlt_run_laws.specs.Known.{IsInstanceOf, IsKnown}
+use Rattle.vlt_core.specs.Instances.{IsInstanceOf}
+use Rattle.vlt_run_laws.specs.Known.{IsKnown}
 use Rattle.vlt_run_laws.proofs.Moves.{Good, Follows, GoodLists, AllLists, GoodForm, lists_now, fewer}
 
 -- what is known of a block that is entered

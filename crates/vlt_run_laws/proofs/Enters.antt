@@ -4,7 +4,7 @@ use Rattle.std.proofs.lemmas.Option.{same_Some, none-some}
 use Rattle.vlt_core.specs.Core.{Ty, call, next, Form, Stmts, Operand, Func, Program}
 use Rattle.vlt_core.specs.Kinded.{IsKinded}
 use Rattle.vlt_core.specs.Derives.{start_map, IsAcceptedFunc, IsAccepted}
-use Rattle.vlt_core.specs.Instances.{instance}
+use Rattle.vlt_core.specs.Instances.{instance, IsInstanceOf}
 use Rattle.vlt_core.specs.Maps.{HeldMap, IsBelow, Row, CanPass, map_after}
 use Rattle.vlt_core.proofs.Maps.{map_trans, can_below, passed_below}
 use Rattle.vlt_core_laws.proofs.Instanced.{body_rows_same}
@@ -42,7 +42,7 @@ use Rattle.vlt_sound_statements.specs.Sites.{Site, comes_to}
 use Rattle.vlt_sound_statements.proofs.Control.{weaker}
 use Rattle.vlt_sound.proofs.Facts.{body_kinded}
 use Rattle.vlt_run_laws.proofs.Instanced.{typed_of}
-use Rattle.vlt_run_laws.specs.Known.{IsInstanceOf, IsKnown}
+use Rattle.vlt_run_laws.specs.Known.{IsKnown}
 use Rattle.vlt_run_laws.proofs.ReachedNaming.{callee_head}
 use Rattle.vlt_run_laws.proofs.Moves.{Good, Follows, GoodForm, AllLists, lists_now, fewer}
 use Rattle.vlt_run_laws.proofs.Ending.{ended_good}

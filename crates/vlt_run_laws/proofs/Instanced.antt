@@ -10,8 +10,7 @@ use Rattle.vlt_sound_calls.specs.Meet.{HasFunctions}
 use Rattle.vlt_sound_calls.proofs.Instanced.{typed_instance, head_instance}
 use Rattle.vlt_sound_statements.specs.Makings.{HasCases}
 use Rattle.vlt_sound.proofs.Facts.{has_keys, has_cases}
-use Rattle.vlt_core.specs.Instances.{instance}
-use Rattle.vlt_run_laws.specs.Known.{IsInstanceOf}
+use Rattle.vlt_core.specs.Instances.{instance, IsInstanceOf}
 
 keys_instance : (p : Program) (f : Func) (o : Option ℕ) → HasKeys f → HasKeys (instance p f o)
 keys_instance p f o k = record { keys = k.keys }

@@ -25,7 +25,8 @@ use Rattle.vlt_sound_statements.specs.Sites.{Site, comes_to, IsAt}
 use Rattle.vlt_sound_statements.proofs.Unbroken.{none_left, none_right}
 use Rattle.vlt_run_laws.specs.Named.{HasNamedHead}
 use Rattle.vlt_run_laws.proofs.Instanced.{keys_of}
-use Rattle.vlt_run_laws.specs.Known.{IsInstanceOf, IsKnown}
+use Rattle.vlt_core.specs.Instances.{IsInstanceOf}
+use Rattle.vlt_run_laws.specs.Known.{IsKnown}
 
 -- the statement that comes next, if one does, is known
 abbrev pub Tells : Setup → Conf → Type 0

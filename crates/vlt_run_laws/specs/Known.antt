@@ -1,7 +1,7 @@
 -- What is known of a statement that a run of an accepted program comes to.
-use Rattle.std.specs.Prelude.{◌≡◌, ℕ, [], Option, Some, slice_get}
+use Rattle.std.specs.Prelude.{◌≡◌, ℕ, []}
 use Rattle.vlt_core.specs.Core.{Form, Func, Program}
-use Rattle.vlt_core.specs.Instances.{instance}
+use Rattle.vlt_core.specs.Instances.{IsInstanceOf}
 use Rattle.vlt_core.specs.Maps.{HeldMap}
 use Rattle.vlt_core.specs.Bodies.{flow_of}
 use Rattle.vlt_core.specs.Derives.{Derives}
@@ -14,13 +14,6 @@ use Rattle.vlt_sound_worlds.specs.Agrees.{Agrees}
 use Rattle.vlt_sound_statements.specs.Kinded.{IsKindedForm}
 use Rattle.vlt_sound_statements.specs.Sites.{Site, IsAt}
 use Rattle.vlt_run_laws.specs.Named.{HasNamedHead}
-
--- the function is an instance of the program's function of this number
-pub record IsInstanceOf (p : Program) (position : ℕ) (f : Func) : Type 0 where
-  pub declared : Func
-  pub origin : Option ℕ
-  pub at : slice_get p.fns position ≡ Some declared
-  pub is : instance p declared origin ≡ f
 
 -- It breaks no rule in its scope, a map there tells the truth and leads through it, and the head's keys name objects.
 pub record IsKnown (p : Program) (f : Func) (form : Form) (frame : Frame) (w : World) : Type 0 where

@@ -11,8 +11,7 @@ use Rattle.vlt_syntax.specs.declared.tree.Ty.{Ty}
 use Rattle.vlt_syntax.specs.declared.tree.Ty.TheVariants as ty
 use Rattle.vlt_syntax.specs.declared.tree.Expr.{Expr}
 use Rattle.vlt_syntax.specs.declared.tree.Expr.TheOpen.{Expr-F, Operands-F}
-use Rattle.vlt_syntax.specs.declared.tree.Expr.TheFolds.{fold-Expr, fold-Operands}
-use Rattle.vlt_syntax.specs.declared.tree.Operands.{Operands}
+use Rattle.vlt_syntax.specs.declared.tree.Expr.TheFolds.{fold-Expr}
 use Rattle.vlt_syntax.specs.declared.tree.Build.{Build}
 use Rattle.vlt_syntax.specs.declared.tree.Call.{Call}
 use Rattle.vlt_syntax.specs.declared.tree.Init.{Init}
@@ -85,9 +84,6 @@ operands_step x = (x.left, x.right)
 
 abbrev pub expr_of : Expr → s.Expr
 expr_of = fold-Expr s.Expr OperandsView expr_step operands_step
-
-abbrev pub operands_of : Operands → OperandsView
-operands_of = fold-Operands s.Expr OperandsView expr_step operands_step
 
 abbrev pub build_of : Build → s.Build
 build_of b = record { case = name_of b.case; payload = map expr_of b.payload; at = b.at }
