@@ -1,6 +1,6 @@
 //! Laws of the grammar of C texts: nothing goes in and nothing comes out.
 //! Read `specs/Laws.antt` first, then `specs/Automaton.antt`.
-//! Rests on it: `c_parser`, which refuses a text where the automaton does; and that a C text is read in one way.
+//! Used by: `c_parser`, which refuses a text where the automaton does; and that a C text is read in one way.
 #![tactic(auto)]
 
 ghost use Rattle.std.specs.Prelude.{List};

@@ -1,6 +1,6 @@
 //! A C program and budgets in; a machine, which runs it once over input and answers and writes its events, out.
 //! Read `c_meaning/specs/Run.antt` first, then `specs/Machine.antt` and `specs/Halting.antt`.
-//! Rests on it: `vaultc_core`.
+//! Used by: `vaultc_core`.
 #![tactic(auto)]
 
 mod calls;

@@ -1,6 +1,6 @@
 //! A C text as it is written in, the least refusal of its names and types out.
 //! Read `c_syntax/specs/Kinds.antt` (unit_refusal) first.
-//! Rests on it: which texts stand for programs, and `c_kinds_laws`.
+//! Used by: `c_reader`, for which texts stand for programs, and `c_kinds_laws`.
 #![tactic(auto)]
 
 ghost use Rattle.std.specs.Prelude.{◌≡◌, option_map, IfOk};

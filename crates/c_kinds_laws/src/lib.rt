@@ -1,6 +1,6 @@
 //! Laws of the kinds of C: nothing goes in and nothing comes out.
 //! Read `specs/Laws.antt` first.
-//! Rest on it: `c_reader`, which tells where a text is refused, and what runs a text that is read.
+//! Used by: `c_reader`, which reports where a text is refused, and what runs a text that is read.
 #![tactic(auto)]
 
 ghost use Rattle.c_kinds_laws.specs.Laws.{RefusalsAreWithin, UnrefusedProgramsCanRun};

@@ -1,6 +1,6 @@
 //! The tokens of C texts: bytes in, tokens with their places out.
 //! Read `c_syntax/specs/Text.antt` (IsTokensOf) first.
-//! Rests on it: `c_parser::read_unit`.
+//! Used by: `c_parser::read_unit`.
 #![tactic(auto)]
 
 ghost use Rattle.std.specs.Prelude.{◌<◌, ◌^◌, length, IfOk};

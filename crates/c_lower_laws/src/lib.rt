@@ -1,6 +1,6 @@
 //! Laws on the lowering: nothing goes in and nothing comes out.
 //! Read `specs/Operators.antt` first, then `Codes`, `Expressions` and `Slots`.
-//! That a C program does what its source does is going to rest on them.
+//! Used by: That a C program does what its source does is going to.
 #![tactic(auto)]
 
 ghost use Rattle.c_lower_laws.specs.Operators.{AreRightBinary, AreRightUnary};

@@ -1,6 +1,6 @@
 //! A C program in; the run of a machine on plain data, and how large its tables have to be, out.
 //! Read `specs/Machine.antt` (move_of) first, then `specs/Bounds.antt` and `specs/Laws.antt`: they serve `c_interp` alone.
-//! Rests on it: `c_interp::CMachine::go`.
+//! Used by: `c_interp::CMachine::go`.
 #![tactic(auto)]
 
 mod counts;

@@ -1,6 +1,6 @@
 //! Blocks of cells that own one another: references in, cells and references out, with the rule that is broken.
 //! Read `c_meaning/specs/Blocks.antt` first, then `specs/Shown.antt`: the blocks that are shown to be there.
-//! Rests on it: `c_interp::CMachine::go`, which takes no memory.
+//! Used by: `c_interp::CMachine::go`, which takes no memory.
 #![tactic(auto)]
 
 mod blocks;

@@ -1,6 +1,6 @@
 //! A primitive or an assignment of a C program, the variables of a frame and a run's world in; the world after it, out.
 //! Read `c_meaning/specs/Primitives.antt` first, then `specs/Shown.antt`.
-//! Rests on it: `c_interp::CMachine::go`.
+//! Used by: `c_interp::CMachine::go`.
 #![tactic(auto)]
 
 mod args;

@@ -1,6 +1,6 @@
 //! C programs in, their canonical text out.
 //! Read `c_syntax/specs/Canonical.antt` first.
-//! Rests on it: the files that `emit` writes.
+//! Used by: whatever writes C files.
 #![tactic(auto)]
 
 ghost use Rattle.std.specs.Prelude.{◌≡◌, IfOk};

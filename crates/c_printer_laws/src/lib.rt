@@ -1,6 +1,6 @@
 //! The law of canonical texts: nothing goes in and nothing comes out.
 //! Read `specs/ReadAgain.antt` first, then `c_syntax/specs/Canonical.antt`.
-//! Rests on it: that a C file which is printed is read as the same program.
+//! Used by: whoever prints a C program and reads it again.
 #![tactic(auto)]
 
 ghost use Rattle.c_printer_laws.specs.ReadAgain.{AreReadAgain};

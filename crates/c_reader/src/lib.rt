@@ -1,6 +1,6 @@
 //! A C text in; its program with the span of its certificate, or why it stands for none, out.
 //! Read `specs/Reads.antt` (IsReadAs) first, then `c_syntax/specs/Reading.antt`.
-//! Rests on it: what runs a C text, or verifies its certificate.
+//! Used by: what runs a C text, or verifies its certificate.
 #![tactic(auto)]
 
 ghost use Rattle.std.specs.Prelude.{◌≡◌, ◌<◌, ◌-◌, ◌^◌, length};

@@ -1,6 +1,6 @@
 //! Laws of C texts: nothing goes in and nothing comes out.
 //! Read `specs/Laws.antt` first, then `c_reader/specs/Reads.antt`.
-//! Rests on it: that `crun` has one reply, and has some; and that what is printed of a C program which was read is a text of it.
+//! Used by: the law that `crun` has one reply, and has some; it also says that what is printed of a C program which was read is a text of it.
 #![tactic(auto)]
 
 ghost use Rattle.std.specs.Prelude.{ℕ, List};

@@ -1,6 +1,6 @@
 //! The bytes of a C file and of files of numbers, and budgets in; how the run of the program ends out, its events going to a sink.
 //! Read `specs/Ends.antt` (EndsAs) first.
-//! Rests on it: the command `crun` of `vaultc_core`.
+//! Used by: the command `crun` of `vaultc_core`.
 #![tactic(auto)]
 
 ghost use Rattle.std.specs.Prelude.{◌<◌, ◌-◌, ◌^◌, length};

@@ -1,6 +1,6 @@
 //! The C subset: its programs as trees, their spelling and canonical text, and what makes a text one of it.
 //! Read `specs/C.antt` first, then `specs/Spelling.antt`.
-//! Rests on it: `c_printer::print_c` and `c_parser::read_unit`.
+//! Used by: `c_printer::print_c` and `c_parser::read_unit`.
 #![tactic(auto)]
 
 mod program;

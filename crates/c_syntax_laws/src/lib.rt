@@ -1,6 +1,6 @@
 //! Laws of C texts: nothing goes in and nothing comes out.
 //! Read `specs/Laws.antt` first.
-//! Rests on it: that `crun` has one reply.
+//! Used by: the law that `crun` has one reply.
 #![tactic(auto)]
 
 ghost use Rattle.c_syntax_laws.specs.Laws.{EachTextHasTokens, OneUnitIsRead};

@@ -1,6 +1,6 @@
 //! Expressions and arguments of a C program, the variables of a frame and its blocks in; values, or the broken rule, out.
 //! Read `c_meaning/specs/Values.antt` first, then `specs/Shown.antt`.
-//! Rests on it: `c_interp::CMachine::go`.
+//! Used by: `c_interp::CMachine::go`.
 #![tactic(auto)]
 
 mod exprs;

@@ -1,7 +1,6 @@
 //! The program: words and real files go in, a status comes out, and lines go to standard output.
 //! Read `status_of` first.
-//! Rests on `vaultc_core::vaultc`, which does the rest; the store keeps what it read, so that the promise of `check` is one on
-//! these bytes.
+//! Used by: nothing. `vaultc_core::vaultc` does the rest; the store keeps what it read, so that the promise of `check` is one on these bytes.
 #![tactic(auto)]
 
 ghost use Rattle.std.specs.Prelude.{◌≡◌, ◌≢◌, ◌⊎◌, IfErr};

@@ -1,6 +1,6 @@
 //! The program's commands: words and files go in, a status comes out, and lines go to a sink.
 //! Read `specs/Replies.antt` (IsReplyTo) first.
-//! Rests on it: the clauses of `vaultc`, above all `promised`, which rests on `vlt_sound::accepted_programs_go_right`.
+//! Used by: the program `vaultc`. Its clause `promised` stands on `vlt_sound::accepted_programs_go_right`.
 #![tactic(auto)]
 
 ghost use Rattle.std.specs.Prelude.{◌≡◌, ◌⊎◌, ℕ, List, Option, None, Some, [], map, string_bytes};

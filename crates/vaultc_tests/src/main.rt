@@ -1,6 +1,6 @@
 //! Transcripts: files and commands come in, with what each command writes and its status; where it is something else, that goes out.
 //! Read `stdin` first. The last line tells how many commands were run.
-//! Nothing rests on it: `vaultc_core::vaultc` has the clauses.
+//! Used by: nothing. `vaultc_core::vaultc` has the clauses.
 #![tactic(auto)]
 
 mod outside;

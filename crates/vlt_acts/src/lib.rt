@@ -1,6 +1,6 @@
 //! Statements without blocks, over the slots of the running frame and the heap; the tables behind them, or a trap, out.
 //! Read `vlt_meaning/specs/Run.antt` (does_simple) first, then `specs/Acts.antt`: what a statement comes to in the tables.
-//! Rests on it: the machine of runs, `vlt_interp`.
+//! Used by: the machine of runs, `vlt_interp`.
 #![tactic(auto)]
 
 mod focus;

@@ -1,6 +1,6 @@
 //! The numbers of an answer in; whether it fits the external's clause and result, and what it says, out.
 //! Read `vlt_meaning/specs/HostAnswers.antt` first, then `specs/Read.antt` and `specs/Whole.antt`.
-//! Rests on it: the machine of runs, `vlt_interp`.
+//! Used by: the machine of runs, `vlt_interp`.
 #![tactic(auto)]
 
 mod numbers;

@@ -1,6 +1,6 @@
 //! The check of whole programs: from a core program to the least maps of each body, or the first fault.
 //! Read `specs/Checks.antt` first, and of vlt_core `specs/Local.antt` and `specs/Derives.antt`.
-//! That a body is derived just where some annotation holds in it is a law of `vlt_core_laws`.
+//! Used by: verdicts. That a body is derived just where some annotation holds in it is a law of `vlt_core_laws`.
 #![tactic(auto)]
 
 ghost use Rattle.std.specs.Prelude.{◌≡◌, IfOk, OnOk};

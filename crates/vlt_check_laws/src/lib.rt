@@ -1,6 +1,6 @@
 //! Laws of the check: nothing goes in and nothing comes out.
 //! Read `specs/Judged.antt` first, then `specs/Shown.antt`.
-//! That `check` answers for each program, and that `explain` shows why, rests on them.
+//! Used by: `check`, which decides each program, and `explain`, which shows why.
 #![tactic(auto)]
 
 ghost use Rattle.vlt_core.specs.Core.{Program, Func};

@@ -1,6 +1,6 @@
 //! Core: a program whose names are numbers, and what the rules on keys say of it; no code but look-ups.
 //! Read `specs/Core.antt` first, then the modules of `specs/Lib.antt` in their order.
-//! The check, the runs, the lowering and the certificate all rest on it.
+//! Used by: the check, the runs, the lowering and the certificate.
 #![tactic(auto)]
 
 mod held;

@@ -1,6 +1,6 @@
 //! Laws of core programs: nothing goes in and nothing comes out.
 //! Read `vlt_core/specs/Kinded.antt`, `Local.antt`, `Derives.antt` and `Faults.antt` first, then `specs/Scoped.antt` and `specs/Fit.antt`.
-//! `vlt_flow` and `vlt_check` rest on them: a body is derived just where some annotation holds in it, and where none does something is faulty.
+//! Used by: `vlt_flow` and `vlt_check`. A body is derived just where some annotation holds in it; where none does, something is faulty.
 #![tactic(auto)]
 
 ghost use Rattle.std.specs.Prelude.{◌≡◌, ℕ, false, Some, slice_get, Bool, Option, None};

@@ -1,6 +1,6 @@
 //! Calls of externals: arguments that stand at the end of the table in; an event out, and what its answer says.
 //! Read `vlt_meaning/specs/Externals.antt` and `HostAnswers.antt` first, then `specs/Told.antt`, `Sent` and `Back`.
-//! Rests on it: the machine of runs, `vlt_interp`.
+//! Used by: the machine of runs, `vlt_interp`.
 #![tactic(auto)]
 
 mod backs;

@@ -1,6 +1,6 @@
 //! A law on the core programs of texts: nothing goes in and nothing comes out.
 //! Read `specs/Fit.antt` first.
-//! Verdicts rest on it, and through them the promise of `check`.
+//! Used by: verdicts, and through them the promise of `check`.
 #![tactic(auto)]
 
 mod narrow;

@@ -1,6 +1,6 @@
 //! The walk over one body: from its flow to the least annotation, or a refusal.
 //! Read `specs/Walks.antt` first, and of vlt_core `specs/Local.antt` and `specs/Least.antt`.
-//! The check rests on it.
+//! Used by: the check.
 #![tactic(auto)]
 
 ghost use Rattle.std.specs.Prelude.{IfOk};

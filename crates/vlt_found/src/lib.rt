@@ -1,6 +1,6 @@
 //! What paths find of one token: from a body's flow to tables of single statuses, swept until nothing grows.
 //! Read of vlt_core `specs/Found.antt` first, then of vlt_core_laws `specs/Sweep.antt`.
-//! The first fault rests on it: what is found at each join and before each row decides it.
+//! Used by: `vlt_judge`. What is found at each join and before each row decides the first fault.
 #![tactic(auto)]
 
 ghost use Rattle.std.specs.Prelude.{◌≡◌, ◌<◌, ◌^◌, IfOk, length};

@@ -1,6 +1,6 @@
 //! Calls in the table of values: arguments behind the caller's frame in, the callee's frame out; at a return, back.
 //! Read `vlt_meaning/specs/Calls.antt` first, then `specs/Frames.antt`, `specs/Entered.antt` and `specs/Left.antt`.
-//! Rests on it: the machine of runs, `vlt_interp`.
+//! Used by: the machine of runs, `vlt_interp`.
 #![tactic(auto)]
 
 mod entering;

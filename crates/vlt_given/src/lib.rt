@@ -1,6 +1,6 @@
 //! What a run is given: the bytes of its input file and of its answers file in, numbers out, or the first bad line.
 //! Read `specs/Given.antt` first, and `vlt_numbers/specs/Text.antt`.
-//! `run` and `crun` rest on it.
+//! Used by: `run` and `crun`.
 #![tactic(auto)]
 
 ghost use Rattle.std.specs.Prelude.{◌≡◌, ℕ, ◌-◌, ◌^◌, ◌<◌, length, Err, IfOk};

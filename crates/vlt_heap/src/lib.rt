@@ -1,6 +1,6 @@
 //! The heap of a run: objects in, places and numbers out; no memory is taken once it is open.
 //! Read `specs/Items.antt` first, then `specs/Shown.antt`: the objects that a heap shows, and what each call does to them.
-//! Rests on it: the machine of runs, `vlt_interp`.
+//! Used by: the machine of runs, `vlt_interp`.
 #![tactic(auto)]
 
 mod heap;

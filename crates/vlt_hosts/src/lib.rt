@@ -1,6 +1,6 @@
 //! Statements that speak with the host of a run: printing and input; events out, numbers in.
 //! Read `vlt_meaning/specs/Run.antt` (does_simple) first, then `specs/Hosts.antt`: what such a statement comes to.
-//! Rests on it: the machine of runs, `vlt_interp`.
+//! Used by: the machine of runs, `vlt_interp`.
 #![tactic(auto)]
 
 mod host;

@@ -1,6 +1,6 @@
 //! A core program and budgets in; a machine, which runs it once over input and answers and writes its events, out.
 //! Read `vlt_meaning/specs/Run.antt` first, then `specs/Reached.antt` and `specs/Machine.antt`.
-//! Rests on it: `vaultc_core`.
+//! Used by: `vaultc_core`.
 #![tactic(auto)]
 
 mod machine;

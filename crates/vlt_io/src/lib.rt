@@ -1,6 +1,6 @@
 //! The outside: names go in and bytes come out of a store, and bytes go into a sink.
 //! Read `specs/Outside.antt` first.
-//! Rests on it: the clauses of `vaultc_core::vaultc`, which hold for every store and every sink.
+//! Used by: the clauses of `vaultc_core::vaultc`, which hold for every store and every sink.
 #![tactic(auto)]
 
 mod calls;

@@ -1,6 +1,6 @@
 //! The first fault of a body that is refused: from its flow to the earliest faulty row or join, over all tokens.
 //! Read of vlt_core `specs/Faults.antt` first, then `specs/Blames.antt`.
-//! The check rests on it: a refusal tells this fault, and a body without one isn't refused.
+//! Used by: the check. A refusal reports this fault, and a body without one isn't refused.
 #![tactic(auto)]
 
 ghost use Rattle.std.specs.Prelude.{◌≡◌, IfOk, IfSome, IsNone, None};

@@ -1,6 +1,6 @@
 //! Held maps as dense tables: rows pass or are refused, and maps are joined.
 //! Read `specs/Held.antt` first.
-//! The check and the certificate's rest on it.
+//! Used by: the check and the certificate's.
 #![tactic(auto)]
 
 ghost use Rattle.std.specs.Prelude.{◌≡◌, ◌↔◌, ◌<◌, ◌^◌, length, IsTrue, IfOk, OnOk, IfErr, OnErr, IfSome, IfNone, MatchBool};

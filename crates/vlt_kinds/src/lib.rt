@@ -1,6 +1,6 @@
 //! Kinds: a tree in, what it declares as core declarations or the least refusal of the rules on names, types and heads out.
 //! Read `specs/Kinds.antt` first, then `Tables`.
-//! The rules on bodies rest on it.
+//! Used by: the rules on bodies.
 #![tactic(auto)]
 
 ghost use Rattle.std.specs.Prelude.{◌≡◌, Ok, Err, IfOk};

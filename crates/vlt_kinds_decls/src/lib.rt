@@ -1,6 +1,6 @@
 //! Declared types: declarations in, the least refusal of the rules on them and their core declarations out.
 //! Read `specs/Decls.antt` first, then `Made`.
-//! The rules on bodies rest on it.
+//! Used by: the rules on bodies.
 #![tactic(auto)]
 
 mod cases;

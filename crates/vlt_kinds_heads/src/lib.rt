@@ -1,6 +1,6 @@
 //! Heads: declarations and core types in, the least refusal of the rules on heads and the heads as core functions out.
 //! Read `specs/Places.antt` first, then `Keys`, `Heads`, `Externals` and `Phase`.
-//! The rules on bodies rest on it.
+//! Used by: the rules on bodies.
 #![tactic(auto)]
 
 mod binding;

@@ -1,6 +1,6 @@
 //! Names of a file: its declarations in, the table of names and the least refusal of the rules on them out.
 //! Read `specs/Refusals.antt` first, then `Globals` and `Names`.
-//! The rules on types, heads and bodies rest on it.
+//! Used by: the rules on types, heads and bodies.
 #![tactic(auto)]
 
 mod found;

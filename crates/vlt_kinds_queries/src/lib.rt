@@ -1,6 +1,6 @@
 //! Declared types in, their states and whether they may be dropped out.
 //! Read `vlt_core/specs/Types.antt` first, then `specs/Types.antt`.
-//! The rules on bodies rest on it.
+//! Used by: the rules on bodies.
 #![tactic(auto)]
 
 mod declared;

@@ -1,6 +1,6 @@
 //! Types of a file: its names and declarations in, what type names stand for and the least refusal of the rules on types out.
-//! Read `specs/Files.antt` first, then `Types` and `Decls`.
-//! The rules on heads and bodies rest on it.
+//! Read `specs/Files.antt` first, then `Types`.
+//! Used by: the rules on heads and bodies.
 #![tactic(auto)]
 
 mod file;

@@ -1,6 +1,6 @@
 //! The lexer: the bytes of a source text go in, its tokens with their places come out, or why there are none.
 //! Read `specs/Text.antt` (IsTokensOf) first, then `Reading.antt` (IsRefused).
-//! The parser reads these tokens; the replies to bytes that are no tokens rest on `lex`.
+//! Used by: the parser, and the replies to bytes that are no tokens.
 #![tactic(auto)]
 
 ghost use Rattle.std.specs.Prelude.{◌≡◌, ◌⊎◌, ◌<◌, ◌≤◌, ◌+◌, ◌-◌, ◌^◌, List, length, take, IfOk, IfErr, MatchResult};

@@ -1,6 +1,6 @@
 //! Lines of events: numbers and names in; bytes out, to a sink or to a line with room for them.
 //! There are no definitions of its own; what is written is said by std's `signed_decimal`.
-//! Rests on it: `vlt_hosts`.
+//! Used by: `vlt_hosts`, `vlt_externals` and `c_primitives`.
 #![tactic(auto)]
 
 ghost use Rattle.std.specs.Prelude.{◌≡◌, ◌<◌, ◌≤◌, ◌+◌, ◌∷◌, ◌++◌, [], length, pos, take, codes, vec_capacity, OnOk, OnErr};

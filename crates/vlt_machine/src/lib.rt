@@ -1,6 +1,6 @@
 //! A core program in; the run of a machine on plain data out.
 //! Read `specs/Machine.antt` (after_move) first, then `specs/Laws.antt`: they serve `vlt_interp` alone.
-//! That a machine with a stack runs a program as the definition of runs says rests on it.
+//! Used by: `vlt_interp`, whose machine with a stack runs a program as the definition of runs says.
 #![tactic(auto)]
 
 ghost use Rattle.vlt_machine.specs.Laws.{MachineIsTheRun, StackSuffices};

@@ -1,6 +1,6 @@
 //! Laws of runs: nothing goes in and nothing comes out.
 //! Read `vlt_meaning/specs/Run.antt` and `Does.antt` first, then `specs/Laws.antt`.
-//! The layers above see runs by these equations alone, and nothing of the bound.
+//! Used by: the layers above, which see runs by these equations alone, and nothing of the bound.
 #![tactic(auto)]
 
 ghost use Rattle.vlt_meaning_laws.specs.Done.{DoneIsMainsEnd, DoneIsClean};

@@ -1,6 +1,6 @@
 //! The least annotation of a body as a list of notes: from a function to the maps at its loops and behind its choices.
 //! Read of vlt_core `specs/Least.antt` first, then `specs/Listed.antt`.
-//! Certificates rest on it.
+//! Used by: certificates.
 #![tactic(auto)]
 
 ghost use Rattle.std.specs.Prelude.{map, IfOk, None};

@@ -1,6 +1,6 @@
 //! Files of numbers: bytes go in, a run's input numbers or its host's answers come out, or the first bad line.
 //! Read `specs/Text.antt` first.
-//! Rests on it: `run` and `crun`, with `--input` and `--answers`.
+//! Used by: `run` and `crun`, with `--input` and `--answers`.
 #![tactic(auto)]
 
 ghost use Rattle.std.specs.Prelude.{◌≡◌, ℕ, ◌-◌, ◌^◌, ◌<◌, length, IfOk};

@@ -1,6 +1,6 @@
 //! Statements that make objects, hand them on and end them, over the slots of the running frame and the heap.
 //! Read `vlt_meaning/specs/Run.antt` (does_simple) first, then `specs/Owned.antt`: the objects that slots own.
-//! Rests on it: the machine of runs, `vlt_interp`.
+//! Used by: the machine of runs, `vlt_interp`.
 #![tactic(auto)]
 
 mod cases;

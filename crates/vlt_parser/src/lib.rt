@@ -1,6 +1,6 @@
 //! The tokens of a text in, the tree that they spell out, or why there is none.
 //! Read `vlt_syntax/specs/Grammar.antt` (IsPlacedTreeOf) and `Refusals.antt` (IsRefusal) first.
-//! Rests on `vlt_syntax_laws`: a text has a tree or a refusal, one of them, and never both.
+//! Used by: the replies to all texts. By `vlt_syntax_laws` a text has a tree or a refusal, and never both.
 #![tactic(auto)]
 
 ghost use Rattle.std.specs.Prelude.{IfOk, IfErr};

@@ -1,6 +1,6 @@
 //! Parts of the parser: from a token's position a list, type, expression, entry or case, and the position behind.
 //! Read `specs/Promises.antt` first.
-//! `vlt_parser_simple`, `vlt_parser_stmts` and `vlt_parser` rest on it.
+//! Used by: `vlt_parser_simple`, `vlt_parser_stmts` and `vlt_parser`.
 #![tactic(auto)]
 
 mod error;

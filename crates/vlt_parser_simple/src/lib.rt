@@ -1,6 +1,6 @@
 //! Parts of the parser: from a token's position a right side or a statement without blocks, and the position behind.
 //! Read `vlt_parser_exprs/specs/Promises.antt` first.
-//! `vlt_parser_stmts` rests on it.
+//! Used by: `vlt_parser_stmts`.
 #![tactic(auto)]
 
 mod rights;

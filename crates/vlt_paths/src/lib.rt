@@ -1,6 +1,6 @@
 //! Paths by their choices: a program, a fault and choices go in, and whether they are paths that show the fault comes out.
 //! Read of vlt_core `specs/Witness.antt` first, then `specs/Along.antt` and `specs/Shown.antt`.
-//! Whoever is handed a witness tests it here, without the search that found it and without memory.
+//! Used by: whoever is handed a witness, which is tested here without the search that found it and without memory.
 #![tactic(auto)]
 
 ghost use Rattle.std.specs.Prelude.{◌↔◌, IsTrue, None};

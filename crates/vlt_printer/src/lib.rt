@@ -1,6 +1,6 @@
 //! Layouts: a tree in, its one layout as text out.
 //! Read `specs/Lists.antt` first, then `specs/Layout.antt` (layout).
-//! Rests on it: `vlt_printer_laws::layouts_are_read_again`, and what `fmt` writes.
+//! Used by: `vlt_printer_laws::layouts_are_read_again`, and `fmt`.
 #![tactic(auto)]
 
 ghost use Rattle.std.specs.Prelude.{◌≡◌, IfOk};

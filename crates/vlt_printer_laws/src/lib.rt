@@ -1,6 +1,6 @@
 //! The law of layouts: what is printed has the tree's tokens, and is read as the same tree.
 //! Read `specs/ReadAgain.antt` first.
-//! Rests on `vlt_syntax_laws`: a text has one tree.
+//! Used by: whoever lays out a text and reads it again. By `vlt_syntax_laws` a text has one tree.
 #![tactic(auto)]
 
 ghost use Rattle.vlt_printer_laws.specs.ReadAgain.{IsReadAgain};

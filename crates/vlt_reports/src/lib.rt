@@ -1,6 +1,6 @@
 //! The lines of the check: a refused rule, a fault, a path or an accepted program goes in, a line comes out.
 //! Read `specs/Reports.antt` first.
-//! The replies of `check` and `explain` rest on it.
+//! Used by: the replies of `check` and `explain`.
 #![tactic(auto)]
 
 mod lines;

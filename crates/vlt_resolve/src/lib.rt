@@ -1,6 +1,6 @@
 //! Elaboration: a tree and the table of its kinds in, the core program out, or the first rule or limit that refuses a body.
 //! Read `specs/Elaboration.antt` first.
-//! The check, the runs and the lowering rest on the program that comes out.
+//! Used by: the check, the runs and the lowering, which take the program that comes out.
 #![tactic(auto)]
 
 ghost use Rattle.std.specs.Prelude.{◌≡◌, Some, Ok, Err, IfOk};

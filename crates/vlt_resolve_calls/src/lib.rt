@@ -1,6 +1,6 @@
 //! Targets of right sides, ticks and calls: a target and the names in scope in, the least refusal and the core forms out.
 //! Read `specs/Targets.antt` first, then `Builds` and `Calls`.
-//! The elaboration of all right sides and of statements rests on it.
+//! Used by: the elaboration of all right sides and of statements.
 #![tactic(auto)]
 
 mod builds;

@@ -1,6 +1,6 @@
 //! Copies of what the table of kinds declares: sets, types and heads go in, and the same in memory of their own comes out.
 //! Read `declarations` first. Each clause says that the copy is what was copied.
-//! `vlt_resolve` rests on it.
+//! Used by: `vlt_resolve`.
 #![tactic(auto)]
 
 ghost use Rattle.std.specs.Prelude.{◌≡◌, IfOk};

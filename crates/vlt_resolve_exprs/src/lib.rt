@@ -1,6 +1,6 @@
 //! Expressions: an expression of the tree and the names in scope in, its type, the least refusal and the core expression out.
 //! Read `specs/Scopes.antt` first, then `Exprs`, `Operands` and `Bindings`.
-//! The elaboration of right sides and statements rests on it.
+//! Used by: the elaboration of right sides and statements.
 #![tactic(auto)]
 
 mod bindings;

@@ -1,6 +1,6 @@
 //! Right sides: one of the tree, its target and the names in scope in, the least refusal and the core forms out.
 //! Read `specs/News.antt` first, then `Adopts` and `Rights`.
-//! The elaboration of statements rests on it.
+//! Used by: the elaboration of statements.
 #![tactic(auto)]
 
 mod adopts;

@@ -1,6 +1,6 @@
 //! Statements without blocks: one of the tree and the names in scope in, the least refusal and the core forms out.
 //! Read `specs/Statements.antt` first, then `Declarations`.
-//! The walk over bodies rests on it.
+//! Used by: the walk over bodies.
 #![tactic(auto)]
 
 mod around;

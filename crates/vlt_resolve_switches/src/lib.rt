@@ -1,6 +1,6 @@
 //! Switches and focuses: one of the tree and the names in scope in, the least refusal and the scopes of its blocks out.
 //! Read `specs/Switches.antt` first.
-//! The walk over bodies rests on it.
+//! Used by: the walk over bodies.
 #![tactic(auto)]
 
 mod switches;

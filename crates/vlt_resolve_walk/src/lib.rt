@@ -1,6 +1,6 @@
 //! The walk over a body: its statements and the names in scope in, the core statements out, or the first refusal.
 //! Read `specs/Walk.antt` first, then `Blocks`.
-//! Elaboration rests on it.
+//! Used by: elaboration.
 #![tactic(auto)]
 
 mod blocks;

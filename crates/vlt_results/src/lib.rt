@@ -1,6 +1,6 @@
 //! What an answer says is done: objects of a case come back, states are set, new objects are made.
 //! Read `vlt_meaning/specs/Externals.antt` first, then `specs/Stated.antt` and `specs/Results.antt`.
-//! Rests on it: the machine of runs, `vlt_interp`.
+//! Used by: the machine of runs, `vlt_interp`.
 #![tactic(auto)]
 
 mod keys;

@@ -1,6 +1,6 @@
 //! A core program and budgets in; tables that suffice for a whole run of it out.
 //! Read `vlt_core/specs/Widths.antt` first, then `specs/Rooms.antt` and `specs/Start.antt`.
-//! The machine of runs, `vlt_interp`, rests on it: it takes all its memory before a run begins.
+//! Used by: the machine of runs, `vlt_interp`, which takes all its memory before a run begins.
 #![tactic(auto)]
 
 mod parts;

@@ -1,6 +1,6 @@
 //! The rows of each statement: from the core program to rows, taken one after another.
 //! Read `specs/Taking.antt` first.
-//! The check, the witness and the certificate's check rest on it.
+//! Used by: the check, the witness and the certificate's check.
 #![tactic(auto)]
 
 ghost use Rattle.std.specs.Prelude.{◌≡◌, MatchResult};

@@ -1,6 +1,6 @@
 //! A program, the bytes of its files of numbers and budgets in; how its run ends out, its events going to a sink.
 //! Read `specs/Ends.antt` (EndsAs) first.
-//! Rests on it: the command `run` of `vaultc`.
+//! Used by: the command `run` of `vaultc`.
 #![tactic(auto)]
 
 ghost use Rattle.std.specs.Prelude.{◌<◌, ◌-◌, ◌^◌, length};

@@ -1,6 +1,6 @@
 //! Laws on what a run of an accepted program comes to: nothing goes in and nothing comes out.
 //! Read `vlt_tasks/specs/Own.antt` and `vlt_calls/specs/Called.antt` first, then `specs/Named.antt` and `specs/Known.antt`.
-//! That a machine may fill variables, look up keys and call externals without a test rests on them.
+//! Used by: the machine, which fills variables, looks up keys and calls externals without a test.
 #![tactic(auto)]
 
 ghost use Rattle.vlt_core.specs.Core.{Program, Form, Func};

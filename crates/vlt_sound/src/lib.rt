@@ -1,6 +1,6 @@
 //! The law on whole runs: nothing goes in and nothing comes out.
 //! Read `specs/Promise.antt` first: what is promised of programs that break no rule.
-//! Programs that are checked and accepted rest on it.
+//! Used by: the promise of `check`.
 #![tactic(auto)]
 
 mod externs;

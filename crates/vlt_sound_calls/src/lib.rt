@@ -1,6 +1,6 @@
 //! Laws of calls, on the way in, back, and of the host: nothing goes in and nothing comes out.
-//! Read `specs/Calls.antt` first, then `specs/Callee.antt`, `specs/Returns.antt` and `specs/HostAnswers.antt`.
-//! `vlt_sound` rests on them: no run of an accepted program goes wrong.
+//! Read `specs/Calls.antt` first, then `specs/Callee.antt`, `specs/Returned.antt` and `specs/HostAnswers.antt`.
+//! Used by: `vlt_sound`. No run of an accepted program goes wrong.
 #![tactic(auto)]
 
 mod answers;

@@ -1,6 +1,6 @@
 //! Laws of statements, and of what they make, open and end: nothing goes in and nothing comes out.
 //! Read `specs/Makings.antt` first, then `specs/Kinded.antt`.
-//! `vlt_sound` rests on them: no run of an accepted program goes wrong.
+//! Used by: `vlt_sound`. No run of an accepted program goes wrong.
 #![tactic(auto)]
 
 mod blocks;

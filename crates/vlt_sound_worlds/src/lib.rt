@@ -1,6 +1,6 @@
 //! Laws of worlds, frames and scopes: nothing goes in and nothing comes out.
-//! Read `specs/Said.antt` first (what the values of a world own), then `specs/Safe.antt` and `specs/Scoped.antt`.
-//! `vlt_sound` rests on them: no run of an accepted program goes wrong.
+//! Read `specs/Ranks.antt` first, then `Placed`, `Keys`, `Fits`, `Agrees` and `Scoped`.
+//! Used by: `vlt_sound`. No run of an accepted program goes wrong.
 #![tactic(auto)]
 
 mod changes;

@@ -1,6 +1,6 @@
 //! Statements of a core program that are no calls and no returns; a run under way in, the run behind the statement or its stop out.
 //! Read `vlt_machine/specs/Machine.antt` (act) first, then `vlt_tasks/specs/Moves.antt`: what a statement asks and comes to.
-//! Rests on it: the machine of runs, `vlt_interp`.
+//! Used by: the machine of runs, `vlt_interp`.
 #![tactic(auto)]
 
 mod blocks;

@@ -1,6 +1,6 @@
 //! The tree of a source text, its spelling as tokens, and what makes it one of the language.
 //! Read `specs/Tree.antt` first, then `Grammar.antt` and `Refusals.antt`: what the grammar refuses, and where.
-//! Rests on it: parser, printer, and all that is said of names and types.
+//! Used by: parser, printer, and all that is said of names and types.
 #![tactic(auto)]
 
 mod name_text;

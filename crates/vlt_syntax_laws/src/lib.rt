@@ -1,6 +1,6 @@
 //! Laws of the grammar: a text has just one tree, or is refused in just one way; and the automaton decides which.
 //! Read `vlt_syntax/specs/Refusals.antt` and `specs/Laws.antt` first.
-//! The clauses of `vlt_parser::parse` rest on these laws.
+//! Used by: the clauses of `vlt_parser::parse`.
 #![tactic(auto)]
 
 ghost use Rattle.std.specs.Prelude.{List, ◌≡◌, ℕ};

@@ -1,6 +1,6 @@
 //! What is left to do in a run of a core program; tables under way in, the configuration that they show out.
 //! Read `vlt_machine/specs/Machine.antt` first, then `specs/Shown.antt` and `specs/Moves.antt`: what a part of a move owes.
-//! The crates of the machine's moves rest on it: `vlt_statements`, `vlt_calls`, `vlt_interp`.
+//! Used by: the crates of the machine's moves, `vlt_statements`, `vlt_calls` and `vlt_interp`.
 #![tactic(auto)]
 
 mod stop;

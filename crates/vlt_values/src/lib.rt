@@ -1,6 +1,6 @@
 //! The values of a run: expressions and operands, the variables of a frame and the objects in; values or a trap out.
 //! Read `vlt_meaning/specs/Values.antt` first, then `specs/Parts.antt` and `specs/Shown.antt`: the slots that values take.
-//! Rests on it: the machine of runs, `vlt_interp`.
+//! Used by: the machine of runs, `vlt_interp`.
 #![tactic(auto)]
 
 mod exprs;

@@ -1,6 +1,6 @@
 //! Verdicts: a tree goes in, what it is as a program comes out.
 //! Read `specs/Verdicts.antt` first.
-//! The replies of `check` rest on it, and that a text has one reply on its two laws.
+//! Used by: the replies of `check`. By its two laws a text has one verdict.
 #![tactic(auto)]
 
 ghost use Rattle.std.specs.Prelude.{IfOk};

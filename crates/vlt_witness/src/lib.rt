@@ -1,6 +1,6 @@
 //! Paths that show a fault: a program and its first fault go in, the choices of one path or of two come out.
 //! Read of vlt_core `specs/Witness.antt` first, then `specs/Unfit.antt`, `specs/Ways.antt` and `specs/Search.antt`.
-//! The `path` lines of `explain` rest on it.
+//! Used by: the `path` lines of `explain`.
 #![tactic(auto)]
 
 ghost use Rattle.std.specs.Prelude.{◌≡◌, None, IfOk, IfErr, IfSome};
