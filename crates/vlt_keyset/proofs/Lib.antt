@@ -1,2 +1,5 @@
 pub mod Sets
 pub mod Joining
+mod Ordered
+mod Places
+mod Putting

@@ -1,15 +1,17 @@
 -- What a `Held` says: the map of a function's tokens; and how rows and joins are refused.
 use Rattle.std.specs.Prelude.{◌≡◌, ◌<◌, ◌+◌, ℕ, List, length, slice_index_or}
 use Rattle.vlt_core.specs.Core.{Tok, a_key, a_var}
-use Rattle.vlt_core.specs.Maps.{HeldMap, IsBelow, kind_of, Row, IsWanted}
+use Rattle.vlt_core.specs.Maps.{HeldMap, IsBelow, IsStatusBelow, kind_of, Row, IsWanted}
 use Rattle.vlt_core.specs.Maps as maps
 use Rattle.vlt_core.specs.View.{tok_of}
 use Rattle.vlt_core.specs.HeldView.{status_of, wanted_of}
 use Rattle.vlt_core.specs.declared.held.Status.{Status}
 use Rattle.vlt_core.specs.declared.held.Status.TheVariants.{Absent}
+use Rattle.vlt_keyset.specs.Pairs.{IsBefore}
 use Rattle.vlt_keyset.specs.Statuses.{table_gap}
 use Rattle.vlt_keyset.specs.declared.faults.TokenFault.{TokenFault}
 use Rattle.vlt_keyset.specs.declared.faults.JoinFault.{JoinFault}
+use Rattle.vlt_keyset.specs.declared.faults.Apart.{Apart}
 
 -- the statuses of a function's keys and variables, by number
 pub record Statuses : Type 0 where
@@ -51,16 +53,16 @@ pub record IsTokenFault (r : Row) (h : HeldMap) (e : TokenFault) : Type 0 where
   pub wanted : wanted_of e.wanted ≡ r.wanted
   pub refused : IsWanted r.wanted (h r.tok) → ⊥
 
--- keys come before variables, each kind in ascending order
-abbrev pub IsBefore : Tok → Tok → Type 0
-IsBefore (a_key k) (a_key j) = k < j
-IsBefore (a_key k) (a_var w) = Unit {0}
-IsBefore (a_var v) (a_key j) = ⊥
-IsBefore (a_var v) (a_var w) = v < w
-
 -- the first token whose statuses are of two kinds
 pub record IsJoinFault (h o : HeldMap) (e : JoinFault) : Type 0 where
   pub apart : kind_of (h (tok_of e.tok)) ≡ kind_of (o (tok_of e.tok)) → ⊥
   pub left : status_of e.left ≡ h (tok_of e.tok)
   pub right : status_of e.right ≡ o (tok_of e.tok)
   pub first : (t : Tok) → IsBefore t (tok_of e.tok) → kind_of (h t) ≡ kind_of (o t)
+
+-- the first token at which the map h isn't below the map k
+pub record IsApart (h k : HeldMap) (e : Apart) : Type 0 where
+  pub apart : IsStatusBelow (h (tok_of e.tok)) (k (tok_of e.tok)) → ⊥
+  pub found : status_of e.found ≡ h (tok_of e.tok)
+  pub wanted : status_of e.wanted ≡ k (tok_of e.tok)
+  pub first : (t : Tok) → IsBefore t (tok_of e.tok) → IsStatusBelow (h t) (k t)

@@ -1,3 +1,5 @@
+pub mod Pairs
 pub mod Held
 pub mod Statuses
 pub mod Tables
+pub mod Cursors

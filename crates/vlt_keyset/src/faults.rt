@@ -1,4 +1,4 @@
-//! Why a row isn't passed, or maps aren't joined.
+//! Why a row isn't passed, maps aren't joined, or a map isn't below another.
 
 use thiserror::Error;
 use vlt_core::{Status, Tok, Wanted};
@@ -19,4 +19,13 @@ pub struct JoinFault {
     pub tok: Tok,
     pub left: Status,
     pub right: Status,
+}
+
+/// A token whose status in a map isn't below the one that another map gives it.
+#[derive(Clone, Copy, Debug, PartialEq, Eq, Error)]
+#[error("a token's status isn't below another map's")]
+pub struct Apart {
+    pub tok: Tok,
+    pub found: Status,
+    pub wanted: Status,
 }

@@ -7,18 +7,25 @@ ghost use Rattle.std.specs.Prelude.{◌≡◌, ◌↔◌, ◌<◌, ◌^◌, leng
 ghost use Rattle.vlt_core.specs.View.{tok_of};
 ghost use Rattle.vlt_core.specs.HeldView.{status_of, wanted_of, row_of};
 ghost use Rattle.vlt_core.specs.Maps.{IsWanted, IsBelow, kind_of, row_passed, absent};
-ghost use Rattle.vlt_keyset.specs.Held.{map_of, HasPlace, IsSameRange, gap, IsJoin, IsTokenFault, IsJoinFault};
+ghost use Rattle.vlt_keyset.specs.Pairs.{map_of_pairs, AreInOrder, AreAmong};
+ghost use Rattle.vlt_keyset.specs.Held.{map_of, HasPlace, IsSameRange, gap, IsJoin, IsTokenFault, IsJoinFault, IsApart};
 ghost use Rattle.vlt_keyset.specs.Tables.{IsAlikeMap, IsAllAbsent, put_in};
 
+mod apart;
 mod faults;
+mod pairs;
 mod statuses;
 mod tables;
+mod tokens;
 
-pub use faults::{JoinFault, TokenFault};
+use apart::{test_keys, test_vars};
+pub use faults::{Apart, JoinFault, TokenFault};
+pub use pairs::in_order;
 use statuses::{changed, is_wanted};
 use std::alloc::{AllocError, Global};
 use std::marker::Model;
-use tables::{all_below, all_same, first_apart, unite_all};
+use tables::{all_below, all_same, first_unlike, unite_all};
+pub use tokens::TokenCounts;
 use vlt_base::{KeyId, Memory, VarId};
 use vlt_core::{Row, Status, Tok};
 
@@ -61,6 +68,30 @@ impl Held {
         let keys = absents(alloc, keys)?;
         let vars = absents(alloc, vars)?;
         Ok(Held { keys, vars })
+    }
+
+    /// A map for so many keys and variables that says what the pairs say; `None` where one of their tokens isn't among these.
+    pub fn of_pairs(
+        alloc: Global,
+        counts: TokenCounts,
+        pairs: &[(Tok, Status)],
+    ) -> Result<Option<Held>, Memory>
+        ensures map { IfOk result (λ o. IfSome o (λ h. map_of h ≡ map_of_pairs pairs.now)) }
+        ensures keys { IfOk result (λ o. IfSome o (λ h. length h.keys ≡ counts.keys)) }
+        ensures vars { IfOk result (λ o. IfSome o (λ h. length h.vars ≡ counts.vars)) }
+        ensures none { IfOk result
+            (λ o. IfNone o (AreAmong counts.keys counts.vars pairs.now → ⊥)) }
+    {
+        let mut held = Held::open(alloc, counts.keys, counts.vars)?;
+        let count = pairs.len();
+        for j in 0..count {
+            let pair = pairs[count - 1 - j];
+            if !held.has(pair.0) {
+                return Ok(None);
+            }
+            held.put(pair.0, pair.1);
+        }
+        Ok(Some(held))
     }
 
     pub fn copy(&self, alloc: Global) -> Result<Held, Memory>
@@ -139,6 +170,19 @@ impl Held {
             && all_below(self.vars.as_slice(), o.vars.as_slice())
     }
 
+    /// The first token at which this map isn't below the one that the pairs say, which may be a token that this one has no
+    /// place for.
+    pub fn first_apart(&self, pairs: &[(Tok, Status)]) -> Option<Apart>
+        requires { AreInOrder pairs.now }
+        ensures none { IfNone result (IsBelow (map_of self.now) (map_of_pairs pairs.now)) }
+        ensures some { IfSome result (IsApart (map_of self.now) (map_of_pairs pairs.now)) }
+    {
+        match test_keys(self, pairs) {
+            Err(apart) => Some(apart),
+            Ok(at) => test_vars(self, pairs, at).err(),
+        }
+    }
+
     /// Whether both are the same.
     pub fn is_same(&self, o: &Held) -> bool
         ensures { IsTrue result ↔ (self.now ≡ o.now) }
@@ -148,19 +192,19 @@ impl Held {
     }
 
     /// The first token whose kinds differ, with both statuses.
-    fn apart(&self, o: &Held) -> Option<JoinFault>
+    fn first_unlike(&self, o: &Held) -> Option<JoinFault>
         requires { IsSameRange self.now o.now }
         ensures none { IfNone result (IsAlikeMap self.now o.now) }
         ensures some { IfSome result (IsJoinFault (map_of self.now) (map_of o.now)) }
     {
-        if let Some(i) = first_apart(self.keys.as_slice(), o.keys.as_slice()) {
+        if let Some(i) = first_unlike(self.keys.as_slice(), o.keys.as_slice()) {
             return Some(JoinFault {
                 tok: Tok::Key(KeyId(i as u32)),
                 left: self.keys[i],
                 right: o.keys[i],
             });
         }
-        if let Some(i) = first_apart(self.vars.as_slice(), o.vars.as_slice()) {
+        if let Some(i) = first_unlike(self.vars.as_slice(), o.vars.as_slice()) {
             return Some(JoinFault {
                 tok: Tok::Var(VarId(i as u32)),
                 left: self.vars[i],
@@ -180,7 +224,7 @@ impl Held {
         ensures same { OnErr result (self.new ≡ self.old) }
         ensures refused { IfErr result (IsJoinFault (map_of self.old) (map_of o.now)) }
     {
-        if let Some(fault) = self.apart(o) {
+        if let Some(fault) = self.first_unlike(o) {
             return Err(fault);
         }
         let keys = unite_all(self.keys.as_mut_slice(), o.keys.as_slice());

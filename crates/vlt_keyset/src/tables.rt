@@ -23,7 +23,7 @@ pub fn all_below(xs: &[Status], ys: &[Status]) -> bool
 }
 
 /// The first place where the kinds differ.
-pub fn first_apart(xs: &[Status], ys: &[Status]) -> Option<usize>
+pub fn first_unlike(xs: &[Status], ys: &[Status]) -> Option<usize>
     requires { length xs.now ≡ length ys.now }
     ensures none { IfNone result (IsAlike xs.now ys.now) }
     ensures some { IfSome result (λ i. kind_of (at xs.now i) ≡ kind_of (at ys.now i) → ⊥) }
