@@ -12,7 +12,7 @@ use Rattle.vlt_core.specs.declared.held.Status.TheVariants as status
 abbrev pub Pair : Type 0
 Pair = code_tok.Tok × code_status.Status
 
--- The map that pairs say: the first pair of a token has its status, and a token without one is absent.
+-- The map that pairs say: the first pair of a token has its status, a token without one is absent.
 abbrev pub map_of_pairs : List Pair → HeldMap
 map_of_pairs [] t = maps.absent
 map_of_pairs (x ∷ xs) t = if is_tok t (tok_of x.0) then status_of x.1 else map_of_pairs xs t

@@ -5,3 +5,4 @@ pub mod Collected
 pub mod Views
 pub mod Building
 pub mod Named
+pub mod Stepping

@@ -18,6 +18,7 @@ mod pieces;
 mod sink;
 mod statements;
 mod states;
+mod steps;
 mod tree;
 
 use crate::body::{all_tokens, flow_stmts};
@@ -33,6 +34,7 @@ pub use statements::{
 };
 pub use states::{States, side_states};
 use std::alloc::Global;
+pub use steps::{adopt, apply_call, focus_in, focus_out, open_case, pack_case};
 pub use tree::{Flow, FlowArm, FlowBlock, FlowStmt};
 use vlt_base::Items;
 use vlt_core::{Func, Program};

@@ -90,6 +90,14 @@ impl<T: Drop> From<AllocFailed<T>> for RowError {
     }
 }
 
+impl From<vlt_base::Memory> for RowError {
+    ghost from_gives = { λ _ e. e ≡ Memory };
+
+    fn from(_: vlt_base::Memory) -> RowError {
+        RowError::Memory
+    }
+}
+
 /// What takes the rows of statements, one after another: a held map passes them, a list keeps them.
 pub trait RowSink {
     ghost use Rattle.vlt_rows.specs.declared.sink.RowError.{RowError};
