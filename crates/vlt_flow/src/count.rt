@@ -18,6 +18,7 @@ fn add(a: usize, b: usize) -> Result<usize, Stop>
     }
 }
 
+/// How many statements a statement is, with those inside it. Never `Refused`.
 #[cycle(count)]
 pub fn count_form(form: &Flow) -> Result<usize, Stop>
     ensures count { IfOk result (λ n. n ≡ size (flow_view form.now)) }
@@ -41,6 +42,7 @@ pub fn count_form(form: &Flow) -> Result<usize, Stop>
     }
 }
 
+/// How many statements a block has, with those inside them. Never `Refused`.
 #[cycle(count)]
 pub fn count_block(block: &FlowBlock) -> Result<usize, Stop>
     ensures count { IfOk result (λ n. n ≡ size_block (block_view block.now)) }

@@ -16,6 +16,7 @@ mod pass;
 mod start;
 mod walking;
 
+pub use count::{count_block, count_form};
 pub use errors::Stop;
 pub use kept::Kept;
 pub use least::least_maps;
