@@ -5,7 +5,8 @@ ghost use Rattle.vlt_core.specs.Flow.{size, size_block, size_stmts, size_arms};
 ghost use Rattle.vlt_core.specs.Least.{a_loop, a_join, noted, noted_block, noted_stmts, noted_arms};
 ghost use Rattle.vlt_rows.specs.FlowView.{flow_view, block_view, stmts_view, arms_view};
 ghost use Rattle.vlt_flow.specs.Walks.{slot};
-ghost use Rattle.vlt_notes.specs.Listed.{IsLong, IsHeld, IsNoted, map_in};
+ghost use Rattle.vlt_notes.specs.Listed.{map_in, IsListed, AreListed};
+ghost use Rattle.vlt_notes.specs.Noted.{IsLong, IsHeld, IsNoted};
 
 use crate::passing::{passes_arms, passes_block};
 use crate::statuses::listed;
@@ -13,6 +14,7 @@ use std::alloc::Global;
 use vlt_base::{Items, Memory, StmtId, either};
 use vlt_core::{Note, TokMap};
 use vlt_flow::Kept;
+use vlt_keyset::TokenCounts;
 use vlt_rows::{Flow, FlowArm, FlowBlock, FlowStmt};
 
 fn stmt_id(n: usize) -> Result<StmtId, Memory>
@@ -24,33 +26,43 @@ fn stmt_id(n: usize) -> Result<StmtId, Memory>
     }
 }
 
-fn around(alloc: Global, kept: &Kept, n: usize) -> Result<TokMap, Memory>
+fn around(alloc: Global, kept: &Kept, n: usize, counts: TokenCounts) -> Result<TokMap, Memory>
     requires { IsLong kept.now (n + 1) }
-    ensures { IfOk result (λ m. IsHeld (slot kept.now.around n) (map_in m)) }
+    ensures held { IfOk result (λ m. IsHeld (slot kept.now.around n) (map_in m)) }
+    ensures order { IfOk result (λ m. IsListed counts.keys counts.vars m.pairs) }
 {
     match kept.copy_around(alloc, n) {
-        Ok(held) => listed(alloc, &held),
+        Ok(held) => listed(alloc, &held, counts),
         Err(_) => Err(Memory),
     }
 }
 
-fn behind(alloc: Global, kept: &Kept, n: usize) -> Result<TokMap, Memory>
+fn behind(alloc: Global, kept: &Kept, n: usize, counts: TokenCounts) -> Result<TokMap, Memory>
     requires { IsLong kept.now (n + 1) }
-    ensures { IfOk result (λ m. IsHeld (slot kept.now.behind n) (map_in m)) }
+    ensures held { IfOk result (λ m. IsHeld (slot kept.now.behind n) (map_in m)) }
+    ensures order { IfOk result (λ m. IsListed counts.keys counts.vars m.pairs) }
 {
     match kept.copy_behind(alloc, n) {
-        Ok(held) => listed(alloc, &held),
+        Ok(held) => listed(alloc, &held, counts),
         Err(_) => Err(Memory),
     }
 }
 
-fn note_loop(alloc: Global, notes: &mut Items<Note>, kept: &Kept, n: usize) -> Result<(), Memory>
+fn note_loop(
+    alloc: Global,
+    notes: &mut Items<Note>,
+    kept: &Kept,
+    n: usize,
+    counts: TokenCounts,
+) -> Result<(), Memory>
     requires { IsLong kept.now (n + 1) }
-    ensures { OnOk result (IsNoted kept.now (a_loop n ∷ []) notes.old notes.new) }
+    ensures noted { OnOk result (IsNoted kept.now (a_loop n ∷ []) notes.old notes.new) }
+    ensures order { AreListed counts.keys counts.vars notes.old →
+        OnOk result (AreListed counts.keys counts.vars notes.new) }
 {
     let stmt = stmt_id(n)?;
-    let around = around(alloc, kept, n)?;
-    let exit = behind(alloc, kept, n)?;
+    let around = around(alloc, kept, n, counts)?;
+    let exit = behind(alloc, kept, n, counts)?;
     Ok(notes.push(Note::Loop { stmt, around, exit })?)
 }
 
@@ -61,16 +73,19 @@ fn note_join(
     kept: &Kept,
     n: usize,
     passes: bool,
+    counts: TokenCounts,
 ) -> Result<(), Memory>
     requires { IsLong kept.now (n + 1) }
-    ensures { OnOk result (IsNoted kept.now (if passes then a_join n ∷ [] else []) notes.old
+    ensures noted { OnOk result (IsNoted kept.now (if passes then a_join n ∷ [] else []) notes.old
         notes.new) }
+    ensures order { AreListed counts.keys counts.vars notes.old →
+        OnOk result (AreListed counts.keys counts.vars notes.new) }
 {
     if !passes {
         return Ok(());
     }
     let stmt = stmt_id(n)?;
-    let map = behind(alloc, kept, n)?;
+    let map = behind(alloc, kept, n, counts)?;
     Ok(notes.push(Note::Join { stmt, map })?)
 }
 
@@ -81,10 +96,13 @@ fn note_form(
     kept: &Kept,
     form: &Flow,
     n: usize,
+    counts: TokenCounts,
 ) -> Result<usize, Memory>
     requires room { IsLong kept.now (n + size (flow_view form.now)) }
     ensures noted { OnOk result (IsNoted kept.now
         (noted n (flow_view form.now)) notes.old notes.new) }
+    ensures order { AreListed counts.keys counts.vars notes.old →
+        OnOk result (AreListed counts.keys counts.vars notes.new) }
     ensures at { IfOk result (λ m. m ≡ n + size (flow_view form.now)) }
 {
     match form {
@@ -95,20 +113,20 @@ fn note_form(
         } => {
             let first = passes_block(then_block);
             let second = passes_block(else_block);
-            note_join(alloc, notes, kept, n, either(first, second))?;
-            let m = note_block(alloc, notes, kept, then_block, n + 1)?;
-            note_block(alloc, notes, kept, else_block, m)
+            note_join(alloc, notes, kept, n, either(first, second), counts)?;
+            let m = note_block(alloc, notes, kept, then_block, n + 1, counts)?;
+            note_block(alloc, notes, kept, else_block, m, counts)
         }
         Flow::While { rows, body } => {
-            note_loop(alloc, notes, kept, n)?;
-            note_block(alloc, notes, kept, body, n + 1)
+            note_loop(alloc, notes, kept, n, counts)?;
+            note_block(alloc, notes, kept, body, n + 1, counts)
         }
         Flow::Switch { rows, arms, end } => {
-            note_join(alloc, notes, kept, n, passes_arms(arms.as_slice()))?;
-            note_arms(alloc, notes, kept, arms.as_slice(), n + 1)
+            note_join(alloc, notes, kept, n, passes_arms(arms.as_slice()), counts)?;
+            note_arms(alloc, notes, kept, arms.as_slice(), n + 1, counts)
         }
-        Flow::Scope { body } => note_block(alloc, notes, kept, body, n + 1),
-        Flow::Focus { rows, body, after } => note_block(alloc, notes, kept, body, n + 1),
+        Flow::Scope { body } => note_block(alloc, notes, kept, body, n + 1, counts),
+        Flow::Focus { rows, body, after } => note_block(alloc, notes, kept, body, n + 1, counts),
         _ => Ok(n + 1),
     }
 }
@@ -120,13 +138,16 @@ pub fn note_block(
     kept: &Kept,
     block: &FlowBlock,
     n: usize,
+    counts: TokenCounts,
 ) -> Result<usize, Memory>
     requires room { IsLong kept.now (n + size_block (block_view block.now)) }
     ensures noted { OnOk result (IsNoted kept.now
         (noted_block n (block_view block.now)) notes.old notes.new) }
+    ensures order { AreListed counts.keys counts.vars notes.old →
+        OnOk result (AreListed counts.keys counts.vars notes.new) }
     ensures at { IfOk result (λ m. m ≡ n + size_block (block_view block.now)) }
 {
-    note_list(alloc, notes, kept, block.stmts.as_slice(), n)
+    note_list(alloc, notes, kept, block.stmts.as_slice(), n, counts)
 }
 
 #[cycle(noting)]
@@ -136,15 +157,18 @@ fn note_list(
     kept: &Kept,
     stmts: &[FlowStmt],
     n: usize,
+    counts: TokenCounts,
 ) -> Result<usize, Memory>
     requires room { IsLong kept.now (n + size_stmts (stmts_view stmts.now)) }
     ensures noted { OnOk result (IsNoted kept.now
         (noted_stmts n (stmts_view stmts.now)) notes.old notes.new) }
+    ensures order { AreListed counts.keys counts.vars notes.old →
+        OnOk result (AreListed counts.keys counts.vars notes.new) }
     ensures at { IfOk result (λ m. m ≡ n + size_stmts (stmts_view stmts.now)) }
 {
     let mut at = n;
     for s in stmts {
-        at = note_form(alloc, notes, kept, &s.flow, at)?;
+        at = note_form(alloc, notes, kept, &s.flow, at, counts)?;
     }
     Ok(at)
 }
@@ -156,15 +180,18 @@ fn note_arms(
     kept: &Kept,
     arms: &[FlowArm],
     n: usize,
+    counts: TokenCounts,
 ) -> Result<usize, Memory>
     requires room { IsLong kept.now (n + size_arms (arms_view arms.now)) }
     ensures noted { OnOk result (IsNoted kept.now
         (noted_arms n (arms_view arms.now)) notes.old notes.new) }
+    ensures order { AreListed counts.keys counts.vars notes.old →
+        OnOk result (AreListed counts.keys counts.vars notes.new) }
     ensures at { IfOk result (λ m. m ≡ n + size_arms (arms_view arms.now)) }
 {
     let mut at = n;
     for arm in arms {
-        at = note_block(alloc, notes, kept, &arm.body, at)?;
+        at = note_block(alloc, notes, kept, &arm.body, at, counts)?;
     }
     Ok(at)
 }

@@ -4,10 +4,12 @@ use std::test::Fail;
 use vlt_base::{Items, KeyId, StateSet};
 use vlt_core::{After, Note, Row, Status, Tok, TokMap, Wanted};
 use vlt_flow::Stop;
-use vlt_keyset::Held;
+use vlt_keyset::{Held, TokenCounts};
 use vlt_rows::{Flow, FlowBlock, FlowStmt};
 
 const KEY: Tok = Tok::Key(KeyId(1));
+
+const COUNTS: TokenCounts = TokenCounts { keys: 2, vars: 1 };
 
 fn block(alloc: Global, flows: Items<FlowStmt>) -> FlowBlock {
     FlowBlock {
@@ -80,7 +82,7 @@ fn start(alloc: Global) -> Result<Held, Stop> {
 
 fn notes(alloc: Global, ends: bool) -> Result<Items<Note>, Stop> {
     let flow = body(alloc, ends)?;
-    Ok(annotate_block(alloc, start(alloc)?, &flow)?.maps)
+    Ok(annotate_block(alloc, start(alloc)?, &flow, COUNTS)?.maps)
 }
 
 /// Whether the map has just the key, in these states.

@@ -1,14 +1,15 @@
 use Rattle.std.proofs.Common.{◌+◌, ◌*◌}
 use Rattle.vlt_core.specs.Flow.{size, size_block, size_stmts, size_arms}
 use Rattle.vlt_rows.specs.FlowView.{block_view, flow_view, stmts_view, arms_view}
+use Rattle.vlt_notes.specs.Listed.{AreListed}
 use Rattle.vlt_notes.proofs.Noting.{Listing, Arming}
 use Rattle.vlt_notes.proofs.listing.+noting.Given as goal
 
 abbrev pub invariant-note_list-loop-s : goal.invariant-note_list-loop-s
-invariant-note_list-loop-s l = Listing l.kept l.stmts l.n l.fn.notes l.s-index l.at l.notes
+invariant-note_list-loop-s l = Listing l.kept l.stmts l.n l.fn.notes l.s-index l.at l.notes × (AreListed l.counts.keys l.counts.vars l.fn.notes → AreListed l.counts.keys l.counts.vars l.notes)
 
 abbrev pub invariant-note_arms-loop-arm : goal.invariant-note_arms-loop-arm
-invariant-note_arms-loop-arm l = Arming l.kept l.arms l.n l.fn.notes l.arm-index l.at l.notes
+invariant-note_arms-loop-arm l = Arming l.kept l.arms l.n l.fn.notes l.arm-index l.at l.notes × (AreListed l.counts.keys l.counts.vars l.fn.notes → AreListed l.counts.keys l.counts.vars l.notes)
 
 -- ---- measures: the size, and then the order of the calls
 
