@@ -18,9 +18,9 @@ use Rattle.vlt_heap.specs.Shown.{heap_of}
 use Rattle.vlt_meaning.specs.World.{Value, objects_in, out, is_at, is_loose, Object as Thing, called, line_of, World, Frame, Outcome, missing, is_fault}
 use Rattle.vlt_meaning.specs.Found.{Found, ◌>>=◌, or_fault}
 use Rattle.vlt_meaning.specs.Values.{held_object}
-use Rattle.vlt_meaning.specs.Step.{goes, ends, with_event, with_answer, first_answer, with_objects, with_var, deliver}
+use Rattle.vlt_meaning.specs.Step.{goes, ends, with_found, with_event, with_answer, first_answer, with_objects, with_var, deliver}
 use Rattle.vlt_meaning.specs.Calls.{passed_object, passed_objects}
-use Rattle.vlt_meaning.specs.Externals.{taken_objects, call_external}
+use Rattle.vlt_meaning.specs.Externals.{awaited_keys, named_objects, taken_objects, call_external}
 use Rattle.vlt_values.specs.declared.values.Values.{Values}
 use Rattle.vlt_values.specs.Parts.{HaveValue}
 use Rattle.vlt_values.specs.Shown.{ShowObjects, ShowsFrame, Seen, IsCut, var_at, AreApart}
@@ -48,7 +48,7 @@ use Rattle.vlt_results.specs.Results.{AreBefore, Made}
 use Rattle.vlt_host_calls.specs.Heeded.{ListsKeys, made_of_answer, HasHeeded, IsHeeded, Heeds, IsSameBelow}
 use Rattle.vlt_host_calls.specs.Called.{IsCall, CanCall, Calls}
 use Rattle.vlt_host_calls.proofs.Keys.{are_named}
-use Rattle.vlt_host_calls.proofs.Leading.{LeadsOn, answered, then_heed, then_hand, then_take, delivered_leads, external_leads}
+use Rattle.vlt_host_calls.proofs.Leading.{LeadsOn, answered, then_heed, then_hand, then_take, named_fault, delivered_leads, external_leads}
 
 -- ---- the objects that the clause wants are there, or the run goes wrong
 
@@ -114,8 +114,10 @@ module _ (p : Program) (g : Func) (target : Option VarId) (keys : List ℕ) (h :
       let e = called g.name can.args in
       let t = option_map (λ v. v.0) target in
       let rest = drop (host.taken + 1) (lists_of host.answers.now) in
-      let f = found_safe (passed_objects c.program g keys c.frame w.objects g.clause) w (λ ns. first_answer w.answers (with_event w e) (λ ys. then_take (heap_of h) c.program c.func t keys g can.args c.frame ys)) (passed_fault c.program g keys c.frame w.objects g.clause) can.right in
-      let a = subst (λ x. IsSafe (first_answer x (with_event w e) (λ ys. then_take (heap_of h) c.program c.func t keys g can.args c.frame ys))) (can.call.hosts.answers ∙ taken) f.safe in
+      let js = awaited_keys c.program g in
+      let f = found_safe (passed_objects c.program g keys c.frame w.objects g.clause) w (λ ns. with_found (named_objects keys c.frame js) w (λ ms. first_answer w.answers (with_event w e) (λ ys. then_take (heap_of h) c.program c.func t keys g can.args c.frame ys))) (passed_fault c.program g keys c.frame w.objects g.clause) can.right in
+      let q = found_safe (named_objects keys c.frame js) w (λ ms. first_answer w.answers (with_event w e) (λ ys. then_take (heap_of h) c.program c.func t keys g can.args c.frame ys)) (named_fault keys c.frame js) f.safe in
+      let a = subst (λ x. IsSafe (first_answer x (with_event w e) (λ ys. then_take (heap_of h) c.program c.func t keys g can.args c.frame ys))) (can.call.hosts.answers ∙ taken) q.safe in
       let m = moved_safe (is_at c.frame.depth) out (taken_objects keys c.frame g.clause) (answered e w rest w.objects) (then_hand (heap_of h) c.program c.func t keys g can.args c.frame zs) a in
       let n = moved_safe is_loose out (flat_map objects_in can.args) (answered e w rest m.objects) (then_heed (heap_of h) c.program c.func t keys g can.args c.frame zs) m.safe in
       record { one = m.objects; taken = ap (taken_out keys g.clause c.frame) (sym can.call.objects) ∙ m.is; two = n.objects; handed = n.is }

@@ -1,5 +1,5 @@
 -- What holds of the step that a call of an external leads to, from what holds of where its parts come to.
-use Rattle.std.proofs.Common.{◌≡◌, ℕ, ◌+◌, ℤ, Bool, true, false, if◌then◌else◌, List, [], ◌∷◌, ◌++◌, length, Option, None, Some, Ok, Err, refl}
+use Rattle.std.proofs.Common.{◌≡◌, ℕ, ◌+◌, ℤ, Bool, true, false, if◌then◌else◌, List, [], ◌∷◌, ◌++◌, length, Option, None, Some, Ok, Err, refl, slice_get}
 use Rattle.std.specs.List.{flat_map}
 use Rattle.vlt_core.specs.Core.{Ty, Func, Program}
 use Rattle.vlt_core.specs.Lookups.{VariantOf, variant_in, case_at, case_keys}
@@ -8,8 +8,8 @@ use Rattle.vlt_meaning.specs.Found.{Found, ◌>>=◌, or_fault}
 use Rattle.vlt_meaning.specs.Step.{Step, goes, ends, with_found, where_so, with_objects, with_event, first_answer, with_answer, with_moved, with_made, with_var, with_key, fill, is_fillable, deliver}
 use Rattle.vlt_meaning.specs.Calls.{entries_after, passed_objects, Binding}
 use Rattle.vlt_meaning.specs.HostAnswers.{Piece, plain, new_in, Result as Given, nothing, piece, case_with}
-use Rattle.vlt_meaning.specs.Externals.{taken_objects, from_host, type_in, payload_in, new_key, objects_of_keys, keys_of_case, Fitting, fitting, or_bad, with_answered, with_pieces, with_fresh, with_result, call_external}
-use Rattle.vlt_values.proofs.Touching.{OrFault}
+use Rattle.vlt_meaning.specs.Externals.{awaited_keys, named_objects, taken_objects, from_host, type_in, payload_in, new_key, objects_of_keys, keys_of_case, Fitting, fitting, or_bad, with_answered, with_pieces, with_fresh, with_result, call_external}
+use Rattle.vlt_values.proofs.Touching.{OrFault, then_fault, some_fault}
 use Rattle.vlt_objects.proofs.Going.{moved_fault}
 use Rattle.vlt_externals.specs.Sent.{taken_out, owned_out}
 use Rattle.vlt_results.specs.Results.{pieces_made, variant_made, Made, fresh_made, result_made}
@@ -36,6 +36,14 @@ as_case c ns x = x >>= (λ q. Ok (of_case c q.0 ns, q.1))
 
 abbrev as_made : Frame → Found (Value × List Thing) → Found Made
 as_made frame x = x >>= (λ q. Ok (record { value = Some q.0; frame = frame; objects = q.1 }))
+
+-- the objects that keys name are there, or the run goes wrong
+pub named_fault : (keys : List ℕ) (frame : Frame) (js : List ℕ) → OrFault (named_objects keys frame js)
+named_fault keys frame [] = tt
+named_fault keys frame (j ∷ js) =
+    then_fault (or_fault missing (slice_get keys j)) _ (some_fault missing (slice_get keys j)) (λ k.
+    then_fault (or_fault no_value (frame.keys k)) _ (some_fault no_value (frame.keys k)) (λ n.
+    then_fault (named_objects keys frame js) _ (named_fault keys frame js) (λ ns. tt)))
 
 -- an event was written and an answer taken, and these are the objects
 abbrev pub answered : Event → World → (rest : List (List ℤ)) → List Thing → World
@@ -160,7 +168,9 @@ module _ (P : Step → Type 0) where
           → P (call_external b p f target keys g args frame w)
       unfolding call_external with_answer first_answer with_moved
       external_leads none some =
-          found_leads (passed_objects p g keys frame w.objects g.clause) w _ fine (λ ns is. by w.answers refl)
+          found_leads (passed_objects p g keys frame w.objects g.clause) w _ fine (λ ns is.
+          found_leads (named_objects keys frame (awaited_keys p g)) w _ (named_fault keys frame (awaited_keys p g)) (λ ms named.
+          by w.answers refl))
         where
           last : (zs : List ℤ) (rest : List (List ℤ)) → w.answers ≡ zs ∷ rest → (first second : List Thing) → taken_out keys g.clause frame w.objects ≡ Ok first → owned_out args first ≡ Ok second
               → P (with_found (or_bad (w.taken + 1) (fitting p g keys frame zs second)) (answered (called g.name args) w rest second) (λ q. with_result b p g keys q.answer.states q.answer.result frame (with_objects (answered (called g.name args) w rest second) (with_answered p g keys frame q.answer q.objects)) (deliver f target)))

@@ -122,8 +122,9 @@ module _ (d : ℕ) where
   pub external_at : (heap : ℕ) (p : Program) (f : Func) (target : Option ℕ) (keys : List ℕ) (g : Func) (args : List Value) (frame : Frame) (w : World) → frame.depth ≡ d → IsAt d (call_external heap p f target keys g args frame w)
   unfolding call_external
   external_at heap p f target keys g args frame w e =
-      found_at _ w _ (λ ns. answer_at _ _ (λ zs w2. moved_at _ _ _ w2 _ (λ w3. moved_at _ _ _ w3 _ (λ w4. found_at _ w4 _ (λ q.
-      result_at heap p g keys q.answer.states q.answer.result frame _ _ e (λ b frame2 w5 e2. deliver_at f target b frame2 w5 e2))))))
+      found_at _ w _ (λ ns. found_at _ w _ (λ ms.
+      answer_at _ _ (λ zs w2. moved_at _ _ _ w2 _ (λ w3. moved_at _ _ _ w3 _ (λ w4. found_at _ w4 _ (λ q.
+      result_at heap p g keys q.answer.states q.answer.result frame _ _ e (λ b frame2 w5 e2. deliver_at f target b frame2 w5 e2)))))))
 
   names_depth : (bs : List Binding) (frame : Frame) → frame.depth ≡ d → (with_names bs frame).depth ≡ d
   names_depth [] frame e = e

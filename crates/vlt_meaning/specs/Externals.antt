@@ -1,11 +1,11 @@
 -- Calls of externals: what goes out to the host, and what comes of its answer.
-use Rattle.std.specs.Prelude.{ℕ, ℤ, Bool, ◌&&◌, not, if◌then◌else◌, List, [], ◌∷◌, ◌++◌, Option, Some, None, Ok, Err, IsTrue, slice_get}
+use Rattle.std.specs.Prelude.{ℕ, ℤ, Bool, ◌&&◌, not, if◌then◌else◌, List, [], ◌∷◌, ◌++◌, map, filter, Option, Some, None, Ok, Err, IsTrue, slice_get}
 use Rattle.std.specs.List.{flat_map, zip}
 use Rattle.std.specs.Option.{option_map, option_to_list, option_and_then}
 use Rattle.std.specs.Result.{is_ok}
 use Rattle.vlt_core.specs.Core.{Ty, tracked, owning, CaseDecl, Entry, Func, Program}
-use Rattle.vlt_core.specs.Lookups.{is_held_before, is_held_after, is_new, VariantOf, variant_in, KeyIn, case_keys, case_at}
-use Rattle.vlt_meaning.specs.World.{Part, reference, owned, Value, one, of_case, objects_in, Owner, held, loose, out, Object, is_loose, is_out, is_at, called, World, Frame, Outcome, bad_answer, missing}
+use Rattle.vlt_core.specs.Lookups.{is_held_before, is_held_after, is_new, VariantOf, variant_in, KeyIn, keys_in, cases_of, case_keys, case_at}
+use Rattle.vlt_meaning.specs.World.{Part, reference, owned, Value, one, of_case, objects_in, Owner, held, loose, out, Object, is_loose, is_out, is_at, called, World, Frame, Outcome, bad_answer, missing, no_value}
 use Rattle.vlt_meaning.specs.World as world
 use Rattle.vlt_meaning.specs.Found.{Found, ◌>>=◌, or_fault}
 use Rattle.vlt_meaning.specs.Objects.{with_state, with_changed_object, objects_after_move}
@@ -20,6 +20,24 @@ is_taken e = is_held_before e && not (is_held_after e)
 
 abbrev pub is_given : Entry → Bool
 is_given e = not (is_held_before e) && not (is_new e)
+
+-- the keys of a variant's header that a case of it lists
+abbrev pub keys_in_cases : Program → Option VariantOf → List ℕ
+keys_in_cases p None = []
+keys_in_cases p (Some v) = map (λ j. j.key) (flat_map (λ d. keys_in v.args (Some d)) (cases_of p v.type))
+
+-- the keys of the head whose objects an answer can bring back: with its clause, and with a case of its result
+abbrev pub awaited_keys : Program → Func → List ℕ
+awaited_keys p g = map (λ e. e.key) (filter is_given g.clause) ++ keys_in_cases p (variant_in g.result)
+
+-- the objects that the caller's keys name which stand for keys of the head
+abbrev pub named_objects : (keys : List ℕ) → Frame → (head_keys : List ℕ) → Found (List ℕ)
+named_objects keys frame [] = Ok []
+named_objects keys frame (j ∷ js) = do
+  k ← or_fault missing (slice_get keys j)
+  n ← or_fault no_value (frame.keys k)
+  ns ← named_objects keys frame js
+  Ok (n ∷ ns)
 
 -- the objects of the keys that are taken
 abbrev pub taken_objects : (keys : List ℕ) → Frame → List Entry → List ℕ
@@ -80,7 +98,8 @@ pub record Fitting : Type 0 where
   pub answer : Answer
   pub objects : List Object
 
--- an answer whose numbers fit, where each object that comes back is out at its turn
+-- An answer whose numbers fit, where each object that comes back is out at its turn. The keys name objects, as a call finds
+-- before it asks for an answer.
 abbrev pub fitting : Program → Func → (keys : List ℕ) → Frame → (numbers : List ℤ) → List Object → Found Fitting
 fitting p g keys frame numbers objects = do
   a ← or_fault missing (answer_of p g numbers)
@@ -146,14 +165,16 @@ with_result heap p g keys states (case_with c ss pieces) frame w go =
     with_pieces heap (payload_in (case_at p v.type c)) pieces w (λ parts w.
     go (Some (of_case c parts (case_objects p g keys frame (case_with c ss pieces)))) frame w))
 
--- The event is written and the next answer taken; then objects go out, and what the answer says is done.
+-- The objects of keys are found first, so that an answer is bad only by what it says. Then the event is written and the next
+-- answer taken, objects go out, and what the answer says is done.
 unfoldable pub call_external : (heap : ℕ) → Program → Func → (target : Option ℕ) → (keys : List ℕ) → Func →
     List Value → Frame → World → Step
 call_external heap p f target keys g args frame w =
     with_found (passed_objects p g keys frame w.objects g.clause) w (λ ns.
+    with_found (named_objects keys frame (awaited_keys p g)) w (λ ms.
     with_answer (with_event w (called g.name args)) (λ numbers w.
     with_moved (is_at frame.depth) out (taken_objects keys frame g.clause) w (λ w.
     with_moved is_loose out (flat_map objects_in args) w (λ w.
     with_found (or_bad w.taken (fitting p g keys frame numbers w.objects)) w (λ q.
     with_result heap p g keys q.answer.states q.answer.result frame
-    (with_objects w (with_answered p g keys frame q.answer q.objects)) (deliver f target))))))
+    (with_objects w (with_answered p g keys frame q.answer q.objects)) (deliver f target)))))))

@@ -17,7 +17,7 @@ use Rattle.vlt_meaning.specs.Operands.{with_operand, with_operands, part_of, par
 use Rattle.vlt_meaning.specs.Calls.{passed_object, passed_objects, back_in, with_returned, new_object, returned_object, returned_objects, called_instance}
 use Rattle.vlt_meaning.specs.HostAnswers.{Piece, plain, new_in, nothing, piece, case_with}
 use Rattle.vlt_meaning.specs.HostAnswers as answers
-use Rattle.vlt_meaning.specs.Externals.{or_bad, fitting, with_pieces, with_fresh, with_result, call_external}
+use Rattle.vlt_meaning.specs.Externals.{awaited_keys, named_objects, or_bad, fitting, with_pieces, with_fresh, with_result, call_external}
 use Rattle.vlt_meaning.specs.Calls.{Binding}
 use Rattle.vlt_meaning.specs.Run.{Setup, Meaning, any_state, made_in, swap_step, open_step, does_simple, call_body, call_by, left_function, focused_object, lent_object, focus_end_step, focus_end, does_form, does_block, does_stmts, does_arm, less, first_frame, start, ran_of, main_run}
 use Rattle.vlt_meaning.specs.Clean.{IsClean}
@@ -196,6 +196,13 @@ returned_found p f o (e ∷ es) frame os =
     (then_found (held_object e.key frame os) _ (held_found e.key frame os) (λ n. states_found (after_set p f e) n)))
     (λ n. then_found (returned_objects p f o es frame os) _ (returned_found p f o es frame os) (λ ns. tt))
 
+named_found : (keys : List ℕ) (frame : Frame) (js : List ℕ) → Other (named_objects keys frame js)
+named_found keys frame [] = tt
+named_found keys frame (j ∷ js) =
+    then_found (or_fault _ (slice_get keys j)) _ (option_found _ _) (λ k.
+    then_found (or_fault _ (frame.keys k)) _ (option_found _ _) (λ n.
+    then_found (named_objects keys frame js) _ (named_found keys frame js) (λ ns. tt)))
+
 bad_found : {A : Type 0} (position : ℕ) (a : Found A) → Other (or_bad position a)
 bad_found position (Ok a) = tt
 bad_found position (Err o) = tt
@@ -356,9 +363,10 @@ external_u : (heap : ℕ) (p : Program) (f : Func) (target : Option ℕ) (keys :
 unfolding call_external
 external_u heap p f target keys g args frame w =
     found_u _ w _ (passed_found p g keys frame w.objects g.clause) (λ ns.
+    found_u _ w _ (named_found keys frame (awaited_keys p g)) (λ ms.
     answer_u _ _ (λ zs w2. moved_u _ _ _ w2 _ (λ w3. moved_u _ _ _ w3 _ (λ w4.
     found_u _ w4 _ (bad_found w4.taken (fitting p g keys frame zs w4.objects)) (λ q.
-    result_u heap p g keys q.answer.states q.answer.result frame _ _ (λ b fr w5. deliver_u f target b fr w5))))))
+    result_u heap p g keys q.answer.states q.answer.result frame _ _ (λ b fr w5. deliver_u f target b fr w5)))))))
 
 back_u : (f : Func) (target : Option ℕ) (keys : List ℕ) (g : Func) (frame : Frame) (a : Step) → U a → U (back_in f target keys g frame a)
 unfolding back_in

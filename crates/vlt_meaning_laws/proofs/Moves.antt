@@ -201,6 +201,7 @@ module _ (I : World → World → Type 0) (k : IsKept I) (w0 : World) where
   unfolding call_external
   external_to heap p f target keys g args frame w h =
       found_to _ w _ h (λ ns.
+      found_to _ w _ h (λ ms.
       answer_to _ _ (k.event w0 w _ h) (λ zs w2 h2.
       moved_to _ _ _ w2 _ h2 (λ w3 h3.
       moved_to _ _ _ w3 _ h3 (λ w4 h4.
@@ -210,7 +211,7 @@ module _ (I : World → World → Type 0) (k : IsKept I) (w0 : World) where
       (keeps_then (keeps_fitting p g keys frame zs w4.objects q (fitted w4.taken _ q e))
       (keeps_answered p g keys frame q.answer q.objects))
       h4)
-      (λ b frame' w5 h5. deliver_to f target b frame' w5 h5))))))
+      (λ b frame' w5 h5. deliver_to f target b frame' w5 h5)))))))
 
   pub back_to : (f : Func) (target : Option ℕ) (keys : List ℕ) (g : Func) (frame : Frame) (a : Step) → To I w0 a →
       To I w0 (back_in f target keys g frame a)

@@ -1,11 +1,11 @@
 -- Calls of externals are safe where answers are.
-use Rattle.std.proofs.Common.{◌≡◌, ⊎_elim, inl, inr, ℕ, ◌+◌, ◌<◌, ℤ, true, List, [], ◌∷◌, ◌++◌, length, map, filter, Option, Some, refl, sym, ap, ◌∙◌, subst, arith}
+use Rattle.std.proofs.Common.{◌≡◌, ⊎_elim, inl, inr, ℕ, ◌+◌, ◌<◌, ℤ, List, [], ◌∷◌, ◌++◌, length, map, filter, Option, Some, refl, sym, ap, ◌∙◌, subst, arith}
 use Rattle.std.specs.List.{flat_map}
 use Rattle.vlt_core.specs.Core.{Ty, int, bool, tracked, owning, guarded, variant, owning_variant, a_key, a_var, Entry, Func, Program}
 use Rattle.vlt_core.specs.Types.{stands_for, with_keys}
 use Rattle.vlt_core.specs.Maps.{absent, HeldMap, wants_absent, CanPass, map_after}
 use Rattle.vlt_core.specs.Rows.{clause_rows, target_rows}
-use Rattle.vlt_core.specs.KindedHeads.{has, parameters_of, own_typings, tracked_keys}
+use Rattle.vlt_core.specs.KindedHeads.{parameters_of, own_typings, tracked_keys}
 use Rattle.vlt_core.specs.KindedScopes.{Ids}
 use Rattle.vlt_core.specs.KindedCalls.{call_target_broken, with_call_target}
 use Rattle.vlt_meaning.specs.World as world
@@ -13,7 +13,7 @@ use Rattle.vlt_meaning.specs.World.{Value, objects_in, out, loose, gone, is_at, 
 use Rattle.vlt_meaning.specs.Objects.{with_owner}
 use Rattle.vlt_meaning.specs.Step.{Step, with_answer, first_answer, with_objects, with_event, with_moved}
 use Rattle.vlt_meaning.specs.Calls.{passed_objects}
-use Rattle.vlt_meaning.specs.Externals.{is_taken, taken_objects, call_external}
+use Rattle.vlt_meaning.specs.Externals.{is_taken, awaited_keys, named_objects, taken_objects, call_external}
 use Rattle.vlt_meaning.specs.Run.{Setup}
 use Rattle.vlt_sound_worlds.specs.Look.{look, IsLive}
 use Rattle.vlt_sound_worlds.proofs.Look.{live_within}
@@ -28,7 +28,6 @@ use Rattle.vlt_sound_worlds.specs.Safe.{Goal, Safe, goes_to}
 use Rattle.vlt_sound_worlds.proofs.Safe.{found_safe}
 use Rattle.vlt_sound_worlds.proofs.Leaving.{key_same, var_is_no_key}
 use Rattle.vlt_sound_worlds.specs.Scoped.{IsScoped}
-use Rattle.vlt_sound_worlds.proofs.Binding.{first_or_other}
 use Rattle.vlt_sound_worlds.specs.Handed.{handed_values}
 use Rattle.vlt_sound_worlds.specs.Moved.{ArePassing, IsMoved}
 use Rattle.vlt_sound_worlds.proofs.Moved.{moved_all, moved_safe}
@@ -46,6 +45,8 @@ use Rattle.vlt_sound_calls.proofs.Taking.{take_other}
 use Rattle.vlt_sound_worlds.specs.Sent.{AreSent}
 use Rattle.vlt_sound_worlds.proofs.Sending.{agrees_sent}
 use Rattle.vlt_sound_calls.specs.HostAnswers.{answer_step, map_after_sending, AreNamed, AnswersAreSafe}
+use Rattle.vlt_sound_calls.proofs.News.{in_has}
+use Rattle.vlt_sound_calls.proofs.Awaited.{AreFound, all_awaited}
 use Rattle.vlt_sound_calls.proofs.TakenKeys.{take_here, taken_before, entry_taken, taken_once, entry_at, key_at, held_by, taken_passes}
 
 -- an answer is taken, if there is one
@@ -57,10 +58,6 @@ answer_safe G w go safe = by w.answers
     by : (all : List (List ℤ)) → Safe G (first_answer all w go)
     by [] = refl
     by (a ∷ rest) = safe a (record w { answers = rest; taken = w.taken + 1 }) refl
-
-in_has : (n : ℕ) (xs : List ℕ) → has xs n ≡ true → In n xs
-in_has n [] e = cc
-in_has n (x ∷ xs) e = ⊎_elim inl (λ rest. inr (in_has n xs rest)) (first_or_other n x xs e)
 
 -- a reference that is handed over says what its key names
 named_handed : (p : Program) (s : Scene) (names : Names) (keys : List ℕ) (tys : List Ty) (values : List Value) →
@@ -214,12 +211,17 @@ module _ (r : Setup) (answers : AnswersAreSafe r) (f : Func) (c : Context) (h : 
       (answers.each f c h ids frame (with_objects (with_objects w2 first.objects) moved2.objects) g keys numbers target host typed
       typed_callee head entered scoped fits new broken (agrees_out now keys g fits.callers all first moved2) (params_named now) pass rows)))
 
+  -- so do those of the keys that an answer can bring back
+  awaited : AreFound keys frame (awaited_keys r.program g)
+  awaited = all_awaited r.program g keys host fits frame (params_named agrees)
+
   external_safe : Safe goal (call_external r.heap r.program f target keys g values frame w)
   unfolding call_external
   external_safe =
       let ok = all_passed keys frame w.objects r.program g g.clause mine (λ e j b x. (passes_states agrees g keys fits typed.limited entered.flat pass e j b x).0) in
       found_safe goal (passed_objects r.program g keys frame w.objects g.clause) ok.0 w _ ok.1
-      (answer_safe goal (with_event w (called g.name values)) _ behind)
+      (found_safe goal (named_objects keys frame (awaited_keys r.program g)) awaited.0 w _ awaited.1
+      (answer_safe goal (with_event w (called g.name values)) _ behind))
 
 pub externals_are_safe : (r : Setup) → AnswersAreSafe r → ExternalsAreSafe r
 externals_are_safe r answers = record {

@@ -30,6 +30,7 @@ pub mod Taking
 pub mod LeavingLaws
 pub mod ReturnsLaws
 pub mod TakenKeys
+pub mod Awaited
 pub mod HostsLaws
 pub mod Maps
 pub mod Fitting
