@@ -7,3 +7,4 @@ pub mod Ends
 pub mod Equations
 pub mod Instanced
 pub mod Done
+pub mod BadAnswers

@@ -2,3 +2,4 @@ pub mod Keeping
 pub mod Ends
 pub mod Laws
 pub mod Done
+pub mod BadAnswers
