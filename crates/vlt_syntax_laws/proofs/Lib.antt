@@ -22,8 +22,7 @@ pub mod Refused
 pub mod Anew
 pub mod Decided
 pub mod Within
-pub mod TickedText
-pub mod TickedLists
-pub mod TickedExprs
-pub mod TickedStmts
-pub mod TickedDecls
+pub mod Tokenwise
+pub mod TextTokens
+pub mod Ticks
+pub mod Numbers

@@ -12,6 +12,7 @@ ghost use Rattle.vlt_syntax.specs.Tree.{Tree};
 ghost use Rattle.vlt_syntax.specs.Lists.{Each};
 ghost use Rattle.vlt_syntax.specs.Spelling.{spelling};
 ghost use Rattle.vlt_syntax_laws.specs.Ticks.{HasTicks};
+ghost use Rattle.vlt_syntax_laws.specs.Numbers.{HasNumbers};
 
 /// The grammar alone: one tree with its places, or one refusal, and never both.
 pub fn tokens_are_read_in_one_way()
@@ -33,4 +34,10 @@ pub fn automaton_decides()
 pub fn texts_have_ticks()
     ensures { (bytes : List ℕ) (ls : List Lexeme) (t : Tree) →
         IsTokensOf bytes ls → tokens_in ls ≡ spelling t → Each HasTicks t.decls }
+{}
+
+/// In a tree that a text spells each number is from 0 to 2^63 - 1.
+pub fn texts_have_numbers()
+    ensures { (bytes : List ℕ) (ls : List Lexeme) (t : Tree) →
+        IsTokensOf bytes ls → tokens_in ls ≡ spelling t → HasNumbers t }
 {}

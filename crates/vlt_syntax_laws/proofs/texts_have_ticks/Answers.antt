@@ -1,4 +1,4 @@
-use Rattle.vlt_syntax_laws.proofs.TickedDecls.{text_ticks}
+use Rattle.vlt_syntax_laws.proofs.Ticks.{text_ticks}
 use Rattle.vlt_syntax_laws.proofs.texts_have_ticks.Goals as goal
 
 pub returns : goal.returns
