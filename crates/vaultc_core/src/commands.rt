@@ -131,7 +131,7 @@ fn run_text<K: Sink>(alloc: Global, files: &RunFiles, budgets: Budgets, out: &mu
     };
     match judge(alloc, &tree) {
         Ok(judged) => run_judged(alloc, files, &tree, &judged, budgets, out),
-        Err(AllocError) => NO_MEMORY,
+        Err(_) => NO_MEMORY,
     }
 }
 

@@ -1,7 +1,7 @@
 -- Functions, one after another.
-use Rattle.std.proofs.Common.{◌≡◌, ◌<◌, ◌≤◌, ◌+◌, ℕ, zero, suc, false, true≢false, List, [], ◌∷◌, ◌++◌, map, length, drop, drop-cons, add-one, get_or, Option, None, Some, slice_get, sym, ap, ◌∙◌, subst, Result, Ok, Err, IfOk, OnOk, ◌⊎◌, inl, inr, ⊎_elim, arith}
+use Rattle.std.proofs.Common.{◌≡◌, ◌<◌, ◌≤◌, ◌+◌, ℕ, zero, suc, false, true≢false, List, [], ◌∷◌, ◌++◌, map, length, drop, drop-cons, add-one, get_or, Option, None, Some, slice_get, sym, ap, ◌∙◌, subst, Result, Ok, Err, IfOk, OnOk, ◌⊎◌, inl, inr, ⊎_elim, arith, ◌^◌}
 use Rattle.std.specs.Option.{option_map}
-use Rattle.std.proofs.lemmas.List.{drop_all, append-nil, append_assoc}
+use Rattle.std.proofs.lemmas.List.{drop_all, append-nil, append_assoc, length-map}
 use Rattle.std.proofs.lemmas.Option.{slice_get-map, slice_get-get_or}
 use Rattle.vlt_core.specs.Core.{Func, Program}
 use Rattle.vlt_core.specs.Local.{Notes, IsLocalIn}
@@ -19,7 +19,8 @@ use Rattle.vlt_core_laws.proofs.Spots.{faulty_block}
 use Rattle.std.proofs.lemmas.Bool.{cases_lt}
 use Rattle.vlt_check.specs.Tellings.{IsTold}
 use Rattle.vlt_check.specs.declared.program.CheckError.{CheckError}
-use Rattle.vlt_check.specs.declared.program.CheckError.TheVariants.{Refused}
+use Rattle.vlt_check.specs.declared.program.CheckError.TheVariants.{Refused, Unfit}
+use Rattle.vlt_check.specs.Unfit.{IfUnfit, IsUnfitBody, IsUnfit, many_functions, unfit_body}
 use Rattle.vlt_check.specs.Checks.{OnRefused, IsLeastOf, AreLeast, IsChecked, IsRefusedIn, HasRefused}
 use Rattle.vlt_core_laws.specs.Fit.{IsWellFormed}
 
@@ -99,12 +100,23 @@ module _ {X : Type 0} (g : X → Func) (p : Program) (fs : List X) where
             none_in_local p h a.0 a.1 (in_instance p h o (HasFault p) (well.plain n h there) origin fault);
       }
 
+  pub unfit_at : (i : ℕ) (f : X) → i < length fs → f ≡ get_or fs i f → map g fs ≡ p.fns → (g f).external ≡ false → IsUnfitBody p (g f) → IsUnfit p
+  unfit_at i f lt read is body q = unfit_body i (g f) (ap (λ l. slice_get l i) (sym is) ∙ there_at i f lt read) body q
+
+  pub many_at : (i : ℕ) → 2 ^ 32 ≤ i + 1 → i < length fs → map g fs ≡ p.fns → IsUnfit p
+  many_at i many lt is =
+      let long : length p.fns ≡ length fs = ap length (sym is) ∙ length-map fs g in
+      many_functions (omega (arith, many, lt, long))
+
 -- an error that is handed on
 error_same : {A : Type 0} (e x : CheckError) → (let r : Result A CheckError = Err e in r ≡ Err x) → e ≡ x
 error_same e x same = cc
 
 pub told_on : {A B : Type 0} (e : CheckError) (P Q : FlowFault → Type 0) (r : Result A CheckError) (s : Result B CheckError) → r ≡ Err e → s ≡ Err e → OnRefused r P → ((x : FlowFault) → P x → Q x) → OnRefused s Q
 told_on e P Q r s is was f g = record { holds = λ x same. g x (f.holds x (is ∙ ap Err (error_same e (Refused x) (sym was ∙ same)))) }
+
+pub unfit_on : {A B : Type 0} {P Q : Type 0} (e : CheckError) (r : Result A CheckError) (s : Result B CheckError) → r ≡ Err e → s ≡ Err e → IfUnfit r P → (P → Q) → IfUnfit s Q
+unfit_on e r s is was f g = record { holds = λ same. g (f.holds (is ∙ ap Err (error_same e Unfit (sym was ∙ same)))) }
 
 -- ---- accepted programs
 

@@ -8,6 +8,7 @@ ghost use Rattle.vlt_core.specs.View.{program_of};
 ghost use Rattle.vlt_core.specs.Derives.{IsAccepted};
 ghost use Rattle.vlt_core.specs.Faults.{IsFirstFault, FlowFault};
 ghost use Rattle.vlt_check.specs.Checks.{OnRefused, IsChecked, HasRefused, fault_of};
+ghost use Rattle.vlt_check.specs.Unfit.{IfUnfit, IsUnfit};
 ghost use Rattle.vlt_core_laws.specs.Fit.{IsWellFormed};
 
 mod laws;
@@ -22,7 +23,7 @@ use vlt_core::Program;
 use vlt_flow::Kept;
 
 /// The least maps of each function with a body, in the order of the text; `Refused` where the rules on keys are broken,
-/// with the first fault.
+/// with the first fault; `Unfit` where the program is (`IsUnfit`).
 pub fn check(alloc: Global, p: &Program) -> Result<Items<Option<Kept>>, CheckError>
     ensures checked { IfOk result (IsChecked (program_of p.now)) }
     ensures accepted { OnOk result (IsWellFormed (program_of p.now) →
@@ -35,6 +36,7 @@ pub fn check(alloc: Global, p: &Program) -> Result<Items<Option<Kept>>, CheckErr
         → y ≡ fault_of x) }
     ensures not_accepted { OnRefused result (λ x.
         IsWellFormed (program_of p.now) → IsAccepted (program_of p.now) → ⊥) }
+    ensures unfit { IfUnfit result (IsUnfit (program_of p.now)) }
 {
     check_funcs(alloc, p)
 }

@@ -1,12 +1,14 @@
 //! Functions, one after another.
 
-ghost use Rattle.std.specs.Prelude.{◌≡◌, IfOk};
+ghost use Rattle.std.specs.Prelude.{◌≡◌, false, IfOk};
 ghost use Rattle.vlt_core.specs.View.{program_of, func_of};
 ghost use Rattle.vlt_core.specs.Faults.{IsFirstFault};
+ghost use Rattle.vlt_core.specs.Local.{Notes, IsLocalIn};
 ghost use Rattle.vlt_check.specs.Checks.{OnRefused, IsChecked, IsLeastOf, HasRefused, IsRefusedIn, fault_of};
 ghost use Rattle.vlt_core_laws.specs.Fit.{IsWellFormed};
 ghost use Rattle.vlt_check.specs.Tellings.{IsTold};
-ghost use Rattle.vlt_check.specs.declared.program.CheckError.TheVariants.{Memory, Refused};
+ghost use Rattle.vlt_check.specs.Unfit.{IfUnfit, IsUnfitBody, IsUnfit};
+ghost use Rattle.vlt_check.specs.declared.program.CheckError.TheVariants.{Memory, Refused, Unfit};
 ghost use Rattle.vlt_core.specs.declared.held.FlowFault.{FlowFault};
 
 use std::alloc::{AllocError, AllocFailed, Global};
@@ -15,6 +17,7 @@ use vlt_base::{FnId, Items};
 use vlt_core::{FlowFault, Func, Program};
 use vlt_flow::{Kept, Stop, walk};
 use vlt_judge::fault_in;
+use vlt_rows::RowError;
 
 /// Why a program isn't accepted.
 #[derive(Clone, Copy, Debug, PartialEq, Eq, Error)]
@@ -22,7 +25,9 @@ pub enum CheckError {
     /// A function breaks the rules on keys, first here.
     #[error("a function breaks the rules on keys")]
     Refused(FlowFault),
-    /// There was no memory, or a number of the program stands for nothing.
+    /// The program is unfit for the check: something in it has no number, no place or no set of states.
+    #[error("the program is unfit for the check")]
+    Unfit,
     #[error("there was no memory")]
     Memory,
 }
@@ -45,12 +50,16 @@ impl<T: Drop> From<AllocFailed<T>> for CheckError {
 
 /// The fault of a body that is refused.
 fn refusal(alloc: Global, p: &Program, f: &Func, fn_id: FnId) -> CheckError
-    ensures { (x : FlowFault) → result ≡ Refused x →
+    requires { (a : Notes) → IsLocalIn (program_of p.now) (func_of f.now) a → ⊥ }
+    ensures told { (x : FlowFault) → result ≡ Refused x →
         IsTold (program_of p.now) (func_of f.now) fn_id.0 (fault_of x) }
+    ensures unfit { result ≡ Unfit → IsUnfitBody (program_of p.now) (func_of f.now) }
 {
     match fault_in(alloc, p, f, fn_id) {
         Ok(Some(fault)) => CheckError::Refused(fault),
-        _ => CheckError::Memory,
+        Ok(None) => CheckError::Unfit,
+        Err(RowError::Memory) => CheckError::Memory,
+        Err(_) => CheckError::Unfit,
     }
 }
 
@@ -59,6 +68,8 @@ fn check_func(alloc: Global, p: &Program, f: &Func, fn_id: FnId) -> Result<Optio
     ensures ok { IfOk result (IsLeastOf (program_of p.now) (func_of f.now)) }
     ensures refused { OnRefused result (λ x. IsRefusedIn (program_of p.now) (func_of f.now) ×
         IsTold (program_of p.now) (func_of f.now) fn_id.0 (fault_of x)) }
+    ensures unfit { IfUnfit result (((func_of f.now).external ≡ false) ×
+        IsUnfitBody (program_of p.now) (func_of f.now)) }
 {
     if f.external {
         return Ok(None);
@@ -66,6 +77,7 @@ fn check_func(alloc: Global, p: &Program, f: &Func, fn_id: FnId) -> Result<Optio
     match walk(alloc, p, f) {
         Ok(kept) => Ok(Some(kept)),
         Err(Stop::Refused) => Err(refusal(alloc, p, f, fn_id)),
+        Err(Stop::Unfit) => Err(CheckError::Unfit),
         Err(Stop::Memory) => Err(CheckError::Memory),
     }
 }
@@ -76,6 +88,7 @@ pub fn check_funcs(alloc: Global, p: &Program) -> Result<Items<Option<Kept>>, Ch
     ensures refused { OnRefused result (λ x. HasRefused (program_of p.now) (fault_of x).function) }
     ensures first { OnRefused result (λ x.
         IsWellFormed (program_of p.now) → IsFirstFault (program_of p.now) (fault_of x)) }
+    ensures unfit { IfUnfit result (IsUnfit (program_of p.now)) }
 {
     let mut all = Items::new(alloc);
     let mut number = 0_u32;
@@ -86,7 +99,7 @@ pub fn check_funcs(alloc: Global, p: &Program) -> Result<Items<Option<Kept>>, Ch
         }
         match number.checked_add(1) {
             Some(next) => number = next,
-            None => return Err(CheckError::Memory),
+            None => return Err(CheckError::Unfit),
         }
     }
     Ok(all)

@@ -12,7 +12,7 @@ use Rattle.vlt_kinds_laws.specs.Declared.{HasDeclared, IsPassed}
 use Rattle.vlt_sound.specs.Sizes.{HasSizes}
 use Rattle.vlt_sound.specs.Narrow.{HasNarrowHeads}
 use Rattle.vlt_fit_laws.specs.Externals.{HasExternals}
-use Rattle.vlt_resolve_laws.specs.Elaborated.{IsElaborated, ElaboratedProgramsAreKinded, ElaboratedProgramsHaveStates, ElaboratedProgramsHaveArms, ElaboratedProgramsHaveFewVariables, ElaboratedProgramsHaveBlankExternals, ElaboratedProgramsHaveSets, ElaboratedProgramsHaveNoBounds, ElaboratedProgramsHaveArities}
+use Rattle.vlt_resolve_laws.specs.Elaborated.{IsElaborated, ElaboratedProgramsAreKinded, ElaboratedProgramsHaveStates, ElaboratedProgramsHaveArms, ElaboratedProgramsHaveFewVariables, ElaboratedProgramsHaveFewKeys, ElaboratedProgramsHaveFewFunctions, ElaboratedProgramsHaveBlankExternals, ElaboratedProgramsHaveSets, ElaboratedProgramsHaveNoBounds, ElaboratedProgramsHaveArities}
 use Rattle.vlt_resolve_laws.proofs.Whole.{passed_of}
 use Rattle.vlt_fit_laws.specs.Fit.{ProgramsAreFit}
 use Rattle.vlt_fit_laws.proofs.Externals.{externals_of, declared_of}
@@ -25,6 +25,8 @@ pub record Laws : Type 0 where
   pub arities : ElaboratedProgramsHaveArities
   pub sets : ElaboratedProgramsHaveSets
   pub vars : ElaboratedProgramsHaveFewVariables
+  pub keys : ElaboratedProgramsHaveFewKeys
+  pub functions : ElaboratedProgramsHaveFewFunctions
   pub blank : ElaboratedProgramsHaveBlankExternals
   pub small : (ds : List Decl) (p : Program) → Each (IsDecl language) ds → p.sets ≡ (file_of ds).sets → HasSizes p
   pub fields : (ds : List Decl) (p : Program) → Each (IsDecl language) ds → p.types ≡ core_types (file_of ds) ds →
@@ -44,7 +46,12 @@ fit laws t kinds p x told gives =
       };
       sizes = laws.small t.decls p x.tree.0 (laws.sets t kinds p e);
       narrow = laws.narrow t.decls p (passed_of t kinds p e) (declared_of t kinds p e) (externals_of t kinds p e);
-      few = record { fields = laws.fields t.decls p x.tree.0 (declared_of t kinds p e).types; vars = laws.vars t kinds p e };
+      few = record {
+        fields = laws.fields t.decls p x.tree.0 (declared_of t kinds p e).types;
+        vars = laws.vars t kinds p e;
+        keys = laws.keys t kinds p e;
+        functions = laws.functions t kinds p e;
+      };
       arities = laws.arities t kinds p e;
       blank = laws.blank t kinds p e;
     }

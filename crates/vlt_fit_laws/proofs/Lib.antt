@@ -3,3 +3,4 @@ pub mod Fit
 pub mod Sets
 pub mod Fields
 pub mod NarrowLaws
+mod Unfit

@@ -15,14 +15,16 @@ use Rattle.vlt_sound.specs.Sizes.{HasSizes}
 use Rattle.vlt_sound.specs.Narrow.{HasNarrowHeads}
 use Rattle.vlt_syntax_laws.specs.Ticks.{HasTicks}
 
--- few fields in each struct, and few variables in each function
+-- few fields in each struct, few variables and keys in each function, and few functions
 pub record HasFewParts (p : Program) : Type 0 where
   pub fields : (t : ℕ) → length (fields_of p t) ≤ 32
   pub vars : (i : ℕ) (f : Func) → slice_get p.fns i ≡ Some f → length f.vars ≤ 256
+  pub keys : (i : ℕ) (f : Func) → slice_get p.fns i ≡ Some f → length f.keys ≤ 256
+  pub functions : length p.fns ≤ 4096
 
 -- All that the laws on checks and runs want to know of a program: it breaks no rule on names and types, each of its sets has a
 -- state and at most 32, all below 32 where a host gives one, each of its switches has an arm, no clause has a bound entry (as
--- long as no text has one), fields and variables are few, and each operator has as many operands as it wants.
+-- long as no text has one), fields, variables, keys and functions are few, and each operator has as many operands as it wants.
 pub record IsFitProgram (p : Program) : Type 0 where
   pub kinded : IsKinded p
   pub well_formed : IsWellFormed p

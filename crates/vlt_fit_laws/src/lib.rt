@@ -7,12 +7,14 @@ mod narrow;
 mod sizes;
 
 ghost use Rattle.vlt_fit_laws.specs.Fit.{ProgramsAreFit};
+ghost use Rattle.vlt_fit_laws.specs.Unfit.{OnlyBodiesAreUnfit};
 
 pub use narrow::declared_externals_are_narrow;
 pub use sizes::{declared_sets_are_small, declared_structs_are_small};
 use vlt_resolve_laws::{
     elaborated_programs_are_kinded, elaborated_programs_have_arities,
     elaborated_programs_have_arms, elaborated_programs_have_blank_externals,
+    elaborated_programs_have_few_functions, elaborated_programs_have_few_keys,
     elaborated_programs_have_few_variables, elaborated_programs_have_no_bounds,
     elaborated_programs_have_sets, elaborated_programs_have_states,
 };
@@ -28,8 +30,16 @@ pub fn programs_are_fit()
     elaborated_programs_have_arities();
     elaborated_programs_have_sets();
     elaborated_programs_have_few_variables();
+    elaborated_programs_have_few_keys();
+    elaborated_programs_have_few_functions();
     elaborated_programs_have_blank_externals();
     declared_sets_are_small();
     declared_structs_are_small();
     declared_externals_are_narrow();
 }
+
+/// Where a fit program of the code is unfit for the check, one of its bodies is: a row of it names states of which there is
+/// no set, or it has 2^62 statements or more.
+pub fn only_bodies_are_unfit()
+    ensures { OnlyBodiesAreUnfit }
+{}

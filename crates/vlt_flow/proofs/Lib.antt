@@ -4,3 +4,4 @@ pub mod Framing
 pub mod Parts
 pub mod Turning
 pub mod Starting
+pub mod Unfitting

@@ -1,8 +1,11 @@
 -- The map that a body begins with.
-use Rattle.std.proofs.Common.{◌≡◌, ◌<◌, ◌≤◌, ◌+◌, ◌==◌, ℕ, Bool, true, false, ◌&&◌, ◌||◌, nat_lt, if◌then◌else◌, List, [], ◌∷◌, map, length, drop, drop-cons, add-one, get_or, suc, refl, sym, ap, ◌∙◌, subst, arith, None}
+use Rattle.std.proofs.Common.{◌≡◌, ◌<◌, ◌≤◌, ◌+◌, ◌==◌, ℕ, Bool, true, false, ◌&&◌, ◌||◌, nat_lt, if◌then◌else◌, List, [], ◌∷◌, map, length, drop, drop-cons, add-one, get_or, suc, zero, refl, sym, ap, ◌∙◌, subst, arith, true≢false, ◌⊎◌, inl, inr, Option, None, Some, slice_get, ◌^◌, Result, Ok, Err, IfErr}
+use Rattle.std.specs.Option.{option_map}
+use Rattle.std.specs.Result.{IsErrAnd}
 use Rattle.std.proofs.lemmas.List.{drop_all}
+use Rattle.std.proofs.lemmas.Option.{slice_get-map, slice_get-get_or}
 use Rattle.std.proofs.lemmas.Bool.Decides.{nat_tests}
-use Rattle.vlt_core.specs.Core.{States, Entry, Func, Program, Tok, a_key, a_var}
+use Rattle.vlt_core.specs.Core.{States, Entry, VarDecl, Func, Program, Tok, a_key, a_var}
 use Rattle.vlt_core.specs.Lookups.{is_held_before, before_set, is_owning_var}
 use Rattle.vlt_core.specs.Maps.{HeldMap, Status, absent, held, lent, full, kind_of, Kind, is_absent, becomes_held, becomes_full, wants_absent, row_passed}
 use Rattle.vlt_core.specs.Rows.{row}
@@ -11,7 +14,12 @@ use Rattle.vlt_core.specs.Flow.{Block}
 use Rattle.vlt_core.specs.Bodies.{body_flow}
 use Rattle.vlt_core.specs.Local.{Notes, IsLocalBlock, IsLocalIn}
 use Rattle.vlt_flow.specs.Walks.{Marks, IsLeastLocal, IsLeastIn}
-use Rattle.vlt_flow.specs.Starts.{IsGiven, IsStarted, Started, or_else, HasKeys, HasVars}
+use Rattle.vlt_keyset.specs.Held.{Statuses, HasPlace, IsSameRange}
+use Rattle.vlt_rows.specs.declared.sink.RowError.{RowError}
+use Rattle.vlt_rows.specs.declared.sink.RowError.TheVariants.{Unfit}
+use Rattle.vlt_rows.specs.Unfit.{UnfitBy}
+use Rattle.vlt_flow.specs.Unfit.{IsUnfitEntry, stray_entry, HasNoStart, many_keys, many_vars, unfit_entry}
+use Rattle.vlt_flow.specs.Starts.{IsGiven, IsThere, IsStarted, Started, or_else, HasRange, HasKeys, HasVars}
 
 pub absent_kind : (s : Status) → kind_of s ≡ is_absent → s ≡ absent
 absent_kind absent e = refl
@@ -36,6 +44,12 @@ or_absent absent = refl
 or_absent (held s) = refl
 or_absent (lent s) = refl
 or_absent full = refl
+
+first_counts : (s a b : Status) → (s ≡ absent → ⊥) → or_else s b ≡ or_else s a
+first_counts absent a b there = absurd (there refl)
+first_counts (held s) a b there = refl
+first_counts (lent s) a b there = refl
+first_counts full a b there = refl
 
 -- what is held so far, and else what the rest of the entries says, is what all say
 pub record Starting (p : Program) (f : Func) (all rest : List Entry) (h : HeldMap) : Type 0 where
@@ -64,6 +78,21 @@ starting_given p f all rest e h before none s = record {
         let whole = s.keys k in
         rw (before, is) at whole
 
+-- an entry whose key is there already says nothing more
+starting_there : (p : Program) (f : Func) (all rest : List Entry) (e : Entry) (h : HeldMap) → is_held_before e ≡ true → (h (a_key e.key) ≡ absent → ⊥) → Starting p f all (e ∷ rest) h → Starting p f all rest h
+starting_there p f all rest e h before present s = record {
+  keys = λ k. one k (k == e.key) refl;
+  vars = s.vars;
+}
+  where
+    one : (k : ℕ) (b : Bool) → (k == e.key) ≡ b → or_else (h (a_key k)) (status_at_start p f rest k) ≡ status_at_start p f all k
+    one k true is =
+        let there = subst (λ j. h (a_key j) ≡ absent → ⊥) (sym (same_number k e.key is)) present in
+        first_counts (h (a_key k)) (status_at_start p f (e ∷ rest) k) (status_at_start p f rest k) there ∙ s.keys k
+    one k false is =
+        let whole = s.keys k in
+        rw (before, is) at whole
+
 starting_kept : (p : Program) (f : Func) (all rest : List Entry) (e : Entry) (h : HeldMap) → is_held_before e ≡ false → Starting p f all (e ∷ rest) h → Starting p f all rest h
 starting_kept p f all rest e h before s = record {
   keys = λ k. let whole = s.keys k in rw before at whole;
@@ -74,14 +103,17 @@ pub starting_more : (p : Program) (f : Func) (all rest : List Entry) (e : Entry)
 starting_more p f all rest e h new given s = one (is_held_before e) refl given
   where
     one : (b : Bool) → is_held_before e ≡ b → Started b p f e h new → Starting p f all rest new
-    one true is g = subst (Starting p f all rest) (sym g.1) (starting_given p f all rest e h is g.0 s)
+    one true is (inl g) = subst (Starting p f all rest) (sym g.passed) (starting_given p f all rest e h is g.absent s)
+    one true is (inr g) = subst (Starting p f all rest) (sym g.same) (starting_there p f all rest e h is g.present s)
     one false is g = subst (Starting p f all rest) (sym g) (starting_kept p f all rest e h is s)
 
 pub starting_ends : (p : Program) (f : Func) (h : HeldMap) → Starting p f f.clause [] h → HasKeys p f h
 starting_ends p f h s = record { keys = λ k. sym (or_absent (h (a_key k))) ∙ s.keys k; vars = s.vars }
 
-pub given_started : (p : Program) (f : Func) (e : Entry) (states : States) (h k : HeldMap) → is_held_before e ≡ true → states ≡ before_set p f e → IsGiven (a_key e.key) (becomes_held states) h k → IsStarted p f e h k
-given_started p f e states h k before same g = rw before (g.absent, g.passed ∙ ap (λ s. row_passed (row (a_key e.key) wants_absent (becomes_held s)) h) same)
+pub given_started : (p : Program) (f : Func) (e : Entry) (states : States) (h k : HeldMap) → is_held_before e ≡ true → states ≡ before_set p f e →
+    IsGiven (a_key e.key) (becomes_held states) h k ⊎ IsThere (a_key e.key) h k → IsStarted p f e h k
+given_started p f e states h k before same (inl g) = rw before (inl (record { absent = g.absent; passed = g.passed ∙ ap (λ s. row_passed (row (a_key e.key) wants_absent (becomes_held s)) h) same }))
+given_started p f e states h k before same (inr g) = rw before (inr g)
 
 -- ---- the loop over the entries
 
@@ -136,6 +168,15 @@ vars_given p f i h new owns given s = subst (HasVars p f (i + 1)) (sym given) (r
     one v true is = rw (or_true (nat_lt v i), ap (is_owning_var f) (same_number v i is), owns) refl
     one v false is = rw (or_false (nat_lt v i)) (s.vars v)
 
+-- an owning variable isn't there before its turn
+pub vars_more : (p : Program) (f : Func) (i : ℕ) (h new : HeldMap) → is_owning_var f i ≡ true →
+    IsGiven (a_var i) becomes_full h new ⊎ IsThere (a_var i) h new → HasVars p f i h → HasVars p f (i + 1) new
+vars_more p f i h new owns (inl g) s = vars_given p f i h new owns g.passed s
+vars_more p f i h new owns (inr g) s = absurd (g.present (s.vars i ∙ ap (λ b. if b && is_owning_var f i then full else absent) (not_before i)))
+  where
+    not_before : (i : ℕ) → nat_lt i i ≡ false
+    not_before i = grind (arith, nat_tests)
+
 pub vars_kept : (p : Program) (f : Func) (i : ℕ) (h : HeldMap) → is_owning_var f i ≡ false → HasVars p f i h → HasVars p f (i + 1) h
 vars_kept p f i h owns s = record {
   keys = s.keys;
@@ -155,6 +196,50 @@ vars_end p f i h is s = λ j t. one t j
     one : (t : Tok) → h t ≡ start_map p f t
     one (a_key k) = s.keys k
     one (a_var v) = subst (λ n. h (a_var v) ≡ (if nat_lt v n && is_owning_var f v then full else absent)) is (s.vars v)
+
+-- ---- places
+
+pub range_kept : (f : Func) (h k : Statuses) → HasRange f h → IsSameRange h k → HasRange f k
+range_kept f h k r s = record { keys = sym s.keys ∙ r.keys; vars = sym s.vars ∙ r.vars }
+
+some_there : {X : Type 0} (xs : List X) (i : ℕ) (x : X) → slice_get xs i ≡ Some x → i < length xs
+some_there [] i x e = absurd (never e)
+  where
+    never : {X : Type 0} {x : X} → (let o : Option X = None in o ≡ Some x) → ⊥
+    never e = cc
+some_there (y ∷ xs) zero x e = omega arith
+some_there (y ∷ xs) (suc i) x e = let n = some_there xs i x e in omega (arith, n)
+
+pub owning_place : (f : Func) (v : ℕ) (h : Statuses) → HasRange f h → is_owning_var f v ≡ true → HasPlace h (a_var v)
+owning_place f v h r owns = by (slice_get f.vars v) refl
+  where
+    by : (o : Option VarDecl) → slice_get f.vars v ≡ o → v < length h.vars
+    by None e =
+        let no : is_owning_var f v ≡ false = rw e refl in
+        absurd (true≢false (sym owns ∙ no))
+    by (Some d) e = rw r.vars (some_there f.vars v d e)
+
+-- a `?` hands an unfit entry on
+pub handed_unfit : {T A : Type 0} (r : Result T RowError) (d : RowError) → IsErrAnd r (λ x. x ≡ d) → d ≡ Unfit → A → IfErr r (UnfitBy A)
+handed_unfit (Ok x) d gives is a = absurd gives
+handed_unfit (Err x) d gives is a = inr (gives ∙ is, a)
+
+pub stray_key : (p : Program) (f : Func) (e : Entry) (h : Statuses) → HasRange f h → (HasPlace h (a_key e.key) → ⊥) → IsUnfitEntry p f e
+stray_key p f e h r never = stray_entry (subst (λ n. n ≤ e.key) r.keys (above (length h.keys) e.key never))
+  where
+    above : (n k : ℕ) → (k < n → ⊥) → n ≤ k
+    above n k never = grind (arith, never)
+
+pub many_tokens : (p : Program) (f : Func) → (2 ^ 32 ≤ length f.keys) ⊎ (2 ^ 32 ≤ length f.vars) → HasNoStart p f
+many_tokens p f (inl q) = many_keys q
+many_tokens p f (inr q) = many_vars q
+
+entry_there : {X : Type 0} (g : X → Entry) (xs : List X) (i : ℕ) (x : X) → i < length xs → x ≡ get_or xs i x → slice_get (map g xs) i ≡ Some (g x)
+entry_there g xs i x lt read = slice_get-map g xs i ∙ ap (option_map g) (slice_get-get_or xs i x lt) ∙ ap (λ y. Some (g y)) (sym read)
+
+pub entry_unfit : {X : Type 0} (g : X → Entry) (p : Program) (f : Func) (xs : List X) (i : ℕ) (x : X) → i < length xs → x ≡ get_or xs i x → map g xs ≡ f.clause →
+    is_held_before (g x) ≡ true → IsUnfitEntry p f (g x) → HasNoStart p f
+entry_unfit g p f xs i x lt read is before u = unfit_entry i (g x) (ap (λ l. slice_get l i) (sym is) ∙ entry_there g xs i x lt read) before u
 
 -- ---- the body from its start
 

@@ -9,12 +9,21 @@ use Rattle.vlt_core.specs.declared.held.Row as code
 use Rattle.vlt_rows.specs.declared.tree.FlowBlock.{FlowBlock}
 use Rattle.vlt_rows.specs.FlowView.{rows_view, block_view}
 use Rattle.vlt_flow.specs.declared.errors.Stop.{Stop}
+use Rattle.vlt_flow.specs.declared.errors.Stop.TheVariants as stop
 use Rattle.vlt_flow.specs.declared.errors.Stop.TheVariants.{Refused}
+use Rattle.vlt_rows.specs.declared.sink.RowError.{RowError}
+use Rattle.vlt_rows.specs.declared.sink.RowError.TheVariants as row
 use Rattle.vlt_keyset.specs.Held.{Statuses, map_of, gap}
 
 -- a fact for the one error that refuses
 pub record IfRefused {A : Type 0} (r : Result A Stop) (p : Type 0) : Type 0 where
   pub holds : r ≡ Err Refused → p
+
+-- what rows that aren't listed say of a walk
+abbrev pub stop_of : RowError → Stop
+stop_of (row.Refused e) = stop.Refused
+stop_of row.Unfit = stop.Unfit
+stop_of row.Memory = stop.Memory
 
 -- the rows were passed
 pub record Passes (rs : List Row) (old new : HeldMap) : Type 0 where

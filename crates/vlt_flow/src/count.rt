@@ -1,20 +1,22 @@
 //! How many statements there are.
 
-ghost use Rattle.std.specs.Prelude.{◌≡◌, ◌+◌, IfOk};
+ghost use Rattle.std.specs.Prelude.{◌≡◌, ◌+◌, ◌≤◌, ◌^◌, IfOk, IfErr};
 ghost use Rattle.vlt_rows.specs.FlowView.{flow_view, block_view, stmts_view, arms_view};
 ghost use Rattle.vlt_core.specs.Flow.{size, size_block, size_stmts, size_arms};
 ghost use Rattle.vlt_flow.specs.Walks.{IfRefused};
+ghost use Rattle.vlt_flow.specs.declared.errors.Stop.TheVariants.{Unfit};
 
 use crate::errors::Stop;
 use vlt_rows::{Flow, FlowArm, FlowBlock, FlowStmt};
 
 fn add(a: usize, b: usize) -> Result<usize, Stop>
     ensures sum { IfOk result (λ n. n ≡ a + b) }
+    ensures large { IfErr result (λ e. (e ≡ Unfit) × (2 ^ 62 ≤ a + b)) }
     ensures never { IfRefused result ⊥ }
 {
     match a.checked_add(b) {
         Some(n) => Ok(n),
-        None => Err(Stop::Memory),
+        None => Err(Stop::Unfit),
     }
 }
 
@@ -22,6 +24,7 @@ fn add(a: usize, b: usize) -> Result<usize, Stop>
 #[cycle(count)]
 pub fn count_form(form: &Flow) -> Result<usize, Stop>
     ensures count { IfOk result (λ n. n ≡ size (flow_view form.now)) }
+    ensures large { IfErr result (λ e. (e ≡ Unfit) × (2 ^ 62 ≤ size (flow_view form.now))) }
     ensures never { IfRefused result ⊥ }
 {
     match form {
@@ -46,6 +49,7 @@ pub fn count_form(form: &Flow) -> Result<usize, Stop>
 #[cycle(count)]
 pub fn count_block(block: &FlowBlock) -> Result<usize, Stop>
     ensures count { IfOk result (λ n. n ≡ size_block (block_view block.now)) }
+    ensures large { IfErr result (λ e. (e ≡ Unfit) × (2 ^ 62 ≤ size_block (block_view block.now))) }
     ensures never { IfRefused result ⊥ }
 {
     count_list(block.stmts.as_slice())
@@ -54,6 +58,7 @@ pub fn count_block(block: &FlowBlock) -> Result<usize, Stop>
 #[cycle(count)]
 fn count_list(stmts: &[FlowStmt]) -> Result<usize, Stop>
     ensures count { IfOk result (λ n. n ≡ size_stmts (stmts_view stmts.now)) }
+    ensures large { IfErr result (λ e. (e ≡ Unfit) × (2 ^ 62 ≤ size_stmts (stmts_view stmts.now))) }
     ensures never { IfRefused result ⊥ }
 {
     let mut sum = 0;
@@ -66,6 +71,7 @@ fn count_list(stmts: &[FlowStmt]) -> Result<usize, Stop>
 #[cycle(count)]
 fn count_arms(arms: &[FlowArm]) -> Result<usize, Stop>
     ensures count { IfOk result (λ n. n ≡ size_arms (arms_view arms.now)) }
+    ensures large { IfErr result (λ e. (e ≡ Unfit) × (2 ^ 62 ≤ size_arms (arms_view arms.now))) }
     ensures never { IfRefused result ⊥ }
 {
     let mut sum = 0;

@@ -14,8 +14,19 @@ pub enum Stop {
     /// A row or a join is refused.
     #[error("a row or a join is refused")]
     Refused,
+    /// The body is unfit for a walk: something in it has no number, no place or no set of states.
+    #[error("the body is unfit for a walk")]
+    Unfit,
     #[error("there was no memory for the maps")]
     Memory,
+}
+
+/// A token has no place in a map, two maps are for different tokens, or none is kept where one is wanted. That no elaborated
+/// body meets any of these isn't proved here: it counts as want of memory.
+pub fn misplaced() -> Stop
+    ensures { result ≡ Memory }
+{
+    Stop::Memory
 }
 
 impl From<AllocError> for Stop {
@@ -43,10 +54,16 @@ impl From<vlt_base::Memory> for Stop {
 }
 
 impl From<RowError> for Stop {
-    ghost from_gives = { λ _ e. e ≡ Memory };
+    ghost use Rattle.vlt_flow.specs.Walks.{stop_of};
 
-    fn from(_: RowError) -> Stop {
-        Stop::Memory
+    ghost from_gives = { λ r e. e ≡ stop_of r };
+
+    fn from(error: RowError) -> Stop {
+        match error {
+            RowError::Refused(_) => Stop::Refused,
+            RowError::Unfit => Stop::Unfit,
+            RowError::Memory => Stop::Memory,
+        }
     }
 }
 

@@ -5,7 +5,7 @@ ghost use Rattle.vlt_core.specs.Maps.{HeldMap, IsBelow};
 ghost use Rattle.vlt_keyset.specs.Held.{map_of};
 ghost use Rattle.vlt_flow.specs.Walks.{IfRefused, slot, Above, IsInto, IsSameAt};
 
-use crate::errors::Stop;
+use crate::errors::{Stop, misplaced};
 use std::alloc::{AllocError, Global};
 use std::marker::Model;
 use vlt_keyset::Held;
@@ -38,7 +38,7 @@ fn join_into(slot: &mut Option<Held>, held: Held) -> Result<(), Stop>
         }
         Some(old) => {
             if !old.is_range_of(&held) {
-                return Err(Stop::Memory);
+                return Err(misplaced());
             }
             let _grew = old.join(&held)?;
             Ok(())
@@ -51,7 +51,7 @@ fn copy_in(alloc: Global, slot: &Option<Held>) -> Result<Held, Stop>
     ensures never { IfRefused result ⊥ }
 {
     match slot {
-        None => Err(Stop::Memory),
+        None => Err(misplaced()),
         Some(held) => Ok(held.copy(alloc)?),
     }
 }

@@ -1,11 +1,12 @@
 //! The decision over a whole body.
 
-ghost use Rattle.std.specs.Prelude.{◌≡◌, ◌<◌, ◌^◌, length, IfOk, None};
+ghost use Rattle.std.specs.Prelude.{◌≡◌, ◌<◌, ◌≤◌, ◌^◌, length, IfOk, None};
 ghost use Rattle.vlt_core.specs.Flow.{size_block};
 ghost use Rattle.vlt_rows.specs.FlowView.{block_view};
 ghost use Rattle.vlt_core.specs.Local.{Notes, IsLocalBlock};
 ghost use Rattle.vlt_keyset.specs.Held.{map_of};
 ghost use Rattle.vlt_flow.specs.Walks.{IfRefused, IsLeastLocal};
+ghost use Rattle.vlt_flow.specs.Unfit.{IfUnfit};
 
 use crate::count::count_block;
 use crate::errors::Stop;
@@ -23,12 +24,16 @@ pub fn least_maps(alloc: Global, start: Held, body: &FlowBlock) -> Result<Kept, 
     ensures few { IfOk result (λ k. length k.around < 2 ^ 63) }
     ensures refused { IfRefused result ((a : Notes) →
         IsLocalBlock a None 0 (map_of start) (block_view body.now) → ⊥) }
+    ensures unfit { IfUnfit result (2 ^ 62 ≤ size_block (block_view body.now)) }
 {
     let count = count_block(body)?;
     if count >= 1 << 62 {
-        return Err(Stop::Memory);
+        return Err(Stop::Unfit);
     }
     let mut kept = Kept::open(alloc, count)?;
-    let _end = walk_block(alloc, &mut kept, body, None, 0, start)?;
-    Ok(kept)
+    match walk_block(alloc, &mut kept, body, None, 0, start) {
+        Ok(_) => Ok(kept),
+        Err(Stop::Refused) => Err(Stop::Refused),
+        Err(_) => Err(Stop::Memory),
+    }
 }

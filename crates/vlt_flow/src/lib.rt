@@ -7,6 +7,7 @@ ghost use Rattle.std.specs.Prelude.{IfOk};
 ghost use Rattle.vlt_core.specs.View.{program_of, func_of};
 ghost use Rattle.vlt_core.specs.Local.{Notes, IsLocalIn};
 ghost use Rattle.vlt_flow.specs.Walks.{IfRefused, IsLeastIn};
+ghost use Rattle.vlt_flow.specs.Unfit.{IfUnfit, IsUnfit};
 
 mod count;
 mod errors;
@@ -25,11 +26,13 @@ use std::alloc::Global;
 use vlt_core::{Func, Program};
 use vlt_rows::body_flow;
 
-/// The least maps of a function's body, by statement; `Refused` where no annotation holds in it.
+/// The least maps of a function's body, by statement; `Refused` where no annotation holds in it, `Unfit` where the body
+/// is (`IsUnfit`).
 pub fn walk(alloc: Global, p: &Program, f: &Func) -> Result<Kept, Stop>
     ensures ok { IfOk result (IsLeastIn (program_of p.now) (func_of f.now)) }
     ensures refused { IfRefused result ((a : Notes) →
         IsLocalIn (program_of p.now) (func_of f.now) a → ⊥) }
+    ensures unfit { IfUnfit result (IsUnfit (program_of p.now) (func_of f.now)) }
 {
     let flow = body_flow(alloc, p, f)?;
     let start = start_map_of(alloc, p, f)?;

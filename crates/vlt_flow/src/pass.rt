@@ -8,7 +8,7 @@ ghost use Rattle.vlt_core.specs.Maps.{CanPass, away_row};
 ghost use Rattle.vlt_keyset.specs.Held.{map_of};
 ghost use Rattle.vlt_flow.specs.Walks.{IfRefused, Passes};
 
-use crate::errors::Stop;
+use crate::errors::{Stop, misplaced};
 use vlt_core::{After, Row, Tok, Wanted};
 use vlt_keyset::Held;
 
@@ -17,7 +17,7 @@ fn pass_row(held: &mut Held, row: Row) -> Result<(), Stop>
     ensures refused { IfRefused result (CanPass (row_of row ∷ []) (map_of held.old) → ⊥) }
 {
     if !held.has(row.tok) {
-        return Err(Stop::Memory);
+        return Err(misplaced());
     }
     held.step(row)?;
     Ok(())

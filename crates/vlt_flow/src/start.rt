@@ -1,17 +1,22 @@
 //! The map that a body begins with.
 
-ghost use Rattle.std.specs.Prelude.{◌≡◌, OnOk, IfOk};
+ghost use Rattle.std.specs.Prelude.{◌≡◌, ◌⊎◌, ◌≤◌, ◌^◌, true, length, IfOk, IfErr, OnOk, MatchResult};
 ghost use Rattle.vlt_core.specs.View.{program_of, func_of, tok_of, mode_of, entry_of};
 ghost use Rattle.vlt_core.specs.HeldView.{after_of};
-ghost use Rattle.vlt_core.specs.Lookups.{is_before};
+ghost use Rattle.vlt_core.specs.Lookups.{is_before, is_held_before};
 ghost use Rattle.vlt_core.specs.Derives.{start_map};
-ghost use Rattle.vlt_keyset.specs.Held.{map_of};
-ghost use Rattle.vlt_flow.specs.Starts.{IsGiven, IsStarted, HasKeys};
+ghost use Rattle.vlt_core.specs.Maps.{absent};
+ghost use Rattle.vlt_keyset.specs.Held.{map_of, HasPlace, IsSameRange};
+ghost use Rattle.vlt_rows.specs.Unfit.{UnfitBy};
+ghost use Rattle.vlt_rows.specs.declared.sink.RowError.TheVariants.{Memory, Unfit};
+ghost use Rattle.vlt_flow.specs.Starts.{IsGiven, IsThere, IsStarted, HasRange, HasKeys};
+ghost use Rattle.vlt_flow.specs.Unfit.{IsUnfitEntry, HasNoStart};
 
 use std::alloc::Global;
-use vlt_base::{Memory, VarId};
+use vlt_base::VarId;
 use vlt_core::{After, Entry, Func, Mode, Program, Row, Tok, Wanted};
 use vlt_keyset::Held;
+use vlt_rows::RowError;
 
 /// Whether the key is held before the call.
 fn is_before(mode: Mode) -> bool
@@ -23,67 +28,92 @@ fn is_before(mode: Mode) -> bool
     }
 }
 
-/// An absent token becomes what a row leaves.
-fn give(held: &mut Held, tok: Tok, after: After) -> Result<(), Memory>
-    ensures { OnOk result (IsGiven (tok_of tok) (after_of after) (map_of held.old)
-        (map_of held.new)) }
+/// An absent token becomes what a row leaves; one that is there already stays as it is.
+fn give(held: &mut Held, tok: Tok, after: After)
+    requires { HasPlace held.old (tok_of tok) }
+    ensures range { IsSameRange held.old held.new }
+    ensures given { IsGiven (tok_of tok) (after_of after) (map_of held.old) (map_of held.new) ⊎
+        IsThere (tok_of tok) (map_of held.old) (map_of held.new) }
 {
-    if !held.has(tok) {
-        return Err(Memory);
-    }
     match held.step(Row {
         tok,
         wanted: Wanted::Absent,
         after,
     }) {
-        Ok(()) => Ok(()),
-        Err(_) => Err(Memory),
+        Ok(()) => {}
+        Err(_) => {}
     }
 }
 
-/// The key of an entry is held, if it is so before the call.
-fn give_key(held: &mut Held, p: &Program, f: &Func, e: Entry) -> Result<(), Memory>
-    ensures { OnOk result (IsStarted (program_of p.now) (func_of f.now) (entry_of e)
+/// The key of an entry is held, if it is so before the call. Of two entries with one key the first counts.
+fn give_key(held: &mut Held, p: &Program, f: &Func, e: Entry) -> Result<(), RowError>
+    requires { HasRange (func_of f.now) held.old }
+    ensures started { OnOk result (IsStarted (program_of p.now) (func_of f.now) (entry_of e)
         (map_of held.old) (map_of held.new)) }
+    ensures range { IsSameRange held.old held.new }
+    ensures unfit { IfErr result (λ x. (x ≡ Unfit) × (is_held_before (entry_of e) ≡ true) ×
+        IsUnfitEntry (program_of p.now) (func_of f.now) (entry_of e)) }
 {
-    if is_before(e.mode) {
-        match p.states_or_all(f, e.key, e.before) {
-            None => Err(Memory),
-            Some(states) => give(held, Tok::Key(e.key), After::Set(states)),
-        }
-    } else {
-        Ok(())
+    if !is_before(e.mode) {
+        return Ok(());
+    }
+    let Some(states) = p.states_or_all(f, e.key, e.before) else {
+        return Err(RowError::Unfit);
+    };
+    if !held.has(Tok::Key(e.key)) {
+        return Err(RowError::Unfit);
+    }
+    give(held, Tok::Key(e.key), After::Set(states));
+    Ok(())
+}
+
+fn count(n: usize) -> Result<u32, RowError>
+    ensures { MatchResult result (λ m. m ≡ n) (λ e. (e ≡ Unfit) × (2 ^ 32 ≤ n)) }
+{
+    match u32::try_from(n) {
+        Ok(n) => Ok(n),
+        Err(_) => Err(RowError::Unfit),
+    }
+}
+
+/// Each token is absent.
+fn absent_map(alloc: Global, f: &Func) -> Result<Held, RowError>
+    ensures absent { IfOk result (λ h. map_of h ≡ (λ t. absent)) }
+    ensures range { IfOk result (HasRange (func_of f.now)) }
+    ensures unfit { IfErr result (UnfitBy ((2 ^ 32 ≤ length (func_of f.now).keys) ⊎
+        (2 ^ 32 ≤ length (func_of f.now).vars))) }
+{
+    let keys = count(f.keys.len())?;
+    let vars = count(f.vars.len())?;
+    match Held::open(alloc, keys, vars) {
+        Ok(held) => Ok(held),
+        Err(_) => Err(RowError::Memory),
     }
 }
 
 /// The keys of the clause are held, all else is absent.
-fn start_keys(alloc: Global, p: &Program, f: &Func) -> Result<Held, Memory>
-    ensures { IfOk result (λ h. HasKeys (program_of p.now) (func_of f.now) (map_of h)) }
+fn start_keys(alloc: Global, p: &Program, f: &Func) -> Result<Held, RowError>
+    ensures keys { IfOk result (λ h. HasKeys (program_of p.now) (func_of f.now) (map_of h)) }
+    ensures range { IfOk result (HasRange (func_of f.now)) }
+    ensures unfit { IfErr result (UnfitBy (HasNoStart (program_of p.now) (func_of f.now))) }
 {
-    let keys = count(f.keys.len())?;
-    let vars = count(f.vars.len())?;
-    let mut held = Held::open(alloc, keys, vars)?;
+    let mut held = absent_map(alloc, f)?;
     for e in f.clause.as_slice() {
         give_key(&mut held, p, f, *e)?;
     }
     Ok(held)
 }
 
-fn count(n: usize) -> Result<u32, Memory> {
-    match u32::try_from(n) {
-        Ok(n) => Ok(n),
-        Err(_) => Err(Memory),
-    }
-}
-
-/// The map that a body begins with.
-pub fn start_map_of(alloc: Global, p: &Program, f: &Func) -> Result<Held, Memory>
-    ensures { IfOk result (λ h. map_of h ≡ start_map (program_of p.now) (func_of f.now)) }
+/// The map that a body begins with. `Unfit` where there are more keys or variables than numbers, or where an entry of the
+/// clause names a key that the function doesn't have, or states of which there is no set.
+pub fn start_map_of(alloc: Global, p: &Program, f: &Func) -> Result<Held, RowError>
+    ensures { MatchResult result (λ h. map_of h ≡ start_map (program_of p.now) (func_of f.now))
+        (UnfitBy (HasNoStart (program_of p.now) (func_of f.now))) }
 {
     let mut held = start_keys(alloc, p, f)?;
     for v in 0..f.params {
         if f.is_owning_var(VarId(v)) {
-            give(&mut held, Tok::Var(VarId(v)), After::Full)?;
+            give(&mut held, Tok::Var(VarId(v)), After::Full);
         }
     }
     Ok(held)

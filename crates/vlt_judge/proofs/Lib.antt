@@ -11,3 +11,4 @@ mod Renaming
 mod Clean
 mod Overs
 mod Whole
+mod Unfitting

@@ -22,6 +22,11 @@ pub struct Extent {
     pub vars: u32,
 }
 
+/// More statements, rows and joins, or tokens than there are numbers. It counts as want of memory.
+pub fn unnumbered() -> Memory {
+    Memory
+}
+
 fn only(stmts: usize, spots: usize) -> Extent
     ensures { IsExtent stmts spots (λ t. Unit {0}) result }
 {
@@ -51,7 +56,7 @@ fn both(a: Extent, b: Extent) -> Result<Extent, Memory>
             keys: larger(a.keys, b.keys),
             vars: larger(a.vars, b.vars),
         }),
-        _ => Err(Memory),
+        _ => Err(unnumbered()),
     }
 }
 
@@ -66,7 +71,7 @@ fn extent_of_tok(tok: Tok) -> Result<Extent, Memory>
                 keys,
                 vars: 0,
             }),
-            None => Err(Memory),
+            None => Err(unnumbered()),
         },
         Tok::Var(v) => match v.0.checked_add(1) {
             Some(vars) => Ok(Extent {
@@ -75,7 +80,7 @@ fn extent_of_tok(tok: Tok) -> Result<Extent, Memory>
                 keys: 0,
                 vars,
             }),
-            None => Err(Memory),
+            None => Err(unnumbered()),
         },
     }
 }

@@ -3,11 +3,13 @@
 //! Used by: the check. A refusal reports this fault, and a body without one isn't refused.
 #![tactic(auto)]
 
-ghost use Rattle.std.specs.Prelude.{◌≡◌, IfOk, IfSome, IsNone, None};
+ghost use Rattle.std.specs.Prelude.{◌≡◌, ◌⊎◌, IfOk, IfErr, IfSome, IsNone, None};
 ghost use Rattle.vlt_core.specs.Faults.{HasFault, IsFirstIn};
 ghost use Rattle.vlt_core.specs.Local.{Notes, IsLocalIn};
 ghost use Rattle.vlt_core.specs.View.{program_of, func_of, tok_of};
 ghost use Rattle.vlt_core.specs.FaultView.{kind_of};
+ghost use Rattle.vlt_rows.specs.Unfit.{UnfitBy, HasNoFlow};
+ghost use Rattle.vlt_flow.specs.Unfit.{HasNoStart};
 ghost use Rattle.vlt_judge.specs.Faulty.{IsFitIn};
 
 mod blame;
@@ -20,10 +22,10 @@ mod tokens;
 use crate::blame::Blame;
 use crate::tokens::judge;
 use std::alloc::Global;
-use vlt_base::{FnId, Memory};
+use vlt_base::FnId;
 use vlt_core::{FlowFault, Func, Program};
 use vlt_flow::start_map_of;
-use vlt_rows::body_flow;
+use vlt_rows::{RowError, body_flow};
 
 fn fault_of(fn_id: FnId, blame: Blame) -> FlowFault
     ensures function { result.fn_id ≡ fn_id }
@@ -41,13 +43,14 @@ fn fault_of(fn_id: FnId, blame: Blame) -> FlowFault
     }
 }
 
-/// The first fault of a function's body, if it has one. It has one where no annotation holds in it.
+/// The first fault of a function's body, if it has one. It has one where no annotation holds in it. `Unfit` where the
+/// body has no flow, or no map to begin with.
 pub fn fault_in(
     alloc: Global,
     p: &Program,
     f: &Func,
     fn_id: FnId,
-) -> Result<Option<FlowFault>, Memory>
+) -> Result<Option<FlowFault>, RowError>
     ensures first { IfOk result (λ x. IfSome x
         (λ y. IsFitIn (program_of p.now) (func_of f.now) →
         IsFirstIn (program_of p.now) (func_of f.now) y.at (tok_of y.tok) (kind_of y.kind))) }
@@ -57,12 +60,15 @@ pub fn fault_in(
         HasFault (program_of p.now) (func_of f.now) → ⊥) }
     ensures always { IfOk result (λ x. IsNone x → IsFitIn (program_of p.now) (func_of f.now) →
         ((a : Notes) → IsLocalIn (program_of p.now) (func_of f.now) a → ⊥) → ⊥) }
+    ensures unfit { IfErr result (UnfitBy (HasNoFlow (program_of p.now) (func_of f.now) ⊎
+        HasNoStart (program_of p.now) (func_of f.now))) }
 {
-    let Ok(flow) = body_flow(alloc, p, f) else {
-        return Err(Memory);
-    };
+    let flow = body_flow(alloc, p, f)?;
     let start = start_map_of(alloc, p, f)?;
-    match judge(alloc, &flow, &start)? {
+    let Ok(first) = judge(alloc, &flow, &start) else {
+        return Err(RowError::Memory);
+    };
+    match first {
         None => Ok(None),
         Some(blame) => Ok(Some(fault_of(fn_id, blame))),
     }

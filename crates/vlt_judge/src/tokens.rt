@@ -8,7 +8,7 @@ ghost use Rattle.vlt_rows.specs.FlowView.{block_view};
 ghost use Rattle.vlt_judge.specs.Overs.{IsFirstOver, IsWhole, IsKeyBelow, IsVarBelow, IsPastKeys, IsPastVars};
 
 use crate::blame::{Blame, earlier};
-use crate::extent::{Extent, extent_of_block};
+use crate::extent::{Extent, extent_of_block, unnumbered};
 use crate::judging::{Point, judge_block};
 use crate::telling::singles_of;
 use std::alloc::Global;
@@ -64,7 +64,7 @@ fn past_keys(start: &Held, keys: u32) -> Result<u32, Memory>
             return Ok(past);
         }
     }
-    Err(Memory)
+    Err(unnumbered())
 }
 
 /// A number that is no less, past all variables that have a place.
@@ -77,7 +77,7 @@ fn past_vars(start: &Held, vars: u32) -> Result<u32, Memory>
             return Ok(past);
         }
     }
-    Err(Memory)
+    Err(unnumbered())
 }
 
 /// Of a body that begins with the map. No token past the numbers is named, or has a place.
@@ -86,10 +86,10 @@ fn whole_extent(body: &FlowBlock, start: &Held) -> Result<Extent, Memory>
 {
     let extent = extent_of_block(body)?;
     if extent.stmts >= 1 << 62 {
-        return Err(Memory);
+        return Err(unnumbered());
     }
     if extent.spots >= 1 << 62 {
-        return Err(Memory);
+        return Err(unnumbered());
     }
     let keys = past_keys(start, extent.keys)?;
     let vars = past_vars(start, extent.vars)?;

@@ -74,6 +74,14 @@ head_few h at none =
     (not_broken (nat_lt 256 (length h.vars)) TOO_MANY_VARIABLES at
     (no_right (refuse_if (nat_lt 256 (length h.keys)) TOO_MANY_KEYS at) (refuse_if (nat_lt 256 (length h.vars)) TOO_MANY_VARIABLES at) none))
 
+-- nor more keys
+head_few_keys : (h : Func) (at : ℕ) → elab.head_refused h at ≡ [] → length h.keys ≤ 256
+unfolding elab.head_refused
+head_few_keys h at none =
+    ltb-false 256 (length h.keys)
+    (not_broken (nat_lt 256 (length h.keys)) TOO_MANY_KEYS at
+    (no_left (refuse_if (nat_lt 256 (length h.keys)) TOO_MANY_KEYS at) (refuse_if (nat_lt 256 (length h.vars)) TOO_MANY_VARIABLES at) none))
+
 module _ (kinds : Kinds) where
   body_made : (h : Func) (b : Block) (f : Func) → walk_body kinds h b ≡ Ok f → HasWalked kinds h b f
   body_made h b f e =
@@ -92,7 +100,7 @@ module _ (kinds : Kinds) where
       let rest = then_ok (walk_decls kinds hs ds) _ fs f.rest in
       let w = unless_ok (least (elab.head_refused h at.from)) (walk_body kinds h b) f.first f.one in
       subst (AreMade kinds (h ∷ hs)) (same_ok (f.first ∷ rest.first) fs rest.rest) (
-        (head, Some b, refl, record { passed = no_left _ _ none; hosted = λ e. absurd (true≢false e); few = head_few h at.from (least_none None (elab.head_refused h at.from) w.0).1; walked = (is.0.1, body_made h b f.first w.1) }),
+        (head, Some b, refl, record { passed = no_left _ _ none; hosted = λ e. absurd (true≢false e); few = head_few h at.from (least_none None (elab.head_refused h at.from) w.0).1; few_keys = head_few_keys h at.from (least_none None (elab.head_refused h at.from) w.0).1; walked = (is.0.1, body_made h b f.first w.1) }),
         all_made ds rest.first is.1 (no_right (head_refused kinds.file head) _ none) rest.one,
       )
   all_made (s.extern head at ∷ ds) fs is none e =
@@ -103,7 +111,7 @@ module _ (kinds : Kinds) where
       let w = unless_ok (least (elab.head_refused h at.from)) (Ok (record h { body = core.done })) f.first f.one in
       let here = no_left (head_refused kinds.file head ++ external_refused kinds.file kinds.types head (keys_of kinds.file head)) _ none in
       subst (AreMade kinds (h ∷ hs)) (same_ok (f.first ∷ rest.first) fs rest.rest) (
-        (head, None, refl, record { passed = no_left _ _ here; hosted = λ e. no_right (head_refused kinds.file head) _ here; few = head_few h at.from (least_none None (elab.head_refused h at.from) w.0).1; walked = sym (same_ok (record h { body = core.done }) f.first w.1) }),
+        (head, None, refl, record { passed = no_left _ _ here; hosted = λ e. no_right (head_refused kinds.file head) _ here; few = head_few h at.from (least_none None (elab.head_refused h at.from) w.0).1; few_keys = head_few_keys h at.from (least_none None (elab.head_refused h at.from) w.0).1; walked = sym (same_ok (record h { body = core.done }) f.first w.1) }),
         all_made ds rest.first is.1 (no_right (head_refused kinds.file head ++ external_refused kinds.file kinds.types head (keys_of kinds.file head)) _ none) rest.one,
       )
   all_made (s.stateset n ss at ∷ ds) fs is none e = all_made ds fs is.1 none (sym (skipped kinds (of_each (core_heads_in kinds.file) ds) (s.stateset n ss at) ds refl) ∙ e)

@@ -10,13 +10,15 @@ ghost use Rattle.vlt_verdict.specs.Verdicts as v;
 ghost use Rattle.vlt_verdict.specs.Verdicts.{IsVerdictOf};
 ghost use Rattle.vlt_verdict.specs.Laws.{HasOneVerdict, HasSomeVerdict};
 ghost use Rattle.vlt_verdict.specs.Seen.{IsSeenAs, IsTellable};
+ghost use Rattle.vlt_verdict.specs.Unfit.{IfUnfit, HasUnfitProgram};
 
 use std::alloc::{AllocError, Global};
+use thiserror::Error;
 use vlt_check::{CheckError, accepted_has_no_fault, check};
 use vlt_check_laws::programs_are_judged;
 use vlt_core::{FlowFault, Program};
 use vlt_core_laws::there_is_one_first_fault;
-use vlt_fit_laws::programs_are_fit;
+use vlt_fit_laws::{only_bodies_are_unfit, programs_are_fit};
 use vlt_kinds::{KindError, tables};
 use vlt_resolve::{ElabError, elaborate};
 use vlt_syntax::Tree;
@@ -34,29 +36,50 @@ pub enum Verdict {
     Accepted(Program),
 }
 
-/// What a tree that a text has is as a program, or want of memory.
-pub fn judge(alloc: Global, tree: &Tree) -> Result<Verdict, AllocError>
+/// Why a tree has no verdict.
+#[derive(Clone, Copy, Debug, PartialEq, Eq, Error)]
+pub enum JudgeError {
+    /// A body of its program is unfit for the check: a row of it names states of which there is no set, or it has 2^62
+    /// statements or more.
+    #[error("a body of the program is unfit for the check")]
+    Unfit,
+    #[error("there was no memory")]
+    Memory,
+}
+
+/// A program that is unfit for the check counts as want of memory.
+impl From<JudgeError> for AllocError {
+    fn from(_: JudgeError) -> AllocError {
+        AllocError
+    }
+}
+
+/// What a tree that a text has is as a program; `Unfit` where its program is (`HasUnfitProgram`).
+pub fn judge(alloc: Global, tree: &Tree) -> Result<Verdict, JudgeError>
     requires { IsTextTree (tree_of tree.now) }
     ensures is { IfOk result (λ x. (t : v.Verdict) × IsVerdictOf (tree_of tree.now) t ×
         IsSeenAs x t) }
     ensures tellable { IfOk result IsTellable }
+    ensures unfit { IfUnfit result (HasUnfitProgram (tree_of tree.now)) }
 {
     programs_are_fit();
+    only_bodies_are_unfit();
     let kinds = match tables(alloc, tree) {
         Ok(kinds) => kinds,
         Err(KindError::Rule { rule, at }) => return Ok(Verdict::Broken { rule, at }),
-        Err(KindError::Memory) => return Err(AllocError),
+        Err(KindError::Memory) => return Err(JudgeError::Memory),
     };
     let program = match elaborate(alloc, tree, &kinds) {
         Ok(program) => program,
         Err(ElabError::Rule { rule, at }) => return Ok(Verdict::Broken { rule, at }),
         Err(ElabError::Limit(number)) => return Ok(Verdict::Exceeded(number)),
-        Err(ElabError::Memory) => return Err(AllocError),
+        Err(ElabError::Memory) => return Err(JudgeError::Memory),
     };
     match check(alloc, &program) {
         Ok(_) => Ok(Verdict::Accepted(program)),
         Err(CheckError::Refused(fault)) => Ok(Verdict::Faulty(program, fault)),
-        Err(CheckError::Memory) => Err(AllocError),
+        Err(CheckError::Unfit) => Err(JudgeError::Unfit),
+        Err(CheckError::Memory) => Err(JudgeError::Memory),
     }
 }
 

@@ -6,6 +6,7 @@ use Rattle.vlt_core.specs.Flow.{Block, Arms, no_arms, arm}
 use Rattle.vlt_core.specs.Bodies.{body_flow}
 use Rattle.vlt_core.specs.Faults.{spots_block}
 use Rattle.vlt_rows.specs.Unfit.{HasPartBlock, HasWideRow}
+use Rattle.vlt_flow.specs.Unfit.{HasNoStart}
 
 abbrev pub arm_count : Arms → ℕ
 arm_count no_arms = 0
@@ -28,6 +29,7 @@ pub data IsUnfit (p : Program) (f : Func) : Type 0 where
   -- the last key, or variable, has no number of 32 bits
   many_keys : 2 ^ 32 < length f.keys → IsUnfit p f
   many_vars : 2 ^ 32 < length f.vars → IsUnfit p f
+  no_start : HasNoStart p f → IsUnfit p f
   long_switch : HasLongSwitch (body_flow p f) → IsUnfit p f
   -- the number behind the last row or join has more than 64 bits
   many_spots : 2 ^ 64 ≤ spots_block (body_flow p f) → IsUnfit p f

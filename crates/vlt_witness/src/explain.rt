@@ -257,9 +257,7 @@ fn paths_in(
         (UnfitBy (IsUnfit (program_of p.now) (func_of f.now))) }
 {
     let flow = body_flow(alloc, p, f)?;
-    let Ok(start) = start_map_of(alloc, p, f) else {
-        return Err(RowError::Memory);
-    };
+    let start = start_map_of(alloc, p, f)?;
     let ones = start_ones(&start, fault.tok);
     match paths_of(alloc, fault, &flow, ones)? {
         None => Ok(None),

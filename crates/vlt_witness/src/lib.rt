@@ -31,8 +31,8 @@ pub use vlt_paths::{is_row_witness, is_witness};
 use vlt_rows::RowError;
 
 /// A witness of a fault, if it has one; the first fault of a program has one. `Unfit` only where the function of the fault
-/// is: its rows and joins, its keys or variables, or the arms of a switch are more than there are numbers, or a row names
-/// states of which there is no set. Any other error is want of memory.
+/// is: its rows and joins, its keys or variables, or the arms of a switch are more than there are numbers, a row names
+/// states of which there is no set, or there is no map for it to begin with. Any other error is want of memory.
 pub fn witness(alloc: Global, p: &Program, fault: &FlowFault) -> Result<Option<Witness>, RowError>
     requires plain { HasNoBounds (program_of p.now) }
     ensures shows { IfOk result (λ r.

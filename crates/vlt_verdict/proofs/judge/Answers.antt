@@ -39,3 +39,13 @@ returns-in-Err-Refused-clause-tellable c =
     let e = c.in-Err-Refused in
     let first = c.check.ensures.first.holds e.fault (e.is ∙ ap (λ x. Err x) e.field-0-is) fit.well_formed in
     (first.func, first.there)
+
+pub returns-in-Err-Unfit-clause-unfit : goal.returns-in-Err-Unfit-clause-unfit
+returns-in-Err-Unfit-clause-unfit c =
+    let t = tree_of c.args.tree.now in
+    let fit = c.programs_are_fit.ensures t _ _ c.requires c.in-Ok.ensures.ok c.in-Ok-elaborate.ensures.ok in
+    let told = told_of t _ _ c.in-Ok.ensures.ok c.in-Ok-elaborate.ensures.ok in
+    let unfit = c.check.ensures.unfit.holds (c.in-Err-Unfit.is ∙ ap (λ x. Err x) c.in-Err-Unfit.field-0-is) in
+    record {
+      holds = λ e. record { program = program_of c.in-Ok-elaborate.program; told = told; unfit = c.only_bodies_are_unfit.ensures c.in-Ok-elaborate.program fit unfit };
+    }

@@ -2,7 +2,7 @@ use Rattle.std.proofs.Common.{◌≡◌, ◌<◌, ◌+◌, arith, ap, length, re
 use Rattle.vlt_core.specs.View.{program_of, func_of}
 use Rattle.vlt_check.specs.Checks.{fault_of}
 use Rattle.vlt_check.specs.Tellings.{IsTold}
-use Rattle.vlt_check.proofs.Listed.{checking_first, checking_more, checking_ends, refused_at, first_at, told_on}
+use Rattle.vlt_check.proofs.Listed.{checking_first, checking_more, checking_ends, refused_at, first_at, told_on, unfit_at, unfit_on, many_at}
 use Rattle.vlt_check.proofs.program.check_funcs.Goals as goal
 
 pub loop-f-init : goal.loop-f-init
@@ -36,3 +36,10 @@ returns-in-Err-clause-first c =
     told_on c.in-Err.error _ _ c.check_func.result _ c.in-Err.is refl c.check_func.ensures.refused
     (λ x q. first_at func_of (program_of c.args.p.now) c.args.p.now.fns _ _ _ (fault_of x) lt read refl c.loop-f.invariant.0 q.0
     (subst (λ n. IsTold (program_of c.args.p.now) (func_of c.f-item.result) n (fault_of x)) c.loop-f.invariant.1 q.1))
+
+pub returns-in-Err-clause-unfit : goal.returns-in-Err-clause-unfit
+returns-in-Err-clause-unfit c =
+    let lt : c.loop-f.f-index < length c.args.p.now.fns = omega (arith, ap length c.as_slice-f-items.ensures) in
+    let read = rw c.as_slice-f-items.ensures at c.f-item.is in
+    unfit_on c.in-Err.error c.check_func.result _ c.in-Err.is refl c.check_func.ensures.unfit
+    (λ q. unfit_at func_of (program_of c.args.p.now) c.args.p.now.fns _ _ lt read refl q.0 q.1)

@@ -1,18 +1,26 @@
 use Rattle.std.proofs.Common.{arith, ap, length, refl}
 use Rattle.vlt_core.specs.View.{program_of, func_of, entry_of}
-use Rattle.vlt_flow.proofs.Starting.{starting_first, entries_more, entries_end}
+use Rattle.vlt_flow.proofs.Starting.{starting_first, entries_more, entries_end, range_kept, entry_unfit, handed_unfit}
 use Rattle.vlt_flow.proofs.start.start_keys.Goals as goal
 
 pub loop-e-init : goal.loop-e-init
-loop-e-init c = starting_first _ _ _ _ c.in_ok-held.ensures.absent
+loop-e-init c = (starting_first _ _ _ _ c.in_ok-held.ensures.absent, c.in_ok-held.ensures.range)
 
 pub loop-e-preserved : goal.loop-e-preserved
 loop-e-preserved c =
-    entries_more entry_of (program_of c.args.p.now) (func_of c.args.f.now) c.args.f.now.clause _ _ _ _
+    (entries_more entry_of (program_of c.args.p.now) (func_of c.args.f.now) c.args.f.now.clause _ _ _ _
     (omega (arith, ap length c.as_slice-e-items.ensures)) (rw c.as_slice-e-items.ensures at c.e-item.is)
-    c.loop-e.invariant c.in_ok-give_key.ensures
+    c.loop-e.invariant.0 c.in_ok-give_key.ensures.started,
+    range_kept _ _ _ c.loop-e.invariant.1 c.in_ok-give_key.ensures.range)
 
-pub returns : goal.returns
-returns c =
+pub returns-in_err-give_key-clause-unfit : goal.returns-in_err-give_key-clause-unfit
+returns-in_err-give_key-clause-unfit c =
+    let u = c.in_err-give_key.ensures.unfit in
+    handed_unfit _ _ c.from_residual-in_err-give_key.ensures.1 u.0
+    (entry_unfit entry_of (program_of c.args.p.now) (func_of c.args.f.now) c.args.f.now.clause _ _
+    (omega (arith, ap length c.as_slice-e-items.ensures)) (rw c.as_slice-e-items.ensures at c.e-item.is) refl u.1 u.2)
+
+pub returns-clause-keys : goal.returns-clause-keys
+returns-clause-keys c =
     entries_end entry_of (program_of c.args.p.now) (func_of c.args.f.now) c.args.f.now.clause _ _
-    (omega (arith, c.loop-e-test.false, ap length c.as_slice-e-items.ensures)) refl c.loop-e.invariant
+    (omega (arith, c.loop-e-test.false, ap length c.as_slice-e-items.ensures)) refl c.loop-e.invariant.0

@@ -1,18 +1,22 @@
 use Rattle.std.proofs.Common.{arith, sym, ◌∙◌}
-use Rattle.vlt_flow.proofs.Starting.{vars_first, vars_given, vars_kept, vars_end}
+use Rattle.vlt_flow.proofs.Starting.{vars_first, vars_more, vars_kept, vars_end, range_kept, owning_place}
 use Rattle.vlt_flow.proofs.start.start_map_of.Goals as goal
-use Rattle.vlt_flow.proofs.start.start_map_of.Goals.{then-is_owning_var+in_ok-give, else-is_owning_var}
+use Rattle.vlt_flow.proofs.start.start_map_of.Goals.{then-is_owning_var, else-is_owning_var}
 
 pub loop-v-init : goal.loop-v-init
-loop-v-init c = vars_first _ _ _ c.in_ok-held.ensures
+loop-v-init c = (vars_first _ _ _ c.in_ok-held.ensures.keys, c.in_ok-held.ensures.range)
+
+pub give-requires : goal.give-requires
+give-requires c = owning_place _ _ _ c.loop-v.invariant.1 (sym c.is_owning_var.ensures ∙ c.if-is_owning_var.true)
 
 pub loop-v-preserved : goal.loop-v-preserved
 loop-v-preserved c = elim c.if-is_owning_var.branch [
-  | then-is_owning_var+in_ok-give w ↦
-      rw w.held-is (vars_given _ _ _ _ _ (sym c.is_owning_var.ensures ∙ w.if-is_owning_var.true) w.in_ok-give.ensures.passed c.loop-v.invariant)
+  | then-is_owning_var w ↦
+      rw w.held-is (vars_more _ _ _ _ _ (sym c.is_owning_var.ensures ∙ w.if-is_owning_var.true) w.give.ensures.given c.loop-v.invariant.0,
+      range_kept _ _ _ c.loop-v.invariant.1 w.give.ensures.range)
   | else-is_owning_var w ↦
-      rw w.held-is (vars_kept _ _ _ _ (sym c.is_owning_var.ensures ∙ w.if-is_owning_var.false) c.loop-v.invariant)
+      rw w.held-is (vars_kept _ _ _ _ (sym c.is_owning_var.ensures ∙ w.if-is_owning_var.false) c.loop-v.invariant.0, c.loop-v.invariant.1)
 ]
 
 pub returns : goal.returns
-returns c = vars_end _ _ _ _ (omega (arith, c.loop-v-test.false)) c.loop-v.invariant
+returns c = vars_end _ _ _ _ (omega (arith, c.loop-v-test.false)) c.loop-v.invariant.0

@@ -1,0 +1,22 @@
+-- Why a program is unfit for the check.
+use Rattle.std.specs.Prelude.{◌≡◌, ◌≤◌, ◌^◌, ℕ, false, length, Some, slice_get, Result, Err}
+use Rattle.vlt_core.specs.Core.{Func, Program}
+use Rattle.vlt_flow.specs.Unfit as walk
+use Rattle.vlt_judge.specs.Faulty.{IsFitIn}
+use Rattle.vlt_check.specs.declared.program.CheckError.{CheckError}
+use Rattle.vlt_check.specs.declared.program.CheckError.TheVariants.{Unfit}
+
+-- a fact for the one error that says so
+pub record IfUnfit {A : Type 0} (r : Result A CheckError) (p : Type 0) : Type 0 where
+  pub holds : r ≡ Err Unfit → p
+
+-- A body can't be walked; or of one that is refused no fault can be told, since a token of it is lent outside a focus or a
+-- set has no state.
+pub data IsUnfitBody (p : Program) (f : Func) : Type 0 where
+  no_walk : walk.IsUnfit p f → IsUnfitBody p f
+  no_fault : (IsFitIn p f → ⊥) → IsUnfitBody p f
+
+pub data IsUnfit (p : Program) : Type 0 where
+  -- the number after the last function has more than 32 bits
+  many_functions : 2 ^ 32 ≤ length p.fns → IsUnfit p
+  unfit_body : (n : ℕ) (f : Func) → slice_get p.fns n ≡ Some f → f.external ≡ false → IsUnfitBody p f → IsUnfit p
