@@ -9,4 +9,4 @@ pub mod Slots
 pub mod SourceRuns
 pub mod CRuns
 pub mod Samples
-mod Instanced
+pub mod Instanced

@@ -21,7 +21,7 @@ use Rattle.c_lower_laws.proofs.Codes.{below_more, up_self, alike_self, temp_give
 use Rattle.c_lower_laws.proofs.Doing.{set_goes}
 use Rattle.c_lower_laws.proofs.Expressions.{up_all}
 
-past_all_append : (t : Numbers) (xs ys : List Sort) → past_all t (xs ++ ys) ≡ past_all (past_all t xs) ys
+pub past_all_append : (t : Numbers) (xs ys : List Sort) → past_all t (xs ++ ys) ≡ past_all (past_all t xs) ys
 past_all_append t [] ys = refl
 past_all_append t (x ∷ xs) ys = past_all_append (past t x) xs ys
 

@@ -1,0 +1,9 @@
+pub mod Given
+pub mod Worlds
+pub mod Shapes
+pub mod Sorts
+pub mod Frames
+pub mod Same
+pub mod SameStatements
+pub mod Operands
+pub mod Parts
