@@ -1,4 +1,4 @@
--- The cells of a block: where the values of a field stand.
+-- The cells of a block: where the values of a field are.
 use Rattle.std.proofs.Common.{◌≡◌, ℕ, zero, suc, ◌+◌, List, [], ◌∷◌, ◌++◌, take, length, Option, Some, slice_get, Ok, length-append, append_assoc, refl, sym, ap, ◌∙◌, subst, arith}
 use Rattle.std.proofs.lemmas.Option.{none-some, same_Some}
 use Rattle.vlt_core.specs.Core.{FieldDecl, Program}

@@ -1,4 +1,4 @@
--- The slots of a variant: each payload stands in a slot of its sort, and the objects that it owns stand in order.
+-- The slots of a variant: each payload is in a slot of its sort, and the objects that it owns are in order.
 use Rattle.std.proofs.lemmas.Bool.Decides.{nat_tests}
 use Rattle.std.proofs.Common.{◌≡◌, ◌≤◌, ◌<◌, ℕ, zero, suc, ◌+◌, ◌==◌, Bool, true, false, if◌then◌else◌, List, [], ◌∷◌, ◌++◌, length, replicate, Some, slice_get, length-append, refl, sym, ap, ◌∙◌, subst, arith, None, append_assoc}
 use Rattle.std.proofs.lemmas.Bool.{eqb-true, eq-eqb}
@@ -61,7 +61,7 @@ unused_of_sort of_number = tt
 unused_of_sort of_reference = tt
 unused_of_sort of_owner = tt
 
--- the next payload stands in a slot of its sort, and the others after
+-- the next payload is in a slot of its sort, and the others after
 pub record IsNext (types : List ℕ) (t : Ty) (part : Part) (s : Starts) (ts : List Ty) (a b c : ℕ) : Type 0 where
   pub here : Zone (payload_sort t) a b c (start_of (payload_sort t) s)
   pub kind : IsOfSort (payload_sort t) (c_part part)
