@@ -1,0 +1,4 @@
+pub mod Laws
+pub mod NameLaws
+pub mod Values
+pub mod OperandLoops

@@ -1,0 +1,4 @@
+pub mod Tables
+pub mod Names
+pub mod Scopes
+pub mod Coded
