@@ -4,3 +4,4 @@ mod Plain
 mod Lexed
 pub mod Units
 pub mod ReadAgain
+pub mod Sizes

@@ -1,1 +1,3 @@
 pub mod ReadAgain
+pub mod Sizes
+pub mod SizeLaws
