@@ -1,0 +1,24 @@
+# Completion of bash for vaultc, bin/vaultc and bin/try. Load it by: source completions/vaultc.bash
+_vaultc() {
+    local word=${COMP_WORDS[COMP_CWORD]} before=${COMP_WORDS[COMP_CWORD - 1]} command=${COMP_WORDS[1]}
+    COMPREPLY=()
+    if [ "$COMP_CWORD" -eq 1 ]; then
+        mapfile -t COMPREPLY < <(compgen -W "check explain fmt run crun" -- "$word")
+        return
+    fi
+    case $before in
+        --fuel | --heap | --depth) return ;;
+        --input | --answers) compopt -o filenames; mapfile -t COMPREPLY < <(compgen -f -- "$word"); return ;;
+    esac
+    if [[ $word == -* ]]; then
+        case $command in
+            run | crun) mapfile -t COMPREPLY < <(compgen -W "--fuel --heap --depth --input --answers" -- "$word") ;;
+        esac
+        return
+    fi
+    local ending=v
+    [ "$command" = crun ] && ending=c
+    compopt -o filenames
+    mapfile -t COMPREPLY < <(compgen -f -X "!*.$ending" -- "$word"; compgen -d -- "$word")
+}
+complete -F _vaultc vaultc bin/vaultc bin/try
