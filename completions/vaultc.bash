@@ -1,4 +1,4 @@
-# Completion of bash for vaultc, bin/vaultc and bin/try. Load it by: source completions/vaultc.bash
+# Completion of bash for vaultc, bin/vaultc, bin/try and bin/show. Load it by: source completions/vaultc.bash
 _vaultc() {
     local word=${COMP_WORDS[COMP_CWORD]} before=${COMP_WORDS[COMP_CWORD - 1]} command=${COMP_WORDS[1]}
     COMPREPLY=()
@@ -22,3 +22,14 @@ _vaultc() {
     mapfile -t COMPREPLY < <(compgen -f -X "!*.$ending" -- "$word"; compgen -d -- "$word")
 }
 complete -F _vaultc vaultc bin/vaultc bin/try
+
+_vaultc_show() {
+    local word=${COMP_WORDS[COMP_CWORD]}
+    if [[ $word == -* ]]; then
+        mapfile -t COMPREPLY < <(compgen -W "--try --lines --sarif --html" -- "$word")
+        return
+    fi
+    compopt -o filenames
+    mapfile -t COMPREPLY < <(compgen -f -X "!*.v" -- "$word"; compgen -d -- "$word")
+}
+complete -F _vaultc_show bin/show
