@@ -29,7 +29,7 @@ use Rattle.vlt_fit_laws.specs.Unfit.{IsStillUnfit, wide_row, many_statements, Ha
 first_set : (n : ℕ) → 1 ≤ n → n ≤ 32 → (s : StateSet) × (has_state s ≡ (λ i. nat_lt i n))
 first_set n from within = (
   record { mask = 1 * 2 ^ n % 2 ^ 64 - 1; filled = first_filled n from within; small = first_fits n within },
-  (λ j i. first_bits n i within j)
+  (λ j i. first_bits n i within j),
 )
 
 -- no set has just these states, but it does

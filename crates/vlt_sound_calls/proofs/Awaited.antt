@@ -43,8 +43,8 @@ module _ (keys : List ℕ) (frame : Frame) where
       let rest = are_found js all.1 in (
         q.number ∷ rest.0,
         ap (λ x. or_fault missing x >>= (λ k. or_fault no_value (frame.keys k) >>= (λ n. named_objects keys frame js >>= (λ ns. Ok (n ∷ ns))))) q.is ∙
-        ap (λ x. or_fault no_value x >>= (λ n. named_objects keys frame js >>= (λ ns. Ok (n ∷ ns)))) q.named ∙
-        ap (λ x. x >>= (λ ns. Ok (q.number ∷ ns))) rest.1,
+            ap (λ x. or_fault no_value x >>= (λ n. named_objects keys frame js >>= (λ ns. Ok (n ∷ ns)))) q.named ∙
+            ap (λ x. x >>= (λ ns. Ok (q.number ∷ ns))) rest.1,
       )
 
 -- a key that is given is no new one

@@ -7,11 +7,12 @@ pub loop-e-init : goal.loop-e-init
 loop-e-init c = (starting_first _ _ _ _ c.in_ok-held.ensures.absent, c.in_ok-held.ensures.range)
 
 pub loop-e-preserved : goal.loop-e-preserved
-loop-e-preserved c =
-    (entries_more entry_of (program_of c.args.p.now) (func_of c.args.f.now) c.args.f.now.clause _ _ _ _
-    (omega (arith, ap length c.as_slice-e-items.ensures)) (rw c.as_slice-e-items.ensures at c.e-item.is)
-    c.loop-e.invariant.0 c.in_ok-give_key.ensures.started,
-    range_kept _ _ _ c.loop-e.invariant.1 c.in_ok-give_key.ensures.range)
+loop-e-preserved c = (
+  entries_more entry_of (program_of c.args.p.now) (func_of c.args.f.now) c.args.f.now.clause _ _ _ _
+      (omega (arith, ap length c.as_slice-e-items.ensures)) (rw c.as_slice-e-items.ensures at c.e-item.is)
+      c.loop-e.invariant.0 c.in_ok-give_key.ensures.started,
+  range_kept _ _ _ c.loop-e.invariant.1 c.in_ok-give_key.ensures.range,
+)
 
 pub returns-in_err-give_key-clause-unfit : goal.returns-in_err-give_key-clause-unfit
 returns-in_err-give_key-clause-unfit c =

@@ -12,8 +12,10 @@ give-requires c = owning_place _ _ _ c.loop-v.invariant.1 (sym c.is_owning_var.e
 pub loop-v-preserved : goal.loop-v-preserved
 loop-v-preserved c = elim c.if-is_owning_var.branch [
   | then-is_owning_var w ↦
-      rw w.held-is (vars_more _ _ _ _ _ (sym c.is_owning_var.ensures ∙ w.if-is_owning_var.true) w.give.ensures.given c.loop-v.invariant.0,
-      range_kept _ _ _ c.loop-v.invariant.1 w.give.ensures.range)
+      rw w.held-is (
+        vars_more _ _ _ _ _ (sym c.is_owning_var.ensures ∙ w.if-is_owning_var.true) w.give.ensures.given c.loop-v.invariant.0,
+        range_kept _ _ _ c.loop-v.invariant.1 w.give.ensures.range,
+      )
   | else-is_owning_var w ↦
       rw w.held-is (vars_kept _ _ _ _ (sym c.is_owning_var.ensures ∙ w.if-is_owning_var.false) c.loop-v.invariant.0, c.loop-v.invariant.1)
 ]
