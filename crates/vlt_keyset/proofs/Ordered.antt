@@ -40,6 +40,15 @@ is_same (a_var v) = same_number v
 pub other_tok : (t u : Tok) (b : Bool) → b ≡ is_tok t u → b ≡ false → (t ≡ u → ⊥)
 other_tok t u b is differ e = true≢false (sym (is_same t) ∙ ap (is_tok t) e ∙ sym is ∙ differ)
 
+equal_number : (k j : ℕ) → (k == j) ≡ true → k ≡ j
+equal_number k j e = grind (arith, nat_tests)
+
+pub equal_tok : (t u : Tok) → is_tok t u ≡ true → t ≡ u
+equal_tok (a_key k) (a_key j) e = ap a_key (equal_number k j e)
+equal_tok (a_key k) (a_var j) e = cc
+equal_tok (a_var k) (a_key j) e = cc
+equal_tok (a_var k) (a_var j) e = ap a_var (equal_number k j e)
+
 pub before_trans : (t u w : Tok) → IsBefore t u → IsBefore u w → IsBefore t w
 before_trans (a_key k) (a_key j) (a_key i) p q = omega arith
 before_trans (a_key k) (a_key j) (a_var w) p q = tt
