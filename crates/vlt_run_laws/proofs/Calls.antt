@@ -1,22 +1,22 @@
 -- The keys of a call that is known name objects.
 use Rattle.std.proofs.Common.{◌≡◌, ⊎_elim, ℕ, ◌<◌, ◌==◌, nat_lt, Bool, true, false, ◌&&◌, ◌||◌, if◌then◌else◌, List, [], ◌∷◌, ◌++◌, map, filter, length, Option, Some, refl, sym, ap, ◌∙◌, subst, arith, slice_get}
 use Rattle.std.proofs.lemmas.Bool.{eqb-true}
-use Rattle.std.specs.List.{flat_map, list_any, list_all, range_with_len, enumerate_from}
+use Rattle.std.specs.List.{list_any, list_all, range_with_len}
 use Rattle.vlt_core.specs.Core.{Form, call, Operand, Entry, Func, Program}
 use Rattle.vlt_core.specs.Kinded.{IsKinded}
 use Rattle.vlt_core.specs.Lookups.{is_new}
 use Rattle.vlt_core.specs.Types.{stands_for}
-use Rattle.vlt_core.specs.KindedHeads.{unless, has, parameters_of, keys_of_parameters, new_keys}
+use Rattle.vlt_core.specs.KindedHeads.{has, keys_of_parameters, new_keys}
 use Rattle.vlt_core.specs.KindedScopes.{Ids}
-use Rattle.vlt_core.specs.KindedCalls.{keys_fit, clause_keys_broken, arguments_broken, caller_type, caller_keys_broken, call_target_broken, call_broken}
-use Rattle.vlt_core.specs.declared.rules.TheConstants as rule
+use Rattle.vlt_core.specs.KindedCalls.{keys_fit, call_broken}
 use Rattle.vlt_meaning.specs.World.{Frame, World}
 use Rattle.vlt_meaning.specs.Calls.{is_new_key}
 use Rattle.vlt_machine.specs.Reached.{NamesKeys, NamesItsKeys}
-use Rattle.vlt_sound_worlds.proofs.Empty.{both_empty, both_so, unless_so}
+use Rattle.vlt_sound_worlds.proofs.Empty.{both_so}
 use Rattle.vlt_sound_calls.specs.Callee.{IsParamKey, IsCall}
 use Rattle.vlt_sound_calls.proofs.Parameters.{in_range}
 use Rattle.vlt_sound_calls.specs.Meet.{HasFunctions}
+use Rattle.vlt_sound_calls.proofs.CallRules.{unbroken_call}
 use Rattle.vlt_sound_calls.proofs.Statics.{is_call}
 use Rattle.vlt_sound.specs.Sizes.{HasSizes}
 use Rattle.vlt_sound.proofs.Functions.{has_functions}
@@ -58,32 +58,8 @@ new_has (e ∷ es) k = by (is_new e) (new_has es k)
 
 module _ (p : Program) (f : Func) (ids : Ids) (g : Func) (target : Option ℕ) (keys : List ℕ) (args : List Operand)
     (broken : call_broken p f ids (Some g) target keys args ≡ []) where
-  abbrev numbers : List ℕ
-  numbers = flat_map (λ k. unless (nat_lt k (length f.keys)) rule.UNKNOWN_NAME) keys
-
-  abbrev fit : List ℕ
-  fit = unless (keys_fit g keys) rule.TWO_CALLER_KEYS
-
-  abbrev count : List ℕ
-  count = unless (length args == length (parameters_of g)) rule.WRONG_COUNT
-
-  abbrev met : List ℕ
-  met = if keys_fit g keys then clause_keys_broken g keys else []
-
-  abbrev given : List ℕ
-  given = arguments_broken p f ids (map (caller_type keys) (parameters_of g)) args
-
-  abbrev in_scope : List ℕ
-  in_scope = caller_keys_broken f ids g (enumerate_from 0 keys)
-
   keys_do_fit : keys_fit g keys ≡ true
-  keys_do_fit =
-      let a = both_empty (numbers ++ fit ++ count ++ met ++ given ++ in_scope) (call_target_broken f ids g keys target) broken in
-      let b = both_empty (numbers ++ fit ++ count ++ met ++ given) in_scope a.0 in
-      let c = both_empty (numbers ++ fit ++ count ++ met) given b.0 in
-      let d = both_empty (numbers ++ fit ++ count) met c.0 in
-      let e = both_empty (numbers ++ fit) count d.0 in
-      unless_so (keys_fit g keys) rule.TWO_CALLER_KEYS (both_empty numbers fit e.0).1
+  keys_do_fit = (unbroken_call p f ids g target keys args broken).fit
 
   -- a key that a call has, that of a new object aside, is one of the parameters
   param_key : (j : ℕ) → j < length keys → is_new_key g j ≡ false → IsParamKey g j

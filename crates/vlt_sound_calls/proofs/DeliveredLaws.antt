@@ -35,12 +35,12 @@ use Rattle.vlt_sound_calls.proofs.ResultsLaws.{owning_with, result_same, caller_
 use Rattle.vlt_meaning.specs.Step.{is_fillable, fill, deliver}
 use Rattle.vlt_sound_calls.specs.ReturnGiven.{IsGiven}
 
-not_so : (b : Bool) → not b ≡ true → b ≡ false
+pub not_so : (b : Bool) → not b ≡ true → b ≡ false
 not_so true e = cc
 not_so false e = refl
 
 -- what owns nothing need not be handed over
-let_be : {p : Program} {f : Func} {c : Context} {h : HeldMap} {ids : Ids} {frame : Frame} {os : List Object} (x : Handed) →
+pub let_be : {p : Program} {f : Func} {c : Context} {h : HeldMap} {ids : Ids} {frame : Frame} {os : List Object} (x : Handed) →
     Agrees p f c h ids (x ∷ []) frame os → objects_in x.value ≡ [] →
     (q : Agrees p f c h ids [] frame os) × Fits p (scene c os q.heads) frame.keys x.type x.value
 let_be {c = c} {frame = frame} {os = os} x agrees none = (

@@ -1,29 +1,27 @@
 -- The caller goes on with what its callee gave.
-use Rattle.std.proofs.Common.{◌≡◌, ◌⊎◌, inl, inr, ⊎_elim, ℕ, ◌<◌, nat_lt, Bool, true, false, ◌&&◌, not, if◌then◌else◌, List, [], ◌∷◌, ◌++◌, filter, length, Option, Some, None, is_some, refl, sym, ap, ◌∙◌, subst, slice_get}
+use Rattle.std.proofs.Common.{◌≡◌, ◌⊎◌, ⊎_elim, ℕ, ◌<◌, Bool, true, false, ◌&&◌, not, if◌then◌else◌, List, [], ◌∷◌, length, Option, Some, None, is_some, refl, sym, ap, ◌∙◌, subst, slice_get}
 use Rattle.std.proofs.lemmas.Bool.{cases_Bool}
 use Rattle.std.proofs.lemmas.List.{append-nil}
-use Rattle.std.proofs.lemmas.Option.{slice_get_within, same_Some}
-use Rattle.vlt_core.specs.Core.{Ty, variant, a_var, Func, Program}
+use Rattle.std.proofs.lemmas.Option.{slice_get_within}
+use Rattle.vlt_core.specs.Core.{Ty, a_var, Func, Program}
 use Rattle.vlt_core.specs.Lookups.{var_type, is_owning, is_owning_var, owns, is_held_after}
-use Rattle.vlt_core.specs.Types.{is_owning_type, same_ty, keys_of_ty, stands_for, with_keys}
-use Rattle.vlt_core.specs.Maps.{kind_of, is_absent, HeldMap, wants_absent, becomes_full, row_passed, CanPass, map_after}
+use Rattle.vlt_core.specs.Types.{same_ty, stands_for, with_keys}
+use Rattle.vlt_core.specs.Maps.{HeldMap, wants_absent, becomes_full, CanPass, map_after}
 use Rattle.vlt_core.specs.Rows.{row, clause_rows, fill_rows, target_rows}
-use Rattle.vlt_core.specs.KindedHeads.{has, unless, when_some, new_keys, keys_of_parameters, keys_of_result}
+use Rattle.vlt_core.specs.KindedHeads.{has, when_some, new_keys, keys_of_parameters, keys_of_result}
 use Rattle.vlt_core.specs.declared.rules.TheConstants as rule
 use Rattle.vlt_core.specs.KindedScopes.{Ids, with_binding, with_target, own_key, binding_broken, target_broken}
 use Rattle.vlt_core.specs.KindedOperands.{is_owning_some}
-use Rattle.vlt_core.specs.KindedCalls.{is_fresh_call, caller_type, result_misfit, result_broken_by, call_target_broken, with_call_target}
-use Rattle.vlt_meaning.specs.World.{Value, objects_in, Object, Frame, World, no_value, not_empty}
+use Rattle.vlt_core.specs.KindedCalls.{is_fresh_call, result_misfit, result_broken_by, call_target_broken, with_call_target}
+use Rattle.vlt_meaning.specs.World.{Value, objects_in, Frame, World, no_value, not_empty}
 use Rattle.vlt_meaning.specs.Found.{or_fault}
-use Rattle.vlt_meaning.specs.Step.{Step, goes, leaves, with_found, where_so, with_objects, is_fillable, fill, deliver}
+use Rattle.vlt_meaning.specs.Step.{leaves, with_objects, is_fillable, fill, deliver}
 use Rattle.vlt_meaning.specs.Calls.{with_names, back_in}
 use Rattle.vlt_sound_worlds.specs.Members.{In}
-use Rattle.vlt_sound_worlds.specs.Look.{look}
-use Rattle.vlt_sound_worlds.specs.Placed.{IsPlaced}
-use Rattle.vlt_sound_worlds.specs.Roots.{owned_by, content, home, owner_of}
+use Rattle.vlt_sound_worlds.specs.Roots.{owned_by}
 use Rattle.vlt_sound_worlds.specs.Fits.{Fits}
-use Rattle.vlt_sound_worlds.proofs.Fits.{fits_named, fits_before, fits_kept}
-use Rattle.vlt_sound_worlds.specs.Agrees.{InScope, Handed, values_of, FitHanded, Context, scene, Agrees}
+use Rattle.vlt_sound_worlds.proofs.Fits.{fits_named, fits_before}
+use Rattle.vlt_sound_worlds.specs.Agrees.{InScope, Handed, Context, scene, Agrees}
 use Rattle.vlt_sound_worlds.specs.Typed.{IsTyped}
 use Rattle.vlt_sound_worlds.specs.Safe.{Safe, goes_to}
 use Rattle.vlt_sound_worlds.proofs.Empty.{both_empty, both_so, unless_so}
@@ -36,38 +34,12 @@ use Rattle.vlt_sound_worlds.specs.Scoped.{IsScoped}
 use Rattle.vlt_sound_worlds.proofs.Binding.{binding_kept}
 use Rattle.vlt_sound_calls.specs.Returned.{IsEntered, FitsResult, Returned}
 use Rattle.vlt_sound_calls.specs.Heads.{HasHead}
-use Rattle.vlt_sound_calls.specs.Callee.{caller_key, IsCall, callee_context}
-use Rattle.vlt_sound_calls.proofs.Rekeyed.{rekeyed_grows, rekeyed_states}
+use Rattle.vlt_sound_calls.specs.Callee.{IsCall, callee_context}
 use Rattle.vlt_sound_calls.specs.Fresh.{IsFreshCall}
+use Rattle.vlt_sound_calls.proofs.DeliveredLaws.{not_so, let_be}
 use Rattle.vlt_sound_calls.proofs.Pairs.{entry_number, filtered_among}
 use Rattle.vlt_sound_calls.proofs.ResultsLaws.{owning_with, result_same, caller_type_is, same_fits, same_owning, new_is_after, new_entry, binding_scope}
-use Rattle.vlt_sound_calls.proofs.Back.{names_frame, back_names, back_objects, back_frame, back_map, same_length, rekeyed, callee_name, lasting, is_kept, named_back, keep_scoped, agrees_again}
-
-not_so : (b : Bool) → not b ≡ true → b ≡ false
-not_so true e = cc
-not_so false e = refl
-
--- what owns nothing need not be handed over
-dropped : {p : Program} {f : Func} {c : Context} {h : HeldMap} {ids : Ids} {frame : Frame} {os : List Object} (x : Handed) →
-    Agrees p f c h ids (x ∷ []) frame os → objects_in x.value ≡ [] →
-    (q : Agrees p f c h ids [] frame os) × Fits p (scene c os q.heads) frame.keys x.type x.value
-dropped {c = c} {frame = frame} {os = os} x agrees none = (
-  record {
-    heads = agrees.heads;
-    placed =
-        subst (λ ns. IsPlaced (content (record { vars = frame.vars; hand = ns ++ []; waits = λ d. (c.waiting d).frame.vars; objects = look os })) home (owner_of (look os)))
-        none agrees.placed;
-    ranked = agrees.ranked;
-    objects = agrees.objects;
-    adopted = agrees.adopted;
-    keys = agrees.keys;
-    vars = agrees.vars;
-    fit = agrees.fit;
-    handed = tt;
-    rest = agrees.rest;
-  },
-  agrees.handed.0,
-)
+use Rattle.vlt_sound_calls.proofs.Back.{names_frame, back_names, back_objects, back_frame, back_map, callee_name, lasting, is_kept, named_back, keep_scoped, agrees_again}
 
 module _ {p : Program} {f : Func} {c : Context} {h : HeldMap} {ids : Ids} {hand : List Handed} {frame : Frame} (w0 : World)
     (agrees : Agrees p f c h ids hand frame w0.objects) (g : Func) (keys : List ℕ) (call : IsCall p f g ids keys)
@@ -163,7 +135,7 @@ module _ {p : Program} {f : Func} {c : Context} {h : HeldMap} {ids : Ids} {hand 
           let wt_plain : is_owning wt ≡ false = sym (owning_with keys wt) ∙ (ap is_owning type ∙ off) in
           let none = plain_given wt result wt_plain in
           let empty : objects_in b.value ≡ [] = sym (ap owned_by b.is) ∙ none in
-          let now = dropped (record { value = b.value; type = with_keys keys wt }) (with_result wt b) empty in
+          let now = let_be (record { value = b.value; type = with_keys keys wt }) (with_result wt b) empty in
           let no_rows : fill_rows f (v ∷ []) ≡ [] = rw owner refl in
           subst (λ rs. Safe (goes_to p f c (map_after rs map') ids' []) (fill f v b.value frame' w')) (sym no_rows)
           (so_safe (goes_to p f c map' ids' []) (is_fillable f v frame') not_empty None w' _

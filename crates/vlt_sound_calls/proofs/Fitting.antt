@@ -6,8 +6,7 @@ use Rattle.vlt_meaning.specs.Found.{or_fault}
 use Rattle.vlt_meaning.specs.Objects.{objects_after_move}
 use Rattle.vlt_meaning.specs.HostAnswers.{answer_of}
 use Rattle.vlt_meaning.specs.Externals.{come_back, case_objects, Fitting, fitting}
-use Rattle.vlt_sound_calls.proofs.GivenLaws.{found_then}
-use Rattle.vlt_sound_calls.proofs.TakenOver.{same_ok}
+use Rattle.vlt_sound_calls.proofs.Finding.{found_then, same_ok}
 
 was_there : {A : Type 0} (r : Reason) (o : Option A) (a : A) → or_fault r o ≡ Ok a → o ≡ Some a
 was_there r (Some b) a e = ap Some (same_ok b a e)

@@ -1,5 +1,5 @@
 -- The objects of keys that are given come back, one after another.
-use Rattle.std.proofs.Common.{◌≡◌, inl, inr, ⊎_elim, ℕ, ◌<◌, Bool, true, false, if◌then◌else◌, List, [], ◌∷◌, length, Option, Some, None, Ok, Err, refl, sym, ap, ◌∙◌, subst, slice_get}
+use Rattle.std.proofs.Common.{◌≡◌, inl, inr, ⊎_elim, ℕ, ◌<◌, Bool, true, false, if◌then◌else◌, List, [], ◌∷◌, length, Option, Some, None, Ok, refl, sym, ap, ◌∙◌, subst, slice_get}
 use Rattle.std.proofs.lemmas.Option.{same_Some, slice_get_within}
 use Rattle.vlt_core.specs.Core.{a_key, Entry, Func, Program}
 use Rattle.vlt_core.specs.Lookups.{key_type}
@@ -7,8 +7,8 @@ use Rattle.vlt_core.specs.Maps.{held, absent, HeldMap, row_passed}
 use Rattle.vlt_core.specs.KindedScopes.{Ids}
 use Rattle.vlt_meaning.specs.World.{Owner, out, is_out, Object, Frame, Reason, missing, not_owned}
 use Rattle.vlt_meaning.specs.World as world
-use Rattle.vlt_meaning.specs.Found.{Found, ◌>>=◌, or_fault, Named, if_so}
-use Rattle.vlt_meaning.specs.Objects.{named_in, object_at, owned_at, with_owner, with_changed_object, objects_after_move}
+use Rattle.vlt_meaning.specs.Found.{Found, ◌>>=◌, or_fault, if_so}
+use Rattle.vlt_meaning.specs.Objects.{object_at, owned_at, with_owner, with_changed_object, objects_after_move}
 use Rattle.vlt_meaning.specs.Externals.{is_given, come_back}
 use Rattle.vlt_sound_worlds.specs.Look.{look}
 use Rattle.vlt_sound_worlds.proofs.Look.{look_is}
@@ -23,42 +23,8 @@ use Rattle.vlt_sound_calls.specs.Returned.{IsEntered}
 use Rattle.vlt_sound_calls.specs.Callee.{caller_key}
 use Rattle.vlt_sound_calls.proofs.Typing.{keys_typed}
 use Rattle.vlt_sound_worlds.proofs.Returning.{agrees_back}
+use Rattle.vlt_sound_calls.proofs.Finding.{found_then, same_ok, was_there, was_so, was_named, out_is}
 use Rattle.vlt_sound_calls.specs.Given.{whatever, back_row, came, AreGivable}
-
--- ---- what was found
-
-pub record WasFound {A B : Type 0} (a : Found A) (go : A → Found B) (b : B) : Type 0 where
-  pub first : A
-  pub was : a ≡ Ok first
-  pub rest : go first ≡ Ok b
-
-pub found_then : {A B : Type 0} (a : Found A) (go : A → Found B) (b : B) → (a >>= go) ≡ Ok b → WasFound a go b
-found_then (Ok x) go b e = record { first = x; was = refl; rest = e }
-found_then (Err o) go b e = cc
-
-same_ok : {A : Type 0} (a b : A) → ◌≡◌ {A = Found A} (Ok a) (Ok b) → a ≡ b
-same_ok a b e = cc
-
-was_there : {A : Type 0} (r : Reason) (o : Option A) (a : A) → or_fault r o ≡ Ok a → o ≡ Some a
-was_there r (Some b) a e = ap Some (same_ok b a e)
-was_there r None a e = cc
-
-was_so : (b : Bool) (r : Reason) (m n : Named) → if_so b r m ≡ Ok n → b ≡ true
-was_so true r m n e = refl
-was_so false r m n e = cc
-
-was_named : (n : ℕ) (o : Option Object) (m : Named) → named_in n o ≡ Ok m → o ≡ Some m.object
-was_named n (Some o) m e = ap (λ m. Some m.object) (same_ok (record { number = n; object = o }) m e)
-was_named n None m e = cc
-
-out_is : (q : Owner) → is_out q ≡ true → q ≡ out
-out_is out e = refl
-out_is (world.held d k) e = cc
-out_is (world.lent d k) e = cc
-out_is world.loose e = cc
-out_is (world.inside n) e = cc
-out_is (world.adopted_by n) e = cc
-out_is world.gone e = cc
 
 -- one object came back
 record CameBack (os back : List Object) (q : Owner) (n : ℕ) : Type 0 where

@@ -46,7 +46,8 @@ use Rattle.vlt_sound_calls.proofs.PiecesLaws.{number_safe, new_safe}
 use Rattle.vlt_sound_calls.specs.ReturnHeads.{HasHostHead}
 use Rattle.vlt_sound_calls.specs.TakenOver as over
 use Rattle.vlt_sound_calls.specs.TakenOver.{AreTakenOver, NamesObject}
-use Rattle.vlt_sound_calls.proofs.TakenOver.{same_ok, taken_over, over_all}
+use Rattle.vlt_sound_calls.proofs.Finding.{same_ok}
+use Rattle.vlt_sound_calls.proofs.TakenOver.{taken_over, over_all}
 use Rattle.vlt_sound_calls.proofs.Cases.{case_safe}
 use Rattle.vlt_sound_calls.proofs.References.{reference_safe}
 use Rattle.vlt_sound_calls.specs.HostAnswers.{map_after_sending, answer_step, AreNamed, AnswersAreSafe}

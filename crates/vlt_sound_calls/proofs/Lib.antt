@@ -10,6 +10,7 @@ pub mod Typing
 pub mod Begins
 pub mod EnteringLaws
 pub mod Telling
+pub mod Finding
 pub mod GivenLaws
 pub mod Pairs
 pub mod Places
@@ -24,6 +25,7 @@ pub mod ReturnTelling
 pub mod ResultsPieces
 pub mod Cases
 pub mod References
+pub mod CallRules
 pub mod Statics
 pub mod BodiesLaws
 pub mod Taking

@@ -12,7 +12,7 @@ use Rattle.vlt_core.specs.KindedHeads.{has, are_apart, unless, when_some, parame
 use Rattle.vlt_core.specs.declared.rules.TheConstants as rule
 use Rattle.vlt_core.specs.KindedScopes.{Ids, own_key, tracked_key, fresh_broken, binding_broken, target_broken}
 use Rattle.vlt_core.specs.KindedOperands.{is_owning_some, operand_broken, operands_broken}
-use Rattle.vlt_core.specs.KindedCalls.{is_fresh_call, keys_fit, gives_other_keys, argument_type, argument_broken_by, arguments_broken, caller_type, clause_keys_broken, caller_keys_broken, result_misfit, result_broken_by, call_target_broken, call_broken}
+use Rattle.vlt_core.specs.KindedCalls.{is_fresh_call, gives_other_keys, argument_type, argument_broken_by, arguments_broken, caller_type, clause_keys_broken, caller_keys_broken, result_misfit, result_broken_by, call_target_broken, call_broken}
 use Rattle.vlt_meaning.specs.Calls.{is_new_key}
 use Rattle.vlt_sound_worlds.specs.Members.{In}
 use Rattle.vlt_sound_worlds.proofs.Members.{in_either}
@@ -25,6 +25,7 @@ use Rattle.vlt_sound_worlds.proofs.Starting.{has_left, has_right, has_in}
 use Rattle.vlt_sound_worlds.proofs.Binding.{first_or_other, binding_kept}
 use Rattle.vlt_sound_worlds.proofs.Fresh.{is_fresh as key_is_fresh}
 use Rattle.vlt_sound_calls.specs.Heads.{IsNewKey, HasHead}
+use Rattle.vlt_sound_calls.proofs.CallRules.{IsUnbrokenCall, unbroken_call}
 use Rattle.vlt_sound_calls.specs.Callee.{Among, AreApartBy, caller_key, IsParamKey, IsCall}
 use Rattle.vlt_sound_calls.proofs.Parameters.{in_range}
 use Rattle.vlt_sound_calls.specs.Fresh.{IsFreshCall}
@@ -230,51 +231,14 @@ tracked_same k t args (owning_variant u others) e = cc
 module _ {p : Program} {f : Func} {c : Context} {ids : Ids} {g : Func} (target : Option ℕ) (keys : List ℕ) (args : List Operand)
     (head : HasHead p g) (typed : IsTyped p f) (scoped : IsScoped f c ids) (meet : KeysMeet p f g)
     (broken : call_broken p f ids (Some g) target keys args ≡ []) where
-  abbrev numbers : List ℕ
-  numbers = flat_map (λ k. unless (nat_lt k (length f.keys)) rule.UNKNOWN_NAME) keys
-
-  abbrev fit : List ℕ
-  fit = unless (keys_fit g keys) rule.TWO_CALLER_KEYS
-
-  abbrev count : List ℕ
-  count = unless (length args == length (parameters_of g)) rule.WRONG_COUNT
-
-  abbrev met : List ℕ
-  met = if keys_fit g keys then clause_keys_broken g keys else []
-
-  abbrev given_args : List ℕ
-  given_args = arguments_broken p f ids (map (caller_type keys) (parameters_of g)) args
-
-  abbrev in_scope : List ℕ
-  in_scope = caller_keys_broken f ids g (enumerate_from 0 keys)
-
-  no_target : (numbers ++ fit ++ count ++ met ++ given_args ++ in_scope ≡ []) × (call_target_broken f ids g keys target ≡ [])
-  no_target =
-      both_empty (numbers ++ fit ++ count ++ met ++ given_args ++ in_scope) (call_target_broken f ids g keys target) broken
-
-  no_scope : (numbers ++ fit ++ count ++ met ++ given_args ≡ []) × (in_scope ≡ [])
-  no_scope = both_empty (numbers ++ fit ++ count ++ met ++ given_args) in_scope no_target.0
-
-  no_args : (numbers ++ fit ++ count ++ met ≡ []) × (given_args ≡ [])
-  no_args = both_empty (numbers ++ fit ++ count ++ met) given_args no_scope.0
-
-  no_met : (numbers ++ fit ++ count ≡ []) × (met ≡ [])
-  no_met = both_empty (numbers ++ fit ++ count) met no_args.0
-
-  no_count : (numbers ++ fit ≡ []) × (count ≡ [])
-  no_count = both_empty (numbers ++ fit) count no_met.0
-
-  no_fit : (numbers ≡ []) × (fit ≡ [])
-  no_fit = both_empty numbers fit no_count.0
-
-  fits : keys_fit g keys ≡ true
-  fits = unless_so (keys_fit g keys) rule.TWO_CALLER_KEYS no_fit.1
+  rules : IsUnbrokenCall p f ids g target keys args
+  rules = unbroken_call p f ids g target keys args broken
 
   within : (k : ℕ) → has (keys_of_parameters g ++ new_keys g) k ≡ true → k < length keys
   within k t =
       ltb-true k (length keys)
       (all_has (λ k. nat_lt k (length keys)) (keys_of_parameters g ++ new_keys g)
-      (both_so (list_all (has (keys_of_parameters g ++ new_keys g)) (range_with_len 0 (length keys))) (list_all (λ k. nat_lt k (length keys)) (keys_of_parameters g ++ new_keys g)) fits).1 k t)
+      (both_so (list_all (has (keys_of_parameters g ++ new_keys g)) (range_with_len 0 (length keys))) (list_all (λ k. nat_lt k (length keys)) (keys_of_parameters g ++ new_keys g)) rules.fit).1 k t)
 
   param_there : (k : ℕ) → IsParamKey g k → slice_get keys k ≡ Some (stands_for keys k)
   param_there k t = stands keys k (within k (has_left k (keys_of_parameters g) (new_keys g) t))
@@ -314,7 +278,7 @@ module _ {p : Program} {f : Func} {c : Context} {ids : Ids} {g : Func} (target :
 
   same_count : length args ≡ length (parameters_of g)
   same_count =
-      eqb-true (length args) (length (parameters_of g)) (unless_so (length args == length (parameters_of g)) rule.WRONG_COUNT no_count.1)
+      eqb-true (length args) (length (parameters_of g)) (unless_so (length args == length (parameters_of g)) rule.WRONG_COUNT rules.count)
 
   pub args_long : length args ≡ length (map (with_keys keys) (parameters_of g))
   args_long = same_count ∙ sym (length-map (parameters_of g) (with_keys keys))
@@ -323,7 +287,7 @@ module _ {p : Program} {f : Func} {c : Context} {ids : Ids} {g : Func} (target :
   first_so : (k : ℕ) → k < length keys → has (keys_of_parameters g ++ new_keys g) k ≡ true
   first_so k lt =
       all_has (has (keys_of_parameters g ++ new_keys g)) (range_with_len 0 (length keys))
-      (both_so (list_all (has (keys_of_parameters g ++ new_keys g)) (range_with_len 0 (length keys))) (list_all (λ k. nat_lt k (length keys)) (keys_of_parameters g ++ new_keys g)) fits).0 k
+      (both_so (list_all (has (keys_of_parameters g ++ new_keys g)) (range_with_len 0 (length keys))) (list_all (λ k. nat_lt k (length keys)) (keys_of_parameters g ++ new_keys g)) rules.fit).0 k
       (in_range k 0 (length keys) (omega arith) (omega arith))
 
   entry_has : (es : List Entry) (e : Entry) → Among e es → has (map (λ e. e.key) es) e.key ≡ true
@@ -362,10 +326,10 @@ module _ {p : Program} {f : Func} {c : Context} {ids : Ids} {g : Func} (target :
   pub args_fit : operands_broken p f ids (map (with_keys keys) (parameters_of g)) args ≡ []
   args_fit =
       arguments_fit p f ids keys (parameters_of g) args
-      (params_known (parameters_of g) (λ k t. within k (has_left k (keys_of_parameters g) (new_keys g) t))) same_count no_args.1
+      (params_known (parameters_of g) (λ k t. within k (has_left k (keys_of_parameters g) (new_keys g) t))) same_count rules.arguments
 
   pub target_fit : call_target_broken f ids g keys target ≡ []
-  target_fit = no_target.1
+  target_fit = rules.target_fits
 
   pub is_call : IsCall p f g ids keys
   is_call = record {
@@ -382,9 +346,9 @@ module _ {p : Program} {f : Func} {c : Context} {ids : Ids} {g : Func} (target :
         apart_by (caller_key keys) g.clause
         (subst (λ ks. are_apart ks ≡ true) (callers_are keys g.clause entry_there)
         (unless_so (are_apart (filter_map (λ e. slice_get keys e.key) g.clause)) rule.CLAUSE_KEYS_MEET
-        (subst (λ b. (if b then clause_keys_broken g keys else []) ≡ []) fits no_met.1)));
-    scoped = λ k t. old_in_scope f ids g 0 keys no_scope.1 k (stands_for keys k) (param_there k t)
-        (ap (has (new_keys g)) (omega arith) ∙ param_old k t) (known_key f keys no_fit.0 k (stands_for keys k) (param_there k t));
+        (subst (λ b. (if b then clause_keys_broken g keys else []) ≡ []) rules.fit rules.met)));
+    scoped = λ k t. old_in_scope f ids g 0 keys rules.in_scope k (stands_for keys k) (param_there k t)
+        (ap (has (new_keys g)) (omega arith) ∙ param_old k t) (known_key f keys rules.numbers k (stands_for keys k) (param_there k t));
     typed = λ k t param type. meet.types ids keys args args_long args_fit k t param type;
   }
 
@@ -456,7 +420,7 @@ module _ {p : Program} {f : Func} {c : Context} {ids : Ids} {g : Func} (target :
     fresh = λ e i t.
         let n = new_target e i t in
         key_is_fresh scoped (caller_key keys e) [] tt
-        (known_key f keys no_fit.0 e.key (caller_key keys e) (entry_there e i))
+        (known_key f keys rules.numbers e.key (caller_key keys e) (entry_there e i))
         (subst (λ o. fresh_broken f ids o ≡ []) (ap tracked_key n.is) n.fresh);
     typed = λ e t args i new is.
         let n = new_target e i new in

@@ -1,41 +1,18 @@
 -- Objects that come from the host and that values have, as the objects around them change.
-use Rattle.std.proofs.Common.{◌≡◌, inl, inr, ⊎_elim, ℕ, ◌+◌, ◌<◌, ◌≤◌, Bool, true, false, List, [], ◌∷◌, ◌++◌, length, Option, Some, None, Ok, refl, sym, ap, ◌∙◌, subst, arith, slice_get}
+use Rattle.std.proofs.Common.{◌≡◌, inl, inr, ⊎_elim, ℕ, ◌+◌, ◌<◌, ◌≤◌, List, [], ◌∷◌, ◌++◌, length, None, Ok, sym, ap, ◌∙◌, subst, arith, slice_get}
 use Rattle.std.proofs.lemmas.Bool.{cases_eq}
 use Rattle.std.proofs.lemmas.List.{length-append}
 use Rattle.std.proofs.lemmas.Option.{slice_get_within, slice_get_cases, slice_get_past}
-use Rattle.vlt_meaning.specs.World.{Owner, loose, out, gone, is_out, Object, Reason, not_owned}
-use Rattle.vlt_meaning.specs.World as world
-use Rattle.vlt_meaning.specs.Found.{Found, Named, if_so}
-use Rattle.vlt_meaning.specs.Objects.{named_in, object_at, owned_at, with_owner, with_state, with_changed_object, changed_in, objects_after_move}
+use Rattle.vlt_meaning.specs.World.{loose, out, gone, is_out, Object, not_owned}
+use Rattle.vlt_meaning.specs.Found.{Named, if_so}
+use Rattle.vlt_meaning.specs.Objects.{object_at, owned_at, with_owner, with_state, with_changed_object, changed_in, objects_after_move}
 use Rattle.vlt_meaning.specs.Externals.{with_states}
 use Rattle.vlt_sound_worlds.specs.Look.{look, ChangesOne}
 use Rattle.vlt_sound_worlds.proofs.Look.{look_is, changes_one, makes_one, live_within}
 use Rattle.vlt_sound_worlds.specs.Members.{In}
 use Rattle.vlt_sound_worlds.proofs.Leaving.{length_changed}
-use Rattle.vlt_sound_calls.proofs.GivenLaws.{found_then}
+use Rattle.vlt_sound_calls.proofs.Finding.{found_then, same_ok, was_so, was_named, out_is}
 use Rattle.vlt_sound_calls.specs.TakenOver.{AreTakenOver}
-
--- ---- what was found
-
-pub same_ok : {A : Type 0} (a b : A) → ◌≡◌ {A = Found A} (Ok a) (Ok b) → a ≡ b
-same_ok a b e = cc
-
-was_so : (b : Bool) (r : Reason) (m n : Named) → if_so b r m ≡ Ok n → b ≡ true
-was_so true r m n e = refl
-was_so false r m n e = cc
-
-was_named : (n : ℕ) (o : Option Object) (m : Named) → named_in n o ≡ Ok m → o ≡ Some m.object
-was_named n (Some o) m e = ap (λ m. Some m.object) (same_ok (record { number = n; object = o }) m e)
-was_named n None m e = cc
-
-out_is : (q : Owner) → is_out q ≡ true → q ≡ out
-out_is out e = refl
-out_is (world.held d k) e = cc
-out_is (world.lent d k) e = cc
-out_is world.loose e = cc
-out_is (world.inside n) e = cc
-out_is (world.adopted_by n) e = cc
-out_is world.gone e = cc
 
 -- an object that the host has
 record IsOut (os : List Object) (n : ℕ) : Type 0 where
