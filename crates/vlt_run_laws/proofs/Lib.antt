@@ -17,3 +17,5 @@ pub mod Sets
 pub mod Clauses
 pub mod Operands
 pub mod CallsWhole
+pub mod Filled
+pub mod Loose

@@ -1,3 +1,4 @@
 pub mod Blank
 pub mod Named
 pub mod Known
+pub mod Loose

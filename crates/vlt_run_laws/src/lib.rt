@@ -1,5 +1,5 @@
 //! Laws on what a run of an accepted program comes to: nothing goes in and nothing comes out.
-//! Read `vlt_tasks/specs/Own.antt` and `vlt_calls/specs/Called.antt` first, then `specs/Named.antt` and `specs/Known.antt`.
+//! Read `vlt_tasks/specs/Own.antt` and `vlt_calls/specs/Called.antt` first, then `specs/Named.antt`, `Known.antt`, `Loose.antt`.
 //! Used by: the machine, which fills variables, looks up keys and calls externals without a test.
 #![tactic(auto)]
 
@@ -17,6 +17,7 @@ ghost use Rattle.vlt_sound.specs.Sizes.{HasSizes};
 ghost use Rattle.vlt_sound.specs.Narrow.{HasNarrowHeads};
 ghost use Rattle.vlt_run_laws.specs.Known.{IsKnown, KnowsItsSteps};
 ghost use Rattle.vlt_run_laws.specs.Named.{NamesScope};
+ghost use Rattle.vlt_run_laws.specs.Loose.{MovesLooseObjects};
 ghost use Rattle.vlt_calls.specs.Known.{KnowsItsCalls};
 
 /// The statements of a program that breaks no rule on names and types name variables and keys of their own functions.
@@ -48,4 +49,11 @@ pub fn accepted_programs_name_their_keys()
 pub fn accepted_programs_know_their_calls()
     ensures { (p : Program) → IsKinded p → IsAccepted p → HasSizes p → HasStates p →
         HasNarrowHeads p → KnowsItsCalls p }
+{}
+
+/// Where a run of an accepted program comes to a statement, each variable whose value it moves has a value, and each object
+/// that the value owns is loose, in a state that the variable's type allows.
+pub fn accepted_programs_move_loose_objects()
+    ensures { (p : Program) → IsKinded p → IsAccepted p → HasSizes p → HasStates p →
+        HasNarrowHeads p → MovesLooseObjects p }
 {}
