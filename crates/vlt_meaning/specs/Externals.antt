@@ -21,14 +21,16 @@ is_taken e = is_held_before e && not (is_held_after e)
 abbrev pub is_given : Entry → Bool
 is_given e = not (is_held_before e) && not (is_new e)
 
--- the keys of a variant's header that a case of it lists
+-- the keys of the head that the cases of its result list
 abbrev pub keys_in_cases : Program → Option VariantOf → List ℕ
 keys_in_cases p None = []
-keys_in_cases p (Some v) = map (λ j. j.key) (flat_map (λ d. keys_in v.args (Some d)) (cases_of p v.type))
+keys_in_cases p (Some v) =
+    map (λ j. j.key) (flat_map (λ d. keys_in v.args (Some d)) (cases_of p v.type))
 
--- the keys of the head whose objects an answer can bring back: with its clause, and with a case of its result
+-- the keys of the head whose objects an answer can bring back: those that are given, and those in cases
 abbrev pub awaited_keys : Program → Func → List ℕ
-awaited_keys p g = map (λ e. e.key) (filter is_given g.clause) ++ keys_in_cases p (variant_in g.result)
+awaited_keys p g =
+    map (λ e. e.key) (filter is_given g.clause) ++ keys_in_cases p (variant_in g.result)
 
 -- the objects that the caller's keys name which stand for keys of the head
 abbrev pub named_objects : (keys : List ℕ) → Frame → (head_keys : List ℕ) → Found (List ℕ)
@@ -98,8 +100,8 @@ pub record Fitting : Type 0 where
   pub answer : Answer
   pub objects : List Object
 
--- An answer whose numbers fit, where each object that comes back is out at its turn. The keys name objects, as a call finds
--- before it asks for an answer.
+-- An answer whose numbers fit, where each object that comes back is out at its turn. That its keys name
+-- objects a call finds before it asks.
 abbrev pub fitting : Program → Func → (keys : List ℕ) → Frame → (numbers : List ℤ) → List Object → Found Fitting
 fitting p g keys frame numbers objects = do
   a ← or_fault missing (answer_of p g numbers)
@@ -165,8 +167,8 @@ with_result heap p g keys states (case_with c ss pieces) frame w go =
     with_pieces heap (payload_in (case_at p v.type c)) pieces w (λ parts w.
     go (Some (of_case c parts (case_objects p g keys frame (case_with c ss pieces)))) frame w))
 
--- The objects of keys are found first, so that an answer is bad only by what it says. Then the event is written and the next
--- answer taken, objects go out, and what the answer says is done.
+-- The objects of keys are found first, so that an answer is bad only by what it says. Then the event is
+-- written and the next answer taken, objects go out, and what the answer says is done.
 unfoldable pub call_external : (heap : ℕ) → Program → Func → (target : Option ℕ) → (keys : List ℕ) → Func →
     List Value → Frame → World → Step
 call_external heap p f target keys g args frame w =

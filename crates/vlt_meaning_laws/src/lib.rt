@@ -3,9 +3,6 @@
 //! Used by: the layers above, which see runs by these equations alone, and nothing of the bound.
 #![tactic(auto)]
 
-ghost use Rattle.std.specs.Prelude.{ℕ, List, Option};
-ghost use Rattle.vlt_core.specs.Core.{Func, Program};
-ghost use Rattle.vlt_meaning.specs.World.{Value, World, Frame};
 ghost use Rattle.vlt_meaning_laws.specs.BadAnswers.{IsBadUnlessKept, IsGoodWhereKept};
 ghost use Rattle.vlt_meaning_laws.specs.Done.{DoneIsMainsEnd, DoneIsClean};
 ghost use Rattle.vlt_meaning_laws.specs.Laws.{IsBoundless, GoesOn, TurnsAgain, IsRun, OnlyAdds, EndsStop};
@@ -34,13 +31,9 @@ pub fn done_is_mains_end()
     ensures clean { DoneIsClean }
 {}
 
-/// Where a call of an external comes to an answer, it ends the run in a bad answer, of that answer's position, exactly where
-/// the answer doesn't keep the external's clause.
+/// Where a call of an external comes to an answer, it ends the run in a bad answer, with that answer's position, exactly
+/// where the answer doesn't keep the external's clause.
 pub fn bad_answers_break_clauses()
-    ensures bad { (heap : ℕ) (p : Program) (f : Func) (target : Option ℕ) (keys : List ℕ) (g : Func)
-        (args : List Value) (frame : Frame) (w : World) →
-        IsBadUnlessKept heap p f target keys g args frame w }
-    ensures kept { (heap : ℕ) (p : Program) (f : Func) (target : Option ℕ) (keys : List ℕ) (g : Func)
-        (args : List Value) (frame : Frame) (w : World) →
-        IsGoodWhereKept heap p f target keys g args frame w }
+    ensures bad { IsBadUnlessKept }
+    ensures kept { IsGoodWhereKept }
 {}
