@@ -33,3 +33,4 @@ pub mod One
 pub mod Counting
 pub mod Dropping
 pub mod Formed
+pub mod Proper
