@@ -1,6 +1,6 @@
-//! Laws on the lowering: nothing goes in and nothing comes out.
+//! Laws on the lowering of expressions: nothing goes in and nothing comes out.
 //! Read `specs/Operators.antt` first, then `Codes`, `Expressions` and `Slots`.
-//! Used by: That a C program does what its source does is going to.
+//! Used by: `c_lower_runs::programs_are_lowered_rightly`.
 #![tactic(auto)]
 
 ghost use Rattle.c_lower_laws.specs.Operators.{AreRightBinary, AreRightUnary};
