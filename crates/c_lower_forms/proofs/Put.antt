@@ -31,7 +31,6 @@ use Rattle.c_lower_worlds.specs.Operands.{HaveAtoms, OperandsAreRight}
 use Rattle.c_lower_worlds.specs.SameStatements.{Begins, IsSameForm}
 use Rattle.c_lower_names.specs.Functions.{IsFunction}
 use Rattle.c_lower_names.specs.Types.{TypesFit}
-use Rattle.c_lower_forms.proofs.SetAndOwn.{nil_both}
 use Rattle.c_lower_worlds.proofs.FieldWriting.{field_written, cell_shaped}
 use Rattle.c_lower_worlds.proofs.LaterShapes.{shape_keys, values_keys}
 use Rattle.c_lower_worlds.proofs.VariableSlots.{starts}
@@ -39,7 +38,7 @@ use Rattle.c_lower_worlds.proofs.SameSteps.{found_same, where_same, spares_self}
 use Rattle.c_lower_names.proofs.DeclaredVariables.{Declared, used_declared}
 use Rattle.c_lower_worlds.proofs.Targets.{arrives}
 use Rattle.c_lower_names.proofs.FoundObjects.{Refers, behind_ok, behind_faults}
-use Rattle.c_lower_names.proofs.RuleFacts.{both_empty}
+use Rattle.c_lower_names.proofs.RuleFacts.{both_empty, none_of_both}
 use Rattle.vlt_core_laws.proofs.Unbroken.{unless_holds}
 use Rattle.c_lower_worlds.proofs.VariableValues.{slot_holds, typed, reference_to, types_kept}
 use Rattle.c_lower_names.proofs.TouchedFields.{referred, IsTouched, touch_field}
@@ -154,5 +153,5 @@ module _ (p : Program) (types_fit : TypesFit p) (heap depth : ℕ) (R : crun.Set
       fits = subst (λ o. misfit o (type_of_expr p f e) ≡ []) (ap unless_owning field_is ∙ ap (λ b. if b then None else Some want) plain) first.right
 
       broken : operand_broken p f ids (Some want) (pure e) ≡ []
-      broken = nil_both (expr_broken p f ids e) (if is_owning want then rule.WRONG_TYPE ∷ [] else misfit (Some want) (type_of_expr p f e)) third.left
+      broken = none_of_both (expr_broken p f ids e) (if is_owning want then rule.WRONG_TYPE ∷ [] else misfit (Some want) (type_of_expr p f e)) third.left
           (ap (λ b. if b then rule.WRONG_TYPE ∷ [] else misfit (Some want) (type_of_expr p f e)) plain ∙ fits)

@@ -40,7 +40,7 @@ use Rattle.c_lower_worlds.proofs.VariableSlots.{Apart, AllApart, apart_back, eac
 use Rattle.c_lower_worlds.proofs.SameSteps.{where_same}
 use Rattle.c_lower_names.proofs.DeclaredVariables.{Declared, target_declared}
 use Rattle.c_lower_worlds.proofs.Targets.{spares_all, arrives, slot_apart}
-use Rattle.c_lower_names.proofs.RuleFacts.{both_empty}
+use Rattle.c_lower_names.proofs.RuleFacts.{both_empty, none_of_both}
 use Rattle.vlt_core_laws.proofs.Unbroken.{unless_holds}
 
 -- ---- what atoms are
@@ -188,9 +188,6 @@ set_only false xs ys e = (both_empty xs ys e).right
 set_rest : (p : Program) (f : Func) (ty : Ty) (e : core.Expr) → kinded.set_broken p f (Some ty) e ≡ [] → (if is_owning ty then rule.WRONG_TYPE ∷ [] else misfit (Some ty) (type_of_expr p f e)) ≡ []
 set_rest p f ty e q = set_only (is_owning ty) _ (misfit (Some ty) (type_of_expr p f e)) q
 
-pub nil_both : (xs ys : Rules) → xs ≡ [] → ys ≡ [] → xs ++ ys ≡ []
-nil_both xs ys a b = rw (a, b) refl
-
 module _ (p : Program) (heap depth : ℕ) (R : crun.Setup) (cm : crun.Meaning) (operands : OperandsAreRight p R cm) (m : run.Meaning) (n : ℕ) where
   abbrev setup : run.Setup
   setup = record { program = p; heap = heap; depth = depth }
@@ -220,7 +217,7 @@ module _ (p : Program) (heap depth : ℕ) (R : crun.Setup) (cm : crun.Meaning) (
       d = target_declared f ids v first.right
 
       broken : operand_broken p f ids (Some d.ty) (pure e) ≡ []
-      broken = nil_both (expr_broken p f ids e) (if is_owning d.ty then rule.WRONG_TYPE ∷ [] else misfit (Some d.ty) (type_of_expr p f e)) both.left (set_rest p f d.ty e (subst (λ o. kinded.set_broken p f o e ≡ []) d.is both.right))
+      broken = none_of_both (expr_broken p f ids e) (if is_owning d.ty then rule.WRONG_TYPE ∷ [] else misfit (Some d.ty) (type_of_expr p f e)) both.left (set_rest p f d.ty e (subst (λ o. kinded.set_broken p f o e ≡ []) d.is both.right))
 
   pub own_same : (f : Func) (v : ℕ) (o : Operand) → IsFunction p f → IsSameForm p setup R m cm n f (core.simple (core.own v o))
   unfolding step.fill

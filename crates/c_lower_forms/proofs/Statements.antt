@@ -42,7 +42,7 @@ use Rattle.c_lower_worlds.proofs.NamedSteps.{then_named, turn_named}
 use Rattle.c_lower_names.proofs.NamedStatements.{AreNamed, focus_starts, block_vars, form_named, block_named}
 use Rattle.c_lower_worlds.proofs.StatementLists.{both_run, then_goes, then_ends}
 use Rattle.c_lower_worlds.proofs.SameSteps.{goes_same, earlier, spend_same, if_same, block_same, more_fuel, spent_less, comes, spares_self}
-use Rattle.c_lower_worlds.proofs.ExpressionFailures.{numbers_plainly, number_then, alike_begins}
+use Rattle.c_lower_worlds.proofs.ExpressionFailures.{numbers_plainly, number_then, alike_begins, test_is}
 
 and_true : (a : Bool) → a ≡ true → (a && true) ≡ true
 and_true a e = rw e refl
@@ -59,10 +59,6 @@ broken_off : (frame : crun.Frame) (w : cw.World) (go rest on : crun.Frame → cw
     crun.then_turn (crun.then_do (crun.then_do (crun.breaks frame w) go) rest) on ≡ crun.goes frame w
 unfolding crun.then_turn crun.then_do
 broken_off frame w go rest on = refl
-
-test_is : (b : Bool) → is_true (bool_number b) ≡ b
-test_is true = refl
-test_is false = refl
 
 unequal_is : (e : syntax.Expr) (frame : crun.Frame) (w : cw.World) (z : ℤ) → cvalues.value_of e frame.vars w.blocks ≡ Ok (cw.number z) →
     crun.condition (unequal e (whole 0)) frame w ≡ Ok (bool_number (is_true z))

@@ -44,10 +44,11 @@ use Rattle.c_lower_names.specs.Naming.{IsInScope, NamesRight}
 use Rattle.vlt_core.specs.Kinded.{IsKinded}
 use Rattle.c_lower_names.proofs.KnownScopes.{AreRanged, ranged_of, vars_known, arm_known}
 use Rattle.c_lower_names.proofs.FrameNaming.{names_set, var_adds}
-use Rattle.c_lower_names.proofs.NamedOperands.{Emptied, emptied_self, emptied_one, emptied_names, used_scope}
+use Rattle.c_lower_names.proofs.NamedOperands.{Emptied, emptied_self, emptied_one, emptied_names, used_scope, emptied_switch}
 use Rattle.c_lower_names.proofs.NamedSimple.{misfit_plain}
 use Rattle.c_lower_forms.proofs.UnpackAndAdopt.{owned_faults, owned_ok}
 use Rattle.c_lower_names.proofs.FoundObjects.{IsFree, OnlyFaults, then_ok, or_faults, then_faults, if_so_faults, err_ok, ok_same}
+use Rattle.c_lower_worlds.proofs.ExpressionFailures.{test_is}
 use Rattle.c_lower_worlds.proofs.BlockChanges.{held_alike}
 use Rattle.c_lower_worlds.proofs.ValueCode.{var_has}
 use Rattle.c_lower_forms.proofs.SetAndOwn.{other_slots}
@@ -147,10 +148,6 @@ then_source (step.leaves v kept w) = refl
 then_source (step.ends o w) = refl
 
 -- ---- the number of the case
-
-test_is : (b : Bool) → is_true (bool_number b) ≡ b
-test_is true = refl
-test_is false = refl
 
 equals_is : (a b : ℕ) → equals (pos a) (pos b) ≡ (a == b)
 equals_is a b = by (a == b) refl
@@ -437,13 +434,6 @@ module _ (p : Program) (heap depth : ℕ) (R : crun.Setup) (m : run.Meaning) (cm
       by : (b : Bool) → StandsFor p ts f (if b then step.with_var v None s else s) F
       by true = stands_unset p ts f s F v h
       by false = h
-
-  emptied_switch : (f : Func) (v : ℕ) (s : source.Frame) → Emptied s (with_empty_variable f v s)
-  emptied_switch f v s = by (is_owning_var f v)
-    where
-      by : (b : Bool) → Emptied s (if b then step.with_var v None s else s)
-      by true = emptied_one s v
-      by false = emptied_self s
 
   pub switch_same : IsKinded p → (f : Func) (v : ℕ) (arms : Arms) (end : ℕ) → IsFunction p f → AreSameArms p setup R m cm n f arms → IsSameFormIn p setup R m cm n f (core.switch v arms end)
   switch_same kinded f v arms end is blocks around ids t k s w F g i kinds up le h scope =

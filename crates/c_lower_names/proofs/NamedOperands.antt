@@ -5,7 +5,7 @@ use Rattle.std.proofs.lemmas.Option.{none-some}
 use Rattle.vlt_ops.specs.Operator.{row_of}
 use Rattle.vlt_core.specs.Core as core
 use Rattle.vlt_core.specs.Core.{Ty, tracked, Expr, Operand, pure, move, pack, Func, Program}
-use Rattle.vlt_core.specs.Lookups.{var_type, is_owning}
+use Rattle.vlt_core.specs.Lookups.{var_type, is_owning, is_owning_var}
 use Rattle.vlt_core.specs.Types.{same_ty, same_object, with_keys}
 use Rattle.vlt_core.specs.KindedHeads.{unless, has, is_field_type}
 use Rattle.vlt_core.specs.KindedScopes.{Ids, use_broken}
@@ -18,7 +18,7 @@ use Rattle.vlt_meaning.specs.Objects.{with_owner}
 use Rattle.vlt_meaning.specs.Values.{value_of, object_of}
 use Rattle.vlt_meaning.specs.Step as step
 use Rattle.vlt_meaning.specs.Step.{Step}
-use Rattle.vlt_meaning.specs.Operands.{with_operand, with_operands}
+use Rattle.vlt_meaning.specs.Operands.{with_operand, with_operands, with_empty_variable}
 use Rattle.vlt_core_laws.proofs.Binding.{in_range, chosen}
 use Rattle.c_lower_names.specs.Functions.{IsFunction}
 use Rattle.c_lower_names.specs.Types.{TypesFit}
@@ -131,6 +131,13 @@ emptied_one s v = record { keys = refl; vars = λ u a e. by u a (u == v) e }
     by : (u : ℕ) (a : Value) → (b : Bool) → (if b then None else s.vars u) ≡ Some a → s.vars u ≡ Some a
     by u a true e = absurd (none-some a e)
     by u a false e = e
+
+pub emptied_switch : (f : Func) (v : ℕ) (s : Frame) → Emptied s (with_empty_variable f v s)
+emptied_switch f v s = by (is_owning_var f v)
+  where
+    by : (b : Bool) → Emptied s (if b then step.with_var v None s else s)
+    by true = emptied_one s v
+    by false = emptied_self s
 
 pub emptied_names : (f : Func) (vars : List ℕ) (s s2 : Frame) → Emptied s s2 → NamesRight f vars s → NamesRight f vars s2
 emptied_names f vars s s2 e h = record { at = λ v k t args i ty a q. subst (λ keys. IsOfKey keys k a) (sym e.keys) (h.at v k t args i ty a (e.vars v a q)) }

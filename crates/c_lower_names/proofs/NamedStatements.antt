@@ -41,7 +41,7 @@ use Rattle.c_lower_names.proofs.HeadKeys.{IsHeaded, headed, each_filtered}
 use Rattle.c_lower_names.proofs.NamedInstances.{headed_instance, known_instance, aims_same}
 use Rattle.c_lower_names.specs.Laws.{NamesAreKept}
 use Rattle.c_lower_names.proofs.DeclaredTypes.{types_fit}
-use Rattle.c_lower_names.proofs.NamedOperands.{Emptied, emptied_self, emptied_one, emptied_names, operands_named}
+use Rattle.c_lower_names.proofs.NamedOperands.{Emptied, emptied_self, emptied_one, emptied_names, operands_named, emptied_switch}
 use Rattle.c_lower_names.proofs.NamedSimple.{ArePlain, ArePlainTys, misfit_plain, same_arrives, fresh_arrives, fresh_key, simple_named}
 use Rattle.c_lower_names.proofs.NamedReturns.{return_named}
 use Rattle.c_lower_names.proofs.NamedCalls.{IsKnownCall, callee_in_scope}
@@ -259,13 +259,6 @@ module _ (p : Program) (kinded : IsKinded p) (types : TypesFit p) (heap depth : 
       by (tracked j u others) q e = absurd (filled_not_empty rule.WRONG_SWITCH [] e)
       by (core.owning st u others) q e = absurd (filled_not_empty rule.WRONG_SWITCH [] e)
       by (core.guarded j u others) q e = absurd (filled_not_empty rule.WRONG_SWITCH [] e)
-
-  emptied_switch : (f : Func) (v : ℕ) (s : Frame) → Emptied s (with_empty_variable f v s)
-  emptied_switch f v s = by (is_owning_var f v)
-    where
-      by : (b : Bool) → Emptied s (if b then step.with_var v None s else s)
-      by true = emptied_one s v
-      by false = emptied_self s
 
   module _ (m : Meaning) (rest_named : AreNamed m) where
     -- a call, after its arguments

@@ -1,5 +1,5 @@
 -- What statements that break no rule say of types.
-use Rattle.std.proofs.Common.{◌≡◌, ℕ, List, [], ◌++◌, Option, Some, None, ap}
+use Rattle.std.proofs.Common.{◌≡◌, ℕ, List, [], ◌++◌, Option, Some, None, ap, refl}
 use Rattle.std.proofs.lemmas.Option.{none-some, same_Some}
 use Rattle.vlt_core.specs.Core as core
 use Rattle.vlt_core.specs.Core.{Ty}
@@ -12,6 +12,9 @@ pub record BothEmpty {A : Type 0} (xs ys : List A) : Type 0 where
 
 pub both_empty : {A : Type 0} (xs ys : List A) → xs ++ ys ≡ [] → BothEmpty xs ys
 both_empty xs ys e = record { left = left_empty xs ys e; right = right_empty xs ys e }
+
+pub none_of_both : {A : Type 0} (xs ys : List A) → xs ≡ [] → ys ≡ [] → xs ++ ys ≡ []
+none_of_both xs ys a b = rw (a, b) refl
 
 -- the types of references
 pub record IsTracked (ty : Option Ty) (r : Reference) : Type 0 where

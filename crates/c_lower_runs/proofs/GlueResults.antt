@@ -229,7 +229,7 @@ module _ (p : Program) (R : crun.Setup) (cm : crun.Meaning) (enough : RegistersS
     };
   })
 
-  no_keys_back : (x : host.Result) → ext.case_objects p gf keys s x ≡ [] → (f : crun.Frame) (w : cw.World) (zs : List ℤ) (os : List Object) →
+  pub no_keys_back : (x : host.Result) → ext.case_objects p gf keys s x ≡ [] → (f : crun.Frame) (w : cw.World) (zs : List ℤ) (os : List Object) →
       moving.BacksTo R cm p [] f w zs os (objects_after_move is_out loose (ext.case_objects p gf keys s x) os)
   no_keys_back x e f w zs os = rw e (λ n. refl)
 

@@ -37,7 +37,7 @@ use Rattle.c_lower_runs.proofs.GlueSteps.{Glued, AreWords}
 use Rattle.c_lower_worlds.proofs.MovedObjects.{loose_free}
 use Rattle.c_lower_runs.proofs.HostMoves as moving
 use Rattle.c_lower_runs.proofs.AnswerReading.{IsProper, with_piece, piece_reads, mapped}
-use Rattle.c_lower_runs.proofs.GlueResults.{ResultParts, finish}
+use Rattle.c_lower_runs.proofs.GlueResults.{ResultParts, finish, no_keys_back}
 use Rattle.c_lower_worlds.proofs.StatementLists.{stops_there, goes_on}
 use Rattle.c_lower_worlds.proofs.LaterShapes.{later_self}
 use Rattle.c_lower_worlds.proofs.VariableValues.{temp_alike}
@@ -65,10 +65,6 @@ module _ (p : Program) (R : crun.Setup) (cm : crun.Meaning) (enough : RegistersS
   object_alike host.nothing = alike_self temps G
   object_alike (host.case_with c states pieces) = alike_self temps G
 
-  pub no_keys_back : (x : host.Result) → ext.case_objects p gf keys s x ≡ [] → (f : crun.Frame) (w : cw.World) (zs : List ℤ) (os : List Object) →
-      moving.BacksTo R cm p [] f w zs os (objects_after_move is_out loose (ext.case_objects p gf keys s x) os)
-  no_keys_back x e f w zs os = rw e (λ n. refl)
-
   -- ---- numbers
 
   number_made : (ty : Ty) → gf.result ≡ Some ty → (z : ℤ) → ((ts : List ℕ) → HasShape p ts ty (one (source.number z))) → slot_sorts p ty ≡ of_number ∷ [] →
@@ -94,7 +90,7 @@ module _ (p : Program) (R : crun.Setup) (cm : crun.Meaning) (enough : RegistersS
     clears = λ w n. refl;
     numbers = mapped R cm (payload_number (var_at temps of_number) core.int) G (λ a. with_piece R cm (var_at temps of_number) a G) (piece_to (var_at temps of_number)) (piece_of core.int) (λ a. host.piece a)
         (piece_reads R cm (var_at temps of_number) core.int G tt) (λ a. refl);
-    backs = λ x mid us q w zs os. no_keys_back x (by_case x) (piece_to (var_at temps of_number) x) w zs os;
+    backs = λ x mid us q w zs os. no_keys_back p R cm enough gf keys s args G x (by_case x) (piece_to (var_at temps of_number) x) w zs os;
     made = λ states x mid us long ranged q w regs shaped are i. by states x mid us ranged q w regs shaped are i;
   }
     where
@@ -120,7 +116,7 @@ module _ (p : Program) (R : crun.Setup) (cm : crun.Meaning) (enough : RegistersS
     clears = λ w n. refl;
     numbers = mapped R cm (payload_number (var_at temps of_number) core.bool) G (λ a. with_piece R cm (var_at temps of_number) a G) (piece_to (var_at temps of_number)) (piece_of core.bool) (λ a. host.piece a)
         (piece_reads R cm (var_at temps of_number) core.bool G tt) (λ a. refl);
-    backs = λ x mid us q w zs os. no_keys_back x (by_case x) (piece_to (var_at temps of_number) x) w zs os;
+    backs = λ x mid us q w zs os. no_keys_back p R cm enough gf keys s args G x (by_case x) (piece_to (var_at temps of_number) x) w zs os;
     made = λ states x mid us long ranged q w regs shaped are i. by states x mid us q w regs shaped are i;
   }
     where
@@ -158,7 +154,7 @@ module _ (p : Program) (R : crun.Setup) (cm : crun.Meaning) (enough : RegistersS
     clears = λ w n. refl;
     numbers = mapped R cm (payload_number v (core.owning states t others)) G (λ a. with_piece R cm v a G) (piece_to v) (piece_of (core.owning states t others)) (λ a. host.piece a)
         (piece_reads R cm v (core.owning states t others) G proper) (λ a. refl);
-    backs = λ x mid us q w zs os. no_keys_back x (by_case x) (piece_to v x) w zs os;
+    backs = λ x mid us q w zs os. no_keys_back p R cm enough gf keys s args G x (by_case x) (piece_to v x) w zs os;
     made = λ all x mid us long ranged q w regs shaped are i. by (state_in states mid) all x us q w regs shaped are i;
   }
     where
@@ -238,7 +234,7 @@ module _ (p : Program) (R : crun.Setup) (cm : crun.Meaning) (enough : RegistersS
     alike_to = λ x. alike_self temps G;
     clears = λ w n. refl;
     numbers = record { at = λ w zs n. refl };
-    backs = λ x mid us q w zs os. no_keys_back x (by_case x) G w zs os;
+    backs = λ x mid us q w zs os. no_keys_back p R cm enough gf keys s args G x (by_case x) G w zs os;
     made = λ states x mid us long ranged q w regs shaped are i.
         subst (λ x. Glued p gf s w (λ go. with_result R.heap p gf keys states x s w go) (does_stmts R cm i (stmts_made (new_object v ++ given)) G (c_world p regs w)))
         (ap (λ (q : host.Result × List ℤ). q.0) (same_Some (host.nothing, mid) (x, us) q)) (made_new states (new.binding states long) w regs shaped are i);

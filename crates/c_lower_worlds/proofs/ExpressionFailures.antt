@@ -3,7 +3,7 @@ use Rattle.std.proofs.Common.{◌≡◌, ◌+◌, ℕ, Bool, true, false, if◌t
 use Rattle.std.proofs.lemmas.Bool.{false≢true}
 use Rattle.vlt_ops.specs.declared.TrapKind.{TrapKind}
 use Rattle.vlt_ops.specs.declared.Op.TheVariants as op
-use Rattle.vlt_ops.specs.Operator.{applied, is_true}
+use Rattle.vlt_ops.specs.Operator.{applied, is_true, bool_number}
 use Rattle.vlt_core.specs.Core as core
 use Rattle.vlt_core.specs.Core.{Func, Program}
 use Rattle.vlt_core.specs.KindedBodies.{ends}
@@ -117,6 +117,11 @@ value_plainly p f (core.binary o a b) s os =
 
 pub numbers_plainly : (p : Program) (f : Func) (e : core.Expr) (s : source.Frame) (os : List source.Object) → EndsPlainly (number_of p f e s os)
 numbers_plainly p f e s os = then_plainly (values.value_of p f e s os) values.number_in (value_plainly p f e s os) number_plainly
+
+-- the number of a truth value is that value
+pub test_is : (b : Bool) → is_true (bool_number b) ≡ b
+test_is true = refl
+test_is false = refl
 
 -- ---- the code of an expression, and what follows it
 

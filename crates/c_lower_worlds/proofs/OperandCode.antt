@@ -51,7 +51,7 @@ use Rattle.c_lower_worlds.proofs.StatementLists.{both_run, then_goes, then_stops
 use Rattle.c_lower_worlds.proofs.VariableSlots.{starts}
 use Rattle.c_lower_worlds.proofs.ExpressionFailures.{EndsPlainly, value_plainly, alike_begins}
 use Rattle.c_lower_worlds.proofs.SameSteps.{found_same, earlier}
-use Rattle.c_lower_names.proofs.RuleFacts.{both_empty, tracked_is}
+use Rattle.c_lower_names.proofs.RuleFacts.{both_empty, tracked_is, none_of_both}
 use Rattle.vlt_core_laws.proofs.Unbroken.{unless_holds}
 use Rattle.vlt_core_laws.proofs.Ids.{and_left, and_right}
 use Rattle.c_lower_worlds.proofs.ExpressionValues.{valued, Valued}
@@ -145,9 +145,6 @@ module _ (p : Program) (R : crun.Setup) (cm : crun.Meaning) where
   self_fits true = refl
   self_fits false = refl
 
-  nil_both : {A : Type 0} (xs ys : List A) → xs ≡ [] → ys ≡ [] → xs ++ ys ≡ []
-  nil_both xs ys a b = rw (a, b) refl
-
   module _ (f : Func) (ids : Ids) (s : source.Frame) (w : source.World) (frame : crun.Frame) (g : Registers) (k : ℕ) (is : IsFunction p f) (h : Begins p f k s w frame g) where
     -- of an operator
     operator_comes : (o : Op) (e : core.Expr) (t : Numbers) (x : Atom) → type_of_expr p f e ≡ Some (given_by o) → (expr_code p f t e).atoms ≡ x ∷ [] → is_proper e ≡ true → expr_broken p f ids e ≡ [] →
@@ -158,7 +155,7 @@ module _ (p : Program) (R : crun.Setup) (cm : crun.Meaning) where
         let z = number_value (types_of w.objects) (row_of o).gives_int a shape in
         let number : number_of p f e s w.objects ≡ Ok z.0 = then_is (values.value_of p f e s w.objects) values.number_in a z.0 is_a (ap values.number_in z.1) in
         let follows = numbers_are_right p f e ids (given_by o) t k s w frame g is proper
-        (nil_both (expr_broken p f ids e) (misfit (Some (given_by o)) (type_of_expr p f e)) broken (ap (misfit (Some (given_by o))) type ∙ self_fits (row_of o).gives_int)) up h in
+        (none_of_both (expr_broken p f ids e) (misfit (Some (given_by o)) (type_of_expr p f e)) broken (ap (misfit (Some (given_by o))) type ∙ self_fits (row_of o).gives_int)) up h in
         subst (λ vs. Comes (expr_code p f t e) t frame (c_world p g w) vs) (sym (ap (slot_values p v.ty) z.1))
         (number_comes (expr_code p f t e) t frame (c_world p g w) z.0 x single (subst (λ r. Follows r (expr_code p f t e) t frame (c_world p g w)) number follows))
       where
@@ -225,7 +222,7 @@ module _ (p : Program) (R : crun.Setup) (cm : crun.Meaning) where
     operator_traps o e t kind type proper broken up is_e =
         subst (λ r. Follows r (expr_code p f t e) t frame (c_world p g w)) (ap (λ r. r >>= values.number_in) is_e)
         (numbers_are_right p f e ids (given_by o) t k s w frame g is proper
-        (nil_both (expr_broken p f ids e) (misfit (Some (given_by o)) (type_of_expr p f e)) broken (ap (misfit (Some (given_by o))) type ∙ self_fits (row_of o).gives_int)) up h)
+        (none_of_both (expr_broken p f ids e) (misfit (Some (given_by o)) (type_of_expr p f e)) broken (ap (misfit (Some (given_by o))) type ∙ self_fits (row_of o).gives_int)) up h)
 
     traps : (e : core.Expr) (t : Numbers) (kind : TrapKind) → is_proper e ≡ true → expr_broken p f ids e ≡ [] → AreUpTo (first_temps p f) t → values.value_of p f e s w.objects ≡ Err (source.trap kind) →
         Does (expr_code p f t e).stmts frame (c_world p g w) (crun.stops (cw.trap kind) (c_world p g w))

@@ -1,4 +1,4 @@
--- Types that are the same have the same slots and shapes; values of expressions have the shapes of their types.
+-- Types that are the same have the same slots and shapes, each in the place of the other.
 use Rattle.std.proofs.Common.{◌≡◌, ℕ, ◌==◌, true, List, Some, refl, sym, subst}
 use Rattle.std.proofs.lemmas.Bool.{false≢true, eqb-true}
 use Rattle.vlt_core.specs.Core as core
@@ -63,57 +63,80 @@ owning_variant_laid p t u args others e = subst (λ u. IsLaidAs p (core.owning_v
 pub object_type : (t u : ℕ) (args others : List ℕ) → same_object t args u others ≡ true → t ≡ u
 object_type t u args others e = eqb-true t u (and_left (t == u) (same_keys args others) e)
 
+-- each way
+both_laid : (p : Program) (b a : Ty) → same_ty b a ≡ true → IsLaidAs p a b × IsLaidAs p b a
+both_laid p core.int core.int e = (laid_self p core.int, laid_self p core.int)
+both_laid p core.int core.bool e = absurd (false≢true e)
+both_laid p core.int (core.tracked k2 t2 a2) e = absurd (false≢true e)
+both_laid p core.int (core.owning s2 t2 a2) e = absurd (false≢true e)
+both_laid p core.int (core.guarded k2 t2 a2) e = absurd (false≢true e)
+both_laid p core.int (core.variant t2 a2) e = absurd (false≢true e)
+both_laid p core.int (core.owning_variant t2 a2) e = absurd (false≢true e)
+both_laid p core.bool core.int e = absurd (false≢true e)
+both_laid p core.bool core.bool e = (laid_self p core.bool, laid_self p core.bool)
+both_laid p core.bool (core.tracked k2 t2 a2) e = absurd (false≢true e)
+both_laid p core.bool (core.owning s2 t2 a2) e = absurd (false≢true e)
+both_laid p core.bool (core.guarded k2 t2 a2) e = absurd (false≢true e)
+both_laid p core.bool (core.variant t2 a2) e = absurd (false≢true e)
+both_laid p core.bool (core.owning_variant t2 a2) e = absurd (false≢true e)
+both_laid p (core.tracked k1 t1 a1) core.int e = absurd (false≢true e)
+both_laid p (core.tracked k1 t1 a1) core.bool e = absurd (false≢true e)
+both_laid p (core.tracked k1 t1 a1) (core.tracked k2 t2 a2) e = (
+  tracked_laid p k2 k1 t2 t1 a2 a1 (sym (object_type t1 t2 a1 a2 (and_right (k1 == k2) (same_object t1 a1 t2 a2) e))),
+  tracked_laid p k1 k2 t1 t2 a1 a2 (object_type t1 t2 a1 a2 (and_right (k1 == k2) (same_object t1 a1 t2 a2) e)),
+)
+both_laid p (core.tracked k1 t1 a1) (core.owning s2 t2 a2) e = absurd (false≢true e)
+both_laid p (core.tracked k1 t1 a1) (core.guarded k2 t2 a2) e = absurd (false≢true e)
+both_laid p (core.tracked k1 t1 a1) (core.variant t2 a2) e = absurd (false≢true e)
+both_laid p (core.tracked k1 t1 a1) (core.owning_variant t2 a2) e = absurd (false≢true e)
+both_laid p (core.owning s1 t1 a1) core.int e = absurd (false≢true e)
+both_laid p (core.owning s1 t1 a1) core.bool e = absurd (false≢true e)
+both_laid p (core.owning s1 t1 a1) (core.tracked k2 t2 a2) e = absurd (false≢true e)
+both_laid p (core.owning s1 t1 a1) (core.owning s2 t2 a2) e = (
+  owning_laid p s2 s1 t2 t1 a2 a1 (sym (object_type t1 t2 a1 a2 (and_right (same_states s1 s2) (same_object t1 a1 t2 a2) e))),
+  owning_laid p s1 s2 t1 t2 a1 a2 (object_type t1 t2 a1 a2 (and_right (same_states s1 s2) (same_object t1 a1 t2 a2) e)),
+)
+both_laid p (core.owning s1 t1 a1) (core.guarded k2 t2 a2) e = absurd (false≢true e)
+both_laid p (core.owning s1 t1 a1) (core.variant t2 a2) e = absurd (false≢true e)
+both_laid p (core.owning s1 t1 a1) (core.owning_variant t2 a2) e = absurd (false≢true e)
+both_laid p (core.guarded k1 t1 a1) core.int e = absurd (false≢true e)
+both_laid p (core.guarded k1 t1 a1) core.bool e = absurd (false≢true e)
+both_laid p (core.guarded k1 t1 a1) (core.tracked k2 t2 a2) e = absurd (false≢true e)
+both_laid p (core.guarded k1 t1 a1) (core.owning s2 t2 a2) e = absurd (false≢true e)
+both_laid p (core.guarded k1 t1 a1) (core.guarded k2 t2 a2) e = (
+  guarded_laid p k2 k1 t2 t1 a2 a1 (sym (object_type t1 t2 a1 a2 (and_right (k1 == k2) (same_object t1 a1 t2 a2) e))),
+  guarded_laid p k1 k2 t1 t2 a1 a2 (object_type t1 t2 a1 a2 (and_right (k1 == k2) (same_object t1 a1 t2 a2) e)),
+)
+both_laid p (core.guarded k1 t1 a1) (core.variant t2 a2) e = absurd (false≢true e)
+both_laid p (core.guarded k1 t1 a1) (core.owning_variant t2 a2) e = absurd (false≢true e)
+both_laid p (core.variant t1 a1) core.int e = absurd (false≢true e)
+both_laid p (core.variant t1 a1) core.bool e = absurd (false≢true e)
+both_laid p (core.variant t1 a1) (core.tracked k2 t2 a2) e = absurd (false≢true e)
+both_laid p (core.variant t1 a1) (core.owning s2 t2 a2) e = absurd (false≢true e)
+both_laid p (core.variant t1 a1) (core.guarded k2 t2 a2) e = absurd (false≢true e)
+both_laid p (core.variant t1 a1) (core.variant t2 a2) e = (
+  variant_laid p t2 t1 a2 a1 (sym (object_type t1 t2 a1 a2 e)),
+  variant_laid p t1 t2 a1 a2 (object_type t1 t2 a1 a2 e),
+)
+both_laid p (core.variant t1 a1) (core.owning_variant t2 a2) e = absurd (false≢true e)
+both_laid p (core.owning_variant t1 a1) core.int e = absurd (false≢true e)
+both_laid p (core.owning_variant t1 a1) core.bool e = absurd (false≢true e)
+both_laid p (core.owning_variant t1 a1) (core.tracked k2 t2 a2) e = absurd (false≢true e)
+both_laid p (core.owning_variant t1 a1) (core.owning s2 t2 a2) e = absurd (false≢true e)
+both_laid p (core.owning_variant t1 a1) (core.guarded k2 t2 a2) e = absurd (false≢true e)
+both_laid p (core.owning_variant t1 a1) (core.variant t2 a2) e = absurd (false≢true e)
+both_laid p (core.owning_variant t1 a1) (core.owning_variant t2 a2) e = (
+  owning_variant_laid p t2 t1 a2 a1 (sym (object_type t1 t2 a1 a2 e)),
+  owning_variant_laid p t1 t2 a1 a2 (object_type t1 t2 a1 a2 e),
+)
+
 -- the second, which is wanted, is the first's
 pub same_laid : (p : Program) (b a : Ty) → same_ty b a ≡ true → IsLaidAs p a b
-same_laid p core.int core.int e = laid_self p core.int
-same_laid p core.int core.bool e = absurd (false≢true e)
-same_laid p core.int (core.tracked k2 t2 a2) e = absurd (false≢true e)
-same_laid p core.int (core.owning s2 t2 a2) e = absurd (false≢true e)
-same_laid p core.int (core.guarded k2 t2 a2) e = absurd (false≢true e)
-same_laid p core.int (core.variant t2 a2) e = absurd (false≢true e)
-same_laid p core.int (core.owning_variant t2 a2) e = absurd (false≢true e)
-same_laid p core.bool core.int e = absurd (false≢true e)
-same_laid p core.bool core.bool e = laid_self p core.bool
-same_laid p core.bool (core.tracked k2 t2 a2) e = absurd (false≢true e)
-same_laid p core.bool (core.owning s2 t2 a2) e = absurd (false≢true e)
-same_laid p core.bool (core.guarded k2 t2 a2) e = absurd (false≢true e)
-same_laid p core.bool (core.variant t2 a2) e = absurd (false≢true e)
-same_laid p core.bool (core.owning_variant t2 a2) e = absurd (false≢true e)
-same_laid p (core.tracked k1 t1 a1) core.int e = absurd (false≢true e)
-same_laid p (core.tracked k1 t1 a1) core.bool e = absurd (false≢true e)
-same_laid p (core.tracked k1 t1 a1) (core.tracked k2 t2 a2) e = tracked_laid p k2 k1 t2 t1 a2 a1 (sym (object_type t1 t2 a1 a2 (and_right (k1 == k2) (same_object t1 a1 t2 a2) e)))
-same_laid p (core.tracked k1 t1 a1) (core.owning s2 t2 a2) e = absurd (false≢true e)
-same_laid p (core.tracked k1 t1 a1) (core.guarded k2 t2 a2) e = absurd (false≢true e)
-same_laid p (core.tracked k1 t1 a1) (core.variant t2 a2) e = absurd (false≢true e)
-same_laid p (core.tracked k1 t1 a1) (core.owning_variant t2 a2) e = absurd (false≢true e)
-same_laid p (core.owning s1 t1 a1) core.int e = absurd (false≢true e)
-same_laid p (core.owning s1 t1 a1) core.bool e = absurd (false≢true e)
-same_laid p (core.owning s1 t1 a1) (core.tracked k2 t2 a2) e = absurd (false≢true e)
-same_laid p (core.owning s1 t1 a1) (core.owning s2 t2 a2) e = owning_laid p s2 s1 t2 t1 a2 a1 (sym (object_type t1 t2 a1 a2 (and_right (same_states s1 s2) (same_object t1 a1 t2 a2) e)))
-same_laid p (core.owning s1 t1 a1) (core.guarded k2 t2 a2) e = absurd (false≢true e)
-same_laid p (core.owning s1 t1 a1) (core.variant t2 a2) e = absurd (false≢true e)
-same_laid p (core.owning s1 t1 a1) (core.owning_variant t2 a2) e = absurd (false≢true e)
-same_laid p (core.guarded k1 t1 a1) core.int e = absurd (false≢true e)
-same_laid p (core.guarded k1 t1 a1) core.bool e = absurd (false≢true e)
-same_laid p (core.guarded k1 t1 a1) (core.tracked k2 t2 a2) e = absurd (false≢true e)
-same_laid p (core.guarded k1 t1 a1) (core.owning s2 t2 a2) e = absurd (false≢true e)
-same_laid p (core.guarded k1 t1 a1) (core.guarded k2 t2 a2) e = guarded_laid p k2 k1 t2 t1 a2 a1 (sym (object_type t1 t2 a1 a2 (and_right (k1 == k2) (same_object t1 a1 t2 a2) e)))
-same_laid p (core.guarded k1 t1 a1) (core.variant t2 a2) e = absurd (false≢true e)
-same_laid p (core.guarded k1 t1 a1) (core.owning_variant t2 a2) e = absurd (false≢true e)
-same_laid p (core.variant t1 a1) core.int e = absurd (false≢true e)
-same_laid p (core.variant t1 a1) core.bool e = absurd (false≢true e)
-same_laid p (core.variant t1 a1) (core.tracked k2 t2 a2) e = absurd (false≢true e)
-same_laid p (core.variant t1 a1) (core.owning s2 t2 a2) e = absurd (false≢true e)
-same_laid p (core.variant t1 a1) (core.guarded k2 t2 a2) e = absurd (false≢true e)
-same_laid p (core.variant t1 a1) (core.variant t2 a2) e = variant_laid p t2 t1 a2 a1 (sym (object_type t1 t2 a1 a2 e))
-same_laid p (core.variant t1 a1) (core.owning_variant t2 a2) e = absurd (false≢true e)
-same_laid p (core.owning_variant t1 a1) core.int e = absurd (false≢true e)
-same_laid p (core.owning_variant t1 a1) core.bool e = absurd (false≢true e)
-same_laid p (core.owning_variant t1 a1) (core.tracked k2 t2 a2) e = absurd (false≢true e)
-same_laid p (core.owning_variant t1 a1) (core.owning s2 t2 a2) e = absurd (false≢true e)
-same_laid p (core.owning_variant t1 a1) (core.guarded k2 t2 a2) e = absurd (false≢true e)
-same_laid p (core.owning_variant t1 a1) (core.variant t2 a2) e = absurd (false≢true e)
-same_laid p (core.owning_variant t1 a1) (core.owning_variant t2 a2) e = owning_variant_laid p t2 t1 a2 a1 (sym (object_type t1 t2 a1 a2 e))
+same_laid p b a e = (both_laid p b a e).0
+
+-- the first in the place of the second
+pub laid_to : (p : Program) (b a : Ty) → same_ty b a ≡ true → IsLaidAs p b a
+laid_to p b a e = (both_laid p b a e).1
 
 -- an owning value fits where it may be in more states
 pub fits_laid : (p : Program) (b a : Ty) → fits_owning b a ≡ true → IsLaidAs p a b
@@ -176,54 +199,3 @@ keys_laid p keys (core.guarded k t args) = guarded_laid p k _ t t args _ refl
 keys_laid p keys (core.owning states t args) = owning_laid p states states t t args _ refl
 keys_laid p keys (core.variant t args) = variant_laid p t t args _ refl
 keys_laid p keys (core.owning_variant t args) = owning_variant_laid p t t args _ refl
-
-pub laid_to : (p : Program) (b a : Ty) → same_ty b a ≡ true → IsLaidAs p b a
-laid_to p core.int core.int e = laid_self p core.int
-laid_to p core.int core.bool e = absurd (false≢true e)
-laid_to p core.int (core.tracked k2 t2 a2) e = absurd (false≢true e)
-laid_to p core.int (core.owning s2 t2 a2) e = absurd (false≢true e)
-laid_to p core.int (core.guarded k2 t2 a2) e = absurd (false≢true e)
-laid_to p core.int (core.variant t2 a2) e = absurd (false≢true e)
-laid_to p core.int (core.owning_variant t2 a2) e = absurd (false≢true e)
-laid_to p core.bool core.int e = absurd (false≢true e)
-laid_to p core.bool core.bool e = laid_self p core.bool
-laid_to p core.bool (core.tracked k2 t2 a2) e = absurd (false≢true e)
-laid_to p core.bool (core.owning s2 t2 a2) e = absurd (false≢true e)
-laid_to p core.bool (core.guarded k2 t2 a2) e = absurd (false≢true e)
-laid_to p core.bool (core.variant t2 a2) e = absurd (false≢true e)
-laid_to p core.bool (core.owning_variant t2 a2) e = absurd (false≢true e)
-laid_to p (core.tracked k1 t1 a1) core.int e = absurd (false≢true e)
-laid_to p (core.tracked k1 t1 a1) core.bool e = absurd (false≢true e)
-laid_to p (core.tracked k1 t1 a1) (core.tracked k2 t2 a2) e = tracked_laid p k1 k2 t1 t2 a1 a2 (object_type t1 t2 a1 a2 (and_right (k1 == k2) (same_object t1 a1 t2 a2) e))
-laid_to p (core.tracked k1 t1 a1) (core.owning s2 t2 a2) e = absurd (false≢true e)
-laid_to p (core.tracked k1 t1 a1) (core.guarded k2 t2 a2) e = absurd (false≢true e)
-laid_to p (core.tracked k1 t1 a1) (core.variant t2 a2) e = absurd (false≢true e)
-laid_to p (core.tracked k1 t1 a1) (core.owning_variant t2 a2) e = absurd (false≢true e)
-laid_to p (core.owning s1 t1 a1) core.int e = absurd (false≢true e)
-laid_to p (core.owning s1 t1 a1) core.bool e = absurd (false≢true e)
-laid_to p (core.owning s1 t1 a1) (core.tracked k2 t2 a2) e = absurd (false≢true e)
-laid_to p (core.owning s1 t1 a1) (core.owning s2 t2 a2) e = owning_laid p s1 s2 t1 t2 a1 a2 (object_type t1 t2 a1 a2 (and_right (same_states s1 s2) (same_object t1 a1 t2 a2) e))
-laid_to p (core.owning s1 t1 a1) (core.guarded k2 t2 a2) e = absurd (false≢true e)
-laid_to p (core.owning s1 t1 a1) (core.variant t2 a2) e = absurd (false≢true e)
-laid_to p (core.owning s1 t1 a1) (core.owning_variant t2 a2) e = absurd (false≢true e)
-laid_to p (core.guarded k1 t1 a1) core.int e = absurd (false≢true e)
-laid_to p (core.guarded k1 t1 a1) core.bool e = absurd (false≢true e)
-laid_to p (core.guarded k1 t1 a1) (core.tracked k2 t2 a2) e = absurd (false≢true e)
-laid_to p (core.guarded k1 t1 a1) (core.owning s2 t2 a2) e = absurd (false≢true e)
-laid_to p (core.guarded k1 t1 a1) (core.guarded k2 t2 a2) e = guarded_laid p k1 k2 t1 t2 a1 a2 (object_type t1 t2 a1 a2 (and_right (k1 == k2) (same_object t1 a1 t2 a2) e))
-laid_to p (core.guarded k1 t1 a1) (core.variant t2 a2) e = absurd (false≢true e)
-laid_to p (core.guarded k1 t1 a1) (core.owning_variant t2 a2) e = absurd (false≢true e)
-laid_to p (core.variant t1 a1) core.int e = absurd (false≢true e)
-laid_to p (core.variant t1 a1) core.bool e = absurd (false≢true e)
-laid_to p (core.variant t1 a1) (core.tracked k2 t2 a2) e = absurd (false≢true e)
-laid_to p (core.variant t1 a1) (core.owning s2 t2 a2) e = absurd (false≢true e)
-laid_to p (core.variant t1 a1) (core.guarded k2 t2 a2) e = absurd (false≢true e)
-laid_to p (core.variant t1 a1) (core.variant t2 a2) e = variant_laid p t1 t2 a1 a2 (object_type t1 t2 a1 a2 e)
-laid_to p (core.variant t1 a1) (core.owning_variant t2 a2) e = absurd (false≢true e)
-laid_to p (core.owning_variant t1 a1) core.int e = absurd (false≢true e)
-laid_to p (core.owning_variant t1 a1) core.bool e = absurd (false≢true e)
-laid_to p (core.owning_variant t1 a1) (core.tracked k2 t2 a2) e = absurd (false≢true e)
-laid_to p (core.owning_variant t1 a1) (core.owning s2 t2 a2) e = absurd (false≢true e)
-laid_to p (core.owning_variant t1 a1) (core.guarded k2 t2 a2) e = absurd (false≢true e)
-laid_to p (core.owning_variant t1 a1) (core.variant t2 a2) e = absurd (false≢true e)
-laid_to p (core.owning_variant t1 a1) (core.owning_variant t2 a2) e = owning_variant_laid p t1 t2 a1 a2 (object_type t1 t2 a1 a2 e)
