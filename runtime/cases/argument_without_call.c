@@ -1,0 +1,7 @@
+#include "vault_rt.h"
+#define VR_MAIN f0
+void f0 ( void ) ;
+void f0 ( void ) {
+vr_arg_n ( 1 ) ;
+return ;
+}

@@ -1,0 +1,10 @@
+#include "vault_rt.h"
+#define VR_MAIN f0
+void f0 ( void ) ;
+void f0 ( void ) {
+vr_ref p0 ;
+p0 = vr_new ( 1 , 0 ) ;
+vr_release ( p0 ) ;
+p0 -> n [ 0 ] = 7 ;
+return ;
+}

@@ -1,0 +1,12 @@
+#include "vault_rt.h"
+#define VR_MAIN f0
+void f0 ( void ) ;
+void f0 ( void ) {
+vr_ref p0 ;
+p0 = vr_new ( 0 , 0 ) ;
+vr_disown ( p0 ) ;
+vr_disown ( vr_null ) ;
+vr_release ( p0 ) ;
+vr_disown ( p0 ) ;
+return ;
+}

@@ -1,0 +1,9 @@
+#include "vault_rt.h"
+#define VR_MAIN f0
+void f0 ( void ) ;
+void f0 ( void ) {
+long long n0 ;
+vr_call ( "f" ) ;
+n0 = vr_int ( ) ;
+return ;
+}

@@ -1,0 +1,9 @@
+#include "vault_rt.h"
+#define VR_MAIN f0
+void f0 ( void ) ;
+void f0 ( void ) {
+vr_call ( "f" ) ;
+vr_ask ( ) ;
+vr_out ( vr_null ) ;
+return ;
+}

@@ -1,0 +1,14 @@
+#include "vault_rt.h"
+#define VR_MAIN f0
+void f0 ( void ) ;
+void f0 ( void ) {
+vr_ref p0 ;
+vr_ref p1 ;
+vr_call ( "f" ) ;
+vr_ask ( ) ;
+p0 = vr_new ( 0 , 0 ) ;
+p1 = vr_new ( 0 , 0 ) ;
+vr_out ( p0 ) ;
+vr_own ( p0 , p1 ) ;
+return ;
+}

@@ -1,0 +1,8 @@
+#include "vault_rt.h"
+#define VR_MAIN f0
+void f0 ( void ) ;
+void f0 ( void ) {
+vr_print ( 1 ) ;
+f0 ( ) ;
+return ;
+}

@@ -1,0 +1,8 @@
+#include "vault_rt.h"
+#define VR_MAIN f0
+void f0 ( void ) ;
+void f0 ( void ) {
+vr_ref p0 ;
+vr_release ( p0 ) ;
+return ;
+}

@@ -1,0 +1,9 @@
+#include "vault_rt.h"
+#define VR_MAIN f0
+void f0 ( void ) ;
+void f0 ( void ) {
+long long n0 ;
+n0 = ( - 1 ) ;
+vr_put_n ( n0 , 1 ) ;
+return ;
+}
