@@ -58,8 +58,9 @@ fn refusal(alloc: Global, p: &Program, f: &Func, fn_id: FnId) -> CheckError
     match fault_in(alloc, p, f, fn_id) {
         Ok(Some(fault)) => CheckError::Refused(fault),
         Ok(None) => CheckError::Unfit,
+        Err(RowError::Unfit) => CheckError::Unfit,
         Err(RowError::Memory) => CheckError::Memory,
-        Err(_) => CheckError::Unfit,
+        Err(RowError::Refused(_)) => unreachable!(),
     }
 }
 

@@ -1,0 +1,9 @@
+use Rattle.std.proofs.Common.{Err, ap, ◌∙◌}
+use Rattle.vlt_core.specs.View.{program_of, func_of}
+use Rattle.vlt_check.proofs.Unfitting.{unfit_cause, parts_unfit}
+use Rattle.vlt_check.proofs.program.refusal.Goals as goal
+
+pub returns-in-Err-Unfit-clause-unfit : goal.returns-in-Err-Unfit-clause-unfit
+returns-in-Err-Unfit-clause-unfit c = λ e.
+    parts_unfit (program_of c.args.p.now) (func_of c.args.f.now)
+    (unfit_cause c.fault_in.result c.fault_in.ensures.unfit (c.in-Err-Unfit.is ∙ ap (λ x. Err x) c.in-Err-Unfit.field-0-is))
