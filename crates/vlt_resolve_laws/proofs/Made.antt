@@ -151,7 +151,7 @@ module _ (kinds : Kinds) where
 
 -- ---- the program
 
-told_ok : (r : Result Program Refusal) (p : Program) → with_told r ≡ Ok p → r ≡ Ok p
+pub told_ok : (r : Result Program Refusal) (p : Program) → with_told r ≡ Ok p → r ≡ Ok p
 told_ok (Ok q) p e = ap Ok (same q p e)
   where
     same : (a b : Program) → ◌≡◌ {A = Result Program Told} (Ok a) (Ok b) → a ≡ b
