@@ -14,12 +14,14 @@ pub struct Annotation {
 pub enum Note {
     /// The map at the loop's head, and the one behind it.
     Loop {
+        /// The statement's number, counted from 0 in the function.
         stmt: StmtId,
         around: TokMap,
         exit: TokMap,
     },
     /// The map behind an `if` or a `switch`.
     Join {
+        /// The statement's number, counted from 0 in the function.
         stmt: StmtId,
         map: TokMap,
     },
