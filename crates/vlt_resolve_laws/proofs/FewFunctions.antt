@@ -1,5 +1,5 @@
 -- An elaborated program has no more functions than its tree has declarations.
-use Rattle.std.proofs.Common.{◌≡◌, ◌≤◌, ◌+◌, ℕ, List, [], ◌∷◌, ◌++◌, length, refl, sym, ap, ◌∙◌, subst, arith}
+use Rattle.std.proofs.Common.{◌≡◌, ◌≤◌, suc, List, [], ◌∷◌, length, refl, ap, subst, arith}
 use Rattle.std.proofs.lemmas.List.{length-append}
 use Rattle.vlt_syntax.specs.Tree as s
 use Rattle.vlt_syntax.specs.Tree.{Decl, Tree}
@@ -31,7 +31,7 @@ as_many : (kinds : Kinds) (hs fs : List Func) → AreMade kinds hs fs → length
 as_many kinds [] [] m = refl
 as_many kinds [] (f ∷ fs) m = absurd m
 as_many kinds (h ∷ hs) [] m = absurd m
-as_many kinds (h ∷ hs) (f ∷ fs) m = ap (λ n. n + 1) (as_many kinds hs fs m.1)
+as_many kinds (h ∷ hs) (f ∷ fs) m = ap suc (as_many kinds hs fs m.1)
 
 pub elaborated_few_functions : (t : Tree) (kinds : Kinds) (p : Program) → IsElaborated t kinds p → length p.fns ≤ 4096
 elaborated_few_functions t kinds p e =
