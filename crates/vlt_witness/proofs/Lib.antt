@@ -11,3 +11,4 @@ pub mod Large
 pub mod Ends
 pub mod Starting
 pub mod Showing
+mod Unfitting
