@@ -48,22 +48,23 @@ module _ (keys : List ℕ) (frame : Frame) where
       )
 
 -- a key that is given is no new one
-given_old : (m : Mode) → (not (is_before m) && not (is_fresh m)) ≡ true → is_fresh m ≡ true → ⊥
+pub given_old : (m : Mode) → (not (is_before m) && not (is_fresh m)) ≡ true → is_fresh m ≡ true → ⊥
 given_old kept q t = cc
 given_old (up_to u) q t = cc
 given_old taken q t = cc
 given_old given q t = cc
 given_old fresh q t = cc
 
+-- the key of a reference among the parameters is one of their types
+pub is_param : (g : Func) (k : ℕ) → has (tracked_keys g) k ≡ true → IsParamKey g k
+is_param g k is = has_in k (keys_of_parameters g) (own_in (parameters_of g) k (in_has k (tracked_keys g) is))
+
 module _ (p : Program) {f : Func} (g : Func) {ids : Ids} (keys : List ℕ) (host : HasHostHead p g)
     (call : IsCall p f g ids keys) (frame : Frame) (named : AreNamed g keys frame) where
-  is_param : (k : ℕ) → has (tracked_keys g) k ≡ true → IsParamKey g k
-  is_param k is = has_in k (keys_of_parameters g) (own_in (parameters_of g) k (in_has k (tracked_keys g) is))
-
   reference_found : (k : ℕ) → has (tracked_keys g) k ≡ true → IsFound keys frame k
   reference_found k is =
       let q = named k is in
-      record { key = stands_for keys k; is = call.params k (is_param k is); number = q.0; named = q.1 }
+      record { key = stands_for keys k; is = call.params k (is_param g k is); number = q.0; named = q.1 }
 
   given_found : (es : List Entry) → ((e : Entry) → Among e es → Among e g.clause) →
       AllFound keys frame (map (λ e. e.key) (filter is_given es))

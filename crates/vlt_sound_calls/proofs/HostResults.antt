@@ -8,7 +8,7 @@ use Rattle.vlt_core.specs.Lookups.{VariantOf, key_type, variant_in, is_before, i
 use Rattle.vlt_core.specs.Types.{stands_for}
 use Rattle.vlt_core.specs.Maps.{HeldMap, CanPass, map_after}
 use Rattle.vlt_core.specs.Rows.{clause_rows, target_rows}
-use Rattle.vlt_core.specs.KindedHeads.{has, parameters_of, keys_of_parameters, tracked_keys}
+use Rattle.vlt_core.specs.KindedHeads.{has}
 use Rattle.vlt_core.specs.KindedScopes.{Ids}
 use Rattle.vlt_core.specs.KindedCalls.{call_target_broken, with_call_target}
 use Rattle.vlt_meaning.specs.World.{Value, Object, World, Frame, is_out, loose}
@@ -25,10 +25,9 @@ use Rattle.vlt_sound_worlds.specs.Typed.{IsTyped}
 use Rattle.vlt_sound_worlds.specs.Safe.{Goal, Safe, goes_to}
 use Rattle.vlt_sound_worlds.proofs.FrameChanges.{agrees_map}
 use Rattle.vlt_sound_worlds.specs.Scoped.{IsKeyInScope, IsScoped}
-use Rattle.vlt_sound_worlds.proofs.Starting as starting
 use Rattle.vlt_sound_calls.specs.Returned.{IsEntered}
 use Rattle.vlt_sound_calls.specs.Heads.{HasHead}
-use Rattle.vlt_sound_calls.specs.Callee.{Among, caller_key, IsParamKey, IsCall}
+use Rattle.vlt_sound_calls.specs.Callee.{Among, caller_key, IsCall}
 use Rattle.vlt_sound_calls.proofs.Entries.{same_entry}
 use Rattle.vlt_sound_calls.proofs.Typing.{keys_typed}
 use Rattle.vlt_sound_calls.specs.Fresh.{IsFreshCall}
@@ -53,7 +52,8 @@ use Rattle.vlt_sound_calls.proofs.References.{reference_safe}
 use Rattle.vlt_sound_calls.specs.HostAnswers.{map_after_sending, answer_step, AreNamed, AnswersAreSafe}
 use Rattle.vlt_sound_calls.proofs.Maps.{back, now, given_away, told_at, same_map, new_absent, new_held}
 use Rattle.vlt_sound_calls.proofs.Fitting.{IsFitted, fitted}
-use Rattle.vlt_sound_calls.proofs.News.{in_has, among_at, own_in, same_key, same_args, none_new, IsNew, one_new}
+use Rattle.vlt_sound_calls.proofs.Awaited.{given_old, is_param}
+use Rattle.vlt_sound_calls.proofs.News.{among_at, same_key, same_args, none_new, IsNew, one_new}
 
 false_true : false ≡ true → ⊥
 false_true e = cc
@@ -81,9 +81,6 @@ module _ (p : Program) (heap : ℕ) (f : Func) (c : Context) (h : HeldMap) (ids 
 
   -- ---- keys
 
-  is_param : (k : ℕ) → has (tracked_keys g) k ≡ true → IsParamKey g k
-  is_param k is = starting.has_in k (keys_of_parameters g) (own_in (parameters_of g) k (in_has k (tracked_keys g) is))
-
   -- a key in scope is no new one
   not_scoped : (e : Entry) → Among e g.clause → is_new e ≡ true → IsKeyInScope ids (caller_key keys e) → ⊥
   not_scoped e i is there =
@@ -104,7 +101,7 @@ module _ (p : Program) (heap : ℕ) (f : Func) (c : Context) (h : HeldMap) (ids 
   givable = record {
     there = call.entries;
     apart = call.callers;
-    scoped = λ e i q. call.scoped e.key (new.params e i (given_after e q) (given_old e q));
+    scoped = λ e i q. call.scoped e.key (new.params e i (given_after e q) (given_old e.mode q));
     away = λ e i q. given_away p f g keys call.entries call.callers h pass e i q;
   }
     where
@@ -118,23 +115,13 @@ module _ (p : Program) (heap : ℕ) (f : Func) (c : Context) (h : HeldMap) (ids 
           by given q = refl
           by fresh q = cc
 
-      given_old : (e : Entry) → is_given e ≡ true → is_new e ≡ true → ⊥
-      given_old e q t = by e.mode q t
-        where
-          by : (m : Mode) → (not (is_before m) && not (is_fresh m)) ≡ true → is_fresh m ≡ true → ⊥
-          by kept q t = cc
-          by (up_to u) q t = cc
-          by taken q t = cc
-          by given q t = cc
-          by fresh q t = cc
-
   tellable : AreTellable p f g keys (entries_after g) (back p f g keys call.entries call.callers h pass)
   tellable = record {
     each = λ e i old.
         let both = among_filtered is_held_after g.clause e i in
         let ref = host.known e both.0 old in
         let t = host.typed e.key ref in
-        let to = call.typed e.key t.0 (is_param e.key ref) t.1 in
+        let to = call.typed e.key t.0 (is_param g e.key ref) t.1 in
         record {
           there = call.entries e both.0;
           type = t.0;
@@ -194,7 +181,7 @@ module _ (p : Program) (heap : ℕ) (f : Func) (c : Context) (h : HeldMap) (ids 
     -- the keys of references name objects of their types
     objects_named : over.AreNamed g keys frame os1
     objects_named k t is type =
-        let param = is_param k is in
+        let param = is_param g k is in
         let name = named k is in
         record {
           there = call.params k param;

@@ -33,7 +33,7 @@ use Rattle.vlt_sound_worlds.specs.Safe.{Goal, Safe}
 use Rattle.vlt_sound_worlds.proofs.Rows.{row_here, row_other}
 use Rattle.vlt_sound_worlds.proofs.Touch.{named}
 use Rattle.vlt_sound_worlds.proofs.Safe.{found_safe}
-use Rattle.vlt_sound_worlds.proofs.FrameChanges.{set_here, set_other}
+use Rattle.vlt_sound_worlds.proofs.FrameChanges.{set_here, set_other, rest_with_var}
 use Rattle.vlt_sound_worlds.proofs.FrameOwners.{agrees_owner, ChangesTok, cells_stay}
 use Rattle.vlt_sound_worlds.proofs.Leaving.{key_same, var_is_no_key, length_changed}
 use Rattle.vlt_sound_worlds.proofs.Moved.{owned_found}
@@ -148,15 +148,7 @@ module _ {p : Program} {f : Func} {c : Context} {h : HeldMap} {ids : Ids} {frame
           (r.0, set_other v (Some rest) frame.vars u out.1 ∙ r.1);
     };
     handed = fits;
-    rest = record {
-      depth = agrees.rest.depth;
-      within = agrees.rest.within;
-      named = agrees.rest.named;
-      bounded = agrees.rest.bounded;
-      focused = agrees.rest.focused;
-      pinned = agrees.rest.pinned;
-      waits = agrees.rest.waits;
-    };
+    rest = rest_with_var v _ agrees.rest;
   }
     where
       same_content : (P : Root) → (P ≡ in_var v → ⊥) → (P ≡ in_hand → ⊥) →
@@ -218,15 +210,7 @@ module _ {p : Program} {f : Func} {c : Context} {h : HeldMap} (ids : Ids) {hand 
           (cases_eq u v);
     };
     handed = agrees.handed;
-    rest = record {
-      depth = agrees.rest.depth;
-      within = agrees.rest.within;
-      named = agrees.rest.named;
-      bounded = agrees.rest.bounded;
-      focused = agrees.rest.focused;
-      pinned = agrees.rest.pinned;
-      waits = agrees.rest.waits;
-    };
+    rest = rest_with_var v _ agrees.rest;
   }
     where
       none_some : (b : Value) → ◌≡◌ {A = Option Value} None (Some b) → ⊥

@@ -17,10 +17,10 @@ use Rattle.vlt_sound_worlds.proofs.Placed as placed
 use Rattle.vlt_sound_worlds.proofs.Roots.{homes, same_root}
 use Rattle.vlt_sound_worlds.specs.Keys.{IsUnder, IsSameObject}
 use Rattle.vlt_sound_worlds.proofs.KeysLaws.{key_kept, under_all}
-use Rattle.vlt_sound_worlds.specs.Scene.{Focus, Grows}
+use Rattle.vlt_sound_worlds.specs.Scene.{Focus, Scene, Grows}
 use Rattle.vlt_sound_worlds.proofs.Scene.{Stays, grows}
 use Rattle.vlt_sound_worlds.specs.Fits.{Fits}
-use Rattle.vlt_sound_worlds.specs.Agrees.{ObjectFits, HasVar, InScope, Handed, Context, FociAgree, scene, stock, Agrees}
+use Rattle.vlt_sound_worlds.specs.Agrees.{ObjectFits, HasVar, InScope, Handed, Context, FociAgree, RestAgrees, scene, stock, Agrees}
 use Rattle.vlt_sound_worlds.proofs.Kept.{KeepsOwned, var_states, rest_kept, hand_states, vars_kept, handed_kept}
 
 -- ---- maps from numbers
@@ -64,6 +64,20 @@ pub agrees_map : {p : Program} {f : Func} {c : Context} {h k : HeldMap} {ids : I
     h ≡ k → Agrees p f c h ids hand frame os → Agrees p f c k ids hand frame os
 agrees_map {p} {f} {c} {h} {k} {ids} {hand} {frame} {os} e agrees =
     subst (λ h. Agrees p f c h ids hand frame os) e agrees
+
+-- ---- what stands around says nothing of the function's own variables
+
+pub rest_with_var : {p : Program} {c : Context} {s : Scene} {frame : Frame} (v : ℕ) (a : Option Value) →
+    RestAgrees p c s frame → RestAgrees p c s (step.with_var v a frame)
+rest_with_var v a rest = record {
+  depth = rest.depth;
+  within = rest.within;
+  named = rest.named;
+  bounded = rest.bounded;
+  focused = rest.focused;
+  pinned = rest.pinned;
+  waits = rest.waits;
+}
 
 -- ---- a variable that owns nothing gets a value
 
@@ -119,15 +133,7 @@ module _ {p : Program} {f : Func} {c : Context} {h : HeldMap} {ids : Ids} {hand 
           (cases_eq u v);
     };
     handed = agrees.handed;
-    rest = record {
-      depth = agrees.rest.depth;
-      within = agrees.rest.within;
-      named = agrees.rest.named;
-      bounded = agrees.rest.bounded;
-      focused = agrees.rest.focused;
-      pinned = agrees.rest.pinned;
-      waits = agrees.rest.waits;
-    };
+    rest = rest_with_var v _ agrees.rest;
   }
     where
       owns_not : is_owning_var f v ≡ false

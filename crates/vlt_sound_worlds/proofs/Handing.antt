@@ -19,7 +19,7 @@ use Rattle.vlt_sound_worlds.proofs.Roots.{same_root}
 use Rattle.vlt_sound_worlds.specs.Keys.{KeyAgrees}
 use Rattle.vlt_sound_worlds.specs.Fits.{Fits}
 use Rattle.vlt_sound_worlds.specs.Agrees.{HasVar, InScope, VarsAgree, Handed, values_of, Context, scene, stock, Agrees}
-use Rattle.vlt_sound_worlds.proofs.FrameChanges.{set_here, set_other}
+use Rattle.vlt_sound_worlds.proofs.FrameChanges.{set_here, set_other, rest_with_var}
 use Rattle.vlt_sound_worlds.proofs.FrameOwners.{ChangesTok}
 use Rattle.vlt_sound_worlds.proofs.Leaving.{hand_more, handed_more}
 
@@ -91,15 +91,7 @@ module _ {p : Program} {f : Func} {c : Context} {h : HeldMap} {ids : Ids} {hand 
     handed =
         handed_more p (scene c os agrees.heads) frame.keys hand (record { value = a; type = ty }) agrees.handed
         (agrees.fit.fit v ty a scoped is at);
-    rest = record {
-      depth = agrees.rest.depth;
-      within = agrees.rest.within;
-      named = agrees.rest.named;
-      bounded = agrees.rest.bounded;
-      focused = agrees.rest.focused;
-      pinned = agrees.rest.pinned;
-      waits = agrees.rest.waits;
-    };
+    rest = rest_with_var v _ agrees.rest;
   }
     where
       none_some : (b : Value) → ◌≡◌ {A = Option Value} None (Some b) → ⊥
@@ -162,15 +154,7 @@ module _ {p : Program} {f : Func} {c : Context} {h : HeldMap} {ids : Ids} {x : H
           (cases_eq u v);
     };
     handed = agrees.handed.1;
-    rest = record {
-      depth = agrees.rest.depth;
-      within = agrees.rest.within;
-      named = agrees.rest.named;
-      bounded = agrees.rest.bounded;
-      focused = agrees.rest.focused;
-      pinned = agrees.rest.pinned;
-      waits = agrees.rest.waits;
-    };
+    rest = rest_with_var v _ agrees.rest;
   }
     where
       clash : true ≡ false → ⊥
