@@ -7,6 +7,7 @@ use Rattle.vlt_core.specs.Derives.{IsAccepted}
 use Rattle.vlt_core.specs.Kinded.{IsKinded}
 use Rattle.vlt_core_laws.specs.States.{HasStates}
 use Rattle.vlt_fit_laws.specs.Fit.{ProgramsAreFit}
+use Rattle.vlt_fit_laws.specs.Texts.{TextsHaveTextTrees}
 use Rattle.vlt_sound.specs.Sizes.{HasSizes}
 use Rattle.vlt_sound.specs.Narrow.{HasNarrowHeads}
 use Rattle.vlt_sound.specs.Promise.{NeverGoesWrong, LeavesOnlyItsClause}
@@ -24,11 +25,12 @@ use Rattle.vaultc_core.specs.Commands.{Command, check}
 use Rattle.vaultc_core.specs.Finishes.{Finishes}
 use Rattle.vaultc_core.specs.Lines.{Reply, reply}
 use Rattle.vaultc_core.specs.Texts.{IsTooLong, IsTextOf, Refusal, unlexed, unparsed, refusal_reply}
-use Rattle.vaultc_core.specs.Verdicts.{IsProgramOf, check_reply}
+use Rattle.vaultc_core.specs.Programs.{IsProgramOf}
+use Rattle.vaultc_core.specs.Verdicts.{check_reply}
 use Rattle.vaultc_core.specs.Sources.{had, unread, too_long, text_in, read_before, read_in, IsOneRead}
 use Rattle.vaultc_core.specs.Replies.{IsReplyToText, bytes_at, IsReplyToRead, IsReplyToCommand, MayReply}
 use Rattle.vaultc_core.specs.Promised.{IsPromised}
-use Rattle.vaultc_core.proofs.Read.{TextsHaveTicks, text_tree}
+use Rattle.vaultc_core.proofs.Read.{text_tree}
 use Rattle.vaultc_core.proofs.Single.{Laws}
 use Rattle.vaultc_core.proofs.Reading.{one_read, read_there, short_before}
 use Rattle.vaultc_core.proofs.Told.{complete}
@@ -55,7 +57,7 @@ pub record GoRight : Type 0 where
   pub never : (p : Program) → IsKinded p → IsAccepted p → HasSizes p → HasStates p → HasNarrowHeads p → NeverGoesWrong p
   pub leaves : (p : Program) → IsKinded p → IsAccepted p → HasSizes p → HasStates p → HasNarrowHeads p → LeavesOnlyItsClause p
 
-module _ (law : ProgramsAreFit) (ticks : TextsHaveTicks) (right : GoRight) where
+module _ (law : ProgramsAreFit) (trees : TextsHaveTextTrees) (right : GoRight) where
   of_verdict : (store : Option Files) (name bytes text : List ℕ) (t : Tree) (v : Verdict) (old new : Option (List ℕ)) →
       IsRead store name (limit_of SOURCE_BYTES) bytes → (IsTooLong bytes → ⊥) → IsTextOf t bytes → IsVerdictOf t v →
       reply DONE text ≡ check_reply bytes v → Grew old new text → IsPromised store name bytes old new
@@ -63,7 +65,7 @@ module _ (law : ProgramsAreFit) (ticks : TextsHaveTicks) (right : GoRight) where
   of_verdict store name bytes text t (refused (exceeded n)) old new read short reads is e grew = absurd (not_zero 4 (status_of text _ e))
   of_verdict store name bytes text t (faulty p f x) old new read short reads is e grew = absurd (not_zero 7 (status_of text _ e))
   of_verdict store name bytes text t (accepted p) old new read short reads is e grew =
-      let fit = fit_program law t p (text_tree ticks bytes t reads) is.0 in
+      let fit = fit_program law t p (text_tree trees bytes t reads) is.0 in
       record {
         program = p;
         reads = record { short = short; tree = t; reads = reads; elaborates = is.0 };

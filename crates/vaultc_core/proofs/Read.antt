@@ -17,11 +17,8 @@ use Rattle.vlt_syntax_laws.proofs.OneTree.{one_placed_tree}
 use Rattle.vaultc_core.specs.Texts.{AreTokens, IsTextOf, Refusal, unlexed, unparsed, AreRefused, AreReadInOneWay}
 use Rattle.vaultc_core.specs.Shown.{refusal_of}
 use Rattle.vaultc_core.specs.declared.source.TextError.TheVariants as error
-use Rattle.vlt_syntax.specs.Lists.{Each}
-use Rattle.vlt_syntax.specs.Spelling.{spelling}
-use Rattle.vlt_syntax.specs.Tokens.{tokens_in}
-use Rattle.vlt_syntax_laws.specs.Ticks.{HasTicks}
 use Rattle.vlt_fit_laws.specs.Fit.{IsTextTree}
+use Rattle.vlt_fit_laws.specs.Texts.{TextsHaveTextTrees}
 use Rattle.vaultc_core.proofs.Lexed.{Lexed, lexed}
 
 lists_alike : (bytes : List ℕ) (ls ms : List Lexeme) → AreTokens bytes ls → AreTokens bytes ms → ls ≡ ms
@@ -38,12 +35,9 @@ refused_tokens bytes ls parse.Memory tokens few is = tt
 pub one_text : (bytes : List ℕ) (t u : Tree) → IsTextOf t bytes → IsTextOf u bytes → t ≡ u
 one_text bytes t u p q = one_placed_tree q.0 t u (subst (λ ls. IsPlacedTreeOf ls t) (lists_alike bytes p.0 q.0 p.1 q.1) p.2) q.2
 
--- names of cases are ticks in texts
-abbrev pub TextsHaveTicks : Type 0
-TextsHaveTicks = (bytes : List ℕ) (ls : List Lexeme) (t : Tree) → IsTokensOf bytes ls → tokens_in ls ≡ spelling t → Each HasTicks t.decls
-
-pub text_tree : TextsHaveTicks → (bytes : List ℕ) (t : Tree) → IsTextOf t bytes → IsTextTree t
-text_tree ticks bytes t x = record { tree = x.2.0; ticks = ticks bytes x.0 t x.1.tokens x.2.1 }
+-- a tree that bytes are the text of
+pub text_tree : TextsHaveTextTrees → (bytes : List ℕ) (t : Tree) → IsTextOf t bytes → IsTextTree t
+text_tree trees bytes t x = trees bytes x.0 t x.1.tokens (x.2.0, x.2.1)
 
 -- bytes are refused in one way
 pub refusals_alike : (bytes : List ℕ) (d e : Refusal) → AreRefused bytes d → AreRefused bytes e → d ≡ e

@@ -7,6 +7,7 @@ use Rattle.vlt_meaning.specs.World.{Ran, event_text}
 use Rattle.vlt_meaning.specs.Run as meaning
 use Rattle.vlt_syntax.specs.Tree.{Tree}
 use Rattle.vlt_fit_laws.specs.Fit.{IsTextTree}
+use Rattle.vlt_fit_laws.specs.Texts.{TextsHaveTextTrees}
 use Rattle.vlt_given.specs.Given.{Given, numbers, bad_input, bad_answers, given_by}
 use Rattle.vlt_verdict.specs.Verdicts.{Verdict, IsVerdictOf}
 use Rattle.vlt_verdict.specs.Laws.{HasOneVerdict}
@@ -21,7 +22,7 @@ use Rattle.vaultc_core.specs.Runs.{IsReplyToRan, IsReplyOverNumbers, IsReplyToPr
 use Rattle.vaultc_core.specs.Replies.{IsReplyToVerdict, IsReplyToRun, IsReplyToTree, IsReplyToText, IsReplyToRunText, bytes_at, IsReplyToContents, IsReplyToRead, IsReplyToCommand, GoesOn, AreAlike}
 use Rattle.c_reader_laws.specs.Laws.{IsReadInOneWay}
 use Rattle.vaultc_core.proofs.CReplies.{one_c_reply}
-use Rattle.vaultc_core.proofs.Read.{TextsHaveTicks, text_tree, one_text, refusals_alike, text_not_refused}
+use Rattle.vaultc_core.proofs.Read.{text_tree, one_text, refusals_alike, text_not_refused}
 
 -- ---- replies to a tree
 
@@ -82,7 +83,7 @@ explained_alike file contents t (verdict.faulty p f x) r q reads is (first, seco
 -- what is known of trees, of texts and by the verdicts on them, and of C texts
 pub record Laws : Type 0 where
   pub one : HasOneVerdict
-  pub ticks : TextsHaveTicks
+  pub trees : TextsHaveTextTrees
   pub c_texts : (text : List ℕ) → IsReadInOneWay text
 
 module _ (laws : Laws) where
@@ -108,7 +109,7 @@ module _ (laws : Laws) where
   one_of_text command contents r q (inr (t, p, is_r)) (inl (e, n, is_q)) = absurd (text_not_refused (bytes_at contents 0) t e p n)
   one_of_text command contents r q (inr (t, p, is_r)) (inr (u, n, is_q)) =
       let bytes = bytes_at contents 0 in
-      one_of_tree command contents u r q n (text_tree laws.ticks bytes u n) (subst (λ x. IsReplyToTree command bytes x r) (one_text bytes t u p n) is_r) is_q
+      one_of_tree command contents u r q n (text_tree laws.trees bytes u n) (subst (λ x. IsReplyToTree command bytes x r) (one_text bytes t u p n) is_r) is_q
 
   one_of_run : (bytes : List ℕ) (given : Given) (b : Budgets) (r q : Reply) → IsReplyToRunText bytes given b r → IsReplyToRunText bytes given b q → r ≡ q
   one_of_run bytes given b r q (inl (d, p, is_r)) (inl (e, n, is_q)) = is_r ∙ ap (refusal_reply bytes) (refusals_alike bytes d e p n) ∙ sym is_q
@@ -116,7 +117,7 @@ module _ (laws : Laws) where
   one_of_run bytes given b r q (inr (t, p, is_r)) (inl (e, n, is_q)) = absurd (text_not_refused bytes t e p n)
   one_of_run bytes given b r q (inr (t, p, is_r)) (inr (u, n, is_q)) =
       let there : IsReplyToRun bytes given b u r = subst (λ x. IsReplyToRun bytes given b x r) (one_text bytes t u p n) is_r in
-      let one = laws.one u there.0 is_q.0 (text_tree laws.ticks bytes u n) there.1 is_q.1 in
+      let one = laws.one u there.0 is_q.0 (text_tree laws.trees bytes u n) there.1 is_q.1 in
       one_of_verdict bytes given b is_q.0 r q (subst (λ v. IsReplyToVerdict bytes given b v r) one there.2) is_q.2
 
   one_of_contents : (command : Command) (contents : List (List ℕ)) (r q : Reply) → IsReplyToContents command contents r → IsReplyToContents command contents q →

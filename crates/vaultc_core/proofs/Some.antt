@@ -12,6 +12,7 @@ use Rattle.vlt_core.specs.Faults.{FlowFault, IsFirstFault}
 use Rattle.vlt_core.specs.Widths.{slots_needed}
 use Rattle.vlt_core_laws.specs.Fit.{IsWellFormed}
 use Rattle.vlt_fit_laws.specs.Fit.{IsTextTree, ProgramsAreFit}
+use Rattle.vlt_fit_laws.specs.Texts.{TextsHaveTextTrees}
 use Rattle.vlt_given.specs.Given.{Given, numbers, bad_input, bad_answers, given_by}
 use Rattle.vlt_meaning.specs.Run as meaning
 use Rattle.vlt_meaning.specs.World.{Ran, is_fault, event_text}
@@ -34,13 +35,13 @@ use Rattle.vaultc_core.specs.Verdicts.{check_reply, IsExplained}
 use Rattle.vaultc_core.specs.Replies.{IsReplyToCheck, IsReplyToExplain, IsReplyToVerdict, IsReplyToRun, IsReplyByTree, bytes_at, IsReplyToContents, HasSomeReply}
 use Rattle.c_reader_laws.specs.Laws.{IsReadInOneWay}
 use Rattle.vaultc_core.proofs.CReplies.{over_or_not, some_c_reply}
-use Rattle.vaultc_core.proofs.Read.{TextsHaveTicks, text_tree, read_in_one_way}
+use Rattle.vaultc_core.proofs.Read.{text_tree, read_in_one_way}
 use Rattle.vaultc_core.proofs.RunEnded.{last_there}
 use Rattle.vaultc_core.proofs.Runnable.{OfAccepted}
 
 -- what is known of the trees of texts, and of C texts
 pub record Laws : Type 0 where
-  pub ticks : TextsHaveTicks
+  pub trees : TextsHaveTextTrees
   pub fit : ProgramsAreFit
   pub verdicts : HasSomeVerdict
   pub witnesses : (p : Program) (x : FlowFault) → IsWellFormed p → IsFirstFault p x → HasWitness p x
@@ -95,7 +96,7 @@ module _ (laws : Laws) where
 
   by_tree : (P : Tree → Reply → Type 0) (bytes : List ℕ) → ((t : Tree) → IsTextTree t → Surely ((r : Reply) × P t r)) → Surely ((r : Reply) × IsReplyByTree P bytes r)
   by_tree P bytes some = ⊎_elim
-      (λ x. so (some x.0 (text_tree laws.ticks bytes x.0 x.1)) (λ r. (r.0, inr (x.0, x.1, r.1))))
+      (λ x. so (some x.0 (text_tree laws.trees bytes x.0 x.1)) (λ r. (r.0, inr (x.0, x.1, r.1))))
       (λ x. sure (refusal_reply bytes x.0, inl (x.0, x.1, refl)))
       (read_in_one_way bytes).either
 

@@ -2,6 +2,7 @@ pub mod Commands
 pub mod Sources
 pub mod Lines
 pub mod Texts
+pub mod Programs
 pub mod Verdicts
 pub mod Runs
 pub mod CRuns

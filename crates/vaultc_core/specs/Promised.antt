@@ -4,8 +4,8 @@ use Rattle.vlt_core.specs.Core.{Program}
 use Rattle.vlt_core.specs.Derives.{IsAccepted}
 use Rattle.vlt_sound.specs.Promise.{NeverGoesWrong, LeavesOnlyItsClause}
 use Rattle.vlt_io.specs.Outside.{Files, Grew}
-use Rattle.vlt_reports.specs.Reports.{accepted_line}
-use Rattle.vaultc_core.specs.Verdicts.{IsProgramOf}
+use Rattle.vlt_reports.specs.Accepted.{accepted_line}
+use Rattle.vaultc_core.specs.Programs.{IsProgramOf}
 
 -- The bytes are the text of a program that follows the rules. No run of it goes wrong, and one that comes to main's end
 -- leaves only what main's clause or the host has, and what is below that. Where files are told, the bytes are all of the file's. That the program is accepted was written.

@@ -1,14 +1,12 @@
--- What `check` and `explain` say of a tree as a program, and which bytes are the text of a program.
-use Rattle.std.specs.Prelude.{◌≡◌, ℕ, List, ◌++◌, Option, Ok}
-use Rattle.vlt_syntax.specs.Tree.{Tree}
-use Rattle.vlt_core.specs.Core.{Program}
+-- What `check` and `explain` say of a tree as a program.
+use Rattle.std.specs.Prelude.{◌≡◌, ℕ, List, ◌++◌, Option}
 use Rattle.vlt_core.specs.Witness.{Choice, IsWitness}
 use Rattle.vlt_resolve.specs.Elaboration.{Told, broken, exceeded}
-use Rattle.vlt_verdict.specs.Verdicts.{Verdict, refused, faulty, accepted, program_told}
-use Rattle.vlt_reports.specs.Reports.{kind_line, fault_line, accepted_line, paths_text}
+use Rattle.vlt_verdict.specs.Verdicts.{Verdict, refused, faulty, accepted}
+use Rattle.vlt_reports.specs.Accepted.{accepted_line}
+use Rattle.vlt_reports.specs.Reports.{kind_line, fault_line, paths_text}
 use Rattle.vaultc_core.specs.declared.status.TheConstants.{DONE, NO_PROGRAM, NOT_ACCEPTED}
 use Rattle.vaultc_core.specs.Lines.{Reply, reply, over_reply}
-use Rattle.vaultc_core.specs.Texts.{IsTooLong, IsTextOf}
 
 -- a rule on names and types at its place in the text, or a limit
 abbrev pub told_reply : (text : List ℕ) → Told → Reply
@@ -26,10 +24,3 @@ IsExplained text (faulty p f x) r =
     (first : List Choice) × (second : Option (List Choice)) × IsWitness p x first second ×
     (r ≡ reply NOT_ACCEPTED (fault_line text p f x.at x.tok x.kind ++ paths_text text p f first second))
 IsExplained text v r = r ≡ check_reply text v
-
--- the bytes are the text of a tree, whose core program this is
-pub record IsProgramOf (bytes : List ℕ) (p : Program) : Type 0 where
-  pub short : IsTooLong bytes → ⊥
-  pub tree : Tree
-  pub reads : IsTextOf tree bytes
-  pub elaborates : program_told tree ≡ Ok p

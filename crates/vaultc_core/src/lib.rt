@@ -12,7 +12,7 @@ ghost use Rattle.vaultc_core.specs.Commands.{command_of};
 ghost use Rattle.vaultc_core.specs.Lines as lines;
 ghost use Rattle.vaultc_core.specs.declared.status.TheConstants.{DONE, NO_COMMAND, UNREAD, SINK_FAILED, NO_MEMORY};
 ghost use Rattle.vaultc_core.specs.Texts.{AreReadInOneWay};
-ghost use Rattle.vaultc_core.specs.Verdicts.{IsProgramOf};
+ghost use Rattle.vaultc_core.specs.Programs.{IsProgramOf};
 ghost use Rattle.vaultc_core.specs.Replies.{HasOneReply, HasSomeReply, IsReplyTo, IsInside, IsUnread, MayReply};
 ghost use Rattle.vaultc_core.specs.Sources.{IsOneRead, text_in};
 ghost use Rattle.vaultc_core.specs.Finishes.{Finishes, WrotePart, WroteReply};
@@ -33,10 +33,9 @@ mod write;
 use c_reader_laws::texts_are_read_in_one_way;
 use std::alloc::Global;
 use vlt_check_laws::first_fault_has_witness;
-use vlt_fit_laws::programs_are_fit;
+use vlt_fit_laws::{programs_are_fit, texts_have_text_trees};
 use vlt_io::{Sink, Store};
 use vlt_sound::accepted_programs_go_right;
-use vlt_syntax_laws::texts_have_ticks;
 use vlt_verdict::{a_tree_has_one_verdict, a_tree_has_some_verdict};
 
 /// Carries out the command that the words are, and gives its status.
@@ -97,7 +96,7 @@ pub fn vaultc<S: Store, K: Sink>(alloc: Global, words: &[String], store: &mut S,
     programs_are_fit();
     accepted_programs_go_right();
     a_tree_has_one_verdict();
-    texts_have_ticks();
+    texts_have_text_trees();
     texts_are_read_in_one_way();
     commands::carry_out(alloc, words, store, out)
 }
@@ -107,7 +106,7 @@ pub fn a_command_has_one_reply()
     ensures { HasOneReply }
 {
     a_tree_has_one_verdict();
-    texts_have_ticks();
+    texts_have_text_trees();
     texts_are_read_in_one_way();
 }
 
@@ -119,7 +118,7 @@ pub fn a_command_has_some_reply()
     programs_are_fit();
     accepted_programs_go_right();
     first_fault_has_witness();
-    texts_have_ticks();
+    texts_have_text_trees();
     texts_are_read_in_one_way();
 }
 

@@ -8,10 +8,10 @@ ghost use Rattle.vaultc_core.specs.Shown.{refusal_of};
 
 use std::alloc::Global;
 use thiserror::Error;
+use vlt_fit_laws::texts_have_text_trees;
 use vlt_lexer::{LexError, lex};
 use vlt_parser::{ParseError, parse};
 use vlt_syntax::Tree;
-use vlt_syntax_laws::texts_have_ticks;
 
 /// Why bytes aren't read as a tree.
 #[derive(Clone, Copy, Debug, PartialEq, Eq, Error)]
@@ -51,7 +51,7 @@ pub fn read_tree(alloc: Global, bytes: &[u8]) -> Result<Tree, TextError>
     ensures tree { IfOk result (λ t. IsTextTree (tree_of t)) }
     ensures refused { IfErr result (λ e. IfSome (refusal_of e) (AreRefused bytes.now)) }
 {
-    texts_have_ticks();
+    texts_have_text_trees();
     let tokens = lex(alloc, bytes)?;
     let tree = parse(alloc, tokens.as_slice())?;
     Ok(tree)

@@ -12,7 +12,7 @@ use Rattle.vlt_kinds_laws.specs.Declared.{HasDeclared, IsPassed}
 use Rattle.vlt_sound.specs.Sizes.{HasSizes}
 use Rattle.vlt_sound.specs.Narrow.{HasNarrowHeads}
 use Rattle.vlt_fit_laws.specs.Externals.{HasExternals}
-use Rattle.vlt_resolve_laws.specs.Elaborated.{IsElaborated, ElaboratedProgramsAreKinded, ElaboratedProgramsHaveStates, ElaboratedProgramsHaveArms, ElaboratedProgramsHaveFewVariables, ElaboratedProgramsHaveFewKeys, ElaboratedProgramsHaveFewFunctions, ElaboratedProgramsHaveBlankExternals, ElaboratedProgramsHaveSets, ElaboratedProgramsHaveNoBounds, ElaboratedProgramsHaveArities}
+use Rattle.vlt_resolve_laws.specs.Elaborated.{IsElaborated, ElaboratedProgramsAreKinded, ElaboratedProgramsHaveStates, ElaboratedProgramsHaveArms, ElaboratedProgramsHaveFewVariables, ElaboratedProgramsHaveFewKeys, ElaboratedProgramsHaveFewFunctions, ElaboratedProgramsHaveBlankExternals, ElaboratedProgramsHaveSets, ElaboratedProgramsHaveNoBounds, ElaboratedProgramsHaveProperBodies}
 use Rattle.vlt_resolve_laws.proofs.Whole.{passed_of}
 use Rattle.vlt_fit_laws.specs.Fit.{ProgramsAreFit}
 use Rattle.vlt_fit_laws.proofs.Externals.{externals_of, declared_of}
@@ -22,7 +22,7 @@ pub record Laws : Type 0 where
   pub states : ElaboratedProgramsHaveStates
   pub arms : ElaboratedProgramsHaveArms
   pub plain : ElaboratedProgramsHaveNoBounds
-  pub arities : ElaboratedProgramsHaveArities
+  pub proper : ElaboratedProgramsHaveProperBodies
   pub sets : ElaboratedProgramsHaveSets
   pub vars : ElaboratedProgramsHaveFewVariables
   pub keys : ElaboratedProgramsHaveFewKeys
@@ -52,6 +52,6 @@ fit laws t kinds p x told gives =
         keys = laws.keys t kinds p e;
         functions = laws.functions t kinds p e;
       };
-      arities = laws.arities t kinds p e;
+      proper = laws.proper t kinds p e x.numbers;
       blank = laws.blank t kinds p e;
     }

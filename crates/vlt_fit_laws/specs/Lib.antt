@@ -1,3 +1,4 @@
 pub mod Fit
 pub mod Unfit
 pub mod Externals
+pub mod Texts

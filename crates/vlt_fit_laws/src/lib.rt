@@ -5,17 +5,19 @@
 
 mod narrow;
 mod sizes;
+mod texts;
 
 ghost use Rattle.vlt_fit_laws.specs.Fit.{ProgramsAreFit};
 ghost use Rattle.vlt_fit_laws.specs.Unfit.{OnlyBodiesAreUnfit};
 
 pub use narrow::declared_externals_are_narrow;
 pub use sizes::{declared_sets_are_small, declared_structs_are_small};
+pub use texts::texts_have_text_trees;
 use vlt_resolve_laws::{
-    elaborated_programs_are_kinded, elaborated_programs_have_arities,
-    elaborated_programs_have_arms, elaborated_programs_have_blank_externals,
-    elaborated_programs_have_few_functions, elaborated_programs_have_few_keys,
-    elaborated_programs_have_few_variables, elaborated_programs_have_no_bounds,
+    elaborated_programs_are_kinded, elaborated_programs_have_arms,
+    elaborated_programs_have_blank_externals, elaborated_programs_have_few_functions,
+    elaborated_programs_have_few_keys, elaborated_programs_have_few_variables,
+    elaborated_programs_have_no_bounds, elaborated_programs_have_proper_bodies,
     elaborated_programs_have_sets, elaborated_programs_have_states,
 };
 
@@ -27,7 +29,7 @@ pub fn programs_are_fit()
     elaborated_programs_have_states();
     elaborated_programs_have_arms();
     elaborated_programs_have_no_bounds();
-    elaborated_programs_have_arities();
+    elaborated_programs_have_proper_bodies();
     elaborated_programs_have_sets();
     elaborated_programs_have_few_variables();
     elaborated_programs_have_few_keys();

@@ -1,3 +1,4 @@
+pub mod Accepted
 pub mod Reports
 pub mod Seen
 pub mod Writing

@@ -1,6 +1,5 @@
--- The lines that tell which rule a program breaks, where it breaks the rules on keys and on which paths, and that it is
--- accepted.
-use Rattle.std.specs.Prelude.{ℕ, zero, suc, ◌+◌, ◌==◌, not, if◌then◌else◌, List, [], ◌∷◌, ◌++◌, length, filter, Option, Some, None, slice_get, codes}
+-- The lines that tell which rule a program breaks, and where it breaks the rules on keys and on which paths.
+use Rattle.std.specs.Prelude.{ℕ, zero, suc, ◌+◌, ◌==◌, if◌then◌else◌, List, [], ◌∷◌, ◌++◌, Option, Some, None, slice_get, codes}
 use Rattle.std.specs.List.{flat_map}
 use Rattle.std.specs.Fmt.{decimal}
 use Rattle.vlt_base.specs.Place.{line_of, column_of}
@@ -96,12 +95,6 @@ fault_text names (at_join present) = codes " joins absent and " ++ status_text n
 abbrev pub fault_line : (text : List ℕ) → Program → Func → (at : ℕ) → Tok → FaultKind → List ℕ
 fault_line text p f at t kind =
     codes "protocol " ++ place_text text at ++ codes " " ++ token_name f t ++ fault_text (state_names p f t) kind ++ codes "\n"
-
--- ---- accepted
-
--- how many functions with a body were accepted
-abbrev pub accepted_line : Program → List ℕ
-accepted_line p = codes "accepted " ++ decimal (length (filter (λ f. not f.external) p.fns)) ++ codes "\n"
 
 -- ---- paths
 

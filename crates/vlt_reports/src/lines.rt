@@ -4,7 +4,8 @@ ghost use Rattle.std.specs.Prelude.{◌≡◌, ◌<◌, ◌^◌, ◌-◌, not, l
 ghost use Rattle.vlt_base.specs.Place.{line_of, column_of};
 ghost use Rattle.vlt_core.specs.View.{program_of, func_of, tok_of};
 ghost use Rattle.vlt_core.specs.FaultView.{kind_of};
-ghost use Rattle.vlt_reports.specs.Reports.{place_text, kind_line, fault_text, fault_line, accepted_line};
+ghost use Rattle.vlt_reports.specs.Reports.{place_text, kind_line, fault_text, fault_line};
+ghost use Rattle.vlt_reports.specs.Accepted.{accepted_line};
 ghost use Rattle.vlt_reports.specs.Seen.{names_known};
 ghost use Rattle.vlt_reports.specs.Writing.{Adds};
 

@@ -7,7 +7,8 @@ use Rattle.vlt_kinds_names.specs.declared.found.Refusal.{Refusal}
 use Rattle.vlt_kinds.specs.Kinds.{Kinds}
 use Rattle.vlt_kinds.specs.Tables.{kinds_told}
 use Rattle.vlt_resolve.specs.Elaboration.{Told, broken, elaborated}
-use Rattle.vlt_verdict.specs.Verdicts.{with_kinds, program_told, refused, faulty, IsVerdictOf}
+use Rattle.vlt_resolve.specs.Programs.{with_kinds, program_told}
+use Rattle.vlt_verdict.specs.Verdicts.{refused, faulty, IsVerdictOf}
 
 pub declarations_refused : (t : Tree) (r : Refusal) → kinds_told t ≡ Err r → IsVerdictOf t (refused (broken r.rule r.at))
 declarations_refused t r e = ap (with_kinds t) e

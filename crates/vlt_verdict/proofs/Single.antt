@@ -12,7 +12,8 @@ use Rattle.vlt_resolve.specs.Elaboration.{Told, broken}
 use Rattle.vlt_core_laws.specs.Fit.{IsWellFormed}
 use Rattle.vlt_core_laws.specs.FaultLaws.{HasOneFirstFault}
 use Rattle.vlt_fit_laws.specs.Fit.{IsFitProgram, IsTextTree, ProgramsAreFit}
-use Rattle.vlt_verdict.specs.Verdicts.{with_kinds, program_told, IsFaultyIn, refused, faulty, accepted}
+use Rattle.vlt_resolve.specs.Programs.{with_kinds, program_told}
+use Rattle.vlt_verdict.specs.Verdicts.{IsFaultyIn, refused, faulty, accepted}
 use Rattle.vlt_verdict.specs.Laws.{HasOneVerdict}
 
 same_told : (a b : Told) → ◌≡◌ {A = Result Program Told} (Err a) (Err b) → a ≡ b

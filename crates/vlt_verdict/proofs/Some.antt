@@ -8,7 +8,8 @@ use Rattle.vlt_resolve.specs.Elaboration.{Told}
 use Rattle.vlt_base.specs.Sure.{Surely}
 use Rattle.vlt_check_laws.specs.Judged.{IsJudged}
 use Rattle.vlt_base.proofs.Surely.{sure, so}
-use Rattle.vlt_verdict.specs.Verdicts.{Verdict, refused, faulty, accepted, program_told, IsVerdictOf}
+use Rattle.vlt_resolve.specs.Programs.{program_told}
+use Rattle.vlt_verdict.specs.Verdicts.{Verdict, refused, faulty, accepted, IsVerdictOf}
 use Rattle.vlt_verdict.specs.Laws.{HasSomeVerdict}
 use Rattle.vlt_verdict.proofs.Single.{fit_program}
 

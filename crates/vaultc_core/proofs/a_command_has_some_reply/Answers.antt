@@ -3,7 +3,7 @@ use Rattle.vaultc_core.proofs.a_command_has_some_reply.Goals as goal
 
 pub returns : goal.returns
 returns c = some_of_read (record {
-  ticks = c.texts_have_ticks.ensures;
+  trees = c.texts_have_text_trees.ensures;
   fit = c.programs_are_fit.ensures;
   verdicts = c.a_tree_has_some_verdict.ensures;
   witnesses = c.first_fault_has_witness.ensures;

@@ -11,7 +11,7 @@ returns-clause-told g c = λ files.
 
 pub returns-clause-complete : goal.returns-clause-complete
 returns-clause-complete g c = λ files r.
-    complete (record { one = c.a_tree_has_one_verdict.ensures; ticks = c.texts_have_ticks.ensures; c_texts = c.texts_are_read_in_one_way.ensures }) g.S.Store g.K.Sink c.args.store.now c.carry_out.new.store c.args.out.now c.carry_out.new.out (command_of (map string_bytes c.args.words.now)) c.carry_out.result files r c.carry_out.ensures.finishes
+    complete (record { one = c.a_tree_has_one_verdict.ensures; trees = c.texts_have_text_trees.ensures; c_texts = c.texts_are_read_in_one_way.ensures }) g.S.Store g.K.Sink c.args.store.now c.carry_out.new.store c.args.out.now c.carry_out.new.out (command_of (map string_bytes c.args.words.now)) c.carry_out.result files r c.carry_out.ensures.finishes
 
 pub returns-clause-memory : goal.returns-clause-memory
 returns-clause-memory g c = λ files.
@@ -23,12 +23,12 @@ returns-clause-promised g c =
       never = c.accepted_programs_go_right.ensures.never;
       leaves = c.accepted_programs_go_right.ensures.leaves;
     } in
-    promised c.programs_are_fit.ensures c.texts_have_ticks.ensures right g.S.Store g.K.Sink c.args.store.now c.carry_out.new.store c.args.out.now c.carry_out.new.out
+    promised c.programs_are_fit.ensures c.texts_have_text_trees.ensures right g.S.Store g.K.Sink c.args.store.now c.carry_out.new.store c.args.out.now c.carry_out.new.out
     (command_of (map string_bytes c.args.words.now)) c.carry_out.result c.carry_out.ensures.finishes
 
 pub returns-clause-accepts : goal.returns-clause-accepts
 returns-clause-accepts g c =
-    accepts (record { one = c.a_tree_has_one_verdict.ensures; ticks = c.texts_have_ticks.ensures; c_texts = c.texts_are_read_in_one_way.ensures }) g.S.Store g.K.Sink c.args.store.now c.carry_out.new.store c.args.out.now c.carry_out.new.out
+    accepts (record { one = c.a_tree_has_one_verdict.ensures; trees = c.texts_have_text_trees.ensures; c_texts = c.texts_are_read_in_one_way.ensures }) g.S.Store g.K.Sink c.args.store.now c.carry_out.new.store c.args.out.now c.carry_out.new.out
     (command_of (map string_bytes c.args.words.now)) c.carry_out.result c.carry_out.ensures.finishes
 
 pub returns-clause-no_fault : goal.returns-clause-no_fault

@@ -26,4 +26,4 @@ returns-clause-tree c =
     let ls = lexemes c.in_ok-tokens.tokens.items in
     let t = tree_of c.in_ok-tree.tree in
     let placed : IsPlacedTreeOf ls t = subst (λ ts. IsPlacedTreeOf (lexemes ts) t) c.as_slice.ensures.value c.in_ok-tree.ensures.ok in
-    record { tree = placed.0; ticks = c.texts_have_ticks.ensures c.args.bytes.now ls t c.in_ok-tokens.ensures.tokens placed.1 }
+    c.texts_have_text_trees.ensures c.args.bytes.now ls t c.in_ok-tokens.ensures.tokens (placed.0, placed.1)
