@@ -1,6 +1,6 @@
 //! Ground: ids, spans, budgets, sets of states, limits, and places in a text; nothing goes in.
 //! Read `specs/States.antt` first, then `Limits`, `Place` and `Parents`.
-//! Used by: every other crate.
+//! Used by: nearly every other crate.
 #![tactic(auto)]
 
 ghost use Rattle.std.specs.Prelude.{◌≡◌, ◌||◌};

@@ -1,6 +1,6 @@
 //! Held maps as dense tables: rows pass or are refused, and maps are joined.
 //! Read `specs/Held.antt` first.
-//! Used by: the check and the certificate's.
+//! Used by: the check of programs, and that of certificates, which is to come.
 #![tactic(auto)]
 
 ghost use Rattle.std.specs.Prelude.{◌≡◌, ◌↔◌, ◌<◌, ◌^◌, length, IsTrue, IfOk, OnOk, IfErr, OnErr, IfSome, IfNone, MatchBool};

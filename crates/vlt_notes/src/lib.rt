@@ -1,6 +1,6 @@
 //! The least annotation of a body as a list of notes: from a function to the maps at its loops and behind its choices.
 //! Read of vlt_core `specs/Least.antt` first, then `specs/Listed.antt`.
-//! Used by: certificates.
+//! Used by: certificates, which are to come.
 #![tactic(auto)]
 
 ghost use Rattle.std.specs.Prelude.{◌≡◌, map, length, IfOk, None};

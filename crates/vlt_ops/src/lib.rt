@@ -1,6 +1,6 @@
 //! The operators: an operator and its operands go in, the number that it gives comes out, or why it gives none.
 //! Read `specs/Operator.antt` first; the rows stand once, in the macro `operators!`, for all code on each operator.
-//! Used by: lexer and parser, the runs of the source and of C, and what is written for operators.
+//! Used by: the parser, the runs of the source and of C, and what is written for operators.
 #![tactic(auto)]
 
 ghost use Rattle.std.specs.Prelude.{◌≡◌, if◌then◌else◌, ok_or, pos};
