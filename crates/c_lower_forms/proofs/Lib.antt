@@ -21,3 +21,4 @@ pub mod VariantRegisters
 pub mod Return
 pub mod Focus
 pub mod Statements
+pub mod Laws

@@ -1,4 +1,15 @@
 //! Laws on the lowering of statements: nothing goes in and nothing comes out.
-//! Read `c_lower_worlds/specs/SameStatements.antt` first.
+//! Read `c_lower_worlds/specs/SameStatements.antt` first, then `specs/Laws.antt`.
 //! Rests on it: `c_lower_runs::programs_are_lowered_rightly`.
 #![tactic(auto)]
+
+ghost use Rattle.c_lower_forms.specs.Laws.{SimpleStatementsAreLowered, SwitchesAreLowered};
+ghost use Rattle.c_lower_forms.specs.Laws.{ReturnsAreLowered};
+
+/// The code of a statement does what the statement does, where that isn't a fault: of each statement without blocks, of a
+/// switch whose arms' code does so, and of a return.
+pub fn statements_are_lowered_rightly()
+    ensures simple { SimpleStatementsAreLowered }
+    ensures switches { SwitchesAreLowered }
+    ensures returned { ReturnsAreLowered }
+{}

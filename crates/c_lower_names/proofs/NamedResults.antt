@@ -303,11 +303,12 @@ module _ (p : Program) (f : Func) (ranged : AreRanged f) (ids : Ids) (g : Func) 
   unfolding ext.call_external step.deliver step.fill
   external_named heap target values s s2 w call h em =
       found_holds (Promise f ids (with_call_target f (Some g) target ids).vars s) (λ o w. tt) _ w _ (λ ns e.
+      found_holds (Promise f ids (with_call_target f (Some g) target ids).vars s) (λ o w. tt) _ w _ (λ ms there.
       answer_holds (Promise f ids (with_call_target f (Some g) target ids).vars s) (λ o w. tt) _ _ (λ zs w2.
       moved_holds (Promise f ids (with_call_target f (Some g) target ids).vars s) (λ o w. tt) _ _ _ w2 _ (λ w3.
       moved_holds (Promise f ids (with_call_target f (Some g) target ids).vars s) (λ o w. tt) _ _ _ w3 _ (λ w4.
       found_holds (Promise f ids (with_call_target f (Some g) target ids).vars s) (λ o w. tt) (or_bad w4.taken (fitting p g keys s2 zs w4.objects)) w4 _ (λ q e2.
-      by zs q (fitting_answer p g keys s2 zs w4.objects q (fitted w4.taken (fitting p g keys s2 zs w4.objects) q e2)) _ target call)))))
+      by zs q (fitting_answer p g keys s2 zs w4.objects q (fitted w4.taken (fitting p g keys s2 zs w4.objects) q e2)) _ target call))))))
     where
       -- a value for a variable that is no reference
       plain_value : (v : ℕ) → IsPlain f v → (a : Option Value) (w : World) → Promise f ids (with_call_target f (Some g) (Some v) ids).vars s (step.deliver f (Some v) a s2 w)

@@ -66,7 +66,7 @@ use Rattle.c_lower_forms.proofs.VariantRegisters.{FitKinds, slots_fit, result_go
 use Rattle.c_lower_worlds.proofs.StatementLists.{then_stops}
 use Rattle.c_lower_worlds.proofs.LaterShapes.{Later, stands_later}
 use Rattle.c_lower_worlds.proofs.VariableSlots.{Apart, each_map, slots_apart, below_temps, starts, AllApart}
-use Rattle.c_lower_worlds.proofs.SameSteps.{found_same, where_same, spend_same, spares_self, spent_less}
+use Rattle.c_lower_worlds.proofs.SameSteps.{found_same, where_same, spend_same, spares_self, spent_less, ended_through}
 use Rattle.c_lower_names.proofs.FoundObjects.{or_faults, or_fault_ok}
 use Rattle.c_lower_forms.proofs.SetAndOwn.{slots_count}
 
@@ -397,23 +397,10 @@ module _ (p : Program) (heap depth : ℕ) (cm : crun.Meaning) (m : run.Meaning) 
         fed = h.fed;
         fuel_left = omega arith;
       }) h.gives)
-  back_same f gf target keys t u k b frame callee s w v i j given (step.ends o w2) c fits stands types l keeps h = by o h
-    where
-      one : (o : cw.Outcome) → Ended o w2 c →
-          Ended o w2 (crun.then_do (crun.back_in (crun.count_of (lowered p)) i given (target_slot p c_setup cm f target) frame c) (crun.does_stmts c_setup cm j (stmts_made (tail_of p c_setup cm f target))))
-      one o e = record { world = e.world; is = rw e.is (then_stops o e.world (crun.does_stmts c_setup cm j (stmts_made (tail_of p c_setup cm f target)))); events = e.events; fuel = e.fuel }
-
-      by : (o : source.Outcome) → EndedAs o w2 c →
-          EndedAs o w2 (crun.then_do (crun.back_in (crun.count_of (lowered p)) i given (target_slot p c_setup cm f target) frame c) (crun.does_stmts c_setup cm j (stmts_made (tail_of p c_setup cm f target))))
-      by source.done e = one cw.done e
-      by (source.trap q) e = one (cw.trap q) e
-      by source.fuel_end e = one cw.fuel_end e
-      by source.heap_end e = one cw.heap_end e
-      by source.depth_end e = one cw.depth_end e
-      by source.input_end e = one cw.input_end e
-      by source.answers_end e = one cw.answers_end e
-      by (source.bad_answer q) e = one (cw.bad_answer q) e
-      by (source.fault r q) e = tt
+  back_same f gf target keys t u k b frame callee s w v i j given (step.ends o w2) c fits stands types l keeps h =
+      ended_through
+      (λ c. crun.then_do (crun.back_in (crun.count_of (lowered p)) i given (target_slot p c_setup cm f target) frame c) (crun.does_stmts c_setup cm j (stmts_made (tail_of p c_setup cm f target))))
+      (λ o v. then_stops o v (crun.does_stmts c_setup cm j (stmts_made (tail_of p c_setup cm f target)))) o w2 c h
 
   pub stmts_are : (f : Func) (call : syntax.Call) (target : Option ℕ) (j : ℕ) (frame : crun.Frame) (w : cw.World) →
       crun.does_stmts c_setup cm j (stmts_made (call_stmts p f call target)) frame w ≡

@@ -32,7 +32,7 @@ use Rattle.c_lower_runs.proofs.GlueSteps.{external_with, is_external, Glued, Glu
 use Rattle.c_lower_runs.proofs.Questions.{Tells}
 use Rattle.c_lower_worlds.proofs.StatementLists.{then_stops}
 use Rattle.c_lower_worlds.proofs.LaterShapes.{stands_later}
-use Rattle.c_lower_worlds.proofs.SameSteps.{spend_same}
+use Rattle.c_lower_worlds.proofs.SameSteps.{spend_same, ended_through}
 
 -- the frame of a glue function
 abbrev pub glue_frame : ℕ → List CVar → List cw.Value → crun.Frame
@@ -65,23 +65,12 @@ module _ (p : Program) (heap depth : ℕ) where
       (crun.then_do (crun.back_in (crun.count_of (lowered p)) i (result_of gf.result) (target_slot p c_setup cm f target) frame c)
       (crun.does_stmts c_setup cm j (stmts_made (tail_of p c_setup cm f target))))
   unfolding crun.back_in
-  handed_same cm f gf target t k frame s w regs i j src c fits begin (inl h) = rw (h.is (step.deliver f target)) (by h.outcome h.ended)
-    where
-      one : (o : cw.Outcome) → Ended o h.world c →
-          Ended o h.world (crun.then_do (crun.back_in (crun.count_of (lowered p)) i (result_of gf.result) (target_slot p c_setup cm f target) frame c) (crun.does_stmts c_setup cm j (stmts_made (tail_of p c_setup cm f target))))
-      one o e = record { world = e.world; is = rw e.is (then_stops o e.world (crun.does_stmts c_setup cm j (stmts_made (tail_of p c_setup cm f target)))); events = e.events; fuel = e.fuel }
-
-      by : (o : source.Outcome) → EndedAs o h.world c →
-          EndedAs o h.world (crun.then_do (crun.back_in (crun.count_of (lowered p)) i (result_of gf.result) (target_slot p c_setup cm f target) frame c) (crun.does_stmts c_setup cm j (stmts_made (tail_of p c_setup cm f target))))
-      by source.done e = one cw.done e
-      by (source.trap q) e = one (cw.trap q) e
-      by source.fuel_end e = one cw.fuel_end e
-      by source.heap_end e = one cw.heap_end e
-      by source.depth_end e = one cw.depth_end e
-      by source.input_end e = one cw.input_end e
-      by source.answers_end e = one cw.answers_end e
-      by (source.bad_answer q) e = one (cw.bad_answer q) e
-      by (source.fault r q) e = tt
+  handed_same cm f gf target t k frame s w regs i j src c fits begin (inl h) =
+      rw (h.is (step.deliver f target))
+      (ended_through
+      (λ c. crun.then_do (crun.back_in (crun.count_of (lowered p)) i (result_of gf.result) (target_slot p c_setup cm f target) frame c)
+      (crun.does_stmts c_setup cm j (stmts_made (tail_of p c_setup cm f target))))
+      (λ o v. then_stops o v (crun.does_stmts c_setup cm j (stmts_made (tail_of p c_setup cm f target)))) h.outcome h.world c h.ended)
   handed_same cm f gf target t k frame s w regs i j src c fits begin (inr h) =
       let g = h.gave in
       let kept = begin.fuel_left in

@@ -33,7 +33,7 @@ use Rattle.c_lower_worlds.specs.Given.{IsFed, AreNumbers, AreAnswers}
 use Rattle.c_lower_worlds.specs.Shapes.{types_of, AreShaped}
 use Rattle.c_lower_worlds.specs.Same.{Gives, EndedAs}
 use Rattle.c_lower_names.specs.Lists.{Each}
-use Rattle.c_lower_runs.proofs.HandedObjects.{passed_faults}
+use Rattle.c_lower_runs.proofs.HandedObjects.{passed_faults, named_faults}
 use Rattle.c_lower_names.proofs.RunningInstances.{HasNoBound}
 use Rattle.c_lower_runs.proofs.GlueInstances.{picks_all}
 use Rattle.c_lower_runs.proofs.KeptShapes.{KeepsShapes, KeepsBlocks, keeps_more, moved_keeps, back_keeps, states_keep}
@@ -56,12 +56,13 @@ Cont = Option source.Value → source.Frame → source.World → step.Step
 abbrev pub external_with : (heap : ℕ) → Program → (keys : List ℕ) → Func → List source.Value → source.Frame → source.World → Cont → step.Step
 external_with heap p keys g args s w go =
     step.with_found (passed_objects p g keys s w.objects g.clause) w (λ ns.
+    step.with_found (ext.named_objects keys s (ext.awaited_keys p g)) w (λ ms.
     step.with_answer (step.with_event w (source.called g.name args)) (λ numbers w.
     step.with_moved (is_at s.depth) out (taken_objects keys s g.clause) w (λ w.
     step.with_moved is_loose out (flat_map objects_in args) w (λ w.
     step.with_found (or_bad w.taken (fitting p g keys s numbers w.objects)) w (λ q.
     with_result heap p g keys q.answer.states q.answer.result s
-    (step.with_objects w (with_answered p g keys s q.answer q.objects)) go)))))
+    (step.with_objects w (with_answered p g keys s q.answer q.objects)) go))))))
 
 pub is_external : (heap : ℕ) (p : Program) (f : Func) (target : Option ℕ) (keys : List ℕ) (g : Func) (args : List source.Value) (s : source.Frame) (w : source.World) →
     ext.call_external heap p f target keys g args s w ≡ external_with heap p keys g args s w (step.deliver f target)
@@ -463,9 +464,14 @@ module _ (p : Program) (heap : ℕ) (R : crun.Setup) (cm : crun.Meaning) (gf : F
             out_glued a rest ranged.0 (record { numbers = words.numbers; lists = ranged.1 })
             (λ n. asks n ∙ ap (λ evs. goes G (record (left_to_read (c_world p regs (asking rest)) a) { events = evs })) events_same)
 
-        by : (x : Found (List ℕ)) → OnlyFaults x → Glued p gf s w (λ go. step.with_found x w (λ ns. after_passed w go)) C
+        awaited : (y : Found (List ℕ)) → OnlyFaults y → Glued p gf s w (λ go. step.with_found y w (λ ms. after_passed w go)) C
+        awaited (Err o) only = inl (record { outcome = o; world = w; is = λ go. refl; ended = fault_same o w C only })
+        awaited (Ok ms) only = answers w.answers refl words.lists (question_asks R cm p gf (flat_map told_by args) G (c_world p regs w) refl tells few)
+
+        by : (x : Found (List ℕ)) → OnlyFaults x →
+            Glued p gf s w (λ go. step.with_found x w (λ ns. step.with_found (ext.named_objects keys s (ext.awaited_keys p gf)) w (λ ms. after_passed w go))) C
         by (Err o) only = inl (record { outcome = o; world = w; is = λ go. refl; ended = fault_same o w C only })
-        by (Ok ns) only = answers w.answers refl words.lists (question_asks R cm p gf (flat_map told_by args) G (c_world p regs w) refl tells few)
+        by (Ok ns) only = awaited (ext.named_objects keys s (ext.awaited_keys p gf)) (named_faults keys s (ext.awaited_keys p gf))
 
   -- the same, where the parts are there once the keys have passed
   pub passed_glued : (w : source.World) (regs : Registers) → AreShaped p w.objects → AreRegisters regs → Tells (slot_of p gf) (params_of gf) (flat_map told_by args) G → length (flat_map told_by args) ≤ 16 →

@@ -10,6 +10,7 @@ use Rattle.vlt_meaning.specs.Found.{or_fault, Named, ◌>>=◌}
 use Rattle.vlt_meaning.specs.Objects.{with_owner, with_changed_object, changed_in, in_states}
 use Rattle.vlt_meaning.specs.Values.{held_object}
 use Rattle.vlt_meaning.specs.Calls.{passed_object, passed_objects, handed_over, changed_if, caller_object, Binding, binding, bindings, with_holders}
+use Rattle.vlt_meaning.specs.Externals.{named_objects}
 use Rattle.c_lower_worlds.specs.Worlds.{blocks_of}
 use Rattle.c_lower_worlds.specs.Shapes.{types_of, AreShaped}
 use Rattle.c_lower_worlds.specs.Same.{HangsOnNothing, HangOnNothing}
@@ -67,6 +68,14 @@ passed_faults p g keys s os (e ∷ es) = by (is_held_before e) (passed_faults p 
     by true rest = then_faults (passed_object p g keys s os e) (λ n. passed_objects p g keys s os es >>= (λ ns. Ok (n.number ∷ ns))) one
         (λ n. then_faults (passed_objects p g keys s os es) (λ ns. Ok (n.number ∷ ns)) rest (λ ns. tt))
     by false rest = rest
+
+-- so are the objects that an answer may bring back
+pub named_faults : (keys : List ℕ) (s : source.Frame) (js : List ℕ) → OnlyFaults (named_objects keys s js)
+named_faults keys s [] = tt
+named_faults keys s (j ∷ js) =
+    then_faults (or_fault source.missing (slice_get keys j)) (λ k. or_fault source.no_value (s.keys k) >>= (λ n. named_objects keys s js >>= (λ ns. Ok (n ∷ ns)))) (or_faults source.missing (slice_get keys j))
+    (λ k. then_faults (or_fault source.no_value (s.keys k)) (λ n. named_objects keys s js >>= (λ ns. Ok (n ∷ ns))) (or_faults source.no_value (s.keys k))
+    (λ n. then_faults (named_objects keys s js) (λ ns. Ok (n ∷ ns)) (named_faults keys s js) (λ ns. tt)))
 
 record Passed (p : Program) (g : Func) (keys : List ℕ) (s : source.Frame) (os : List Object) (e : Entry) : Type 0 where
   number : ℕ

@@ -1,5 +1,5 @@
 -- What follows a step, on both sides.
-use Rattle.std.proofs.Common.{◌≡◌, ◌≤◌, ◌<◌, ℕ, ◌==◌, ◌-◌, Bool, true, false, if◌then◌else◌, List, Option, None, Ok, Err, refl, sym, ◌∙◌, arith, true≢false}
+use Rattle.std.proofs.Common.{◌≡◌, ◌≤◌, ◌<◌, ℕ, ◌==◌, ◌-◌, Bool, true, false, if◌then◌else◌, List, Option, None, Ok, Err, refl, sym, ◌∙◌, arith, true≢false, ap}
 use Rattle.std.proofs.lemmas.Bool.Decides.{nat_tests}
 use Rattle.vlt_core.specs.Core.{Tok, Func, Program}
 use Rattle.vlt_meaning.specs.World as source
@@ -48,6 +48,25 @@ earlier p f t n from mid (step.ends o w) c m h = h
 
 -- ---- one step and what follows it
 
+-- what keeps the end of a run keeps that it is the same end
+pub ended_through : (on : run.Step → run.Step) → ((o : cw.Outcome) (v : cw.World) → on (run.stops o v) ≡ run.stops o v) →
+    (o : source.Outcome) (w : source.World) (c : run.Step) → EndedAs o w c → EndedAs o w (on c)
+ended_through on stays o w c = by o
+  where
+    one : (o : cw.Outcome) → Ended o w c → Ended o w (on c)
+    one o h = record { world = h.world; is = ap on h.is ∙ stays o h.world; events = h.events; fuel = h.fuel }
+
+    by : (o : source.Outcome) → EndedAs o w c → EndedAs o w (on c)
+    by source.done h = one cw.done h
+    by (source.trap k) h = one (cw.trap k) h
+    by source.fuel_end h = one cw.fuel_end h
+    by source.heap_end h = one cw.heap_end h
+    by source.depth_end h = one cw.depth_end h
+    by source.input_end h = one cw.input_end h
+    by source.answers_end h = one cw.answers_end h
+    by (source.bad_answer i) h = one (cw.bad_answer i) h
+    by (source.fault r i) h = tt
+
 pub then_same : (p : Program) (f : Func) (t : Numbers) (n : ℕ) (from : run.Frame) (a : step.Step) (c : run.Step)
     (go : source.Frame → source.World → step.Step) (on : run.Frame → cw.World → run.Step) →
     Same p f t n from a c →
@@ -71,21 +90,7 @@ then_same p f t n from (step.leaves a kept w) c go on h k = record {
   fed = h.fed;
   fuel_left = h.fuel_left;
 }
-then_same p f t n from (step.ends o w) c go on h k = ends_then o h
-  where
-    one : (o : cw.Outcome) → Ended o w c → Ended o w (run.then_do c on)
-    one o h = record { world = h.world; is = rw h.is refl; events = h.events; fuel = h.fuel }
-
-    ends_then : (o : source.Outcome) → EndedAs o w c → EndedAs o w (run.then_do c on)
-    ends_then source.done h = one cw.done h
-    ends_then (source.trap k) h = one (cw.trap k) h
-    ends_then source.fuel_end h = one cw.fuel_end h
-    ends_then source.heap_end h = one cw.heap_end h
-    ends_then source.depth_end h = one cw.depth_end h
-    ends_then source.input_end h = one cw.input_end h
-    ends_then source.answers_end h = one cw.answers_end h
-    ends_then (source.bad_answer i) h = one (cw.bad_answer i) h
-    ends_then (source.fault r i) h = tt
+then_same p f t n from (step.ends o w) c go on h k = ended_through (λ c. run.then_do c on) (λ o v. refl) o w c h
 
 -- a turn of a loop
 pub turn_same : (p : Program) (f : Func) (t : Numbers) (n : ℕ) (from : run.Frame) (a : step.Step) (c : run.Step)
@@ -113,21 +118,7 @@ turn_same p f t n from (step.leaves a kept w) c go on h k = record {
   fed = h.fed;
   fuel_left = h.fuel_left;
 }
-turn_same p f t n from (step.ends o w) c go on h k = ends_then o h
-  where
-    one : (o : cw.Outcome) → Ended o w c → Ended o w (run.then_turn c on)
-    one o h = record { world = h.world; is = rw h.is refl; events = h.events; fuel = h.fuel }
-
-    ends_then : (o : source.Outcome) → EndedAs o w c → EndedAs o w (run.then_turn c on)
-    ends_then source.done h = one cw.done h
-    ends_then (source.trap k) h = one (cw.trap k) h
-    ends_then source.fuel_end h = one cw.fuel_end h
-    ends_then source.heap_end h = one cw.heap_end h
-    ends_then source.depth_end h = one cw.depth_end h
-    ends_then source.input_end h = one cw.input_end h
-    ends_then source.answers_end h = one cw.answers_end h
-    ends_then (source.bad_answer i) h = one (cw.bad_answer i) h
-    ends_then (source.fault r i) h = tt
+turn_same p f t n from (step.ends o w) c go on h k = ended_through (λ c. run.then_turn c on) (λ o v. refl) o w c h
 
 -- ---- tests that fail are faults
 

@@ -7,3 +7,4 @@ pub mod Same
 pub mod SameStatements
 pub mod Operands
 pub mod Parts
+pub mod Laws
