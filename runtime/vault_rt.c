@@ -25,7 +25,7 @@ struct vr_body {
     vr_ref child;  /* the first one */
     vr_ref next;   /* of the same parent */
     vr_ref previous;
-    bool is_out;
+    long long out_since; /* with the host since this answer, from 1; 0 where it isn't */
 #ifdef VAULT_CHECK
     long long number_count;
     long long reference_count;
@@ -166,6 +166,11 @@ static bool is_live(vr_ref block)
     return block != vr_null && block->body != NULL;
 }
 
+static bool is_out(vr_ref block)
+{
+    return block->body->out_since != 0;
+}
+
 static bool is_below(vr_ref block)
 {
     return block->body->parent != vr_null;
@@ -174,7 +179,7 @@ static bool is_below(vr_ref block)
 /* Neither with the host nor below a block. */
 static bool is_free(vr_ref block)
 {
-    return is_live(block) && !block->body->is_out && !is_below(block);
+    return is_live(block) && !is_out(block) && !is_below(block);
 }
 
 static void *allocated(size_t size)
@@ -219,7 +224,7 @@ static struct vr_body *new_body(size_t numbers, size_t references)
     struct vr_body *body = allocated(size);
 #endif
     body->parent = body->child = body->next = body->previous = vr_null;
-    body->is_out = false;
+    body->out_since = 0;
     return body;
 }
 
@@ -307,7 +312,7 @@ void vr_release(vr_ref block)
     if (block == vr_null) {
         return;
     }
-    VR_REQUIRE(8, is_live(block) && !block->body->is_out);
+    VR_REQUIRE(8, is_live(block) && !is_out(block));
     vr_disown(block);
     while (doomed != vr_null) {
         vr_ref dead = doomed;
@@ -455,16 +460,23 @@ long long vr_pick(long long mask)
 void vr_out(vr_ref block)
 {
     VR_REQUIRE(8, run.talk == READING && is_free(block));
-    block->body->is_out = true;
+    block->body->out_since = run.taken;
 }
 
+/* The block may be dead. */
 void vr_back(vr_ref block)
 {
     VR_REQUIRE(8, run.talk == READING && block != vr_null);
-    if (!is_live(block) || !block->body->is_out) {
+    if (!is_live(block) || !is_out(block)) {
         bad_answer();
     }
-    block->body->is_out = false;
+#ifdef VAULT_REUSE
+    /* The record may be another block's by now, but not where the block went out in this call. */
+    if (block->body->out_since != run.taken) {
+        bad_answer();
+    }
+#endif
+    block->body->out_since = 0;
 }
 
 void vr_end(void)
