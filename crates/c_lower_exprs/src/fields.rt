@@ -29,7 +29,8 @@ pub struct StructSlots {
 
 /// The numbers after slots of these sorts.
 pub fn past_all(start: Numbers, sorts: &[Sort]) -> Result<Numbers, Memory>
-    ensures { IfOk result (λ t. numbers_of t ≡ past_all (numbers_of start) (map sort_of sorts.now)) }
+    ensures { IfOk result (λ t.
+        numbers_of t ≡ past_all (numbers_of start) (map sort_of sorts.now)) }
 {
     let mut next = start;
     for &sort in sorts {

@@ -46,7 +46,8 @@ pub fn binary(alloc: Global, op: Op, left: Node, right: Node) -> Result<Node, Me
 
 /// An operator between an atom and a number.
 pub fn with_number(alloc: Global, op: Op, left: Atom, right: i64) -> Result<Node, Memory>
-    ensures { IfOk result (λ e. expr_of e ≡ c.binary op (atom_expr (atom_of left)) (c.number right)) }
+    ensures { IfOk result (λ e.
+        expr_of e ≡ c.binary op (atom_expr (atom_of left)) (c.number right)) }
 {
     let left = leaf(alloc, left)?;
     let right = number(alloc, right)?;

@@ -123,7 +123,8 @@ pub fn lower_operand(
     operand: &Operand,
 ) -> Result<Atoms, Memory>
     requires { IsScope scope.now }
-    ensures { IfOk result (λ x. WritesAtoms (operand_code (program_in scope.now) (func_in scope.now)
+    ensures { IfOk result (λ x.
+        WritesAtoms (operand_code (program_in scope.now) (func_in scope.now)
         (numbers_of t) (v.operand_of operand.now))
         (map stmt_of out.old) (map stmt_of out.new) (map atom_of x.atoms) (numbers_of x.next)) }
 {
@@ -143,7 +144,8 @@ pub fn lower_operands(
     operands: &[Operand],
 ) -> Result<OperandAtoms, Memory>
     requires { IsScope scope.now }
-    ensures { IfOk result (λ x. WritesOperands (operand_codes (program_in scope.now) (func_in scope.now)
+    ensures { IfOk result (λ x.
+        WritesOperands (operand_codes (program_in scope.now) (func_in scope.now)
         (numbers_of t) (map v.operand_of operands.now))
         (map stmt_of out.old) (map stmt_of out.new)
         (map (map atom_of) x.atoms) (numbers_of x.next)) }

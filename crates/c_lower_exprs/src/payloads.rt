@@ -63,7 +63,8 @@ impl Starts {
 
 /// The positions of payloads.
 fn payload_positions(alloc: Global, starts: Starts, payload: &[Ty]) -> Result<Items<u64>, Memory>
-    ensures { IfOk result (λ ps. ps ≡ payload_positions (starts_of starts) (map ty_of payload.now)) }
+    ensures { IfOk result (λ ps.
+        ps ≡ payload_positions (starts_of starts) (map ty_of payload.now)) }
 {
     let mut made = Items::new(alloc);
     let mut next = starts;

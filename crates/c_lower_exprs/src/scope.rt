@@ -40,7 +40,8 @@ impl<'a> Scope<'a> {
     /// The slots of a variable, none of one that isn't there.
     pub fn slots(&self, v: VarId) -> &[Slot]
         requires { IsScope self.now }
-        ensures { map slot_view result.now ≡ var_slots (program_in self.now) (func_in self.now) v.0 }
+        ensures { map slot_view result.now
+            ≡ var_slots (program_in self.now) (func_in self.now) v.0 }
     {
         match self.frame.vars.get(v.0 as usize) {
             Some(slots) => slots.as_slice(),

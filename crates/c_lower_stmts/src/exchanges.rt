@@ -137,7 +137,8 @@ pub fn swap_field(
 
 /// A cell's value goes into a slot, and out of the block.
 fn open_slot(alloc: Global, out: &mut Items<CStmt>, cell: CCell, slot: Slot) -> Result<(), Memory>
-    ensures { OnOk result (map stmt_of out.new ≡ map stmt_of out.old ++ opened cell (slot_view slot)) }
+    ensures { OnOk result
+        (map stmt_of out.new ≡ map stmt_of out.old ++ opened cell (slot_view slot)) }
 {
     set_cell(out, slot.var, cell)?;
     if slot.sort.is_owner() {

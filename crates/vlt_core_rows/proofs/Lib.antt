@@ -1,1 +1,1 @@
-mod Levels
+pub mod Levels

@@ -11,7 +11,8 @@ use vlt_rows::{Flow, FlowArm, FlowBlock, FlowStmt};
 
 fn add(a: usize, b: usize) -> Result<usize, Stop>
     ensures sum { IfOk result (λ n. n ≡ a + b) }
-    ensures large { IfErr result (λ e. (e ≡ Unfit) × (2 ^ 62 ≤ a + b)) }
+    ensures large { IfErr result (λ e.
+        (e ≡ Unfit) × (2 ^ 62 ≤ a + b)) }
     ensures never { IfRefused result ⊥ }
 {
     match a.checked_add(b) {
@@ -24,7 +25,8 @@ fn add(a: usize, b: usize) -> Result<usize, Stop>
 #[cycle(count)]
 pub fn count_form(form: &Flow) -> Result<usize, Stop>
     ensures count { IfOk result (λ n. n ≡ size (flow_view form.now)) }
-    ensures large { IfErr result (λ e. (e ≡ Unfit) × (2 ^ 62 ≤ size (flow_view form.now))) }
+    ensures large { IfErr result (λ e.
+        (e ≡ Unfit) × (2 ^ 62 ≤ size (flow_view form.now))) }
     ensures never { IfRefused result ⊥ }
 {
     match form {
@@ -49,7 +51,8 @@ pub fn count_form(form: &Flow) -> Result<usize, Stop>
 #[cycle(count)]
 pub fn count_block(block: &FlowBlock) -> Result<usize, Stop>
     ensures count { IfOk result (λ n. n ≡ size_block (block_view block.now)) }
-    ensures large { IfErr result (λ e. (e ≡ Unfit) × (2 ^ 62 ≤ size_block (block_view block.now))) }
+    ensures large { IfErr result (λ e.
+        (e ≡ Unfit) × (2 ^ 62 ≤ size_block (block_view block.now))) }
     ensures never { IfRefused result ⊥ }
 {
     count_list(block.stmts.as_slice())
@@ -58,7 +61,8 @@ pub fn count_block(block: &FlowBlock) -> Result<usize, Stop>
 #[cycle(count)]
 fn count_list(stmts: &[FlowStmt]) -> Result<usize, Stop>
     ensures count { IfOk result (λ n. n ≡ size_stmts (stmts_view stmts.now)) }
-    ensures large { IfErr result (λ e. (e ≡ Unfit) × (2 ^ 62 ≤ size_stmts (stmts_view stmts.now))) }
+    ensures large { IfErr result (λ e.
+        (e ≡ Unfit) × (2 ^ 62 ≤ size_stmts (stmts_view stmts.now))) }
     ensures never { IfRefused result ⊥ }
 {
     let mut sum = 0;
@@ -71,7 +75,8 @@ fn count_list(stmts: &[FlowStmt]) -> Result<usize, Stop>
 #[cycle(count)]
 fn count_arms(arms: &[FlowArm]) -> Result<usize, Stop>
     ensures count { IfOk result (λ n. n ≡ size_arms (arms_view arms.now)) }
-    ensures large { IfErr result (λ e. (e ≡ Unfit) × (2 ^ 62 ≤ size_arms (arms_view arms.now))) }
+    ensures large { IfErr result (λ e.
+        (e ≡ Unfit) × (2 ^ 62 ≤ size_arms (arms_view arms.now))) }
     ensures never { IfRefused result ⊥ }
 {
     let mut sum = 0;

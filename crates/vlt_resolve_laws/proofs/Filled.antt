@@ -144,7 +144,7 @@ module _ (ds : List Decl) (p : Program) (described : Describes (file_of ds) p) w
       by (Some (core.a_struct d)) at = parts_say t (core.a_struct d) at
       by (Some (core.a_variant d)) at = tt
 
-  cases_at : (t : ℕ) → Each (λ c. Each SaysStates c.payload) (b.cases_of kinds t)
+  pub cases_at : (t : ℕ) → Each (λ c. Each SaysStates c.payload) (b.cases_of kinds t)
   cases_at t = by (slice_get kinds.types t) refl
     where
       by : (o : Option TypeDecl) → slice_get kinds.types t ≡ o → Each (λ c. Each SaysStates c.payload) (cases_in o)
@@ -327,7 +327,7 @@ module _ (ds : List Decl) (p : Program) (described : Describes (file_of ds) p) w
 
 -- ---- the program
 
-filled_set : (states : States) → IsFilled states → IsFilledSet states
+pub filled_set : (states : States) → IsFilled states → IsFilledSet states
 filled_set states x = record { state = x.0; has = x.1 }
 
 if_some : (o : Option States) → ((states : States) → o ≡ Some states → IsFilled states) → IfSome o IsFilledSet
