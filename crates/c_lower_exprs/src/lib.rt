@@ -1,6 +1,6 @@
 //! Expressions and operands of a core program in; C statements, and atoms that have the values, out.
 //! Read `c_lower/specs/Slots.antt`, `Guards` and `Expressions` first, then `specs/Coded.antt`.
-//! Rests on it: `c_lower_stmts`, which lowers statements.
+//! Used by: `c_lower_stmts`, which lowers statements.
 #![tactic(auto)]
 
 mod atom;

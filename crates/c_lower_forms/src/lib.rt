@@ -1,6 +1,6 @@
 //! Laws on the lowering of statements: nothing goes in and nothing comes out.
 //! Read `c_lower_worlds/specs/SameStatements.antt` first, then `specs/Laws.antt`.
-//! Rests on it: `c_lower_runs::programs_are_lowered_rightly`.
+//! Used by: `c_lower_runs::programs_are_lowered_rightly`.
 #![tactic(auto)]
 
 ghost use Rattle.c_lower_forms.specs.Laws.{SimpleStatementsAreLowered, SwitchesAreLowered};

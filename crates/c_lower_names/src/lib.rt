@@ -1,6 +1,6 @@
 //! References in scope, in runs of core programs: nothing goes in and nothing comes out.
 //! Read `specs/Naming.antt` first, then `specs/Laws.antt`.
-//! Rests on it: `c_lower_runs::programs_are_lowered_rightly`.
+//! Used by: `c_lower_runs::programs_are_lowered_rightly`.
 #![tactic(auto)]
 
 ghost use Rattle.c_lower_names.specs.Laws.{NamesAreKept};

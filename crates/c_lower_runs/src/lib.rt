@@ -1,6 +1,6 @@
 //! Laws on the lowering of whole programs: nothing goes in and nothing comes out.
 //! Read `specs/Laws.antt` first, then what it names: `Lowerable`, the conditions, and `SameRuns`, what is the same.
-//! Rests on it: `c_lower_accepted::accepted_programs_are_lowered_rightly`.
+//! Used by: `c_lower_accepted::accepted_programs_are_lowered_rightly`.
 #![tactic(auto)]
 
 ghost use Rattle.c_lower_runs.specs.Laws.{LoweringIsRight, LoweredIsSame, LoweredIsDefined};

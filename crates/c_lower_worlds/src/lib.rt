@@ -1,6 +1,6 @@
 //! How a world of the source stands in C, and laws on the code of operands: nothing goes in and nothing comes out.
 //! Read `specs/Worlds.antt` first, then `Shapes`, `Frames` and `Same`.
-//! Rests on it: `c_lower_runs::programs_are_lowered_rightly`.
+//! Used by: `c_lower_runs::programs_are_lowered_rightly`.
 #![tactic(auto)]
 
 ghost use Rattle.c_lower_worlds.specs.Laws.{NumbersAreLowered, OperandsAreLowered};
