@@ -1,0 +1,62 @@
+-- What texts give is all that is asked of an accepted program.
+use Rattle.std.proofs.Common.{◌≡◌, ℕ, List, Result, Ok, Err, refl, sym, subst}
+use Rattle.vlt_syntax.specs.Tree.{Tree}
+use Rattle.vlt_core.specs.Core.{Program}
+use Rattle.vlt_core.specs.Derives.{IsAccepted}
+use Rattle.vlt_kinds_names.specs.declared.found.Refusal.{Refusal}
+use Rattle.vlt_kinds.specs.Kinds.{Kinds}
+use Rattle.vlt_kinds.specs.Tables.{kinds_of, kinds_told}
+use Rattle.vlt_resolve.specs.Elaboration.{Told, broken, elaborated}
+use Rattle.vlt_resolve.specs.Programs.{with_kinds}
+use Rattle.vlt_resolve_laws.specs.Elaborated.{IsElaborated}
+use Rattle.vlt_resolve_laws.proofs.Made.{told}
+use Rattle.vlt_resolve_laws.proofs.Whole.{Facts, facts_of}
+use Rattle.vlt_fit_laws.specs.Fit.{IsTextTree, ProgramsAreFit}
+use Rattle.vlt_fit_laws.specs.Texts.{TextsHaveTextTrees}
+use Rattle.c_lower_accepted.specs.Accepted.{IsAcceptedProgram}
+use Rattle.c_lower_accepted.specs.Texts.{IsAcceptedText, TextsRunAlike, TextsAreDefined}
+use Rattle.c_lower_accepted.proofs.Accepted.{accepted_alike, accepted_defined}
+use Rattle.c_lower_accepted.proofs.FilledParts.{results_filled, parts_filled}
+use Rattle.c_lower_accepted.proofs.TextLimits.{cases_few, payloads_few, parameters_few}
+
+ok_or_err : (r : Told) (p : Program) → ◌≡◌ {A = Result Program Told} (Err r) (Ok p) → ⊥
+ok_or_err r p e = cc
+
+module _ (fits : ProgramsAreFit) (t : Tree) (p : Program) (tree : IsTextTree t) (accepted : IsAccepted p) where
+  facts : (kinds : Kinds) → IsElaborated t kinds p → Facts (kinds_of t.decls) p
+  facts kinds e = subst (λ k. Facts k p) (sym (told t.decls kinds e.told).same) (facts_of t kinds p e)
+
+  of_kinds : (kinds : Kinds) → kinds_told t ≡ Ok kinds → elaborated t kinds ≡ Ok p → IsAcceptedProgram p
+  of_kinds kinds is_told gives =
+      let fit = fits t kinds p tree is_told gives in
+      let x = facts kinds (record { tree = tree.tree; ticks = tree.ticks; told = is_told; gives = gives }) in
+      let right = tree.tree.0 in
+      record {
+        kinded = fit.kinded;
+        accepted = accepted;
+        sizes = fit.sizes;
+        states = fit.well_formed.states;
+        narrow = fit.narrow;
+        limits = record {
+          operators = fit.proper;
+          payloads = payloads_few t.decls p right x.functions.types;
+          parameters = λ g gf at external. parameters_few t.decls p right x.functions g gf at;
+          cases = cases_few t.decls p right x.functions.types;
+          given = results_filled t.decls p x;
+          parts = parts_filled t.decls p x;
+        };
+      }
+
+  of_tree : (r : Result Kinds Refusal) → kinds_told t ≡ r → with_kinds t r ≡ Ok p → IsAcceptedProgram p
+  of_tree (Ok kinds) is_told gives = of_kinds kinds is_told gives
+  of_tree (Err r) is_told gives = absurd (ok_or_err (broken r.rule r.at) p gives)
+
+module _ (fits : ProgramsAreFit) (trees : TextsHaveTextTrees) where
+  of_text : (bytes : List ℕ) (p : Program) → IsAcceptedText bytes p → IsAcceptedProgram p
+  of_text bytes p h = of_tree fits h.tree p (trees bytes h.lexemes h.tree h.tokens h.spells) h.accepted (kinds_told h.tree) refl h.elaborates
+
+  pub texts_alike : TextsRunAlike
+  texts_alike bytes p h = accepted_alike p (of_text bytes p h)
+
+  pub texts_defined : TextsAreDefined
+  texts_defined bytes p h = accepted_defined p (of_text bytes p h)

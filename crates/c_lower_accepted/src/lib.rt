@@ -1,0 +1,25 @@
+//! Laws on the C programs of accepted programs, and of those of texts: nothing goes in and nothing comes out.
+//! Read `specs/Accepted.antt` first, then `specs/Texts.antt`.
+//! Nothing rests on them yet: they are what a compiler of accepted programs is going to promise.
+#![tactic(auto)]
+
+ghost use Rattle.c_lower_accepted.specs.Accepted.{AcceptedRunAlike, AcceptedAreDefined};
+ghost use Rattle.c_lower_accepted.specs.Texts.{TextsRunAlike, TextsAreDefined};
+
+use vlt_fit_laws::{programs_are_fit, texts_have_text_trees};
+
+/// A run of an accepted program and that of its C program have the same outcome, event text and fuel left, and the second
+/// breaks no rule of C.
+pub fn accepted_programs_are_lowered_rightly()
+    ensures alike { AcceptedRunAlike }
+    ensures defined { AcceptedAreDefined }
+{}
+
+/// So do a run of an accepted text's program and that of its C program, and the second breaks no rule of C.
+pub fn texts_are_lowered_rightly()
+    ensures alike { TextsRunAlike }
+    ensures defined { TextsAreDefined }
+{
+    programs_are_fit();
+    texts_have_text_trees();
+}
