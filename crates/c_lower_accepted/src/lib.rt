@@ -1,6 +1,6 @@
 //! Laws on the C programs of accepted programs, and of those of texts: nothing goes in and nothing comes out.
 //! Read `specs/Accepted.antt` first, then `specs/Texts.antt`.
-//! Nothing rests on them yet: they are what a compiler of accepted programs is going to promise.
+//! Used by: nothing yet. A compiler of accepted programs is going to promise them.
 #![tactic(auto)]
 
 ghost use Rattle.c_lower_accepted.specs.Accepted.{AcceptedRunAlike, AcceptedAreDefined};
