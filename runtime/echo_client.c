@@ -1,5 +1,5 @@
-/* Tries an echo service: starts it on a free port of 127.0.0.1, sends it lines over three connections, and compares what comes
- * back, what the service prints, and its status. Usage: echo_client PROGRAM. It ends within half a minute. */
+/* Tries an echo service: starts it on a free port of 127.0.0.1, sends it lines over three connections, and compares what
+ * comes back, what the service prints, and its status. Usage: echo_client PROGRAM. It ends within half a minute. */
 
 #define _POSIX_C_SOURCE 200809L
 
@@ -35,7 +35,8 @@ static unsigned short free_port(void)
     struct sockaddr_in address = loopback(0);
     socklen_t size = sizeof address;
     int descriptor = socket(AF_INET, SOCK_STREAM, 0);
-    if (bind(descriptor, (struct sockaddr *) &address, size) != 0 || getsockname(descriptor, (struct sockaddr *) &address, &size) != 0) {
+    if (bind(descriptor, (struct sockaddr *) &address, size) != 0
+        || getsockname(descriptor, (struct sockaddr *) &address, &size) != 0) {
         fail("there is no free port");
     }
     close(descriptor);
@@ -136,7 +137,8 @@ int main(int count, char **words)
     send_lines(port, lines, 3);
     send_lines(port, lines, 1);
     send_lines(port, lines + 2, 1);
-    if (read_bytes(output, printed, sizeof printed) != sizeof wanted - 1 || memcmp(printed, wanted, sizeof wanted - 1) != 0) {
+    if (read_bytes(output, printed, sizeof printed) != sizeof wanted - 1
+        || memcmp(printed, wanted, sizeof wanted - 1) != 0) {
         fail("the service prints something else");
     }
     if (waitpid(service, &status, 0) != service || !WIFEXITED(status) || WEXITSTATUS(status) != 0) {

@@ -114,7 +114,7 @@ static void write_token(struct token written)
     printf("%.*s", written.length, written.at);
 }
 
-/* ---- expressions: each is written as one that asks for what it reads, the left operand first */
+/* ---- expressions, each written as one that asks for what it reads, the left operand first */
 
 static const struct operator {
     const char *sign;
@@ -264,7 +264,7 @@ static void store(struct token base)
     struct token index = index_in_cell(&is_reference);
     expect("=");
     write_requirement(base);
-    printf("; %s(%.*s, %.*s, ", is_reference ? "vr_store_r" : "vr_store_n", base.length, base.at, index.length, index.at);
+    printf("; vr_store_%c(%.*s, %.*s, ", is_reference ? 'r' : 'n', base.length, base.at, index.length, index.at);
     expression(0);
     expect(";");
     fputs(");", stdout);
@@ -380,7 +380,9 @@ static void declarations(void)
             expect("long");
         }
         variable = taken();
-        printf("%s %.*s = %s; ", is_reference ? "vr_ref" : "long long", variable.length, variable.at, is_reference ? "vr_null" : "0");
+        fputs(is_reference ? "vr_ref " : "long long ", stdout);
+        write_token(variable);
+        fputs(is_reference ? " = vr_null; " : " = 0; ", stdout);
         write_mark(variable, false);
         expect(";");
     }

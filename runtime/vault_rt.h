@@ -52,8 +52,8 @@ void vr_back(vr_ref block);
 void vr_end(void);
 
 /* For vault_main.c: before the program's first function, and after it. Budgets are taken from the environment, VAULT_FUEL,
- * VAULT_HEAP and VAULT_DEPTH; without one there is no such bound. A text that wasn't instrumented counts no fuel and no depth,
- * so there the two are refused. */
+ * VAULT_HEAP and VAULT_DEPTH; without one there is no such bound. A text that wasn't instrumented counts no fuel and no
+ * depth, so there the two are refused. */
 void vault_start(bool is_instrumented);
 int vault_done(void);
 
