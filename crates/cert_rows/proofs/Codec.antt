@@ -9,11 +9,13 @@ use Rattle.cert_rows.specs.Parts.{Part, Fields, nat, list, list_in, at_most, nat
 
 -- ---- options
 
-pub and_then_in : {A B : Type 0} (P : A → Type 0) (Q : B → Type 0) (f : A → Option B) (o : Option A) → IfSome o P → ((a : A) → P a → IfSome (f a) Q) → IfSome (option_and_then f o) Q
+pub and_then_in : {A B : Type 0} (P : A → Type 0) (Q : B → Type 0) (f : A → Option B) (o : Option A) → IfSome o P →
+    ((a : A) → P a → IfSome (f a) Q) → IfSome (option_and_then f o) Q
 and_then_in P Q f None h k = tt
 and_then_in P Q f (Some a) h k = k a h
 
-pub map_on : {A B : Type 0} (P : A → Type 0) (Q : B → Type 0) (f : A → B) (o : Option A) → IfSome o P → ((a : A) → P a → Q (f a)) → IfSome (option_map f o) Q
+pub map_on : {A B : Type 0} (P : A → Type 0) (Q : B → Type 0) (f : A → B) (o : Option A) → IfSome o P →
+    ((a : A) → P a → Q (f a)) → IfSome (option_map f o) Q
 map_on P Q f None h k = tt
 map_on P Q f (Some a) h k = k a h
 
@@ -24,7 +26,12 @@ weaker P Q (Some a) k h = k a h
 -- ---- numbers, texts, lists
 
 tested_nat : (top n : ℕ) → IfSome (at_most top (Some n)) (λ m. (n ≡ m) × (m ≤ top))
-tested_nat top n = elim (leb_tells n top) [ inl h ↦ subst (λ (b : Bool). IfSome (if b then Some n else None) (λ m. (n ≡ m) × (m ≤ top))) (sym h.0) (refl, h.1) | inr h ↦ subst (λ (b : Bool). IfSome (if b then Some n else None) (λ m. (n ≡ m) × (m ≤ top))) (sym h.0) tt ]
+tested_nat top n = elim (leb_tells n top) [
+  | inl h ↦ subst
+      (λ (b : Bool). IfSome (if b then Some n else None) (λ m. (n ≡ m) × (m ≤ top))) (sym h.0) (refl, h.1)
+  | inr h ↦
+      subst (λ (b : Bool). IfSome (if b then Some n else None) (λ m. (n ≡ m) × (m ≤ top))) (sym h.0) tt
+]
 
 pub number_to_part : (top : ℕ) → IsPart (number_to top)
 number_to_part top = record { back = λ n h. rw (le-leb n top h) refl; reads = reads }
@@ -32,7 +39,8 @@ number_to_part top = record { back = λ n h. rw (le-leb n top h) refl; reads = r
     reads : (d : Data) → Reads (number_to top) d
     reads null = tt
     reads (boolean b) = tt
-    reads (number (unsigned n)) = weaker (λ m. (n ≡ m) × (m ≤ top)) (λ m. (number (unsigned n) ≡ nat m) × (m ≤ top)) (at_most top (Some n)) (λ m h. (ap nat h.0, h.1)) (tested_nat top n)
+    reads (number (unsigned n)) = weaker (λ m. (n ≡ m) × (m ≤ top)) (λ m. (number (unsigned n) ≡ nat m) × (m ≤ top))
+        (at_most top (Some n)) (λ m h. (ap nat h.0, h.1)) (tested_nat top n)
     reads (number (negative z)) = tt
     reads (number (float x)) = tt
     reads (string t) = tt
@@ -75,24 +83,28 @@ module _ {A : Type 0} (p : Part A) (law : IsPart p) where
   each_read [] = (refl, tt)
   each_read (d ∷ ds) =
       and_then_in (λ a. (d ≡ p.data_of a) × p.Fits a) (λ xs. (d ∷ ds ≡ map p.data_of xs) × All p.Fits xs) _ (p.of_data d) (law.reads d)
-      (λ a h. map_on (λ xs. (ds ≡ map p.data_of xs) × All p.Fits xs) (λ xs. (d ∷ ds ≡ map p.data_of xs) × All p.Fits xs) (λ rest. a ∷ rest) (each_in p.of_data ds) (each_read ds)
+      (λ a h. map_on (λ xs. (ds ≡ map p.data_of xs) × All p.Fits xs) (λ xs. (d ∷ ds ≡ map p.data_of xs) × All p.Fits xs)
+      (λ rest. a ∷ rest) (each_in p.of_data ds) (each_read ds)
       (λ xs k. (rw (h.0, k.0) refl, (h.1, k.1))))
 
   pub several_part : IsPart (several p)
   several_part = record {
     back = λ xs h. rw (list_in_back (map p.data_of xs)) (each_back xs h);
     reads = λ d. and_then_in (λ ds. d ≡ list ds) (λ xs. (d ≡ list (map p.data_of xs)) × All p.Fits xs) (each_in p.of_data) (array_in d) (array_read d)
-        (λ ds is. weaker (λ xs. (ds ≡ map p.data_of xs) × All p.Fits xs) (λ xs. (d ≡ list (map p.data_of xs)) × All p.Fits xs) (each_in p.of_data ds) (λ xs h. (is ∙ ap list h.0, h.1)) (each_read ds));
+        (λ ds is. weaker (λ xs. (ds ≡ map p.data_of xs) × All p.Fits xs) (λ xs. (d ≡ list (map p.data_of xs)) × All p.Fits xs)
+        (each_in p.of_data ds) (λ xs h. (is ∙ ap list h.0, h.1)) (each_read ds));
   }
 
   pub with_test_part : (test : A → Bool) → IsPart (with_test test p)
   with_test_part test = record {
     back = λ a h. rw (law.back a h.0, h.1) refl;
-    reads = λ d. and_then_in (λ a. (d ≡ p.data_of a) × p.Fits a) (λ a. (d ≡ p.data_of a) × (p.Fits a × (test a ≡ true))) (if_so test) (p.of_data d) (law.reads d)
+    reads = λ d. and_then_in (λ a. (d ≡ p.data_of a) × p.Fits a) (λ a. (d ≡ p.data_of a) × (p.Fits a × (test a ≡ true)))
+        (if_so test) (p.of_data d) (law.reads d)
         (λ a h. by d a h (test a) refl);
   }
     where
-      by : (d : Data) (a : A) → (d ≡ p.data_of a) × p.Fits a → (b : Bool) → test a ≡ b → IfSome (if b then Some a else None) (λ a. (d ≡ p.data_of a) × (p.Fits a × (test a ≡ true)))
+      by : (d : Data) (a : A) → (d ≡ p.data_of a) × p.Fits a → (b : Bool) → test a ≡ b →
+          IfSome (if b then Some a else None) (λ a. (d ≡ p.data_of a) × (p.Fits a × (test a ≡ true)))
       by d a h true is = (h.0, (h.1, is))
       by d a h false is = tt
 
@@ -100,7 +112,8 @@ module _ {A B : Type 0} (to : A → B) (from : B → A) (p : Part A) (law : IsPa
   pub standing_part : IsPart (standing_for to from p)
   standing_part = record {
     back = λ b h. rw (law.back (from b) h.0) (ap Some h.1);
-    reads = λ d. map_on (λ a. (d ≡ p.data_of a) × p.Fits a) (λ b. (d ≡ p.data_of (from b)) × (p.Fits (from b) × (to (from b) ≡ b))) to (p.of_data d) (law.reads d)
+    reads = λ d. map_on (λ a. (d ≡ p.data_of a) × p.Fits a) (λ b. (d ≡ p.data_of (from b)) ×
+        (p.Fits (from b) × (to (from b) ≡ b))) to (p.of_data d) (law.reads d)
         (λ a h. (h.0 ∙ ap p.data_of (sym (same a h.1)), (subst p.Fits (sym (same a h.1)) h.1, ap to (same a h.1))));
   }
 
@@ -157,7 +170,8 @@ module _ {A : Type 0} (a : Part A) (la : IsPart a) where
   single_fields = record {
     back = λ x h. la.back x h;
     reads = λ ds. and_then_in (λ d. ds ≡ d ∷ []) (λ x. (ds ≡ a.data_of x ∷ []) × a.Fits x) a.of_data (one_in ds) (one_read ds)
-        (λ d is. weaker (λ x. (d ≡ a.data_of x) × a.Fits x) (λ x. (ds ≡ a.data_of x ∷ []) × a.Fits x) (a.of_data d) (λ x h. (is ∙ ap (λ e. e ∷ []) h.0, h.1)) (la.reads d));
+        (λ d is. weaker (λ x. (d ≡ a.data_of x) × a.Fits x) (λ x. (ds ≡ a.data_of x ∷ []) × a.Fits x) (a.of_data d)
+        (λ x h. (is ∙ ap (λ e. e ∷ []) h.0, h.1)) (la.reads d));
   }
 
 module _ {A B : Type 0} (a : Part A) (b : Part B) (la : IsPart a) (lb : IsPart b) where
@@ -181,7 +195,8 @@ module _ {A B C : Type 0} (a : Part A) (b : Part B) (c : Part C) (la : IsPart a)
   abbrev goal_three : List Data → A × B × C → Type 0
   goal_three ds x = (ds ≡ a.data_of x.0 ∷ b.data_of x.1 ∷ c.data_of x.2 ∷ []) × (triple a b c).Fits x
 
-  by_three : (ds : List Data) (o : Option (Data × Data × Data)) → IfSome o (λ q. ds ≡ q.0 ∷ q.1 ∷ q.2 ∷ []) → IfSome (three_of a b c o) (goal_three ds)
+  by_three : (ds : List Data) (o : Option (Data × Data × Data)) → IfSome o (λ q. ds ≡ q.0 ∷ q.1 ∷ q.2 ∷ []) →
+      IfSome (three_of a b c o) (goal_three ds)
   by_three ds None is = tt
   by_three ds (Some q) is =
       and_then_in (λ x. (q.0 ≡ a.data_of x) × a.Fits x) (goal_three ds) _ (a.of_data q.0) (la.reads q.0)
@@ -199,7 +214,8 @@ module _ {A B C D : Type 0} (a : Part A) (b : Part B) (c : Part C) (d : Part D) 
   abbrev goal_four : List Data → A × B × C × D → Type 0
   goal_four ds x = (ds ≡ a.data_of x.0 ∷ b.data_of x.1 ∷ c.data_of x.2 ∷ d.data_of x.3 ∷ []) × (quadruple a b c d).Fits x
 
-  by_four : (ds : List Data) (o : Option (Data × Data × Data × Data)) → IfSome o (λ q. ds ≡ q.0 ∷ q.1 ∷ q.2 ∷ q.3 ∷ []) → IfSome (four_of a b c d o) (goal_four ds)
+  by_four : (ds : List Data) (o : Option (Data × Data × Data × Data)) → IfSome o (λ q. ds ≡ q.0 ∷ q.1 ∷ q.2 ∷ q.3 ∷ []) →
+      IfSome (four_of a b c d o) (goal_four ds)
   by_four ds None is = tt
   by_four ds (Some q) is =
       and_then_in (λ x. (q.0 ≡ a.data_of x) × a.Fits x) (goal_four ds) _ (a.of_data q.0) (la.reads q.0)
@@ -214,11 +230,13 @@ module _ {A B C D : Type 0} (a : Part A) (b : Part B) (c : Part C) (d : Part D) 
     reads = λ ds. by_four ds (four_in ds) (four_read ds);
   }
 
-module _ {A B C D E : Type 0} (a : Part A) (b : Part B) (c : Part C) (d : Part D) (e : Part E) (la : IsPart a) (lb : IsPart b) (lc : IsPart c) (ld : IsPart d) (le : IsPart e) where
+module _ {A B C D E : Type 0} (a : Part A) (b : Part B) (c : Part C) (d : Part D) (e : Part E) (la : IsPart a) (lb : IsPart b)
+    (lc : IsPart c) (ld : IsPart d) (le : IsPart e) where
   abbrev goal_five : List Data → A × B × C × D × E → Type 0
   goal_five ds x = (ds ≡ a.data_of x.0 ∷ b.data_of x.1 ∷ c.data_of x.2 ∷ d.data_of x.3 ∷ e.data_of x.4 ∷ []) × (quintuple a b c d e).Fits x
 
-  by_five : (ds : List Data) (o : Option (Data × Data × Data × Data × Data)) → IfSome o (λ q. ds ≡ q.0 ∷ q.1 ∷ q.2 ∷ q.3 ∷ q.4 ∷ []) → IfSome (five_of a b c d e o) (goal_five ds)
+  by_five : (ds : List Data) (o : Option (Data × Data × Data × Data × Data)) →
+      IfSome o (λ q. ds ≡ q.0 ∷ q.1 ∷ q.2 ∷ q.3 ∷ q.4 ∷ []) → IfSome (five_of a b c d e o) (goal_five ds)
   by_five ds None is = tt
   by_five ds (Some q) is =
       and_then_in (λ x. (q.0 ≡ a.data_of x) × a.Fits x) (goal_five ds) _ (a.of_data q.0) (la.reads q.0)
@@ -234,11 +252,14 @@ module _ {A B C D E : Type 0} (a : Part A) (b : Part B) (c : Part C) (d : Part D
     reads = λ ds. by_five ds (five_in ds) (five_read ds);
   }
 
-module _ {A B C D E F G : Type 0} (a : Part A) (b : Part B) (c : Part C) (d : Part D) (e : Part E) (f : Part F) (g : Part G) (la : IsPart a) (lb : IsPart b) (lc : IsPart c) (ld : IsPart d) (le : IsPart e) (lf : IsPart f) (lg : IsPart g) where
+module _ {A B C D E F G : Type 0} (a : Part A) (b : Part B) (c : Part C) (d : Part D) (e : Part E) (f : Part F) (g : Part G)
+    (la : IsPart a) (lb : IsPart b) (lc : IsPart c) (ld : IsPart d) (le : IsPart e) (lf : IsPart f) (lg : IsPart g) where
   abbrev goal_seven : List Data → A × B × C × D × E × F × G → Type 0
-  goal_seven ds x = (ds ≡ a.data_of x.0 ∷ b.data_of x.1 ∷ c.data_of x.2 ∷ d.data_of x.3 ∷ e.data_of x.4 ∷ f.data_of x.5 ∷ g.data_of x.6 ∷ []) × (septuple a b c d e f g).Fits x
+  goal_seven ds x = (ds ≡ a.data_of x.0 ∷ b.data_of x.1 ∷ c.data_of x.2 ∷ d.data_of x.3 ∷ e.data_of x.4 ∷ f.data_of x.5 ∷
+      g.data_of x.6 ∷ []) × (septuple a b c d e f g).Fits x
 
-  by_seven : (ds : List Data) (o : Option (Data × Data × Data × Data × Data × Data × Data)) → IfSome o (λ q. ds ≡ q.0 ∷ q.1 ∷ q.2 ∷ q.3 ∷ q.4 ∷ q.5 ∷ q.6 ∷ []) → IfSome (seven_of a b c d e f g o) (goal_seven ds)
+  by_seven : (ds : List Data) (o : Option (Data × Data × Data × Data × Data × Data × Data)) →
+      IfSome o (λ q. ds ≡ q.0 ∷ q.1 ∷ q.2 ∷ q.3 ∷ q.4 ∷ q.5 ∷ q.6 ∷ []) → IfSome (seven_of a b c d e f g o) (goal_seven ds)
   by_seven ds None is = tt
   by_seven ds (Some q) is =
       and_then_in (λ x. (q.0 ≡ a.data_of x) × a.Fits x) (goal_seven ds) _ (a.of_data q.0) (la.reads q.0)
@@ -260,7 +281,8 @@ module _ {A B : Type 0} (to : A → B) (from : B → A) (f : Fields A) (law : Ar
   pub fields_for_law : AreFields (fields_for to from f)
   fields_for_law = record {
     back = λ b h. rw (law.back (from b) h.0) (ap Some h.1);
-    reads = λ ds. map_on (λ a. (ds ≡ f.items a) × f.Fits a) (λ b. (ds ≡ f.items (from b)) × (f.Fits (from b) × (to (from b) ≡ b))) to (f.of_items ds) (law.reads ds)
+    reads = λ ds. map_on (λ a. (ds ≡ f.items a) × f.Fits a) (λ b. (ds ≡ f.items (from b)) ×
+        (f.Fits (from b) × (to (from b) ≡ b))) to (f.of_items ds) (law.reads ds)
         (λ a h. (h.0 ∙ ap f.items (sym (same a h.1)), (subst f.Fits (sym (same a h.1)) h.1, ap to (same a h.1))));
   }
 
@@ -268,11 +290,13 @@ module _ {A : Type 0} (test : A → Bool) (f : Fields A) (law : AreFields f) whe
   pub fields_with_test_law : AreFields (fields_with_test test f)
   fields_with_test_law = record {
     back = λ a h. rw (law.back a h.0, h.1) refl;
-    reads = λ ds. and_then_in (λ a. (ds ≡ f.items a) × f.Fits a) (λ a. (ds ≡ f.items a) × (f.Fits a × (test a ≡ true))) (if_so test) (f.of_items ds) (law.reads ds)
+    reads = λ ds. and_then_in (λ a. (ds ≡ f.items a) × f.Fits a) (λ a. (ds ≡ f.items a) × (f.Fits a × (test a ≡ true)))
+        (if_so test) (f.of_items ds) (law.reads ds)
         (λ a h. by ds a h (test a) refl);
   }
     where
-      by : (ds : List Data) (a : A) → (ds ≡ f.items a) × f.Fits a → (b : Bool) → test a ≡ b → IfSome (if b then Some a else None) (λ a. (ds ≡ f.items a) × (f.Fits a × (test a ≡ true)))
+      by : (ds : List Data) (a : A) → (ds ≡ f.items a) × f.Fits a → (b : Bool) → test a ≡ b →
+          IfSome (if b then Some a else None) (λ a. (ds ≡ f.items a) × (f.Fits a × (test a ≡ true)))
       by ds a h true is = (h.0, (h.1, is))
       by ds a h false is = tt
 
@@ -281,7 +305,8 @@ module _ {A : Type 0} (f : Fields A) (law : AreFields f) where
   tuple_part = record {
     back = λ x h. rw (list_in_back (f.items x)) (law.back x h);
     reads = λ d. and_then_in (λ ds. d ≡ list ds) (λ x. (d ≡ list (f.items x)) × f.Fits x) f.of_items (array_in d) (array_read d)
-        (λ ds is. weaker (λ x. (ds ≡ f.items x) × f.Fits x) (λ x. (d ≡ list (f.items x)) × f.Fits x) (f.of_items ds) (λ x h. (is ∙ ap list h.0, h.1)) (law.reads ds));
+        (λ ds is. weaker (λ x. (ds ≡ f.items x) × f.Fits x) (λ x. (d ≡ list (f.items x)) × f.Fits x) (f.of_items ds)
+        (λ x h. (is ∙ ap list h.0, h.1)) (law.reads ds));
   }
 
 -- ---- 0 or -1 in the place of a part
@@ -300,9 +325,12 @@ module _ {A : Type 0} (p : Part A) (law : IsPart p) where
       back None h = refl
       back (Some a) h = rw (h.1, law.back a h.0) refl
 
-      by : (d : Data) (b : Bool) → is_number d ≡ b → IfSome (if b then option_map (λ z. None) (nat_in 0 d) else option_map Some (p.of_data d)) (λ o. (d ≡ (zero_or p).data_of o) × (zero_or p).Fits o)
-      by d true is = map_on (λ n. d ≡ nat 0) (λ o. (d ≡ (zero_or p).data_of o) × (zero_or p).Fits o) (λ z. None) (nat_in 0 d) (zero_read d) (λ n h. (h, tt))
-      by d false is = map_on (λ a. (d ≡ p.data_of a) × p.Fits a) (λ o. (d ≡ (zero_or p).data_of o) × (zero_or p).Fits o) Some (p.of_data d) (law.reads d)
+      by : (d : Data) (b : Bool) → is_number d ≡ b → IfSome (if b then option_map (λ z. None) (nat_in 0 d)
+          else option_map Some (p.of_data d)) (λ o. (d ≡ (zero_or p).data_of o) × (zero_or p).Fits o)
+      by d true is = map_on (λ n. d ≡ nat 0) (λ o. (d ≡ (zero_or p).data_of o) × (zero_or p).Fits o) (λ z. None) (nat_in 0 d)
+          (zero_read d) (λ n h. (h, tt))
+      by d false is = map_on (λ a. (d ≡ p.data_of a) × p.Fits a) (λ o. (d ≡ (zero_or p).data_of o) × (zero_or p).Fits o) Some
+          (p.of_data d) (law.reads d)
           (λ a h. (h.0, (h.1, ap is_number (sym h.0) ∙ is)))
 
   pub minus_part : IsPart (minus_or p)
@@ -312,7 +340,8 @@ module _ {A : Type 0} (p : Part A) (law : IsPart p) where
       back None h = refl
       back (Some a) h = rw (h.1, law.back a h.0) refl
 
-      one : (n : ℕ) (b : Bool) → (n == 0) ≡ b → IfSome (let o : Option (Option A) = if b then Some None else None in o) (λ o. (number (negative (negsuc n)) ≡ (minus_or p).data_of o) × (minus_or p).Fits o)
+      one : (n : ℕ) (b : Bool) → (n == 0) ≡ b → IfSome (let o : Option (Option A) = if b then Some None else None in o)
+          (λ o. (number (negative (negsuc n)) ≡ (minus_or p).data_of o) × (minus_or p).Fits o)
       one n true is = (ap (λ m. number (negative (negsuc m))) (search rules), tt)
       one n false is = tt
 
@@ -327,7 +356,9 @@ module _ {A : Type 0} (p : Part A) (law : IsPart p) where
       minus (array ds) = tt
       minus (object ms) = tt
 
-      by : (d : Data) (b : Bool) → is_signed d ≡ b → IfSome (if b then minus_in d else option_map Some (p.of_data d)) (λ o. (d ≡ (minus_or p).data_of o) × (minus_or p).Fits o)
+      by : (d : Data) (b : Bool) → is_signed d ≡ b → IfSome (if b then minus_in d else option_map Some (p.of_data d))
+          (λ o. (d ≡ (minus_or p).data_of o) × (minus_or p).Fits o)
       by d true is = minus d
-      by d false is = map_on (λ a. (d ≡ p.data_of a) × p.Fits a) (λ o. (d ≡ (minus_or p).data_of o) × (minus_or p).Fits o) Some (p.of_data d) (law.reads d)
+      by d false is = map_on (λ a. (d ≡ p.data_of a) × p.Fits a) (λ o. (d ≡ (minus_or p).data_of o) × (minus_or p).Fits o) Some
+          (p.of_data d) (law.reads d)
           (λ a h. (h.0, (h.1, ap is_signed (sym h.0) ∙ is)))

@@ -96,9 +96,12 @@ ids_exact k = lists k id (numbers k 4294967295)
 ty_exact : ExactPart 2 ty
 ty_exact core.int = row_exact 1 _ [] tt
 ty_exact core.bool = row_exact 1 _ [] tt
-ty_exact (core.tracked k t args) = row_exact 1 _ (key_fields.items (k, t, args)) (numbers 1 4294967295 k, (numbers 1 4294967295 t, (ids_exact 0 args, tt)))
-ty_exact (core.owning s t args) = row_exact 1 _ (own_fields.items (s, t, args)) (numbers 1 4294967295 _, (numbers 1 4294967295 t, (ids_exact 0 args, tt)))
-ty_exact (core.guarded k t args) = row_exact 1 _ (key_fields.items (k, t, args)) (numbers 1 4294967295 k, (numbers 1 4294967295 t, (ids_exact 0 args, tt)))
+ty_exact (core.tracked k t args) =
+    row_exact 1 _ (key_fields.items (k, t, args)) (numbers 1 4294967295 k, (numbers 1 4294967295 t, (ids_exact 0 args, tt)))
+ty_exact (core.owning s t args) =
+    row_exact 1 _ (own_fields.items (s, t, args)) (numbers 1 4294967295 _, (numbers 1 4294967295 t, (ids_exact 0 args, tt)))
+ty_exact (core.guarded k t args) =
+    row_exact 1 _ (key_fields.items (k, t, args)) (numbers 1 4294967295 k, (numbers 1 4294967295 t, (ids_exact 0 args, tt)))
 ty_exact (core.variant t args) = row_exact 1 _ (var_fields.items (t, args)) (numbers 1 4294967295 t, (ids_exact 0 args, tt))
 ty_exact (core.owning_variant t args) = row_exact 1 _ (var_fields.items (t, args)) (numbers 1 4294967295 t, (ids_exact 0 args, tt))
 
@@ -113,7 +116,8 @@ head_exact : ExactPart 2 head
 head_exact h = tuples 1 (pair id (several token)) (λ h. (numbers 1 4294967295 h.0, (tokens_exact 0 h.1, tt))) h
 
 arm_exact : ExactPart 2 arm
-arm_exact a = tuples 1 (quadruple byte ids id (several token)) (λ a. (numbers 1 255 a.0, (ids_exact 0 a.1, (numbers 1 4294967295 a.2, (tokens_exact 0 a.3, tt))))) a
+arm_exact a = tuples 1 (quadruple byte ids id (several token))
+    (λ a. (numbers 1 255 a.0, (ids_exact 0 a.1, (numbers 1 4294967295 a.2, (tokens_exact 0 a.3, tt))))) a
 
 map_exact : ExactPart 2 map_part
 map_exact m = lists 1 token_status (λ x. list3 0 (numbers 0 4294967551 _) (numbers 0 2 _) (numbers 0 4294967295 _)) m
@@ -128,7 +132,8 @@ items_are (core.truth b) = (row1 0 (numbers 0 1 _), tt)
 items_are (core.var v) = (row1 0 (numbers 0 4294967295 v), tt)
 items_are (core.field x i) = (row2 0 (numbers 0 4294967295 x) (numbers 0 4294967295 i), tt)
 items_are (core.unary o a) = all_more 1 (expr_items a) (operator_data o ∷ []) (items_are a) (row1 0 (numbers 0 17 _), tt)
-items_are (core.binary o a b) = all_more 1 (expr_items a) (expr_items b ++ operator_data o ∷ []) (items_are a) (all_more 1 (expr_items b) (operator_data o ∷ []) (items_are b) (row1 0 (numbers 0 17 _), tt))
+items_are (core.binary o a b) = all_more 1 (expr_items a) (expr_items b ++ operator_data o ∷ []) (items_are a)
+    (all_more 1 (expr_items b) (operator_data o ∷ []) (items_are b) (row1 0 (numbers 0 17 _), tt))
 
 expr_exact : ExactPart 2 expr
 expr_exact e = list_exact 1 (expr_items e) (items_are e)
@@ -151,7 +156,8 @@ case_key_exact : ExactPart 1 case_key
 case_key_exact k = list2 0 (numbers 0 4294967295 _) (numbers 0 4294967295 _)
 
 entry_exact : (ordered : Bool) → ExactPart 1 (entry ordered)
-entry_exact ordered e = list4 0 (numbers 0 4 _) (numbers 0 4294967295 _) (minuses 0 (number_to 4294967295) (numbers 0 4294967295) _) (minuses 0 (number_to 4294967295) (numbers 0 4294967295) _)
+entry_exact ordered e = list4 0 (numbers 0 4 _) (numbers 0 4294967295 _)
+    (minuses 0 (number_to 4294967295) (numbers 0 4294967295) _) (minuses 0 (number_to 4294967295) (numbers 0 4294967295) _)
 
 flags : ExactPart 4 flag
 flags b = numbers 4 1 _
@@ -180,31 +186,117 @@ set_exact w d = by w.ordered
 pub rows_exact : (w : Shape) (r : Row) → IsExact 5 (row_data w r)
 rows_exact w (version o) = row_exact 4 _ (version_fields.items o) (versions o, tt)
 rows_exact w (states d) = set_exact w d
-rows_exact w (abstract_type name set) = row_exact 4 _ (abstract_fields.items (name, set)) (texts 4 name, (minuses 4 id (numbers 4 4294967295) set, tt))
-rows_exact w (struct_type d) = row_exact 4 _ (struct_fields.items (d.name, d.header, d.set, d.release, d.fields)) (texts 4 d.name, (lists 3 (minus_or id) (minuses 3 id (numbers 3 4294967295)) d.header, (minuses 4 id (numbers 4 4294967295) d.set, (masks d.release, (lists 3 field field_exact d.fields, tt)))))
-rows_exact w (variant_type name hs cases) = row_exact 4 _ (variant_fields.items (name, hs, cases)) (texts 4 name, (lists 3 (minus_or id) (minuses 3 id (numbers 3 4294967295)) hs, (numbers 4 32 cases, tt)))
-rows_exact w (case_of c) = row_exact 4 _ (case_fields.items (c.name, c.payload, c.keys)) (texts 4 c.name, (lists 3 ty (wider 2 3 ty (omega arith) ty_exact) c.payload, (lists 3 case_key (wider 1 3 case_key (omega arith) case_key_exact) c.keys, tt)))
-rows_exact w (function f) = row_exact 4 _ ((fn_fields w.ordered).items f) (texts 4 _, (wider 2 4 result (omega arith) result_exact _, (numbers 4 16 _, (lists 3 (entry w.ordered) (wider 1 3 (entry w.ordered) (omega arith) (entry_exact w.ordered)) _, (lists 3 key_decl (wider 1 3 key_decl (omega arith) key_exact) _, (lists 3 var_decl var_exact _, (numbers 4 4294967295 _, tt)))))))
-rows_exact w (external f) = row_exact 4 _ ((extern_fields w.ordered).items f) (texts 4 _, (wider 2 4 result (omega arith) result_exact _, (numbers 4 16 _, (lists 3 (entry w.ordered) (wider 1 3 (entry w.ordered) (omega arith) (entry_exact w.ordered)) _, (lists 3 key_decl (wider 1 3 key_decl (omega arith) key_exact) _, (lists 3 var_decl var_exact _, (numbers 4 0 _, tt)))))))
+rows_exact w (abstract_type name set) =
+    row_exact 4 _ (abstract_fields.items (name, set)) (texts 4 name, (minuses 4 id (numbers 4 4294967295) set, tt))
+rows_exact w (struct_type d) = row_exact 4 _ (struct_fields.items (d.name, d.header, d.set, d.release, d.fields)) (
+  texts 4 d.name,
+  (
+    lists 3 (minus_or id) (minuses 3 id (numbers 3 4294967295)) d.header,
+    (minuses 4 id (numbers 4 4294967295) d.set, (masks d.release, (lists 3 field field_exact d.fields, tt))),
+  ),
+)
+rows_exact w (variant_type name hs cases) = row_exact 4 _ (variant_fields.items (name, hs, cases)) (
+  texts 4 name,
+  (lists 3 (minus_or id) (minuses 3 id (numbers 3 4294967295)) hs, (numbers 4 32 cases, tt)),
+)
+rows_exact w (case_of c) = row_exact 4 _ (case_fields.items (c.name, c.payload, c.keys)) (
+  texts 4 c.name,
+  (
+    lists 3 ty (wider 2 3 ty (omega arith) ty_exact) c.payload,
+    (lists 3 case_key (wider 1 3 case_key (omega arith) case_key_exact) c.keys, tt),
+  ),
+)
+rows_exact w (function f) = row_exact 4 _ ((fn_fields w.ordered).items f) (
+  texts 4 _,
+  (
+    wider 2 4 result (omega arith) result_exact _,
+    (
+      numbers 4 16 _,
+      (
+        lists 3 (entry w.ordered) (wider 1 3 (entry w.ordered) (omega arith) (entry_exact w.ordered)) _,
+        (
+          lists 3 key_decl (wider 1 3 key_decl (omega arith) key_exact) _,
+          (lists 3 var_decl var_exact _, (numbers 4 4294967295 _, tt)),
+        ),
+      ),
+    ),
+  ),
+)
+rows_exact w (external f) = row_exact 4 _ ((extern_fields w.ordered).items f) (
+  texts 4 _,
+  (
+    wider 2 4 result (omega arith) result_exact _,
+    (
+      numbers 4 16 _,
+      (
+        lists 3 (entry w.ordered) (wider 1 3 (entry w.ordered) (omega arith) (entry_exact w.ordered)) _,
+        (lists 3 key_decl (wider 1 3 key_decl (omega arith) key_exact) _, (lists 3 var_decl var_exact _, (numbers 4 0 _, tt))),
+      ),
+    ),
+  ),
+)
 rows_exact w (simple (core.set v e)) = row_exact 4 _ (set_stmt.items (v, e)) (numbers 4 4294967295 v, (wider 2 4 expr (omega arith) expr_exact e, tt))
 rows_exact w (simple (core.input v more)) = row_exact 4 _ (input_stmt.items (v, more)) (numbers 4 4294967295 v, (flags more, tt))
 rows_exact w (simple (core.print e)) = row_exact 4 _ (print_stmt.items e) (wider 2 4 expr (omega arith) expr_exact e, tt)
-rows_exact w (simple (core.put x i e)) = row_exact 4 _ (put_stmt.items (x, i, e)) (numbers 4 4294967295 x, (numbers 4 4294967295 i, (wider 2 4 expr (omega arith) expr_exact e, tt)))
+rows_exact w (simple (core.put x i e)) = row_exact 4 _ (put_stmt.items (x, i, e)) (
+  numbers 4 4294967295 x,
+  (numbers 4 4294967295 i, (wider 2 4 expr (omega arith) expr_exact e, tt)),
+)
 rows_exact w (simple (core.make x os)) = row_exact 4 _ (new_stmt.items (x, os)) (numbers 4 4294967295 x, (lists 3 operand operand_exact os, tt))
 rows_exact w (simple (core.become x s)) = row_exact 4 _ (become_stmt.items (x, s)) (numbers 4 4294967295 x, (numbers 4 255 s, tt))
 rows_exact w (simple (core.release x)) = row_exact 4 _ (release_stmt.items x) (numbers 4 4294967295 x, tt)
 rows_exact w (simple (core.drop v)) = row_exact 4 _ (drop_stmt.items v) (numbers 4 4294967295 v, tt)
-rows_exact w (simple (core.own v o)) = row_exact 4 _ (own_stmt.items (v, o)) (numbers 4 4294967295 v, (wider 3 4 operand (omega arith) operand_exact o, tt))
+rows_exact w (simple (core.own v o)) =
+    row_exact 4 _ (own_stmt.items (v, o)) (numbers 4 4294967295 v, (wider 3 4 operand (omega arith) operand_exact o, tt))
 rows_exact w (simple (core.unpack x v)) = row_exact 4 _ (unpack_stmt.items (x, v)) (numbers 4 4294967295 x, (numbers 4 4294967295 v, tt))
-rows_exact w (simple (core.build v c os)) = row_exact 4 _ (build_stmt.items (v, c, os)) (numbers 4 4294967295 v, (numbers 4 255 c, (lists 3 operand operand_exact os, tt)))
-rows_exact w (call g target keys os) = row_exact 4 _ (call_stmt.items (g, target, keys, os)) (numbers 4 4294967295 g, (minuses 4 id (numbers 4 4294967295) target, (ids_exact 3 keys, (lists 3 operand operand_exact os, tt))))
-rows_exact w (simple (core.swap x i v)) = row_exact 4 _ (swap_stmt.items (x, i, v)) (numbers 4 4294967295 x, (numbers 4 4294967295 i, (numbers 4 4294967295 v, tt)))
+rows_exact w (simple (core.build v c os)) = row_exact 4 _ (build_stmt.items (v, c, os)) (
+  numbers 4 4294967295 v,
+  (numbers 4 255 c, (lists 3 operand operand_exact os, tt)),
+)
+rows_exact w (call g target keys os) = row_exact 4 _ (call_stmt.items (g, target, keys, os)) (
+  numbers 4 4294967295 g,
+  (minuses 4 id (numbers 4 4294967295) target, (ids_exact 3 keys, (lists 3 operand operand_exact os, tt))),
+)
+rows_exact w (simple (core.swap x i v)) =
+    row_exact 4 _ (swap_stmt.items (x, i, v)) (numbers 4 4294967295 x, (numbers 4 4294967295 i, (numbers 4 4294967295 v, tt)))
 rows_exact w (simple (core.open_into x vs)) = row_exact 4 _ (open_stmt.items (x, vs)) (numbers 4 4294967295 x, (ids_exact 3 vs, tt))
-rows_exact w (simple (core.adopt y x r)) = row_exact 4 _ (adopt_stmt.items (y, x, r)) (numbers 4 4294967295 y, (numbers 4 4294967295 x, (numbers 4 4294967295 r, tt)))
-rows_exact w (choose e a b m) = row_exact 4 _ ((if_stmt w.instances).items (e, a, b, m)) (wider 2 4 expr (omega arith) expr_exact e, (wider 2 4 head (omega arith) head_exact a, (wider 2 4 head (omega arith) head_exact b, (zeros 4 (maps_part w.instances) (wider 3 4 (maps_part w.instances) (omega arith) (maps_exact w.instances)) m, tt))))
-rows_exact w (loop e a m k) = row_exact 4 _ ((while_stmt w.instances).items (e, a, m, k)) (wider 2 4 expr (omega arith) expr_exact e, (wider 2 4 head (omega arith) head_exact a, (wider 3 4 (maps_part w.instances) (omega arith) (maps_exact w.instances) m, (wider 3 4 (maps_part w.instances) (omega arith) (maps_exact w.instances) k, tt))))
-rows_exact w (switch v arms m) = row_exact 4 _ ((switch_stmt w.instances).items (v, arms, m)) (numbers 4 4294967295 v, (wider 3 4 (several arm) (omega arith) (lists 2 arm arm_exact) arms, (zeros 4 (maps_part w.instances) (wider 3 4 (maps_part w.instances) (omega arith) (maps_exact w.instances)) m, tt)))
-rows_exact w (focus y z a) = row_exact 4 _ (focus_stmt.items (y, z, a)) (numbers 4 4294967295 y, (numbers 4 4294967295 z, (wider 2 4 head (omega arith) head_exact a, tt)))
+rows_exact w (simple (core.adopt y x r)) =
+    row_exact 4 _ (adopt_stmt.items (y, x, r)) (numbers 4 4294967295 y, (numbers 4 4294967295 x, (numbers 4 4294967295 r, tt)))
+rows_exact w (choose e a b m) = row_exact 4 _ ((if_stmt w.instances).items (e, a, b, m)) (
+  wider 2 4 expr (omega arith) expr_exact e,
+  (
+    wider 2 4 head (omega arith) head_exact a,
+    (
+      wider 2 4 head (omega arith) head_exact b,
+      (
+        zeros 4 (maps_part w.instances)
+            (wider 3 4 (maps_part w.instances) (omega arith) (maps_exact w.instances)) m,
+        tt,
+      ),
+    ),
+  ),
+)
+rows_exact w (loop e a m k) = row_exact 4 _ ((while_stmt w.instances).items (e, a, m, k)) (
+  wider 2 4 expr (omega arith) expr_exact e,
+  (
+    wider 2 4 head (omega arith) head_exact a,
+    (
+      wider 3 4 (maps_part w.instances) (omega arith) (maps_exact w.instances) m,
+      (wider 3 4 (maps_part w.instances) (omega arith) (maps_exact w.instances) k, tt),
+    ),
+  ),
+)
+rows_exact w (switch v arms m) = row_exact 4 _ ((switch_stmt w.instances).items (v, arms, m)) (
+  numbers 4 4294967295 v,
+  (
+    wider 3 4 (several arm) (omega arith) (lists 2 arm arm_exact) arms,
+    (zeros 4 (maps_part w.instances) (wider 3 4 (maps_part w.instances) (omega arith) (maps_exact w.instances)) m, tt),
+  ),
+)
+rows_exact w (focus y z a) = row_exact 4 _ (focus_stmt.items (y, z, a)) (
+  numbers 4 4294967295 y,
+  (numbers 4 4294967295 z, (wider 2 4 head (omega arith) head_exact a, tt)),
+)
 rows_exact w (scope a) = row_exact 4 _ (scope_stmt.items a) (wider 2 4 head (omega arith) head_exact a, tt)
 rows_exact w (return o) = row_exact 4 _ (return_stmt.items o) (zeros 4 operand (wider 3 4 operand (omega arith) operand_exact) o, tt)
 rows_exact w (jump c) = row_exact 4 _ (jump_stmt.items c) (flags c, tt)

@@ -51,7 +51,8 @@ result_part = record { back = result_back; reads = λ d. tagged_array (IsResult 
 function_law : (ordered : Bool) (name : Part Name) (count : Part ℕ) → IsPart name → IsPart count → AreFields (function_fields ordered name count)
 function_law ordered name count ln lc =
     septuple_fields name result (number_to 16) (several (entry ordered)) (few 256 key_decl) (few 256 var_decl) count
-    ln result_part (number_to_part 16) (several_part (entry ordered) (entry_part ordered)) (few_part 256 key_decl key_decl_part) (few_part 256 var_decl var_decl_part) lc
+    ln result_part (number_to_part 16) (several_part (entry ordered) (entry_part ordered)) (few_part 256 key_decl key_decl_part)
+    (few_part 256 var_decl var_decl_part) lc
 
 version_back : (n : ℕ) → n ≤ 2 → not (n == 0) ≡ true → (if n == 2 then 2 else 1) ≡ n
 version_back zero h is = absurd (true≢false (sym is))
@@ -71,7 +72,8 @@ names_part = with_test_part _ (few_part 32 text text_part) is_filled
 set_fields_law : (ordered : Bool) → AreFields (set_fields ordered)
 set_fields_law false = fields_for_law _ _ _ (pair_fields text names text_part names_part) (λ x h. refl)
 set_fields_law true =
-    fields_with_test_law has_own_links _ (fields_for_law _ _ _ (triple_fields text names (few 31 link) text_part names_part (few_part 31 link link_part)) (λ x h. refl))
+    fields_with_test_law has_own_links _ (fields_for_law _ _ _
+    (triple_fields text names (few 31 link) text_part names_part (few_part 31 link link_part)) (λ x h. refl))
 
 version_fields_law : AreFields version_fields
 version_fields_law = single_fields version_part version_law
@@ -80,7 +82,8 @@ abstract_fields_law : AreFields abstract_fields
 abstract_fields_law = pair_fields text (minus_or id) text_part (minus_part id id_part)
 
 struct_fields_law : AreFields struct_fields
-struct_fields_law = quintuple_fields text header (minus_or id) mask (few 32 field) text_part header_part (minus_part id id_part) mask_part (few_part 32 field field_part)
+struct_fields_law = quintuple_fields text header (minus_or id) mask (few 32 field) text_part header_part
+    (minus_part id id_part) mask_part (few_part 32 field field_part)
 
 variant_fields_law : AreFields variant_fields
 variant_fields_law = triple_fields text header _ text_part header_part (with_test_part _ (number_to_part 32) (λ n. not (n == 0)))
@@ -164,11 +167,15 @@ jump_stmt_law = single_fields flag flag_part
 
 row_back : (w : Shape) (r : Row) → FitsRow w r → (row_part w).of_data (row_data w r) ≡ Some r
 row_back w (version o) h = ap (option_map version) (version_fields_law.back o h)
-row_back w (states d) h = ap (λ ds. option_map states ((set_fields w.ordered).of_items ds)) (list_in_back ((set_fields w.ordered).items d)) ∙ ap (option_map states) ((set_fields_law w.ordered).back d h)
+row_back w (states d) h = ap (λ ds. option_map states ((set_fields w.ordered).of_items ds))
+    (list_in_back ((set_fields w.ordered).items d)) ∙ ap (option_map states) ((set_fields_law w.ordered).back d h)
 row_back w (abstract_type name set) h = ap (option_map (λ x. abstract_type x.0 x.1)) (abstract_fields_law.back (name, set) h)
-row_back w (struct_type d) h = ap (option_map (λ x. struct_type (record { name = x.0; header = x.1; set = x.2; release = x.3; fields = x.4 }))) (struct_fields_law.back (d.name, d.header, d.set, d.release, d.fields) h)
+row_back w (struct_type d) h = ap (option_map (λ x. struct_type
+    (record { name = x.0; header = x.1; set = x.2; release = x.3; fields = x.4 })))
+    (struct_fields_law.back (d.name, d.header, d.set, d.release, d.fields) h)
 row_back w (variant_type name hs cases) h = ap (option_map (λ x. variant_type x.0 x.1 x.2)) (variant_fields_law.back (name, hs, cases) h)
-row_back w (case_of c) h = ap (option_map (λ x. case_of (record { name = x.0; payload = x.1; keys = x.2 }))) (case_fields_law.back (c.name, c.payload, c.keys) h)
+row_back w (case_of c) h = ap (option_map (λ x. case_of (record { name = x.0; payload = x.1; keys = x.2 })))
+    (case_fields_law.back (c.name, c.payload, c.keys) h)
 row_back w (function f) h = ap (option_map function) ((fn_fields_law w.ordered).back f h)
 row_back w (external f) h = ap (option_map external) ((extern_fields_law w.ordered).back f h)
 row_back w (simple (core.set v e)) h = ap (option_map (λ x. simple (core.set x.0 x.1))) (set_stmt_law.back (v, e) h)
@@ -199,36 +206,66 @@ IsRow w d r = (d ≡ row_data w r) × FitsRow w r
 
 row_read : (w : Shape) (d : Data) (t : List ℕ) (ds : List Data) → d ≡ tagged_list t ds → IfSome (row_of_tag w t ds) (IsRow w d)
 row_read w d t ds is =
-    tag_step (IsRow w d) t (codes "vault") _ _ (λ e. after_tag (IsRow w d) version_fields version_fields_law version ds (λ x k h. (is ∙ rw (e, k) refl, h)))
-    (tag_step (IsRow w d) t (codes "states") _ _ (λ e. after_tag (IsRow w d) (set_fields w.ordered) (set_fields_law w.ordered) states ds (λ x k h. (is ∙ rw (e, k) refl, h)))
-    (tag_step (IsRow w d) t (codes "abstract") _ _ (λ e. after_tag (IsRow w d) abstract_fields abstract_fields_law (λ x. abstract_type x.0 x.1) ds (λ x k h. (is ∙ rw (e, k) refl, h)))
-    (tag_step (IsRow w d) t (codes "struct") _ _ (λ e. after_tag (IsRow w d) struct_fields struct_fields_law (λ x. struct_type (record { name = x.0; header = x.1; set = x.2; release = x.3; fields = x.4 })) ds (λ x k h. (is ∙ rw (e, k) refl, h)))
-    (tag_step (IsRow w d) t (codes "variant") _ _ (λ e. after_tag (IsRow w d) variant_fields variant_fields_law (λ x. variant_type x.0 x.1 x.2) ds (λ x k h. (is ∙ rw (e, k) refl, h)))
-    (tag_step (IsRow w d) t (codes "case") _ _ (λ e. after_tag (IsRow w d) case_fields case_fields_law (λ x. case_of (record { name = x.0; payload = x.1; keys = x.2 })) ds (λ x k h. (is ∙ rw (e, k) refl, h)))
-    (tag_step (IsRow w d) t (codes "fn") _ _ (λ e. after_tag (IsRow w d) (fn_fields w.ordered) (fn_fields_law w.ordered) function ds (λ x k h. (is ∙ rw (e, k) refl, h)))
-    (tag_step (IsRow w d) t (codes "extern") _ _ (λ e. after_tag (IsRow w d) (extern_fields w.ordered) (extern_fields_law w.ordered) external ds (λ x k h. (is ∙ rw (e, k) refl, h)))
-    (tag_step (IsRow w d) t (codes "set") _ _ (λ e. after_tag (IsRow w d) set_stmt set_stmt_law (λ x. simple (core.set x.0 x.1)) ds (λ x k h. (is ∙ rw (e, k) refl, h)))
-    (tag_step (IsRow w d) t (codes "input") _ _ (λ e. after_tag (IsRow w d) input_stmt input_stmt_law (λ x. simple (core.input x.0 x.1)) ds (λ x k h. (is ∙ rw (e, k) refl, h)))
-    (tag_step (IsRow w d) t (codes "print") _ _ (λ e. after_tag (IsRow w d) print_stmt print_stmt_law (λ e. simple (core.print e)) ds (λ x k h. (is ∙ rw (e, k) refl, h)))
-    (tag_step (IsRow w d) t (codes "put") _ _ (λ e. after_tag (IsRow w d) put_stmt put_stmt_law (λ x. simple (core.put x.0 x.1 x.2)) ds (λ x k h. (is ∙ rw (e, k) refl, h)))
-    (tag_step (IsRow w d) t (codes "new") _ _ (λ e. after_tag (IsRow w d) new_stmt new_stmt_law (λ x. simple (core.make x.0 x.1)) ds (λ x k h. (is ∙ rw (e, k) refl, h)))
-    (tag_step (IsRow w d) t (codes "become") _ _ (λ e. after_tag (IsRow w d) become_stmt become_stmt_law (λ x. simple (core.become x.0 x.1)) ds (λ x k h. (is ∙ rw (e, k) refl, h)))
-    (tag_step (IsRow w d) t (codes "release") _ _ (λ e. after_tag (IsRow w d) release_stmt release_stmt_law (λ x. simple (core.release x)) ds (λ x k h. (is ∙ rw (e, k) refl, h)))
-    (tag_step (IsRow w d) t (codes "drop") _ _ (λ e. after_tag (IsRow w d) drop_stmt drop_stmt_law (λ v. simple (core.drop v)) ds (λ x k h. (is ∙ rw (e, k) refl, h)))
-    (tag_step (IsRow w d) t (codes "own") _ _ (λ e. after_tag (IsRow w d) own_stmt own_stmt_law (λ x. simple (core.own x.0 x.1)) ds (λ x k h. (is ∙ rw (e, k) refl, h)))
-    (tag_step (IsRow w d) t (codes "unpack") _ _ (λ e. after_tag (IsRow w d) unpack_stmt unpack_stmt_law (λ x. simple (core.unpack x.0 x.1)) ds (λ x k h. (is ∙ rw (e, k) refl, h)))
-    (tag_step (IsRow w d) t (codes "build") _ _ (λ e. after_tag (IsRow w d) build_stmt build_stmt_law (λ x. simple (core.build x.0 x.1 x.2)) ds (λ x k h. (is ∙ rw (e, k) refl, h)))
-    (tag_step (IsRow w d) t (codes "call") _ _ (λ e. after_tag (IsRow w d) call_stmt call_stmt_law (λ x. call x.0 x.1 x.2 x.3) ds (λ x k h. (is ∙ rw (e, k) refl, h)))
-    (tag_step (IsRow w d) t (codes "swap") _ _ (λ e. after_tag (IsRow w d) swap_stmt swap_stmt_law (λ x. simple (core.swap x.0 x.1 x.2)) ds (λ x k h. (is ∙ rw (e, k) refl, h)))
-    (tag_step (IsRow w d) t (codes "open") _ _ (λ e. after_tag (IsRow w d) open_stmt open_stmt_law (λ x. simple (core.open_into x.0 x.1)) ds (λ x k h. (is ∙ rw (e, k) refl, h)))
-    (tag_step (IsRow w d) t (codes "adopt") _ _ (λ e. after_tag (IsRow w d) adopt_stmt adopt_stmt_law (λ x. simple (core.adopt x.0 x.1 x.2)) ds (λ x k h. (is ∙ rw (e, k) refl, h)))
-    (tag_step (IsRow w d) t (codes "if") _ _ (λ e. after_tag (IsRow w d) (if_stmt w.instances) (if_stmt_law w.instances) (λ x. choose x.0 x.1 x.2 x.3) ds (λ x k h. (is ∙ rw (e, k) refl, h)))
-    (tag_step (IsRow w d) t (codes "while") _ _ (λ e. after_tag (IsRow w d) (while_stmt w.instances) (while_stmt_law w.instances) (λ x. loop x.0 x.1 x.2 x.3) ds (λ x k h. (is ∙ rw (e, k) refl, h)))
-    (tag_step (IsRow w d) t (codes "switch") _ _ (λ e. after_tag (IsRow w d) (switch_stmt w.instances) (switch_stmt_law w.instances) (λ x. switch x.0 x.1 x.2) ds (λ x k h. (is ∙ rw (e, k) refl, h)))
-    (tag_step (IsRow w d) t (codes "focus") _ _ (λ e. after_tag (IsRow w d) focus_stmt focus_stmt_law (λ x. focus x.0 x.1 x.2) ds (λ x k h. (is ∙ rw (e, k) refl, h)))
+    tag_step (IsRow w d) t (codes "vault") _ _ (λ e. after_tag (IsRow w d) version_fields version_fields_law version ds
+    (λ x k h. (is ∙ rw (e, k) refl, h)))
+    (tag_step (IsRow w d) t (codes "states") _ _ (λ e. after_tag (IsRow w d) (set_fields w.ordered)
+    (set_fields_law w.ordered) states ds (λ x k h. (is ∙ rw (e, k) refl, h)))
+    (tag_step (IsRow w d) t (codes "abstract") _ _ (λ e. after_tag (IsRow w d) abstract_fields abstract_fields_law
+    (λ x. abstract_type x.0 x.1) ds (λ x k h. (is ∙ rw (e, k) refl, h)))
+    (tag_step (IsRow w d) t (codes "struct") _ _ (λ e. after_tag (IsRow w d) struct_fields struct_fields_law
+    (λ x. struct_type (record { name = x.0; header = x.1; set = x.2; release = x.3; fields = x.4 })) ds
+    (λ x k h. (is ∙ rw (e, k) refl, h)))
+    (tag_step (IsRow w d) t (codes "variant") _ _ (λ e. after_tag (IsRow w d) variant_fields variant_fields_law
+    (λ x. variant_type x.0 x.1 x.2) ds (λ x k h. (is ∙ rw (e, k) refl, h)))
+    (tag_step (IsRow w d) t (codes "case") _ _ (λ e. after_tag (IsRow w d) case_fields case_fields_law
+    (λ x. case_of (record { name = x.0; payload = x.1; keys = x.2 })) ds (λ x k h. (is ∙ rw (e, k) refl, h)))
+    (tag_step (IsRow w d) t (codes "fn") _ _ (λ e. after_tag (IsRow w d) (fn_fields w.ordered)
+    (fn_fields_law w.ordered) function ds (λ x k h. (is ∙ rw (e, k) refl, h)))
+    (tag_step (IsRow w d) t (codes "extern") _ _ (λ e. after_tag (IsRow w d) (extern_fields w.ordered)
+    (extern_fields_law w.ordered) external ds (λ x k h. (is ∙ rw (e, k) refl, h)))
+    (tag_step (IsRow w d) t (codes "set") _ _ (λ e. after_tag (IsRow w d) set_stmt set_stmt_law
+    (λ x. simple (core.set x.0 x.1)) ds (λ x k h. (is ∙ rw (e, k) refl, h)))
+    (tag_step (IsRow w d) t (codes "input") _ _ (λ e. after_tag (IsRow w d) input_stmt input_stmt_law
+    (λ x. simple (core.input x.0 x.1)) ds (λ x k h. (is ∙ rw (e, k) refl, h)))
+    (tag_step (IsRow w d) t (codes "print") _ _ (λ e. after_tag (IsRow w d) print_stmt print_stmt_law
+    (λ e. simple (core.print e)) ds (λ x k h. (is ∙ rw (e, k) refl, h)))
+    (tag_step (IsRow w d) t (codes "put") _ _ (λ e. after_tag (IsRow w d) put_stmt put_stmt_law
+    (λ x. simple (core.put x.0 x.1 x.2)) ds (λ x k h. (is ∙ rw (e, k) refl, h)))
+    (tag_step (IsRow w d) t (codes "new") _ _ (λ e. after_tag (IsRow w d) new_stmt new_stmt_law
+    (λ x. simple (core.make x.0 x.1)) ds (λ x k h. (is ∙ rw (e, k) refl, h)))
+    (tag_step (IsRow w d) t (codes "become") _ _ (λ e. after_tag (IsRow w d) become_stmt become_stmt_law
+    (λ x. simple (core.become x.0 x.1)) ds (λ x k h. (is ∙ rw (e, k) refl, h)))
+    (tag_step (IsRow w d) t (codes "release") _ _ (λ e. after_tag (IsRow w d) release_stmt release_stmt_law
+    (λ x. simple (core.release x)) ds (λ x k h. (is ∙ rw (e, k) refl, h)))
+    (tag_step (IsRow w d) t (codes "drop") _ _ (λ e. after_tag (IsRow w d) drop_stmt drop_stmt_law (λ v. simple (core.drop v)) ds
+    (λ x k h. (is ∙ rw (e, k) refl, h)))
+    (tag_step (IsRow w d) t (codes "own") _ _ (λ e. after_tag (IsRow w d) own_stmt own_stmt_law
+    (λ x. simple (core.own x.0 x.1)) ds (λ x k h. (is ∙ rw (e, k) refl, h)))
+    (tag_step (IsRow w d) t (codes "unpack") _ _ (λ e. after_tag (IsRow w d) unpack_stmt unpack_stmt_law
+    (λ x. simple (core.unpack x.0 x.1)) ds (λ x k h. (is ∙ rw (e, k) refl, h)))
+    (tag_step (IsRow w d) t (codes "build") _ _ (λ e. after_tag (IsRow w d) build_stmt build_stmt_law
+    (λ x. simple (core.build x.0 x.1 x.2)) ds (λ x k h. (is ∙ rw (e, k) refl, h)))
+    (tag_step (IsRow w d) t (codes "call") _ _ (λ e. after_tag (IsRow w d) call_stmt call_stmt_law (λ x. call x.0 x.1 x.2 x.3) ds
+    (λ x k h. (is ∙ rw (e, k) refl, h)))
+    (tag_step (IsRow w d) t (codes "swap") _ _ (λ e. after_tag (IsRow w d) swap_stmt swap_stmt_law
+    (λ x. simple (core.swap x.0 x.1 x.2)) ds (λ x k h. (is ∙ rw (e, k) refl, h)))
+    (tag_step (IsRow w d) t (codes "open") _ _ (λ e. after_tag (IsRow w d) open_stmt open_stmt_law
+    (λ x. simple (core.open_into x.0 x.1)) ds (λ x k h. (is ∙ rw (e, k) refl, h)))
+    (tag_step (IsRow w d) t (codes "adopt") _ _ (λ e. after_tag (IsRow w d) adopt_stmt adopt_stmt_law
+    (λ x. simple (core.adopt x.0 x.1 x.2)) ds (λ x k h. (is ∙ rw (e, k) refl, h)))
+    (tag_step (IsRow w d) t (codes "if") _ _ (λ e. after_tag (IsRow w d) (if_stmt w.instances) (if_stmt_law w.instances)
+    (λ x. choose x.0 x.1 x.2 x.3) ds (λ x k h. (is ∙ rw (e, k) refl, h)))
+    (tag_step (IsRow w d) t (codes "while") _ _ (λ e. after_tag (IsRow w d) (while_stmt w.instances) (while_stmt_law w.instances)
+    (λ x. loop x.0 x.1 x.2 x.3) ds (λ x k h. (is ∙ rw (e, k) refl, h)))
+    (tag_step (IsRow w d) t (codes "switch") _ _ (λ e. after_tag (IsRow w d) (switch_stmt w.instances)
+    (switch_stmt_law w.instances) (λ x. switch x.0 x.1 x.2) ds (λ x k h. (is ∙ rw (e, k) refl, h)))
+    (tag_step (IsRow w d) t (codes "focus") _ _ (λ e. after_tag (IsRow w d) focus_stmt focus_stmt_law (λ x. focus x.0 x.1 x.2) ds
+    (λ x k h. (is ∙ rw (e, k) refl, h)))
     (tag_step (IsRow w d) t (codes "scope") _ _ (λ e. after_tag (IsRow w d) scope_stmt scope_stmt_law scope ds (λ x k h. (is ∙ rw (e, k) refl, h)))
-    (tag_step (IsRow w d) t (codes "return") _ _ (λ e. after_tag (IsRow w d) return_stmt return_stmt_law return ds (λ x k h. (is ∙ rw (e, k) refl, h)))
-    (tag_step (IsRow w d) t (codes "jump") _ None (λ e. after_tag (IsRow w d) jump_stmt jump_stmt_law jump ds (λ x k h. (is ∙ rw (e, k) refl, h))) tt)))))))))))))))))))))))))))))
+    (tag_step (IsRow w d) t (codes "return") _ _ (λ e. after_tag (IsRow w d) return_stmt return_stmt_law return ds
+    (λ x k h. (is ∙ rw (e, k) refl, h)))
+    (tag_step (IsRow w d) t (codes "jump") _ None (λ e. after_tag (IsRow w d) jump_stmt jump_stmt_law jump ds
+    (λ x k h. (is ∙ rw (e, k) refl, h))) tt)))))))))))))))))))))))))))))
 
 pub rows_are_read_as_written : (w : Shape) → IsPart (row_part w)
 rows_are_read_as_written w = record { back = row_back w; reads = λ d. tagged_array (IsRow w d) (row_of_tag w) d (row_read w d) }

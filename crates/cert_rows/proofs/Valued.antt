@@ -52,7 +52,8 @@ pub mask_back : (n : ℕ) → n ≤ 4294967295 → mask_of (is_bit n) ≡ n
 mask_back n h = bits_back 32 n (small_mask n h)
 
 pub mask_part : IsPart mask
-mask_part = standing_part is_bit mask_of _ (with_test_part (number_to 4294967295) (number_to_part 4294967295) (λ n. not (n == 0))) (λ n h. mask_back n h.0)
+mask_part = standing_part is_bit mask_of _ (with_test_part (number_to 4294967295) (number_to_part 4294967295) (λ n. not (n == 0)))
+    (λ n h. mask_back n h.0)
 
 -- ---- tokens
 
@@ -80,7 +81,8 @@ status_back (suc (suc (suc k))) m h l is = absurd (omega (arith, h))
 pub token_status_part : IsPart token_status
 token_status_part =
     standing_part token_status_of numbers_of_status _
-    (with_test_part _ (tuple_part _ (triple_fields token (number_to 2) (number_to 4294967295) token_part (number_to_part 2) (number_to_part 4294967295))) (λ x. is_status x.1 x.2))
+    (with_test_part _ (tuple_part _ (triple_fields token (number_to 2) (number_to 4294967295) token_part (number_to_part 2)
+    (number_to_part 4294967295))) (λ x. is_status x.1 x.2))
     (λ x h. let b = status_back x.1 x.2 h.0.1 h.0.2 h.1 in rw (b.0, b.1) refl)
 
 pub map_law : IsPart map_part
@@ -108,7 +110,8 @@ pub word : (t w : List ℕ) → bytes_eq t w ≡ true → t ≡ w
 word t w e = search (rules, bytes_eq-Decides t w)
 
 -- one tag after another
-pub tag_step : {A : Type 0} (P : A → Type 0) (t w : List ℕ) (x y : Option A) → (t ≡ w → IfSome x P) → IfSome y P → IfSome (if bytes_eq t w then x else y) P
+pub tag_step : {A : Type 0} (P : A → Type 0) (t w : List ℕ) (x y : Option A) → (t ≡ w → IfSome x P) → IfSome y P →
+    IfSome (if bytes_eq t w then x else y) P
 tag_step {A} P t w x y h k = by (bytes_eq t w) refl
   where
     by : (b : Bool) → bytes_eq t w ≡ b → IfSome (if b then x else y) P
@@ -116,7 +119,8 @@ tag_step {A} P t w x y h k = by (bytes_eq t w) refl
     by false e = k
 
 -- the fields after a tag
-pub after_tag : {A X : Type 0} (P : A → Type 0) (f : Fields X) → AreFields f → (mk : X → A) (ds : List Data) → ((x : X) → ds ≡ f.items x → f.Fits x → P (mk x)) → IfSome (option_map mk (f.of_items ds)) P
+pub after_tag : {A X : Type 0} (P : A → Type 0) (f : Fields X) → AreFields f → (mk : X → A) (ds : List Data) →
+    ((x : X) → ds ≡ f.items x → f.Fits x → P (mk x)) → IfSome (option_map mk (f.of_items ds)) P
 after_tag P f law mk ds go = map_on (λ x. (ds ≡ f.items x) × f.Fits x) P mk (f.of_items ds) (law.reads ds) (λ x h. go x h.0 h.1)
 
 abbrev IsTy : Data → Ty → Type 0
@@ -130,19 +134,26 @@ pub ty_read : (d : Data) (t : List ℕ) (ds : List Data) → d ≡ tagged_list t
 ty_read d t ds is =
     tag_step (IsTy d) t (codes "int") _ _ (λ e. no_more (IsTy d) int ds (λ k. (is ∙ rw (e, k) refl, tt)))
     (tag_step (IsTy d) t (codes "bool") _ _ (λ e. no_more (IsTy d) bool ds (λ k. (is ∙ rw (e, k) refl, tt)))
-    (tag_step (IsTy d) t (codes "key") _ _ (λ e. after_tag (IsTy d) key_fields key_law (λ x. tracked x.0 x.1 x.2) ds (λ x k h. (is ∙ rw (e, k) refl, h)))
-    (tag_step (IsTy d) t (codes "own") _ _ (λ e. after_tag (IsTy d) own_fields own_law (λ x. owning x.0 x.1 x.2) ds (λ x k h. (is ∙ rw (e, k) refl, h)))
-    (tag_step (IsTy d) t (codes "guard") _ _ (λ e. after_tag (IsTy d) key_fields key_law (λ x. guarded x.0 x.1 x.2) ds (λ x k h. (is ∙ rw (e, k) refl, h)))
+    (tag_step (IsTy d) t (codes "key") _ _ (λ e. after_tag (IsTy d) key_fields key_law (λ x. tracked x.0 x.1 x.2) ds
+    (λ x k h. (is ∙ rw (e, k) refl, h)))
+    (tag_step (IsTy d) t (codes "own") _ _ (λ e. after_tag (IsTy d) own_fields own_law (λ x. owning x.0 x.1 x.2) ds
+    (λ x k h. (is ∙ rw (e, k) refl, h)))
+    (tag_step (IsTy d) t (codes "guard") _ _ (λ e. after_tag (IsTy d) key_fields key_law (λ x. guarded x.0 x.1 x.2) ds
+    (λ x k h. (is ∙ rw (e, k) refl, h)))
     (tag_step (IsTy d) t (codes "var") _ _ (λ e. after_tag (IsTy d) var_fields var_law (λ x. variant x.0 x.1) ds (λ x k h. (is ∙ rw (e, k) refl, h)))
-    (tag_step (IsTy d) t (codes "ownvar") _ None (λ e. after_tag (IsTy d) var_fields var_law (λ x. owning_variant x.0 x.1) ds (λ x k h. (is ∙ rw (e, k) refl, h))) tt))))))
+    (tag_step (IsTy d) t (codes "ownvar") _ None (λ e. after_tag (IsTy d) var_fields var_law (λ x. owning_variant x.0 x.1) ds
+    (λ x k h. (is ∙ rw (e, k) refl, h))) tt))))))
 
 -- an array that begins with a text
-pub tagged_array : {A : Type 0} (P : A → Type 0) (go : List ℕ → List Data → Option A) (d : Data) → ((t : List ℕ) (ds : List Data) → d ≡ tagged_list t ds → IfSome (go t ds) P) → IfSome (option_and_then (by_tag go) (array_in d)) P
+pub tagged_array : {A : Type 0} (P : A → Type 0) (go : List ℕ → List Data → Option A) (d : Data) →
+    ((t : List ℕ) (ds : List Data) → d ≡ tagged_list t ds → IfSome (go t ds) P) →
+    IfSome (option_and_then (by_tag go) (array_in d)) P
 tagged_array P go d k = and_then_in (λ ds. d ≡ list ds) P (by_tag go) (array_in d) (array_read d) items
   where
     items : (ds : List Data) → d ≡ list ds → IfSome (by_tag go ds) P
     items [] is = tt
-    items (x ∷ ds) is = and_then_in (λ t. (x ≡ string t) × Unit {0}) P (λ t. go t ds) (as_str x) (text_part.reads x) (λ t h. k t ds (is ∙ rw (h.0) refl))
+    items (x ∷ ds) is = and_then_in (λ t. (x ≡ string t) × Unit {0}) P (λ t. go t ds) (as_str x) (text_part.reads x)
+        (λ t h. k t ds (is ∙ rw (h.0) refl))
 
 ty_back : (t : Ty) → FitsTy t → ty.of_data (ty_data t) ≡ Some t
 ty_back int h = refl
@@ -223,7 +234,8 @@ unsaid_back : (a : Side) → is_unsaid a ≡ true → None ≡ a
 unsaid_back None is = refl
 unsaid_back (Some n) is = absurd (true≢false (sym is))
 
-numbers_back : (m k : ℕ) (b a : Side) → m ≤ 4 → FitsSide b → FitsSide a → is_entry (m, k, b, a) ≡ true → entry_numbers (entry_of (m, k, b, a)) ≡ (m, k, b, a)
+numbers_back : (m k : ℕ) (b a : Side) → m ≤ 4 → FitsSide b → FitsSide a → is_entry (m, k, b, a) ≡ true →
+    entry_numbers (entry_of (m, k, b, a)) ≡ (m, k, b, a)
 numbers_back zero k b a h hb ha is =
     let x = both_so (not (is_zero_side b) && not (is_zero_side a)) (are_alike b a) is in
     let y = both_so (not (is_zero_side b)) (not (is_zero_side a)) x.0 in
@@ -239,7 +251,8 @@ numbers_back (suc (suc (suc zero))) k b a h hb ha is =
     rw (zero_back b y.0, held_back a ha y.1) refl
 numbers_back (suc (suc (suc (suc zero)))) k b a h hb ha is =
     let y = both_so (is_bound_side b) (is_unsaid a) is in
-    ap (λ x. (4, k, x, after_number (mode_of_number 4 (bound_number b)) (side_states a))) (bound_back b y.0) ∙ ap (λ x. (4, k, b, x)) (unsaid_back a y.1)
+    ap (λ x. (4, k, x, after_number (mode_of_number 4 (bound_number b)) (side_states a))) (bound_back b y.0) ∙
+    ap (λ x. (4, k, b, x)) (unsaid_back a y.1)
 numbers_back (suc (suc (suc (suc (suc m))))) k b a h hb ha is = absurd (omega (arith, h))
 
 modes_within : (ordered : Bool) (m : ℕ) → m ≤ last_mode ordered → m ≤ 4
@@ -249,5 +262,6 @@ modes_within false m h = omega (arith, h)
 pub entry_part : (ordered : Bool) → IsPart (entry ordered)
 entry_part ordered =
     standing_part entry_of entry_numbers _
-    (with_test_part _ (tuple_part _ (quadruple_fields (number_to (last_mode ordered)) id side side (number_to_part (last_mode ordered)) id_part side_part side_part)) is_entry)
+    (with_test_part _ (tuple_part _ (quadruple_fields (number_to (last_mode ordered)) id side side
+    (number_to_part (last_mode ordered)) id_part side_part side_part)) is_entry)
     (λ x h. numbers_back x.0 x.1 x.2 x.3 (modes_within ordered x.0 h.0.0) (side_fits x.2 h.0.2) (side_fits x.3 h.0.3) h.1)

@@ -1,0 +1,10 @@
+pub mod Text
+pub mod Places
+pub mod Notes
+pub mod Drafts
+pub mod Bodies
+pub mod Endings
+pub mod Bounds
+pub mod Certificate
+pub mod Pieces
+pub mod Readings

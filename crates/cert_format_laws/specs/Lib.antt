@@ -1,0 +1,5 @@
+pub mod Readings
+pub mod Versions
+pub mod Texts
+pub mod Bodies
+pub mod Places
