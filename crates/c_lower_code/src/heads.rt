@@ -94,7 +94,8 @@ fn past_table(table: &[Items<Slot>]) -> Result<Numbers, Memory>
 /// The parameters of a function.
 pub fn params_of(alloc: Global, scope: &Scope<'_>) -> Result<Params, Memory>
     requires { IsScope scope.now }
-    ensures vars { IfOk result (λ x. x.vars ≡ param_slots (program_in scope.now) (func_in scope.now)) }
+    ensures vars { IfOk result (λ x.
+        x.vars ≡ param_slots (program_in scope.now) (func_in scope.now)) }
     ensures next { IfOk result (λ x. numbers_of x.next
         ≡ param_numbers (program_in scope.now) (func_in scope.now)) }
 {
