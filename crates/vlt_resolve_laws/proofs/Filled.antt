@@ -355,7 +355,7 @@ owned_filled f v states say e = by (slice_get f.vars v) refl e
     by None at e = absurd (none-some states e)
     by (Some d) at e = each_at (λ d. SaysStates d.ty) f.vars v d say at states e
 
-program_filled : (ds : List Decl) (p : Program) → Facts (kinds_of ds) p → declared.HasStates p → HasStates p
+pub program_filled : (ds : List Decl) (p : Program) → Facts (kinds_of ds) p → declared.HasStates p → HasStates p
 program_filled ds p x said = record {
   all = λ t. filled_set _ (said.all t);
   released = λ t. filled_set _ (released p said.all t (decl_of p t) (λ d is. said.said t d is));

@@ -164,18 +164,26 @@ told_ok (Err r) p e = absurd (refused (elab.told_of r) p e)
 pub record HasFunctions (kinds : Kinds) (p : Program) : Type 0 where
   pub sets : p.sets ≡ kinds.file.sets
   pub types : p.types ≡ kinds.types
-  pub main : p.main ≡ main_of kinds.heads
   pub made : AreMade kinds kinds.heads p.fns
+
+-- the program of declarations, whatever its main is
+pub functions_walked : (ds : List Decl) (fs : List Func) (main : ℕ) → Each (IsDecl language) ds → heads_refused (file_of ds) (core_types (file_of ds) ds) ds ≡ []
+    → walk_decls (kinds_of ds) (kinds_of ds).heads ds ≡ Ok fs → HasFunctions (kinds_of ds) (record { sets = (file_of ds).sets; types = (kinds_of ds).types; fns = fs; main = main })
+unfolding heads_refused
+functions_walked ds fs main is none e = record { sets = refl; types = refl; made = all_made (kinds_of ds) ds fs is none e }
+
+pub record HasWalkedAll (t : Tree) (p : Program) : Type 0 where
+  pub fns : List Func
+  pub walked : walk_decls (kinds_of t.decls) (kinds_of t.decls).heads t.decls ≡ Ok fns
+  pub same : record { sets = (file_of t.decls).sets; types = (kinds_of t.decls).types; fns = fns; main = main_of (kinds_of t.decls).heads } ≡ p
+
+pub all_walked : (t : Tree) (p : Program) → elab.elaborated t (kinds_of t.decls) ≡ Ok p → HasWalkedAll t p
+all_walked t p e =
+    let fs = then_ok (walk_decls (kinds_of t.decls) (kinds_of t.decls).heads t.decls) _ p (told_ok (walk_tree t (kinds_of t.decls)) p e) in
+    record { fns = fs.first; walked = fs.one; same = same_ok _ p fs.rest }
 
 pub functions_made : (t : Tree) (p : Program) → Each (IsDecl language) t.decls → heads_refused (file_of t.decls) (core_types (file_of t.decls) t.decls) t.decls ≡ []
     → elab.elaborated t (kinds_of t.decls) ≡ Ok p → HasFunctions (kinds_of t.decls) p
-unfolding heads_refused
 functions_made t p is none e =
-    let fs = then_ok (walk_decls (kinds_of t.decls) (kinds_of t.decls).heads t.decls) _ p (told_ok (walk_tree t (kinds_of t.decls)) p e) in
-    let same = same_ok _ p fs.rest in
-    record {
-      sets = ap (λ q. q.sets) (sym same);
-      types = ap (λ q. q.types) (sym same);
-      main = ap (λ q. q.main) (sym same);
-      made = subst (λ q. AreMade (kinds_of t.decls) (kinds_of t.decls).heads q.fns) same (all_made (kinds_of t.decls) t.decls fs.first is none fs.one);
-    }
+    let w = all_walked t p e in
+    subst (HasFunctions (kinds_of t.decls)) w.same (functions_walked t.decls w.fns (main_of (kinds_of t.decls).heads) is none w.walked)
