@@ -13,3 +13,4 @@ pub mod StepLaws
 pub mod Moves
 pub mod Beginning
 pub mod Ending
+pub mod OfRuns

@@ -5,3 +5,4 @@ pub mod Calling
 pub mod Running
 pub mod Start
 pub mod Machine
+pub mod Runs

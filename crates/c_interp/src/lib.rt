@@ -8,6 +8,7 @@ mod frames;
 mod machine;
 mod rules;
 mod run;
+mod runs;
 mod stack;
 mod start;
 mod step;
@@ -15,5 +16,6 @@ mod stop;
 mod task;
 
 pub use machine::CMachine;
+pub use runs::{CEnd, crun};
 pub use stop::CStop;
 pub use vlt_steps::{OpenError, Stop};

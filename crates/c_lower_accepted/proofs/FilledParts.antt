@@ -13,10 +13,10 @@ use Rattle.vlt_kinds_types.specs.Types.{core_ty}
 use Rattle.vlt_kinds_heads.specs.Keys.{Keys, keys_of}
 use Rattle.vlt_kinds_heads.specs.Phase.{core_head, core_result, key_number}
 use Rattle.vlt_kinds.specs.Tables.{kinds_of}
-use Rattle.vlt_kinds_laws.specs.Shapes.{Describes}
-use Rattle.vlt_kinds_laws.specs.States.{SaysStates}
-use Rattle.vlt_kinds_laws.proofs.HeadStates.{type_filled}
-use Rattle.vlt_kinds_laws.proofs.Rows.{each_at}
+use Rattle.vlt_resolve_laws.specs.KindsLaws.Shapes.{Describes}
+use Rattle.vlt_resolve_laws.specs.KindsLaws.States.{SaysStates}
+use Rattle.vlt_resolve_laws.proofs.OfKindsLaws.HeadStates.{type_filled}
+use Rattle.vlt_resolve_laws.proofs.OfKindsLaws.Rows.{each_at}
 use Rattle.vlt_resolve_laws.specs.Made.{head_made}
 use Rattle.vlt_resolve_laws.proofs.Bodies.{made_head}
 use Rattle.vlt_resolve_laws.proofs.Filled.{cases_at, filled_set}

@@ -10,7 +10,7 @@ use Rattle.vlt_core.specs.Lookups.{all_states, release_set, cases_of, case_at, o
 use Rattle.vlt_core_laws.specs.States.{IsFilledSet, HasStates}
 use Rattle.vlt_core_rows.specs.Told.{in_set}
 use Rattle.vlt_core_rows.specs.Levels.{program}
-use Rattle.vlt_kinds_laws.proofs.Rows.{each_at}
+use Rattle.vlt_resolve_laws.proofs.OfKindsLaws.Rows.{each_at}
 use Rattle.vlt_sound.specs.Narrow.{HasNarrowHeads}
 use Rattle.vlt_sound_worlds.specs.Limited.{IsNarrow}
 use Rattle.vlt_core_rows.proofs.Levels.{accepted}

@@ -14,7 +14,7 @@ use Rattle.vlt_kinds_types.specs.Types.{core_ty}
 use Rattle.vlt_kinds_decls.specs.Made.{header_number, core_case, core_variant, core_types_in, core_types}
 use Rattle.vlt_kinds_heads.specs.Phase.{core_head, core_heads_in, core_heads}
 use Rattle.vlt_kinds.specs.Tables.{kinds_of}
-use Rattle.vlt_kinds_laws.proofs.Rows.{each_at, each_in}
+use Rattle.vlt_resolve_laws.proofs.OfKindsLaws.Rows.{each_at, each_in}
 use Rattle.vlt_resolve_laws.specs.Made.{head_made}
 use Rattle.vlt_resolve_laws.proofs.Bodies.{made_head}
 use Rattle.vlt_resolve_laws.proofs.Made.{HasFunctions, made_at}

@@ -3,7 +3,7 @@ use Rattle.std.proofs.Common.{◌≡◌, ℕ, List, Result, Ok, Err, refl, sym, 
 use Rattle.vlt_syntax.specs.Tree.{Tree}
 use Rattle.vlt_core.specs.Core.{Program}
 use Rattle.vlt_core.specs.Derives.{IsAccepted}
-use Rattle.vlt_kinds_names.specs.declared.found.Refusal.{Refusal}
+use Rattle.vlt_kinds_types.specs.declared.names.found.Refusal.{Refusal}
 use Rattle.vlt_kinds.specs.Kinds.{Kinds}
 use Rattle.vlt_kinds.specs.Tables.{kinds_of, kinds_told}
 use Rattle.vlt_resolve.specs.Elaboration.{Told, broken, elaborated}
@@ -11,8 +11,8 @@ use Rattle.vlt_resolve.specs.Programs.{with_kinds}
 use Rattle.vlt_resolve_laws.specs.Elaborated.{IsElaborated}
 use Rattle.vlt_resolve_laws.proofs.Made.{told}
 use Rattle.vlt_resolve_laws.proofs.Whole.{Facts, facts_of}
-use Rattle.vlt_fit_laws.specs.Fit.{IsTextTree, ProgramsAreFit}
-use Rattle.vlt_fit_laws.specs.Texts.{TextsHaveTextTrees}
+use Rattle.vlt_verdict.specs.FitLaws.Fit.{IsTextTree, ProgramsAreFit}
+use Rattle.vlt_verdict.specs.FitLaws.Texts.{TextsHaveTextTrees}
 use Rattle.c_lower_accepted.specs.Accepted.{IsAcceptedProgram}
 use Rattle.c_lower_accepted.specs.Texts.{IsAcceptedText, TextsRunAlike, TextsAreDefined}
 use Rattle.c_lower_accepted.proofs.Accepted.{accepted_alike, accepted_defined}

@@ -4,3 +4,4 @@ pub mod Registering
 pub mod Assigning
 pub mod Answering
 pub mod Telling
+pub mod OfValues

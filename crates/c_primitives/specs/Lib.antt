@@ -4,3 +4,4 @@ pub mod Done
 pub mod Shown
 pub mod Start
 pub mod Taking
+pub mod Values

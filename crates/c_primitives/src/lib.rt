@@ -11,7 +11,9 @@ mod host;
 mod primitive;
 mod registers;
 mod tell;
+mod values;
 mod world;
 
 pub use halt::Halt;
+pub use values::{Value, Vars, arg, eval, find};
 pub use world::{Tables, World};

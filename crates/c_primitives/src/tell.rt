@@ -7,12 +7,12 @@ ghost use Rattle.c_primitives.specs.Done.{told_of};
 
 use crate::args::{is_none, one_number, one_reference, one_text};
 use crate::halt::{Halt, MISUSED};
+use crate::values::{Value, Vars};
 use crate::world::{Talk, World};
 use c_syntax::{CArg, CPrim};
-use c_values::{Value, Vars};
 use vlt_io::Sink;
-use vlt_lines::{begin, end, tell_number, tell_object, write_number};
-use vlt_steps::Stop;
+use vlt_steps::lines::end;
+use vlt_steps::{Stop, begin, tell_number, tell_object, write_number};
 
 /// How many arguments a call has at most.
 const MAX_TOLD: u32 = 16;

@@ -1,2 +1,4 @@
 mod Funcs
 mod Within
+pub mod OfKinds
+pub mod OfKindsLaws

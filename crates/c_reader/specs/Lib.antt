@@ -1,2 +1,4 @@
 pub mod Reads
 pub mod Found
+pub mod Kinds
+pub mod KindsLaws

@@ -8,12 +8,16 @@ ghost use Rattle.c_syntax.specs.Reading.{cert_of};
 ghost use Rattle.c_reader.specs.Reads.{IsReadAs, RefusalsAreInTheText};
 
 mod error;
+mod kinds;
+mod kinds_laws;
 mod program;
 
-use c_kinds::least_refusal;
+use crate::kinds::least_refusal;
 use c_parser::{Written, before_mark, read_unit};
 use c_syntax::CProgram;
 pub use error::CError;
+pub use kinds::Refusal;
+pub use kinds_laws::{refusals_are_within, unrefused_programs_can_run};
 use program::program;
 use std::alloc::Global;
 use vlt_base::Span;

@@ -8,3 +8,5 @@ mod Unrefused
 mod Readable
 mod Parts
 mod Printed
+pub mod OfSyntaxLaws
+pub mod OfPrinterLaws

@@ -9,7 +9,7 @@ use Rattle.c_syntax.specs.Kinds.{same_bool}
 use Rattle.c_syntax.specs.Programs.{AreFuncsOf, bodies_of, IsProgramOf}
 use Rattle.c_syntax.specs.Reading.{places_in, IsCProgramOf}
 use Rattle.c_syntax.specs.Canonical.{AreReadable, body_of, AreSorted, IsProgram}
-use Rattle.c_printer_laws.proofs.ReadAgain.{read_again}
+use Rattle.c_reader_laws.proofs.OfPrinterLaws.ReadAgain.{read_again}
 use Rattle.c_reader_laws.specs.Laws.{TextsAreReadAgain}
 use Rattle.c_reader_laws.proofs.Unrefused.{kinds_again}
 use Rattle.c_reader_laws.proofs.Readable.{tokens_readable}

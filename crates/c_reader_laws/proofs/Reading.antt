@@ -9,9 +9,9 @@ use Rattle.c_syntax.specs.Kinds as k
 use Rattle.c_syntax.specs.Kinds.{unit_refusal}
 use Rattle.c_syntax.specs.Reading.{places_in, cert_of, IsUnitOf, IsCProgramOf, IsOfKind}
 use Rattle.c_syntax.specs.Programs.{IsProgramOf}
-use Rattle.c_syntax_laws.proofs.Lexemes.{one_list}
-use Rattle.c_syntax_laws.proofs.Lexed.{each_text_has_tokens}
-use Rattle.c_syntax_laws.proofs.Units.{one_unit}
+use Rattle.c_reader_laws.proofs.OfSyntaxLaws.Lexemes.{one_list}
+use Rattle.c_reader_laws.proofs.OfSyntaxLaws.Lexed.{each_text_has_tokens}
+use Rattle.c_reader_laws.proofs.OfSyntaxLaws.Units.{one_unit}
 use Rattle.c_automaton.specs.Refusals.{Refusal, unexpected_at, cut_short, over_limit, IsRefusal}
 use Rattle.c_automaton.specs.Laws.{HasOneRefusal, HasUnitOrRefusal, IsNeverBoth}
 use Rattle.c_parser.specs.Refusals.{RefusesText}

@@ -12,9 +12,9 @@ use Rattle.c_syntax.specs.Kinds.{Walk, same_bool, same_name, same_head, is_one_o
 use Rattle.c_syntax.specs.Programs.{IsFuncOf, AreFuncsOf, bodies_of, IsProgramOf}
 use Rattle.c_syntax.specs.Canonical as canonical
 use Rattle.c_syntax.specs.Canonical.{declaration_of, body_of, main_number, unit_of}
-use Rattle.c_kinds_laws.proofs.Declared.{quiet, kept, stmts_good, bodies_good, declarations_quiet, params_quiet, same_names}
-use Rattle.c_kinds_laws.proofs.Main.{names_apart, main_there, heads_quiet, and_left, or_right}
-use Rattle.c_printer_laws.proofs.Units.{names_same}
+use Rattle.c_reader.proofs.OfKindsLaws.Declared.{quiet, kept, stmts_good, bodies_good, declarations_quiet, params_quiet, same_names}
+use Rattle.c_reader.proofs.OfKindsLaws.Main.{names_apart, main_there, heads_quiet, and_left, or_right}
+use Rattle.c_reader_laws.proofs.OfPrinterLaws.Units.{names_same}
 use Rattle.c_reader_laws.proofs.Judged.{Alike, Calm, passes, stmts_alike}
 use Rattle.c_reader_laws.proofs.Names.{AreNew, are_new, new_calm, params_new, params_calm, declared_again, new_in_order}
 use Rattle.c_reader_laws.proofs.Lookups.{Apart, bodies_apart, heads_same, head_itself, or_left, either_of, same_lookup, split_heads, of_split, in_split, AreOf, chosen_of, split_apart}

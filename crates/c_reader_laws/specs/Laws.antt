@@ -4,7 +4,7 @@ use Rattle.vlt_base.specs.declared.places.Span.{Span}
 use Rattle.c_syntax.specs.C.{Program}
 use Rattle.c_syntax.specs.Reading.{IsCProgramOf}
 use Rattle.c_syntax.specs.Canonical.{canonical_text, IsProgram}
-use Rattle.c_printer_laws.specs.ReadAgain.{ReadsAs}
+use Rattle.c_reader_laws.specs.PrinterLaws.ReadAgain.{ReadsAs}
 use Rattle.c_reader.specs.declared.error.CError.{CError}
 use Rattle.c_reader.specs.Reads.{IsUnread}
 

@@ -6,7 +6,12 @@
 ghost use Rattle.std.specs.Prelude.{ℕ, List};
 ghost use Rattle.c_reader_laws.specs.Laws.{TextsAreReadAgain, IsReadInOneWay};
 
+mod printer_laws;
+mod syntax_laws;
+
 use c_automaton::tokens_are_read_in_one_way;
+pub use printer_laws::{canonical_texts_are_read_again, sizes_are_lengths};
+pub use syntax_laws::{each_text_has_tokens, one_unit_is_read};
 
 /// A text stands for one program, or for none for one reason.
 pub fn texts_are_read_in_one_way()

@@ -10,7 +10,7 @@ use Rattle.c_interp.specs.Halting.{outcome_of, StopsAs}
 use Rattle.vlt_steps.specs.Stops.{IsTold}
 use Rattle.c_interp.specs.declared.stop.CStop.{CStop}
 use Rattle.c_interp.specs.declared.stop.CStop.TheVariants as halted
-use Rattle.vlt_given.specs.Given.{Given, numbers, bad_input, bad_answers, given_by}
+use Rattle.vlt_numbers.specs.Given.Given.{Given, numbers, bad_input, bad_answers, given_by}
 use Rattle.vlt_steps.specs.declared.stop.Stop.{Stop}
 use Rattle.vlt_steps.specs.declared.stop.Stop.TheVariants as stop
 use Rattle.vlt_steps.specs.declared.end.RunEnd.{RunEnd}
@@ -23,9 +23,9 @@ use Rattle.vlt_steps.specs.Writing.{Outside, IsUntouched}
 use Rattle.c_reader.specs.Reads.{IsReadAs, IsUnread, RefusalsAreInTheText}
 use Rattle.c_reader.specs.declared.error.CError.{CError}
 use Rattle.c_reader.specs.declared.error.CError.TheVariants as error
-use Rattle.c_run.specs.Ends.{EndsGiven, EndsWith, EndsAs}
-use Rattle.c_run.specs.declared.end.CEnd.{CEnd}
-use Rattle.c_run.specs.declared.end.CEnd.TheVariants.{Unread, Ended}
+use Rattle.c_interp.specs.Runs.Ends.{EndsGiven, EndsWith, EndsAs}
+use Rattle.c_interp.specs.declared.runs.end.CEnd.{CEnd}
+use Rattle.c_interp.specs.declared.runs.end.CEnd.TheVariants.{Unread, Ended}
 use Rattle.vaultc_core.specs.declared.status.TheConstants.{DONE, UNREAD, SINK_FAILED, NO_MEMORY, TRAPPED, OUT_OF_BUDGET, OUT_OF_NUMBERS, UNDEFINED}
 use Rattle.vaultc_core.specs.declared.reply.Reply.{Reply as Shown}
 use Rattle.vaultc_core.specs.CRuns.{c_refusal, undefined_line, stop_reply, end_reply, took, IsReplyToC}

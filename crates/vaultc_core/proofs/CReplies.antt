@@ -7,7 +7,7 @@ use Rattle.vlt_base.specs.declared.Budgets.{Budgets}
 use Rattle.vlt_base.specs.declared.limits.TheConstants.{VALUE_SLOTS}
 use Rattle.vlt_base.specs.declared.places.Span.{Span}
 use Rattle.vlt_base.specs.Limits.{limit_of}
-use Rattle.vlt_given.specs.Given.{Given, numbers, bad_input, bad_answers, given_by}
+use Rattle.vlt_numbers.specs.Given.Given.{Given, numbers, bad_input, bad_answers, given_by}
 use Rattle.vlt_steps.specs.declared.end.RunEnd.{RunEnd}
 use Rattle.vlt_steps.specs.declared.end.RunEnd.TheVariants.{BadInput, BadAnswers, TooWide, Stopped, Memory}
 use Rattle.vlt_steps.specs.Writing.{IsUntouched}
@@ -22,9 +22,9 @@ use Rattle.c_reader.specs.declared.error.CError.TheVariants as error
 use Rattle.c_reader_laws.specs.Laws.{IsReadInOneWay}
 use Rattle.c_interp.specs.declared.stop.CStop.{CStop}
 use Rattle.c_interp.specs.Halting.{StopsAs}
-use Rattle.c_run.specs.Ends.{IsTooWide, EndsGiven, EndsWith, EndsAs}
-use Rattle.c_run.specs.declared.end.CEnd.{CEnd}
-use Rattle.c_run.specs.declared.end.CEnd.TheVariants.{Unread, Ended}
+use Rattle.c_interp.specs.Runs.Ends.{IsTooWide, EndsGiven, EndsWith, EndsAs}
+use Rattle.c_interp.specs.declared.runs.end.CEnd.{CEnd}
+use Rattle.c_interp.specs.declared.runs.end.CEnd.TheVariants.{Unread, Ended}
 use Rattle.vaultc_core.specs.CRuns.{c_refusal, stop_reply, end_reply, took, IsReplyToC}
 use Rattle.vaultc_core.specs.Runs.{end_line}
 use Rattle.vaultc_core.specs.Lines.{Reply, over_reply, numbers_reply, behind}

@@ -14,7 +14,7 @@ use Rattle.vlt_core.specs.declared.program.Func as funcs
 use Rattle.vlt_core.specs.declared.notes.Choice.{Choice}
 use Rattle.vlt_core.specs.FaultView.{kind_of}
 use Rattle.vlt_check.specs.Checks.{fault_of}
-use Rattle.vlt_fit_laws.specs.Fit.{IsTextTree, ProgramsAreFit}
+use Rattle.vlt_verdict.specs.FitLaws.Fit.{IsTextTree, ProgramsAreFit}
 use Rattle.vlt_reports.specs.Reports.{fault_line, paths_text}
 use Rattle.vlt_syntax.specs.Tree.{Tree}
 use Rattle.vlt_verdict.proofs.Single.{fit_program}

@@ -4,7 +4,7 @@ use Rattle.std.specs.Prelude.{◌≢◌}
 use Rattle.vlt_base.specs.declared.Budgets.{Budgets}
 use Rattle.vlt_core.specs.Core.{Program}
 use Rattle.vlt_meaning.specs.World.{Outcome, done, trap, fuel_end, heap_end, depth_end, input_end, answers_end, bad_answer, fault}
-use Rattle.vlt_given.specs.Given.{Given, numbers, bad_input, bad_answers, given_by}
+use Rattle.vlt_numbers.specs.Given.Given.{Given, numbers, bad_input, bad_answers, given_by}
 use Rattle.vlt_lexer.specs.declared.LexError.TheVariants as lex
 use Rattle.vlt_resolve.specs.Elaboration.{broken, exceeded}
 use Rattle.vlt_syntax.specs.Refusals.{unexpected_at, over_limit, ended}
@@ -17,8 +17,8 @@ use Rattle.vlt_steps.specs.declared.stop.Stop.TheVariants as stop
 use Rattle.vlt_steps.specs.declared.end.RunEnd.TheVariants as end
 use Rattle.c_reader.specs.declared.error.CError.{CError}
 use Rattle.c_reader.specs.declared.error.CError.TheVariants as error
-use Rattle.c_run.specs.declared.end.CEnd.{CEnd}
-use Rattle.c_run.specs.declared.end.CEnd.TheVariants.{Unread, Ended}
+use Rattle.c_interp.specs.declared.runs.end.CEnd.{CEnd}
+use Rattle.c_interp.specs.declared.runs.end.CEnd.TheVariants.{Unread, Ended}
 use Rattle.vaultc_core.specs.declared.status.TheConstants.{NO_COMMAND, UNREAD}
 use Rattle.vaultc_core.specs.CRuns.{IsReplyToC, c_refusal, stop_reply, end_reply}
 use Rattle.vaultc_core.specs.Commands.{Command, check, explain, run, fmt, crun}

@@ -6,8 +6,8 @@ use Rattle.vlt_core.specs.Core.{Program}
 use Rattle.vlt_core.specs.Derives.{IsAccepted}
 use Rattle.vlt_core.specs.Kinded.{IsKinded}
 use Rattle.vlt_core_laws.specs.States.{HasStates}
-use Rattle.vlt_fit_laws.specs.Fit.{ProgramsAreFit}
-use Rattle.vlt_fit_laws.specs.Texts.{TextsHaveTextTrees}
+use Rattle.vlt_verdict.specs.FitLaws.Fit.{ProgramsAreFit}
+use Rattle.vlt_verdict.specs.FitLaws.Texts.{TextsHaveTextTrees}
 use Rattle.vlt_sound.specs.Sizes.{HasSizes}
 use Rattle.vlt_sound.specs.Narrow.{HasNarrowHeads}
 use Rattle.vlt_sound.specs.Promise.{NeverGoesWrong, LeavesOnlyItsClause}

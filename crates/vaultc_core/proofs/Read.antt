@@ -17,8 +17,8 @@ use Rattle.vlt_syntax_laws.proofs.OneTree.{one_placed_tree}
 use Rattle.vaultc_core.specs.Texts.{AreTokens, IsTextOf, Refusal, unlexed, unparsed, AreRefused, AreReadInOneWay}
 use Rattle.vaultc_core.specs.Shown.{refusal_of}
 use Rattle.vaultc_core.specs.declared.source.TextError.TheVariants as error
-use Rattle.vlt_fit_laws.specs.Fit.{IsTextTree}
-use Rattle.vlt_fit_laws.specs.Texts.{TextsHaveTextTrees}
+use Rattle.vlt_verdict.specs.FitLaws.Fit.{IsTextTree}
+use Rattle.vlt_verdict.specs.FitLaws.Texts.{TextsHaveTextTrees}
 use Rattle.vaultc_core.proofs.Lexed.{Lexed, lexed}
 
 lists_alike : (bytes : List ℕ) (ls ms : List Lexeme) → AreTokens bytes ls → AreTokens bytes ms → ls ≡ ms

@@ -10,16 +10,16 @@ use Rattle.vlt_core.specs.Core.{Program}
 use Rattle.vlt_meaning.specs.World.{Outcome, done, trap, fuel_end, heap_end, depth_end, input_end, answers_end, bad_answer, fault, is_fault, event_text}
 use Rattle.vlt_meaning.specs.Run as meaning
 use Rattle.vlt_steps.specs.Writing.{Outside, IsUntouched}
-use Rattle.vlt_hosts.specs.Stops.{outcome_of}
+use Rattle.vlt_acts.specs.Hosts.Stops.{outcome_of}
 use Rattle.vlt_steps.specs.Stops.{IsTold}
 use Rattle.vlt_steps.specs.declared.stop.Stop.{Stop}
 use Rattle.vlt_steps.specs.declared.stop.Stop.TheVariants.{SinkFault}
-use Rattle.vlt_given.specs.Given.{Given, numbers, bad_input, bad_answers, given_by}
+use Rattle.vlt_numbers.specs.Given.Given.{Given, numbers, bad_input, bad_answers, given_by}
 use Rattle.vlt_steps.specs.declared.end.RunEnd.{RunEnd}
 use Rattle.vlt_steps.specs.declared.end.RunEnd.TheVariants.{BadInput, BadAnswers, TooWide, Stopped, Memory}
 use Rattle.vlt_steps.specs.Ends.{IsRefusal}
-use Rattle.vlt_run.specs.Ends as ends
-use Rattle.vlt_run.specs.Ends.{IsTooWide, EndsGiven, EndsAs}
+use Rattle.vlt_interp.specs.Runs.Ends as ends
+use Rattle.vlt_interp.specs.Runs.Ends.{IsTooWide, EndsGiven, EndsAs}
 use Rattle.vlt_sound.specs.Promise.{NeverGoesWrong}
 use Rattle.vaultc_core.specs.declared.status.TheConstants.{UNREAD, SINK_FAILED, NO_MEMORY}
 use Rattle.vaultc_core.specs.Finishes.{Finishes}

@@ -6,15 +6,15 @@ use Rattle.vlt_core.specs.Derives.{IsAccepted}
 use Rattle.vlt_core.specs.Instances.{HasNoBounds}
 use Rattle.vlt_core.specs.Kinded.{IsKinded}
 use Rattle.vlt_core_laws.specs.States.{HasStates}
-use Rattle.vlt_fit_laws.specs.Fit.{IsTextTree, ProgramsAreFit}
-use Rattle.vlt_calls.specs.Known.{KnowsItsCalls}
+use Rattle.vlt_verdict.specs.FitLaws.Fit.{IsTextTree, ProgramsAreFit}
+use Rattle.vlt_interp.specs.Calls.Known.{KnowsItsCalls}
 use Rattle.vlt_interp.specs.Reached.{IsRunnable}
 use Rattle.vlt_run_laws.specs.Blank.{HasBlankExternals, HasFewVars}
 use Rattle.vlt_sound.specs.Promise.{NeverGoesWrong}
 use Rattle.vlt_sound.specs.Narrow.{HasNarrowHeads}
 use Rattle.vlt_sound.specs.Sizes.{HasSizes}
 use Rattle.vlt_syntax.specs.Tree.{Tree}
-use Rattle.vlt_tasks.specs.Own.{HasOwn}
+use Rattle.vlt_interp.specs.Tasks.Own.{HasOwn}
 use Rattle.vlt_verdict.proofs.Single.{fit_program}
 use Rattle.vlt_verdict.specs.Verdicts.{accepted, IsVerdictOf}
 

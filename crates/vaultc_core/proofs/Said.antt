@@ -18,7 +18,7 @@ use Rattle.vaultc_core.specs.Texts.{Refusal, AreRefused, IsTextOf, refusal_reply
 use Rattle.vaultc_core.specs.Verdicts.{check_reply, IsExplained}
 use Rattle.vlt_core.specs.Core.{Program}
 use Rattle.vlt_core.specs.declared.program.Program as code
-use Rattle.vlt_given.specs.Given.{Given}
+use Rattle.vlt_numbers.specs.Given.Given.{Given}
 use Rattle.vaultc_core.specs.Runs.{IsReplyToProgram}
 use Rattle.vaultc_core.specs.Replies.{IsReplyToVerdict, IsReplyToRun, IsReplyToTree, IsReplyByTree, IsReplyToText, IsReplyToRunText}
 use Rattle.vaultc_core.specs.Shown.{shown_reply, is_accepted, IsJudged}

@@ -7,9 +7,9 @@ use Rattle.c_interp.specs.declared.stop.CStop.{CStop}
 use Rattle.c_interp.specs.declared.stop.CStop.TheVariants.{Stopped, Undefined}
 use Rattle.c_reader.specs.declared.error.CError.{CError}
 use Rattle.c_reader.specs.declared.error.CError.TheVariants as error
-use Rattle.c_run.specs.declared.end.CEnd.{CEnd}
-use Rattle.c_run.specs.declared.end.CEnd.TheVariants.{Unread, Ended}
-use Rattle.c_run.specs.Ends.{EndsAs}
+use Rattle.c_interp.specs.declared.runs.end.CEnd.{CEnd}
+use Rattle.c_interp.specs.declared.runs.end.CEnd.TheVariants.{Unread, Ended}
+use Rattle.c_interp.specs.Runs.Ends.{EndsAs}
 use Rattle.vaultc_core.specs.declared.status.TheConstants.{NO_TEXT, UNDEFINED}
 use Rattle.vaultc_core.specs.Lines.{Reply, reply, over_reply, place_reply, behind}
 use Rattle.vaultc_core.specs.Runs.{stop_line, end_line}

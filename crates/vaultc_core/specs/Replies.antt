@@ -13,7 +13,7 @@ use Rattle.vaultc_core.specs.Texts.{Refusal, AreRefused, IsTextOf, refusal_reply
 use Rattle.vlt_base.specs.Sure.{Surely}
 use Rattle.vlt_verdict.specs.Verdicts.{Verdict, accepted, IsVerdictOf}
 use Rattle.vaultc_core.specs.Verdicts.{check_reply, IsExplained}
-use Rattle.vlt_given.specs.Given.{Given, given_by}
+use Rattle.vlt_numbers.specs.Given.Given.{Given, given_by}
 use Rattle.vaultc_core.specs.Runs.{IsReplyToProgram}
 use Rattle.vaultc_core.specs.CRuns.{IsReplyToC}
 

@@ -6,12 +6,12 @@ use Rattle.vlt_base.specs.declared.limits.TheConstants.{VALUE_SLOTS}
 use Rattle.vlt_core.specs.Core.{Program}
 use Rattle.vlt_meaning.specs.World.{Outcome, done, trap, fuel_end, heap_end, depth_end, input_end, answers_end, bad_answer, fault, Ran, event_text}
 use Rattle.vlt_meaning.specs.Run as meaning
-use Rattle.vlt_given.specs.Given.{Given, numbers, bad_input, bad_answers}
+use Rattle.vlt_numbers.specs.Given.Given.{Given, numbers, bad_input, bad_answers}
 use Rattle.vlt_steps.specs.declared.stop.Stop.{Stop}
 use Rattle.vlt_steps.specs.declared.end.RunEnd.{RunEnd}
 use Rattle.vlt_steps.specs.declared.end.RunEnd.TheVariants.{BadInput, BadAnswers, TooWide, Stopped, Memory}
-use Rattle.vlt_hosts.specs.Stops.{outcome_of}
-use Rattle.vlt_run.specs.Ends.{IsTooWide}
+use Rattle.vlt_acts.specs.Hosts.Stops.{outcome_of}
+use Rattle.vlt_interp.specs.Runs.Ends.{IsTooWide}
 use Rattle.vaultc_core.specs.declared.status.TheConstants.{DONE, TRAPPED, OUT_OF_BUDGET, OUT_OF_NUMBERS}
 use Rattle.vaultc_core.specs.Lines.{Reply, reply, over_reply, trap_line, numbers_reply, bad_answer_line, behind}
 

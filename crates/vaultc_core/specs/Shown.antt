@@ -29,8 +29,8 @@ use Rattle.c_interp.specs.declared.stop.CStop.{CStop}
 use Rattle.c_interp.specs.declared.stop.CStop.TheVariants.{Stopped}
 use Rattle.c_reader.specs.Reads.{IsUnread, IsWithin}
 use Rattle.c_reader.specs.declared.error.CError.{CError}
-use Rattle.c_run.specs.declared.end.CEnd.{CEnd}
-use Rattle.c_run.specs.declared.end.CEnd.TheVariants as ended
+use Rattle.c_interp.specs.declared.runs.end.CEnd.{CEnd}
+use Rattle.c_interp.specs.declared.runs.end.CEnd.TheVariants as ended
 use Rattle.vaultc_core.specs.CRuns.{end_reply, stop_reply}
 use Rattle.vaultc_core.specs.Sources.{Read, had, unread, too_long, IsOver}
 use Rattle.vaultc_core.specs.declared.files.FileError.{FileError}

@@ -3,8 +3,8 @@
 ghost use Rattle.std.specs.Prelude.{◌≡◌, ◌≢◌, List, ℕ, map, None, Some, IfOk, IfSome, IfNone, false, string_bytes};
 ghost use Rattle.vlt_base.specs.declared.limits.TheConstants.{SOURCE_BYTES};
 ghost use Rattle.vlt_syntax.specs.View.{tree_of};
-ghost use Rattle.vlt_fit_laws.specs.Fit.{IsTextTree};
-ghost use Rattle.vlt_given.specs.Given.{given_by};
+ghost use Rattle.vlt_verdict.specs.FitLaws.Fit.{IsTextTree};
+ghost use Rattle.vlt_numbers.specs.Given.Given.{given_by};
 ghost use Rattle.vlt_verdict.specs.Seen.{IsTellable};
 ghost use Rattle.vlt_verdict.specs.declared.Verdict.TheVariants.{Accepted};
 ghost use Rattle.vaultc_core.specs.Commands as c;
@@ -28,12 +28,11 @@ use crate::write::{finish, finish_reply};
 use std::alloc::{AllocError, Global};
 use vlt_base::{Budgets, C_BYTES, SOURCE_BYTES};
 use vlt_core::Program;
-use vlt_fit_laws::programs_are_fit;
 use vlt_io::{Sink, Store};
 use vlt_run_laws::{accepted_programs_know_their_calls, kinded_programs_name_their_own};
 use vlt_sound::accepted_programs_go_right;
 use vlt_syntax::Tree;
-use vlt_verdict::{Verdict, judge};
+use vlt_verdict::{Verdict, judge, programs_are_fit};
 
 /// What `check` says of a text.
 fn reply_to_check(alloc: Global, bytes: &[u8]) -> Result<Reply, AllocError>

@@ -33,10 +33,11 @@ mod write;
 use c_reader_laws::texts_are_read_in_one_way;
 use std::alloc::Global;
 use vlt_check_laws::first_fault_has_witness;
-use vlt_fit_laws::{programs_are_fit, texts_have_text_trees};
 use vlt_io::{Sink, Store};
 use vlt_sound::accepted_programs_go_right;
-use vlt_verdict::{a_tree_has_one_verdict, a_tree_has_some_verdict};
+use vlt_verdict::{
+    a_tree_has_one_verdict, a_tree_has_some_verdict, programs_are_fit, texts_have_text_trees,
+};
 
 /// Carries out the command that the words are, and gives its status.
 ///

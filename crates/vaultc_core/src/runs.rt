@@ -3,7 +3,7 @@
 ghost use Rattle.std.specs.Prelude.{◌≡◌};
 ghost use Rattle.vlt_base.specs.declared.limits.TheConstants.{SOURCE_BYTES};
 ghost use Rattle.vlt_core.specs.View.{program_of};
-ghost use Rattle.vlt_given.specs.Given.{given_by};
+ghost use Rattle.vlt_numbers.specs.Given.Given.{given_by};
 ghost use Rattle.vlt_interp.specs.Reached.{IsRunnable};
 ghost use Rattle.vaultc_core.specs.Runs.{IsReplyToProgram};
 ghost use Rattle.vaultc_core.specs.Finishes.{Finishes};
@@ -16,9 +16,9 @@ use crate::write::{finish, finish_reply};
 use std::alloc::Global;
 use vlt_base::{Budgets, VALUE_SLOTS};
 use vlt_core::Program;
+use vlt_interp::runs::run;
 use vlt_io::Sink;
 use vlt_ops::TrapKind;
-use vlt_run::run;
 use vlt_steps::{RunEnd, Stop};
 
 /// Writes the line behind the events of a run that stopped so, and gives the status.

@@ -2,16 +2,16 @@
 
 ghost use Rattle.std.specs.Prelude.{IfOk, IfErr, IfSome};
 ghost use Rattle.vlt_syntax.specs.View.{tree_of};
-ghost use Rattle.vlt_fit_laws.specs.Fit.{IsTextTree};
+ghost use Rattle.vlt_verdict.specs.FitLaws.Fit.{IsTextTree};
 ghost use Rattle.vaultc_core.specs.Texts.{IsTooLong, IsTextOf, AreRefused};
 ghost use Rattle.vaultc_core.specs.Shown.{refusal_of};
 
 use std::alloc::Global;
 use thiserror::Error;
-use vlt_fit_laws::texts_have_text_trees;
 use vlt_lexer::{LexError, lex};
 use vlt_parser::{ParseError, parse};
 use vlt_syntax::Tree;
+use vlt_verdict::texts_have_text_trees;
 
 /// Why bytes aren't read as a tree.
 #[derive(Clone, Copy, Debug, PartialEq, Eq, Error)]

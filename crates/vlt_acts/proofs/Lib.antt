@@ -1,5 +1,5 @@
-pub mod Keeping
-pub mod Showing
-pub mod Acting
-pub mod Naming
-pub mod Focusing
+pub mod OfValues
+pub mod OfActs
+pub mod OfObjects
+pub mod OfFrames
+pub mod OfHosts

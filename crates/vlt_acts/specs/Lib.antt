@@ -1,2 +1,5 @@
+pub mod Values
 pub mod Acts
-pub mod Focus
+pub mod Objects
+pub mod Frames
+pub mod Hosts

@@ -2,7 +2,7 @@
 use Rattle.std.specs.Prelude.{◌≡◌, ℕ, None}
 use Rattle.vlt_core.specs.Core.{Func, Program}
 use Rattle.vlt_core.specs.Faults.{FlowFault, IsFirstIn}
-use Rattle.vlt_judge.specs.Faulty.{IsFitIn}
+use Rattle.vlt_faults.specs.Judge.Faulty.{IsFitIn}
 
 -- the fault is of the function of this number, and the first one in its body, if that is fit
 pub record IsTold (p : Program) (f : Func) (number : ℕ) (x : FlowFault) : Type 0 where

@@ -2,7 +2,7 @@
 use Rattle.std.specs.Prelude.{◌≡◌, ◌≤◌, ◌^◌, ℕ, false, length, Some, slice_get, Result, Err}
 use Rattle.vlt_core.specs.Core.{Func, Program}
 use Rattle.vlt_flow.specs.Unfit as walk
-use Rattle.vlt_judge.specs.Faulty.{IsFitIn}
+use Rattle.vlt_faults.specs.Judge.Faulty.{IsFitIn}
 use Rattle.vlt_check.specs.declared.program.CheckError.{CheckError}
 use Rattle.vlt_check.specs.declared.program.CheckError.TheVariants.{Unfit}
 

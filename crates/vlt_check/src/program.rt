@@ -15,8 +15,8 @@ use std::alloc::{AllocError, AllocFailed, Global};
 use thiserror::Error;
 use vlt_base::{FnId, Items};
 use vlt_core::{FlowFault, Func, Program};
+use vlt_faults::fault_in;
 use vlt_flow::{Kept, Stop, walk};
-use vlt_judge::fault_in;
 use vlt_rows::RowError;
 
 /// Why a program isn't accepted.

@@ -20,12 +20,12 @@ use Rattle.vlt_meaning.specs.Objects.{named_in, with_owner, with_state, with_cha
 use Rattle.vlt_meaning.specs.Calls.{caller_object}
 use Rattle.vlt_meaning.specs.Externals.{is_given, come_back}
 use Rattle.vlt_meaning_laws.proofs.Keeping.{change_here, change_elsewhere}
-use Rattle.vlt_values.specs.declared.values.Values.{Values}
-use Rattle.vlt_values.specs.Parts.{IsObject}
-use Rattle.vlt_values.specs.Shown.{ShowsObject, ShowsIt, ShowObjects, Seen, key_at}
-use Rattle.vlt_values.proofs.Fronts.{IsSlotAt, IsNoObject, has_part, same_object}
-use Rattle.vlt_acts.specs.Acts.{Shows}
-use Rattle.vlt_acts.proofs.Showing.{one_shown}
+use Rattle.vlt_acts.specs.declared.values.values.Values.{Values}
+use Rattle.vlt_acts.specs.Values.Parts.{IsObject}
+use Rattle.vlt_acts.specs.Values.Shown.{ShowsObject, ShowsIt, ShowObjects, Seen, key_at}
+use Rattle.vlt_acts.proofs.OfValues.Fronts.{IsSlotAt, IsNoObject, has_part, same_object}
+use Rattle.vlt_acts.specs.Acts.Acts.{Shows}
+use Rattle.vlt_acts.proofs.OfActs.Showing.{one_shown}
 use Rattle.vlt_externals.specs.Sent.{ShowsAll, IsNamed}
 use Rattle.vlt_externals.specs.Back.{AreGiven, AreBack, ComesBack, IsStateSet, Becomes}
 use Rattle.vlt_externals.proofs.Going.{all_shown, seen_after, shows_twice, shows_same}

@@ -20,15 +20,15 @@ use Rattle.vlt_meaning.specs.Objects.{object_at, owned_at, with_owner, with_chan
 use Rattle.vlt_meaning.specs.Calls.{caller_object}
 use Rattle.vlt_meaning.specs.Externals.{is_taken, taken_objects}
 use Rattle.vlt_meaning_laws.proofs.Keeping.{bound, err-ok}
-use Rattle.vlt_values.specs.declared.values.Values.{Values}
-use Rattle.vlt_values.specs.Parts.{IsObject}
-use Rattle.vlt_values.specs.Shown.{ShowObjects, Seen, key_at}
-use Rattle.vlt_values.proofs.Touching.{so_is, object_is}
-use Rattle.vlt_values.proofs.Fronts.{IsSlotAt, has_part, behind, Behind, same_object}
-use Rattle.vlt_acts.specs.Acts.{Shows}
-use Rattle.vlt_acts.proofs.Keeping.{frame_kept}
-use Rattle.vlt_acts.proofs.Showing.{one_shown}
-use Rattle.vlt_frames.specs.Left.{IsRootAt}
+use Rattle.vlt_acts.specs.declared.values.values.Values.{Values}
+use Rattle.vlt_acts.specs.Values.Parts.{IsObject}
+use Rattle.vlt_acts.specs.Values.Shown.{ShowObjects, Seen, key_at}
+use Rattle.vlt_acts.proofs.OfValues.Touching.{so_is, object_is}
+use Rattle.vlt_acts.proofs.OfValues.Fronts.{IsSlotAt, has_part, behind, Behind, same_object}
+use Rattle.vlt_acts.specs.Acts.Acts.{Shows}
+use Rattle.vlt_acts.proofs.OfActs.Keeping.{frame_kept}
+use Rattle.vlt_acts.proofs.OfActs.Showing.{one_shown}
+use Rattle.vlt_acts.specs.Frames.Left.{IsRootAt}
 use Rattle.vlt_externals.specs.Sent.{ShowsAll, CanGo, Goes, IsNamed, AreNamed, taken_out, CanTake, Takes}
 
 -- ---- one object

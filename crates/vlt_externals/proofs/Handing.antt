@@ -9,14 +9,14 @@ use Rattle.vlt_heap.specs.declared.heap.Heap.{Heap}
 use Rattle.vlt_heap.specs.Items.{Items, IsMadeAt}
 use Rattle.vlt_meaning.specs.World.{Part, number, reference, owned, objects_in_part, objects_in, Value, one, of_case, is_loose, out, Object as Thing}
 use Rattle.vlt_meaning.specs.Objects.{with_owner, with_changed_object, objects_after_move}
-use Rattle.vlt_values.specs.declared.values.Values.{Values}
-use Rattle.vlt_values.specs.Parts.{HasPart}
-use Rattle.vlt_values.specs.Shown.{Seen}
-use Rattle.vlt_values.specs.Pushed.{HaveValues}
-use Rattle.vlt_values.proofs.Fronts.{IsSlotAt}
-use Rattle.vlt_acts.specs.Acts.{Shows}
-use Rattle.vlt_acts.proofs.Keeping.{value_kept}
-use Rattle.vlt_frames.specs.Left.{IsRootAt}
+use Rattle.vlt_acts.specs.declared.values.values.Values.{Values}
+use Rattle.vlt_acts.specs.Values.Parts.{HasPart}
+use Rattle.vlt_acts.specs.Values.Shown.{Seen}
+use Rattle.vlt_acts.specs.Values.Pushed.{HaveValues}
+use Rattle.vlt_acts.proofs.OfValues.Fronts.{IsSlotAt}
+use Rattle.vlt_acts.specs.Acts.Acts.{Shows}
+use Rattle.vlt_acts.proofs.OfActs.Keeping.{value_kept}
+use Rattle.vlt_acts.specs.Frames.Left.{IsRootAt}
 use Rattle.vlt_externals.specs.Told.{AreArgs}
 use Rattle.vlt_externals.specs.Sent.{ShowsAll, CanGo, Goes, owned_out, CanHand, Hands}
 use Rattle.vlt_externals.proofs.Telling.{number_of, object_of, owned_of, first_is}

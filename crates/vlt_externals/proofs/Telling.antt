@@ -11,9 +11,9 @@ use Rattle.vlt_heap.specs.declared.slots.Slot.{Slot}
 use Rattle.vlt_heap.specs.declared.slots.Slot.TheVariants.{Number, Object, Owned}
 use Rattle.vlt_heap.specs.Items.{Items}
 use Rattle.vlt_meaning.specs.World.{Part, number, reference, owned, part_text, Value, one, of_case, argument_text, called, line_of}
-use Rattle.vlt_values.specs.declared.values.Values.{Values}
-use Rattle.vlt_values.specs.Parts.{HasPart}
-use Rattle.vlt_values.proofs.Fronts.{IsSlotAt, has_part, front_part}
+use Rattle.vlt_acts.specs.declared.values.values.Values.{Values}
+use Rattle.vlt_acts.specs.Values.Parts.{HasPart}
+use Rattle.vlt_acts.proofs.OfValues.Fronts.{IsSlotAt, has_part, front_part}
 use Rattle.vlt_externals.specs.Told.{AreSingle, AreArgs, TellsPart, TellsArgs, TellsCall}
 
 -- ---- the part of a slot

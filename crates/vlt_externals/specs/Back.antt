@@ -9,9 +9,9 @@ use Rattle.vlt_meaning.specs.World.{Object, Frame}
 use Rattle.vlt_meaning.specs.Found.{Found}
 use Rattle.vlt_meaning.specs.Objects.{with_state, with_changed_object}
 use Rattle.vlt_meaning.specs.Externals.{is_given, come_back}
-use Rattle.vlt_values.specs.declared.values.Values.{Values}
-use Rattle.vlt_values.specs.Shown.{Seen}
-use Rattle.vlt_acts.specs.Acts.{Shows}
+use Rattle.vlt_acts.specs.declared.values.values.Values.{Values}
+use Rattle.vlt_acts.specs.Values.Shown.{Seen}
+use Rattle.vlt_acts.specs.Acts.Acts.{Shows}
 use Rattle.vlt_externals.specs.Sent.{IsNamed}
 
 -- each key that is given names an object

@@ -12,10 +12,10 @@ use Rattle.vlt_meaning.specs.Found.{Found}
 use Rattle.vlt_meaning.specs.Objects.{with_owner, with_changed_object, objects_after_move}
 use Rattle.vlt_meaning.specs.Calls.{caller_object}
 use Rattle.vlt_meaning.specs.Externals.{taken_objects}
-use Rattle.vlt_values.specs.declared.values.Values.{Values}
-use Rattle.vlt_values.specs.Shown.{ShowObjects, Seen}
-use Rattle.vlt_acts.specs.Acts.{Shows}
-use Rattle.vlt_frames.specs.Left.{IsRootAt}
+use Rattle.vlt_acts.specs.declared.values.values.Values.{Values}
+use Rattle.vlt_acts.specs.Values.Shown.{ShowObjects, Seen}
+use Rattle.vlt_acts.specs.Acts.Acts.{Shows}
+use Rattle.vlt_acts.specs.Frames.Left.{IsRootAt}
 use Rattle.vlt_externals.specs.Told.{AreArgs}
 
 -- ---- one object

@@ -6,10 +6,10 @@ use Rattle.vlt_numbers.specs.HostAnswers.{lists_of}
 use Rattle.vlt_heap.specs.declared.slots.Slot.{Slot}
 use Rattle.vlt_heap.specs.Items.{Items}
 use Rattle.vlt_meaning.specs.World.{Part, part_text, Value, one, of_case, argument_text, called, line_of}
-use Rattle.vlt_values.specs.declared.values.Values.{Values}
-use Rattle.vlt_values.specs.Parts.{HasPart}
-use Rattle.vlt_values.specs.Pushed.{HaveValues}
-use Rattle.vlt_hosts.specs.declared.host.Host.{Host}
+use Rattle.vlt_acts.specs.declared.values.values.Values.{Values}
+use Rattle.vlt_acts.specs.Values.Parts.{HasPart}
+use Rattle.vlt_acts.specs.Values.Pushed.{HaveValues}
+use Rattle.vlt_acts.specs.declared.hosts.host.Host.{Host}
 
 -- no argument is of a variant
 abbrev pub AreSingle : List Value → Type 0

@@ -4,14 +4,14 @@ ghost use Rattle.std.specs.Prelude.{◌≡◌, ◌∷◌, [], map, true};
 ghost use Rattle.vlt_core.specs.View.{keys_of, entry_of};
 ghost use Rattle.vlt_meaning.specs.Externals.{is_given};
 ghost use Rattle.vlt_heap.specs.Shown.{IsSound, IsSameSize};
-ghost use Rattle.vlt_values.specs.Shown.{IsTable};
+ghost use Rattle.vlt_acts.specs.Values.Shown.{IsTable};
 ghost use Rattle.vlt_externals.specs.Back.{ComesBack, IsStateSet, Becomes};
 
 use crate::keys::{caller_key, is_given};
+use vlt_acts::Values;
 use vlt_base::KeyId;
 use vlt_core::Entry;
 use vlt_heap::{Heap, Obj, Slot};
-use vlt_values::Values;
 
 /// Takes the object of an entry back, the key of which is given; false where it isn't out.
 fn back_key(values: &Values, heap: &mut Heap, e: &Entry, keys: &[KeyId]) -> bool

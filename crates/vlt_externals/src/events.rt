@@ -3,10 +3,10 @@
 ghost use Rattle.std.specs.Prelude.{◌≤◌, ◌+◌, ◌*◌, length, vec_capacity};
 ghost use Rattle.vlt_externals.specs.Told.{TellsPart, TellsArgs, TellsCall, IsTaken};
 
+use vlt_acts::{Host, Values};
 use vlt_heap::Slot;
-use vlt_hosts::Host;
-use vlt_lines::{begin, end, tell_number, tell_object};
-use vlt_values::Values;
+use vlt_steps::lines::end;
+use vlt_steps::{begin, tell_number, tell_object};
 
 /// Tells the argument that has this slot in front.
 fn tell(line: &mut Vec<u8>, a: Slot)

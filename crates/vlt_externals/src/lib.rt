@@ -5,10 +5,15 @@
 
 mod backs;
 mod events;
+mod host_answers;
+mod host_calls;
 mod keys;
+mod results;
 mod sending;
 
 pub use backs::{set_state, take_back};
 pub use events::{call_line, take_answer};
+pub use host_answers::{behind_entries, below, number};
+pub use host_calls::call_external;
 pub use keys::caller_key;
 pub use sending::{send_owned, send_taken};

@@ -5,14 +5,14 @@ ghost use Rattle.vlt_core.specs.View.{keys_of, entry_of};
 ghost use Rattle.vlt_meaning.specs.Externals.{is_taken};
 ghost use Rattle.vlt_heap.specs.declared.slots.Slot.{Slot};
 ghost use Rattle.vlt_heap.specs.Shown.{IsSound, IsSameSize};
-ghost use Rattle.vlt_values.specs.Shown.{IsTable};
+ghost use Rattle.vlt_acts.specs.Values.Shown.{IsTable};
 ghost use Rattle.vlt_externals.specs.Sent.{CanGo, Goes, CanTake, Takes, CanHand, Hands};
 
 use crate::keys::{caller_key, is_taken};
+use vlt_acts::Values;
 use vlt_base::KeyId;
 use vlt_core::Entry;
 use vlt_heap::{Heap, Obj, Slot};
-use vlt_values::Values;
 
 /// Sends an object out.
 fn send(heap: &mut Heap, o: Obj)

@@ -5,3 +5,4 @@ pub mod Parts
 pub mod Turning
 pub mod Starting
 pub mod Unfitting
+pub mod OfNotes

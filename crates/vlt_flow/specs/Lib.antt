@@ -1,3 +1,4 @@
 pub mod Walks
 pub mod Unfit
 pub mod Starts
+pub mod Notes

@@ -2,16 +2,16 @@
 use Rattle.std.proofs.Common.{◌≡◌, ℕ, Bool, List, Option, None, refl, sym, subst, arith}
 use Rattle.vlt_core.specs.Core.{Form, switch, scope, Block, Arms}
 use Rattle.vlt_core.specs.Core as core
-use Rattle.vlt_machine.specs.Machine.{at}
+use Rattle.vlt_meaning_laws.specs.Machine.Machine.{at}
 use Rattle.vlt_steps.specs.Writing.{Outside}
-use Rattle.vlt_hosts.proofs.Writing.{silent}
+use Rattle.vlt_acts.proofs.OfHosts.Writing.{silent}
 use Rattle.vlt_steps.specs.declared.stop.Stop.{Stop}
-use Rattle.vlt_tasks.specs.declared.task.At.TheVariants.{Jumps}
-use Rattle.vlt_tasks.specs.declared.task.Rules.{Rules}
-use Rattle.vlt_tasks.specs.declared.task.Run.{Run}
-use Rattle.vlt_tasks.specs.Moves.{doing, entering, CanDo, MayDo, Does, DoesFor}
-use Rattle.vlt_tasks.proofs.Staying.{going}
-use Rattle.vlt_calls.specs.Called.{CanCall, Acts}
+use Rattle.vlt_interp.specs.declared.tasks.task.At.TheVariants.{Jumps}
+use Rattle.vlt_interp.specs.declared.tasks.task.Rules.{Rules}
+use Rattle.vlt_interp.specs.declared.tasks.task.Run.{Run}
+use Rattle.vlt_interp.specs.Tasks.Moves.{doing, entering, CanDo, MayDo, Does, DoesFor}
+use Rattle.vlt_interp.proofs.OfTasks.Staying.{going}
+use Rattle.vlt_interp.specs.Calls.Called.{CanCall, Acts}
 use Rattle.vlt_interp.specs.Going.{setup_in, CanAct}
 
 module _ (rules : Rules) (r : Run) where

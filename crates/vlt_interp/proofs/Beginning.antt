@@ -21,29 +21,29 @@ use Rattle.vlt_meaning.specs.World.{line_of, is_fault}
 use Rattle.vlt_meaning.specs.Step.{ends}
 use Rattle.vlt_meaning.specs.Run.{Setup, first_frame, start, ran_of, main_run, run}
 use Rattle.vlt_meaning.specs.Does.{does}
-use Rattle.vlt_machine.specs.Machine as m
-use Rattle.vlt_machine.specs.Machine.{Conf, at, first_conf}
-use Rattle.vlt_machine.specs.Laws.{LeadsTo}
-use Rattle.vlt_machine.proofs.Theorem.{machine_is_the_run}
-use Rattle.vlt_values.specs.declared.values.Values.{Values}
-use Rattle.vlt_values.specs.Shown.{ShowsFrame}
-use Rattle.vlt_frames.specs.Frames.{frame_end, IsRunning as HasFrame}
+use Rattle.vlt_meaning_laws.specs.Machine.Machine as m
+use Rattle.vlt_meaning_laws.specs.Machine.Machine.{Conf, at, first_conf}
+use Rattle.vlt_meaning_laws.specs.Machine.Laws.{LeadsTo}
+use Rattle.vlt_meaning_laws.proofs.OfMachine.Theorem.{machine_is_the_run}
+use Rattle.vlt_acts.specs.declared.values.values.Values.{Values}
+use Rattle.vlt_acts.specs.Values.Shown.{ShowsFrame}
+use Rattle.vlt_acts.specs.Frames.Frames.{frame_end, IsRunning as HasFrame}
 use Rattle.vlt_steps.specs.Writing.{Outside}
-use Rattle.vlt_hosts.specs.Stops.{outcome_of}
+use Rattle.vlt_acts.specs.Hosts.Stops.{outcome_of}
 use Rattle.vlt_steps.proofs.Ending.{finished_ends}
-use Rattle.vlt_hosts.proofs.Writing.{silent}
-use Rattle.vlt_rooms.specs.declared.start.Start.{Start}
-use Rattle.vlt_rooms.specs.Start.{IsSet}
+use Rattle.vlt_acts.proofs.OfHosts.Writing.{silent}
+use Rattle.vlt_interp.specs.declared.rooms.start.Start.{Start}
+use Rattle.vlt_interp.specs.Rooms.Start.{IsSet}
 use Rattle.vlt_steps.specs.declared.stop.Stop.{Stop}
 use Rattle.vlt_steps.specs.declared.stop.Stop.TheVariants.{DepthEnd, SinkFault}
-use Rattle.vlt_tasks.specs.declared.task.At.TheVariants.{Goes as GoesOn}
-use Rattle.vlt_tasks.specs.declared.task.Task.TheVariants.{List as Listed}
-use Rattle.vlt_tasks.specs.declared.task.Rules.{Rules}
-use Rattle.vlt_tasks.specs.declared.task.Run.{Run}
-use Rattle.vlt_tasks.specs.Sizes.{frame_slots, IsWide}
-use Rattle.vlt_tasks.specs.Shown.{setup_of, tasks_left, ShowsTasks, ShowsConf}
-use Rattle.vlt_tasks.specs.Moves.{HasRoom}
-use Rattle.vlt_machine.specs.Reached.{IsReached}
+use Rattle.vlt_interp.specs.declared.tasks.task.At.TheVariants.{Goes as GoesOn}
+use Rattle.vlt_interp.specs.declared.tasks.task.Task.TheVariants.{List as Listed}
+use Rattle.vlt_interp.specs.declared.tasks.task.Rules.{Rules}
+use Rattle.vlt_interp.specs.declared.tasks.task.Run.{Run}
+use Rattle.vlt_interp.specs.Tasks.Sizes.{frame_slots, IsWide}
+use Rattle.vlt_interp.specs.Tasks.Shown.{setup_of, tasks_left, ShowsTasks, ShowsConf}
+use Rattle.vlt_interp.specs.Tasks.Moves.{HasRoom}
+use Rattle.vlt_meaning_laws.specs.Machine.Reached.{IsReached}
 use Rattle.vlt_interp.specs.Reached.{IsRunnable}
 use Rattle.vlt_interp.specs.Going.{setup_in}
 use Rattle.vlt_interp.specs.Running.{start_of, goal_of, IsRunning, IsFinished}

@@ -1,18 +1,18 @@
 -- What a statement finds: how many slots and tasks there are.
 use Rattle.std.proofs.Common.{◌≡◌, ◌≤◌, ◌+◌, ◌*◌, ◌-◌, ℕ, zero, suc, List, [], ◌∷◌, length, refl, sym, ap, ◌∙◌, subst, arith}
 use Rattle.vlt_core.specs.Core.{Form, Stmts, Func, Program}
-use Rattle.vlt_machine.specs.Machine as m
-use Rattle.vlt_machine.specs.Machine.{Caller, at}
+use Rattle.vlt_meaning_laws.specs.Machine.Machine as m
+use Rattle.vlt_meaning_laws.specs.Machine.Machine.{Caller, at}
 use Rattle.vlt_heap.specs.Items.{Items}
-use Rattle.vlt_values.specs.declared.values.Values.{Values}
-use Rattle.vlt_frames.specs.declared.waiting.Waiting.{Waiting}
-use Rattle.vlt_frames.specs.Frames.{frame_end}
-use Rattle.vlt_tasks.specs.declared.task.Task.{Task}
-use Rattle.vlt_tasks.specs.declared.task.Task.TheVariants.{List as Listed, Closing, Turn, Unfocus, Back}
-use Rattle.vlt_tasks.specs.Sizes.{frame_slots}
-use Rattle.vlt_tasks.specs.Own.{IsOf}
-use Rattle.vlt_tasks.specs.Shown.{IsCaller, base_behind, depth_behind, ShowsTasks}
-use Rattle.vlt_tasks.proofs.Sizes.{greatest_at}
+use Rattle.vlt_acts.specs.declared.values.values.Values.{Values}
+use Rattle.vlt_acts.specs.declared.frames.waiting.Waiting.{Waiting}
+use Rattle.vlt_acts.specs.Frames.Frames.{frame_end}
+use Rattle.vlt_interp.specs.declared.tasks.task.Task.{Task}
+use Rattle.vlt_interp.specs.declared.tasks.task.Task.TheVariants.{List as Listed, Closing, Turn, Unfocus, Back}
+use Rattle.vlt_interp.specs.Tasks.Sizes.{frame_slots}
+use Rattle.vlt_interp.specs.Tasks.Own.{IsOf}
+use Rattle.vlt_interp.specs.Tasks.Shown.{IsCaller, base_behind, depth_behind, ShowsTasks}
+use Rattle.vlt_interp.proofs.OfTasks.Sizes.{greatest_at}
 use Rattle.vlt_interp.specs.Owned.{HoldOf}
 
 -- a frame of the program's functions is no wider than the widest

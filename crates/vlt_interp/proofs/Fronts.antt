@@ -9,15 +9,15 @@ use Rattle.vlt_core.specs.Core.{Expr, Tok, Block, Stmts, Func}
 use Rattle.vlt_heap.specs.Items.{Items}
 use Rattle.vlt_meaning.specs.World.{Frame, World}
 use Rattle.vlt_meaning.specs.Step.{Step, goes, jumps, leaves, ends}
-use Rattle.vlt_machine.specs.Machine as m
-use Rattle.vlt_machine.specs.Machine.{Caller, Conf, at}
-use Rattle.vlt_frames.specs.declared.waiting.Waiting.{Waiting}
-use Rattle.vlt_tasks.specs.declared.task.At.{At}
-use Rattle.vlt_tasks.specs.declared.task.At.TheVariants.{Goes, Jumps, Leaves}
-use Rattle.vlt_tasks.specs.declared.task.Task.{Task}
-use Rattle.vlt_tasks.specs.declared.task.Task.TheVariants.{List as Listed, Closing, Turn, Back}
-use Rattle.vlt_tasks.specs.declared.task.Run.{Run}
-use Rattle.vlt_tasks.specs.Shown.{IsTurn, Runs, Jumped, WasLeft, ShowsStep, ShowsWith}
+use Rattle.vlt_meaning_laws.specs.Machine.Machine as m
+use Rattle.vlt_meaning_laws.specs.Machine.Machine.{Caller, Conf, at}
+use Rattle.vlt_acts.specs.declared.frames.waiting.Waiting.{Waiting}
+use Rattle.vlt_interp.specs.declared.tasks.task.At.{At}
+use Rattle.vlt_interp.specs.declared.tasks.task.At.TheVariants.{Goes, Jumps, Leaves}
+use Rattle.vlt_interp.specs.declared.tasks.task.Task.{Task}
+use Rattle.vlt_interp.specs.declared.tasks.task.Task.TheVariants.{List as Listed, Closing, Turn, Back}
+use Rattle.vlt_interp.specs.declared.tasks.task.Run.{Run}
+use Rattle.vlt_interp.specs.Tasks.Shown.{IsTurn, Runs, Jumped, WasLeft, ShowsStep, ShowsWith}
 
 -- ---- the task in front
 

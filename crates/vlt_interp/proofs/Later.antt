@@ -10,8 +10,8 @@ use Rattle.vlt_meaning_laws.specs.Keeping.{world_after}
 use Rattle.vlt_meaning_laws.specs.Laws.{does_one}
 use Rattle.vlt_meaning_laws.proofs.Equations.{only_adds}
 use Rattle.vlt_meaning_laws.proofs.Moves.{IsKept, To, back_to, left_to, focus_to, form_to}
-use Rattle.vlt_machine.specs.Machine.{Task, list, closing, turn, unfocus, back, Conf, after_move}
-use Rattle.vlt_machine.proofs.Finishing.{finishes, ending, moves_end}
+use Rattle.vlt_meaning_laws.specs.Machine.Machine.{Task, list, closing, turn, unfocus, back, Conf, after_move}
+use Rattle.vlt_meaning_laws.proofs.OfMachine.Finishing.{finishes, ending, moves_end}
 
 -- events were only added
 pub record Adds (w v : World) : Type 0 where

@@ -9,3 +9,9 @@ pub mod Weighing
 pub mod Acting
 pub mod Running
 pub mod Beginning
+pub mod OfTasks
+pub mod OfStatements
+pub mod OfCalls
+pub mod OfReturns
+pub mod OfRooms
+pub mod OfRuns

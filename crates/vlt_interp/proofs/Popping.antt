@@ -5,14 +5,14 @@ use Rattle.vlt_core.specs.View.{program_of}
 use Rattle.vlt_steps.specs.Writing.{Outside}
 use Rattle.vlt_steps.specs.declared.stop.Stop.{Stop}
 use Rattle.vlt_steps.specs.declared.stop.Stop.TheVariants.{Done}
-use Rattle.vlt_tasks.specs.declared.task.Task.{Task}
-use Rattle.vlt_tasks.specs.declared.task.Rules.{Rules}
-use Rattle.vlt_tasks.specs.declared.task.Run.{Run}
-use Rattle.vlt_tasks.specs.Shown.{tasks_left}
-use Rattle.vlt_tasks.specs.Moves.{Keeps}
-use Rattle.vlt_tasks.proofs.Staying.{room_kept, keeps_on}
-use Rattle.vlt_tasks.proofs.Stacks.{next_is}
-use Rattle.vlt_tasks.proofs.Pushing.{left_shown, taken_shown}
+use Rattle.vlt_interp.specs.declared.tasks.task.Task.{Task}
+use Rattle.vlt_interp.specs.declared.tasks.task.Rules.{Rules}
+use Rattle.vlt_interp.specs.declared.tasks.task.Run.{Run}
+use Rattle.vlt_interp.specs.Tasks.Shown.{tasks_left}
+use Rattle.vlt_interp.specs.Tasks.Moves.{Keeps}
+use Rattle.vlt_interp.proofs.OfTasks.Staying.{room_kept, keeps_on}
+use Rattle.vlt_interp.proofs.OfTasks.Stacks.{next_is}
+use Rattle.vlt_interp.proofs.OfTasks.Pushing.{left_shown, taken_shown}
 use Rattle.vlt_interp.specs.Going.{CanMove, CanDoTask, GoesTask, Moves}
 
 module _ (rules : Rules) (old mid : Run) (t : Task) (items : old.tasks.items ≡ mid.tasks.items ++ t ∷ []) (room : vec_capacity mid.tasks ≡ vec_capacity old.tasks) (can : CanMove rules old) where

@@ -8,28 +8,28 @@ use Rattle.vlt_meaning.specs.World.{line_of, World, is_fault}
 use Rattle.vlt_meaning.specs.Step.{Step, goes, jumps, leaves, ends}
 use Rattle.vlt_meaning.specs.Run.{Setup, first_frame, start, ran_of}
 use Rattle.vlt_meaning_laws.specs.Keeping.{world_after}
-use Rattle.vlt_machine.specs.Machine as m
-use Rattle.vlt_machine.specs.Machine.{Conf, at, after_move, moves, first_conf}
-use Rattle.vlt_machine.specs.Bounds.{Fits}
-use Rattle.vlt_machine.specs.Laws.{LeadsTo}
-use Rattle.vlt_machine.proofs.Fitting.{suffices, first_fits}
-use Rattle.vlt_machine.proofs.Finishing.{finishes, ending, moves_end}
-use Rattle.vlt_machine.proofs.Halting.{fuel_in, weight}
+use Rattle.vlt_meaning_laws.specs.Machine.Machine as m
+use Rattle.vlt_meaning_laws.specs.Machine.Machine.{Conf, at, after_move, moves, first_conf}
+use Rattle.vlt_meaning_laws.specs.Machine.Bounds.{Fits}
+use Rattle.vlt_meaning_laws.specs.Machine.Laws.{LeadsTo}
+use Rattle.vlt_meaning_laws.proofs.OfMachine.Fitting.{suffices, first_fits}
+use Rattle.vlt_meaning_laws.proofs.OfMachine.Finishing.{finishes, ending, moves_end}
+use Rattle.vlt_meaning_laws.proofs.OfMachine.Halting.{fuel_in, weight}
 use Rattle.vlt_steps.specs.Writing.{Outside}
-use Rattle.vlt_hosts.specs.Stops.{Wrote, outcome_of, IsCut, HasStopped}
+use Rattle.vlt_acts.specs.Hosts.Stops.{Wrote, outcome_of, IsCut, HasStopped}
 use Rattle.vlt_steps.specs.declared.stop.Stop.{Stop}
 use Rattle.vlt_steps.specs.declared.stop.Stop.TheVariants.{Done, SinkFault}
-use Rattle.vlt_tasks.specs.declared.task.At.{At}
-use Rattle.vlt_tasks.specs.declared.task.At.TheVariants.{Goes as GoesOn, Jumps, Leaves}
-use Rattle.vlt_tasks.specs.declared.task.Task.{Task}
-use Rattle.vlt_tasks.specs.declared.task.Rules.{Rules}
-use Rattle.vlt_tasks.specs.declared.task.Run.{Run}
-use Rattle.vlt_tasks.specs.Own.{HasOwn, IsOwn, AreOwn, IsOwnBlock, AreOwnArms}
-use Rattle.vlt_tasks.specs.Shown.{setup_of, tasks_left, ShowsStep, ShowsWith, ShowsConf}
-use Rattle.vlt_tasks.specs.Moves.{Keeps, world_in, GoneOn, CameTo, IsRight}
+use Rattle.vlt_interp.specs.declared.tasks.task.At.{At}
+use Rattle.vlt_interp.specs.declared.tasks.task.At.TheVariants.{Goes as GoesOn, Jumps, Leaves}
+use Rattle.vlt_interp.specs.declared.tasks.task.Task.{Task}
+use Rattle.vlt_interp.specs.declared.tasks.task.Rules.{Rules}
+use Rattle.vlt_interp.specs.declared.tasks.task.Run.{Run}
+use Rattle.vlt_interp.specs.Tasks.Own.{HasOwn, IsOwn, AreOwn, IsOwnBlock, AreOwnArms}
+use Rattle.vlt_interp.specs.Tasks.Shown.{setup_of, tasks_left, ShowsStep, ShowsWith, ShowsConf}
+use Rattle.vlt_interp.specs.Tasks.Moves.{Keeps, world_in, GoneOn, CameTo, IsRight}
 use Rattle.vlt_steps.proofs.Writing as writing
-use Rattle.vlt_tasks.proofs.Staying.{room_kept}
-use Rattle.vlt_machine.specs.Reached.{IsReached}
+use Rattle.vlt_interp.proofs.OfTasks.Staying.{room_kept}
+use Rattle.vlt_meaning_laws.specs.Machine.Reached.{IsReached}
 use Rattle.vlt_interp.specs.Owned.{HoldsIn, IsOwnConf}
 use Rattle.vlt_interp.specs.Going.{setup_in, IsFine, CanMove, IsOver, Moves}
 use Rattle.vlt_interp.specs.Running.{IsRunning, IsFinished}

@@ -12,23 +12,23 @@ use Rattle.vlt_core.specs.Core.{Tok, Stmts, done, next, Func}
 use Rattle.vlt_meaning.specs.World.{Frame, World, left_behind}
 use Rattle.vlt_meaning.specs.Step.{Step, goes, jumps, leaves, ends, where_so, left_block, are_unused}
 use Rattle.vlt_meaning.specs.Run.{Setup}
-use Rattle.vlt_machine.specs.Machine as m
-use Rattle.vlt_machine.specs.Machine.{at, list_moves, after_move}
-use Rattle.vlt_machine.specs.Bounds.{tall_of, frames}
-use Rattle.vlt_machine.proofs.Fitting.{suffices}
+use Rattle.vlt_meaning_laws.specs.Machine.Machine as m
+use Rattle.vlt_meaning_laws.specs.Machine.Machine.{at, list_moves, after_move}
+use Rattle.vlt_meaning_laws.specs.Machine.Bounds.{tall_of, frames}
+use Rattle.vlt_meaning_laws.proofs.OfMachine.Fitting.{suffices}
 use Rattle.vlt_steps.specs.Writing.{Outside}
-use Rattle.vlt_hosts.proofs.Writing.{silent}
-use Rattle.vlt_tasks.specs.declared.task.At.TheVariants.{Jumps, Leaves}
-use Rattle.vlt_tasks.specs.declared.task.Task.{Task}
-use Rattle.vlt_tasks.specs.declared.task.Task.TheVariants.{List as Listed, Closing, Turn}
-use Rattle.vlt_tasks.specs.declared.task.Rules.{Rules}
-use Rattle.vlt_tasks.specs.declared.task.Run.{Run}
-use Rattle.vlt_tasks.specs.Sizes.{frame_slots}
-use Rattle.vlt_tasks.specs.Own.{IsOwn, AreOwn, IsOf}
-use Rattle.vlt_tasks.specs.Shown.{tasks_left, Runs, ShowsWith, ShowsConf}
-use Rattle.vlt_tasks.specs.Moves.{world_in, CameTo}
-use Rattle.vlt_tasks.proofs.Staying.{keeps_all}
-use Rattle.vlt_tasks.proofs.Coming.{Came}
+use Rattle.vlt_acts.proofs.OfHosts.Writing.{silent}
+use Rattle.vlt_interp.specs.declared.tasks.task.At.TheVariants.{Jumps, Leaves}
+use Rattle.vlt_interp.specs.declared.tasks.task.Task.{Task}
+use Rattle.vlt_interp.specs.declared.tasks.task.Task.TheVariants.{List as Listed, Closing, Turn}
+use Rattle.vlt_interp.specs.declared.tasks.task.Rules.{Rules}
+use Rattle.vlt_interp.specs.declared.tasks.task.Run.{Run}
+use Rattle.vlt_interp.specs.Tasks.Sizes.{frame_slots}
+use Rattle.vlt_interp.specs.Tasks.Own.{IsOwn, AreOwn, IsOf}
+use Rattle.vlt_interp.specs.Tasks.Shown.{tasks_left, Runs, ShowsWith, ShowsConf}
+use Rattle.vlt_interp.specs.Tasks.Moves.{world_in, CameTo}
+use Rattle.vlt_interp.proofs.OfTasks.Staying.{keeps_all}
+use Rattle.vlt_interp.proofs.OfTasks.Coming.{Came}
 use Rattle.vlt_interp.specs.Going.{setup_in, IsFine, CanDoTask, GoesTask}
 use Rattle.vlt_interp.proofs.Fitting.{frame_fits, low, as_many}
 use Rattle.vlt_interp.proofs.Fronts.{by_list, by_closing, by_jumps, by_leaves, not_ended}

@@ -14,24 +14,24 @@ use Rattle.vlt_meaning.specs.World.{Frame, World, fault, no_return}
 use Rattle.vlt_meaning.specs.Step.{Step, goes, jumps, leaves}
 use Rattle.vlt_meaning.specs.Calls.{back_in}
 use Rattle.vlt_meaning.specs.Run.{Setup}
-use Rattle.vlt_machine.specs.Machine as m
-use Rattle.vlt_machine.specs.Machine.{Conf, at, turn_moves, turn_on, after_move}
-use Rattle.vlt_frames.specs.declared.waiting.Waiting.{Waiting}
+use Rattle.vlt_meaning_laws.specs.Machine.Machine as m
+use Rattle.vlt_meaning_laws.specs.Machine.Machine.{Conf, at, turn_moves, turn_on, after_move}
+use Rattle.vlt_acts.specs.declared.frames.waiting.Waiting.{Waiting}
 use Rattle.vlt_steps.specs.Writing.{Outside}
 use Rattle.vlt_steps.specs.declared.stop.Stop.{Stop}
-use Rattle.vlt_tasks.specs.declared.task.At.TheVariants.{Goes as GoesOn, Jumps, Leaves}
-use Rattle.vlt_tasks.specs.declared.task.Task.{Task}
-use Rattle.vlt_tasks.specs.declared.task.Task.TheVariants.{List as Listed, Turn, Back}
-use Rattle.vlt_tasks.specs.declared.task.Rules.{Rules}
-use Rattle.vlt_tasks.specs.declared.task.Run.{Run}
-use Rattle.vlt_tasks.specs.Own.{IsOwn}
-use Rattle.vlt_calls.specs.Called.{Acts}
-use Rattle.vlt_calls.specs.Known.{IsKnownCall}
-use Rattle.vlt_tasks.specs.Shown.{IsTurn, tasks_left, Runs, ShowsStep, ShowsWith, ShowsConf}
-use Rattle.vlt_tasks.specs.Moves.{HasRoom, Keeps, world_in, CameTo, IsRight, doing, MayDo, Does, IsRightTask, DoesTask}
-use Rattle.vlt_tasks.proofs.Staying.{room_kept, keeps_all, keeps_on, going}
-use Rattle.vlt_tasks.proofs.Pushing.{put_shown}
-use Rattle.vlt_tasks.proofs.Coming.{Came}
+use Rattle.vlt_interp.specs.declared.tasks.task.At.TheVariants.{Goes as GoesOn, Jumps, Leaves}
+use Rattle.vlt_interp.specs.declared.tasks.task.Task.{Task}
+use Rattle.vlt_interp.specs.declared.tasks.task.Task.TheVariants.{List as Listed, Turn, Back}
+use Rattle.vlt_interp.specs.declared.tasks.task.Rules.{Rules}
+use Rattle.vlt_interp.specs.declared.tasks.task.Run.{Run}
+use Rattle.vlt_interp.specs.Tasks.Own.{IsOwn}
+use Rattle.vlt_interp.specs.Calls.Called.{Acts}
+use Rattle.vlt_interp.specs.Calls.Known.{IsKnownCall}
+use Rattle.vlt_interp.specs.Tasks.Shown.{IsTurn, tasks_left, Runs, ShowsStep, ShowsWith, ShowsConf}
+use Rattle.vlt_interp.specs.Tasks.Moves.{HasRoom, Keeps, world_in, CameTo, IsRight, doing, MayDo, Does, IsRightTask, DoesTask}
+use Rattle.vlt_interp.proofs.OfTasks.Staying.{room_kept, keeps_all, keeps_on, going}
+use Rattle.vlt_interp.proofs.OfTasks.Pushing.{put_shown}
+use Rattle.vlt_interp.proofs.OfTasks.Coming.{Came}
 use Rattle.vlt_interp.specs.Going.{setup_in, IsFine, CanDoTask, GoesTask, CanAct}
 use Rattle.vlt_interp.proofs.Fronts.{by_list, by_turn, by_back, by_goes, by_jumps, by_leaves}
 use Rattle.vlt_interp.proofs.Tasking.{stays_here, behind_list, behind_turn, IsFit, goes_fit, jumps_fit}

@@ -7,16 +7,16 @@ use Rattle.vlt_core.specs.Instances.{HasNoBounds}
 use Rattle.vlt_core.specs.Widths.{greatest}
 use Rattle.vlt_heap.specs.Items.{Items}
 use Rattle.vlt_meaning.specs.Run.{Setup}
-use Rattle.vlt_machine.specs.Machine as m
-use Rattle.vlt_machine.specs.Machine.{Conf, after_move}
-use Rattle.vlt_machine.specs.Bounds.{tall_of}
-use Rattle.vlt_machine.proofs.Halting.{fuel_in, form_weight, block_weight, list_weight, arms_weight, weight, move_shrinks}
-use Rattle.vlt_values.specs.declared.values.Values.{Values}
-use Rattle.vlt_tasks.specs.declared.task.Task.{Task}
-use Rattle.vlt_tasks.specs.declared.task.Task.TheVariants.{List as Listed, Closing, Turn, Unfocus, Back}
-use Rattle.vlt_tasks.specs.Shown.{ShowsTasks}
+use Rattle.vlt_meaning_laws.specs.Machine.Machine as m
+use Rattle.vlt_meaning_laws.specs.Machine.Machine.{Conf, after_move}
+use Rattle.vlt_meaning_laws.specs.Machine.Bounds.{tall_of}
+use Rattle.vlt_meaning_laws.proofs.OfMachine.Halting.{fuel_in, form_weight, block_weight, list_weight, arms_weight, weight, move_shrinks}
+use Rattle.vlt_acts.specs.declared.values.values.Values.{Values}
+use Rattle.vlt_interp.specs.declared.tasks.task.Task.{Task}
+use Rattle.vlt_interp.specs.declared.tasks.task.Task.TheVariants.{List as Listed, Closing, Turn, Unfocus, Back}
+use Rattle.vlt_interp.specs.Tasks.Shown.{ShowsTasks}
 use Rattle.vlt_interp.specs.Owned.{HoldOf, HoldsIn}
-use Rattle.vlt_tasks.proofs.Sizes.{greatest_at}
+use Rattle.vlt_interp.proofs.OfTasks.Sizes.{greatest_at}
 use Rattle.vlt_interp.proofs.Keeping.{IsClosed}
 
 -- ---- how large statements are, bodies of loops included

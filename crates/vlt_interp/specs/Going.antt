@@ -5,21 +5,21 @@ use Rattle.vlt_core.specs.Core.{Form, Func}
 use Rattle.vlt_meaning.specs.World.{Frame, World}
 use Rattle.vlt_meaning.specs.Step.{goes}
 use Rattle.vlt_meaning.specs.Run.{Setup}
-use Rattle.vlt_machine.specs.Machine as m
-use Rattle.vlt_machine.specs.Machine.{Conf, at, after_move}
-use Rattle.vlt_machine.specs.Bounds.{Fits}
+use Rattle.vlt_meaning_laws.specs.Machine.Machine as m
+use Rattle.vlt_meaning_laws.specs.Machine.Machine.{Conf, at, after_move}
+use Rattle.vlt_meaning_laws.specs.Machine.Bounds.{Fits}
 use Rattle.vlt_heap.specs.Shown.{heap_of}
 use Rattle.vlt_steps.specs.Writing.{Outside}
 use Rattle.vlt_steps.specs.declared.stop.Stop.{Stop}
 use Rattle.vlt_steps.specs.declared.stop.Stop.TheVariants.{Done}
-use Rattle.vlt_tasks.specs.declared.task.Task.{Task}
-use Rattle.vlt_tasks.specs.declared.task.Rules.{Rules}
-use Rattle.vlt_tasks.specs.declared.task.Run.{Run}
-use Rattle.vlt_tasks.specs.Own.{HasOwn, IsOwn}
-use Rattle.vlt_tasks.specs.Shown.{setup_of, tasks_left, ShowsWith, ShowsConf}
-use Rattle.vlt_tasks.specs.Moves.{HasRoom, IsReady, Keeps, world_in, IsRight, CameTo, doing}
-use Rattle.vlt_calls.specs.Called.{KnowsCall}
-use Rattle.vlt_calls.specs.Known.{ListsCall, KnowsNext}
+use Rattle.vlt_interp.specs.declared.tasks.task.Task.{Task}
+use Rattle.vlt_interp.specs.declared.tasks.task.Rules.{Rules}
+use Rattle.vlt_interp.specs.declared.tasks.task.Run.{Run}
+use Rattle.vlt_interp.specs.Tasks.Own.{HasOwn, IsOwn}
+use Rattle.vlt_interp.specs.Tasks.Shown.{setup_of, tasks_left, ShowsWith, ShowsConf}
+use Rattle.vlt_interp.specs.Tasks.Moves.{HasRoom, IsReady, Keeps, world_in, IsRight, CameTo, doing}
+use Rattle.vlt_interp.specs.Calls.Called.{KnowsCall}
+use Rattle.vlt_interp.specs.Calls.Known.{ListsCall, KnowsNext}
 use Rattle.vlt_interp.specs.Owned.{IsOwnConf}
 
 -- the setup of a run

@@ -4,3 +4,8 @@ pub mod Machine
 pub mod Owned
 pub mod Going
 pub mod Running
+pub mod Tasks
+pub mod Statements
+pub mod Calls
+pub mod Rooms
+pub mod Runs

@@ -6,7 +6,7 @@ use Rattle.vlt_core.specs.Core.{Program}
 use Rattle.vlt_meaning.specs.World.{Ran}
 use Rattle.vlt_steps.specs.declared.stop.Stop.{Stop}
 use Rattle.vlt_steps.specs.Stops.{stop_unless}
-use Rattle.vlt_rooms.specs.Start.{IsSet}
+use Rattle.vlt_interp.specs.Rooms.Start.{IsSet}
 use Rattle.vlt_interp.specs.declared.machine.Machine.{Machine}
 use Rattle.vlt_interp.specs.Reached.{IsRunnable}
 use Rattle.vlt_interp.specs.Start.{run_within}

@@ -1,8 +1,8 @@
 -- What holds of all statements that are left to do.
 use Rattle.std.specs.Prelude.{List, [], ◌∷◌}
 use Rattle.vlt_core.specs.Core.{Form, loop, Stmts, Func, Program}
-use Rattle.vlt_machine.specs.Machine.{Task, list, turn, back, Conf}
-use Rattle.vlt_tasks.specs.Own.{IsOwn, AreOwn, IsOf}
+use Rattle.vlt_meaning_laws.specs.Machine.Machine.{Task, list, turn, back, Conf}
+use Rattle.vlt_interp.specs.Tasks.Own.{IsOwn, AreOwn, IsOf}
 
 -- It holds of lists of statements and of loops. Each task is the function's that runs there.
 abbrev pub HoldOf : (Func → Stmts → Type 0) → (Func → Form → Type 0) → Program → Func → List Task → Type 0

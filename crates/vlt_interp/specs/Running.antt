@@ -5,16 +5,16 @@ use Rattle.vlt_numbers.specs.HostAnswers.{lists_of}
 use Rattle.vlt_meaning.specs.World.{World, Ran, is_fault}
 use Rattle.vlt_meaning.specs.Step.{Step}
 use Rattle.vlt_meaning.specs.Run.{start, ran_of, main_run}
-use Rattle.vlt_machine.specs.Machine.{Conf}
-use Rattle.vlt_machine.specs.Laws.{LeadsTo}
+use Rattle.vlt_meaning_laws.specs.Machine.Machine.{Conf}
+use Rattle.vlt_meaning_laws.specs.Machine.Laws.{LeadsTo}
 use Rattle.vlt_steps.specs.Writing.{Outside}
-use Rattle.vlt_hosts.specs.Stops.{Wrote, IsCut, HasStopped}
+use Rattle.vlt_acts.specs.Hosts.Stops.{Wrote, IsCut, HasStopped}
 use Rattle.vlt_steps.specs.declared.stop.Stop.{Stop}
-use Rattle.vlt_tasks.specs.declared.task.Rules.{Rules}
-use Rattle.vlt_tasks.specs.declared.task.Run.{Run}
-use Rattle.vlt_tasks.specs.Shown.{ShowsConf}
-use Rattle.vlt_tasks.specs.Moves.{HasRoom, world_in}
-use Rattle.vlt_machine.specs.Reached.{IsReached}
+use Rattle.vlt_interp.specs.declared.tasks.task.Rules.{Rules}
+use Rattle.vlt_interp.specs.declared.tasks.task.Run.{Run}
+use Rattle.vlt_interp.specs.Tasks.Shown.{ShowsConf}
+use Rattle.vlt_interp.specs.Tasks.Moves.{HasRoom, world_in}
+use Rattle.vlt_meaning_laws.specs.Machine.Reached.{IsReached}
 use Rattle.vlt_interp.specs.Reached.{IsRunnable}
 use Rattle.vlt_interp.specs.Going.{setup_in}
 

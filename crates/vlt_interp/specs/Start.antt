@@ -10,7 +10,7 @@ use Rattle.vlt_steps.specs.declared.stop.Stop.TheVariants.{SinkFault}
 use Rattle.vlt_steps.specs.declared.stop.Ended.{Ended}
 use Rattle.vlt_steps.specs.Writing.{Outside}
 use Rattle.vlt_steps.specs.Stops as stops
-use Rattle.vlt_hosts.specs.Stops.{outcome_of}
+use Rattle.vlt_acts.specs.Hosts.Stops.{outcome_of}
 
 -- the run of a program within budgets
 abbrev pub run_within : CodeProgram → Budgets → (input : List ℤ) → (answers : List (List ℤ)) → Ran

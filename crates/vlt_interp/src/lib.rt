@@ -3,9 +3,15 @@
 //! Used by: `vaultc_core`.
 #![tactic(auto)]
 
+mod calls;
 mod machine;
 mod moves;
+mod returns;
+mod rooms;
 mod run;
+pub mod runs;
+mod statements;
+mod tasks;
 
 pub use machine::Machine;
 pub use vlt_steps::{OpenError, Stop};

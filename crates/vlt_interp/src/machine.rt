@@ -5,16 +5,16 @@ ghost use Rattle.vlt_base.specs.Limits.{limit_of};
 ghost use Rattle.vlt_numbers.specs.HostAnswers.{lists_of};
 ghost use Rattle.vlt_core.specs.View.{program_of};
 ghost use Rattle.vlt_core.specs.Widths.{slots_needed};
-ghost use Rattle.vlt_hosts.specs.Stops.{outcome_of, StopsAs};
+ghost use Rattle.vlt_acts.specs.Hosts.Stops.{outcome_of, StopsAs};
 ghost use Rattle.vlt_interp.specs.Reached.{IsRunnable};
 
+use crate::rooms::{Start, is_too_wide, prepare};
 use crate::run::run_program;
 use std::alloc::Global;
 use vlt_base::Budgets;
 use vlt_core::Program;
 use vlt_io::Sink;
 use vlt_numbers::Answers;
-use vlt_rooms::{Start, is_too_wide, prepare};
 use vlt_steps::{Ended, OpenError, Stop};
 
 /// A machine for one run of a program.

@@ -3,19 +3,19 @@
 ghost use Rattle.std.specs.Prelude.{◌∷◌};
 ghost use Rattle.vlt_core.specs.View.{form_of};
 ghost use Rattle.vlt_steps.specs.Writing.{Outside};
-ghost use Rattle.vlt_tasks.specs.declared.task.Task.TheVariants.{List as ListTask, Closing as ClosingTask, Turn as TurnTask, Back as BackTask};
-ghost use Rattle.vlt_tasks.specs.Shown.{tasks_left};
-ghost use Rattle.vlt_calls.specs.Called.{Acts};
+ghost use Rattle.vlt_interp.specs.declared.tasks.task.Task.TheVariants.{List as ListTask, Closing as ClosingTask, Turn as TurnTask, Back as BackTask};
+ghost use Rattle.vlt_interp.specs.Tasks.Shown.{tasks_left};
+ghost use Rattle.vlt_interp.specs.Calls.Called.{Acts};
 ghost use Rattle.vlt_interp.specs.Going.{CanMove, CanDoTask, GoesTask, Moves, CanAct};
 
-use vlt_calls::call;
+use crate::calls::call;
+use crate::returns::{give_back, go_back};
+use crate::statements::{choose, do_simple, enter_block, focus_on, switch_on, turn_on, unfocus};
+use crate::tasks::{At, Rules, Run, Task};
+use vlt_acts::Waiting;
 use vlt_core::{Block, Expr, Form, Stmt};
-use vlt_frames::Waiting;
 use vlt_io::Sink;
-use vlt_returns::{give_back, go_back};
-use vlt_statements::{choose, do_simple, enter_block, focus_on, switch_on, turn_on, unfocus};
 use vlt_steps::{Stop, put};
-use vlt_tasks::{At, Rules, Run, Task};
 
 /// A statement, with what is left to do behind it.
 fn act<'a, K: Sink>(

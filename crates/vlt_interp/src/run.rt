@@ -4,21 +4,20 @@ ghost use Rattle.vlt_core.specs.View.{program_of};
 ghost use Rattle.vlt_numbers.specs.HostAnswers.{lists_of};
 ghost use Rattle.vlt_meaning.specs.Run.{ran_of};
 ghost use Rattle.vlt_steps.specs.Writing.{Outside};
-ghost use Rattle.vlt_rooms.specs.Start.{IsSet};
+ghost use Rattle.vlt_interp.specs.Rooms.Start.{IsSet};
 ghost use Rattle.vlt_interp.specs.Reached.{IsRunnable};
 ghost use Rattle.vlt_interp.specs.Running.{start_of, goal_of, IsRunning, IsFinished};
 ghost use Rattle.vlt_interp.specs.Start.{run_within, EndsAs};
 
 use crate::moves::step;
+use crate::rooms::Start;
+use crate::tasks::{At, Rules, Run, Task};
+use vlt_acts::{Host, start};
 use vlt_base::Budgets;
 use vlt_core::Program;
-use vlt_frames::start;
-use vlt_hosts::Host;
 use vlt_io::Sink;
 use vlt_numbers::Answers;
-use vlt_rooms::Start;
 use vlt_steps::{Ended, Stop, put};
-use vlt_tasks::{At, Rules, Run, Task};
 
 /// Goes on to the end of the run.
 fn finish<'a, K: Sink>(rules: &Rules<'a>, run: &mut Run<'a, '_>, sink: &mut K) -> Stop

@@ -2,9 +2,9 @@
 use Rattle.std.proofs.Common.{◌≡◌, ◌∙◌, List, None, Some, Ok, Err, ap, sym}
 use Rattle.vlt_syntax.specs.Tree.{Decl}
 use Rattle.vlt_core.specs.Core.{TypeDecl, Func}
-use Rattle.vlt_kinds_names.specs.declared.found.Refusal.{Refusal}
-use Rattle.vlt_kinds_names.specs.Refusals.{least}
-use Rattle.vlt_kinds_names.specs.Names.{names_refused}
+use Rattle.vlt_kinds_types.specs.declared.names.found.Refusal.{Refusal}
+use Rattle.vlt_kinds_types.specs.Names.Refusals.{least}
+use Rattle.vlt_kinds_types.specs.Names.Names.{names_refused}
 use Rattle.vlt_kinds_types.specs.Files.{File, file_of}
 use Rattle.vlt_kinds_decls.specs.Decls.{types_refused}
 use Rattle.vlt_kinds_decls.specs.Made.{core_types}

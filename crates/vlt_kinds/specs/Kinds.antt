@@ -2,11 +2,11 @@
 use Rattle.std.specs.Prelude.{ℕ, List, Option, Some, None, slice_get}
 use Rattle.vlt_syntax.specs.Tree.{Name}
 use Rattle.vlt_core.specs.Core.{TypeDecl, Func, Program}
-use Rattle.vlt_kinds_names.specs.Globals.{global_in}
-use Rattle.vlt_kinds_names.specs.declared.globals.Global.{Global}
-use Rattle.vlt_kinds_names.specs.declared.globals.Global.TheVariants.{AFunction}
+use Rattle.vlt_kinds_types.specs.Names.Globals.{global_in}
+use Rattle.vlt_kinds_types.specs.declared.names.globals.Global.{Global}
+use Rattle.vlt_kinds_types.specs.declared.names.globals.Global.TheVariants.{AFunction}
 use Rattle.vlt_kinds_types.specs.Files.{File, then_with}
-use Rattle.vlt_kinds_queries.specs.Types.{program_with}
+use Rattle.vlt_kinds_decls.specs.Queries.Types.{program_with}
 
 -- Sets, types and functions are numbered in the order of their declarations. A head is a function with an empty body and the
 -- `end` 0; its keys are numbered by their first places in the text, and its variables are the parameters.

@@ -3,8 +3,8 @@
 ghost use Rattle.std.specs.Prelude.{map, length, All};
 ghost use Rattle.vlt_core.specs.View.{set_of, type_of};
 ghost use Rattle.vlt_kinds_decls.specs.Known.{HasKnownSet};
-ghost use Rattle.vlt_kinds_queries.specs.Types.{program_with};
-ghost use Rattle.vlt_kinds_queries.specs.Marks.{AreMarks};
+ghost use Rattle.vlt_kinds_decls.specs.Queries.Types.{program_with};
+ghost use Rattle.vlt_kinds_decls.specs.Queries.Marks.{AreMarks};
 
 use vlt_base::Items;
 use vlt_core::{Func, TypeDecl};

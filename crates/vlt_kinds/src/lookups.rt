@@ -9,13 +9,13 @@ ghost use Rattle.vlt_core.specs.Lookups as l;
 ghost use Rattle.vlt_core.specs.Types as t;
 ghost use Rattle.vlt_kinds.specs.Kinds as s;
 ghost use Rattle.vlt_kinds.specs.Seen.{kinds_seen};
-ghost use Rattle.vlt_kinds_queries.specs.Types.{declared_seen};
+ghost use Rattle.vlt_kinds_decls.specs.Queries.Types.{declared_seen};
 
 use crate::kinds::Kinds;
 use vlt_base::{FnId, StateSet, TypeId};
 use vlt_core::{Func, Ty};
-use vlt_kinds_names::Global;
-use vlt_kinds_queries::Declared;
+use vlt_kinds_decls::Declared;
+use vlt_kinds_types::Global;
 use vlt_syntax::Name;
 
 impl Kinds<'_> {
@@ -53,7 +53,7 @@ impl Kinds<'_> {
     pub fn is_plain(&self, ty: &Ty) -> bool
         ensures { result ≡ t.is_plain (view.ty_of ty.now) }
     {
-        vlt_kinds_queries::is_plain(ty)
+        vlt_kinds_decls::is_plain(ty)
     }
 
     /// All states of a type; the first one alone where it has no set.
@@ -88,7 +88,7 @@ impl Kinds<'_> {
             (s.declared_program (kinds_seen self.now)) number.0 }
     {
         self.declared().is_struct(number)
-            && !vlt_kinds_queries::is_marked(self.marks.as_slice(), number)
+            && !vlt_kinds_decls::is_marked(self.marks.as_slice(), number)
     }
 
     /// Whether a value of the type may be dropped with all that it owns.
@@ -99,7 +99,7 @@ impl Kinds<'_> {
         match ty {
             Ty::Own(states, number, _) => {
                 self.is_droppable_struct(*number)
-                    && vlt_kinds_queries::lies_within(*states, self.release_set(*number))
+                    && vlt_kinds_decls::lies_within(*states, self.release_set(*number))
             }
             Ty::OwnVar(number, _) => self.is_droppable_variant(*number),
             _ => false,
@@ -113,6 +113,6 @@ impl Kinds<'_> {
         let declared = self.declared();
         declared.is_variant(number)
             && !declared.is_keyed(number)
-            && !vlt_kinds_queries::is_marked(self.marks.as_slice(), number)
+            && !vlt_kinds_decls::is_marked(self.marks.as_slice(), number)
     }
 }

@@ -5,16 +5,16 @@ ghost use Rattle.vlt_syntax.specs.View as view;
 ghost use Rattle.vlt_syntax.specs.Lists.{Each};
 ghost use Rattle.vlt_syntax.specs.Grammar.{IsDecl, language};
 ghost use Rattle.vlt_core.specs.View as core_view;
-ghost use Rattle.vlt_kinds_names.specs.Refusals.{least};
-ghost use Rattle.vlt_kinds_names.specs.Names.{names_refused};
+ghost use Rattle.vlt_kinds_types.specs.Names.Refusals.{least};
+ghost use Rattle.vlt_kinds_types.specs.Names.Names.{names_refused};
 ghost use Rattle.vlt_kinds_types.specs.Files as f;
 ghost use Rattle.vlt_kinds_types.specs.Seen.{file_seen};
 ghost use Rattle.vlt_kinds_decls.specs.Decls.{types_refused};
 ghost use Rattle.vlt_kinds_decls.specs.Made.{core_types};
 ghost use Rattle.vlt_kinds_decls.specs.Known.{HasKnownSet};
 ghost use Rattle.vlt_kinds_heads.specs.Phase.{heads_refused, core_heads};
-ghost use Rattle.vlt_kinds_queries.specs.Types.{program_with};
-ghost use Rattle.vlt_kinds_queries.specs.Marks.{AreMarks};
+ghost use Rattle.vlt_kinds_decls.specs.Queries.Types.{program_with};
+ghost use Rattle.vlt_kinds_decls.specs.Queries.Marks.{AreMarks};
 ghost use Rattle.vlt_kinds.specs.Tables.{names_told, OnRefused};
 ghost use Rattle.vlt_kinds.specs.Seen.{kinds_seen};
 
@@ -23,11 +23,9 @@ use crate::kinds::Kinds;
 use std::alloc::Global;
 use vlt_base::Items;
 use vlt_core::{Func, TypeDecl};
-use vlt_kinds_decls::{check_types, core_types};
+use vlt_kinds_decls::{Declared, check_types, core_types};
 use vlt_kinds_heads::check_heads;
-use vlt_kinds_names::{Found, check_names};
-use vlt_kinds_queries::Declared;
-use vlt_kinds_types::{File, file_of};
+use vlt_kinds_types::{File, Found, check_names, file_of};
 use vlt_syntax::Decl;
 
 /// Nothing, unless something was refused.

@@ -4,11 +4,11 @@ use Rattle.std.specs.List.{position}
 use Rattle.std.specs.Str.{bytes_eq}
 use Rattle.vlt_syntax.specs.Tree as s
 use Rattle.vlt_syntax.specs.Tree.{Name, States, KeyStates, Ty, HeaderKey, Field, Case, Decl}
-use Rattle.vlt_kinds_names.specs.declared.found.Refusal.{Refusal}
+use Rattle.vlt_kinds_types.specs.declared.names.found.Refusal.{Refusal}
 use Rattle.vlt_core.specs.declared.rules.TheConstants as rule
-use Rattle.vlt_kinds_names.specs.Refusals.{refusal, refuse_if, of_each}
-use Rattle.vlt_kinds_names.specs.Along.{along}
-use Rattle.vlt_kinds_names.specs.Globals.{Globals}
+use Rattle.vlt_kinds_types.specs.Names.Refusals.{refusal, refuse_if, of_each}
+use Rattle.vlt_kinds_types.specs.Names.Along.{along}
+use Rattle.vlt_kinds_types.specs.Names.Globals.{Globals}
 use Rattle.vlt_kinds_types.specs.declared.shapes.Sort.{Sort}
 use Rattle.vlt_kinds_types.specs.declared.shapes.Sort.TheVariants as sort
 use Rattle.vlt_kinds_types.specs.declared.shapes.Wanted.{Wanted}

@@ -1,3 +1,4 @@
 pub mod Decls
 pub mod Made
 pub mod Known
+pub mod Queries

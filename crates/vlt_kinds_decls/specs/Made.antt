@@ -3,8 +3,8 @@ use Rattle.std.specs.Prelude.{ℕ, List, [], ◌∷◌, map, drop, Option, Some,
 use Rattle.vlt_syntax.specs.Tree as s
 use Rattle.vlt_syntax.specs.Tree.{Name, States, KeyStates, HeaderKey, Field, Case, Decl}
 use Rattle.vlt_core.specs.Core as core
-use Rattle.vlt_kinds_names.specs.Refusals.{of_each}
-use Rattle.vlt_kinds_names.specs.Globals.{Globals}
+use Rattle.vlt_kinds_types.specs.Names.Refusals.{of_each}
+use Rattle.vlt_kinds_types.specs.Names.Globals.{Globals}
 use Rattle.vlt_kinds_types.specs.declared.shapes.Wanted.{Wanted}
 use Rattle.vlt_kinds_types.specs.declared.shapes.Wanted.TheVariants as wanted
 use Rattle.vlt_kinds_types.specs.Files.{File, set_in, header_in, shape_named, shape_at, state_names}

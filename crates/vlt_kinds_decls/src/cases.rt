@@ -2,9 +2,9 @@
 
 ghost use Rattle.std.specs.Prelude.{◌≡◌, ◌<◌, ◌≤◌, ℕ, [], map, option_map, length, All, OnOk};
 ghost use Rattle.vlt_syntax.specs.View as view;
-ghost use Rattle.vlt_kinds_names.specs.Globals.{names_seen};
-ghost use Rattle.vlt_kinds_names.specs.Refusals.{least_from, found_each};
-ghost use Rattle.vlt_kinds_names.specs.Along.{found_along};
+ghost use Rattle.vlt_kinds_types.specs.Names.Globals.{names_seen};
+ghost use Rattle.vlt_kinds_types.specs.Names.Refusals.{least_from, found_each};
+ghost use Rattle.vlt_kinds_types.specs.Names.Along.{found_along};
 ghost use Rattle.vlt_kinds_types.specs.Seen.{file_seen};
 ghost use Rattle.vlt_kinds_decls.specs.Decls as d;
 ghost use Rattle.vlt_kinds_decls.specs.declared.parts.Part.TheVariants as part;
@@ -13,8 +13,7 @@ use crate::header::{check_header, check_typed, header_position, wanted_of};
 use crate::parts::Part;
 use std::alloc::{AllocError, Global as Heap};
 use vlt_base::Items;
-use vlt_kinds_names::{Found, rules};
-use vlt_kinds_types::{File, Wanted, add_listed};
+use vlt_kinds_types::{File, Found, Wanted, add_listed, rules};
 use vlt_syntax::{Case, HeaderKey, KeyStates, States, Ty};
 
 fn is_any(wanted: Option<Wanted>) -> bool
@@ -126,7 +125,7 @@ fn check_payload(
     Ok(())
 }
 
-#[tactic(auto, using(vlt_kinds_names::proofs::Least::least_of_both, vlt_kinds_names::proofs::Least::each_is, vlt_kinds_names::proofs::Along::along_is), unfolding(crate::specs::Decls::case_refused))]
+#[tactic(auto, using(vlt_kinds_types::proofs::OfNames::Least::least_of_both, vlt_kinds_types::proofs::OfNames::Least::each_is, vlt_kinds_types::proofs::OfNames::Along::along_is), unfolding(crate::specs::Decls::case_refused))]
 fn check_case(
     alloc: Heap,
     file: &File<'_>,
@@ -162,7 +161,7 @@ fn check_cases(
 }
 
 /// Refuses what is wrong in a variant.
-#[tactic(auto, using(vlt_kinds_names::proofs::Least::least_of_both, vlt_kinds_names::proofs::Least::each_is), unfolding(crate::specs::Decls::variant_refused))]
+#[tactic(auto, using(vlt_kinds_types::proofs::OfNames::Least::least_of_both, vlt_kinds_types::proofs::OfNames::Least::each_is), unfolding(crate::specs::Decls::variant_refused))]
 pub fn check_variant(
     alloc: Heap,
     file: &File<'_>,

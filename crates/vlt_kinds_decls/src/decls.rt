@@ -4,15 +4,14 @@ ghost use Rattle.std.specs.Prelude.{◌≡◌, map, option_map, OnOk};
 ghost use Rattle.vlt_syntax.specs.View as view;
 ghost use Rattle.vlt_syntax.specs.Lists.{Each};
 ghost use Rattle.vlt_syntax.specs.Grammar.{IsDecl, language};
-ghost use Rattle.vlt_kinds_names.specs.Refusals.{least_from, found_each};
+ghost use Rattle.vlt_kinds_types.specs.Names.Refusals.{least_from, found_each};
 ghost use Rattle.vlt_kinds_types.specs.Seen.{file_seen};
 ghost use Rattle.vlt_kinds_decls.specs.Decls as d;
 
 use crate::cases::check_variant;
 use crate::fields::check_struct;
 use std::alloc::{AllocError, Global as Heap};
-use vlt_kinds_names::Found;
-use vlt_kinds_types::File;
+use vlt_kinds_types::{File, Found};
 use vlt_syntax::Decl;
 
 fn check_decl(
@@ -67,7 +66,7 @@ fn check_decls(
 }
 
 /// Refuses what is wrong in the declared types of a file.
-#[tactic(auto, using(vlt_kinds_names::proofs::Least::each_is), unfolding(crate::specs::Decls::types_refused))]
+#[tactic(auto, using(vlt_kinds_types::proofs::OfNames::Least::each_is), unfolding(crate::specs::Decls::types_refused))]
 pub fn check_types(
     alloc: Heap,
     file: &File<'_>,

@@ -2,18 +2,17 @@
 
 ghost use Rattle.std.specs.Prelude.{◌≡◌, map, option_map, OnOk};
 ghost use Rattle.vlt_syntax.specs.View as view;
-ghost use Rattle.vlt_kinds_names.specs.Refusals.{least_from, found_each};
+ghost use Rattle.vlt_kinds_types.specs.Names.Refusals.{least_from, found_each};
 ghost use Rattle.vlt_kinds_types.specs.Seen.{file_seen, states_seen};
 ghost use Rattle.vlt_kinds_decls.specs.Decls as d;
 
 use crate::header::{check_header, check_typed};
 use crate::parts::Part;
 use std::alloc::{AllocError, Global as Heap};
-use vlt_kinds_names::Found;
-use vlt_kinds_types::{File, StateNames, check_states};
+use vlt_kinds_types::{File, Found, StateNames, check_states};
 use vlt_syntax::{Field, HeaderKey, Name, States};
 
-#[tactic(auto, using(vlt_kinds_names::proofs::Least::least_of_both), unfolding(crate::specs::Decls::field_refused))]
+#[tactic(auto, using(vlt_kinds_types::proofs::OfNames::Least::least_of_both), unfolding(crate::specs::Decls::field_refused))]
 fn check_field(
     alloc: Heap,
     file: &File<'_>,
@@ -50,7 +49,7 @@ fn check_fields(
 }
 
 /// Refuses what is wrong in a struct.
-#[tactic(auto, using(vlt_kinds_names::proofs::Least::least_of_both, vlt_kinds_names::proofs::Least::each_is), unfolding(crate::specs::Decls::struct_refused))]
+#[tactic(auto, using(vlt_kinds_types::proofs::OfNames::Least::least_of_both, vlt_kinds_types::proofs::OfNames::Least::each_is), unfolding(crate::specs::Decls::struct_refused))]
 pub fn check_struct(
     alloc: Heap,
     file: &File<'_>,

@@ -3,8 +3,8 @@
 ghost use Rattle.std.specs.Prelude.{◌≡◌, ◌<◌, ◌≤◌, ℕ, map, option_map, length, IfSome, OnOk};
 ghost use Rattle.std.specs.List.{position};
 ghost use Rattle.vlt_syntax.specs.View as view;
-ghost use Rattle.vlt_kinds_names.specs.Globals.{names_seen};
-ghost use Rattle.vlt_kinds_names.specs.Refusals.{least_from, found_each};
+ghost use Rattle.vlt_kinds_types.specs.Names.Globals.{names_seen};
+ghost use Rattle.vlt_kinds_types.specs.Names.Refusals.{least_from, found_each};
 ghost use Rattle.vlt_kinds_types.specs.Seen.{file_seen, use_seen};
 ghost use Rattle.vlt_kinds_types.specs.Types as t;
 ghost use Rattle.vlt_kinds_decls.specs.Decls as d;
@@ -12,8 +12,9 @@ ghost use Rattle.vlt_kinds_decls.specs.Decls as d;
 use crate::parts::Part;
 use std::alloc::{AllocError, Global as Heap};
 use vlt_base::Items;
-use vlt_kinds_names::{Found, Globals, rules};
-use vlt_kinds_types::{File, KeyUse, Sort, Wanted, sort_in, ty_place, wanted_in};
+use vlt_kinds_types::{
+    File, Found, Globals, KeyUse, Sort, Wanted, rules, sort_in, ty_place, wanted_in,
+};
 use vlt_syntax::{HeaderKey, Name, Ty};
 
 /// The position of a key in a header.
@@ -146,7 +147,7 @@ fn check_part(part: Part, ty: &Ty, sort: Option<Sort>, found: &mut Found)
 }
 
 /// Refuses what is wrong in a type that is a part of a declaration with this header.
-#[tactic(auto, using(vlt_kinds_names::proofs::Least::least_of_both, vlt_kinds_names::proofs::Least::each_is), unfolding(crate::specs::Decls::typed_refused))]
+#[tactic(auto, using(vlt_kinds_types::proofs::OfNames::Least::least_of_both, vlt_kinds_types::proofs::OfNames::Least::each_is), unfolding(crate::specs::Decls::typed_refused))]
 pub fn check_typed(
     alloc: Heap,
     file: &File<'_>,

@@ -9,7 +9,9 @@ mod fields;
 mod header;
 mod made;
 mod parts;
+mod queries;
 
 pub use decls::check_types;
 pub use made::core_types;
 pub use parts::Part;
+pub use queries::{Declared, is_marked, is_plain, lies_within};

@@ -6,7 +6,7 @@ ghost use Rattle.vlt_syntax.specs.Lists.{Each};
 ghost use Rattle.vlt_syntax.specs.Grammar.{IsDecl, language};
 ghost use Rattle.vlt_core.specs.View as core_view;
 ghost use Rattle.vlt_core.specs.Core as core;
-ghost use Rattle.vlt_kinds_names.specs.Globals.{names_seen};
+ghost use Rattle.vlt_kinds_types.specs.Names.Globals.{names_seen};
 ghost use Rattle.vlt_kinds_types.specs.Seen.{file_seen, states_seen};
 ghost use Rattle.vlt_kinds_types.specs.Types as t;
 ghost use Rattle.vlt_kinds_types.specs.Files as f;
@@ -18,8 +18,9 @@ use crate::header::{header_position, wanted_of};
 use std::alloc::{AllocError, Global as Heap};
 use vlt_base::{Items, SetId, StateSet, TypeId};
 use vlt_core::{CaseDecl, FieldDecl, Ty, TypeDecl};
-use vlt_kinds_names::Globals;
-use vlt_kinds_types::{File, KeyNumbers, StateNames, Wanted, set_in, states_listed, wanted_in};
+use vlt_kinds_types::{
+    File, Globals, KeyNumbers, StateNames, Wanted, set_in, states_listed, wanted_in,
+};
 use vlt_syntax::{self, Case, Decl, Field, HeaderKey, KeyStates, Name, States};
 
 /// The keys of a header, by their positions.

@@ -6,16 +6,16 @@ use Rattle.indexmap.specs.IndexMap.{insert_entry}
 use Rattle.vlt_syntax.specs.Tree as s
 use Rattle.vlt_syntax.specs.Tree.{Name, States, Entry, ResultType, Parameter, Head}
 use Rattle.vlt_core.specs.declared.rules.TheConstants as rule
-use Rattle.vlt_kinds_names.specs.declared.found.Refusal.{Refusal}
-use Rattle.vlt_kinds_names.specs.Refusals.{refusal, refuse_if, of_each, least_from}
-use Rattle.vlt_kinds_names.specs.Globals.{Globals, is_global}
+use Rattle.vlt_kinds_types.specs.declared.names.found.Refusal.{Refusal}
+use Rattle.vlt_kinds_types.specs.Names.Refusals.{refusal, refuse_if, of_each, least_from}
+use Rattle.vlt_kinds_types.specs.Names.Globals.{Globals, is_global}
 use Rattle.vlt_kinds_types.specs.declared.shapes.Wanted.{Wanted}
 use Rattle.vlt_kinds_types.specs.declared.shapes.Wanted.TheVariants as wanted
 use Rattle.vlt_kinds_types.specs.Files.{File, shape_at}
 use Rattle.vlt_kinds_types.specs.Types.{KeyUse, ty_refused, owned_states_refused}
 use Rattle.vlt_kinds_heads.specs.Places.{result_uses, parameter_uses, clause_in, entry_key, is_fresh, first_states, second_states, HeadName, head_names}
 use Rattle.vlt_kinds_heads.specs.Keys.{Keys, facts_of, behind_entry, behind_parameters, behind_result, behind_use, fresh_typed, places_behind, keys_behind}
-use Rattle.vlt_kinds_names.specs.Along.{along}
+use Rattle.vlt_kinds_types.specs.Names.Along.{along}
 use Rattle.vlt_kinds_heads.specs.declared.facts.Facts.{Facts}
 use Rattle.vlt_kinds_heads.specs.declared.facts.Typing.{Typing}
 

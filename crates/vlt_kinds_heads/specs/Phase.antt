@@ -7,8 +7,8 @@ use Rattle.vlt_syntax.specs.Tree as s
 use Rattle.vlt_syntax.specs.Tree.{States, Entry, ResultType, Parameter, Head, Decl}
 use Rattle.vlt_core.specs.Core as core
 use Rattle.vlt_core.specs.Core.{TypeDecl}
-use Rattle.vlt_kinds_names.specs.declared.found.Refusal.{Refusal}
-use Rattle.vlt_kinds_names.specs.Refusals.{of_each}
+use Rattle.vlt_kinds_types.specs.declared.names.found.Refusal.{Refusal}
+use Rattle.vlt_kinds_types.specs.Names.Refusals.{of_each}
 use Rattle.vlt_kinds_types.specs.Files.{File, shape_at, state_names}
 use Rattle.vlt_kinds_types.specs.Types.{core_ty, states_listed}
 use Rattle.vlt_kinds_heads.specs.Places.{clause_in, entry_key, first_states, second_states}

@@ -3,9 +3,9 @@
 ghost use Rattle.std.specs.Prelude.{◌≡◌, [], map, OnOk};
 ghost use Rattle.std.specs.Map.{lookup};
 ghost use Rattle.std.specs.Str.{bytes_eq};
-ghost use Rattle.vlt_kinds_names.specs.Globals.{names_seen};
-ghost use Rattle.vlt_kinds_names.specs.Refusals.{least_from};
-ghost use Rattle.vlt_kinds_names.specs.Along.{found_along};
+ghost use Rattle.vlt_kinds_types.specs.Names.Globals.{names_seen};
+ghost use Rattle.vlt_kinds_types.specs.Names.Refusals.{least_from};
+ghost use Rattle.vlt_kinds_types.specs.Names.Along.{found_along};
 ghost use Rattle.vlt_kinds_heads.specs.Heads as h;
 ghost use Rattle.vlt_kinds_heads.specs.Seen.{name_seen, table_seen};
 
@@ -13,7 +13,7 @@ use crate::names::HeadName;
 use indexmap::IndexMap;
 use std::alloc::{AllocError, Global as Heap};
 use vlt_core::rules;
-use vlt_kinds_names::{Found, Globals};
+use vlt_kinds_types::{Found, Globals};
 
 /// The names so far, each with whether it stands for keys alone.
 #[derive(Drop)]

@@ -2,7 +2,7 @@
 
 ghost use Rattle.std.specs.Prelude.{◌≡◌, ◌&&◌, not, Some, map, option_map, codes, OnOk};
 ghost use Rattle.vlt_syntax.specs.View as view;
-ghost use Rattle.vlt_kinds_names.specs.Refusals.{least_from, found_each};
+ghost use Rattle.vlt_kinds_types.specs.Names.Refusals.{least_from, found_each};
 ghost use Rattle.vlt_kinds_types.specs.Seen.{file_seen};
 ghost use Rattle.vlt_kinds_heads.specs.Places as p;
 ghost use Rattle.vlt_kinds_heads.specs.Heads as h;
@@ -13,8 +13,7 @@ use crate::keys::HeadKeys;
 use crate::places::{clause_in, entry_key, first_states, is_fresh, second_states};
 use std::alloc::{AllocError, Global as Heap};
 use vlt_core::rules;
-use vlt_kinds_names::Found;
-use vlt_kinds_types::File;
+use vlt_kinds_types::{File, Found};
 use vlt_syntax::{Entry, Head, Name, ResultType, States, Ty};
 
 /// The name of the function that a program begins with.
@@ -76,7 +75,7 @@ fn check_key_states(
     }
 }
 
-#[tactic(auto, using(vlt_kinds_names::proofs::Least::least_of_both), unfolding(crate::specs::Heads::entry_states_refused))]
+#[tactic(auto, using(vlt_kinds_types::proofs::OfNames::Least::least_of_both), unfolding(crate::specs::Heads::entry_states_refused))]
 fn check_entry_states(
     alloc: Heap,
     file: &File<'_>,
@@ -92,7 +91,7 @@ fn check_entry_states(
     Ok(())
 }
 
-#[tactic(auto, using(vlt_kinds_names::proofs::Least::least_of_both), unfolding(crate::specs::Heads::entry_refused))]
+#[tactic(auto, using(vlt_kinds_types::proofs::OfNames::Least::least_of_both), unfolding(crate::specs::Heads::entry_refused))]
 fn check_entry(
     alloc: Heap,
     file: &File<'_>,

@@ -7,8 +7,8 @@ ghost use Rattle.vlt_core.specs.View as core_view;
 ghost use Rattle.vlt_core.specs.Types as core_types;
 ghost use Rattle.vlt_core.specs.Lookups as l;
 ghost use Rattle.vlt_kinds_types.specs.Types as t;
-ghost use Rattle.vlt_kinds_names.specs.Along.{found_along};
-ghost use Rattle.vlt_kinds_names.specs.Refusals.{least_from, found_each};
+ghost use Rattle.vlt_kinds_types.specs.Names.Along.{found_along};
+ghost use Rattle.vlt_kinds_types.specs.Names.Refusals.{least_from, found_each};
 ghost use Rattle.vlt_kinds_types.specs.Seen.{file_seen};
 ghost use Rattle.vlt_kinds_heads.specs.Externals as e;
 ghost use Rattle.vlt_kinds_heads.specs.Seen.{keys_seen};
@@ -18,8 +18,7 @@ use crate::places::{clause_in, entry_key, is_fresh};
 use std::alloc::AllocError;
 use vlt_base::StateSet;
 use vlt_core::{CaseDecl, Ty, TypeDecl, rules};
-use vlt_kinds_names::Found;
-use vlt_kinds_types::{File, Shape, Sort, sort_in, ty_place};
+use vlt_kinds_types::{File, Found, Shape, Sort, sort_in, ty_place};
 use vlt_syntax::{Entry, Head, Name, Named, Parameter, ResultType};
 
 fn is_wrong_parameter(ty: &vlt_syntax::Ty, sort: Option<Sort>) -> bool
@@ -253,7 +252,7 @@ impl HeadKeys<'_> {
     }
 }
 
-#[tactic(auto, using(vlt_kinds_names::proofs::Along::along_is), unfolding(crate::specs::Externals::fitting_refused))]
+#[tactic(auto, using(vlt_kinds_types::proofs::OfNames::Along::along_is), unfolding(crate::specs::Externals::fitting_refused))]
 fn check_fitting(
     file: &File<'_>,
     types: &[TypeDecl],
@@ -316,7 +315,7 @@ fn check_result_arguments(
     }
 }
 
-#[tactic(auto, using(vlt_kinds_names::proofs::Least::least_of_both), unfolding(crate::specs::Externals::host_ty_refused))]
+#[tactic(auto, using(vlt_kinds_types::proofs::OfNames::Least::least_of_both), unfolding(crate::specs::Externals::host_ty_refused))]
 fn check_host_type(
     file: &File<'_>,
     types: &[TypeDecl],
@@ -352,7 +351,7 @@ fn check_host_result(
 }
 
 /// Refuses what no host gives or takes.
-#[tactic(auto, using(vlt_kinds_names::proofs::Least::least_of_both, vlt_kinds_names::proofs::Least::each_is), unfolding(crate::specs::Externals::external_refused))]
+#[tactic(auto, using(vlt_kinds_types::proofs::OfNames::Least::least_of_both, vlt_kinds_types::proofs::OfNames::Least::each_is), unfolding(crate::specs::Externals::external_refused))]
 pub fn check_external(
     file: &File<'_>,
     types: &[TypeDecl],

@@ -5,7 +5,7 @@ ghost use Rattle.vlt_syntax.specs.View as view;
 ghost use Rattle.vlt_syntax.specs.Lists.{Each};
 ghost use Rattle.vlt_syntax.specs.Grammar.{IsDecl, IsHead, language};
 ghost use Rattle.vlt_core.specs.View as core_view;
-ghost use Rattle.vlt_kinds_names.specs.Refusals.{least_from, found_each};
+ghost use Rattle.vlt_kinds_types.specs.Names.Refusals.{least_from, found_each};
 ghost use Rattle.vlt_kinds_types.specs.Seen.{file_seen, use_seen};
 ghost use Rattle.vlt_kinds_heads.specs.Places as p;
 ghost use Rattle.vlt_kinds_heads.specs.Keys as k;
@@ -22,8 +22,7 @@ use indexmap::IndexMap;
 use std::alloc::{AllocError, Global as Heap};
 use vlt_base::Items;
 use vlt_core::{Func, TypeDecl};
-use vlt_kinds_names::Found;
-use vlt_kinds_types::{File, KeyUse};
+use vlt_kinds_types::{File, Found, KeyUse};
 use vlt_syntax::{Decl, Entry, Head, Parameter, ResultType};
 
 fn check_result_type(
@@ -56,7 +55,7 @@ fn check_parameter_types(
     Ok(())
 }
 
-#[tactic(auto, using(vlt_kinds_names::proofs::Least::least_of_both, vlt_kinds_names::proofs::Least::each_is), unfolding(crate::specs::Heads::types_refused))]
+#[tactic(auto, using(vlt_kinds_types::proofs::OfNames::Least::least_of_both, vlt_kinds_types::proofs::OfNames::Least::each_is), unfolding(crate::specs::Heads::types_refused))]
 fn check_types(
     alloc: Heap,
     file: &File<'_>,
@@ -71,7 +70,7 @@ fn check_types(
     Ok(())
 }
 
-#[tactic(auto, using(vlt_kinds_names::proofs::Along::along_is))]
+#[tactic(auto, using(vlt_kinds_types::proofs::OfNames::Along::along_is))]
 fn check_head_names(
     alloc: Heap,
     file: &File<'_>,
@@ -88,7 +87,7 @@ fn check_head_names(
 }
 
 /// Where the keys of a head stand. A key that its clause names another time is refused.
-#[tactic(auto, using(vlt_kinds_names::proofs::Along::along_is), unfolding(crate::specs::Heads::clause_again, crate::specs::Keys::places_behind))]
+#[tactic(auto, using(vlt_kinds_types::proofs::OfNames::Along::along_is), unfolding(crate::specs::Heads::clause_again, crate::specs::Keys::places_behind))]
 fn note_places<'a>(
     alloc: Heap,
     results: &[KeyUse<'a>],
@@ -114,7 +113,7 @@ fn note_places<'a>(
 
 impl<'a> HeadKeys<'a> {
     /// Notes the types of the keys. Another type for one of them in a parameter is refused.
-    #[tactic(auto, using(vlt_kinds_names::proofs::Along::along_is), unfolding(crate::specs::Heads::typings_refused, crate::specs::Keys::typed_keys))]
+    #[tactic(auto, using(vlt_kinds_types::proofs::OfNames::Along::along_is), unfolding(crate::specs::Heads::typings_refused, crate::specs::Keys::typed_keys))]
     fn note_types(
         &mut self,
         results: &[KeyUse<'a>],
@@ -133,7 +132,7 @@ impl<'a> HeadKeys<'a> {
         Ok(())
     }
 
-    #[tactic(auto, using(vlt_kinds_names::proofs::Least::least_of_both, vlt_kinds_names::proofs::Least::each_is), unfolding(crate::specs::Heads::result_refused))]
+    #[tactic(auto, using(vlt_kinds_types::proofs::OfNames::Least::least_of_both, vlt_kinds_types::proofs::OfNames::Least::each_is), unfolding(crate::specs::Heads::result_refused))]
     fn check_result(&self, results: &[KeyUse<'_>], found: &mut Found) -> Result<(), AllocError>
         ensures { OnOk result (found.new.least ≡ least_from found.old.least
             (h.result_refused (keys_seen self.now) (map use_seen results.now))) }
@@ -145,7 +144,7 @@ impl<'a> HeadKeys<'a> {
 }
 
 /// The keys of a head. What is wrong in it is refused.
-#[tactic(auto, using(vlt_kinds_names::proofs::Least::least_of_both, vlt_kinds_names::proofs::Least::each_is), unfolding(crate::specs::Heads::head_refused_by, crate::specs::Keys::keys_behind))]
+#[tactic(auto, using(vlt_kinds_types::proofs::OfNames::Least::least_of_both, vlt_kinds_types::proofs::OfNames::Least::each_is), unfolding(crate::specs::Heads::head_refused_by, crate::specs::Keys::keys_behind))]
 fn check_head_by<'a>(
     alloc: Heap,
     file: &File<'_>,
@@ -194,7 +193,7 @@ fn check_head<'a>(
     )
 }
 
-#[tactic(auto, using(vlt_kinds_names::proofs::Least::least_of_both), unfolding(crate::specs::Phase::extern_refused))]
+#[tactic(auto, using(vlt_kinds_types::proofs::OfNames::Least::least_of_both), unfolding(crate::specs::Phase::extern_refused))]
 fn check_extern<'a>(
     alloc: Heap,
     file: &File<'_>,
@@ -282,7 +281,7 @@ fn add_heads(
 }
 
 /// The heads of a file with these declared types. What is wrong in them is refused.
-#[tactic(auto, using(vlt_kinds_names::proofs::Least::each_is), unfolding(crate::specs::Phase::heads_refused))]
+#[tactic(auto, using(vlt_kinds_types::proofs::OfNames::Least::each_is), unfolding(crate::specs::Phase::heads_refused))]
 pub fn check_heads(
     alloc: Heap,
     file: &File<'_>,

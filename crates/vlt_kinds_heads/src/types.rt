@@ -2,9 +2,9 @@
 
 ghost use Rattle.std.specs.Prelude.{◌≡◌, map, option_map, IfOk, OnOk};
 ghost use Rattle.vlt_syntax.specs.View as view;
-ghost use Rattle.vlt_kinds_names.specs.Refusals.{least_from, found_each};
+ghost use Rattle.vlt_kinds_types.specs.Names.Refusals.{least_from, found_each};
 ghost use Rattle.vlt_kinds_types.specs.Seen.{use_seen};
-ghost use Rattle.vlt_kinds_names.specs.Along.{found_along};
+ghost use Rattle.vlt_kinds_types.specs.Names.Along.{found_along};
 ghost use Rattle.vlt_kinds_heads.specs.Keys as k;
 ghost use Rattle.vlt_kinds_heads.specs.Heads as h;
 ghost use Rattle.vlt_kinds_heads.specs.Seen.{keys_seen};
@@ -14,8 +14,7 @@ use crate::keys::HeadKeys;
 use crate::places::entry_key;
 use std::alloc::AllocError;
 use vlt_core::rules;
-use vlt_kinds_names::Found;
-use vlt_kinds_types::{KeyUse, Wanted};
+use vlt_kinds_types::{Found, KeyUse, Wanted};
 use vlt_syntax::Entry;
 
 fn type_rule(is_tracked: bool) -> u8

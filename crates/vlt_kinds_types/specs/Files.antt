@@ -6,10 +6,10 @@ use Rattle.std.specs.Str.{bytes_eq}
 use Rattle.vlt_syntax.specs.Tree as s
 use Rattle.vlt_syntax.specs.Tree.{Name, Ty, HeaderKey, Case, Decl}
 use Rattle.vlt_core.specs.Core.{States, SetDecl}
-use Rattle.vlt_kinds_names.specs.Refusals.{of_each}
-use Rattle.vlt_kinds_names.specs.Globals.{Globals, global_in, globals_of}
-use Rattle.vlt_kinds_names.specs.declared.globals.Global.{Global}
-use Rattle.vlt_kinds_names.specs.declared.globals.Global.TheVariants.{ASet, AType}
+use Rattle.vlt_kinds_types.specs.Names.Refusals.{of_each}
+use Rattle.vlt_kinds_types.specs.Names.Globals.{Globals, global_in, globals_of}
+use Rattle.vlt_kinds_types.specs.declared.names.globals.Global.{Global}
+use Rattle.vlt_kinds_types.specs.declared.names.globals.Global.TheVariants.{ASet, AType}
 use Rattle.vlt_kinds_types.specs.declared.shapes.Sort.{Sort}
 use Rattle.vlt_kinds_types.specs.declared.shapes.Sort.TheVariants as sort
 use Rattle.vlt_kinds_types.specs.declared.shapes.Wanted.{Wanted}

@@ -2,3 +2,4 @@ pub mod Small
 pub mod Files
 pub mod Types
 pub mod Seen
+pub mod Names

@@ -2,7 +2,7 @@
 use Rattle.std.specs.Prelude.{ℕ, List, map, Option}
 use Rattle.std.specs.Option.{option_map}
 use Rattle.vlt_core.specs.View.{set_of}
-use Rattle.vlt_kinds_names.specs.Globals.{names_seen}
+use Rattle.vlt_kinds_types.specs.Names.Globals.{names_seen}
 use Rattle.vlt_kinds_types.specs.Files as s
 use Rattle.vlt_kinds_types.specs.Types as t
 use Rattle.vlt_kinds_types.specs.declared.file.File.{File}

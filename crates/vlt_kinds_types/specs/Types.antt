@@ -5,9 +5,9 @@ use Rattle.vlt_syntax.specs.Tree as s
 use Rattle.vlt_syntax.specs.Tree.{Name, Named, Ty}
 use Rattle.vlt_core.specs.Core as core
 use Rattle.vlt_core.specs.Core.{States}
-use Rattle.vlt_kinds_names.specs.declared.found.Refusal.{Refusal}
+use Rattle.vlt_kinds_types.specs.declared.names.found.Refusal.{Refusal}
 use Rattle.vlt_core.specs.declared.rules.TheConstants as rule
-use Rattle.vlt_kinds_names.specs.Refusals.{refusal, refuse_if, of_each}
+use Rattle.vlt_kinds_types.specs.Names.Refusals.{refusal, refuse_if, of_each}
 use Rattle.vlt_kinds_types.specs.declared.shapes.Sort.{Sort}
 use Rattle.vlt_kinds_types.specs.declared.shapes.Sort.TheVariants as sort
 use Rattle.vlt_kinds_types.specs.declared.shapes.Wanted.{Wanted}

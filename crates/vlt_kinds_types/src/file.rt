@@ -2,10 +2,10 @@
 
 ghost use Rattle.vlt_kinds_types.specs.Small.{AreSmallSets};
 
+use crate::names::Globals;
 use crate::shapes::Shape;
 use vlt_base::Items;
 use vlt_core::SetDecl;
-use vlt_kinds_names::Globals;
 
 /// The names of a file, its state sets, and the shapes of its types, numbered in the order of their declarations.
 #[derive(Drop)]

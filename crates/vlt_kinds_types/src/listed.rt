@@ -3,17 +3,17 @@
 ghost use Rattle.std.specs.Prelude.{◌≡◌, ◌<◌, ◌≤◌, ℕ, length, [], ◌∷◌, Some, map, option_map, All, IfSome, IfOk, OnOk};
 ghost use Rattle.vlt_base.specs.States.{has_state};
 ghost use Rattle.vlt_syntax.specs.View as view;
-ghost use Rattle.vlt_kinds_names.specs.Refusals.{least_from};
+ghost use Rattle.vlt_kinds_types.specs.Names.Refusals.{least_from};
 ghost use Rattle.vlt_kinds_types.specs.Files as f;
 ghost use Rattle.vlt_kinds_types.specs.Types as t;
 ghost use Rattle.vlt_kinds_types.specs.Seen.{file_seen, states_seen};
 
 use crate::file::File;
+use crate::names::{Found, rules};
 use crate::shapes::Shape;
 use crate::states::StateNames;
 use std::alloc::{AllocError, Global as Heap};
 use vlt_base::{Items, StateSet};
-use vlt_kinds_names::{Found, rules};
 use vlt_syntax::{Name, States};
 
 impl File<'_> {

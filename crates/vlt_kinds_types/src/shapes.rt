@@ -3,13 +3,13 @@
 ghost use Rattle.std.specs.Prelude.{◌≡◌, ◌++◌, map, option_map, IfOk, OnOk};
 ghost use Rattle.std.specs.List.{list_any};
 ghost use Rattle.vlt_syntax.specs.View as view;
-ghost use Rattle.vlt_kinds_names.specs.Globals.{names_seen};
-ghost use Rattle.vlt_kinds_names.specs.Refusals.{of_each};
+ghost use Rattle.vlt_kinds_types.specs.Names.Globals.{names_seen};
+ghost use Rattle.vlt_kinds_types.specs.Names.Refusals.{of_each};
 ghost use Rattle.vlt_kinds_types.specs.Files as f;
 
+use crate::names::{Global, Globals};
 use std::alloc::{AllocError, Global as Heap};
 use vlt_base::Items;
-use vlt_kinds_names::{Global, Globals};
 use vlt_syntax::{Case, Decl, HeaderKey, Name, Ty};
 
 /// Of which sort a declared type is.

@@ -5,18 +5,18 @@ ghost use Rattle.vlt_syntax.specs.View as view;
 ghost use Rattle.vlt_syntax.specs.Lists.{Each};
 ghost use Rattle.vlt_syntax.specs.Grammar.{IsDecl, language};
 ghost use Rattle.vlt_core.specs.View as core_view;
-ghost use Rattle.vlt_kinds_names.specs.Globals.{names_seen, globals_of};
-ghost use Rattle.vlt_kinds_names.specs.Refusals.{of_each};
+ghost use Rattle.vlt_kinds_types.specs.Names.Globals.{names_seen, globals_of};
+ghost use Rattle.vlt_kinds_types.specs.Names.Refusals.{of_each};
 ghost use Rattle.vlt_kinds_types.specs.Files as f;
 ghost use Rattle.vlt_kinds_types.specs.Seen.{file_seen};
 ghost use Rattle.vlt_kinds_types.specs.Small.{AreSmallSets, IsSmallSet};
 
 use crate::file::File;
+use crate::names::Globals;
 use crate::shapes::{self, Shape};
 use std::alloc::{AllocError, Global as Heap};
 use vlt_base::Items;
 use vlt_core::SetDecl;
-use vlt_kinds_names::Globals;
 use vlt_syntax::{Decl, Name};
 
 impl File<'_> {

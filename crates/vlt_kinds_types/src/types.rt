@@ -2,16 +2,16 @@
 
 ghost use Rattle.std.specs.Prelude.{◌≡◌, Some, map, option_map, length, OnOk};
 ghost use Rattle.vlt_syntax.specs.View as view;
-ghost use Rattle.vlt_kinds_names.specs.Refusals.{least_from};
+ghost use Rattle.vlt_kinds_types.specs.Names.Refusals.{least_from};
 ghost use Rattle.vlt_kinds_types.specs.Types as t;
 ghost use Rattle.vlt_kinds_types.specs.Files as f;
 ghost use Rattle.vlt_kinds_types.specs.Seen.{file_seen};
 
 use crate::file::File;
 use crate::listed;
+use crate::names::{Found, rules};
 use crate::shapes::{Shape, Sort};
 use std::alloc::{AllocError, Global as Heap};
-use vlt_kinds_names::{Found, rules};
 use vlt_syntax::{Named, States, Ty};
 
 impl Sort {
@@ -83,7 +83,7 @@ pub fn ty_place(ty: &Ty) -> u32
     }
 }
 
-#[tactic(auto, using(vlt_kinds_names::proofs::Least::least_of_both), unfolding(crate::specs::Types::form_refused))]
+#[tactic(auto, using(crate::proofs::OfNames::Least::least_of_both), unfolding(crate::specs::Types::form_refused))]
 fn check_form(ty: &Ty, sort: Option<Sort>, at: u32, found: &mut Found)
     ensures { found.new.least ≡ least_from found.old.least
         (t.form_refused (view.ty_of ty.now) sort at) }
@@ -114,7 +114,7 @@ fn has_states(sort: Option<Sort>) -> bool
     matches!(sort, Some(Sort::Abstract) | Some(Sort::Struct))
 }
 
-#[tactic(auto, using(vlt_kinds_names::proofs::Least::least_of_both), unfolding(crate::specs::Types::named_refused))]
+#[tactic(auto, using(crate::proofs::OfNames::Least::least_of_both), unfolding(crate::specs::Types::named_refused))]
 fn check_named(shape: Option<&Shape>, ty: &Ty, named: &Named, found: &mut Found)
     ensures { found.new.least ≡ least_from found.old.least
         (t.named_refused (option_map (λ s. s.now) shape.entry) (view.ty_of ty.now)
@@ -180,7 +180,7 @@ impl File<'_> {
         Ok(())
     }
 
-    #[tactic(auto, using(vlt_kinds_names::proofs::Least::least_of_both), unfolding(crate::specs::Types::owned_refused))]
+    #[tactic(auto, using(crate::proofs::OfNames::Least::least_of_both), unfolding(crate::specs::Types::owned_refused))]
     fn check_owned(
         &self,
         alloc: Heap,

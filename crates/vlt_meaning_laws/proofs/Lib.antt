@@ -8,3 +8,4 @@ pub mod Equations
 pub mod Instanced
 pub mod Done
 pub mod BadAnswers
+pub mod OfMachine

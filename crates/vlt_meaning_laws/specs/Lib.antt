@@ -3,3 +3,4 @@ pub mod Ends
 pub mod Laws
 pub mod Done
 pub mod BadAnswers
+pub mod Machine

@@ -7,6 +7,10 @@ ghost use Rattle.vlt_meaning_laws.specs.BadAnswers.{IsBadUnlessKept, IsGoodWhere
 ghost use Rattle.vlt_meaning_laws.specs.Done.{DoneIsMainsEnd, DoneIsClean};
 ghost use Rattle.vlt_meaning_laws.specs.Laws.{IsBoundless, GoesOn, TurnsAgain, IsRun, OnlyAdds, EndsStop};
 
+mod machine;
+
+pub use machine::{machine_is_the_run, stack_suffices};
+
 /// The bound that a run's definition counts down doesn't matter.
 pub fn runs_need_no_bound()
     ensures statements { IsBoundless }

@@ -9,6 +9,7 @@ ghost use Rattle.vlt_numbers.specs.Text.{answers_of, input_numbers};
 
 pub use answers::Answers;
 pub use error::NumbersError;
+pub use given::{Given, GivenError, read_given};
 pub use line::cut;
 use line::push_numbers;
 use std::alloc::Global;
@@ -16,6 +17,7 @@ pub use word::number;
 
 mod answers;
 mod error;
+mod given;
 mod line;
 mod word;
 

@@ -1,7 +1,7 @@
 -- One function more.
 use Rattle.std.proofs.Common.{◌≡◌, ◌<◌, ◌+◌, ◌∙◌, ℕ, true, if◌then◌else◌, List, [], ◌∷◌, ◌++◌, map, length, drop, get_or, Result, Ok, Err, refl, append_assoc, sym, ap, subst}
 use Rattle.std.proofs.lemmas.List.{drop_more, map-append, length-append}
-use Rattle.vlt_kinds_names.specs.declared.found.Refusal.{Refusal}
+use Rattle.vlt_kinds_types.specs.declared.names.found.Refusal.{Refusal}
 use Rattle.vlt_syntax.specs.Tree.{Decl}
 use Rattle.vlt_syntax.specs.declared.tree.Decl as code
 use Rattle.vlt_syntax.specs.View.{decl_of}
@@ -9,7 +9,7 @@ use Rattle.vlt_core.specs.Core.{Func}
 use Rattle.vlt_core.specs.declared.program.Func as made
 use Rattle.vlt_core.specs.View.{func_of}
 use Rattle.vlt_kinds.specs.Kinds.{Kinds}
-use Rattle.vlt_resolve_walk.specs.Walk.{then_do}
+use Rattle.vlt_resolve.specs.Walk.Walk.{then_do}
 use Rattle.vlt_resolve.specs.Elaboration.{walk_decls, walk_function, is_function}
 
 -- what was made before, and then these

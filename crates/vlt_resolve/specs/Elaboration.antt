@@ -10,14 +10,14 @@ use Rattle.vlt_core.specs.Core.{a_key, a_var, KeyDecl, VarDecl, Entry, Func, Pro
 use Rattle.vlt_core.specs.Lookups.{is_new}
 use Rattle.vlt_core.specs.View.{stmts_made}
 use Rattle.vlt_core.specs.declared.rules.TheConstants as rule
-use Rattle.vlt_kinds_names.specs.declared.found.Refusal.{Refusal}
-use Rattle.vlt_kinds_names.specs.Refusals.{refuse_if, least}
+use Rattle.vlt_kinds_types.specs.declared.names.found.Refusal.{Refusal}
+use Rattle.vlt_kinds_types.specs.Names.Refusals.{refuse_if, least}
 use Rattle.vlt_kinds.specs.Kinds.{Kinds}
 use Rattle.vlt_resolve_exprs.specs.declared.limits.TheConstants.{TOO_MANY_VARIABLES, TOO_MANY_KEYS}
 use Rattle.vlt_resolve_exprs.specs.Scopes.{Scope, with_name}
 use Rattle.vlt_resolve_stmts.specs.Around.{Around}
-use Rattle.vlt_resolve_walk.specs.Blocks.{block_ends, closing}
-use Rattle.vlt_resolve_walk.specs.Walk.{then_do, unless_refused, walk_stmts}
+use Rattle.vlt_resolve.specs.Walk.Blocks.{block_ends, closing}
+use Rattle.vlt_resolve.specs.Walk.Walk.{then_do, unless_refused, walk_stmts}
 
 -- ---- the scope that a body begins with
 

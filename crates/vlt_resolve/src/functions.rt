@@ -3,24 +3,24 @@
 ghost use Rattle.std.specs.Prelude.{◌≡◌, [], ◌∷◌, ◌++◌, map, true, Some, None, Ok, Err, IfOk, OnOk, position};
 ghost use Rattle.vlt_syntax.specs.View as tree;
 ghost use Rattle.vlt_core.specs.View.{func_of, key_of, var_of, entry_of, stmt_of};
-ghost use Rattle.vlt_kinds_names.specs.Refusals.{least_from, least};
+ghost use Rattle.vlt_kinds_types.specs.Names.Refusals.{least_from, least};
 ghost use Rattle.vlt_kinds.specs.Seen.{kinds_seen};
 ghost use Rattle.vlt_resolve_exprs.specs.Seen.{scope_seen};
 ghost use Rattle.vlt_resolve.specs.Elaboration as e;
-ghost use Rattle.vlt_resolve_walk.specs.Refusals.{OnRefused};
+ghost use Rattle.vlt_resolve.specs.Walk.Refusals.{OnRefused};
 
+use crate::copies::{copy_func, copy_keys, copy_vars, func_of_head};
+use crate::walk::{Stop, block_ends, closing, passed, walk_stmts};
 use indexmap::IndexMap;
 use std::alloc::{AllocError, Global as Heap};
 use vlt_base::{FnId, Items, KeyId, VarId};
 use vlt_core::rules::NO_END;
 use vlt_core::{Entry, Form, Func, KeyDecl, Mode, Tok, VarDecl};
 use vlt_kinds::Kinds;
-use vlt_kinds_names::Found;
-use vlt_resolve_copies::{copy_func, copy_keys, copy_vars, func_of_head};
+use vlt_kinds_types::Found;
 use vlt_resolve_exprs::Scope;
 use vlt_resolve_exprs::limits::{TOO_MANY_KEYS, TOO_MANY_VARIABLES};
 use vlt_resolve_stmts::Around;
-use vlt_resolve_walk::{Stop, block_ends, closing, passed, walk_stmts};
 use vlt_syntax::{Block, Decl};
 
 // ---- the scope that a body begins with
@@ -93,7 +93,7 @@ fn body_scope<'k>(alloc: Heap, head: &'k Func) -> Result<Scope<'k>, AllocError>
 
 // ---- functions
 
-#[tactic(auto, using(vlt_kinds_names::proofs::Least::least_of_both), unfolding(crate::specs::Elaboration::head_refused))]
+#[tactic(auto, using(vlt_kinds_types::proofs::OfNames::Least::least_of_both), unfolding(crate::specs::Elaboration::head_refused))]
 fn check_head(head: &Func, at: u32, found: &mut Found)
     ensures { found.new.least ≡ least_from found.old.least
         (e.head_refused (func_of head.now) at) }

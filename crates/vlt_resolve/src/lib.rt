@@ -9,20 +9,23 @@ ghost use Rattle.vlt_core.specs.View.{program_of};
 ghost use Rattle.vlt_kinds.specs.Seen.{kinds_seen};
 ghost use Rattle.vlt_resolve.specs.Elaboration.{elaborated, told_of, walk_tree};
 ghost use Rattle.vlt_resolve.specs.Refusals.{OnTold, error_seen};
-ghost use Rattle.vlt_resolve_walk.specs.Refusals.{OnRefused};
+ghost use Rattle.vlt_resolve.specs.Walk.Refusals.{OnRefused};
 
+mod copies;
 mod error;
 mod functions;
+mod switches;
+mod walk;
 
+use crate::copies::{copy_decls, copy_sets};
+use crate::walk::Stop;
 pub use error::ElabError;
 use std::alloc::Global as Heap;
 use vlt_base::{KEYS, VARIABLES};
 use vlt_core::Program;
 use vlt_kinds::Kinds;
-use vlt_kinds_names::Refusal;
-use vlt_resolve_copies::{copy_decls, copy_sets};
+use vlt_kinds_types::Refusal;
 use vlt_resolve_exprs::limits::{TOO_MANY_KEYS, TOO_MANY_VARIABLES};
-use vlt_resolve_walk::Stop;
 use vlt_syntax::Tree;
 
 fn program(alloc: Heap, tree: &Tree, kinds: &Kinds<'_>) -> Result<Program, Stop>

@@ -8,8 +8,8 @@ use Rattle.vlt_syntax.specs.Tree.{Name}
 use Rattle.vlt_core.specs.Core.{Ty, variant, owning_variant, CaseDecl, Form, simple, build}
 use Rattle.vlt_core.specs.Lookups.{cases_in, VariantOf, variant_in}
 use Rattle.vlt_core.specs.declared.rules.TheConstants.{WRONG_TYPE, WRONG_COUNT}
-use Rattle.vlt_kinds_names.specs.declared.found.Refusal.{Refusal}
-use Rattle.vlt_kinds_names.specs.Refusals.{refusal}
+use Rattle.vlt_kinds_types.specs.declared.names.found.Refusal.{Refusal}
+use Rattle.vlt_kinds_types.specs.Names.Refusals.{refusal}
 use Rattle.vlt_kinds.specs.Kinds.{Kinds}
 use Rattle.vlt_resolve_exprs.specs.Types.{then_with, ty_under}
 use Rattle.vlt_resolve_exprs.specs.Scopes.{Scope}

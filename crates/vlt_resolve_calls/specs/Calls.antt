@@ -9,8 +9,8 @@ use Rattle.vlt_core.specs.Core.{Ty, int, bool, tracked, owning, guarded, variant
 use Rattle.vlt_core.specs.Lookups.{is_new, owns}
 use Rattle.vlt_core.specs.Types.{same_states, args_of, keys_of_ty}
 use Rattle.vlt_core.specs.declared.rules.TheConstants as rule
-use Rattle.vlt_kinds_names.specs.declared.found.Refusal.{Refusal}
-use Rattle.vlt_kinds_names.specs.Refusals.{refusal, refuse_if, least_from}
+use Rattle.vlt_kinds_types.specs.declared.names.found.Refusal.{Refusal}
+use Rattle.vlt_kinds_types.specs.Names.Refusals.{refusal, refuse_if, least_from}
 use Rattle.vlt_kinds.specs.Kinds.{Kinds, head_named, function_named}
 use Rattle.vlt_resolve_exprs.specs.Types.{is_inside}
 use Rattle.vlt_resolve_exprs.specs.Scopes.{Scope}

@@ -5,8 +5,8 @@ use Rattle.vlt_core.specs.Core as core
 use Rattle.vlt_core.specs.Core.{Ty, Form, simple, Simple, set, own, unpack}
 use Rattle.vlt_core.specs.Lookups.{is_owning}
 use Rattle.vlt_core.specs.declared.rules.TheConstants.{WRONG_TYPE}
-use Rattle.vlt_kinds_names.specs.declared.found.Refusal.{Refusal}
-use Rattle.vlt_kinds_names.specs.Refusals.{refuse_if}
+use Rattle.vlt_kinds_types.specs.declared.names.found.Refusal.{Refusal}
+use Rattle.vlt_kinds_types.specs.Names.Refusals.{refuse_if}
 use Rattle.vlt_kinds.specs.Kinds.{Kinds}
 use Rattle.vlt_resolve_exprs.specs.Types.{takes, unpacks}
 use Rattle.vlt_resolve_exprs.specs.Scopes.{Scope}

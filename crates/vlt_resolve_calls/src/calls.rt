@@ -7,7 +7,7 @@ ghost use Rattle.vlt_core.specs.Core as core;
 ghost use Rattle.vlt_core.specs.Lookups.{owns};
 ghost use Rattle.vlt_core.specs.Types as types;
 ghost use Rattle.vlt_core.specs.View.{ty_of, entry_of, func_of, form_of, var_of};
-ghost use Rattle.vlt_kinds_names.specs.Refusals.{least_from, refusal, refuse_if};
+ghost use Rattle.vlt_kinds_types.specs.Names.Refusals.{least_from, refusal, refuse_if};
 ghost use Rattle.vlt_kinds.specs.Seen.{kinds_seen};
 ghost use Rattle.vlt_resolve_exprs.specs.Exprs.{number_of};
 ghost use Rattle.vlt_resolve_exprs.specs.Seen.{scope_seen};
@@ -25,7 +25,7 @@ use vlt_base::{FnId, Items, KeyId, VarId};
 use vlt_core::rules::{DROPPED_RESULT, UNKNOWN_NAME, WRONG_COUNT, WRONG_TYPE};
 use vlt_core::{Entry, Form, Func, Mode, Ty};
 use vlt_kinds::Kinds;
-use vlt_kinds_names::Found;
+use vlt_kinds_types::Found;
 use vlt_resolve_exprs::{Scope, check_any, copy_ty, core_operands, is_owning, place, type_of};
 use vlt_syntax::{Call, Expr};
 
@@ -51,7 +51,7 @@ fn check_argument_fit(wanted: &Ty, given: &Option<Ty>, at: u32, found: &mut Foun
     }
 }
 
-#[tactic(auto, using(vlt_kinds_names::proofs::Least::least_of_both), unfolding(crate::specs::Calls::argument_refused))]
+#[tactic(auto, using(vlt_kinds_types::proofs::OfNames::Least::least_of_both), unfolding(crate::specs::Calls::argument_refused))]
 fn check_argument(
     alloc: Heap,
     kinds: &Kinds<'_>,
@@ -208,7 +208,7 @@ fn check_use(
     Ok(())
 }
 
-#[tactic(auto, using(vlt_kinds_names::proofs::Least::least_of_both))]
+#[tactic(auto, using(vlt_kinds_types::proofs::OfNames::Least::least_of_both))]
 fn check_given_count(
     alloc: Heap,
     head: &Func,
@@ -259,7 +259,7 @@ fn param_types(alloc: Heap, head: &Func) -> Result<Items<Ty>, AllocError>
     Ok(types)
 }
 
-#[tactic(auto, using(vlt_kinds_names::proofs::Least::least_of_both), unfolding(crate::specs::Calls::paired_refused))]
+#[tactic(auto, using(vlt_kinds_types::proofs::OfNames::Least::least_of_both), unfolding(crate::specs::Calls::paired_refused))]
 fn check_paired(
     alloc: Heap,
     head: &Func,
@@ -276,7 +276,7 @@ fn check_paired(
     Ok(())
 }
 
-#[tactic(auto, using(vlt_kinds_names::proofs::Least::least_of_both), unfolding(crate::specs::Calls::full_call_refused))]
+#[tactic(auto, using(vlt_kinds_types::proofs::OfNames::Least::least_of_both), unfolding(crate::specs::Calls::full_call_refused))]
 fn check_full_call(
     alloc: Heap,
     kinds: &Kinds<'_>,

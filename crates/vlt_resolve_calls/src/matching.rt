@@ -5,7 +5,7 @@ ghost use Rattle.std.specs.List.{list_any, list_all};
 ghost use Rattle.vlt_base.specs.States.{has_state};
 ghost use Rattle.vlt_syntax.specs.View as tree;
 ghost use Rattle.vlt_core.specs.View.{ty_of, keys_of, key_of, entry_of};
-ghost use Rattle.vlt_kinds_names.specs.Refusals.{least_from};
+ghost use Rattle.vlt_kinds_types.specs.Names.Refusals.{least_from};
 ghost use Rattle.vlt_kinds.specs.Seen.{kinds_seen};
 ghost use Rattle.vlt_resolve_exprs.specs.Exprs.{type_of as type_of_expr};
 ghost use Rattle.vlt_resolve_exprs.specs.Seen.{scope_seen};
@@ -18,7 +18,7 @@ use vlt_base::{Items, KeyId, StateSet, TypeId};
 use vlt_core::rules::{CLAUSE_KEYS_MEET, TWO_CALLER_KEYS};
 use vlt_core::{Entry, KeyDecl, Ty};
 use vlt_kinds::Kinds;
-use vlt_kinds_names::Found;
+use vlt_kinds_types::Found;
 use vlt_resolve_exprs::{Scope, lies_within, type_of};
 use vlt_syntax::Expr;
 
@@ -283,7 +283,7 @@ fn clause_keys(alloc: Heap, pairs: &[Pair], clause: &[Entry]) -> Result<Items<u3
 }
 
 /// What is refused at the callee's name, of the keys that stand for its own.
-#[tactic(auto, using(vlt_kinds_names::proofs::Least::least_of_both), unfolding(crate::specs::Calls::matching_refused))]
+#[tactic(auto, using(vlt_kinds_types::proofs::OfNames::Least::least_of_both), unfolding(crate::specs::Calls::matching_refused))]
 pub fn check_matching(
     alloc: Heap,
     pairs: &[Pair],

@@ -4,7 +4,7 @@ ghost use Rattle.std.specs.Prelude.{◌≡◌, option_map, IfOk, OnOk};
 ghost use Rattle.vlt_syntax.specs.View as tree;
 ghost use Rattle.vlt_core.specs.Core as core;
 ghost use Rattle.vlt_core.specs.View.{ty_of, expr_of, form_of};
-ghost use Rattle.vlt_kinds_names.specs.Refusals.{least_from};
+ghost use Rattle.vlt_kinds_types.specs.Names.Refusals.{least_from};
 ghost use Rattle.vlt_kinds.specs.Seen.{kinds_seen};
 ghost use Rattle.vlt_resolve_exprs.specs.Seen.{scope_seen};
 ghost use Rattle.vlt_resolve_calls.specs.Targets as t;
@@ -15,7 +15,7 @@ use vlt_base::VarId;
 use vlt_core::rules::WRONG_TYPE;
 use vlt_core::{self, Form, Ty};
 use vlt_kinds::Kinds;
-use vlt_kinds_names::Found;
+use vlt_kinds_types::Found;
 use vlt_resolve_exprs::{
     Scope, check_any, core_expr, is_owning, operand_for, place, takes, type_of, unpacks,
     variable_in,
@@ -52,7 +52,7 @@ impl Target {
         }
     }
 
-    #[tactic(auto, using(vlt_kinds_names::proofs::Least::least_of_both), unfolding(crate::specs::Targets::value_refused))]
+    #[tactic(auto, using(vlt_kinds_types::proofs::OfNames::Least::least_of_both), unfolding(crate::specs::Targets::value_refused))]
     pub fn check_value(
         &self,
         alloc: Heap,

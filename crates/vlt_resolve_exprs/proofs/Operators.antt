@@ -2,8 +2,8 @@
 use Rattle.std.proofs.Common.{◌≡◌, List, [], ◌∷◌, ◌++◌, Option, Some, refl, ap, ◌∙◌}
 use Rattle.vlt_ops.specs.Operator.{row_of}
 use Rattle.vlt_syntax.specs.Tree as s
-use Rattle.vlt_kinds_names.specs.declared.found.Refusal.{Refusal}
-use Rattle.vlt_kinds_names.specs.Refusals.{least_from}
+use Rattle.vlt_kinds_types.specs.declared.names.found.Refusal.{Refusal}
+use Rattle.vlt_kinds_types.specs.Names.Refusals.{least_from}
 use Rattle.vlt_kinds.specs.Kinds.{Kinds}
 use Rattle.vlt_resolve_exprs.specs.Scopes.{Scope, with_var}
 use Rattle.vlt_resolve_exprs.specs.Exprs.{type_given, type_of, expr_place, unfit, operand_wanted, left_refused, unary_refused, binary_refused, expr_refused}
@@ -11,7 +11,7 @@ use Rattle.vlt_core.specs.Core.{Ty}
 use Rattle.vlt_resolve_exprs.specs.Operands.{operand_refused, operands_refused}
 use Rattle.vlt_resolve_exprs.specs.Bindings.{new_var_refused, new_vars_refused}
 use Rattle.vlt_resolve_exprs.specs.Least.{found_in, operands_found, new_vars_found}
-use Rattle.vlt_kinds_names.proofs.Least.{least_of_both}
+use Rattle.vlt_kinds_types.proofs.OfNames.Least.{least_of_both}
 
 pub found_is : (k : Kinds) (x : Scope) (e : s.Expr) (f : Option Refusal) → least_from f (expr_refused k x e) ≡ found_in k x e f
 unfolding unary_refused binary_refused

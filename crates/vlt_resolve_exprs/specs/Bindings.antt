@@ -2,9 +2,9 @@
 use Rattle.std.specs.Prelude.{ℕ, ◌+◌, ◌==◌, nat_lt, if◌then◌else◌, List, [], ◌∷◌, ◌++◌, length}
 use Rattle.vlt_syntax.specs.Tree.{Name}
 use Rattle.vlt_core.specs.Core.{Ty}
-use Rattle.vlt_kinds_names.specs.declared.found.Refusal.{Refusal}
+use Rattle.vlt_kinds_types.specs.declared.names.found.Refusal.{Refusal}
 use Rattle.vlt_core.specs.declared.rules.TheConstants.{NAME_TAKEN, WRONG_COUNT}
-use Rattle.vlt_kinds_names.specs.Refusals.{refusal, refuse_if}
+use Rattle.vlt_kinds_types.specs.Names.Refusals.{refusal, refuse_if}
 use Rattle.vlt_resolve_exprs.specs.declared.limits.TheConstants.{TOO_MANY_VARIABLES, TOO_MANY_KEYS}
 use Rattle.vlt_kinds.specs.Kinds.{Kinds}
 use Rattle.vlt_resolve_exprs.specs.Scopes.{Scope, is_taken, with_var}

@@ -3,9 +3,9 @@ use Rattle.std.specs.Prelude.{ℕ, not, List, [], ◌∷◌, ◌++◌, Option, S
 use Rattle.vlt_syntax.specs.Tree as s
 use Rattle.vlt_core.specs.Core as core
 use Rattle.vlt_core.specs.Core.{States, Ty, tracked, owning, owning_variant, Expr, Operand, pure, move, pack}
-use Rattle.vlt_kinds_names.specs.declared.found.Refusal.{Refusal}
+use Rattle.vlt_kinds_types.specs.declared.names.found.Refusal.{Refusal}
 use Rattle.vlt_core.specs.declared.rules.TheConstants.{WRONG_TYPE}
-use Rattle.vlt_kinds_names.specs.Refusals.{refuse_if}
+use Rattle.vlt_kinds_types.specs.Names.Refusals.{refuse_if}
 use Rattle.vlt_kinds.specs.Kinds.{Kinds}
 use Rattle.vlt_resolve_exprs.specs.Types.{takes}
 use Rattle.vlt_resolve_exprs.specs.Scopes.{Scope}

@@ -1,8 +1,8 @@
 -- Each rule on bodies: what it refuses, by a name.
 use Rattle.std.specs.Prelude.{List, [], ◌∷◌, Option, Some, None}
 use Rattle.vlt_syntax.specs.Tree.{Name}
-use Rattle.vlt_kinds_names.specs.declared.found.Refusal.{Refusal}
-use Rattle.vlt_kinds_names.specs.Refusals.{refusal}
+use Rattle.vlt_kinds_types.specs.declared.names.found.Refusal.{Refusal}
+use Rattle.vlt_kinds_types.specs.Names.Refusals.{refusal}
 use Rattle.vlt_core.specs.declared.rules.TheConstants.{UNKNOWN_NAME}
 
 -- a name that isn't known

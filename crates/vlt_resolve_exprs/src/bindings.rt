@@ -2,7 +2,7 @@
 
 ghost use Rattle.std.specs.Prelude.{◌≡◌, map, length, IfOk, OnOk};
 ghost use Rattle.vlt_syntax.specs.View as tree;
-ghost use Rattle.vlt_kinds_names.specs.Refusals.{least_from};
+ghost use Rattle.vlt_kinds_types.specs.Names.Refusals.{least_from};
 ghost use Rattle.vlt_core.specs.View.{ty_of, vars_of};
 ghost use Rattle.vlt_kinds.specs.Seen.{kinds_seen};
 ghost use Rattle.vlt_resolve_exprs.specs.Bindings as b;
@@ -17,7 +17,7 @@ use vlt_base::{Items, VarId};
 use vlt_core::Ty;
 use vlt_core::rules::{NAME_TAKEN, WRONG_COUNT};
 use vlt_kinds::Kinds;
-use vlt_kinds_names::Found;
+use vlt_kinds_types::Found;
 use vlt_syntax::Name;
 
 #[tactic(auto, unfolding(crate::specs::Bindings::too_many_vars))]
@@ -49,7 +49,7 @@ fn check_free(kinds: &Kinds<'_>, scope: &Scope<'_>, name: &Name, found: &mut Fou
 }
 
 /// What is refused where a variable of this name is bound.
-#[tactic(auto, using(vlt_kinds_names::proofs::Least::least_of_both), unfolding(crate::specs::Bindings::new_var_refused))]
+#[tactic(auto, using(vlt_kinds_types::proofs::OfNames::Least::least_of_both), unfolding(crate::specs::Bindings::new_var_refused))]
 pub fn check_new_var(kinds: &Kinds<'_>, scope: &Scope<'_>, name: &Name, found: &mut Found)
     ensures { found.new.least ≡ least_from found.old.least
         (b.new_var_refused (kinds_seen kinds.now) (scope_seen scope.now) (tree.name_of name.now)) }
@@ -59,7 +59,7 @@ pub fn check_new_var(kinds: &Kinds<'_>, scope: &Scope<'_>, name: &Name, found: &
 }
 
 /// What is refused where a key of this name is bound.
-#[tactic(auto, using(vlt_kinds_names::proofs::Least::least_of_both), unfolding(crate::specs::Bindings::new_key_refused))]
+#[tactic(auto, using(vlt_kinds_types::proofs::OfNames::Least::least_of_both), unfolding(crate::specs::Bindings::new_key_refused))]
 pub fn check_new_key(kinds: &Kinds<'_>, scope: &Scope<'_>, name: &Name, found: &mut Found)
     ensures { found.new.least ≡ least_from found.old.least
         (b.new_key_refused (kinds_seen kinds.now) (scope_seen scope.now) (tree.name_of name.now)) }

@@ -6,7 +6,7 @@ ghost use Rattle.vlt_ops.specs.Operator.{row_of};
 ghost use Rattle.vlt_syntax.specs.View as tree;
 ghost use Rattle.vlt_core.specs.Lookups.{fields_in};
 ghost use Rattle.vlt_core.specs.View.{ty_of, field_of, expr_of, type_of, keys_of};
-ghost use Rattle.vlt_kinds_names.specs.Refusals.{least_from};
+ghost use Rattle.vlt_kinds_types.specs.Names.Refusals.{least_from};
 ghost use Rattle.vlt_kinds.specs.Seen.{kinds_seen};
 ghost use Rattle.vlt_resolve_exprs.specs.Exprs as e;
 ghost use Rattle.vlt_resolve_exprs.specs.Refused.{unknown_name};
@@ -21,7 +21,7 @@ use vlt_base::{Boxed, KeyId, TypeId, VarId};
 use vlt_core::rules::{GUARDED_FIELD, UNKNOWN_NAME, WRONG_SWAP, WRONG_TYPE};
 use vlt_core::{FieldDecl, Ty, TypeDecl};
 use vlt_kinds::Kinds;
-use vlt_kinds_names::Found;
+use vlt_kinds_types::Found;
 use vlt_ops::{Op, Takes, row};
 use vlt_syntax::{Expr, Name, Operands};
 
@@ -386,7 +386,7 @@ fn check_owner(field: &FieldDecl, base: &Name, found: &mut Found)
     found.add_if(is_owning(&field.ty), WRONG_SWAP, base.at.from);
 }
 
-#[tactic(auto, using(vlt_kinds_names::proofs::Least::least_of_both), unfolding(crate::specs::Exprs::touch_refused))]
+#[tactic(auto, using(vlt_kinds_types::proofs::OfNames::Least::least_of_both), unfolding(crate::specs::Exprs::touch_refused))]
 fn check_touch(
     guarded: bool,
     decl: Option<&TypeDecl>,

@@ -4,7 +4,7 @@ ghost use Rattle.std.specs.Prelude.{◌≡◌, map, option_map, length, IfOk, On
 ghost use Rattle.vlt_base.specs.States.{has_state};
 ghost use Rattle.vlt_syntax.specs.View as tree;
 ghost use Rattle.vlt_core.specs.View.{ty_of, expr_of, operand_of};
-ghost use Rattle.vlt_kinds_names.specs.Refusals.{least_from};
+ghost use Rattle.vlt_kinds_types.specs.Names.Refusals.{least_from};
 ghost use Rattle.vlt_kinds.specs.Seen.{kinds_seen};
 ghost use Rattle.vlt_resolve_exprs.specs.Least.{operands_found};
 ghost use Rattle.vlt_resolve_exprs.specs.Operands as o;
@@ -18,7 +18,7 @@ use vlt_base::{Items, StateSet, VarId};
 use vlt_core::rules::WRONG_TYPE;
 use vlt_core::{self, Operand, Ty};
 use vlt_kinds::Kinds;
-use vlt_kinds_names::Found;
+use vlt_kinds_types::Found;
 use vlt_syntax::Expr;
 
 #[tactic(auto, unfolding(crate::specs::Operands::misfit))]
@@ -35,7 +35,7 @@ pub fn check_misfit(wanted: &Ty, given: &Option<Ty>, at: u32, found: &mut Found)
 }
 
 /// What is refused in an operand for a target of this type.
-#[tactic(auto, using(vlt_kinds_names::proofs::Least::least_of_both), unfolding(crate::specs::Operands::operand_refused))]
+#[tactic(auto, using(vlt_kinds_types::proofs::OfNames::Least::least_of_both), unfolding(crate::specs::Operands::operand_refused))]
 pub fn check_operand(
     alloc: Heap,
     kinds: &Kinds<'_>,

@@ -7,7 +7,7 @@ use Rattle.vlt_syntax.specs.Tree.{Name, Right, Stmt, Block, Head, Tree}
 use Rattle.vlt_core.specs.Core.{Ty, KeyDecl, Func, Program}
 use Rattle.vlt_kinds_types.specs.Files.{type_named}
 use Rattle.vlt_kinds.specs.Kinds.{Kinds}
-use Rattle.vlt_kinds_laws.proofs.Empty.{no_left, no_right, not_broken}
+use Rattle.vlt_resolve_laws.proofs.OfKindsLaws.Empty.{no_left, no_right, not_broken}
 use Rattle.vlt_resolve_exprs.specs.declared.limits.TheConstants.{TOO_MANY_KEYS}
 use Rattle.vlt_resolve_exprs.specs.Scopes.{Scope, var_ty, with_key, with_var}
 use Rattle.vlt_resolve_exprs.specs.Bindings.{too_many_vars, too_many_keys, not_free, new_var_refused, new_key_refused, with_vars, with_several}
@@ -17,7 +17,7 @@ use Rattle.vlt_resolve_rights.specs.Rights.{right_refused}
 use Rattle.vlt_resolve_stmts.specs.Around.{Around}
 use Rattle.vlt_resolve_stmts.specs.Declarations.{is_known_key, binds_key, bound_key_refused, with_bound_key, type_refused, declared_target, hidden_right_refused, declared_refused, keyed_refused, declare_refused, declared_became, hidden_became, keyed_became, declare_became, assigned_target, assign_refused, assign_became}
 use Rattle.vlt_resolve_stmts.specs.Statements.{opened_parts, opened_became, open_became, returned_build, return_became, simple_refused, simple_became}
-use Rattle.vlt_resolve_switches.specs.Switches.{arm_case, arm_scope, focused_refused, bound_refused, focus_refused, keyed_scope, bound_scope}
+use Rattle.vlt_resolve.specs.Switches.Switches.{arm_case, arm_scope, focused_refused, bound_refused, focus_refused, keyed_scope, bound_scope}
 use Rattle.vlt_resolve.specs.Elaboration.{body_scope}
 use Rattle.vlt_resolve_laws.specs.Made.{head_made, IsWalked, IsMade}
 use Rattle.vlt_resolve_laws.specs.Elaborated.{IsElaborated}

@@ -14,14 +14,14 @@ use Rattle.vlt_kinds_decls.specs.Made.{header_number, core_field, core_struct, c
 use Rattle.vlt_kinds_heads.specs.Keys.{keys_of}
 use Rattle.vlt_kinds.specs.Kinds.{Kinds}
 use Rattle.vlt_kinds.specs.Tables.{kinds_of}
-use Rattle.vlt_kinds_laws.specs.Shapes.{Describes}
-use Rattle.vlt_kinds_laws.specs.Declared.{IsFilled, HasFilled, HasDeclared}
-use Rattle.vlt_kinds_laws.specs.Declared as declared
-use Rattle.vlt_kinds_laws.proofs.Empty.{cons_not_nil, no_right}
-use Rattle.vlt_kinds_laws.proofs.Rows.{each_joined, each_at, each_in, each_of_all}
-use Rattle.vlt_kinds_laws.proofs.Filled.{declarations_filled}
-use Rattle.vlt_kinds_laws.specs.States.{SaysStates, IsFilledEntry}
-use Rattle.vlt_kinds_laws.proofs.HeadStates.{type_filled, heads_filled}
+use Rattle.vlt_resolve_laws.specs.KindsLaws.Shapes.{Describes}
+use Rattle.vlt_resolve_laws.specs.KindsLaws.Declared.{IsFilled, HasFilled, HasDeclared}
+use Rattle.vlt_resolve_laws.specs.KindsLaws.Declared as declared
+use Rattle.vlt_resolve_laws.proofs.OfKindsLaws.Empty.{cons_not_nil, no_right}
+use Rattle.vlt_resolve_laws.proofs.OfKindsLaws.Rows.{each_joined, each_at, each_in, each_of_all}
+use Rattle.vlt_resolve_laws.proofs.OfKindsLaws.Filled.{declarations_filled}
+use Rattle.vlt_resolve_laws.specs.KindsLaws.States.{SaysStates, IsFilledEntry}
+use Rattle.vlt_resolve_laws.proofs.OfKindsLaws.HeadStates.{type_filled, heads_filled}
 use Rattle.vlt_resolve_exprs.specs.Types.{then_with, ty_under}
 use Rattle.vlt_resolve_exprs.specs.Scopes.{Scope, var_ty, more_var, with_key, with_var}
 use Rattle.vlt_resolve_exprs.specs.Exprs.{fields_of, number_of}
@@ -32,7 +32,7 @@ use Rattle.vlt_resolve_rights.specs.News.{hides, known_args, args_or_none, with_
 use Rattle.vlt_resolve_stmts.specs.Around.{Around}
 use Rattle.vlt_resolve_stmts.specs.Declarations.{is_known_key, with_bound_key, binds_key, declared_ty, declared_target, declared_became, hidden_became, keyed_became, declare_became, assign_became}
 use Rattle.vlt_resolve_stmts.specs.Statements.{owning_types, opened_parts, open_became, opened_became, built_refused, returned_refused, return_refused, returned_build, return_became, simple_refused, simple_became}
-use Rattle.vlt_resolve_switches.specs.Switches.{arm_case, arm_scope, focus_ty, bound_scope}
+use Rattle.vlt_resolve.specs.Switches.Switches.{arm_case, arm_scope, focus_ty, bound_scope}
 use Rattle.vlt_resolve.specs.Elaboration.{body_scope, body_around, stmts_in}
 use Rattle.vlt_core_laws.specs.States.{HasStates, IsFilledSet}
 use Rattle.vlt_resolve_laws.proofs.Walking.{IsKept, stmts_kept}

@@ -8,9 +8,9 @@ use Rattle.vlt_syntax.specs.Lists.{Each}
 use Rattle.vlt_syntax.specs.Grammar.{IsDecl, language}
 use Rattle.vlt_core.specs.Core as core
 use Rattle.vlt_core.specs.Core.{Form, Func, Program}
-use Rattle.vlt_kinds_names.specs.declared.found.Refusal.{Refusal}
-use Rattle.vlt_kinds_names.specs.Names.{names_refused}
-use Rattle.vlt_kinds_names.specs.Refusals.{refuse_if, of_each, least}
+use Rattle.vlt_kinds_types.specs.declared.names.found.Refusal.{Refusal}
+use Rattle.vlt_kinds_types.specs.Names.Names.{names_refused}
+use Rattle.vlt_kinds_types.specs.Names.Refusals.{refuse_if, of_each, least}
 use Rattle.vlt_kinds_types.specs.Files.{file_of}
 use Rattle.vlt_kinds_decls.specs.Decls.{types_refused}
 use Rattle.vlt_kinds_decls.specs.Made.{core_types}
@@ -20,9 +20,9 @@ use Rattle.vlt_kinds_heads.specs.Externals.{external_refused}
 use Rattle.vlt_kinds_heads.specs.Phase.{extern_refused, heads_refused_in, heads_refused, core_heads_in}
 use Rattle.vlt_kinds.specs.Kinds.{Kinds}
 use Rattle.vlt_kinds.specs.Tables.{kinds_of, unless, heads_told, types_told, names_told}
-use Rattle.vlt_kinds_laws.proofs.Empty.{no_left, no_right, not_broken}
+use Rattle.vlt_resolve_laws.proofs.OfKindsLaws.Empty.{no_left, no_right, not_broken}
 use Rattle.vlt_resolve_exprs.specs.declared.limits.TheConstants.{TOO_MANY_VARIABLES, TOO_MANY_KEYS}
-use Rattle.vlt_resolve_walk.specs.Walk.{then_do, walk_stmts}
+use Rattle.vlt_resolve.specs.Walk.Walk.{then_do, walk_stmts}
 use Rattle.vlt_resolve.specs.Elaboration as elab
 use Rattle.vlt_resolve.specs.Elaboration.{body_scope, body_around, stmts_in, end_refused, func_made, walk_body, is_function, walk_defined, walk_extern, walk_function, walk_decls, walk_tree, main_of, Told, with_told}
 use Rattle.vlt_resolve_laws.proofs.Results.{same_ok, then_ok, unless_ok, least_none}

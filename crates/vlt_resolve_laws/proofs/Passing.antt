@@ -13,9 +13,9 @@ use Rattle.vlt_core.specs.Core.{States, Ty, bool, Operand, Form, Func, Program}
 use Rattle.vlt_core.specs.Lookups.{is_owning}
 use Rattle.vlt_core.specs.Proper.{all_in_operand, all_in_operands, all_in_simple, all_in_form, all_in_block, all_in, all_in_arms, AllPass}
 use Rattle.vlt_core.specs.View.{stmts_made, arms_made}
-use Rattle.vlt_kinds_names.specs.declared.found.Refusal.{Refusal}
-use Rattle.vlt_kinds_names.specs.Refusals.{least, least_from}
-use Rattle.vlt_kinds_laws.proofs.Rows.{each_at}
+use Rattle.vlt_kinds_types.specs.declared.names.found.Refusal.{Refusal}
+use Rattle.vlt_kinds_types.specs.Names.Refusals.{least, least_from}
+use Rattle.vlt_resolve_laws.proofs.OfKindsLaws.Rows.{each_at}
 use Rattle.vlt_kinds.specs.Kinds.{Kinds, head_named, function_named}
 use Rattle.vlt_resolve_exprs.specs.Scopes.{Scope, var_ty, scope_inside, scope_behind}
 use Rattle.vlt_resolve_exprs.specs.Exprs.{wanted_refused, type_of, core_expr, var_number, number_of}
@@ -29,9 +29,9 @@ use Rattle.vlt_resolve_rights.specs.Rights.{right_forms}
 use Rattle.vlt_resolve_stmts.specs.Around.{Around, inside_loop, inside_focus}
 use Rattle.vlt_resolve_stmts.specs.Declarations.{declare_became, keyed_became, hidden_became, declared_became, assign_became}
 use Rattle.vlt_resolve_stmts.specs.Statements.{core_put, release_form, core_become, core_swap, opened_parts, opened_became, open_became, hidden_operand, returned_value, returned_build, return_became, simple_refused, simple_became}
-use Rattle.vlt_resolve_switches.specs.Switches.{arm_names, switch_refused, arm_case, arm_refused, arm_scope, arm_numbers, case_number, focus_refused, bound_scope}
-use Rattle.vlt_resolve_walk.specs.Blocks.{block_ends, closing, else_closing, ends, stmt_place}
-use Rattle.vlt_resolve_walk.specs.Walk.{late, placed_at, block_made, walk_stmts, walk_stmt, walk_block, walk_else, walk_arms, walk_arm, walk_simple}
+use Rattle.vlt_resolve.specs.Switches.Switches.{arm_names, switch_refused, arm_case, arm_refused, arm_scope, arm_numbers, case_number, focus_refused, bound_scope}
+use Rattle.vlt_resolve.specs.Walk.Blocks.{block_ends, closing, else_closing, ends, stmt_place}
+use Rattle.vlt_resolve.specs.Walk.Walk.{late, placed_at, block_made, walk_stmts, walk_stmt, walk_block, walk_else, walk_arms, walk_arm, walk_simple}
 use Rattle.vlt_resolve.specs.Elaboration.{body_scope, body_around, head_refused, end_refused, last_return, func_made, walk_body, walk_function, walk_decls, walk_tree, elaborated}
 use Rattle.vlt_resolve_laws.proofs.Results.{same_ok, then_ok, unless_ok}
 use Rattle.vlt_resolve_laws.proofs.Made.{told_ok}

@@ -2,9 +2,9 @@
 use Rattle.std.proofs.Common.{◌≡◌, List, [], ◌∷◌, Option, refl, ◌∙◌}
 use Rattle.vlt_syntax.specs.Tree as s
 use Rattle.vlt_core.specs.Core.{Ty}
-use Rattle.vlt_kinds_names.specs.declared.found.Refusal.{Refusal}
-use Rattle.vlt_kinds_names.specs.Refusals.{least_from}
-use Rattle.vlt_kinds_names.proofs.Least.{least_of_both}
+use Rattle.vlt_kinds_types.specs.declared.names.found.Refusal.{Refusal}
+use Rattle.vlt_kinds_types.specs.Names.Refusals.{least_from}
+use Rattle.vlt_kinds_types.proofs.OfNames.Least.{least_of_both}
 use Rattle.vlt_kinds.specs.Kinds.{Kinds}
 use Rattle.vlt_resolve_exprs.specs.Scopes.{Scope}
 use Rattle.vlt_resolve_exprs.specs.Operands.{operand_refused}

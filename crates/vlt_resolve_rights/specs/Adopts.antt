@@ -4,8 +4,8 @@ use Rattle.vlt_syntax.specs.Tree.{Name}
 use Rattle.vlt_core.specs.Core.{Ty, tracked, guarded, Form, simple, adopt}
 use Rattle.vlt_resolve_rights.specs.Droppable.{may_drop_struct}
 use Rattle.vlt_core.specs.declared.rules.TheConstants as rule
-use Rattle.vlt_kinds_names.specs.declared.found.Refusal.{Refusal}
-use Rattle.vlt_kinds_names.specs.Refusals.{refuse_if}
+use Rattle.vlt_kinds_types.specs.declared.names.found.Refusal.{Refusal}
+use Rattle.vlt_kinds_types.specs.Names.Refusals.{refuse_if}
 use Rattle.vlt_kinds.specs.Kinds.{Kinds}
 use Rattle.vlt_resolve_exprs.specs.Types.{is_same_object}
 use Rattle.vlt_resolve_exprs.specs.Refused.{unknown_name}

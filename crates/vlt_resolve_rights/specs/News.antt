@@ -8,8 +8,8 @@ use Rattle.vlt_core.specs.Lookups.{first_state}
 use Rattle.vlt_core.specs.Types.{is_struct, same_keys}
 use Rattle.vlt_resolve_rights.specs.Droppable.{may_drop_struct}
 use Rattle.vlt_core.specs.declared.rules.TheConstants as rule
-use Rattle.vlt_kinds_names.specs.declared.found.Refusal.{Refusal}
-use Rattle.vlt_kinds_names.specs.Refusals.{refusal, refuse_if, of_each}
+use Rattle.vlt_kinds_types.specs.declared.names.found.Refusal.{Refusal}
+use Rattle.vlt_kinds_types.specs.Names.Refusals.{refusal, refuse_if, of_each}
 use Rattle.vlt_kinds_types.specs.declared.shapes.Shape.{Shape}
 use Rattle.vlt_kinds_types.specs.declared.shapes.Wanted.{Wanted}
 use Rattle.vlt_kinds_types.specs.declared.shapes.Wanted.TheVariants as wanted

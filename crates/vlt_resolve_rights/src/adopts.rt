@@ -3,7 +3,7 @@
 ghost use Rattle.std.specs.Prelude.{◌≡◌, option_map};
 ghost use Rattle.vlt_syntax.specs.View as tree;
 ghost use Rattle.vlt_core.specs.View.{ty_of, form_of};
-ghost use Rattle.vlt_kinds_names.specs.Refusals.{least_from};
+ghost use Rattle.vlt_kinds_types.specs.Names.Refusals.{least_from};
 ghost use Rattle.vlt_kinds.specs.Seen.{kinds_seen};
 ghost use Rattle.vlt_resolve_exprs.specs.Seen.{scope_seen};
 ghost use Rattle.vlt_resolve_rights.specs.Adopts as a;
@@ -14,7 +14,7 @@ use vlt_base::VarId;
 use vlt_core::rules::{WRONG_RELEASE, WRONG_TYPE};
 use vlt_core::{Form, Ty};
 use vlt_kinds::Kinds;
-use vlt_kinds_names::Found;
+use vlt_kinds_types::Found;
 use vlt_resolve_exprs::{Scope, check_known, same_object, var_number};
 use vlt_syntax::Name;
 
@@ -79,7 +79,7 @@ fn check_object(kinds: &Kinds<'_>, ty: Option<&Ty>, name: &Name, found: &mut Fou
 }
 
 /// What is refused where `object` is adopted at this place, for a target of this type.
-#[tactic(auto, using(vlt_kinds_names::proofs::Least::least_of_both), unfolding(crate::specs::Adopts::adopt_refused))]
+#[tactic(auto, using(vlt_kinds_types::proofs::OfNames::Least::least_of_both), unfolding(crate::specs::Adopts::adopt_refused))]
 pub fn check_adopt(
     kinds: &Kinds<'_>,
     scope: &Scope<'_>,

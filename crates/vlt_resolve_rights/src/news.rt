@@ -4,7 +4,7 @@ ghost use Rattle.std.specs.Prelude.{◌≡◌, true, [], ◌++◌, ◌∷◌, no
 ghost use Rattle.vlt_syntax.specs.View as tree;
 ghost use Rattle.vlt_core.specs.Core as core;
 ghost use Rattle.vlt_core.specs.View.{ty_of, keys_of, field_of, operand_of, type_of};
-ghost use Rattle.vlt_kinds_names.specs.Refusals.{least_from};
+ghost use Rattle.vlt_kinds_types.specs.Names.Refusals.{least_from};
 ghost use Rattle.vlt_kinds_types.specs.Files.{type_named};
 ghost use Rattle.vlt_kinds.specs.Seen.{kinds_seen};
 ghost use Rattle.vlt_resolve_exprs.specs.Exprs.{number_of};
@@ -22,7 +22,7 @@ use vlt_base::{Items, KeyId, TypeId, VarId};
 use vlt_core::rules::{WRONG_COUNT, WRONG_NEW, WRONG_RELEASE, WRONG_TYPE};
 use vlt_core::{FieldDecl, Form, Operand, Ty, TypeDecl};
 use vlt_kinds::Kinds;
-use vlt_kinds_names::Found;
+use vlt_kinds_types::Found;
 use vlt_resolve_calls::{Forms, Target};
 use vlt_resolve_exprs::{
     Scope, check_known, check_too_many_keys, check_too_many_vars, fields_of, is_struct, var_number,
@@ -74,7 +74,7 @@ fn check_recipient_fit(recipient: Option<&Ty>, ty: &Ty, at: u32, found: &mut Fou
     }
 }
 
-#[tactic(auto, using(vlt_kinds_names::proofs::Least::least_of_both), unfolding(crate::specs::News::recipient_refused))]
+#[tactic(auto, using(vlt_kinds_types::proofs::OfNames::Least::least_of_both), unfolding(crate::specs::News::recipient_refused))]
 fn check_recipient(scope: &Scope<'_>, target: &Target, recipient: &Name, at: u32, found: &mut Found)
     ensures { found.new.least ≡ least_from found.old.least
         (n.recipient_refused (scope_seen scope.now) (target_seen target.now)
@@ -125,7 +125,7 @@ fn takes_first(ty: &Ty) -> bool
     }
 }
 
-#[tactic(auto, using(vlt_kinds_names::proofs::Least::least_of_both), unfolding(crate::specs::News::adopted_refused))]
+#[tactic(auto, using(vlt_kinds_types::proofs::OfNames::Least::least_of_both), unfolding(crate::specs::News::adopted_refused))]
 fn check_adopted(kinds: &Kinds<'_>, t: TypeId, at: u32, found: &mut Found)
     ensures { found.new.least ≡ least_from found.old.least
         (n.adopted_refused (kinds_seen kinds.now) t.0 at) }
@@ -228,7 +228,7 @@ fn check_object(
     Ok(())
 }
 
-#[tactic(auto, using(vlt_kinds_names::proofs::Least::least_of_both), unfolding(crate::specs::News::known_made_refused))]
+#[tactic(auto, using(vlt_kinds_types::proofs::OfNames::Least::least_of_both), unfolding(crate::specs::News::known_made_refused))]
 fn check_known_made(
     alloc: Heap,
     kinds: &Kinds<'_>,
@@ -278,7 +278,7 @@ fn check_made(
 }
 
 /// What is refused in `new T { .. }` or `new(r) T { .. }`, with `new` at this place.
-#[tactic(auto, using(vlt_kinds_names::proofs::Least::least_of_both), unfolding(crate::specs::News::new_refused))]
+#[tactic(auto, using(vlt_kinds_types::proofs::OfNames::Least::least_of_both), unfolding(crate::specs::News::new_refused))]
 pub fn check_new(
     alloc: Heap,
     kinds: &Kinds<'_>,
@@ -329,7 +329,7 @@ fn hides(right: &Right, ty: &Option<Ty>) -> bool
 }
 
 /// What is refused where a right side at this place has a hidden key and variable.
-#[tactic(auto, using(vlt_kinds_names::proofs::Least::least_of_both), unfolding(crate::specs::News::hidden_refused))]
+#[tactic(auto, using(vlt_kinds_types::proofs::OfNames::Least::least_of_both), unfolding(crate::specs::News::hidden_refused))]
 fn check_both_hidden(scope: &Scope<'_>, at: u32, found: &mut Found)
     ensures { found.new.least ≡ least_from found.old.least
         (n.hidden_refused (scope_seen scope.now) true at) }

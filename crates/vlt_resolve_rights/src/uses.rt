@@ -2,7 +2,7 @@
 
 ghost use Rattle.std.specs.Prelude.{◌≡◌, map, option_map, length};
 ghost use Rattle.vlt_syntax.specs.View as tree;
-ghost use Rattle.vlt_kinds_names.specs.Refusals.{least_from, found_each};
+ghost use Rattle.vlt_kinds_types.specs.Names.Refusals.{least_from, found_each};
 ghost use Rattle.vlt_kinds_types.specs.Types as t;
 ghost use Rattle.vlt_kinds_types.specs.Seen.{use_seen};
 ghost use Rattle.vlt_kinds_types.specs.declared.shapes.Wanted.TheVariants as wanted;
@@ -13,8 +13,7 @@ ghost use Rattle.vlt_resolve_rights.specs.News as n;
 use vlt_base::TypeId;
 use vlt_core::rules::{KEY_ARGUMENT, KEY_COUNT, NOT_A_TYPE, TWO_KEY_TYPES, UNKNOWN_NAME};
 use vlt_kinds::Kinds;
-use vlt_kinds_names::Found;
-use vlt_kinds_types::{KeyUse, Shape, Wanted};
+use vlt_kinds_types::{Found, KeyUse, Shape, Wanted};
 use vlt_resolve_exprs::Scope;
 use vlt_syntax::{Name, Named};
 
@@ -66,7 +65,7 @@ fn check_each_use(scope: &Scope<'_>, uses: &[KeyUse<'_>], found: &mut Found)
 }
 
 /// What is refused in the keys of a type: each has to be in scope, and its object of the type that is wanted there.
-#[tactic(auto, using(vlt_kinds_names::proofs::Least::each_is), unfolding(crate::specs::News::uses_refused))]
+#[tactic(auto, using(vlt_kinds_types::proofs::OfNames::Least::each_is), unfolding(crate::specs::News::uses_refused))]
 pub fn check_uses(scope: &Scope<'_>, uses: &[KeyUse<'_>], found: &mut Found)
     ensures { found.new.least ≡ least_from found.old.least
         (n.uses_refused (scope_seen scope.now) (map use_seen uses.now)) }
@@ -140,7 +139,7 @@ fn check_keys(shape: Option<&Shape>, scope: &Scope<'_>, keys: &[Name], found: &m
 }
 
 /// What is refused at the name of a new object's type, and at the keys behind it.
-#[tactic(auto, using(vlt_kinds_names::proofs::Least::least_of_both, vlt_kinds_names::proofs::Least::each_is), unfolding(crate::specs::News::named_refused, crate::specs::News::uses_refused, vlt_kinds_types::specs::Types::named_uses))]
+#[tactic(auto, using(vlt_kinds_types::proofs::OfNames::Least::least_of_both, vlt_kinds_types::proofs::OfNames::Least::each_is), unfolding(crate::specs::News::named_refused, crate::specs::News::uses_refused, vlt_kinds_types::specs::Types::named_uses))]
 pub fn check_named(kinds: &Kinds<'_>, scope: &Scope<'_>, named: &Named, found: &mut Found)
     ensures { found.new.least ≡ least_from found.old.least
         (n.named_refused (kinds_seen kinds.now) (scope_seen scope.now) (tree.named_of named.now)) }

@@ -4,7 +4,7 @@ use Rattle.std.specs.Option.{option_map}
 use Rattle.vlt_syntax.specs.Tree as s
 use Rattle.vlt_syntax.specs.Tree.{Name, Right}
 use Rattle.vlt_core.specs.Core.{Ty, Form}
-use Rattle.vlt_kinds_names.specs.declared.found.Refusal.{Refusal}
+use Rattle.vlt_kinds_types.specs.declared.names.found.Refusal.{Refusal}
 use Rattle.vlt_kinds_types.specs.Files.{type_named}
 use Rattle.vlt_kinds_types.specs.Types.{ty_refused, ty_uses, core_ty}
 use Rattle.vlt_kinds.specs.Kinds.{Kinds}

@@ -9,8 +9,8 @@ use Rattle.vlt_core.specs.Lookups.{is_owning, is_given_back}
 use Rattle.vlt_core.specs.Types.{is_struct}
 use Rattle.vlt_resolve_rights.specs.Droppable.{may_drop_struct, may_drop}
 use Rattle.vlt_core.specs.declared.rules.TheConstants as rule
-use Rattle.vlt_kinds_names.specs.declared.found.Refusal.{Refusal}
-use Rattle.vlt_kinds_names.specs.Refusals.{refusal, refuse_if}
+use Rattle.vlt_kinds_types.specs.declared.names.found.Refusal.{Refusal}
+use Rattle.vlt_kinds_types.specs.Names.Refusals.{refusal, refuse_if}
 use Rattle.vlt_kinds_types.specs.Files.{state_names, state_number}
 use Rattle.vlt_kinds_types.specs.Types.{known_states}
 use Rattle.vlt_kinds.specs.Kinds.{Kinds}

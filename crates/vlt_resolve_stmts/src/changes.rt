@@ -3,7 +3,7 @@
 ghost use Rattle.std.specs.Prelude.{◌≡◌, ◌∷◌, [], map, option_map, IfOk, OnOk};
 ghost use Rattle.vlt_syntax.specs.View as tree;
 ghost use Rattle.vlt_core.specs.View.{ty_of, form_of, field_of, keys_of};
-ghost use Rattle.vlt_kinds_names.specs.Refusals.{least_from};
+ghost use Rattle.vlt_kinds_types.specs.Names.Refusals.{least_from};
 ghost use Rattle.vlt_kinds.specs.Seen.{kinds_seen};
 ghost use Rattle.vlt_resolve_exprs.specs.Exprs as e;
 ghost use Rattle.vlt_resolve_exprs.specs.Scopes.{var_ty};
@@ -18,7 +18,7 @@ use vlt_core::rules::{
 };
 use vlt_core::{FieldDecl, Form, Ty};
 use vlt_kinds::Kinds;
-use vlt_kinds_names::Found;
+use vlt_kinds_types::Found;
 use vlt_resolve_calls::Forms;
 use vlt_resolve_exprs::{
     Scope, check_field, check_known, check_wanted, core_expr, field_named, field_number, field_ty,
@@ -29,7 +29,7 @@ use vlt_syntax::{Expr, Name};
 
 // ---- x.f = e
 
-#[tactic(auto, using(vlt_kinds_names::proofs::Least::least_of_both), unfolding(crate::specs::Statements::put_refused))]
+#[tactic(auto, using(vlt_kinds_types::proofs::OfNames::Least::least_of_both), unfolding(crate::specs::Statements::put_refused))]
 fn check_put(
     alloc: Heap,
     kinds: &Kinds<'_>,
@@ -312,7 +312,7 @@ fn check_base(
     }
 }
 
-#[tactic(auto, using(vlt_kinds_names::proofs::Least::least_of_both), unfolding(crate::specs::Statements::swap_refused))]
+#[tactic(auto, using(vlt_kinds_types::proofs::OfNames::Least::least_of_both), unfolding(crate::specs::Statements::swap_refused))]
 fn check_swap(
     alloc: Heap,
     kinds: &Kinds<'_>,

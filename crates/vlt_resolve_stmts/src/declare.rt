@@ -3,7 +3,7 @@
 ghost use Rattle.std.specs.Prelude.{◌≡◌, map, option_map, length, IfOk, OnOk};
 ghost use Rattle.vlt_syntax.specs.View as tree;
 ghost use Rattle.vlt_core.specs.View.{ty_of};
-ghost use Rattle.vlt_kinds_names.specs.Refusals.{least_from};
+ghost use Rattle.vlt_kinds_types.specs.Names.Refusals.{least_from};
 ghost use Rattle.vlt_kinds.specs.Seen.{kinds_seen};
 ghost use Rattle.vlt_resolve_exprs.specs.Scopes.{var_ty, with_var};
 ghost use Rattle.vlt_resolve_exprs.specs.Seen.{scope_seen};
@@ -13,7 +13,7 @@ ghost use Rattle.vlt_resolve_stmts.specs.Declarations as d;
 use std::alloc::{AllocError, Global as Heap};
 use vlt_base::{Items, TypeId, VarId};
 use vlt_kinds::Kinds;
-use vlt_kinds_names::Found;
+use vlt_kinds_types::Found;
 use vlt_resolve_calls::{Forms, Target};
 use vlt_resolve_exprs::{Scope, check_known, check_new_key, check_new_var, copy_ty, var_number};
 use vlt_resolve_rights::{add_hidden, check_hidden, check_uses, right, right_for};
@@ -74,7 +74,7 @@ fn bind_key<'a>(
     }
 }
 
-#[tactic(auto, using(vlt_kinds_names::proofs::Least::least_of_both), unfolding(crate::specs::Declarations::type_refused))]
+#[tactic(auto, using(vlt_kinds_types::proofs::OfNames::Least::least_of_both), unfolding(crate::specs::Declarations::type_refused))]
 fn check_type(
     alloc: Heap,
     kinds: &Kinds<'_>,
@@ -132,7 +132,7 @@ fn bind<'a>(
 }
 
 /// Behind the hidden variable of this number: the variable, and the right side, in which it isn't in scope.
-#[tactic(auto, using(vlt_kinds_names::proofs::Least::least_of_both), unfolding(crate::specs::Declarations::hidden_right_refused, crate::specs::Declarations::declared_became))]
+#[tactic(auto, using(vlt_kinds_types::proofs::OfNames::Least::least_of_both), unfolding(crate::specs::Declarations::hidden_right_refused, crate::specs::Declarations::declared_became))]
 fn declare_behind<'a>(
     alloc: Heap,
     kinds: &Kinds<'_>,
@@ -159,7 +159,7 @@ fn declare_behind<'a>(
 }
 
 /// Behind the type: the hidden ones of the right side, and then the variable.
-#[tactic(auto, using(vlt_kinds_names::proofs::Least::least_of_both), unfolding(crate::specs::Declarations::declared_refused, crate::specs::Declarations::hidden_became))]
+#[tactic(auto, using(vlt_kinds_types::proofs::OfNames::Least::least_of_both), unfolding(crate::specs::Declarations::declared_refused, crate::specs::Declarations::hidden_became))]
 fn declare_target<'a>(
     alloc: Heap,
     kinds: &Kinds<'_>,
@@ -187,7 +187,7 @@ fn declare_target<'a>(
 }
 
 /// In the scope with the key that the type binds.
-#[tactic(auto, using(vlt_kinds_names::proofs::Least::least_of_both), unfolding(crate::specs::Declarations::keyed_refused, crate::specs::Declarations::keyed_became))]
+#[tactic(auto, using(vlt_kinds_types::proofs::OfNames::Least::least_of_both), unfolding(crate::specs::Declarations::keyed_refused, crate::specs::Declarations::keyed_became))]
 fn declare_keyed<'a>(
     alloc: Heap,
     kinds: &Kinds<'_>,
@@ -217,7 +217,7 @@ fn declare_keyed<'a>(
 }
 
 /// Tests a declaration, and makes it. What it makes counts only where nothing is refused.
-#[tactic(auto, using(vlt_kinds_names::proofs::Least::least_of_both), unfolding(crate::specs::Declarations::declare_refused, crate::specs::Declarations::declare_became))]
+#[tactic(auto, using(vlt_kinds_types::proofs::OfNames::Least::least_of_both), unfolding(crate::specs::Declarations::declare_refused, crate::specs::Declarations::declare_became))]
 pub fn declare<'a>(
     alloc: Heap,
     kinds: &Kinds<'_>,
@@ -273,7 +273,7 @@ pub fn known_ty(
 }
 
 /// Tests an assignment, and makes it. What it makes counts only where nothing is refused.
-#[tactic(auto, using(vlt_kinds_names::proofs::Least::least_of_both), unfolding(crate::specs::Declarations::assign_refused, crate::specs::Declarations::assign_became))]
+#[tactic(auto, using(vlt_kinds_types::proofs::OfNames::Least::least_of_both), unfolding(crate::specs::Declarations::assign_refused, crate::specs::Declarations::assign_became))]
 pub fn assign(
     alloc: Heap,
     kinds: &Kinds<'_>,

@@ -5,7 +5,7 @@ ghost use Rattle.std.specs.List.{list_any};
 ghost use Rattle.vlt_syntax.specs.View as tree;
 ghost use Rattle.vlt_core.specs.Lookups.{is_given_back};
 ghost use Rattle.vlt_core.specs.View.{ty_of, entry_of, operand_of};
-ghost use Rattle.vlt_kinds_names.specs.Refusals.{least_from};
+ghost use Rattle.vlt_kinds_types.specs.Names.Refusals.{least_from};
 ghost use Rattle.vlt_kinds.specs.Seen.{kinds_seen};
 ghost use Rattle.vlt_resolve_exprs.specs.Seen.{scope_seen};
 ghost use Rattle.vlt_resolve_exprs.specs.Scopes.{more_var};
@@ -20,7 +20,7 @@ use vlt_base::{KeyId, VarId};
 use vlt_core::rules::{RETURNED_KEY, WRONG_JUMP, WRONG_RETURN, WRONG_TYPE};
 use vlt_core::{Entry, Expr as CoreExpr, Form, Mode, Operand, Ty};
 use vlt_kinds::Kinds;
-use vlt_kinds_names::Found;
+use vlt_kinds_types::Found;
 use vlt_resolve_calls::{Forms, build, has_fresh};
 use vlt_resolve_exprs::{
     Scope, check_any, check_operand, check_too_many_vars, copy_ty, core_operand, is_owning, place,
@@ -96,7 +96,7 @@ fn check_fresh_given(
     }
 }
 
-#[tactic(auto, using(vlt_kinds_names::proofs::Least::least_of_both), unfolding(crate::specs::Statements::fresh_refused))]
+#[tactic(auto, using(vlt_kinds_types::proofs::OfNames::Least::least_of_both), unfolding(crate::specs::Statements::fresh_refused))]
 fn check_fresh(
     alloc: Heap,
     kinds: &Kinds<'_>,
@@ -237,7 +237,7 @@ fn return_build_for(
 }
 
 /// Tests a tick for a hidden variable, and returns that.
-#[tactic(auto, using(vlt_kinds_names::proofs::Least::least_of_both), unfolding(crate::specs::Statements::built_refused))]
+#[tactic(auto, using(vlt_kinds_types::proofs::OfNames::Least::least_of_both), unfolding(crate::specs::Statements::built_refused))]
 fn return_build(
     alloc: Heap,
     kinds: &Kinds<'_>,
@@ -316,7 +316,7 @@ fn gives_value(gives: &Returned) -> bool
 }
 
 /// Tests a `return` at this place, and makes it. What it makes counts only where nothing is refused.
-#[tactic(auto, using(vlt_kinds_names::proofs::Least::least_of_both), unfolding(crate::specs::Statements::return_refused))]
+#[tactic(auto, using(vlt_kinds_types::proofs::OfNames::Least::least_of_both), unfolding(crate::specs::Statements::return_refused))]
 pub fn return_stmt(
     alloc: Heap,
     kinds: &Kinds<'_>,

@@ -18,7 +18,7 @@ use Rattle.vlt_meaning.specs.Found.{Found}
 use Rattle.vlt_meaning.specs.Values.{value_of, number_of}
 use Rattle.vlt_meaning.specs.Step.{Step, goes, jumps, leaves, ends, with_found, left_block}
 use Rattle.vlt_meaning.specs.Run.{Setup}
-use Rattle.vlt_machine.specs.Machine.{Task, list, closing, turn, Conf, at, when_found, spending, enter_block, turn_on, after_move}
+use Rattle.vlt_meaning_laws.specs.Machine.Machine.{Task, list, closing, turn, Conf, at, when_found, spending, enter_block, turn_on, after_move}
 use Rattle.vlt_sound_worlds.specs.Agrees.{Context, scene, Agrees}
 use Rattle.vlt_sound_worlds.specs.Typed.{IsTyped}
 use Rattle.vlt_sound_worlds.specs.Safe.{Goal, Safe}

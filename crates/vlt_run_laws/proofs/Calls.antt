@@ -11,7 +11,7 @@ use Rattle.vlt_core.specs.KindedScopes.{Ids}
 use Rattle.vlt_core.specs.KindedCalls.{keys_fit, call_broken}
 use Rattle.vlt_meaning.specs.World.{Frame, World}
 use Rattle.vlt_meaning.specs.Calls.{is_new_key}
-use Rattle.vlt_machine.specs.Reached.{NamesKeys, NamesItsKeys}
+use Rattle.vlt_meaning_laws.specs.Machine.Reached.{NamesKeys, NamesItsKeys}
 use Rattle.vlt_sound_worlds.proofs.Empty.{both_so}
 use Rattle.vlt_sound_calls.specs.Callee.{IsParamKey, IsCall}
 use Rattle.vlt_sound_calls.proofs.Parameters.{in_range}

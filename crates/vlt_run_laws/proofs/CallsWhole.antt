@@ -12,10 +12,10 @@ use Rattle.vlt_core.specs.KindedCalls.{call_broken}
 use Rattle.vlt_core.specs.declared.rules.TheConstants as rule
 use Rattle.vlt_core_laws.specs.States.{HasStates}
 use Rattle.vlt_meaning.specs.World.{Value, World, Frame}
-use Rattle.vlt_machine.specs.Got.{got, operands_got}
-use Rattle.vlt_machine.specs.Reached.{NamesKeys}
-use Rattle.vlt_calls.specs.Called.{KnowsExternal, IsExternalCall}
-use Rattle.vlt_calls.specs.Known.{IsKnownCall, KnowsItsCalls}
+use Rattle.vlt_meaning_laws.specs.Machine.Got.{got, operands_got}
+use Rattle.vlt_meaning_laws.specs.Machine.Reached.{NamesKeys}
+use Rattle.vlt_interp.specs.Calls.Called.{KnowsExternal, IsExternalCall}
+use Rattle.vlt_interp.specs.Calls.Known.{IsKnownCall, KnowsItsCalls}
 use Rattle.vlt_sound_worlds.proofs.Empty.{both_empty}
 use Rattle.vlt_sound_worlds.proofs.Rows.{pass_split}
 use Rattle.vlt_sound_calls.specs.Callee.{IsCall}

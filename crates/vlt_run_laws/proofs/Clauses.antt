@@ -8,9 +8,9 @@ use Rattle.vlt_core.specs.Types.{stands_for}
 use Rattle.vlt_core.specs.KindedHeads.{has, keys_of_parameters, tracked_keys, parameters_of}
 use Rattle.vlt_core.specs.KindedScopes.{Ids}
 use Rattle.vlt_core_laws.specs.States.{IsFilledSet, HasStates}
-use Rattle.vlt_answers.specs.Read.{AreSets}
-use Rattle.vlt_host_calls.specs.Heeded.{IsOldKey, ListsKeys}
-use Rattle.vlt_calls.specs.Called.{IsExternalCall}
+use Rattle.vlt_externals.specs.HostAnswers.Read.{AreSets}
+use Rattle.vlt_externals.specs.HostCalls.Heeded.{IsOldKey, ListsKeys}
+use Rattle.vlt_interp.specs.Calls.Called.{IsExternalCall}
 use Rattle.vlt_sound_worlds.specs.Typed.{IsTyped}
 use Rattle.vlt_sound_worlds.proofs.Starting.{has_in}
 use Rattle.vlt_sound_calls.specs.Heads.{HasHead}

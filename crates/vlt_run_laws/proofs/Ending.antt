@@ -5,7 +5,7 @@ use Rattle.vlt_meaning.specs.World.{World, Frame, Outcome}
 use Rattle.vlt_meaning.specs.Step.{goes, ends, left_block}
 use Rattle.vlt_meaning.specs.Calls.{back_in}
 use Rattle.vlt_meaning.specs.Run.{Setup, focus_end}
-use Rattle.vlt_machine.specs.Machine.{Task, list, closing, turn, unfocus, back, at, after_move}
+use Rattle.vlt_meaning_laws.specs.Machine.Machine.{Task, list, closing, turn, unfocus, back, at, after_move}
 use Rattle.vlt_run_laws.proofs.Moves.{Good}
 
 module _ (r : Setup) (o : Outcome) (w : World) where

@@ -19,9 +19,9 @@ use Rattle.vlt_meaning.specs.Found.{Found, or_fault}
 use Rattle.vlt_meaning.specs.Step.{Step, goes, jumps, leaves, ends, with_objects}
 use Rattle.vlt_meaning.specs.Calls.{called_instance, passed_objects, handed_over, callee_frame, back_in}
 use Rattle.vlt_meaning.specs.Run.{Setup}
-use Rattle.vlt_machine.specs.Got.{Got, got, stopped, then_step, operands_got}
-use Rattle.vlt_machine.specs.Machine.{Task, Caller, list, back, Conf, at, when_found, when_got, when_so, spending, enter_body, enter_by, enter}
-use Rattle.vlt_machine.proofs.Gots.{operands_step}
+use Rattle.vlt_meaning_laws.specs.Machine.Got.{Got, got, stopped, then_step, operands_got}
+use Rattle.vlt_meaning_laws.specs.Machine.Machine.{Task, Caller, list, back, Conf, at, when_found, when_got, when_so, spending, enter_body, enter_by, enter}
+use Rattle.vlt_meaning_laws.proofs.OfMachine.Gots.{operands_step}
 use Rattle.vlt_sound_worlds.specs.Agrees.{Agrees}
 use Rattle.vlt_sound_worlds.specs.Typed.{IsTyped}
 use Rattle.vlt_sound_worlds.specs.Safe.{Goal, Safe, goes_to}

@@ -9,7 +9,7 @@ use Rattle.vlt_meaning.specs.Found.{or_fault}
 use Rattle.vlt_meaning.specs.Values.{held_object, guarded_object}
 use Rattle.vlt_meaning.specs.Step.{Step}
 use Rattle.vlt_meaning.specs.Run.{Setup, focus_end}
-use Rattle.vlt_machine.specs.Machine.{Task, list, unfocus, at}
+use Rattle.vlt_meaning_laws.specs.Machine.Machine.{Task, list, unfocus, at}
 use Rattle.vlt_sound_worlds.specs.Typed.{IsTyped}
 use Rattle.vlt_sound_worlds.specs.Safe.{Goal, Safe}
 use Rattle.vlt_sound_worlds.specs.Scoped.{HasKeys}

@@ -12,8 +12,8 @@ use Rattle.vlt_core.specs.KindedBodies.{row_broken, form_rows, stmts_rows, ids_b
 use Rattle.vlt_meaning.specs.World.{Value, World, Frame, Outcome}
 use Rattle.vlt_meaning.specs.Step.{Step, goes, jumps, leaves, ends}
 use Rattle.vlt_meaning.specs.Run.{Setup}
-use Rattle.vlt_machine.specs.Machine.{Task, list, Conf, at, act, after_move, moves}
-use Rattle.vlt_machine.specs.Reached.{IsBefore}
+use Rattle.vlt_meaning_laws.specs.Machine.Machine.{Task, list, Conf, at, act, after_move, moves}
+use Rattle.vlt_meaning_laws.specs.Machine.Reached.{IsBefore}
 use Rattle.vlt_sound_worlds.specs.Agrees.{Agrees}
 use Rattle.vlt_sound_worlds.specs.Safe.{Goal, Safe}
 use Rattle.vlt_sound_worlds.proofs.Empty.{both_empty}

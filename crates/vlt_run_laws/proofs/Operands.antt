@@ -12,8 +12,8 @@ use Rattle.vlt_core.specs.declared.rules.TheConstants as rule
 use Rattle.vlt_meaning.specs.World.{Value, one, of_case, World, Frame, fault, missing}
 use Rattle.vlt_meaning.specs.Found.{Found}
 use Rattle.vlt_meaning.specs.Step.{Step, goes, ends}
-use Rattle.vlt_machine.specs.Got.{Got, got, stopped, then_step, then_got, found_in, operand_got, operands_got}
-use Rattle.vlt_machine.proofs.Gots.{operands_step}
+use Rattle.vlt_meaning_laws.specs.Machine.Got.{Got, got, stopped, then_step, then_got, found_in, operand_got, operands_got}
+use Rattle.vlt_meaning_laws.proofs.OfMachine.Gots.{operands_step}
 use Rattle.vlt_externals.specs.Told.{AreSingle}
 use Rattle.vlt_sound_worlds.specs.Scene.{Scene}
 use Rattle.vlt_sound_worlds.specs.Fits.{Names, Fits}

@@ -14,7 +14,7 @@ use Rattle.vlt_core.specs.declared.rules.TheConstants as rule
 use Rattle.vlt_core_laws.proofs.Unbroken.{EachEmpty, left_empty, right_empty, unless_holds, filled_not_empty, each_left, each_right, some_not_none}
 use Rattle.vlt_core_laws.proofs.Binding.{in_range}
 use Rattle.vlt_core_laws.proofs.Headed.{each_at}
-use Rattle.vlt_tasks.specs.Own.{IsVar, AreVars, IsKey, IsOwnSimple, IsOwnCall, IsOwn, IsOwnBlock, AreOwn, AreOwnArms}
+use Rattle.vlt_interp.specs.Tasks.Own.{IsVar, AreVars, IsKey, IsOwnSimple, IsOwnCall, IsOwn, IsOwnBlock, AreOwn, AreOwnArms}
 use Rattle.vlt_run_laws.proofs.Keys.{less}
 
 module _ (p : Program) (f : Func) where

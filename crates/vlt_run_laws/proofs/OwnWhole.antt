@@ -9,7 +9,7 @@ use Rattle.vlt_core.specs.KindedCalls.{keys_fit}
 use Rattle.vlt_core.specs.KindedBodies.{first_ids, stmts_rows, end_broken}
 use Rattle.vlt_core_laws.proofs.Unbroken.{EachEmpty, left_empty}
 use Rattle.vlt_core_laws.proofs.Headed.{kinded_parts, function_empty, head_empty, params_fit}
-use Rattle.vlt_tasks.specs.Own.{AreOwn, HasOwn}
+use Rattle.vlt_interp.specs.Tasks.Own.{AreOwn, HasOwn}
 use Rattle.vlt_core.specs.Instances.{HasNoBounds}
 use Rattle.vlt_run_laws.specs.Blank.{HasBlankExternals, HasFewVars}
 use Rattle.vlt_run_laws.proofs.Keys.{few_keys, own_reference}

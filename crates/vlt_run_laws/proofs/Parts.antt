@@ -5,8 +5,8 @@ use Rattle.vlt_meaning.specs.World.{World, Frame}
 use Rattle.vlt_meaning.specs.Found.{Found}
 use Rattle.vlt_meaning.specs.Step.{Step}
 use Rattle.vlt_meaning.specs.Run.{Setup}
-use Rattle.vlt_machine.specs.Got.{Got, got, stopped, then_step}
-use Rattle.vlt_machine.specs.Machine.{Task, Conf, when_found, when_got}
+use Rattle.vlt_meaning_laws.specs.Machine.Got.{Got, got, stopped, then_step}
+use Rattle.vlt_meaning_laws.specs.Machine.Machine.{Task, Conf, when_found, when_got}
 use Rattle.vlt_sound_worlds.specs.Safe.{Goal, Safe}
 use Rattle.vlt_run_laws.proofs.Moves.{Good}
 use Rattle.vlt_run_laws.proofs.Ending.{ended_good}

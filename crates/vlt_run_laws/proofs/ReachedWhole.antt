@@ -8,8 +8,8 @@ use Rattle.vlt_core_laws.specs.States.{HasStates}
 use Rattle.vlt_meaning.specs.World.{World}
 use Rattle.vlt_meaning.specs.Step.{Step}
 use Rattle.vlt_meaning.specs.Run.{Setup, first_frame, start}
-use Rattle.vlt_machine.specs.Machine.{list, Task, Conf, at, first_conf}
-use Rattle.vlt_machine.specs.Reached.{IsReached}
+use Rattle.vlt_meaning_laws.specs.Machine.Machine.{list, Task, Conf, at, first_conf}
+use Rattle.vlt_meaning_laws.specs.Machine.Reached.{IsReached}
 use Rattle.vlt_sound_worlds.specs.Agrees.{Agrees}
 use Rattle.vlt_sound_calls.specs.Meet.{HasFunctions}
 use Rattle.vlt_core.specs.Instances.{IsOriginOf}

@@ -11,9 +11,9 @@ use Rattle.vlt_meaning.specs.Found.{or_fault}
 use Rattle.vlt_meaning.specs.Step.{goes}
 use Rattle.vlt_meaning.specs.Operands.{Case, case_in, with_empty_variable}
 use Rattle.vlt_meaning.specs.Run.{Setup}
-use Rattle.vlt_machine.specs.Got.{opened_got, filled_got}
-use Rattle.vlt_machine.specs.Machine.{Task, when_got, enter_block, enter_arm}
-use Rattle.vlt_machine.proofs.Gots.{opened_step, filled_step}
+use Rattle.vlt_meaning_laws.specs.Machine.Got.{opened_got, filled_got}
+use Rattle.vlt_meaning_laws.specs.Machine.Machine.{Task, when_got, enter_block, enter_arm}
+use Rattle.vlt_meaning_laws.proofs.OfMachine.Gots.{opened_step, filled_step}
 use Rattle.vlt_sound_worlds.specs.Agrees.{Agrees}
 use Rattle.vlt_sound_worlds.specs.Typed.{IsTyped}
 use Rattle.vlt_sound_worlds.specs.Safe.{Goal, Safe}

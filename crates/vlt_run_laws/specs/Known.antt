@@ -8,8 +8,8 @@ use Rattle.vlt_core.specs.Derives.{Derives}
 use Rattle.vlt_core.specs.KindedScopes.{Ids}
 use Rattle.vlt_meaning.specs.World.{World, Frame}
 use Rattle.vlt_meaning.specs.Run.{Setup}
-use Rattle.vlt_machine.specs.Machine.{Conf}
-use Rattle.vlt_machine.specs.Reached.{IsReached, IsBefore}
+use Rattle.vlt_meaning_laws.specs.Machine.Machine.{Conf}
+use Rattle.vlt_meaning_laws.specs.Machine.Reached.{IsReached, IsBefore}
 use Rattle.vlt_sound_worlds.specs.Agrees.{Agrees}
 use Rattle.vlt_sound_statements.specs.Kinded.{IsKindedForm}
 use Rattle.vlt_sound_statements.specs.Sites.{Site, IsAt}

@@ -4,8 +4,8 @@ use Rattle.vlt_core.specs.Core.{States, Operand, move, Simple, make, own, build,
 use Rattle.vlt_core.specs.Lookups.{owning_states}
 use Rattle.vlt_meaning.specs.World.{Value, objects_in, loose, Object, World, Frame}
 use Rattle.vlt_meaning.specs.Run.{Setup}
-use Rattle.vlt_machine.specs.Machine.{Conf}
-use Rattle.vlt_machine.specs.Reached.{IsReached, IsBefore}
+use Rattle.vlt_meaning_laws.specs.Machine.Machine.{Conf}
+use Rattle.vlt_meaning_laws.specs.Machine.Reached.{IsReached, IsBefore}
 use Rattle.vlt_sound_worlds.specs.Members.{In}
 
 -- the variables that operands move

@@ -1,24 +1,24 @@
 //! Laws on what a run of an accepted program comes to: nothing goes in and nothing comes out.
-//! Read `vlt_tasks/specs/Own.antt` and `vlt_calls/specs/Called.antt` first, then `specs/Named.antt`, `Known.antt`, `Loose.antt`.
+//! Read `vlt_interp/specs/Tasks/Own.antt` and `vlt_interp/specs/Calls/Called.antt` first, then `specs/Named.antt`, `Known.antt`, `Loose.antt`.
 //! Used by: the machine, which fills variables, looks up keys and calls externals without a test.
 #![tactic(auto)]
 
 ghost use Rattle.vlt_core.specs.Core.{Program, Form, Func};
 ghost use Rattle.vlt_core.specs.Kinded.{IsKinded};
-ghost use Rattle.vlt_tasks.specs.Own.{HasOwn};
+ghost use Rattle.vlt_interp.specs.Tasks.Own.{HasOwn};
 ghost use Rattle.vlt_run_laws.specs.Blank.{HasBlankExternals, HasFewVars};
 ghost use Rattle.vlt_core.specs.Instances.{HasNoBounds};
 ghost use Rattle.std.specs.Prelude.{ℕ};
 ghost use Rattle.vlt_core.specs.Derives.{IsAccepted};
 ghost use Rattle.vlt_core_laws.specs.States.{HasStates};
 ghost use Rattle.vlt_meaning.specs.World.{Frame, World};
-ghost use Rattle.vlt_machine.specs.Reached.{NamesItsKeys};
+ghost use Rattle.vlt_meaning_laws.specs.Machine.Reached.{NamesItsKeys};
 ghost use Rattle.vlt_sound.specs.Sizes.{HasSizes};
 ghost use Rattle.vlt_sound.specs.Narrow.{HasNarrowHeads};
 ghost use Rattle.vlt_run_laws.specs.Known.{IsKnown, KnowsItsSteps};
 ghost use Rattle.vlt_run_laws.specs.Named.{NamesScope};
 ghost use Rattle.vlt_run_laws.specs.Loose.{MovesLooseObjects};
-ghost use Rattle.vlt_calls.specs.Known.{KnowsItsCalls};
+ghost use Rattle.vlt_interp.specs.Calls.Known.{KnowsItsCalls};
 
 /// The statements of a program that breaks no rule on names and types name variables and keys of their own functions.
 pub fn kinded_programs_name_their_own()

@@ -3,9 +3,9 @@ use Rattle.std.proofs.Common.{◌≡◌, ◌⊎◌, inl, inr, ℕ, ℤ, List, []
 use Rattle.std.specs.List.{flat_map}
 use Rattle.std.proofs.lemmas.Option.{none-some}
 use Rattle.vlt_io.specs.Outside.{Grew, GrewByPart}
-use Rattle.vlt_given.specs.Given.{Given, numbers, bad_input, bad_answers}
-use Rattle.vlt_given.specs.declared.GivenError.{GivenError}
-use Rattle.vlt_given.specs.declared.GivenError.TheVariants as error
+use Rattle.vlt_numbers.specs.Given.Given.{Given, numbers, bad_input, bad_answers}
+use Rattle.vlt_numbers.specs.declared.given.GivenError.{GivenError}
+use Rattle.vlt_numbers.specs.declared.given.GivenError.TheVariants as error
 use Rattle.vlt_steps.specs.declared.end.RunEnd.{RunEnd}
 use Rattle.vlt_steps.specs.declared.end.RunEnd.TheVariants.{BadInput, BadAnswers, Memory}
 use Rattle.vlt_steps.specs.declared.errors.OpenError.{OpenError}

@@ -1,8 +1,8 @@
 -- How a run ends over its files of numbers, in the order in which it refuses: the input, the answers, the width of the machine, the run.
 use Rattle.std.specs.Prelude.{◌≡◌, ◌⊎◌, ℤ, List}
-use Rattle.vlt_given.specs.Given.{Given, numbers, bad_input, bad_answers}
-use Rattle.vlt_given.specs.declared.GivenError.{GivenError}
-use Rattle.vlt_given.specs.declared.GivenError.TheVariants as error
+use Rattle.vlt_numbers.specs.Given.Given.{Given, numbers, bad_input, bad_answers}
+use Rattle.vlt_numbers.specs.declared.given.GivenError.{GivenError}
+use Rattle.vlt_numbers.specs.declared.given.GivenError.TheVariants as error
 use Rattle.vlt_steps.specs.declared.end.RunEnd.{RunEnd}
 use Rattle.vlt_steps.specs.declared.end.RunEnd.TheVariants.{BadInput, BadAnswers, TooWide, Stopped, Memory}
 use Rattle.vlt_steps.specs.Writing.{Outside, IsUntouched}

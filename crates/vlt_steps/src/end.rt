@@ -3,7 +3,7 @@
 ghost use Rattle.std.specs.Prelude.{◌≡◌};
 ghost use Rattle.vlt_steps.specs.Ends.{refusal_of};
 
-use vlt_given::GivenError;
+use vlt_numbers::GivenError;
 
 /// How a run ends whose machine stops in one of the ways of `S`.
 #[derive(Clone, Copy, Debug, PartialEq, Eq)]

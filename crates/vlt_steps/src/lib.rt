@@ -5,10 +5,12 @@
 
 mod end;
 mod errors;
+pub mod lines;
 mod stop;
 mod tables;
 
 pub use end::{RunEnd, end_of};
 pub use errors::OpenError;
+pub use lines::{begin, tell_number, tell_object, write_number};
 pub use stop::{Ended, Stop};
 pub use tables::{next, put};

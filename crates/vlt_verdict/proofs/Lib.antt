@@ -1,3 +1,4 @@
 pub mod Judged
 pub mod Single
 pub mod Some
+pub mod OfFitLaws

@@ -3,7 +3,7 @@ use Rattle.std.proofs.Common.{◌≡◌, inl, inr, Result, Ok, Err, refl}
 use Rattle.vlt_syntax.specs.Tree.{Tree}
 use Rattle.vlt_core.specs.Core.{Program}
 use Rattle.vlt_core_laws.specs.Fit.{IsWellFormed}
-use Rattle.vlt_fit_laws.specs.Fit.{ProgramsAreFit}
+use Rattle.vlt_verdict.specs.FitLaws.Fit.{ProgramsAreFit}
 use Rattle.vlt_resolve.specs.Elaboration.{Told}
 use Rattle.vlt_base.specs.Sure.{Surely}
 use Rattle.vlt_check_laws.specs.Judged.{IsJudged}

@@ -1,7 +1,7 @@
 -- That a tree of a text has one verdict.
 use Rattle.std.specs.Prelude.{◌≡◌}
 use Rattle.vlt_syntax.specs.Tree.{Tree}
-use Rattle.vlt_fit_laws.specs.Fit.{IsTextTree}
+use Rattle.vlt_verdict.specs.FitLaws.Fit.{IsTextTree}
 use Rattle.vlt_base.specs.Sure.{Surely}
 use Rattle.vlt_verdict.specs.Verdicts.{Verdict, IsVerdictOf}
 

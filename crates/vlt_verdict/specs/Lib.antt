@@ -2,3 +2,4 @@ pub mod Verdicts
 pub mod Laws
 pub mod Seen
 pub mod Unfit
+pub mod FitLaws

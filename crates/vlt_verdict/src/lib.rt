@@ -5,20 +5,26 @@
 
 ghost use Rattle.std.specs.Prelude.{IfOk};
 ghost use Rattle.vlt_syntax.specs.View.{tree_of};
-ghost use Rattle.vlt_fit_laws.specs.Fit.{IsTextTree};
+ghost use Rattle.vlt_verdict.specs.FitLaws.Fit.{IsTextTree};
 ghost use Rattle.vlt_verdict.specs.Verdicts as v;
 ghost use Rattle.vlt_verdict.specs.Verdicts.{IsVerdictOf};
 ghost use Rattle.vlt_verdict.specs.Laws.{HasOneVerdict, HasSomeVerdict};
 ghost use Rattle.vlt_verdict.specs.Seen.{IsSeenAs, IsTellable};
 ghost use Rattle.vlt_verdict.specs.Unfit.{IfUnfit, HasUnfitProgram};
 
+mod fit_laws;
+
+use crate::fit_laws::only_bodies_are_unfit;
+pub use fit_laws::{
+    declared_externals_are_narrow, declared_sets_are_small, declared_structs_are_small,
+    programs_are_fit, texts_have_text_trees,
+};
 use std::alloc::{AllocError, Global};
 use thiserror::Error;
 use vlt_check::{CheckError, accepted_has_no_fault, check};
 use vlt_check_laws::programs_are_judged;
 use vlt_core::{FlowFault, Program};
 use vlt_core_laws::there_is_one_first_fault;
-use vlt_fit_laws::{only_bodies_are_unfit, programs_are_fit};
 use vlt_kinds::{KindError, tables};
 use vlt_resolve::{ElabError, elaborate};
 use vlt_syntax::Tree;

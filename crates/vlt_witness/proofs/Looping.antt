@@ -9,8 +9,8 @@ use Rattle.vlt_core.specs.Flow.{Block}
 use Rattle.vlt_core.specs.Found.{One, one_absent, one_held, one_lent, one_full}
 use Rattle.vlt_core.specs.Witness.{Choice, ThroughBlock, Turns, Reaches}
 use Rattle.vlt_core_laws.specs.Sweep.{In}
-use Rattle.vlt_found.specs.declared.ones.Ones.{Ones}
-use Rattle.vlt_found.specs.Ones.{many_of}
+use Rattle.vlt_faults.specs.declared.finding.ones.Ones.{Ones}
+use Rattle.vlt_faults.specs.Finding.Ones.{many_of}
 use Rattle.vlt_witness.specs.declared.ways.Way.{Way}
 use Rattle.vlt_witness.specs.Ways.{Finds, nothing_found, IsWay, On, IsSmall}
 use Rattle.vlt_witness.specs.Search.{Led, Spreads, Joined, Leg, Leads, CanLead, Walks, By, CanBy, Grows, Times, Often, IsClosed, IsTable}

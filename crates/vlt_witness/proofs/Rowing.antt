@@ -11,9 +11,9 @@ use Rattle.vlt_core.specs.declared.held.Row as D
 use Rattle.vlt_core.specs.FaultView.{choices_of}
 use Rattle.vlt_core_laws.specs.Sweep.{Many, In, IsImage}
 use Rattle.vlt_core_laws.proofs.Smooth.{smooth_image, smooth_images}
-use Rattle.vlt_found.specs.Ones.{many_of}
-use Rattle.vlt_found.specs.Passes.{IsMoved}
-use Rattle.vlt_found.proofs.Bits.{both_true}
+use Rattle.vlt_faults.specs.Finding.Ones.{many_of}
+use Rattle.vlt_faults.specs.Finding.Passes.{IsMoved}
+use Rattle.vlt_faults.proofs.OfFinding.Bits.{both_true}
 use Rattle.vlt_witness.specs.declared.aim.Aim.{Aim}
 use Rattle.vlt_witness.specs.declared.aim.Goal.{Goal}
 use Rattle.vlt_witness.specs.declared.aim.Goal.TheVariants as goal

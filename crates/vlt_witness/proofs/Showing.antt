@@ -18,8 +18,8 @@ use Rattle.vlt_core.specs.declared.held.Tok as D
 use Rattle.vlt_core.specs.declared.held.Wanted as DW
 use Rattle.vlt_core.specs.FaultView.{choices_of}
 use Rattle.vlt_core_laws.specs.Sweep.{In}
-use Rattle.vlt_found.specs.declared.ones.Ones as DO
-use Rattle.vlt_found.specs.Ones.{many_of}
+use Rattle.vlt_faults.specs.declared.finding.ones.Ones as DO
+use Rattle.vlt_faults.specs.Finding.Ones.{many_of}
 use Rattle.vlt_check_laws.specs.Shown.{HasWitness}
 use Rattle.vlt_witness.specs.declared.explain.Paths.{Paths}
 use Rattle.vlt_witness.specs.declared.aim.Aim.{Aim}

@@ -8,9 +8,9 @@ use Rattle.vlt_base.specs.States.{is_bit, has_state, IsWithin}
 use Rattle.vlt_base.specs.declared.states.StateSet.{StateSet}
 use Rattle.vlt_core.specs.Found.{One, one_absent, one_held, one_lent, one_full}
 use Rattle.vlt_core_laws.specs.Sweep.{In}
-use Rattle.vlt_found.specs.declared.ones.Ones.{Ones}
-use Rattle.vlt_found.specs.Ones.{many_of}
-use Rattle.vlt_found.proofs.Bits.{no_true}
+use Rattle.vlt_faults.specs.declared.finding.ones.Ones.{Ones}
+use Rattle.vlt_faults.specs.Finding.Ones.{many_of}
+use Rattle.vlt_faults.proofs.OfFinding.Bits.{no_true}
 
 pub by_parts : (r : Ones) (X : One → Type 0) → (IsTrue r.absent ↔ X one_absent) → ((i : ℕ) → IsTrue (is_bit r.held i) ↔ X (one_held i)) → ((i : ℕ) → IsTrue (is_bit r.lent i) ↔ X (one_lent i)) → (IsTrue r.full ↔ X one_full) → (o : One) → In (many_of r) o ↔ X o
 by_parts r X a h l f one_absent = a

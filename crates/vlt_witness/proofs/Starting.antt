@@ -8,9 +8,9 @@ use Rattle.vlt_core.specs.Found.{One, Has}
 use Rattle.vlt_core.specs.HeldView.{status_of}
 use Rattle.vlt_core.specs.declared.held.Status.TheVariants.{Absent}
 use Rattle.vlt_core_laws.specs.Sweep.{In}
-use Rattle.vlt_found.specs.declared.ones.Ones.{Ones}
-use Rattle.vlt_found.specs.Ones.{many_of}
-use Rattle.vlt_found.proofs.Bits.{no_true, no_bits}
+use Rattle.vlt_faults.specs.declared.finding.ones.Ones.{Ones}
+use Rattle.vlt_faults.specs.Finding.Ones.{many_of}
+use Rattle.vlt_faults.proofs.OfFinding.Bits.{no_true, no_bits}
 use Rattle.vlt_keyset.specs.Held.{Statuses, map_of, HasPlace}
 use Rattle.vlt_witness.proofs.Singles.{by_parts, same_bit}
 use Rattle.std.proofs.lemmas.Bool.{cases_lt}

@@ -4,7 +4,7 @@ use Rattle.vlt_core.specs.Found.{One, one_absent, one_held, one_lent, one_full}
 use Rattle.vlt_core.specs.Witness.{Choice}
 use Rattle.vlt_core.specs.FaultView.{choices_of}
 use Rattle.vlt_core_laws.specs.Sweep.{In}
-use Rattle.vlt_found.specs.Ones.{many_of}
+use Rattle.vlt_faults.specs.Finding.Ones.{many_of}
 use Rattle.vlt_witness.specs.declared.seen.Seen.{Seen}
 use Rattle.vlt_witness.specs.declared.ways.Way.{Way}
 use Rattle.vlt_witness.specs.Ways.{one_of, Finds, nothing_found, IsWay, IsSeen, End, end_of_join, IsSmall}

@@ -4,7 +4,7 @@ use Rattle.vlt_core.specs.Found.{One, one_absent, one_held, one_lent, one_full}
 use Rattle.vlt_core.specs.FaultView.{choices_of}
 use Rattle.vlt_core.specs.Witness as w
 use Rattle.vlt_core_laws.specs.Sweep.{In}
-use Rattle.vlt_found.specs.Ones.{many_of}
+use Rattle.vlt_faults.specs.Finding.Ones.{many_of}
 use Rattle.vlt_witness.specs.declared.single.Single.{Single}
 use Rattle.vlt_witness.specs.declared.single.Single.TheVariants as single
 use Rattle.vlt_witness.specs.declared.ways.Way.{Way}

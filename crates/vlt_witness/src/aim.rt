@@ -6,7 +6,7 @@ ghost use Rattle.vlt_core.specs.HeldView.{row_of, wanted_of};
 ghost use Rattle.vlt_core.specs.Found.{One, WantsOne};
 ghost use Rattle.vlt_core.specs.Faults.{IsPresent};
 ghost use Rattle.vlt_core_laws.specs.Sweep.{In};
-ghost use Rattle.vlt_found.specs.Ones.{many_of};
+ghost use Rattle.vlt_faults.specs.Finding.Ones.{many_of};
 ghost use Rattle.vlt_witness.specs.Ways.{row_end, join_end, class_of};
 ghost use Rattle.vlt_witness.specs.Aims.{rows_aimed, joins_aimed, spot_of};
 
@@ -14,7 +14,7 @@ use crate::seen::JoinName;
 use crate::single::{Single, has, without};
 use vlt_base::StateSet;
 use vlt_core::{After, Row, Tok, Wanted};
-use vlt_found::{Ones, is_empty, made, pass_row};
+use vlt_faults::{Ones, is_empty, made, pass_row};
 
 /// What a path is to meet.
 #[derive(Clone, Copy)]

@@ -10,7 +10,7 @@ ghost use Rattle.vlt_core.specs.HeldView.{wanted_of};
 ghost use Rattle.vlt_core.specs.View.{program_of, func_of, tok_of};
 ghost use Rattle.vlt_core.specs.FaultView.{choices_of};
 ghost use Rattle.vlt_core_laws.specs.Sweep.{In};
-ghost use Rattle.vlt_found.specs.Ones.{many_of};
+ghost use Rattle.vlt_faults.specs.Finding.Ones.{many_of};
 ghost use Rattle.vlt_keyset.specs.Held.{map_of};
 ghost use Rattle.vlt_rows.specs.FlowView.{block_view};
 ghost use Rattle.vlt_rows.specs.Unfit.{UnfitBy};
@@ -29,8 +29,8 @@ use crate::ways::Way;
 use std::alloc::{AllocError, Global};
 use vlt_base::{FnId, Items};
 use vlt_core::{Choice, FaultKind, FlowFault, Func, Program, Status, Tok, Wanted};
+use vlt_faults::{Ones, made};
 use vlt_flow::start_map_of;
-use vlt_found::{Ones, made};
 use vlt_keyset::Held;
 use vlt_rows::{FlowBlock, RowError, body_flow};
 

@@ -8,7 +8,7 @@ ghost use Rattle.vlt_core.specs.View.{tok_of};
 ghost use Rattle.vlt_core.specs.HeldView.{row_of, toks_of};
 ghost use Rattle.vlt_rows.specs.FlowView.{rows_view};
 ghost use Rattle.vlt_core_laws.specs.Sweep.{In, IsImage};
-ghost use Rattle.vlt_found.specs.Ones.{many_of};
+ghost use Rattle.vlt_faults.specs.Finding.Ones.{many_of};
 ghost use Rattle.vlt_witness.specs.Ways.{row_end, IsWay, On, OnSeen, nothing_found};
 ghost use Rattle.vlt_witness.specs.Search.{Walks, Sees, Passes};
 ghost use Rattle.vlt_witness.specs.Aims.{rows_aimed, joins_aimed, RowsHere, HasNoRow};
@@ -19,7 +19,7 @@ use crate::ways::{Way, add};
 use std::alloc::{AllocError, Global};
 use vlt_base::{Items, either};
 use vlt_core::{After, Row, Tok, Wanted};
-use vlt_found::{Ones, pass_row};
+use vlt_faults::{Ones, pass_row};
 
 /// What rows leave, and whether the aim is met at one of them.
 #[derive(Clone, Copy)]

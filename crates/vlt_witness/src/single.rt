@@ -4,11 +4,11 @@ ghost use Rattle.std.specs.Prelude.{◌≡◌, ◌↔◌, IsTrue};
 ghost use Rattle.vlt_base.specs.States.{is_bit};
 ghost use Rattle.vlt_core.specs.Found.{One};
 ghost use Rattle.vlt_core_laws.specs.Sweep.{In};
-ghost use Rattle.vlt_found.specs.Ones.{many_of};
+ghost use Rattle.vlt_faults.specs.Finding.Ones.{many_of};
 ghost use Rattle.vlt_witness.specs.Ways.{one_of, IsSmall};
 
 use vlt_base::StateSet;
-use vlt_found::{Ones, made};
+use vlt_faults::{Ones, made};
 
 /// A status of an object in one state.
 #[derive(Clone, Copy, Debug, PartialEq, Eq)]

@@ -5,7 +5,7 @@ ghost use Rattle.vlt_core.specs.Found.{One};
 ghost use Rattle.vlt_core.specs.Witness as w;
 ghost use Rattle.vlt_core.specs.FaultView.{pick_of, choices_of};
 ghost use Rattle.vlt_core_laws.specs.Sweep.{In};
-ghost use Rattle.vlt_found.specs.Ones.{many_of};
+ghost use Rattle.vlt_faults.specs.Finding.Ones.{many_of};
 ghost use Rattle.vlt_witness.specs.Ways.{one_of, IsSmall, IsWay, On, nothing_found};
 ghost use Rattle.vlt_witness.specs.Search.{Spreads, Joined, Walks, Takes, By, CanBy, Grows, IsClosed, IsEvery};
 
@@ -13,7 +13,7 @@ use crate::single::{Single, has, is_same, only, without};
 use std::alloc::{AllocError, Global};
 use vlt_base::Items;
 use vlt_core::{Choice, Pick};
-use vlt_found::{Ones, is_empty};
+use vlt_faults::{Ones, is_empty};
 
 /// From a status, by choices, to each of these statuses.
 #[derive(Drop)]

@@ -1,6 +1,6 @@
 use Rattle.std.proofs.Common.{[], ◌∷◌, Some}
 use Rattle.vaultc_core.specs.Commands.{run}
-use Rattle.vlt_given.specs.Given.{given_by}
+use Rattle.vlt_numbers.specs.Given.Given.{given_by}
 use Rattle.vaultc_core.specs.Replies.{IsReplyToRunText, MayReply}
 use Rattle.vaultc_core.specs.Shown.{IsReplyOf, error_seen}
 use Rattle.vaultc_core.specs.Sources.{had}

@@ -1,5 +1,5 @@
 use Rattle.vlt_core.specs.View.{program_of}
-use Rattle.vlt_given.specs.Given.{given_by}
+use Rattle.vlt_numbers.specs.Given.Given.{given_by}
 use Rattle.vlt_syntax.specs.View.{tree_of}
 use Rattle.vaultc_core.specs.Replies.{IsReplyToRunText}
 use Rattle.vaultc_core.specs.Runs.{IsReplyToProgram}

@@ -1,5 +1,5 @@
 use Rattle.std.proofs.Common.{subst}
-use Rattle.vlt_given.specs.Given.{given_by}
+use Rattle.vlt_numbers.specs.Given.Given.{given_by}
 use Rattle.vaultc_core.specs.Finishes.{Finishes}
 use Rattle.vaultc_core.specs.Replies.{IsReplyToRunText}
 use Rattle.vaultc_core.specs.Shown.{IsReplyOf, refusal_of}

@@ -1,7 +1,7 @@
 use Rattle.std.proofs.Common.{sym, ◌∙◌}
 use Rattle.vlt_core.specs.View.{entry_of, keys_of}
-use Rattle.vlt_values.proofs.Fronts.{owned_object, number_object}
-use Rattle.vlt_frames.proofs.Naming.{key_found, key_missing}
+use Rattle.vlt_acts.proofs.OfValues.Fronts.{owned_object, number_object}
+use Rattle.vlt_acts.proofs.OfFrames.Naming.{key_found, key_missing}
 use Rattle.vlt_externals.proofs.Coming.{key_back, other_back, missing_back}
 use Rattle.vlt_externals.proofs.backs.back_key.Goals as goal
 

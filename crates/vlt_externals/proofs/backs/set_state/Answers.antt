@@ -1,4 +1,4 @@
-use Rattle.vlt_values.proofs.Fronts.{owned_object, number_object}
+use Rattle.vlt_acts.proofs.OfValues.Fronts.{owned_object, number_object}
 use Rattle.vlt_externals.proofs.Coming.{becomes_so, becomes_other}
 use Rattle.vlt_externals.proofs.backs.set_state.Goals as goal
 

@@ -1,4 +1,4 @@
-use Rattle.vlt_tasks.specs.declared.task.Task.TheVariants.{Back as BackTask}
+use Rattle.vlt_interp.specs.declared.tasks.task.Task.TheVariants.{Back as BackTask}
 use Rattle.std.proofs.Common.{None}
 use Rattle.vlt_interp.proofs.Turning.{back_not_goes, back_not_jumps, right_task, task_goes}
 use Rattle.vlt_interp.proofs.moves.back.Goals as goal

@@ -1,5 +1,5 @@
 use Rattle.std.proofs.lemmas.List.{nil_from_length}
-use Rattle.vlt_tasks.specs.declared.task.Task.TheVariants.{List as ListTask}
+use Rattle.vlt_interp.specs.declared.tasks.task.Task.TheVariants.{List as ListTask}
 use Rattle.vlt_interp.proofs.Tasking.{few_tasks, list_ends, list_jumps, list_leaves}
 use Rattle.vlt_interp.proofs.Turning.{list_can, list_acts}
 use Rattle.vlt_interp.proofs.moves.list.Goals as goal

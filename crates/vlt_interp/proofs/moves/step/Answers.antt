@@ -1,6 +1,6 @@
 use Rattle.std.proofs.Common.{[], ◌∷◌, ◌++◌, None, ap, ◌∙◌, refl, arith}
 use Rattle.std.proofs.lemmas.List.{nil_from_length}
-use Rattle.vlt_tasks.specs.declared.task.Task.TheVariants.{List as ListTask, Closing as ClosingTask, Turn as TurnTask, Unfocus as UnfocusTask, Back as BackTask}
+use Rattle.vlt_interp.specs.declared.tasks.task.Task.TheVariants.{List as ListTask, Closing as ClosingTask, Turn as TurnTask, Unfocus as UnfocusTask, Back as BackTask}
 use Rattle.vlt_interp.proofs.Tasking.{closing_goes}
 use Rattle.vlt_interp.proofs.Turning.{right_task, task_goes}
 use Rattle.vlt_interp.proofs.Popping.{taken_can, taken_moves, none_left}

@@ -1,5 +1,5 @@
 use Rattle.std.proofs.Common.{ap, ◌∙◌}
-use Rattle.vlt_tasks.specs.declared.task.At.TheVariants.{Jumps}
+use Rattle.vlt_interp.specs.declared.tasks.task.At.TheVariants.{Jumps}
 use Rattle.vlt_interp.proofs.Turning.{goes_can, goes_turn, jumps_can, jumps_turn, jumps_out, leaves_loop}
 use Rattle.vlt_interp.proofs.moves.turn.Goals as goal
 

@@ -1,5 +1,5 @@
 use Rattle.vlt_core.specs.View.{program_of}
-use Rattle.vlt_tasks.specs.Shown.{tasks_left}
+use Rattle.vlt_interp.specs.Tasks.Shown.{tasks_left}
 use Rattle.vlt_interp.specs.Running.{start_of, goal_of, IsRunning}
 use Rattle.vlt_interp.proofs.Weighing.{measure}
 use Rattle.vlt_interp.proofs.run.finish.Given as goal

@@ -1,7 +1,7 @@
 use Rattle.std.proofs.Common.{Some, None, refl, arith}
 use Rattle.vlt_numbers.specs.HostAnswers.{lists_of}
 use Rattle.vlt_core.specs.View.{func_of, program_of}
-use Rattle.vlt_tasks.specs.declared.task.At.TheVariants.{Goes as GoesOn}
+use Rattle.vlt_interp.specs.declared.tasks.task.At.TheVariants.{Goes as GoesOn}
 use Rattle.vlt_interp.proofs.Beginning.{has_main, main_is, no_depth, start_room, first_running, first_ended}
 use Rattle.vlt_interp.proofs.run.run_program.Goals as goal
 

@@ -1,6 +1,6 @@
 use Rattle.std.proofs.Common.{◌∙◌, map}
 use Rattle.vlt_syntax.specs.View as view
-use Rattle.vlt_kinds_names.proofs.Loops.{found_next}
+use Rattle.vlt_kinds_types.proofs.OfNames.Loops.{found_next}
 use Rattle.vlt_kinds_types.specs.Seen.{file_seen}
 use Rattle.vlt_kinds_heads.specs.Externals as e
 use Rattle.vlt_kinds_heads.proofs.externals.check_parameters.Goals as goal

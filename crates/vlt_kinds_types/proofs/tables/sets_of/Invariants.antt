@@ -3,7 +3,7 @@ use Rattle.vlt_syntax.specs.View as view
 use Rattle.vlt_syntax.specs.Lists.{Each}
 use Rattle.vlt_syntax.specs.Grammar.{IsDecl, language}
 use Rattle.vlt_core.specs.View.{set_of}
-use Rattle.vlt_kinds_names.specs.Refusals.{of_each}
+use Rattle.vlt_kinds_types.specs.Names.Refusals.{of_each}
 use Rattle.vlt_kinds_types.specs.Files as f
 use Rattle.vlt_kinds_types.specs.Small.{AreSmallSets}
 use Rattle.vlt_kinds_types.proofs.tables.sets_of.Given as goal

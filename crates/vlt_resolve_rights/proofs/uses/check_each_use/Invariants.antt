@@ -1,5 +1,5 @@
 use Rattle.std.proofs.Common.{◌≡◌, drop, map}
-use Rattle.vlt_kinds_names.specs.Refusals.{found_each}
+use Rattle.vlt_kinds_types.specs.Names.Refusals.{found_each}
 use Rattle.vlt_kinds_types.specs.Seen.{use_seen}
 use Rattle.vlt_resolve_exprs.specs.Seen.{scope_seen}
 use Rattle.vlt_resolve_rights.specs.News as n

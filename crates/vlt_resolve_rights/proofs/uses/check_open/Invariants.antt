@@ -1,6 +1,6 @@
 use Rattle.std.proofs.Common.{◌≡◌, map, drop}
 use Rattle.vlt_syntax.specs.View as tree
-use Rattle.vlt_kinds_names.specs.Refusals.{found_each}
+use Rattle.vlt_kinds_types.specs.Names.Refusals.{found_each}
 use Rattle.vlt_kinds_types.specs.Types as t
 use Rattle.vlt_kinds_types.specs.declared.shapes.Wanted.TheVariants as wanted
 use Rattle.vlt_resolve_exprs.specs.Seen.{scope_seen}

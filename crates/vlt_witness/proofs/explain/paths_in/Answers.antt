@@ -4,7 +4,7 @@ use Rattle.vlt_core.specs.Found.{One, Has}
 use Rattle.vlt_core.specs.Derives.{start_map}
 use Rattle.vlt_core.specs.View.{program_of, func_of, tok_of}
 use Rattle.vlt_core.specs.FaultView.{choices_of}
-use Rattle.vlt_found.specs.Ones.{many_of}
+use Rattle.vlt_faults.specs.Finding.Ones.{many_of}
 use Rattle.vlt_core_laws.specs.Sweep.{In}
 use Rattle.vlt_rows.specs.FlowView.{block_view}
 use Rattle.vlt_check.specs.Checks.{fault_of}

@@ -1,9 +1,9 @@
 use Rattle.std.proofs.Common.{◌<◌, ◌≤◌, ◌+◌, sym, subst, length, arith}
 use Rattle.vlt_core.specs.View.{tok_of}
 use Rattle.vlt_core.specs.HeldView.{row_of}
-use Rattle.vlt_found.specs.Ones.{many_of}
-use Rattle.vlt_found.proofs.Passing.{going_more, going_ends}
-use Rattle.vlt_found.proofs.Sweeps.{split_at}
+use Rattle.vlt_faults.specs.Finding.Ones.{many_of}
+use Rattle.vlt_faults.proofs.OfFinding.Passing.{going_more, going_ends}
+use Rattle.vlt_faults.proofs.OfFinding.Sweeps.{split_at}
 use Rattle.vlt_witness.proofs.Rowing.{Looking, looking_first, looking_more, looking_ends}
 use Rattle.vlt_witness.proofs.rows.look.Goals as goal
 

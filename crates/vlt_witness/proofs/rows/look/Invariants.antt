@@ -1,7 +1,7 @@
 use Rattle.vlt_core.specs.View.{tok_of}
 use Rattle.vlt_core.specs.HeldView.{row_of}
-use Rattle.vlt_found.specs.Ones.{many_of}
-use Rattle.vlt_found.proofs.Passing.{Going}
+use Rattle.vlt_faults.specs.Finding.Ones.{many_of}
+use Rattle.vlt_faults.proofs.OfFinding.Passing.{Going}
 use Rattle.vlt_witness.proofs.Rowing.{Looking}
 use Rattle.vlt_witness.proofs.rows.look.Given as goal
 

@@ -10,7 +10,7 @@ use Rattle.vlt_rows.specs.FlowView.{block_view, stmts_view, arm_view, arms_view,
 use Rattle.vlt_rows.specs.declared.tree.FlowBlock.{out-FlowBlock}
 use Rattle.vlt_rows.specs.declared.tree.FlowArm.{out-FlowArm}
 use Rattle.vlt_rows.proofs.Views.{step_form, if_form, while_form, switch_form, scope_form, focus_form, return_form, jump_form, block_parts, arm_parts}
-use Rattle.vlt_found.proofs.Sweeps.{split_at}
+use Rattle.vlt_faults.proofs.OfFinding.Sweeps.{split_at}
 use Rattle.vlt_witness.proofs.search.+search.Goals as goal
 use Rattle.vlt_witness.specs.declared.search.Jumps.{Jumps}
 use Rattle.vlt_witness.specs.declared.search.Went.{Went}

@@ -2,7 +2,7 @@ use Rattle.std.proofs.Common.{◌⊎◌, List}
 use Rattle.vlt_core.specs.Found.{One}
 use Rattle.vlt_core.specs.Witness.{Choice}
 use Rattle.vlt_core_laws.specs.Sweep.{In}
-use Rattle.vlt_found.specs.Ones.{many_of}
+use Rattle.vlt_faults.specs.Finding.Ones.{many_of}
 use Rattle.vlt_witness.specs.Ways.{one_of, On}
 use Rattle.vlt_witness.proofs.ways.fresh.Given as goal
 

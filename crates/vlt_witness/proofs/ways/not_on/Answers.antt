@@ -1,6 +1,6 @@
 use Rattle.std.proofs.Common.{rules, inl, inr, ⊎_elim, ap, refl}
 use Rattle.vlt_witness.specs.Ways.{one_of}
-use Rattle.vlt_found.specs.Ones.{many_of}
+use Rattle.vlt_faults.specs.Finding.Ones.{many_of}
 use Rattle.vlt_witness.proofs.Steps.{true_or_not}
 use Rattle.vlt_witness.proofs.ways.not_on.Goals as goal
 

@@ -4,9 +4,9 @@ use Rattle.vlt_syntax.specs.View as view
 use Rattle.vlt_syntax.specs.Lists.{Each}
 use Rattle.vlt_syntax.specs.Grammar.{IsDecl, language}
 use Rattle.vlt_core.specs.View as core_view
-use Rattle.vlt_kinds_names.specs.Refusals.{of_each, least_from, found_each}
-use Rattle.vlt_kinds_names.specs.Along.{found_along}
-use Rattle.vlt_kinds_names.specs.Globals.{names_seen}
+use Rattle.vlt_kinds_types.specs.Names.Refusals.{of_each, least_from, found_each}
+use Rattle.vlt_kinds_types.specs.Names.Along.{found_along}
+use Rattle.vlt_kinds_types.specs.Names.Globals.{names_seen}
 use Rattle.vlt_kinds_types.specs.Seen.{file_seen, states_seen, use_seen}
 use Rattle.vlt_kinds_heads.specs.Places as p
 use Rattle.vlt_kinds_heads.specs.Keys as k

@@ -1,4 +1,0 @@
-mod Before
-mod Turns
-mod Places
-mod Seen

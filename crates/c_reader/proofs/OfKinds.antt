@@ -1,0 +1,4 @@
+pub mod Before
+pub mod Turns
+pub mod Places
+pub mod Seen

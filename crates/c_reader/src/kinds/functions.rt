@@ -1,0 +1,160 @@
+//! Declarations, heads, functions with their bodies, and the whole.
+
+ghost use Rattle.std.specs.Prelude.{◌≡◌, ◌++◌, [], ◌∷◌, map, take, IfOk};
+ghost use Rattle.c_syntax.specs.Kinds as k;
+ghost use Rattle.c_parser.specs.View.{body_of, declaration_of, head_of, unit_of};
+ghost use Rattle.c_reader.specs.Kinds.View.{walk_of};
+
+use crate::kinds::heads::{
+    has_body, has_head, has_main, has_name, has_name_of_body, result_width, type_width,
+};
+use crate::kinds::types::{Scope, is_one_of, same_bool};
+use crate::kinds::walk::Walk;
+use c_parser::{Body, Declaration, Head, Unit};
+use c_syntax::CVar;
+use std::alloc::Global;
+use vlt_base::Memory;
+
+impl Walk<'_> {
+    /// A name that is declared behind those names, with the sign behind it.
+    fn declaration(&mut self, before: &[CVar], declaration: Declaration)
+        ensures { walk_of self.new ≡ k.declarations_judged before.now
+            (declaration_of declaration ∷ []) (walk_of self.old) }
+    {
+        self.skip(type_width(declaration.reference));
+        self.unless_here(!is_one_of(declaration.variable, before), 1);
+        self.unless_here(
+            same_bool(declaration.reference, declaration.variable.reference),
+            2,
+        );
+        self.skip(2);
+    }
+
+    /// Names that are declared behind those names, to which they are added.
+    fn declarations(
+        &mut self,
+        names: &mut Vec<CVar>,
+        declarations: &[Declaration],
+    ) -> Result<(), Memory>
+        ensures judged { IfOk result (λ u. walk_of self.new
+            ≡ k.declarations_judged names.old.items (map declaration_of declarations.now)
+            (walk_of self.old)) }
+        ensures names { IfOk result (λ u. names.new.items
+            ≡ names.old.items ++ k.names_of (map declaration_of declarations.now)) }
+    {
+        for &declaration in declarations {
+            self.declaration(names.as_slice(), declaration);
+            names.push(declaration.variable)?;
+        }
+        Ok(())
+    }
+
+    /// Parameters with the closing parenthesis, and their names.
+    fn params(&mut self, alloc: Global, params: &[Declaration]) -> Result<Vec<CVar>, Memory>
+        ensures judged { IfOk result (λ u. walk_of self.new
+            ≡ k.params_judged (map declaration_of params.now) (walk_of self.old)) }
+        ensures names { IfOk result (λ names. names.items
+            ≡ k.names_of (map declaration_of params.now)) }
+    {
+        let mut names = Vec::new(alloc);
+        if params.is_empty() {
+            self.skip(2);
+        } else {
+            self.declarations(&mut names, params)?;
+        }
+        Ok(names)
+    }
+
+    /// A head with the semicolon behind it, before those functions and after those heads.
+    fn head(
+        &mut self,
+        alloc: Global,
+        bodies: &[Body],
+        before: &[Head],
+        head: &Head,
+    ) -> Result<(), Memory>
+        ensures { IfOk result (λ u. walk_of self.new
+            ≡ k.heads_judged (k.heads_of (map body_of bodies.now)) (map head_of before.now)
+            (head_of head.now ∷ []) (walk_of self.old)) }
+    {
+        self.skip(result_width(head.result));
+        self.unless_here(!has_name(head.name, before), 1);
+        self.unless_here(has_body(head, bodies), 6);
+        self.skip(2);
+        self.params(alloc, head.params.as_slice())?;
+        self.skip(1);
+        Ok(())
+    }
+
+    /// The heads before those functions.
+    fn heads(&mut self, alloc: Global, bodies: &[Body], heads: &[Head]) -> Result<(), Memory>
+        ensures { IfOk result (λ u. walk_of self.new ≡ k.heads_judged
+            (k.heads_of (map body_of bodies.now)) [] (map head_of heads.now) (walk_of self.old)) }
+    {
+        for at in 0..heads.len() {
+            self.head(alloc, bodies, &heads[..at], &heads[at])?;
+        }
+        Ok(())
+    }
+
+    /// A function with its body, behind those heads and after those functions.
+    fn body(
+        &mut self,
+        alloc: Global,
+        heads: &[Head],
+        before: &[Body],
+        body: &Body,
+    ) -> Result<(), Memory>
+        ensures { IfOk result (λ u. walk_of self.new ≡ k.body_judged (map head_of heads.now)
+            (k.heads_of (map body_of before.now)) (body_of body.now) (walk_of self.old)) }
+    {
+        let head = &body.head;
+        self.skip(result_width(head.result));
+        self.unless_here(!has_name_of_body(head.name, before), 6);
+        self.unless_here(has_head(head, heads), 6);
+        self.skip(2);
+        let mut declared = self.params(alloc, head.params.as_slice())?;
+        self.skip(1);
+        self.declarations(&mut declared, body.vars.as_slice())?;
+        let scope = Scope {
+            heads,
+            name: head.name,
+            result: head.result,
+            declared: declared.as_slice(),
+        };
+        self.stmts(&scope, false, body.stmts.as_slice());
+        self.skip(1);
+        Ok(())
+    }
+
+    /// The functions with their bodies, behind those heads.
+    fn bodies(&mut self, alloc: Global, heads: &[Head], bodies: &[Body]) -> Result<(), Memory>
+        ensures { IfOk result (λ u. walk_of self.new ≡ k.bodies_judged (map head_of heads.now) []
+            (map body_of bodies.now) (walk_of self.old)) }
+    {
+        for at in 0..bodies.len() {
+            self.body(alloc, heads, &bodies[..at], &bodies[at])?;
+        }
+        Ok(())
+    }
+
+    /// Tells that no function is the one that VR_MAIN stands for, at the `f` before its number.
+    fn main(&mut self, unit: &Unit)
+        ensures { walk_of self.new ≡ k.main_judged (unit_of unit.now) (walk_of self.old) }
+    {
+        let at = self.place().saturating_sub(1);
+        self.unless(has_main(unit.main, &unit.bodies), at, 6);
+    }
+
+    /// All tokens of a text.
+    pub fn unit(&mut self, alloc: Global, unit: &Unit) -> Result<(), Memory>
+        ensures { IfOk result (λ u. walk_of self.new
+            ≡ k.unit_judged (unit_of unit.now) (walk_of self.old)) }
+    {
+        self.skip(3);
+        self.main(unit);
+        self.skip(2);
+        self.heads(alloc, &unit.bodies, &unit.heads)?;
+        self.bodies(alloc, &unit.heads, &unit.bodies)
+    }
+}

@@ -1,0 +1,5 @@
+pub mod Lexemes
+pub mod Lexed
+pub mod Exprs
+pub mod Stmts
+pub mod Units

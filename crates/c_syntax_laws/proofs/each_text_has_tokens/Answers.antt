@@ -1,5 +1,0 @@
-use Rattle.c_syntax_laws.proofs.Lexed.{each_text_has_tokens}
-use Rattle.c_syntax_laws.proofs.each_text_has_tokens.Goals as goal
-
-pub returns : goal.returns
-returns c = each_text_has_tokens

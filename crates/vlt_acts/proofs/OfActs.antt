@@ -1,0 +1,5 @@
+pub mod Keeping
+pub mod Showing
+pub mod Acting
+pub mod Naming
+pub mod Focusing

@@ -1,0 +1,101 @@
+//! Whole answers.
+
+ghost use Rattle.std.specs.Prelude.{◌≡◌, map};
+ghost use Rattle.vlt_core.specs.View.{program_of, func_of, case_of, ty_of};
+ghost use Rattle.vlt_core.specs.Lookups.{cases_of};
+ghost use Rattle.vlt_meaning.specs.HostAnswers.{variant_read, piece_read, result_read};
+ghost use Rattle.vlt_externals.specs.HostAnswers.Read.{rest_of, left_in, AreSets};
+ghost use Rattle.vlt_externals.specs.HostAnswers.Whole.{IsCaseRead, IsFitting};
+
+use crate::host_answers::numbers::below;
+use crate::host_answers::pieces::{behind_entries, behind_keys, behind_pieces, read_piece};
+use vlt_base::TypeId;
+use vlt_core::{CaseDecl, Func, Program, Ty, TypeDecl};
+
+/// A case of a variant, and the numbers behind its own.
+#[derive(Clone, Copy)]
+pub struct CaseRead<'a, 'h> {
+    pub case: usize,
+    pub decl: &'a CaseDecl,
+    pub left: &'h [i64],
+}
+
+/// The cases of a variant, none of any other type.
+fn cases<'a>(program: &'a Program, t: TypeId) -> &'a [CaseDecl]
+    ensures { map case_of result.now ≡ cases_of (program_of program.now) t.0 }
+{
+    match program.types.get(t.0 as usize) {
+        Some(TypeDecl::Variant { cases, .. }) => cases.as_slice(),
+        _ => &[],
+    }
+}
+
+/// The case of a variant that is next.
+pub fn read_case<'a, 'h>(
+    program: &'a Program,
+    t: TypeId,
+    left: &'h [i64],
+) -> Option<CaseRead<'a, 'h>>
+    ensures { IsCaseRead (program_of program.now) t.0 left.now result }
+{
+    let cases = cases(program, t);
+    match below(cases.len(), left) {
+        None => None,
+        Some((case, left)) => match cases.get(case) {
+            None => None,
+            Some(decl) => Some(CaseRead { case, decl, left }),
+        },
+    }
+}
+
+/// What is left behind a value of a variant.
+fn behind_variant<'h>(program: &Program, t: TypeId, left: &'h [i64]) -> Option<&'h [i64]>
+    ensures { left_in result ≡ rest_of (variant_read (program_of program.now) t.0 left.now) }
+{
+    match read_case(program, t, left) {
+        None => None,
+        Some(read) => match behind_keys(read.decl.keys.as_slice(), read.left) {
+            None => None,
+            Some(left) => behind_pieces(read.decl.payload.as_slice(), left),
+        },
+    }
+}
+
+/// What is left behind a number, a bool or a new object.
+fn behind_piece<'h>(t: &Ty, left: &'h [i64]) -> Option<&'h [i64]>
+    ensures { left_in result ≡ rest_of (piece_read (ty_of t.now) left.now) }
+{
+    match read_piece(t, left) {
+        None => None,
+        Some((_, left)) => Some(left),
+    }
+}
+
+/// What is left behind the result of an external.
+fn behind_result<'h>(program: &Program, g: &Func, left: &'h [i64]) -> Option<&'h [i64]>
+    ensures { left_in result ≡
+        rest_of (result_read (program_of program.now) (func_of g.now).result left.now) }
+{
+    match &g.result {
+        None => Some(left),
+        Some(Ty::Key(..)) => Some(left),
+        Some(Ty::Var(t, _)) => behind_variant(program, *t, left),
+        Some(Ty::OwnVar(t, _)) => behind_variant(program, *t, left),
+        Some(t) => behind_piece(t, left),
+    }
+}
+
+/// The numbers of an answer's result, where the answer fits the external and no number is left over.
+pub fn fitting<'h>(program: &Program, g: &Func, answer: &'h [i64]) -> Option<&'h [i64]>
+    ensures { AreSets (program_of program.now) (func_of g.now) (func_of g.now).clause →
+        IsFitting (program_of program.now) (func_of g.now) answer.now result }
+{
+    match behind_entries(program, g, g.clause.as_slice(), answer) {
+        None => None,
+        Some(result) => match behind_result(program, g, result) {
+            None => None,
+            Some([]) => Some(result),
+            Some(_) => None,
+        },
+    }
+}

@@ -1,0 +1,2 @@
+pub mod OfFinding
+pub mod OfJudge

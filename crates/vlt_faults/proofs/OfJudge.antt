@@ -1,0 +1,14 @@
+pub mod Parts
+pub mod Firsts
+pub mod Founds
+pub mod Lists
+pub mod Points
+pub mod Turns
+pub mod Forms
+pub mod Sums
+pub mod Counts
+pub mod Renaming
+pub mod Clean
+pub mod Overs
+pub mod Whole
+pub mod Unfitting

@@ -1,0 +1,228 @@
+-- The first fault over more and more tokens.
+use Rattle.std.proofs.Common.{◌≡◌, ◌↔◌, ◌<◌, ◌≤◌, ◌+◌, ◌^◌, ℕ, length, Option, Some, None, IfSome, ◌⊎◌, inl, inr, ⊎_elim, refl, sym, ap, ◌∙◌, subst, arith}
+use Rattle.std.proofs.lemmas.Bool.{cases_lt}
+use Rattle.std.proofs.lemmas.List.{get_or_past}
+use Rattle.vlt_core.specs.Core.{Tok, a_key, a_var}
+use Rattle.vlt_core.specs.Maps.{HeldMap}
+use Rattle.vlt_core.specs.Maps as maps
+use Rattle.vlt_core.specs.Flow.{Flow, step, choose, loop, switch, scope, focus, return, jump, Block, block, Stmts, done, next, Arms, no_arms, arm, size, size_block}
+use Rattle.vlt_core.specs.Found.{One, Ones, Has, images, out, to_next, head_of}
+use Rattle.vlt_core.specs.Faults.{Spot, SpotAtBlock, spots_block, IsMixed, IsUnwanted, IsNoLaterTok}
+use Rattle.vlt_core.specs.View.{tok_of}
+use Rattle.vlt_core_laws.specs.Sweep.{In, Stock, IsFoundIn, found_head, found_head_block, found_head_stmts, found_head_arms, found_exit, found_exit_block, found_exit_stmts, found_exit_arms}
+use Rattle.vlt_core_laws.proofs.Smooth.{smooth_images, smooth_form, smooth_heads}
+use Rattle.vlt_core_laws.proofs.Sweeping.{smooth_round, fits_block}
+use Rattle.vlt_faults.specs.declared.finding.ones.Ones as D
+use Rattle.vlt_faults.specs.Finding.Ones.{many_of}
+use Rattle.vlt_faults.specs.Finding.Marks.{Marks, stock_of, at as table}
+use Rattle.vlt_core.specs.HeldView.{status_of}
+use Rattle.vlt_core.specs.declared.held.Status.TheVariants.{Absent}
+use Rattle.vlt_core.specs.FaultView.{kind_of}
+use Rattle.vlt_keyset.specs.Held.{Statuses, map_of, HasPlace}
+use Rattle.vlt_faults.specs.declared.judge.blame.Blame.{Blame}
+use Rattle.vlt_faults.specs.declared.judge.extent.Extent.{Extent}
+use Rattle.vlt_faults.specs.Judge.Blames.{spot_of, NoLaterThan, IsEarlier, TellsUnwanted, TellsMixed, FirstOfBlock}
+use Rattle.vlt_faults.specs.Judge.Extents.{IsBeyond, AvoidsBlock, IsExtent}
+use Rattle.vlt_faults.specs.Judge.Judging.{HasRoom, FittingBlock}
+use Rattle.vlt_faults.specs.Judge.Overs.{IsTabled, IsFaulty, IsFirstOver, IsKeyBelow, IsVarBelow, IsWhole}
+use Rattle.vlt_faults.proofs.OfJudge.Firsts.{later_trans}
+use Rattle.vlt_faults.proofs.OfJudge.Points.{block_first_same}
+use Rattle.vlt_faults.proofs.OfJudge.Renaming.{heads_block_named, exits_block_named, spot_block_named}
+
+-- ---- more is found where more comes
+
+abbrev Within : Ones → Ones → Type 0
+Within S T = (o : One) → S o → T o
+
+head_more : (t : Tok) (rs : _) (s : Block) (S T : Ones) → Within S T → Within (head_of t rs s S) (head_of t rs s T)
+head_more t rs s S T f = (smooth_heads _ (smooth_round t rs s)).more S T f
+
+mutual
+  heads_more : (s : Flow) (t : Tok) (n : ℕ) (S T : Ones) → Within S T → (i : ℕ) (o : One) → found_head t s n S i o → found_head t s n T i o
+  heads_more (choose rs a b) t n S T f i o x =
+      let m = (smooth_images t rs).more S T f in
+      ⊎_elim (λ y. inl (heads_more_block a t (n + 1) (images t rs S) (images t rs T) m i o y)) (λ y. inr (heads_more_block b t (n + 1 + size_block a) (images t rs S) (images t rs T) m i o y)) x
+  heads_more (loop rs s) t n S T f i o x =
+      let h = head_more t rs s S T f in
+      ⊎_elim (λ y. inl (y.0, h o y.1)) (λ y. inr (heads_more_block s t (n + 1) (images t rs (head_of t rs s S)) (images t rs (head_of t rs s T)) ((smooth_images t rs).more (head_of t rs s S) (head_of t rs s T) h) i o y)) x
+  heads_more (switch rs arms end) t n S T f i o x = heads_more_arms arms t (n + 1) (images t rs S) (images t rs T) ((smooth_images t rs).more S T f) i o x
+  heads_more (scope s) t n S T f i o x = heads_more_block s t (n + 1) S T f i o x
+  heads_more (focus rs s es) t n S T f i o x = heads_more_block s t (n + 1) (images t rs S) (images t rs T) ((smooth_images t rs).more S T f) i o x
+  heads_more (step rs) t n S T f i o x = x
+  heads_more (return rs) t n S T f i o x = x
+  heads_more (jump c left) t n S T f i o x = x
+
+  heads_more_block : (s : Block) (t : Tok) (n : ℕ) (S T : Ones) → Within S T → (i : ℕ) (o : One) → found_head_block t s n S i o → found_head_block t s n T i o
+  heads_more_block (block ss bound end) t n S T f i o x = heads_more_stmts ss t n S T f i o x
+
+  heads_more_stmts : (ss : Stmts) (t : Tok) (n : ℕ) (S T : Ones) → Within S T → (i : ℕ) (o : One) → found_head_stmts t ss n S i o → found_head_stmts t ss n T i o
+  heads_more_stmts done t n S T f i o x = x
+  heads_more_stmts (next at s rest) t n S T f i o x =
+      ⊎_elim (λ y. inl (heads_more s t n S T f i o y)) (λ y. inr (heads_more_stmts rest t (n + size s) (out t s S to_next) (out t s T to_next) ((smooth_form s t to_next).more S T f) i o y)) x
+
+  heads_more_arms : (arms : Arms) (t : Tok) (n : ℕ) (S T : Ones) → Within S T → (i : ℕ) (o : One) → found_head_arms t arms n S i o → found_head_arms t arms n T i o
+  heads_more_arms no_arms t n S T f i o x = x
+  heads_more_arms (arm rs s rest) t n S T f i o x =
+      ⊎_elim (λ y. inl (heads_more_block s t n (images t rs S) (images t rs T) ((smooth_images t rs).more S T f) i o y)) (λ y. inr (heads_more_arms rest t (n + size_block s) S T f i o y)) x
+
+mutual
+  exits_more : (s : Flow) (t : Tok) (n : ℕ) (S T : Ones) → Within S T → (i : ℕ) (o : One) → found_exit t s n S i o → found_exit t s n T i o
+  exits_more (choose rs a b) t n S T f i o x =
+      let m = (smooth_images t rs).more S T f in
+      ⊎_elim (λ y. inl (y.0, (smooth_form (choose rs a b) t to_next).more S T f o y.1)) (⊎_elim (λ y. inr (inl (exits_more_block a t (n + 1) (images t rs S) (images t rs T) m i o y))) (λ y. inr (inr (exits_more_block b t (n + 1 + size_block a) (images t rs S) (images t rs T) m i o y)))) x
+  exits_more (loop rs s) t n S T f i o x =
+      let h = head_more t rs s S T f in
+      ⊎_elim (λ y. inl (y.0, (smooth_form (loop rs s) t to_next).more S T f o y.1)) (λ y. inr (exits_more_block s t (n + 1) (images t rs (head_of t rs s S)) (images t rs (head_of t rs s T)) ((smooth_images t rs).more (head_of t rs s S) (head_of t rs s T) h) i o y)) x
+  exits_more (switch rs arms end) t n S T f i o x =
+      ⊎_elim (λ y. inl (y.0, (smooth_form (switch rs arms end) t to_next).more S T f o y.1)) (λ y. inr (exits_more_arms arms t (n + 1) (images t rs S) (images t rs T) ((smooth_images t rs).more S T f) i o y)) x
+  exits_more (scope s) t n S T f i o x = exits_more_block s t (n + 1) S T f i o x
+  exits_more (focus rs s es) t n S T f i o x = exits_more_block s t (n + 1) (images t rs S) (images t rs T) ((smooth_images t rs).more S T f) i o x
+  exits_more (step rs) t n S T f i o x = x
+  exits_more (return rs) t n S T f i o x = x
+  exits_more (jump c left) t n S T f i o x = x
+
+  exits_more_block : (s : Block) (t : Tok) (n : ℕ) (S T : Ones) → Within S T → (i : ℕ) (o : One) → found_exit_block t s n S i o → found_exit_block t s n T i o
+  exits_more_block (block ss bound end) t n S T f i o x = exits_more_stmts ss t n S T f i o x
+
+  exits_more_stmts : (ss : Stmts) (t : Tok) (n : ℕ) (S T : Ones) → Within S T → (i : ℕ) (o : One) → found_exit_stmts t ss n S i o → found_exit_stmts t ss n T i o
+  exits_more_stmts done t n S T f i o x = x
+  exits_more_stmts (next at s rest) t n S T f i o x =
+      ⊎_elim (λ y. inl (exits_more s t n S T f i o y)) (λ y. inr (exits_more_stmts rest t (n + size s) (out t s S to_next) (out t s T to_next) ((smooth_form s t to_next).more S T f) i o y)) x
+
+  exits_more_arms : (arms : Arms) (t : Tok) (n : ℕ) (S T : Ones) → Within S T → (i : ℕ) (o : One) → found_exit_arms t arms n S i o → found_exit_arms t arms n T i o
+  exits_more_arms no_arms t n S T f i o x = x
+  exits_more_arms (arm rs s rest) t n S T f i o x =
+      ⊎_elim (λ y. inl (exits_more_block s t n (images t rs S) (images t rs T) ((smooth_images t rs).more S T f) i o y)) (λ y. inr (exits_more_arms rest t (n + size_block s) S T f i o y)) x
+
+pub found_same : (t : Tok) (s : Block) (S T : Ones) (k : Stock) → ((o : One) → S o ↔ T o) → IsFoundIn t s S k → IsFoundIn t s T k
+found_same t s S T k e f = record {
+  around = λ i o. (λ x. heads_more_block s t 0 S T (λ o y. (e o).0 y) i o ((f.around i o).0 x), λ x. (f.around i o).1 (heads_more_block s t 0 T S (λ o y. (e o).1 y) i o x));
+  behind = λ i o. (λ x. exits_more_block s t 0 S T (λ o y. (e o).0 y) i o ((f.behind i o).0 x), λ x. (f.behind i o).1 (exits_more_block s t 0 T S (λ o y. (e o).1 y) i o x));
+}
+
+-- ---- more tokens
+
+pub over_none : (A : Tok → Type 0) (s : Block) (h : HeldMap) → ((t : Tok) → A t → ⊥) → IsFirstOver A s h None
+over_none A s h f = record { there = tt; first = λ p t a x. f t a; tabled = λ t a. absurd (f t a) }
+
+told_of_one : (s : Block) (h : HeldMap) (t : Tok) (y : Option Blame) → FirstOfBlock t 0 s (Has (h t)) y → IfSome y (λ b. SpotAtBlock (TellsUnwanted (kind_of b.kind)) (TellsMixed (kind_of b.kind)) (spot_of b) (tok_of b.tok) 0 s (Has (h (tok_of b.tok))))
+told_of_one s h t None f = tt
+told_of_one s h t (Some b) f = subst (λ u. SpotAtBlock (TellsUnwanted (kind_of b.kind)) (TellsMixed (kind_of b.kind)) (spot_of b) u 0 s (Has (h u))) (sym f.there.0) f.there.1
+
+either_told : (s : Block) (h : HeldMap) (x y r : Option Blame) (P : Blame → Type 0) → (r ≡ x) ⊎ (r ≡ y) → IfSome x P → IfSome y P → IfSome r P
+either_told s h x y r P e f g = ⊎_elim (λ e. subst (λ o. IfSome o P) (sym e) f) (λ e. subst (λ o. IfSome o P) (sym e) g) e
+
+pub over_one : (s : Block) (h : HeldMap) (t : Tok) (y : Option Blame) → FirstOfBlock t 0 s (Has (h t)) y → IsTabled s h t → IsFirstOver (λ u. u ≡ t) s h y
+over_one s h t y f k = record {
+  there = told_of_one s h t y f;
+  first = λ p u e x. subst (λ u. NoLaterThan y p u) (sym e) (f.first p (subst (λ u. IsFaulty s h p u) e x));
+  tabled = λ u e. subst (λ u. IsTabled s h u) (sym e) k;
+}
+
+pub over_both : (A B C : Tok → Type 0) (s : Block) (h : HeldMap) (x y r : Option Blame) → IsFirstOver A s h x → IsFirstOver B s h y → IsEarlier x y r → ((t : Tok) → C t → A t ⊎ B t) → IsFirstOver C s h r
+over_both A B C s h x y r f g e split = record {
+  there = either_told s h x y r _ e.one f.there g.there;
+  first = λ p t c z. ⊎_elim (λ a. e.first p t (inl (f.first p t a z))) (λ b. e.first p t (inr (g.first p t b z))) (split t c);
+  tabled = λ t c. ⊎_elim (λ a. f.tabled t a) (λ b. g.tabled t b) (split t c);
+}
+
+less_or : (k n : ℕ) → k < n + 1 → (k < n) ⊎ (k ≡ n)
+less_or k n p = ⊎_elim (λ q. inl q) (λ q. inr (omega (arith, p, q))) (cases_lt k n)
+
+pub key_next : (n : ℕ) (t : Tok) → IsKeyBelow (n + 1) t → IsKeyBelow n t ⊎ (t ≡ a_key n)
+key_next n (a_key k) p = ⊎_elim (λ q. inl q) (λ q. inr (ap a_key q)) (less_or k n p)
+key_next n (a_var v) p = absurd p
+
+pub var_next : (n : ℕ) (t : Tok) → IsVarBelow (n + 1) t → IsVarBelow n t ⊎ (t ≡ a_var n)
+var_next n (a_var v) p = ⊎_elim (λ q. inl q) (λ q. inr (ap a_var q)) (less_or v n p)
+var_next n (a_key k) p = absurd p
+
+pub no_key : (t : Tok) → IsKeyBelow 0 t → ⊥
+no_key (a_key k) p = omega (arith, p)
+no_key (a_var v) p = p
+
+pub no_var : (t : Tok) → IsVarBelow 0 t → ⊥
+no_var (a_key k) p = p
+no_var (a_var v) p = omega (arith, p)
+
+-- ---- one token, by its tables
+
+pub over_token : (s : Block) (h : HeldMap) (t : Tok) (m : D.Ones) (k : Marks) (y : Option Blame) → ((o : One) → In (many_of m) o ↔ Has (h t) o) → FirstOfBlock t 0 s (In (many_of m)) y → IsFoundIn t s (In (many_of m)) (stock_of k) → IsFirstOver (λ u. u ≡ t) s h y
+over_token s h t m k y e f found =
+    over_one s h t y (block_first_same t 0 s (In (many_of m)) (Has (h t)) y (record { there = λ o x. (e o).0 x; back = λ o x. (e o).1 x }) f)
+    (record { tables = k; found = found_same t s (In (many_of m)) (Has (h t)) (stock_of k) e found })
+
+pub fits_found : (t : Tok) (s : Block) (m : D.Ones) (k : Marks) → IsFoundIn t s (In (many_of m)) (stock_of k) → FittingBlock k t s (record { stmt = 0; spot = 0; ones = m })
+fits_found t s m k f = fits_block s (λ i. In (table k.around i)) (λ i. In (table k.behind i)) t 0 (In (many_of m))
+    (record { there = λ i o p q x. (f.around i o).0 x; back = λ i o x. (f.around i o).1 x })
+    (record { there = λ i o p q x. (f.behind i o).0 x; back = λ i o x. (f.behind i o).1 x })
+
+pub room_found : (s : Block) (h : HeldMap) (e : Extent) (m : D.Ones) (k : Marks) → IsWhole s h e → length k.around ≡ size_block s → length k.behind ≡ length k.around → HasRoom k (size_block s) (spots_block s) (record { stmt = 0; spot = 0; ones = m })
+room_found s h e m k w long behind = let a = w.few in let b = w.few_spots in record { fits = omega (arith, long); long = behind; few = omega (arith, long, a); numbers = omega (arith, b) }
+
+-- ---- tokens that no row names
+
+later_tok : (x : Option Blame) (p : Spot) (t u : Tok) → IsNoLaterTok t u → NoLaterThan x p t → NoLaterThan x p u
+later_tok None p t u e n = n
+later_tok (Some b) p t u e n = later_trans (spot_of b) p p (tok_of b.tok) t u n (inr (refl, inr (refl, inr (refl, e))))
+
+beyond_later : (keys vars : ℕ) (u : Tok) → IsBeyond keys vars u → IsNoLaterTok (a_key keys) u
+beyond_later keys vars (a_key k) b = b
+beyond_later keys vars (a_var v) b = tt
+
+found_named : (t u : Tok) (s : Block) (S : Ones) (k : Stock) → AvoidsBlock t s → AvoidsBlock u s → IsFoundIn t s S k → IsFoundIn u s S k
+found_named t u s S k p q f = record {
+  around = λ i o. subst (λ F. In (k.around i) o ↔ F S i o) (heads_block_named t u s 0 p q) (f.around i o);
+  behind = λ i o. subst (λ F. In (k.behind i) o ↔ F S i o) (exits_block_named t u s 0 p q) (f.behind i o);
+}
+
+-- the key of the first number past all stands for each token beyond
+pub over_beyond : (s : Block) (h : HeldMap) (e : Extent) (x : Option Blame) → IsWhole s h e → IsFirstOver (λ u. u ≡ a_key e.keys) s h x → IsFirstOver (IsBeyond e.keys e.vars) s h x
+over_beyond s h e x w f = record {
+  there = f.there;
+  first = λ p u b z. later_tok x p (a_key e.keys) u (beyond_later e.keys e.vars u b) (f.first p (a_key e.keys) refl (named p u b z));
+  tabled = λ u b. let k = f.tabled (a_key e.keys) refl in record {
+    tables = k.tables;
+    found = subst (λ v. IsFoundIn u s (Has v) (stock_of (f.tabled (a_key e.keys) refl).tables)) (same u b) (found_named (a_key e.keys) u s (Has (h (a_key e.keys))) (stock_of (f.tabled (a_key e.keys) refl).tables) (w.avoids (a_key e.keys) least) (w.avoids u b) k.found);
+  };
+}
+  where
+    least : IsBeyond e.keys e.vars (a_key e.keys)
+    least = omega arith
+
+    same : (u : Tok) → IsBeyond e.keys e.vars u → h (a_key e.keys) ≡ h u
+    same u b = w.absent (a_key e.keys) least ∙ sym (w.absent u b)
+
+    named : (p : Spot) (u : Tok) → IsBeyond e.keys e.vars u → IsFaulty s h p u → IsFaulty s h p (a_key e.keys)
+    named p u b z =
+        subst (λ F. F (Has (h (a_key e.keys)))) (spot_block_named u (a_key e.keys) IsUnwanted IsMixed p s 0 (w.avoids u b) (w.avoids (a_key e.keys) least))
+        (subst (λ v. SpotAtBlock IsUnwanted IsMixed p u 0 s (Has v)) (sym (same u b)) z)
+
+-- each token is a key or a variable below the numbers, or beyond
+pub any_token : (keys vars : ℕ) (t : Tok) → (IsKeyBelow keys t ⊎ IsBeyond keys vars t) ⊎ IsVarBelow vars t
+any_token keys vars (a_key k) = inl (cases_lt k keys)
+any_token keys vars (a_var v) = ⊎_elim (λ p. inr p) (λ p. inl (inr p)) (cases_lt v vars)
+
+-- ---- the whole body
+
+pub past_absent : (h : Statuses) (t : Tok) (keys vars : ℕ) → length h.keys ≤ keys → length h.vars ≤ vars → IsBeyond keys vars t → map_of h t ≡ maps.absent
+past_absent h (a_key k) keys vars p q b = ap status_of (get_or_past h.keys k Absent (omega (arith, p, b)))
+past_absent h (a_var v) keys vars p q b = ap status_of (get_or_past h.vars v Absent (omega (arith, q, b)))
+
+pub no_place : (h : Statuses) (t : Tok) → (HasPlace h t → ⊥) → map_of h t ≡ maps.absent
+no_place h (a_key k) f = ap status_of (get_or_past h.keys k Absent (⊎_elim (λ p. absurd (f p)) (λ p. p) (cases_lt k (length h.keys))))
+no_place h (a_var v) f = ap status_of (get_or_past h.vars v Absent (⊎_elim (λ p. absurd (f p)) (λ p. p) (cases_lt v (length h.vars))))
+
+less_beyond : (keys vars more also : ℕ) (t : Tok) → keys ≤ more → vars ≤ also → IsBeyond more also t → IsBeyond keys vars t
+less_beyond keys vars more also (a_key k) p q b = omega (arith, p, b)
+less_beyond keys vars more also (a_var v) p q b = omega (arith, q, b)
+
+pub whole : (s : Block) (h : Statuses) (e : Extent) (e' : Extent) → IsExtent (size_block s) (spots_block s) (λ t. AvoidsBlock t s) e → e'.stmts ≡ e.stmts → e'.spots ≡ e.spots → e.stmts < 2 ^ 62 → e.spots < 2 ^ 62 → e.keys ≤ e'.keys → e.vars ≤ e'.vars → length h.keys ≤ e'.keys → length h.vars ≤ e'.vars → IsWhole s (map_of h) e'
+whole s h e e' x same alike few less p q past beyond = record {
+  stmts = same ∙ x.stmts_are;
+  spots = alike ∙ x.spots_are;
+  few = subst (λ n. n < 2 ^ 62) x.stmts_are few;
+  few_spots = subst (λ n. n < 2 ^ 62) x.spots_are less;
+  avoids = λ t b. x.avoids t (less_beyond e.keys e.vars e'.keys e'.vars t p q b);
+  absent = λ t b. past_absent h t e'.keys e'.vars past beyond b;
+}

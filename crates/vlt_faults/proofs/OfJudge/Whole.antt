@@ -1,0 +1,145 @@
+-- The first fault of a function's body from the first over all tokens.
+use Rattle.std.proofs.Common.{◌≡◌, ◌<◌, ℕ, Bool, true, false, IsTrue, Option, Some, None, refl, sym, subst, arith, rules}
+use Rattle.std.specs.Prelude.{nat_lt}
+use Rattle.std.proofs.lemmas.Bool.Decides.{nat_tests}
+use Rattle.vlt_base.specs.States.{is_bit}
+use Rattle.vlt_base.proofs.Sets.{lowest_state}
+use Rattle.vlt_core.specs.Core.{Tok, Func, Program}
+use Rattle.vlt_core.specs.Maps as maps
+use Rattle.vlt_core.specs.Maps.{HeldMap, Status, held, lent}
+use Rattle.vlt_core.specs.Flow.{Block}
+use Rattle.vlt_core.specs.Bodies.{body_flow}
+use Rattle.vlt_core.specs.Derives.{start_map}
+use Rattle.vlt_core.specs.Local.{Notes, IsLocalBlock, IsLocalIn}
+use Rattle.vlt_core.specs.Found.{One, one_absent, one_held, one_lent, one_full, Has}
+use Rattle.vlt_core.specs.Faults.{IsMixed, IsUnwanted, TellsRow, TellsJoin, HasFault, IsFirstIn, StandsFor}
+use Rattle.vlt_core.specs.View.{tok_of}
+use Rattle.vlt_core.specs.FaultView.{kind_of}
+use Rattle.vlt_core_laws.specs.Faulted.{HasFaultBlock}
+use Rattle.vlt_core_laws.specs.Shown.{IsFit, IsStart, IsOneKind, IsJust, IsReadOf}
+use Rattle.vlt_core_laws.specs.Sweep.{In, Stock}
+use Rattle.vlt_core_laws.proofs.Showing.{faultless_local}
+use Rattle.vlt_core_laws.proofs.Spots.{some_spot_block}
+use Rattle.vlt_faults.specs.declared.finding.ones.Ones as D
+use Rattle.vlt_faults.specs.Finding.Ones.{many_of}
+use Rattle.vlt_faults.specs.Finding.Marks.{slot, stock_of}
+use Rattle.vlt_faults.proofs.OfFinding.Bits.{no_bits}
+use Rattle.vlt_faults.specs.declared.judge.blame.Blame.{Blame}
+use Rattle.vlt_faults.specs.Judge.Blames.{spot_of, TellsUnwanted, TellsMixed}
+use Rattle.vlt_faults.specs.Judge.Faulty.{IsFitIn}
+use Rattle.vlt_faults.specs.Judge.Overs.{IsFirstOver}
+use Rattle.vlt_faults.proofs.OfJudge.Clean.{clean_unmixed, clean_block}
+use Rattle.vlt_faults.proofs.OfJudge.Parts.{stands_absent, stands_full, stands_lent}
+
+-- ---- the status that a table is read as
+
+abbrev read_bits : D.Ones → Bool → Status
+read_bits m true = lent (is_bit m.lent)
+read_bits m false = held (is_bit m.held)
+
+abbrev read_parts : D.Ones → (absent full : Bool) → Status
+read_parts m true full = maps.absent
+read_parts m false true = maps.full
+read_parts m false false = read_bits m (nat_lt 0 m.lent)
+
+abbrev read : D.Ones → Status
+read m = read_parts m m.absent m.full
+
+just_of : (m : D.Ones) (u : Status) → StandsFor u (In (many_of m)) → IsJust u (In (many_of m))
+just_of m u s = record { there = s.there; back = s.back }
+
+not_true : (b : Bool) → b ≡ false → IsTrue b → ⊥
+not_true b e h = never (subst IsTrue e h)
+  where
+    never : IsTrue false → ⊥
+    never h = search rules
+
+just_held : (m : D.Ones) → m.absent ≡ false → m.full ≡ false → m.lent ≡ 0 → IsJust (held (is_bit m.held)) (In (many_of m))
+just_held m a f l = record { there = there; back = back }
+  where
+    there : (o : One) → In (many_of m) o → Has (held (is_bit m.held)) o
+    there one_absent x = absurd (not_true m.absent a x)
+    there (one_held i) x = x
+    there (one_lent i) x = absurd (no_bits m.lent i l x)
+    there one_full x = absurd (not_true m.full f x)
+
+    back : (o : One) → Has (held (is_bit m.held)) o → In (many_of m) o
+    back one_absent x = absurd x
+    back (one_held i) x = x
+    back (one_lent i) x = absurd x
+    back one_full x = absurd x
+
+read_just : (m : D.Ones) → IsOneKind (In (many_of m)) → IsJust (read m) (In (many_of m))
+read_just m k = parts m.absent m.full refl refl
+  where
+    positive : (n : ℕ) → nat_lt 0 n ≡ true → 0 < n
+    positive n e = grind (arith, nat_tests)
+
+    some : (m : D.Ones) → nat_lt 0 m.lent ≡ true → (i : ℕ) × IsTrue (is_bit m.lent i)
+    some m e = let x = lowest_state m.lent (positive m.lent e) m.few_lent in (x.0, x.2)
+
+    zero_of : (n : ℕ) → nat_lt 0 n ≡ false → n ≡ 0
+    zero_of n e = grind (arith, nat_tests)
+
+    bits : (b : Bool) → m.absent ≡ false → m.full ≡ false → nat_lt 0 m.lent ≡ b → IsJust (read_bits m b) (In (many_of m))
+    bits true a f e = just_of m (lent (is_bit m.lent)) (stands_lent m (is_bit m.lent) (λ i. refl) (some m e) k)
+    bits false a f e = just_held m a f (zero_of m.lent e)
+
+    parts : (b c : Bool) → m.absent ≡ b → m.full ≡ c → IsJust (read_parts m b c) (In (many_of m))
+    parts true c a f = just_of m maps.absent (stands_absent m (subst IsTrue (sym a) (search rules)) k)
+    parts false true a f = just_of m maps.full (stands_full m (subst IsTrue (sym f) (search rules)) k)
+    parts false false a f = bits (nat_lt 0 m.lent) a f refl
+
+-- ---- a function's body
+
+abbrev All : Tok → Type 0
+All t = Unit {0}
+
+first_told : (p : Program) (f : Func) (b : Blame) → IsFirstOver All (body_flow p f) (start_map p f) (Some b) → IsFitIn p f → IsFirstIn p f b.at (tok_of b.tok) (kind_of b.kind)
+first_told p f b over fit =
+    let kind = kind_of b.kind in
+    let s = body_flow p f in
+    let S = Has (start_map p f (tok_of b.tok)) in
+    let good = fit.start.good (tok_of b.tok) in
+    record {
+      spot = spot_of b;
+      place = refl;
+      faulty = clean_block (TellsUnwanted kind) IsUnwanted (TellsMixed kind) IsMixed (λ r T c x. x.0) (λ T c x. x.0) (spot_of b) (tok_of b.tok) s false 0 S fit.fit.tame fit.fit.filled good over.there;
+      told = clean_block (TellsUnwanted kind) (TellsRow kind) (TellsMixed kind) (TellsJoin kind) (λ r T c x. x.1 (clean_unmixed T c x.0.1)) (λ T c x. x.1 c.one) (spot_of b) (tok_of b.tok) s false 0 S fit.fit.tame fit.fit.filled good over.there;
+      first = λ q u x. over.first q u tt x;
+    }
+
+pub over_in : (p : Program) (f : Func) (s : Block) (h : HeldMap) (x : Option Blame) → s ≡ body_flow p f → h ≡ start_map p f → IsFirstOver All s h x → IsFirstOver All (body_flow p f) (start_map p f) x
+over_in p f s h x e d o = subst (λ s. IsFirstOver All s (start_map p f) x) e (subst (λ h. IsFirstOver All s h x) d o)
+
+pub first_in : (p : Program) (f : Func) (s : Block) (h : HeldMap) (x : Option Blame) (b : Blame) → s ≡ body_flow p f → h ≡ start_map p f → IsFirstOver All s h x → x ≡ Some b → IsFitIn p f → IsFirstIn p f b.at (tok_of b.tok) (kind_of b.kind)
+first_in p f s h x b e d o is = first_told p f b (subst (IsFirstOver All (body_flow p f) (start_map p f)) is (over_in p f s h x e d o))
+
+none_over : (p : Program) (f : Func) (s : Block) (h : HeldMap) (x : Option Blame) → s ≡ body_flow p f → h ≡ start_map p f → IsFirstOver All s h x → x ≡ None → IsFirstOver All (body_flow p f) (start_map p f) None
+none_over p f s h x e d o is = subst (IsFirstOver All (body_flow p f) (start_map p f)) is (over_in p f s h x e d o)
+
+pub none_in : (p : Program) (f : Func) (s : Block) (h : HeldMap) (x : Option Blame) → s ≡ body_flow p f → h ≡ start_map p f → IsFirstOver All s h x → x ≡ None → HasFault p f → ⊥
+none_in p f s h x e d o is y = (none_over p f s h x e d o is).first y.0 y.1.0 tt y.1.1
+
+-- the tables of each token, and the notes that read them
+module _ (s : Block) (h : HeldMap) (over : IsFirstOver All s h None) where
+  abbrev stock : Tok → Stock
+  stock t = stock_of (over.tabled t tt).tables
+
+  abbrev notes : Notes
+  notes = record { around = λ i t. read (slot (over.tabled t tt).tables.around i); behind = λ i t. read (slot (over.tabled t tt).tables.behind i) }
+
+  reads : IsReadOf notes stock
+  reads = record { around = λ t i. read_just (slot (over.tabled t tt).tables.around i); behind = λ t i. read_just (slot (over.tabled t tt).tables.behind i) }
+
+  none : (t : Tok) → HasFaultBlock t s (Has (h t)) → ⊥
+  none t x = let y = some_spot_block s t 0 (Has (h t)) x in over.first y.0 t tt y.1
+
+  always_local : IsFit s → IsStart h → IsLocalBlock notes None 0 h s
+  always_local fit start = faultless_local s stock notes h fit start (λ t. (over.tabled t tt).found) reads none
+
+always_told : (p : Program) (f : Func) → IsFirstOver All (body_flow p f) (start_map p f) None → IsFitIn p f → ((a : Notes) → IsLocalIn p f a → ⊥) → ⊥
+always_told p f over fit never = never (notes (body_flow p f) (start_map p f) over) (always_local (body_flow p f) (start_map p f) over fit.fit fit.start)
+
+pub always_in : (p : Program) (f : Func) (s : Block) (h : HeldMap) (x : Option Blame) → s ≡ body_flow p f → h ≡ start_map p f → IsFirstOver All s h x → x ≡ None → IsFitIn p f → ((a : Notes) → IsLocalIn p f a → ⊥) → ⊥
+always_in p f s h x e d o is = always_told p f (none_over p f s h x e d o is)

@@ -1,0 +1,125 @@
+//! The tables that a sweep keeps.
+
+ghost use Rattle.std.specs.Prelude.{◌≡◌, ◌<◌, ◌≢◌, ◌↔◌, ℕ, IsTrue, length, IfOk, false};
+ghost use Rattle.vlt_core_laws.specs.Sweep.{IntoHead, IntoExit, IsNothing};
+ghost use Rattle.vlt_faults.specs.Finding.Ones.{many_of, gap_of};
+ghost use Rattle.vlt_faults.specs.Finding.Marks.{slot, IsSameParts, IsGrown, IsPut, stock_of, at, Went, IsInto, IsNearer};
+
+use crate::finding::ones::Ones;
+use crate::finding::singles::{nothing, union};
+use std::alloc::{AllocError, Global};
+use std::marker::Model;
+
+/// The tables kept, by statement. They are only ever joined into.
+#[derive(Drop)]
+pub struct Tables {
+    around: Vec<Ones>,
+    behind: Vec<Ones>,
+    grew: bool,
+}
+
+impl Model for Tables {
+    ghost use Rattle.vlt_faults.specs.Finding.Marks.{Marks};
+
+    ghost Value = { Marks };
+
+    ghost view = { λ k. record { around = k.around.items; behind = k.behind.items; grew = k.grew } };
+}
+
+fn is_same(a: Ones, b: Ones) -> bool
+    ensures { IsTrue result ↔ IsSameParts a b }
+{
+    a.absent == b.absent && a.full == b.full && a.held == b.held && a.lent == b.lent
+}
+
+/// Unites a table with what came before, and says whether it grew.
+fn join_into(slot: &mut Ones, m: Ones) -> bool
+    ensures into { IsInto m slot.old slot.new }
+    ensures nearer { IsNearer result slot.old slot.new }
+{
+    let both = union(*slot, m);
+    if is_same(both, *slot) {
+        false
+    } else {
+        *slot = both;
+        true
+    }
+}
+
+fn nothings(alloc: Global, count: usize) -> Result<Vec<Ones>, AllocError>
+    ensures long { IfOk result (λ v. length v.items ≡ count) }
+    ensures none { IfOk result (λ v. (i : ℕ) → IsNothing (at v.items i)) }
+{
+    let mut table = Vec::with_capacity(alloc, count)?;
+    for _i in 0..count {
+        table.push(nothing())?;
+    }
+    Ok(table)
+}
+
+impl Tables {
+    /// Nothing is kept yet.
+    pub fn open(alloc: Global, count: usize) -> Result<Tables, AllocError>
+        ensures around { IfOk result (λ k. length k.around ≡ count) }
+        ensures behind { IfOk result (λ k. length k.behind ≡ count) }
+        ensures none { IfOk result (λ k. (i : ℕ) → IsNothing (at k.around i)) }
+        ensures none_behind { IfOk result (λ k. (i : ℕ) → IsNothing (at k.behind i)) }
+    {
+        let around = nothings(alloc, count)?;
+        let behind = nothings(alloc, count)?;
+        Ok(Tables {
+            around,
+            behind,
+            grew: false,
+        })
+    }
+
+    pub fn join_head(&mut self, n: usize, m: Ones)
+        requires { n < length self.old.around }
+        ensures put { IsPut n m self.old.around self.new.around self.old.grew self.new.grew }
+        ensures behind { self.new.behind ≡ self.old.behind }
+    {
+        if join_into(&mut self.around[n], m) {
+            self.grew = true;
+        }
+    }
+
+    pub fn join_exit(&mut self, n: usize, m: Ones)
+        requires { n < length self.old.behind }
+        ensures put { IsPut n m self.old.behind self.new.behind self.old.grew self.new.grew }
+        ensures around { self.new.around ≡ self.old.around }
+    {
+        if join_into(&mut self.behind[n], m) {
+            self.grew = true;
+        }
+    }
+
+    pub fn exit(&self, n: usize) -> Ones
+        requires { n < length self.now.behind }
+        ensures { many_of result ≡ at self.now.behind n }
+    {
+        self.behind[n]
+    }
+
+    pub fn head(&self, n: usize) -> Ones
+        requires { n < length self.now.around }
+        ensures { many_of result ≡ at self.now.around n }
+    {
+        self.around[n]
+    }
+
+    /// A new sweep begins.
+    pub fn begin(&mut self)
+        ensures around { self.new.around ≡ self.old.around }
+        ensures behind { self.new.behind ≡ self.old.behind }
+        ensures fresh { self.new.grew ≡ false }
+    {
+        self.grew = false;
+    }
+
+    pub fn has_grown(&self) -> bool
+        ensures { result ≡ self.now.grew }
+    {
+        self.grew
+    }
+}

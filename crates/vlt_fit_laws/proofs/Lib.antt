@@ -1,6 +1,0 @@
-pub mod Externals
-pub mod Fit
-pub mod Sets
-pub mod Fields
-pub mod NarrowLaws
-mod Unfit

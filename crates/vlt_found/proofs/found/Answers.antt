@@ -1,9 +1,0 @@
-use Rattle.std.proofs.Common.{◌≡◌, sym, refl, ◌∙◌, arith, None}
-use Rattle.vlt_core.specs.View.{tok_of}
-use Rattle.vlt_rows.specs.FlowView.{block_view}
-use Rattle.vlt_found.proofs.found.Goals as goal
-
-pub spread-requires : goal.spread-requires
-spread-requires c =
-    let k = c.in_ok-kept.ensures in
-    record { room = record { fits = omega (arith, k.around, c.requires.count); long = k.behind ∙ sym k.around; few = omega (arith, k.around, c.requires.few); loop = tt }; none = record { around = λ i o h. absurd ((k.none i).none o h); behind = λ i o h. absurd ((k.none_behind i).none o h) } }

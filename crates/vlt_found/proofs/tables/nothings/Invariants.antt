@@ -1,7 +1,0 @@
-use Rattle.std.proofs.Common.{◌≡◌, ℕ, length}
-use Rattle.vlt_core_laws.specs.Sweep.{IsNothing}
-use Rattle.vlt_found.specs.Marks.{at}
-use Rattle.vlt_found.proofs.tables.nothings.Given as goal
-
-abbrev pub invariant-loop-i : goal.invariant-loop-i
-invariant-loop-i l = (length l.table.items ≡ l._i) × ((i : ℕ) → IsNothing (at l.table.items i))

@@ -1,5 +1,0 @@
-use Rattle.vlt_frames.proofs.Standing.{first_shown}
-use Rattle.vlt_frames.proofs.entering.start.Goals as goal
-
-pub returns-clause-shows : goal.returns-clause-shows
-returns-clause-shows c = λ items depth. first_shown items c.run.new.self depth

@@ -1,8 +1,0 @@
-use Rattle.std.proofs.Common.{◌∙◌, ap}
-use Rattle.vlt_kinds_names.proofs.Entries.{entries_seen}
-use Rattle.vlt_kinds_names.proofs.Entries.{added}
-use Rattle.vlt_kinds_names.proofs.globals.Globals.add.Goals as goal
-
-pub returns : goal.returns
-returns c =
-    ap entries_seen c.in_ok-insert.ensures.entries ∙ added c.args.self.now.names.entries c.args.name c.args.what c.requires

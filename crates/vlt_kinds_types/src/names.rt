@@ -1,0 +1,12 @@
+//! Names of a file: its declarations in, the table of names and the least refusal of the rules on them out.
+//! Read `specs/Names/Refusals.antt` first, then `Globals` and `Names`.
+//! Used by: the rules on types, heads and bodies.
+
+mod found;
+mod globals;
+mod names;
+
+pub use found::{Found, Refusal};
+pub use globals::{Global, Globals};
+pub use names::{HasName, check_names};
+pub use vlt_core::rules;

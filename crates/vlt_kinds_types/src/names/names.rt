@@ -1,0 +1,244 @@
+//! The rules on declared names.
+
+ghost use Rattle.std.specs.Prelude.{◌≡◌, ◌<◌, ◌^◌, ◌-◌, map, option_map, length, IfOk, OnOk};
+ghost use Rattle.std.specs.Char.{is_ascii};
+ghost use Rattle.std.specs.List.{list_any, list_all};
+ghost use Rattle.vlt_syntax.specs.Tree as s;
+ghost use Rattle.vlt_syntax.specs.View as view;
+ghost use Rattle.vlt_kinds_types.specs.Names.Refusals.{least_from, found_each, refuse};
+ghost use Rattle.vlt_kinds_types.specs.Names.Names as n;
+ghost use Rattle.vlt_kinds_types.specs.Names.Globals.{globals_of, names_seen};
+
+use crate::names::found::Found;
+use crate::names::globals::{self, Global, Globals};
+use std::alloc::{AllocError, Global as Heap};
+use vlt_core::rules;
+use vlt_syntax::{Case, Decl, Field, Head, HeaderKey, Name};
+
+/// The name of the function that a program begins with.
+const MAIN: &[u8] = b"main";
+
+/// What has a name.
+pub trait HasName {
+    ghost name: { Self → s.Name };
+
+    fn name(&self) -> &Name
+        ensures { view.name_of result.now ≡ name self.now };
+}
+
+impl HasName for Name {
+    ghost name = { view.name_of };
+
+    fn name(&self) -> &Name {
+        self
+    }
+}
+
+impl HasName for Field {
+    ghost name = { λ f. (view.field_of f).name };
+
+    fn name(&self) -> &Name {
+        &self.name
+    }
+}
+
+impl HasName for Case {
+    ghost name = { λ c. (view.case_of c).name };
+
+    fn name(&self) -> &Name {
+        &self.name
+    }
+}
+
+impl HasName for HeaderKey {
+    ghost name = { λ p. (view.header_key_of p).key };
+
+    fn name(&self) -> &Name {
+        &self.key
+    }
+}
+
+fn is_named_one<T: HasName>(name: &Name, others: &[T]) -> bool
+    ensures { result ≡ list_any (n.has_text (view.name_of name.now)) (map T.name others.now) }
+{
+    for other in others {
+        if name.text.as_slice() == other.name().text.as_slice() {
+            return true;
+        }
+    }
+    false
+}
+
+/// Refuses each name that stands here for another time. The lists that come here are bounded by limits of the grammar.
+#[tactic(auto, unfolding(crate::specs::Names::Names::repeated_names))]
+pub fn refuse_repeated<T: HasName>(rule: u8, named: &[T], found: &mut Found)
+    ensures { found.new.least ≡ least_from found.old.least
+        (refuse rule (n.repeated_names (map T.name named.now))) }
+{
+    for (i, one) in named.iter().enumerate() {
+        let name = one.name();
+        if is_named_one(name, &named[..i]) {
+            found.add(rule, name.at.from);
+        }
+    }
+}
+
+#[tactic(auto, unfolding(crate::specs::Names::Names::header_keys_taken))]
+fn check_taken(params: &[HeaderKey], known: &Globals<'_>, found: &mut Found)
+    ensures { found.new.least ≡ least_from found.old.least
+        (n.header_keys_taken (names_seen known.now)
+        (map (λ p. (view.header_key_of p).key) params.now)) }
+{
+    for param in params {
+        if known.has(param.key.text.as_slice()) {
+            found.add(rules::HEADER_KEY_TAKEN, param.key.at.from);
+        }
+    }
+}
+
+#[tactic(auto, using(crate::proofs::OfNames::Least::least_of_both, crate::proofs::OfNames::Least::mapped_twice), unfolding(crate::specs::Names::Names::header_refused))]
+fn check_header(params: &[HeaderKey], known: &Globals<'_>, found: &mut Found)
+    ensures { found.new.least ≡ least_from found.old.least
+        (n.header_refused (names_seen known.now) (map view.header_key_of params.now)) }
+{
+    refuse_repeated(rules::REPEATED_PART, params, found);
+    check_taken(params, known, found);
+}
+
+#[tactic(auto, unfolding(crate::specs::Names::Names::set_refused))]
+fn check_set(set: &Option<Name>, known: &Globals<'_>, found: &mut Found)
+    ensures { found.new.least ≡ least_from found.old.least
+        (n.set_refused (names_seen known.now) (option_map view.name_of set.now)) }
+{
+    if let Some(name) = set {
+        match known.find(name.text.as_slice()) {
+            Some(Global::ASet(_)) => {}
+            _ => found.add(rules::NOT_A_SET, name.at.from),
+        }
+    }
+}
+
+fn is_all_ascii(text: &[u8]) -> bool
+    ensures { result ≡ list_all is_ascii text.now }
+{
+    for byte in text {
+        if *byte >= 128 {
+            return false;
+        }
+    }
+    true
+}
+
+#[tactic(auto, using(crate::proofs::OfNames::Least::least_of_both, crate::proofs::OfNames::Least::mapped_twice), unfolding(crate::specs::Names::Names::struct_refused))]
+fn check_struct(
+    params: &[HeaderKey],
+    set: &Option<Name>,
+    fields: &[Field],
+    known: &Globals<'_>,
+    found: &mut Found,
+)
+    ensures { found.new.least ≡ least_from found.old.least
+        (n.struct_refused (names_seen known.now) (map view.header_key_of params.now)
+        (option_map view.name_of set.now) (map view.field_of fields.now)) }
+{
+    check_header(params, known, found);
+    check_set(set, known, found);
+    refuse_repeated(rules::REPEATED_PART, fields, found);
+}
+
+#[tactic(auto, using(crate::proofs::OfNames::Least::least_of_both, crate::proofs::OfNames::Least::mapped_twice), unfolding(crate::specs::Names::Names::variant_refused))]
+fn check_variant(params: &[HeaderKey], cases: &[Case], known: &Globals<'_>, found: &mut Found)
+    ensures { found.new.least ≡ least_from found.old.least
+        (n.variant_refused (names_seen known.now) (map view.header_key_of params.now)
+        (map view.case_of cases.now)) }
+{
+    check_header(params, known, found);
+    refuse_repeated(rules::REPEATED_PART, cases, found);
+}
+
+#[tactic(auto, unfolding(crate::specs::Names::Names::name_beyond_ascii))]
+fn check_extern(head: &Head, found: &mut Found)
+    ensures { found.new.least ≡ least_from found.old.least
+        (n.name_beyond_ascii (view.head_of head.now)) }
+{
+    if !is_all_ascii(head.name.text.as_slice()) {
+        found.add(rules::EXTERN_NOT_ASCII, head.name.at.from);
+    }
+}
+
+fn check_decl(decl: &Decl, known: &Globals<'_>, found: &mut Found)
+    ensures { found.new.least ≡ least_from found.old.least
+        (n.decl_refused (names_seen known.now) (view.decl_of decl.now)) }
+{
+    match decl {
+        Decl::StateSet { states, .. } => refuse_repeated(
+            rules::REPEATED_PART,
+            states.as_slice(),
+            found,
+        ),
+        Decl::Abstract { states, .. } => check_set(states, known, found),
+        Decl::Struct {
+            params,
+            states,
+            fields,
+            ..
+        } => { check_struct(params.as_slice(), states, fields.as_slice(), known, found) }
+        Decl::Variant { params, cases, .. } => {
+            check_variant(params.as_slice(), cases.as_slice(), known, found)
+        }
+        Decl::Extern { head, .. } => check_extern(head, found),
+        Decl::Function { .. } => {}
+    }
+}
+
+fn has_main(decls: &[Decl]) -> bool
+    ensures { result ≡ list_any n.is_main (map view.decl_of decls.now) }
+{
+    for decl in decls {
+        if let Decl::Function { head, .. } = decl {
+            if head.name.text.as_slice() == MAIN {
+                return true;
+            }
+        }
+    }
+    false
+}
+
+#[tactic(auto, unfolding(crate::specs::Names::Names::no_main))]
+fn check_main(decls: &[Decl], found: &mut Found)
+    ensures { found.new.least ≡ least_from found.old.least
+        (n.no_main (map view.decl_of decls.now)) }
+{
+    if !has_main(decls) {
+        found.add(rules::NO_MAIN, 0);
+    }
+}
+
+fn check_decls(decls: &[Decl], known: &Globals<'_>, found: &mut Found)
+    ensures { found.new.least
+        ≡ found_each (n.decl_refused (names_seen known.now))
+        (map view.decl_of decls.now) found.old.least }
+{
+    for decl in decls {
+        check_decl(decl, known, found);
+    }
+}
+
+/// The names of a file. What the rules on declared names refuse is noted.
+#[tactic(auto, using(crate::proofs::OfNames::Least::least_of_both, crate::proofs::OfNames::Least::each_is), unfolding(crate::specs::Names::Names::names_refused))]
+pub fn check_names<'a>(
+    alloc: Heap,
+    decls: &'a [Decl],
+    found: &mut Found,
+) -> Result<Globals<'a>, AllocError>
+    requires { length decls.now < 2 ^ 32 - 1 }
+    ensures names { IfOk result (λ g. names_seen g ≡ globals_of (map view.decl_of decls.now)) }
+    ensures refused { OnOk result
+        (found.new.least
+        ≡ least_from found.old.least (n.names_refused (map view.decl_of decls.now))) }
+{
+    check_main(decls, found);
+    let known = globals::known_names(alloc, decls, found)?;
+    check_decls(decls, &known, found);
+    Ok(known)
+}

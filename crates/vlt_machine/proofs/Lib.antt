@@ -1,7 +1,0 @@
-pub mod Gots
-pub mod Finishing
-pub mod Halting
-pub mod Theorem
-pub mod Depths
-pub mod Fitting
-mod Instanced

@@ -1,5 +1,0 @@
-use Rattle.std.proofs.Common.{length}
-use Rattle.vlt_objects.proofs.cases.+fill_parts.Given as goal
-
-abbrev pub decreases-fill_parts : goal.decreases-fill_parts
-decreases-fill_parts l = length l.vs.now

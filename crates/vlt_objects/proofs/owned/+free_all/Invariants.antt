@@ -1,5 +1,0 @@
-use Rattle.std.proofs.Common.{length}
-use Rattle.vlt_objects.proofs.owned.+free_all.Given as goal
-
-abbrev pub decreases-free_all : goal.decreases-free_all
-decreases-free_all l = length l.slots.now

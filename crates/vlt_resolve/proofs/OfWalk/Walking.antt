@@ -1,0 +1,24 @@
+-- Statements and arms one after another.
+use Rattle.std.proofs.Common.{◌≡◌, ℕ, List, [], ◌∷◌, ◌++◌, Result, Ok, Err, refl, append_assoc}
+use Rattle.vlt_kinds_types.specs.declared.names.found.Refusal.{Refusal}
+use Rattle.vlt_core.specs.Core.{Form, Block}
+use Rattle.vlt_resolve_exprs.specs.Scopes.{Scope}
+use Rattle.vlt_resolve.specs.Walk.Walk.{Walked, then_do}
+
+-- what was made before, and then these
+abbrev pub behind : List (ℕ × Form) → Walked → Walked
+behind made x = then_do x (λ z. Ok (made ++ z.0, z.1))
+
+pub behind_more : (x : Walked) (made more : List (ℕ × Form)) → behind made (then_do x (λ z. Ok (more ++ z.0, z.1))) ≡ behind (made ++ more) x
+behind_more (Ok z) made more = rw append_assoc refl
+behind_more (Err r) made more = refl
+
+abbrev pub Arms : Type 0
+Arms = List (ℕ × List ℕ × Block)
+
+abbrev pub behind_arms : Arms → Result (Arms × Scope) Refusal → Result (Arms × Scope) Refusal
+behind_arms made x = then_do x (λ z. Ok (made ++ z.0, z.1))
+
+pub behind_more_arms : (x : Result (Arms × Scope) Refusal) (made : Arms) (p : ℕ × List ℕ × Block) → behind_arms made (then_do x (λ z. Ok (p ∷ z.0, z.1))) ≡ behind_arms (made ++ p ∷ []) x
+behind_more_arms (Ok z) made p = rw append_assoc refl
+behind_more_arms (Err r) made p = refl

@@ -1,7 +1,0 @@
-use Rattle.std.proofs.Common.{◌≡◌, drop}
-use Rattle.vlt_resolve_switches.specs.Switches as s
-use Rattle.vlt_resolve_switches.specs.Seen.{texts_seen}
-use Rattle.vlt_resolve_switches.proofs.switches.are_distinct.Given as goal
-
-abbrev pub invariant-loop-i : goal.invariant-loop-i
-invariant-loop-i l = s.are_distinct (texts_seen l.names) ≡ s.are_distinct (texts_seen (drop l.i l.names))

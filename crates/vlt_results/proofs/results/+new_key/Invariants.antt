@@ -1,5 +1,0 @@
-use Rattle.std.proofs.Common.{length}
-use Rattle.vlt_results.proofs.results.+new_key.Given as goal
-
-abbrev pub decreases-new_key : goal.decreases-new_key
-decreases-new_key l = length l.entries.now

@@ -1,8 +1,0 @@
-//! Returns in a run under way: a function that gives a value, or none, in; the function left, and then its caller, out.
-//! Read `vlt_meaning/specs/Calls.antt` (back_in) first, then `vlt_tasks/specs/Moves.antt`: what a statement asks and comes to.
-//! Used by: the machine of runs, `vlt_interp`.
-#![tactic(auto)]
-
-mod returns;
-
-pub use returns::{give_back, go_back};

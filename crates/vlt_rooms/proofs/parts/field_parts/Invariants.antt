@@ -1,9 +1,0 @@
-use Rattle.std.proofs.Common.{◌≡◌, max, map, drop}
-use Rattle.vlt_core.specs.View.{program_of, field_of}
-use Rattle.vlt_core.specs.Widths.{greatest}
-use Rattle.vlt_tasks.specs.Sizes.{parts_of}
-use Rattle.vlt_rooms.proofs.parts.field_parts.Given as goal
-
-abbrev pub invariant-loop-d : goal.invariant-loop-d
-invariant-loop-d l =
-    max l.most (greatest (λ d. parts_of (program_of l.p) d.ty) (map field_of (drop l.d-index l.fields))) ≡ greatest (λ d. parts_of (program_of l.p) d.ty) (map field_of l.fields)

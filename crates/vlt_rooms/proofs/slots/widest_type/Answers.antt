@@ -1,6 +1,0 @@
-use Rattle.vlt_core.specs.View.{program_of}
-use Rattle.vlt_rooms.proofs.Lists.{widest_found}
-use Rattle.vlt_rooms.proofs.slots.widest_type.Goals as goal
-
-pub returns : goal.returns
-returns c = widest_found (program_of c.args.p.now) c.loop-t.most c.loop-t.t-index c.as_slice-t-items.result.now c.loop-t-test.false c.loop-t.invariant

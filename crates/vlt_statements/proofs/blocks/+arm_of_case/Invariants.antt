@@ -1,5 +1,0 @@
-use Rattle.std.proofs.Common.{length}
-use Rattle.vlt_statements.proofs.blocks.+arm_of_case.Given as goal
-
-abbrev pub decreases-arm_of_case : goal.decreases-arm_of_case
-decreases-arm_of_case l = length l.arms.now

@@ -1,0 +1,119 @@
+-- Why a fit program of the code isn't unfit for the check.
+use Rattle.std.proofs.Common.{◌≡◌, ◌<◌, zero, suc, ◌≤◌, ◌^◌, ◌*◌, ◌%◌, ◌-◌, ℕ, Bool, true, false, true≢false, nat_lt, if◌then◌else◌, IsTrue, List, [], ◌∷◌, map, length, Option, Some, None, slice_get, inl, inr, refl, sym, ap, ◌∙◌, subst, arith, rules}
+use Rattle.std.specs.Option.{option_map}
+use Rattle.std.proofs.lemmas.Bool.Decides.{nat_tests}
+use Rattle.std.proofs.lemmas.Option.{none-some}
+use Rattle.vlt_base.specs.States.{has_state}
+use Rattle.vlt_base.specs.declared.states.StateSet.{StateSet}
+use Rattle.vlt_base.proofs.Sets.{first_filled, first_fits, first_bits}
+use Rattle.vlt_core.specs.Core.{States, SetDecl, TypeDecl, KeyDecl, Entry, Func, Program}
+use Rattle.vlt_core.specs.Lookups.{set_in, count_in, state_count, all_states, every_state, key_type, states_of_type, states_or_all, before_set}
+use Rattle.vlt_core.specs.KindedHeads.{entry_broken}
+use Rattle.vlt_core.specs.HeldView.{IsSetOf}
+use Rattle.vlt_core.specs.View.{states_of, entry_of, func_of, program_of}
+use Rattle.vlt_core.specs.declared.program.Entry.{Entry as CodeEntry}
+use Rattle.vlt_core.specs.declared.program.Func.{Func as CodeFunc}
+use Rattle.vlt_core.specs.declared.program.Program.{Program as CodeProgram}
+use Rattle.vlt_core_laws.proofs.Formed.{formed_body}
+use Rattle.vlt_core_laws.proofs.Headed.{head_empty, entries_fit, each_at}
+use Rattle.vlt_core_laws.proofs.Unbroken.{filled_not_empty, some_same}
+use Rattle.vlt_flow.specs.Unfit as walk
+use Rattle.vlt_flow.specs.Unfit.{IsUnfitEntry, wide_entry, stray_entry, HasNoStart, many_keys, many_vars, unfit_entry}
+use Rattle.vlt_check.specs.Unfit.{IsUnfitBody, no_walk, no_fault, IsUnfit, many_functions, unfit_body}
+use Rattle.vlt_verdict.specs.FitLaws.Fit.{IsFitProgram}
+use Rattle.vlt_verdict.specs.FitLaws.Unfit.{IsStillUnfit, wide_row, many_statements, HasUnfitBody, OnlyBodiesAreUnfit}
+
+-- ---- sets of states
+
+-- the set of the numbers below one from 1 to 32
+first_set : (n : ℕ) → 1 ≤ n → n ≤ 32 → (s : StateSet) × (has_state s ≡ (λ i. nat_lt i n))
+first_set n from within = (
+  record { mask = 1 * 2 ^ n % 2 ^ 64 - 1; filled = first_filled n from within; small = first_fits n within },
+  (λ j i. first_bits n i within j),
+)
+
+-- no set has just these states, but it does
+wide_not : (n : ℕ) → 1 ≤ n → n ≤ 32 → IsSetOf (λ i. nat_lt i n) None → ⊥
+wide_not n from within wide = let s = first_set n from within in wide s.0 s.1
+
+module _ (p : Program) (fit : IsFitProgram p) where
+  counted : (o : Option SetDecl) → ((d : SetDecl) → o ≡ Some d → length d.states ≤ 32) → count_in o ≤ 32
+  counted None each = omega arith
+  counted (Some d) each = each d refl
+
+  few_states : (t : ℕ) → state_count p t ≤ 32
+  few_states t = by (set_in (slice_get p.types t)) refl
+    where
+      by : (o : Option ℕ) → set_in (slice_get p.types t) ≡ o → state_count p t ≤ 32
+      by None e = rw e (omega arith)
+      by (Some i) e = rw e (counted (slice_get p.sets i) (λ d is. fit.sizes.most i d is))
+
+  some_state : (t : ℕ) → 1 ≤ state_count p t
+  some_state t = let x = fit.well_formed.states.all t in below (state_count p t) x.state x.has
+    where
+      below : (n i : ℕ) → IsTrue (nat_lt i n) → 1 ≤ n
+      below n i h = grind (arith, nat_tests)
+
+  type_set : (o : Option ℕ) → IsSetOf (states_of_type p o) None → ⊥
+  type_set None wide = wide_not 32 (omega arith) (omega arith) wide
+  type_set (Some t) wide = wide_not (state_count p t) (some_state t) (few_states t) wide
+
+  -- an entry of the code
+  entry_set : (f : Func) (e : CodeEntry) → IsSetOf (before_set p f (entry_of e)) None → ⊥
+  entry_set f e = by e.before
+    where
+      by : (o : Option StateSet) → IsSetOf (states_or_all p f e.key.0 (states_of o)) None → ⊥
+      by None wide = type_set (key_type f e.key.0) wide
+      by (Some s) wide = wide s refl
+
+  -- ---- keys of the clause
+
+  in_range : (n : ℕ) (f : Func) (i : ℕ) (e : Entry) → slice_get p.fns n ≡ Some f → slice_get f.clause i ≡ Some e → length f.keys ≤ e.key → ⊥
+  in_range n f i e there at stray =
+      let h = head_empty p n f fit.well_formed.kinded there in
+      let row = each_at (entry_broken p f) f.clause i e (entries_fit p h.0 f h.1) at in
+      let past : nat_lt e.key (length f.keys) ≡ false = grind (arith, nat_tests, stray) in
+      filled_not_empty _ _ (rw past at row)
+
+-- ---- programs of the code
+
+mapped : {A B : Type 0} (g : A → B) (xs : List A) (i : ℕ) (y : B) → slice_get (map g xs) i ≡ Some y → (x : A) × (y ≡ g x)
+mapped g [] i y e = absurd (none-some y e)
+mapped g (x ∷ xs) zero y e = (x, sym (some_same (g x) y e))
+mapped g (x ∷ xs) (suc i) y e = mapped g xs i y e
+
+module _ (c : CodeProgram) (fit : IsFitProgram (program_of c)) where
+  abbrev p : Program
+  p = program_of c
+
+  entry_fits : (n : ℕ) (f : Func) (i : ℕ) (e : Entry) → slice_get p.fns n ≡ Some f → slice_get f.clause i ≡ Some e → IsUnfitEntry p f e → ⊥
+  entry_fits n f i e there at (wide_entry wide) =
+      let g = mapped func_of c.fns n f there in
+      let d = mapped entry_of g.0.clause i e (subst (λ h. slice_get h.clause i ≡ Some e) g.1 at) in
+      entry_set p fit f d.0 (subst (λ x. IsSetOf (before_set p f x) None) d.1 wide)
+  entry_fits n f i e there at (stray_entry stray) = in_range p fit n f i e there at stray
+
+  start_fits : (n : ℕ) (f : Func) → slice_get p.fns n ≡ Some f → HasNoStart p f → ⊥
+  start_fits n f there (many_keys q) = let few = fit.few.keys n f there in omega (arith, q, few)
+  start_fits n f there (many_vars q) = let few = fit.few.vars n f there in omega (arith, q, few)
+  start_fits n f there (unfit_entry i e at before u) = entry_fits n f i e there at u
+
+  walk_fits : (n : ℕ) (f : Func) → slice_get p.fns n ≡ Some f → walk.IsUnfit p f → IsStillUnfit p f
+  walk_fits n f there (walk.no_flow (inl wide)) = wide_row wide
+  walk_fits n f there (walk.no_flow (inr (inl q))) = let few = fit.few.keys n f there in absurd (omega (arith, q, few))
+  walk_fits n f there (walk.no_flow (inr (inr q))) = let few = fit.few.vars n f there in absurd (omega (arith, q, few))
+  walk_fits n f there (walk.no_start s) = absurd (start_fits n f there s)
+  walk_fits n f there (walk.many_statements q) = many_statements q
+
+  body_fits : (n : ℕ) (f : Func) → slice_get p.fns n ≡ Some f → f.external ≡ false → IsUnfitBody p f → IsStillUnfit p f
+  body_fits n f there body (no_walk u) = walk_fits n f there u
+  body_fits n f there body (no_fault never) =
+      let q = formed_body p n f fit.well_formed there body in
+      absurd (never (record { fit = q.fit; start = q.start }))
+
+  by_bodies : IsUnfit p → HasUnfitBody p
+  by_bodies (many_functions q) = let few = fit.few.functions in absurd (omega (arith, q, few))
+  by_bodies (unfit_body n f there body u) = record { number = n; func = f; there = there; with_body = body; unfit = body_fits n f there body u }
+
+pub only_bodies : OnlyBodiesAreUnfit
+only_bodies c fit u = by_bodies c fit u

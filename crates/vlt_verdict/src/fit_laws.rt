@@ -1,0 +1,46 @@
+//! A law on the core programs of texts: nothing goes in and nothing comes out.
+//! Read `specs/FitLaws/Fit.antt` first.
+//! Used by: verdicts, and through them the promise of `check`.
+
+mod narrow;
+mod sizes;
+mod texts;
+
+ghost use Rattle.vlt_verdict.specs.FitLaws.Fit.{ProgramsAreFit};
+ghost use Rattle.vlt_verdict.specs.FitLaws.Unfit.{OnlyBodiesAreUnfit};
+
+pub use narrow::declared_externals_are_narrow;
+pub use sizes::{declared_sets_are_small, declared_structs_are_small};
+pub use texts::texts_have_text_trees;
+use vlt_resolve_laws::{
+    elaborated_programs_are_kinded, elaborated_programs_have_arms,
+    elaborated_programs_have_blank_externals, elaborated_programs_have_few_functions,
+    elaborated_programs_have_few_keys, elaborated_programs_have_few_variables,
+    elaborated_programs_have_no_bounds, elaborated_programs_have_proper_bodies,
+    elaborated_programs_have_sets, elaborated_programs_have_states,
+};
+
+/// The core program of a tree that a text has is all that the check and the law on runs ask for.
+pub fn programs_are_fit()
+    ensures { ProgramsAreFit }
+{
+    elaborated_programs_are_kinded();
+    elaborated_programs_have_states();
+    elaborated_programs_have_arms();
+    elaborated_programs_have_no_bounds();
+    elaborated_programs_have_proper_bodies();
+    elaborated_programs_have_sets();
+    elaborated_programs_have_few_variables();
+    elaborated_programs_have_few_keys();
+    elaborated_programs_have_few_functions();
+    elaborated_programs_have_blank_externals();
+    declared_sets_are_small();
+    declared_structs_are_small();
+    declared_externals_are_narrow();
+}
+
+/// Where a fit program of the code is unfit for the check, one of its bodies is: a row of it names states of which there is
+/// no set, or it has 2^62 statements or more.
+pub fn only_bodies_are_unfit()
+    ensures { OnlyBodiesAreUnfit }
+{}
