@@ -8,12 +8,12 @@ use Rattle.std.specs.Option.{option_map}
 use Rattle.vlt_core.specs.Lookups as lookups
 use Rattle.vlt_core.specs.Lookups.{all_states, release_set, cases_of, case_at, owning_states_in}
 use Rattle.vlt_core_laws.specs.States.{IsFilledSet, HasStates}
-use Rattle.vlt_core_rows.specs.Told.{in_set}
-use Rattle.vlt_core_rows.specs.Levels.{program}
+use Rattle.vlt_meaning_samples.specs.Told.{in_set}
+use Rattle.vlt_meaning_samples.specs.Levels.{program}
 use Rattle.vlt_resolve_laws.proofs.OfKindsLaws.Rows.{each_at}
 use Rattle.vlt_sound.specs.Narrow.{HasNarrowHeads}
 use Rattle.vlt_sound_worlds.specs.Limited.{IsNarrow}
-use Rattle.vlt_core_rows.proofs.Levels.{accepted}
+use Rattle.vlt_meaning_samples.proofs.Levels.{accepted}
 use Rattle.vlt_core.specs.Proper.{is_proper, all_in}
 use Rattle.vlt_meaning.specs.World as source
 use Rattle.vlt_meaning.specs.Run as run

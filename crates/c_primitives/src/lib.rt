@@ -1,5 +1,5 @@
 //! A primitive or an assignment of a C program, the variables of a frame and a run's world in; the world after it, out.
-//! Read `c_meaning/specs/Primitives.antt` first, then `specs/Shown.antt`.
+//! Read `c_meaning/specs/Primitives.antt` first, then `specs/Values/Shown.antt` and `specs/Shown.antt`.
 //! Used by: `c_interp::CMachine::go`.
 #![tactic(auto)]
 

@@ -1,6 +1,6 @@
 //! Expressions and arguments of a C program, the variables of a frame and its blocks in; values, or the broken rule, out.
 //! Read `c_meaning/specs/Values.antt` first, then `specs/Values/Shown.antt`.
-//! Used by: `c_interp::CMachine::go`.
+//! Used by: primitives, assignments and `c_interp::CMachine::go`.
 
 mod exprs;
 mod value;

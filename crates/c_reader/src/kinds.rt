@@ -1,6 +1,6 @@
 //! A C text as it is written in, the least refusal of its names and types out.
 //! Read `c_syntax/specs/Kinds.antt` (unit_refusal) first.
-//! Used by: `c_reader`, for which texts stand for programs, and `c_reader::kinds_laws`.
+//! Used by: the reader, for which texts stand for programs, and `kinds_laws`.
 
 ghost use Rattle.std.specs.Prelude.{◌≡◌, option_map, IfOk};
 ghost use Rattle.c_syntax.specs.Kinds.{unit_refusal};

@@ -1,6 +1,6 @@
 //! Laws of the kinds of C: nothing goes in and nothing comes out.
 //! Read `specs/KindsLaws/Laws.antt` first.
-//! Used by: `c_reader`, which reports where a text is refused, and what runs a text that is read.
+//! Used by: the reader, which reports where a text is refused, and what runs a text that is read.
 
 ghost use Rattle.c_reader.specs.KindsLaws.Laws.{RefusalsAreWithin, UnrefusedProgramsCanRun};
 

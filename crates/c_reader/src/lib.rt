@@ -1,5 +1,5 @@
 //! A C text in; its program with the span of its certificate, or why it stands for none, out.
-//! Read `specs/Reads.antt` (IsReadAs) first, then `c_syntax/specs/Reading.antt`.
+//! Read `specs/Reads.antt` (IsReadAs) first, then `c_syntax/specs/Reading.antt`; `kinds` has the rules on names and types.
 //! Used by: what runs a C text, or verifies its certificate.
 #![tactic(auto)]
 

@@ -1,5 +1,5 @@
 //! Laws of C texts: nothing goes in and nothing comes out.
-//! Read `specs/Laws.antt` first, then `c_reader/specs/Reads.antt`.
+//! Read `specs/Laws.antt` first, then `c_reader/specs/Reads.antt`; `syntax_laws` and `printer_laws` have a law each.
 //! Used by: the law that `crun` has one reply, and has some; it also says that what is printed of a C program which was read is a text of it.
 #![tactic(auto)]
 

@@ -1,9 +1,6 @@
-//! The modules `values`, `acts`, `objects`, `frames` and `hosts`; the definitions of each are in the folder of `specs/` that has its name.
-//! - `values`: The values of a run: expressions and operands, the variables of a frame and the objects in; values or a trap out.
-//! - `acts`: Statements without blocks, over the slots of the running frame and the heap; the tables behind them, or a trap, out.
-//! - `objects`: Statements that make objects, hand them on and end them, over the slots of the running frame and the heap.
-//! - `frames`: Calls in the table of values: arguments behind the caller's frame in, the callee's frame out; at a return, back.
-//! - `hosts`: Statements that speak with the host of a run: printing and input; events out, numbers in.
+//! What single statements, calls and returns do to the slots of frames and to the heap: a part of a move in, its tables or trap out.
+//! Read `vlt_meaning/specs/Run.antt` first, then `specs/Values/Parts.antt` and `specs/Acts/Acts.antt`; each module says what it reads.
+//! Used by: the machine of runs, `vlt_interp`, and calls of externals.
 #![tactic(auto)]
 
 mod acts;

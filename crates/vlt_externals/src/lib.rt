@@ -1,5 +1,5 @@
-//! Calls of externals: arguments that stand at the end of the table in; an event out, and what its answer says.
-//! Read `vlt_meaning/specs/Externals.antt` and `HostAnswers.antt` first, then `specs/Told.antt`, `Sent` and `Back`.
+//! Calls of externals: arguments at the end of the table in; an event out, and what its answer says done.
+//! Read `vlt_meaning/specs/Externals.antt` and `HostAnswers.antt` first, then `specs/HostCalls/Called.antt` (the whole call).
 //! Used by: the machine of runs, `vlt_interp`.
 #![tactic(auto)]
 

@@ -1,6 +1,6 @@
 //! What paths find of one token: from a body's flow to tables of single statuses, swept until nothing grows.
-//! Read of vlt_core `specs/Found.antt` first, then of vlt_core_laws `specs/Sweep.antt`.
-//! Used by: `vlt_faults::judge`. What is found at each join and before each row decides the first fault.
+//! Read `vlt_core/specs/Found.antt` first, then `vlt_core_laws/specs/Sweep.antt`.
+//! Used by: `judge`. What is found at each join and before each row decides the first fault.
 
 ghost use Rattle.std.specs.Prelude.{◌≡◌, ◌<◌, ◌^◌, IfOk, length};
 ghost use Rattle.vlt_core.specs.Flow.{size_block};

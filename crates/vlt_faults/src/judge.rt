@@ -1,5 +1,5 @@
 //! The first fault of a body that is refused: from its flow to the earliest faulty row or join, over all tokens.
-//! Read of vlt_core `specs/Faults.antt` first, then `specs/Judge/Blames.antt`.
+//! Read `vlt_core/specs/Faults.antt` first, then `specs/Judge/Blames.antt`.
 //! Used by: the check. A refusal reports this fault, and a body without one isn't refused.
 
 ghost use Rattle.std.specs.Prelude.{◌≡◌, ◌⊎◌, IfOk, IfErr, IfSome, IsNone, None};

@@ -1,6 +1,6 @@
-//! The modules `finding` and `judge`; the definitions of each are in the folder of `specs/` that has its name.
-//! - `finding`: What paths find of one token: from a body's flow to tables of single statuses, swept until nothing grows.
-//! - `judge`: The first fault of a body that is refused: from its flow to the earliest faulty row or join, over all tokens.
+//! The first fault of a refused body: from its flow to the earliest faulty row or join, over all tokens.
+//! Read `vlt_core/specs/Faults.antt` first, then `specs/Judge/Blames.antt`; `finding` has what paths find of one token.
+//! Used by: the check. A refusal reports this fault, and a body without one isn't refused.
 #![tactic(auto)]
 
 mod finding;

@@ -1,6 +1,6 @@
 //! The walk over one body: from its flow to the least annotation, or a refusal.
-//! Read `specs/Walks.antt` first, and of vlt_core `specs/Local.antt` and `specs/Least.antt`.
-//! Used by: the check.
+//! Read `specs/Walks.antt` first, `vlt_core/specs/Local.antt` and `vlt_core/specs/Least.antt`; `notes` lists the maps.
+//! Used by: the check, and certificates, which are to come.
 #![tactic(auto)]
 
 ghost use Rattle.std.specs.Prelude.{IfOk};

@@ -1,5 +1,5 @@
 //! The least annotation of a body as a list of notes: from a function to the maps at its loops and behind its choices.
-//! Read of vlt_core `specs/Least.antt` first, then `specs/Notes/Listed.antt`.
+//! Read `vlt_core/specs/Least.antt` first, then `specs/Notes/Listed.antt`.
 //! Used by: certificates, which are to come.
 
 ghost use Rattle.std.specs.Prelude.{◌≡◌, map, length, IfOk, None};

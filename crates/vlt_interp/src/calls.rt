@@ -1,6 +1,6 @@
 //! Calls of a run under way: the arguments' values in; the callee's frame, or what an external's answer says, out.
 //! Read `vlt_meaning_laws/specs/Machine/Machine.antt` (enter) first, then `specs/Calls/Called.antt`: what a call asks and comes to.
-//! Used by: the machine of runs, `vlt_interp`.
+//! Used by: the machine.
 
 ghost use Rattle.std.specs.Prelude.{map};
 ghost use Rattle.std.specs.Option.{option_map};

@@ -1,5 +1,5 @@
 //! A core program and budgets in; a machine, which runs it once over input and answers and writes its events, out.
-//! Read `vlt_meaning/specs/Run.antt` first, then `specs/Reached.antt` and `specs/Machine.antt`.
+//! Read `vlt_meaning/specs/Run.antt` first, then `specs/Tasks/Moves.antt`, `specs/Reached.antt` and `specs/Machine.antt`; `runs` opens files.
 //! Used by: `vaultc_core`.
 #![tactic(auto)]
 

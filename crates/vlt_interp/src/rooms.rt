@@ -1,6 +1,6 @@
 //! A core program and budgets in; tables that suffice for a whole run of it out.
 //! Read `vlt_core/specs/Widths.antt` first, then `specs/Rooms/Rooms.antt` and `specs/Rooms/Start.antt`.
-//! Used by: the machine of runs, `vlt_interp`, which takes all its memory before a run begins.
+//! Used by: the machine, which takes all its memory before a run begins.
 
 mod parts;
 mod rooms;

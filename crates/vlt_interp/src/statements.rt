@@ -1,6 +1,6 @@
 //! Statements of a core program that are no calls and no returns; a run under way in, the run behind the statement or its stop out.
-//! Read `vlt_meaning_laws/specs/Machine/Machine.antt` (act) first, then `vlt_interp/specs/Tasks/Moves.antt`: what a statement asks and comes to.
-//! Used by: the machine of runs, `vlt_interp`.
+//! Read `vlt_meaning_laws/specs/Machine/Machine.antt` (act) first, then `specs/Tasks/Moves.antt`: what a statement asks and comes to.
+//! Used by: the machine.
 
 mod blocks;
 mod simple;

@@ -1,5 +1,5 @@
 //! Declared types: declarations in, the least refusal of the rules on them and their core declarations out.
-//! Read `specs/Decls.antt` first, then `Made`.
+//! Read `specs/Decls.antt` first, then `specs/Made.antt`; `queries` answers what the rules on bodies ask of a type.
 //! Used by: the rules on bodies.
 #![tactic(auto)]
 

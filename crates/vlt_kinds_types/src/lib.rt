@@ -1,5 +1,5 @@
 //! Types of a file: its names and declarations in, what type names stand for and the least refusal of the rules on types out.
-//! Read `specs/Files.antt` first, then `Types`.
+//! Read `specs/Names/Refusals.antt` first, then `specs/Files.antt` and `specs/Types.antt`; `names` has the table of names.
 //! Used by: the rules on heads and bodies.
 #![tactic(auto)]
 

@@ -1,6 +1,6 @@
 //! Names of a file: its declarations in, the table of names and the least refusal of the rules on them out.
 //! Read `specs/Names/Refusals.antt` first, then `Globals` and `Names`.
-//! Used by: the rules on types, heads and bodies.
+//! Used by: the rules on types in this crate, and those on heads and bodies.
 
 mod found;
 mod globals;

@@ -1,5 +1,5 @@
 //! Laws of runs: nothing goes in and nothing comes out.
-//! Read `vlt_meaning/specs/Run.antt` and `Does.antt` first, then `specs/Laws.antt`.
+//! Read `vlt_meaning/specs/Run.antt` and `Does.antt` first, then `specs/Laws.antt`; `machine` defines a run by a stack, on plain data.
 //! Used by: the layers above, which see runs by these equations alone, and nothing of the bound.
 #![tactic(auto)]
 

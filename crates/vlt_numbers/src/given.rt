@@ -1,5 +1,5 @@
 //! What a run is given: the bytes of its input file and of its answers file in, numbers out, or the first bad line.
-//! Read `specs/Given/Given.antt` first, and `vlt_numbers/specs/Text.antt`.
+//! Read `specs/Given/Given.antt` first, and `specs/Text.antt`.
 //! Used by: `run` and `crun`.
 
 ghost use Rattle.std.specs.Prelude.{◌≡◌, ℕ, ◌-◌, ◌^◌, ◌<◌, length, Err, IfOk};

@@ -1,5 +1,5 @@
 //! Files of numbers: bytes go in, a run's input numbers or its host's answers come out, or the first bad line.
-//! Read `specs/Text.antt` first.
+//! Read `specs/Text.antt` first; `given` reads both files of a run.
 //! Used by: `run` and `crun`, with `--input` and `--answers`.
 #![tactic(auto)]
 

@@ -1,6 +1,6 @@
 //! Copies of what the table of kinds declares: sets, types and heads go in, and the same in memory of their own comes out.
 //! Read `declarations` first. Each clause says that the copy is what was copied.
-//! Used by: `vlt_resolve`.
+//! Used by: elaboration.
 
 ghost use Rattle.std.specs.Prelude.{◌≡◌, IfOk};
 

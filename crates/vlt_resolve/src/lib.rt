@@ -1,5 +1,5 @@
 //! Elaboration: a tree and the table of its kinds in, the core program out, or the first rule or limit that refuses a body.
-//! Read `specs/Elaboration.antt` first.
+//! Read `specs/Elaboration.antt` first, then `specs/Walk/Walk.antt`; `switches` and `copies` serve the walk over a body.
 //! Used by: the check, the runs and the lowering, which take the program that comes out.
 #![tactic(auto)]
 

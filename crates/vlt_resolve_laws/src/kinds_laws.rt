@@ -1,6 +1,6 @@
 //! Laws of kinds and heads: nothing goes in and nothing comes out.
 //! Read `specs/KindsLaws/Shapes.antt` first, then `specs/KindsLaws/Declared.antt` and `specs/KindsLaws/Heads.antt`.
-//! Used by: `vlt_resolve_laws`. What the rules on names, types and heads leave breaks none of the rules on numbers that `breaks` asks.
+//! Used by: the laws of elaboration. What the rules on names, types and heads leave breaks none of the rules on numbers that `breaks` asks.
 
 ghost use Rattle.vlt_resolve_laws.specs.KindsLaws.Declared.{DeclarationsAreKinded, DeclarationsHaveStates, DeclarationsAreDescribed};
 ghost use Rattle.vlt_resolve_laws.specs.KindsLaws.Heads.{HeadsAreKinded};

@@ -1,4 +1,4 @@
-//! A law on the core programs of texts: nothing goes in and nothing comes out.
+//! Laws on the core programs of texts: nothing goes in and nothing comes out.
 //! Read `specs/FitLaws/Fit.antt` first.
 //! Used by: verdicts, and through them the promise of `check`.
 

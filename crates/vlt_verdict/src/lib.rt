@@ -1,5 +1,5 @@
 //! Verdicts: a tree goes in, what it is as a program comes out.
-//! Read `specs/Verdicts.antt` first.
+//! Read `specs/Verdicts.antt` first; `fit_laws` says that core programs of texts fit all laws.
 //! Used by: the replies of `check`. By its two laws a text has one verdict.
 #![tactic(auto)]
 

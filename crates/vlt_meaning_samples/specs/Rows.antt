@@ -1,7 +1,7 @@
 -- The rows of statements, those of blocks' ends among them, in the order of the text.
 use Rattle.std.specs.Prelude.{List, [], ◌∷◌}
 use Rattle.vlt_core.specs.Core.{a_key, a_var}
-use Rattle.vlt_core_rows.specs.Shown.{Shown, absent, in_any, within, in_focus, full, same, back, row}
+use Rattle.vlt_meaning_samples.specs.Shown.{Shown, absent, in_any, within, in_focus, full, same, back, row}
 
 abbrev pub rows_of_sockets_main : List (List Shown)
 rows_of_sockets_main =

@@ -4,18 +4,18 @@
 #![tactic(auto)]
 
 ghost use Rattle.vlt_core.specs.Derives.{IsAccepted};
-ghost use Rattle.vlt_core_rows.specs.Told.{AreTold};
-ghost use Rattle.vlt_core_rows.specs.Shown.{HaveRows};
-ghost use Rattle.vlt_core_rows.specs.Sockets as sockets;
-ghost use Rattle.vlt_core_rows.specs.Loops as loops;
-ghost use Rattle.vlt_core_rows.specs.Adoption as adoption;
-ghost use Rattle.vlt_core_rows.specs.Lists as lists;
-ghost use Rattle.vlt_core_rows.specs.Locks as locks;
-ghost use Rattle.vlt_core_rows.specs.Requests as requests;
-ghost use Rattle.vlt_core_rows.specs.Levels as levels;
-ghost use Rattle.vlt_core_rows.specs.Numbers as numbers;
-ghost use Rattle.vlt_core_rows.specs.Damaged as damaged;
-ghost use Rattle.vlt_core_rows.specs.Rows as rows;
+ghost use Rattle.vlt_meaning_samples.specs.Told.{AreTold};
+ghost use Rattle.vlt_meaning_samples.specs.Shown.{HaveRows};
+ghost use Rattle.vlt_meaning_samples.specs.Sockets as sockets;
+ghost use Rattle.vlt_meaning_samples.specs.Loops as loops;
+ghost use Rattle.vlt_meaning_samples.specs.Adoption as adoption;
+ghost use Rattle.vlt_meaning_samples.specs.Lists as lists;
+ghost use Rattle.vlt_meaning_samples.specs.Locks as locks;
+ghost use Rattle.vlt_meaning_samples.specs.Requests as requests;
+ghost use Rattle.vlt_meaning_samples.specs.Levels as levels;
+ghost use Rattle.vlt_meaning_samples.specs.Numbers as numbers;
+ghost use Rattle.vlt_meaning_samples.specs.Damaged as damaged;
+ghost use Rattle.vlt_meaning_samples.specs.Rows as rows;
 
 /// Externals: sockets, locks and requests.
 pub fn externals_are_told()

@@ -2,7 +2,7 @@
 use Rattle.std.specs.Prelude.{true, false, List, [], ◌∷◌, Some, None, codes}
 use Rattle.vlt_core.specs.Core.{tracked, owning, an_abstract, var, pure, pack, own, unpack, simple, call, return, done, taken, given, fresh, Program}
 use Rattle.vlt_meaning.specs.World as world
-use Rattle.vlt_core_rows.specs.Told.{in_set, ◌▹◌, a_key_of, a_var_of, Case, defaults, ran_call}
+use Rattle.vlt_meaning_samples.specs.Told.{in_set, ◌▹◌, a_key_of, a_var_of, Case, defaults, ran_call}
 
 --
 --   abstract lock;

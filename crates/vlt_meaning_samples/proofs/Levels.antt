@@ -9,9 +9,9 @@ use Rattle.vlt_core.specs.Maps.{HeldMap, absent, held, IsWithin}
 use Rattle.vlt_core.specs.Derives.{start_map, IsAcceptedFunc, IsAccepted}
 use Rattle.vlt_core.specs.Rows.{called_row}
 use Rattle.vlt_core.proofs.Maps.{within_refl, map_refl}
-use Rattle.vlt_core_rows.specs.Told.{in_set}
+use Rattle.vlt_meaning_samples.specs.Told.{in_set}
 use Rattle.vlt_core.specs.Found.{One, one_absent, one_held, one_lent, one_full, Has, images}
-use Rattle.vlt_core_rows.specs.Levels.{logs, twice, main, program, program_left, twice_in_low, BreaksTheRules}
+use Rattle.vlt_meaning_samples.specs.Levels.{logs, twice, main, program, program_left, twice_in_low, BreaksTheRules}
 
 abbrev nothing : HeldMap
 nothing t = absent

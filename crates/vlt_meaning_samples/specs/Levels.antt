@@ -7,7 +7,7 @@ use Rattle.vlt_core.specs.Found.{one_held, WantsOne}
 use Rattle.vlt_core.specs.Faults.{Spot, row_spot, IsFaultIn, IsToldOf, at_row}
 use Rattle.vlt_core.specs.Kinded.{breaks}
 use Rattle.vlt_meaning.specs.World as world
-use Rattle.vlt_core_rows.specs.Told.{in_set, ◌▹◌, a_key_of, a_var_of, Case, defaults, ran_call}
+use Rattle.vlt_meaning_samples.specs.Told.{in_set, ◌▹◌, a_key_of, a_var_of, Case, defaults, ran_call}
 
 --
 --   stateset level { low < mid < high }

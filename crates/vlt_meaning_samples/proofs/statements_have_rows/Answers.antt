@@ -1,5 +1,5 @@
 use Rattle.std.proofs.Common.{refl}
-use Rattle.vlt_core_rows.proofs.statements_have_rows.Goals as goal
+use Rattle.vlt_meaning_samples.proofs.statements_have_rows.Goals as goal
 
 pub returns-clause-sockets : goal.returns-clause-sockets
 returns-clause-sockets c = refl

@@ -3,7 +3,7 @@ use Rattle.std.specs.Prelude.{pos, true, false, List, [], ◌∷◌, Some, None,
 use Rattle.vlt_ops.specs.declared.Op.TheVariants as op
 use Rattle.vlt_core.specs.Core.{int, bool, tracked, owning, owning_variant, an_abstract, a_struct, a_variant, number, truth, var, field, binary, pure, move, a_var, set, print, put, make, release, unpack, simple, call, loop, switch, return, block, done, no_arms, arm, kept, taken, Program}
 use Rattle.vlt_meaning.specs.World as world
-use Rattle.vlt_core_rows.specs.Told.{in_set, ◌▹◌, a_key_of, a_var_of, Case, defaults, ran_print, ran_call}
+use Rattle.vlt_meaning_samples.specs.Told.{in_set, ◌▹◌, a_key_of, a_var_of, Case, defaults, ran_print, ran_call}
 
 --
 --   stateset irp_st { pending, done }

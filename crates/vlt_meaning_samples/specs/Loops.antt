@@ -3,7 +3,7 @@ use Rattle.std.specs.Prelude.{pos, false, List, [], ◌∷◌, Some, None, codes
 use Rattle.vlt_ops.specs.declared.Op.TheVariants as op
 use Rattle.vlt_core.specs.Core.{int, tracked, a_struct, number, field, binary, pure, put, make, become, release, simple, loop, return, block, done, Program}
 use Rattle.vlt_meaning.specs.World as world
-use Rattle.vlt_core_rows.specs.Told.{in_set, ◌▹◌, a_key_of, a_var_of, Case}
+use Rattle.vlt_meaning_samples.specs.Told.{in_set, ◌▹◌, a_key_of, a_var_of, Case}
 
 --
 --   stateset ab { a, b }

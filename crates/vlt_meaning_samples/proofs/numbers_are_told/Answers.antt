@@ -1,6 +1,6 @@
 use Rattle.std.proofs.Common.{refl}
-use Rattle.vlt_core_rows.specs.Told.{told_run}
-use Rattle.vlt_core_rows.proofs.numbers_are_told.Goals as goal
+use Rattle.vlt_meaning_samples.specs.Told.{told_run}
+use Rattle.vlt_meaning_samples.proofs.numbers_are_told.Goals as goal
 
 pub returns-clause-loops : goal.returns-clause-loops
 unfolding told_run

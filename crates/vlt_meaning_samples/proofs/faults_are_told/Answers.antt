@@ -1,6 +1,6 @@
 use Rattle.std.proofs.Common.{refl}
-use Rattle.vlt_core_rows.specs.Told.{told_run}
-use Rattle.vlt_core_rows.proofs.faults_are_told.Goals as goal
+use Rattle.vlt_meaning_samples.specs.Told.{told_run}
+use Rattle.vlt_meaning_samples.proofs.faults_are_told.Goals as goal
 
 pub returns-clause-again : goal.returns-clause-again
 unfolding told_run

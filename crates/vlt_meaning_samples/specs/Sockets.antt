@@ -2,7 +2,7 @@
 use Rattle.std.specs.Prelude.{pos, true, false, List, [], ◌∷◌, Some, None, codes}
 use Rattle.vlt_core.specs.Core.{int, tracked, owning_variant, an_abstract, a_variant, number, var, pure, print, simple, call, switch, return, block, done, no_arms, arm, kept, taken, fresh, Program}
 use Rattle.vlt_meaning.specs.World as world
-use Rattle.vlt_core_rows.specs.Told.{in_set, ◌▹◌, a_key_of, a_var_of, Case, defaults, ran_print, ran_call}
+use Rattle.vlt_meaning_samples.specs.Told.{in_set, ◌▹◌, a_key_of, a_var_of, Case, defaults, ran_print, ran_call}
 
 -- A socket is bound, or not; either way it is closed.
 --   stateset conn { raw, named, listening, ready }

@@ -1,7 +1,7 @@
 use Rattle.std.proofs.Common.{refl}
 use Rattle.vlt_core.specs.Lookups.{leads_up}
-use Rattle.vlt_core_rows.specs.Told.{told_run}
-use Rattle.vlt_core_rows.proofs.externals_are_told.Goals as goal
+use Rattle.vlt_meaning_samples.specs.Told.{told_run}
+use Rattle.vlt_meaning_samples.proofs.externals_are_told.Goals as goal
 
 pub returns-clause-sockets : goal.returns-clause-sockets
 unfolding told_run

@@ -3,7 +3,7 @@ use Rattle.std.specs.Prelude.{pos, true, false, List, [], ◌∷◌, Some, None,
 use Rattle.vlt_ops.specs.declared.Op.TheVariants as op
 use Rattle.vlt_core.specs.Core.{int, tracked, owning, guarded, owning_variant, an_abstract, a_struct, a_variant, number, var, field, binary, pure, move, pack, a_key, set, print, put, make, become, release, drop, own, adopt, simple, call, choose, loop, focus, return, block, done, kept, taken, fresh, Program}
 use Rattle.vlt_meaning.specs.World as world
-use Rattle.vlt_core_rows.specs.Told.{in_set, ◌▹◌, a_key_of, a_var_of, Case, defaults, ran_print, ran_call}
+use Rattle.vlt_meaning_samples.specs.Told.{in_set, ◌▹◌, a_key_of, a_var_of, Case, defaults, ran_print, ran_call}
 
 -- A released object is released again.
 --   struct point { int x; int y; }

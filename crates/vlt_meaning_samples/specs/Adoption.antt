@@ -3,7 +3,7 @@ use Rattle.std.specs.Prelude.{pos, false, List, [], ◌∷◌, Some, None, codes
 use Rattle.vlt_ops.specs.declared.Op.TheVariants as op
 use Rattle.vlt_core.specs.Core.{int, tracked, guarded, a_struct, number, var, field, binary, pure, set, print, put, make, become, release, adopt, simple, focus, return, block, done, Program}
 use Rattle.vlt_meaning.specs.World as world
-use Rattle.vlt_core_rows.specs.Told.{in_set, ◌▹◌, a_key_of, a_var_of, Case, defaults, ran_print}
+use Rattle.vlt_meaning_samples.specs.Told.{in_set, ◌▹◌, a_key_of, a_var_of, Case, defaults, ran_print}
 
 -- Two references to an object that a region adopted.
 --   struct region {}

@@ -2,7 +2,7 @@
 use Rattle.std.specs.Prelude.{pos, false, List, [], ◌∷◌, Some, None, codes}
 use Rattle.vlt_core.specs.Core.{int, tracked, owning, guarded, owning_variant, a_struct, a_variant, number, pure, move, pack, a_var, print, make, release, drop, own, build, swap, adopt, simple, switch, focus, return, block, done, no_arms, arm, Program}
 use Rattle.vlt_meaning.specs.World as world
-use Rattle.vlt_core_rows.specs.Told.{in_set, ◌▹◌, a_key_of, a_var_of, Case, ran_print}
+use Rattle.vlt_meaning_samples.specs.Told.{in_set, ◌▹◌, a_key_of, a_var_of, Case, ran_print}
 
 --
 --   struct region {}
