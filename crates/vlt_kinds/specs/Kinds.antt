@@ -3,8 +3,8 @@ use Rattle.std.specs.Prelude.{ℕ, List, Option, Some, None, slice_get}
 use Rattle.vlt_syntax.specs.Tree.{Name}
 use Rattle.vlt_core.specs.Core.{TypeDecl, Func, Program}
 use Rattle.vlt_kinds_types.specs.Names.Globals.{global_in}
-use Rattle.vlt_kinds_types.specs.declared.names.globals.Global.{Global}
-use Rattle.vlt_kinds_types.specs.declared.names.globals.Global.TheVariants.{AFunction}
+use Rattle.vlt_kinds_types.specs.declared.names.globals.Entity.{Entity}
+use Rattle.vlt_kinds_types.specs.declared.names.globals.Entity.TheVariants.{AFunction}
 use Rattle.vlt_kinds_types.specs.Files.{File, then_with}
 use Rattle.vlt_kinds_decls.specs.Queries.Types.{program_with}
 
@@ -21,7 +21,7 @@ declared_program kinds = program_with kinds.file.sets kinds.types
 
 -- ---- look-ups
 
-abbrev pub as_function : Option Global → Option ℕ
+abbrev pub as_function : Option Entity → Option ℕ
 as_function (Some (AFunction f)) = Some f
 as_function _ = None
 

@@ -15,7 +15,7 @@ use crate::kinds::Kinds;
 use vlt_base::{FnId, StateSet, TypeId};
 use vlt_core::{Func, Ty};
 use vlt_kinds_decls::Declared;
-use vlt_kinds_types::Global;
+use vlt_kinds_types::Entity;
 use vlt_syntax::Name;
 
 impl Kinds<'_> {
@@ -25,7 +25,7 @@ impl Kinds<'_> {
             ≡ s.function_named (kinds_seen self.now) (name_of name.now) }
     {
         match self.file.globals.find(name.text.as_slice()) {
-            Some(Global::AFunction(number)) => Some(FnId(number)),
+            Some(Entity::AFunction(number)) => Some(FnId(number)),
             _ => None,
         }
     }

@@ -11,7 +11,7 @@ ghost use Rattle.vlt_kinds_decls.specs.declared.parts.Part.TheVariants as part;
 
 use crate::header::{check_header, check_typed, header_position, wanted_of};
 use crate::parts::Part;
-use std::alloc::{AllocError, Global as Heap};
+use std::alloc::{AllocError, Global};
 use vlt_base::Items;
 use vlt_kinds_types::{File, Found, Wanted, add_listed, rules};
 use vlt_syntax::{Case, HeaderKey, KeyStates, States, Ty};
@@ -23,7 +23,7 @@ fn is_any(wanted: Option<Wanted>) -> bool
 }
 
 fn check_object_states(
-    alloc: Heap,
+    alloc: Global,
     file: &File<'_>,
     wanted: Option<Wanted>,
     states: &Option<States>,
@@ -46,7 +46,7 @@ fn check_object_states(
 
 #[tactic(auto, unfolding(crate::specs::Decls::case_key_refused))]
 fn check_case_key(
-    alloc: Heap,
+    alloc: Global,
     file: &File<'_>,
     params: &[HeaderKey],
     is_wrong: bool,
@@ -67,7 +67,7 @@ fn check_case_key(
 
 #[tactic(auto, unfolding(crate::specs::Decls::next_key_refused))]
 fn check_next_key(
-    alloc: Heap,
+    alloc: Global,
     file: &File<'_>,
     params: &[HeaderKey],
     seen: &mut Items<u8>,
@@ -89,7 +89,7 @@ fn check_next_key(
 }
 
 fn check_case_keys(
-    alloc: Heap,
+    alloc: Global,
     file: &File<'_>,
     params: &[HeaderKey],
     keys: &[KeyStates],
@@ -109,7 +109,7 @@ fn check_case_keys(
 }
 
 fn check_payload(
-    alloc: Heap,
+    alloc: Global,
     file: &File<'_>,
     params: &[HeaderKey],
     payload: &[Ty],
@@ -127,7 +127,7 @@ fn check_payload(
 
 #[tactic(auto, using(vlt_kinds_types::proofs::OfNames::Least::least_of_both, vlt_kinds_types::proofs::OfNames::Least::each_is, vlt_kinds_types::proofs::OfNames::Along::along_is), unfolding(crate::specs::Decls::case_refused))]
 fn check_case(
-    alloc: Heap,
+    alloc: Global,
     file: &File<'_>,
     params: &[HeaderKey],
     case: &Case,
@@ -144,7 +144,7 @@ fn check_case(
 }
 
 fn check_cases(
-    alloc: Heap,
+    alloc: Global,
     file: &File<'_>,
     params: &[HeaderKey],
     cases: &[Case],
@@ -163,7 +163,7 @@ fn check_cases(
 /// Refuses what is wrong in a variant.
 #[tactic(auto, using(vlt_kinds_types::proofs::OfNames::Least::least_of_both, vlt_kinds_types::proofs::OfNames::Least::each_is), unfolding(crate::specs::Decls::variant_refused))]
 pub fn check_variant(
-    alloc: Heap,
+    alloc: Global,
     file: &File<'_>,
     params: &[HeaderKey],
     cases: &[Case],

@@ -10,12 +10,12 @@ ghost use Rattle.vlt_kinds_decls.specs.Decls as d;
 
 use crate::cases::check_variant;
 use crate::fields::check_struct;
-use std::alloc::{AllocError, Global as Heap};
+use std::alloc::{AllocError, Global};
 use vlt_kinds_types::{File, Found};
 use vlt_syntax::Decl;
 
 fn check_decl(
-    alloc: Heap,
+    alloc: Global,
     file: &File<'_>,
     decl: &Decl,
     found: &mut Found,
@@ -50,7 +50,7 @@ fn check_decl(
 }
 
 fn check_decls(
-    alloc: Heap,
+    alloc: Global,
     file: &File<'_>,
     decls: &[Decl],
     found: &mut Found,
@@ -68,7 +68,7 @@ fn check_decls(
 /// Refuses what is wrong in the declared types of a file.
 #[tactic(auto, using(vlt_kinds_types::proofs::OfNames::Least::each_is), unfolding(crate::specs::Decls::types_refused))]
 pub fn check_types(
-    alloc: Heap,
+    alloc: Global,
     file: &File<'_>,
     decls: &[Decl],
     found: &mut Found,

@@ -8,13 +8,13 @@ ghost use Rattle.vlt_kinds_decls.specs.Decls as d;
 
 use crate::header::{check_header, check_typed};
 use crate::parts::Part;
-use std::alloc::{AllocError, Global as Heap};
+use std::alloc::{AllocError, Global};
 use vlt_kinds_types::{File, Found, StateNames, check_states};
 use vlt_syntax::{Field, HeaderKey, Name, States};
 
 #[tactic(auto, using(vlt_kinds_types::proofs::OfNames::Least::least_of_both), unfolding(crate::specs::Decls::field_refused))]
 fn check_field(
-    alloc: Heap,
+    alloc: Global,
     file: &File<'_>,
     params: &[HeaderKey],
     known: &StateNames<'_>,
@@ -31,7 +31,7 @@ fn check_field(
 }
 
 fn check_fields(
-    alloc: Heap,
+    alloc: Global,
     file: &File<'_>,
     params: &[HeaderKey],
     known: &StateNames<'_>,
@@ -51,7 +51,7 @@ fn check_fields(
 /// Refuses what is wrong in a struct.
 #[tactic(auto, using(vlt_kinds_types::proofs::OfNames::Least::least_of_both, vlt_kinds_types::proofs::OfNames::Least::each_is), unfolding(crate::specs::Decls::struct_refused))]
 pub fn check_struct(
-    alloc: Heap,
+    alloc: Global,
     file: &File<'_>,
     name: &Name,
     params: &[HeaderKey],

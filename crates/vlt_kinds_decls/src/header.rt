@@ -10,7 +10,7 @@ ghost use Rattle.vlt_kinds_types.specs.Types as t;
 ghost use Rattle.vlt_kinds_decls.specs.Decls as d;
 
 use crate::parts::Part;
-use std::alloc::{AllocError, Global as Heap};
+use std::alloc::{AllocError, Global};
 use vlt_base::Items;
 use vlt_kinds_types::{
     File, Found, Globals, KeyUse, Sort, Wanted, rules, sort_in, ty_place, wanted_in,
@@ -149,7 +149,7 @@ fn check_part(part: Part, ty: &Ty, sort: Option<Sort>, found: &mut Found)
 /// Refuses what is wrong in a type that is a part of a declaration with this header.
 #[tactic(auto, using(vlt_kinds_types::proofs::OfNames::Least::least_of_both, vlt_kinds_types::proofs::OfNames::Least::each_is), unfolding(crate::specs::Decls::typed_refused))]
 pub fn check_typed(
-    alloc: Heap,
+    alloc: Global,
     file: &File<'_>,
     params: &[HeaderKey],
     part: Part,

@@ -15,7 +15,7 @@ ghost use Rattle.vlt_kinds_decls.specs.Known.{HasKnownSet};
 ghost use Rattle.std.specs.Option.{ForSome};
 
 use crate::header::{header_position, wanted_of};
-use std::alloc::{AllocError, Global as Heap};
+use std::alloc::{AllocError, Global};
 use vlt_base::{Items, SetId, StateSet, TypeId};
 use vlt_core::{CaseDecl, FieldDecl, Ty, TypeDecl};
 use vlt_kinds_types::{
@@ -51,7 +51,7 @@ fn type_wanted(wanted: Wanted) -> Option<TypeId>
 }
 
 fn core_header(
-    alloc: Heap,
+    alloc: Global,
     known: &Globals<'_>,
     params: &[HeaderKey],
 ) -> Result<Items<Option<TypeId>>, AllocError>
@@ -84,7 +84,7 @@ fn set_named(file: &File<'_>, set: &Option<Name>) -> Result<Option<SetId>, Alloc
 
 #[tactic(auto, unfolding(crate::specs::Made::core_field))]
 fn core_field(
-    alloc: Heap,
+    alloc: Global,
     file: &File<'_>,
     params: &[HeaderKey],
     known: &StateNames<'_>,
@@ -102,7 +102,7 @@ fn core_field(
 }
 
 fn core_fields(
-    alloc: Heap,
+    alloc: Global,
     file: &File<'_>,
     params: &[HeaderKey],
     known: &StateNames<'_>,
@@ -122,7 +122,7 @@ fn core_fields(
 
 #[tactic(auto, unfolding(crate::specs::Made::core_struct))]
 fn core_struct(
-    alloc: Heap,
+    alloc: Global,
     file: &File<'_>,
     name: &Name,
     params: &[HeaderKey],
@@ -163,7 +163,7 @@ fn object_states<'a>(file: &'a File<'_>, wanted: Option<Wanted>) -> StateNames<'
 
 #[tactic(auto, unfolding(crate::specs::Made::core_case_key))]
 fn core_case_key(
-    alloc: Heap,
+    alloc: Global,
     file: &File<'_>,
     params: &[HeaderKey],
     key: &KeyStates,
@@ -181,7 +181,7 @@ fn core_case_key(
 }
 
 fn core_case_keys(
-    alloc: Heap,
+    alloc: Global,
     file: &File<'_>,
     params: &[HeaderKey],
     keys: &[KeyStates],
@@ -199,7 +199,7 @@ fn core_case_keys(
 }
 
 fn core_payload(
-    alloc: Heap,
+    alloc: Global,
     file: &File<'_>,
     params: &[HeaderKey],
     payload: &[vlt_syntax::Ty],
@@ -227,7 +227,7 @@ fn without_tick(text: &[u8]) -> &[u8]
 
 #[tactic(auto, unfolding(crate::specs::Made::core_case))]
 fn core_case(
-    alloc: Heap,
+    alloc: Global,
     file: &File<'_>,
     params: &[HeaderKey],
     case: &Case,
@@ -247,7 +247,7 @@ fn core_case(
 }
 
 fn core_cases(
-    alloc: Heap,
+    alloc: Global,
     file: &File<'_>,
     params: &[HeaderKey],
     cases: &[Case],
@@ -266,7 +266,7 @@ fn core_cases(
 
 #[tactic(auto, unfolding(crate::specs::Made::core_variant))]
 fn core_variant(
-    alloc: Heap,
+    alloc: Global,
     file: &File<'_>,
     name: &Name,
     params: &[HeaderKey],
@@ -289,7 +289,7 @@ fn core_variant(
 }
 
 fn core_abstract(
-    alloc: Heap,
+    alloc: Global,
     file: &File<'_>,
     name: &Name,
     set: &Option<Name>,
@@ -305,7 +305,7 @@ fn core_abstract(
 }
 
 fn add_type(
-    alloc: Heap,
+    alloc: Global,
     file: &File<'_>,
     decl: &Decl,
     types: &mut Items<TypeDecl>,
@@ -358,7 +358,7 @@ fn add_type(
 
 /// The declared types of a file whose types aren't refused, in the order of their declarations.
 pub fn core_types(
-    alloc: Heap,
+    alloc: Global,
     file: &File<'_>,
     decls: &[Decl],
 ) -> Result<Items<TypeDecl>, AllocError>

@@ -11,7 +11,7 @@ ghost use Rattle.vlt_kinds_heads.specs.Seen.{name_seen, table_seen};
 
 use crate::names::HeadName;
 use indexmap::IndexMap;
-use std::alloc::{AllocError, Global as Heap};
+use std::alloc::{AllocError, Global};
 use vlt_core::rules;
 use vlt_kinds_types::{Found, Globals};
 
@@ -62,7 +62,7 @@ impl<'a> Names<'a> {
 
 /// Refuses each name that is repeated or global.
 pub fn check_names(
-    alloc: Heap,
+    alloc: Global,
     known: &Globals<'_>,
     names: &[HeadName<'_>],
     found: &mut Found,

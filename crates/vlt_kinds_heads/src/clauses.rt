@@ -11,7 +11,7 @@ ghost use Rattle.vlt_kinds_heads.specs.Seen.{keys_seen};
 use crate::facts::Facts;
 use crate::keys::HeadKeys;
 use crate::places::{clause_in, entry_key, first_states, is_fresh, second_states};
-use std::alloc::{AllocError, Global as Heap};
+use std::alloc::{AllocError, Global};
 use vlt_core::rules;
 use vlt_kinds_types::{File, Found};
 use vlt_syntax::{Entry, Head, Name, ResultType, States, Ty};
@@ -49,7 +49,7 @@ fn first_name(states: &States) -> u32
 }
 
 fn check_key_states(
-    alloc: Heap,
+    alloc: Global,
     file: &File<'_>,
     facts: &Facts,
     states: Option<&States>,
@@ -77,7 +77,7 @@ fn check_key_states(
 
 #[tactic(auto, using(vlt_kinds_types::proofs::OfNames::Least::least_of_both), unfolding(crate::specs::Heads::entry_states_refused))]
 fn check_entry_states(
-    alloc: Heap,
+    alloc: Global,
     file: &File<'_>,
     facts: &Facts,
     entry: &Entry,
@@ -93,7 +93,7 @@ fn check_entry_states(
 
 #[tactic(auto, using(vlt_kinds_types::proofs::OfNames::Least::least_of_both), unfolding(crate::specs::Heads::entry_refused))]
 fn check_entry(
-    alloc: Heap,
+    alloc: Global,
     file: &File<'_>,
     keys: &HeadKeys<'_>,
     entry: &Entry,
@@ -111,7 +111,7 @@ fn check_entry(
 
 /// Refuses keys and states of a clause.
 pub fn check_entries(
-    alloc: Heap,
+    alloc: Global,
     file: &File<'_>,
     keys: &HeadKeys<'_>,
     clause: &[Entry],

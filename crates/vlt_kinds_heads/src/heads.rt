@@ -19,14 +19,14 @@ use crate::externals::check_external;
 use crate::keys::HeadKeys;
 use crate::places::{clause_in, head_names, parameter_uses, result_uses};
 use indexmap::IndexMap;
-use std::alloc::{AllocError, Global as Heap};
+use std::alloc::{AllocError, Global};
 use vlt_base::Items;
 use vlt_core::{Func, TypeDecl};
 use vlt_kinds_types::{File, Found, KeyUse};
 use vlt_syntax::{Decl, Entry, Head, Parameter, ResultType};
 
 fn check_result_type(
-    alloc: Heap,
+    alloc: Global,
     file: &File<'_>,
     result_type: &ResultType,
     found: &mut Found,
@@ -41,7 +41,7 @@ fn check_result_type(
 }
 
 fn check_parameter_types(
-    alloc: Heap,
+    alloc: Global,
     file: &File<'_>,
     parameters: &[Parameter],
     found: &mut Found,
@@ -57,7 +57,7 @@ fn check_parameter_types(
 
 #[tactic(auto, using(vlt_kinds_types::proofs::OfNames::Least::least_of_both, vlt_kinds_types::proofs::OfNames::Least::each_is), unfolding(crate::specs::Heads::types_refused))]
 fn check_types(
-    alloc: Heap,
+    alloc: Global,
     file: &File<'_>,
     head: &Head,
     found: &mut Found,
@@ -72,7 +72,7 @@ fn check_types(
 
 #[tactic(auto, using(vlt_kinds_types::proofs::OfNames::Along::along_is))]
 fn check_head_names(
-    alloc: Heap,
+    alloc: Global,
     file: &File<'_>,
     head: &Head,
     found: &mut Found,
@@ -89,7 +89,7 @@ fn check_head_names(
 /// Where the keys of a head stand. A key that its clause names another time is refused.
 #[tactic(auto, using(vlt_kinds_types::proofs::OfNames::Along::along_is), unfolding(crate::specs::Heads::clause_again, crate::specs::Keys::places_behind))]
 fn note_places<'a>(
-    alloc: Heap,
+    alloc: Global,
     results: &[KeyUse<'a>],
     parameters: &[KeyUse<'a>],
     clause: &'a [Entry],
@@ -146,7 +146,7 @@ impl<'a> HeadKeys<'a> {
 /// The keys of a head. What is wrong in it is refused.
 #[tactic(auto, using(vlt_kinds_types::proofs::OfNames::Least::least_of_both, vlt_kinds_types::proofs::OfNames::Least::each_is), unfolding(crate::specs::Heads::head_refused_by, crate::specs::Keys::keys_behind))]
 fn check_head_by<'a>(
-    alloc: Heap,
+    alloc: Global,
     file: &File<'_>,
     head: &'a Head,
     results: &[KeyUse<'a>],
@@ -171,7 +171,7 @@ fn check_head_by<'a>(
 }
 
 fn check_head<'a>(
-    alloc: Heap,
+    alloc: Global,
     file: &File<'_>,
     head: &'a Head,
     found: &mut Found,
@@ -195,7 +195,7 @@ fn check_head<'a>(
 
 #[tactic(auto, using(vlt_kinds_types::proofs::OfNames::Least::least_of_both), unfolding(crate::specs::Phase::extern_refused))]
 fn check_extern<'a>(
-    alloc: Heap,
+    alloc: Global,
     file: &File<'_>,
     types: &[TypeDecl],
     head: &'a Head,
@@ -214,7 +214,7 @@ fn check_extern<'a>(
 
 /// Adds the head that has these keys.
 fn push_head(
-    alloc: Heap,
+    alloc: Global,
     file: &File<'_>,
     external: bool,
     head: &Head,
@@ -231,7 +231,7 @@ fn push_head(
 
 /// Adds the head that is declared here, if one is. What is wrong in it is refused.
 fn add_head(
-    alloc: Heap,
+    alloc: Global,
     file: &File<'_>,
     types: &[TypeDecl],
     decl: &Decl,
@@ -260,7 +260,7 @@ fn add_head(
 }
 
 fn add_heads(
-    alloc: Heap,
+    alloc: Global,
     file: &File<'_>,
     types: &[TypeDecl],
     decls: &[Decl],
@@ -283,7 +283,7 @@ fn add_heads(
 /// The heads of a file with these declared types. What is wrong in them is refused.
 #[tactic(auto, using(vlt_kinds_types::proofs::OfNames::Least::each_is), unfolding(crate::specs::Phase::heads_refused))]
 pub fn check_heads(
-    alloc: Heap,
+    alloc: Global,
     file: &File<'_>,
     types: &[TypeDecl],
     decls: &[Decl],

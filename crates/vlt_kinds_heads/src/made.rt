@@ -12,7 +12,7 @@ ghost use Rattle.vlt_kinds_heads.specs.Seen.{keys_seen};
 use crate::facts::{Facts, Typing};
 use crate::keys::HeadKeys;
 use crate::places::{clause_in, entry_key};
-use std::alloc::{AllocError, Global as Heap};
+use std::alloc::{AllocError, Global};
 use vlt_base::{Items, KeyId, StateSet, TypeId};
 use vlt_core::{Entry, Func, KeyDecl, Mode, Ty, VarDecl};
 use vlt_kinds_types::{File, KeyNumbers, StateNames, some_states_listed};
@@ -44,7 +44,7 @@ fn key_type(typing: Option<Typing>) -> Option<TypeId>
     }
 }
 
-fn key_decls(alloc: Heap, keys: &HeadKeys<'_>) -> Result<Items<KeyDecl>, AllocError>
+fn key_decls(alloc: Global, keys: &HeadKeys<'_>) -> Result<Items<KeyDecl>, AllocError>
     ensures { IfOk result (λ decls. map core_view.key_of decls
         ≡ map q.key_decl (keys_seen keys.now)) }
 {
@@ -69,7 +69,7 @@ fn typed_states<'a>(file: &'a File<'_>, typing: Option<Typing>) -> StateNames<'a
 }
 
 fn states_named(
-    alloc: Heap,
+    alloc: Global,
     known: &StateNames<'_>,
     states: &Option<States>,
 ) -> Result<Option<StateSet>, AllocError>
@@ -91,7 +91,7 @@ impl HeadKeys<'_> {
 
     fn core_entry_in(
         &self,
-        alloc: Heap,
+        alloc: Global,
         known: &StateNames<'_>,
         entry: &vlt_syntax::Entry,
     ) -> Result<Entry, AllocError>
@@ -153,7 +153,7 @@ impl HeadKeys<'_> {
     #[tactic(auto, unfolding(crate::specs::Phase::core_entry))]
     fn core_entry(
         &self,
-        alloc: Heap,
+        alloc: Global,
         file: &File<'_>,
         entry: &vlt_syntax::Entry,
     ) -> Result<Entry, AllocError>
@@ -167,7 +167,7 @@ impl HeadKeys<'_> {
 
     fn core_clause(
         &self,
-        alloc: Heap,
+        alloc: Global,
         file: &File<'_>,
         clause: &[vlt_syntax::Entry],
     ) -> Result<Items<Entry>, AllocError>
@@ -184,7 +184,7 @@ impl HeadKeys<'_> {
 
     fn core_result(
         &self,
-        alloc: Heap,
+        alloc: Global,
         file: &File<'_>,
         result_type: &ResultType,
     ) -> Result<Option<Ty>, AllocError>
@@ -200,7 +200,7 @@ impl HeadKeys<'_> {
 
     fn core_parameter(
         &self,
-        alloc: Heap,
+        alloc: Global,
         file: &File<'_>,
         parameter: &Parameter,
     ) -> Result<VarDecl, AllocError>
@@ -215,7 +215,7 @@ impl HeadKeys<'_> {
 
     fn core_parameters(
         &self,
-        alloc: Heap,
+        alloc: Global,
         file: &File<'_>,
         parameters: &[Parameter],
     ) -> Result<Items<VarDecl>, AllocError>
@@ -234,7 +234,7 @@ impl HeadKeys<'_> {
     #[tactic(auto, unfolding(crate::specs::Phase::core_head))]
     pub fn core_head(
         &self,
-        alloc: Heap,
+        alloc: Global,
         file: &File<'_>,
         external: bool,
         head: &Head,

@@ -7,14 +7,14 @@ ghost use Rattle.vlt_kinds_heads.specs.Places as p;
 ghost use Rattle.vlt_kinds_heads.specs.Seen.{name_seen};
 
 use crate::names::HeadName;
-use std::alloc::{AllocError, Global as Heap};
+use std::alloc::{AllocError, Global};
 use vlt_base::Items;
 use vlt_kinds_types::{File, KeyUse};
 use vlt_syntax::{Entry, Head, Name, Parameter, ResultType, States};
 
 /// The keys in a result's type, in the order of the text.
 pub fn result_uses<'a>(
-    alloc: Heap,
+    alloc: Global,
     file: &File<'_>,
     result_type: &'a ResultType,
 ) -> Result<Items<KeyUse<'a>>, AllocError>
@@ -30,7 +30,7 @@ pub fn result_uses<'a>(
 
 /// The keys in the types of parameters, in the order of the text.
 pub fn parameter_uses<'a>(
-    alloc: Heap,
+    alloc: Global,
     file: &File<'_>,
     parameters: &'a [Parameter],
 ) -> Result<Items<KeyUse<'a>>, AllocError>
@@ -137,7 +137,7 @@ fn entry_name(entry: &Entry) -> HeadName<'_>
 }
 
 fn add_parameter<'a>(
-    alloc: Heap,
+    alloc: Global,
     file: &File<'_>,
     parameter: &'a Parameter,
     names: &mut Items<HeadName<'a>>,
@@ -152,7 +152,7 @@ fn add_parameter<'a>(
 }
 
 fn add_parameters<'a>(
-    alloc: Heap,
+    alloc: Global,
     file: &File<'_>,
     parameters: &'a [Parameter],
     names: &mut Items<HeadName<'a>>,
@@ -177,7 +177,7 @@ fn add_clause<'a>(clause: &'a [Entry], names: &mut Items<HeadName<'a>>) -> Resul
 }
 
 fn add_result<'a>(
-    alloc: Heap,
+    alloc: Global,
     file: &File<'_>,
     result_type: &'a ResultType,
     names: &mut Items<HeadName<'a>>,
@@ -193,7 +193,7 @@ fn add_result<'a>(
 /// The names that stand in a head, in the order of the text.
 #[tactic(auto, unfolding(crate::specs::Places::head_names))]
 pub fn head_names<'a>(
-    alloc: Heap,
+    alloc: Global,
     file: &File<'_>,
     head: &'a Head,
 ) -> Result<Items<HeadName<'a>>, AllocError>

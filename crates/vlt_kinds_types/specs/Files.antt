@@ -8,8 +8,8 @@ use Rattle.vlt_syntax.specs.Tree.{Name, Ty, HeaderKey, Case, Decl}
 use Rattle.vlt_core.specs.Core.{States, SetDecl}
 use Rattle.vlt_kinds_types.specs.Names.Refusals.{of_each}
 use Rattle.vlt_kinds_types.specs.Names.Globals.{Globals, global_in, globals_of}
-use Rattle.vlt_kinds_types.specs.declared.names.globals.Global.{Global}
-use Rattle.vlt_kinds_types.specs.declared.names.globals.Global.TheVariants.{ASet, AType}
+use Rattle.vlt_kinds_types.specs.declared.names.globals.Entity.{Entity}
+use Rattle.vlt_kinds_types.specs.declared.names.globals.Entity.TheVariants.{ASet, AType}
 use Rattle.vlt_kinds_types.specs.declared.shapes.Sort.{Sort}
 use Rattle.vlt_kinds_types.specs.declared.shapes.Sort.TheVariants as sort
 use Rattle.vlt_kinds_types.specs.declared.shapes.Wanted.{Wanted}
@@ -22,11 +22,11 @@ then_with o go = option_and_then go o
 
 -- ---- names of types and of sets
 
-abbrev pub as_type : Option Global → Option ℕ
+abbrev pub as_type : Option Entity → Option ℕ
 as_type (Some (AType t)) = Some t
 as_type _ = None
 
-abbrev pub as_set : Option Global → Option ℕ
+abbrev pub as_set : Option Entity → Option ℕ
 as_set (Some (ASet i)) = Some i
 as_set _ = None
 

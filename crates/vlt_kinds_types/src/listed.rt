@@ -12,7 +12,7 @@ use crate::file::File;
 use crate::names::{Found, rules};
 use crate::shapes::Shape;
 use crate::states::StateNames;
-use std::alloc::{AllocError, Global as Heap};
+use std::alloc::{AllocError, Global};
 use vlt_base::{Items, StateSet};
 use vlt_syntax::{Name, States};
 
@@ -117,7 +117,7 @@ fn names_in_states(states: &States) -> &[Name]
 }
 
 fn check_listed(
-    alloc: Heap,
+    alloc: Global,
     known: &StateNames<'_>,
     names: &[Name],
     found: &mut Found,
@@ -136,7 +136,7 @@ fn check_listed(
 /// Refuses each listed name that is no state of these, or is listed for another time.
 #[tactic(auto, unfolding(crate::specs::Types::states_refused))]
 pub fn check_some_states(
-    alloc: Heap,
+    alloc: Global,
     known: &StateNames<'_>,
     states: &States,
     found: &mut Found,
@@ -150,7 +150,7 @@ pub fn check_some_states(
 /// The same of states that may be left out.
 #[tactic(auto, unfolding(crate::specs::Types::states_refused))]
 pub fn check_states(
-    alloc: Heap,
+    alloc: Global,
     known: &StateNames<'_>,
     states: &Option<States>,
     found: &mut Found,
@@ -165,7 +165,7 @@ pub fn check_states(
 }
 
 fn listed_numbers(
-    alloc: Heap,
+    alloc: Global,
     known: &StateNames<'_>,
     names: &[Name],
 ) -> Result<Items<u8>, AllocError>
@@ -205,7 +205,7 @@ fn set_of_numbers(numbers: &[u8]) -> StateSet
 
 /// The states that are listed.
 pub fn some_states_listed(
-    alloc: Heap,
+    alloc: Global,
     known: &StateNames<'_>,
     states: &States,
 ) -> Result<StateSet, AllocError>
@@ -218,7 +218,7 @@ pub fn some_states_listed(
 
 /// The states that are listed, or all.
 pub fn states_listed(
-    alloc: Heap,
+    alloc: Global,
     known: &StateNames<'_>,
     states: &Option<States>,
 ) -> Result<StateSet, AllocError>

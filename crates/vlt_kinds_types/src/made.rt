@@ -9,7 +9,7 @@ ghost use Rattle.vlt_kinds_types.specs.Seen.{file_seen};
 use crate::file::File;
 use crate::shapes::Sort;
 use crate::{listed, types};
-use std::alloc::{AllocError, Global as Heap};
+use std::alloc::{AllocError, Global};
 use vlt_base::{Items, KeyId, TypeId};
 use vlt_core::Ty;
 use vlt_syntax::{Name, Named, States};
@@ -24,7 +24,7 @@ pub trait KeyNumbers {
 }
 
 fn key_numbers<K: KeyNumbers>(
-    alloc: Heap,
+    alloc: Global,
     numbers: &K,
     keys: &[Name],
 ) -> Result<Items<KeyId>, AllocError>
@@ -48,7 +48,7 @@ impl File<'_> {
     #[tactic(auto, unfolding(crate::specs::Types::owned_ty))]
     fn owned_type<K: KeyNumbers>(
         &self,
-        alloc: Heap,
+        alloc: Global,
         numbers: &K,
         states: &Option<States>,
         named: &Named,
@@ -71,7 +71,7 @@ impl File<'_> {
     /// The core type of a type that isn't refused.
     pub fn core_type<K: KeyNumbers>(
         &self,
-        alloc: Heap,
+        alloc: Global,
         numbers: &K,
         ty: &vlt_syntax::Ty,
     ) -> Result<Ty, AllocError>

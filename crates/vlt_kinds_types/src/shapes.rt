@@ -7,8 +7,8 @@ ghost use Rattle.vlt_kinds_types.specs.Names.Globals.{names_seen};
 ghost use Rattle.vlt_kinds_types.specs.Names.Refusals.{of_each};
 ghost use Rattle.vlt_kinds_types.specs.Files as f;
 
-use crate::names::{Global, Globals};
-use std::alloc::{AllocError, Global as Heap};
+use crate::names::{Entity, Globals};
+use std::alloc::{AllocError, Global};
 use vlt_base::Items;
 use vlt_syntax::{Case, Decl, HeaderKey, Name, Ty};
 
@@ -50,7 +50,7 @@ pub fn type_in(known: &Globals<'_>, name: &Name) -> Option<u32>
     ensures { result ≡ f.type_in (names_seen known.now) (view.name_of name.now) }
 {
     match known.find(name.text.as_slice()) {
-        Some(Global::AType(number)) => Some(number),
+        Some(Entity::AType(number)) => Some(number),
         _ => None,
     }
 }
@@ -62,7 +62,7 @@ pub fn set_in(known: &Globals<'_>, name: &Option<Name>) -> Option<u32>
     match name {
         None => None,
         Some(name) => match known.find(name.text.as_slice()) {
-            Some(Global::ASet(number)) => Some(number),
+            Some(Entity::ASet(number)) => Some(number),
             _ => None,
         },
     }
@@ -83,7 +83,7 @@ pub fn wanted_in(known: &Globals<'_>, name: &Option<Name>) -> Wanted
 
 /// What a header wants of its keys' objects.
 pub fn header_in(
-    alloc: Heap,
+    alloc: Global,
     known: &Globals<'_>,
     params: &[HeaderKey],
 ) -> Result<Items<Wanted>, AllocError>
@@ -199,7 +199,7 @@ fn sort_of_cases(known: &Globals<'_>, cases: &[Case]) -> Sort
 }
 
 fn add_shape(
-    alloc: Heap,
+    alloc: Global,
     known: &Globals<'_>,
     decl: &Decl,
     shapes: &mut Items<Shape>,
@@ -241,7 +241,7 @@ fn add_shape(
 
 /// The shapes of the declared types, in the order of their declarations.
 pub fn shapes_of(
-    alloc: Heap,
+    alloc: Global,
     known: &Globals<'_>,
     decls: &[Decl],
 ) -> Result<Items<Shape>, AllocError>

@@ -14,7 +14,7 @@ ghost use Rattle.vlt_kinds_types.specs.Small.{AreSmallSets, IsSmallSet};
 use crate::file::File;
 use crate::names::Globals;
 use crate::shapes::{self, Shape};
-use std::alloc::{AllocError, Global as Heap};
+use std::alloc::{AllocError, Global};
 use vlt_base::Items;
 use vlt_core::SetDecl;
 use vlt_syntax::{Decl, Name};
@@ -46,7 +46,7 @@ impl File<'_> {
     }
 }
 
-fn texts(alloc: Heap, names: &[Name]) -> Result<Items<Items<u8>>, AllocError>
+fn texts(alloc: Global, names: &[Name]) -> Result<Items<Items<u8>>, AllocError>
     ensures texts { IfOk result (λ texts. map (λ n. n) texts
         ≡ f.texts (view.names_of names.now)) }
     ensures len { IfOk result (λ texts. length texts ≡ length names.now) }
@@ -58,7 +58,7 @@ fn texts(alloc: Heap, names: &[Name]) -> Result<Items<Items<u8>>, AllocError>
     Ok(texts)
 }
 
-fn set_of(alloc: Heap, name: &Name, states: &[Name]) -> Result<SetDecl, AllocError>
+fn set_of(alloc: Global, name: &Name, states: &[Name]) -> Result<SetDecl, AllocError>
     requires some { 1 ≤ length states.now }
     requires few { length states.now ≤ 32 }
     ensures set { IfOk result (λ set. core_view.set_of set
@@ -79,7 +79,7 @@ fn set_of(alloc: Heap, name: &Name, states: &[Name]) -> Result<SetDecl, AllocErr
     })
 }
 
-fn add_set(alloc: Heap, decl: &Decl, sets: &mut Items<SetDecl>) -> Result<(), AllocError>
+fn add_set(alloc: Global, decl: &Decl, sets: &mut Items<SetDecl>) -> Result<(), AllocError>
     requires right { IsDecl language (view.decl_of decl.now) }
     requires small { AreSmallSets sets.old }
     ensures sets { OnOk result
@@ -94,7 +94,7 @@ fn add_set(alloc: Heap, decl: &Decl, sets: &mut Items<SetDecl>) -> Result<(), Al
     Ok(())
 }
 
-fn sets_of(alloc: Heap, decls: &[Decl]) -> Result<Items<SetDecl>, AllocError>
+fn sets_of(alloc: Global, decls: &[Decl]) -> Result<Items<SetDecl>, AllocError>
     requires { Each (IsDecl language) (map view.decl_of decls.now) }
     ensures sets { IfOk result (λ sets. map core_view.set_of sets
         ≡ of_each f.sets_in (map view.decl_of decls.now)) }
@@ -109,7 +109,7 @@ fn sets_of(alloc: Heap, decls: &[Decl]) -> Result<Items<SetDecl>, AllocError>
 
 /// What a file declares that has these names.
 pub fn file_of<'a>(
-    alloc: Heap,
+    alloc: Global,
     globals: Globals<'a>,
     decls: &[Decl],
 ) -> Result<File<'a>, AllocError>

@@ -11,7 +11,7 @@ use crate::file::File;
 use crate::listed;
 use crate::names::{Found, rules};
 use crate::shapes::{Shape, Sort};
-use std::alloc::{AllocError, Global as Heap};
+use std::alloc::{AllocError, Global};
 use vlt_syntax::{Named, States, Ty};
 
 impl Sort {
@@ -144,7 +144,7 @@ impl File<'_> {
     #[tactic(auto, unfolding(crate::specs::Types::owned_states_refused))]
     pub fn check_owned_states(
         &self,
-        alloc: Heap,
+        alloc: Global,
         shape: Option<&Shape>,
         states: &Option<States>,
         found: &mut Found,
@@ -164,7 +164,7 @@ impl File<'_> {
     #[tactic(auto, unfolding(crate::specs::Types::owned_states_refused))]
     pub fn check_object_states(
         &self,
-        alloc: Heap,
+        alloc: Global,
         shape: Option<&Shape>,
         states: &States,
         found: &mut Found,
@@ -183,7 +183,7 @@ impl File<'_> {
     #[tactic(auto, using(crate::proofs::OfNames::Least::least_of_both), unfolding(crate::specs::Types::owned_refused))]
     fn check_owned(
         &self,
-        alloc: Heap,
+        alloc: Global,
         ty: &Ty,
         states: &Option<States>,
         named: &Named,
@@ -202,7 +202,7 @@ impl File<'_> {
     }
 
     /// Refuses what is wrong in a type wherever it stands, its keys aside.
-    pub fn check_type(&self, alloc: Heap, ty: &Ty, found: &mut Found) -> Result<(), AllocError>
+    pub fn check_type(&self, alloc: Global, ty: &Ty, found: &mut Found) -> Result<(), AllocError>
         ensures { OnOk result (found.new.least ≡ least_from found.old.least
             (t.ty_refused (file_seen self.now) (view.ty_of ty.now))) }
     {

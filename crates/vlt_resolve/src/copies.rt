@@ -9,10 +9,10 @@ mod heads;
 
 pub use declarations::{copy_decls, copy_sets};
 pub use heads::{copy_func, copy_keys, copy_vars, func_of_head};
-use std::alloc::{AllocError, Global as Heap};
+use std::alloc::{AllocError, Global};
 use vlt_base::Items;
 
-fn copy_bytes(alloc: Heap, bytes: &Items<u8>) -> Result<Items<u8>, AllocError>
+fn copy_bytes(alloc: Global, bytes: &Items<u8>) -> Result<Items<u8>, AllocError>
     ensures { IfOk result (λ b. b ≡ bytes.now) }
 {
     Items::from_slice(alloc, bytes.as_slice())

@@ -12,7 +12,7 @@ ghost use Rattle.vlt_resolve.specs.Walk.Refusals.{OnRefused};
 use crate::copies::{copy_func, copy_keys, copy_vars, func_of_head};
 use crate::walk::{Stop, block_ends, closing, passed, walk_stmts};
 use indexmap::IndexMap;
-use std::alloc::{AllocError, Global as Heap};
+use std::alloc::{AllocError, Global};
 use vlt_base::{FnId, Items, KeyId, VarId};
 use vlt_core::rules::NO_END;
 use vlt_core::{Entry, Form, Func, KeyDecl, Mode, Tok, VarDecl};
@@ -69,7 +69,7 @@ fn add_var_names<'k>(scope: &mut Scope<'k>, vars: &'k [VarDecl]) -> Result<(), A
     Ok(())
 }
 
-fn nameless_scope<'k>(alloc: Heap, head: &Func) -> Result<Scope<'k>, AllocError>
+fn nameless_scope<'k>(alloc: Global, head: &Func) -> Result<Scope<'k>, AllocError>
     ensures { IfOk result (λ x. scope_seen x ≡ e.nameless_scope (func_of head.now)) }
 {
     Ok(Scope {
@@ -82,7 +82,7 @@ fn nameless_scope<'k>(alloc: Heap, head: &Func) -> Result<Scope<'k>, AllocError>
 }
 
 /// The scope that a body begins with.
-fn body_scope<'k>(alloc: Heap, head: &'k Func) -> Result<Scope<'k>, AllocError>
+fn body_scope<'k>(alloc: Global, head: &'k Func) -> Result<Scope<'k>, AllocError>
     ensures { IfOk result (λ x. scope_seen x ≡ e.body_scope (func_of head.now)) }
 {
     let mut scope = nameless_scope(alloc, head)?;
@@ -151,7 +151,7 @@ fn add_last(body: &Block, stmts: &mut Items<vlt_core::Stmt>) -> Result<(), Alloc
     Ok(())
 }
 
-fn walk_body(alloc: Heap, kinds: &Kinds<'_>, head: &Func, body: &Block) -> Result<Func, Stop>
+fn walk_body(alloc: Global, kinds: &Kinds<'_>, head: &Func, body: &Block) -> Result<Func, Stop>
     ensures ok { IfOk result (λ f. e.walk_body (kinds_seen kinds.now) (func_of head.now)
         (tree.block_of body.now) ≡ Ok (func_of f)) }
     ensures refused { OnRefused result (λ r. e.walk_body (kinds_seen kinds.now) (func_of head.now)
@@ -171,7 +171,7 @@ fn walk_body(alloc: Heap, kinds: &Kinds<'_>, head: &Func, body: &Block) -> Resul
     Ok(made)
 }
 
-fn walk_extern(alloc: Heap, head: &Func, at: u32) -> Result<Func, Stop>
+fn walk_extern(alloc: Global, head: &Func, at: u32) -> Result<Func, Stop>
     ensures ok { IfOk result (λ f. e.walk_extern (func_of head.now) at ≡ Ok (func_of f)) }
     ensures refused { OnRefused result (λ r. e.walk_extern (func_of head.now) at ≡ Err r) }
 {
@@ -181,7 +181,7 @@ fn walk_extern(alloc: Heap, head: &Func, at: u32) -> Result<Func, Stop>
 }
 
 fn walk_defined(
-    alloc: Heap,
+    alloc: Global,
     kinds: &Kinds<'_>,
     head: &Func,
     body: &Block,
@@ -197,7 +197,7 @@ fn walk_defined(
     walk_body(alloc, kinds, head, body)
 }
 
-fn walk_function(alloc: Heap, kinds: &Kinds<'_>, head: &Func, decl: &Decl) -> Result<Func, Stop>
+fn walk_function(alloc: Global, kinds: &Kinds<'_>, head: &Func, decl: &Decl) -> Result<Func, Stop>
     requires { e.is_function (tree.decl_of decl.now) ≡ true }
     ensures ok { IfOk result (λ f. e.walk_function (kinds_seen kinds.now) (func_of head.now)
         (tree.decl_of decl.now) ≡ Ok (func_of f)) }
@@ -219,7 +219,7 @@ fn is_function(decl: &Decl) -> bool
 }
 
 /// The functions in the order of the text.
-pub fn walk_decls(alloc: Heap, kinds: &Kinds<'_>, decls: &[Decl]) -> Result<Items<Func>, Stop>
+pub fn walk_decls(alloc: Global, kinds: &Kinds<'_>, decls: &[Decl]) -> Result<Items<Func>, Stop>
     ensures ok { IfOk result (λ fs. e.walk_decls (kinds_seen kinds.now)
         (map func_of kinds.now.heads) (map tree.decl_of decls.now) ≡ Ok (map func_of fs)) }
     ensures refused { OnRefused result (λ r.

@@ -20,7 +20,7 @@ mod walk;
 use crate::copies::{copy_decls, copy_sets};
 use crate::walk::Stop;
 pub use error::ElabError;
-use std::alloc::Global as Heap;
+use std::alloc::Global;
 use vlt_base::{KEYS, VARIABLES};
 use vlt_core::Program;
 use vlt_kinds::Kinds;
@@ -28,7 +28,7 @@ use vlt_kinds_types::Refusal;
 use vlt_resolve_exprs::limits::{TOO_MANY_KEYS, TOO_MANY_VARIABLES};
 use vlt_syntax::Tree;
 
-fn program(alloc: Heap, tree: &Tree, kinds: &Kinds<'_>) -> Result<Program, Stop>
+fn program(alloc: Global, tree: &Tree, kinds: &Kinds<'_>) -> Result<Program, Stop>
     ensures ok { IfOk result (λ p. walk_tree (tree_of tree.now) (kinds_seen kinds.now)
         ≡ Ok (program_of p)) }
     ensures refused { OnRefused result (λ r. walk_tree (tree_of tree.now) (kinds_seen kinds.now)
@@ -63,7 +63,7 @@ fn error_of(refusal: Refusal) -> ElabError
 ///
 /// The bodies are read in the order of the text, and the first refusal is told. At one place limits go before rules, and
 /// lesser numbers before greater ones.
-pub fn elaborate(alloc: Heap, tree: &Tree, kinds: &Kinds<'_>) -> Result<Program, ElabError>
+pub fn elaborate(alloc: Global, tree: &Tree, kinds: &Kinds<'_>) -> Result<Program, ElabError>
     ensures ok { IfOk result (λ p. elaborated (tree_of tree.now) (kinds_seen kinds.now)
         ≡ Ok (program_of p)) }
     ensures refused { OnTold result (λ t. elaborated (tree_of tree.now) (kinds_seen kinds.now)

@@ -12,7 +12,7 @@ ghost use Rattle.vlt_resolve_exprs.specs.Types.{ty_under};
 ghost use Rattle.vlt_resolve_calls.specs.Builds as b;
 ghost use Rattle.vlt_resolve_calls.specs.Seen.{case_seen};
 
-use std::alloc::{AllocError, Global as Heap};
+use std::alloc::{AllocError, Global};
 use vlt_base::{Items, KeyId, TypeId, VarId};
 use vlt_core::rules::{WRONG_COUNT, WRONG_TYPE};
 use vlt_core::{CaseDecl, Form, Ty, TypeDecl};
@@ -69,7 +69,7 @@ fn case_position(cases: &[CaseDecl], tick: &Name) -> Option<usize>
     find_case(cases, without_tick(tick.text.as_slice()))
 }
 
-fn types_under(alloc: Heap, args: &[KeyId], types: &[Ty]) -> Result<Items<Ty>, AllocError>
+fn types_under(alloc: Global, args: &[KeyId], types: &[Ty]) -> Result<Items<Ty>, AllocError>
     ensures { IfOk result (λ ts. map ty_of ts
         ≡ map (ty_under (keys_of args.now)) (map ty_of types.now)) }
 {
@@ -80,7 +80,7 @@ fn types_under(alloc: Heap, args: &[KeyId], types: &[Ty]) -> Result<Items<Ty>, A
     Ok(made)
 }
 
-fn payload_in(alloc: Heap, args: &[KeyId], case: Option<&CaseDecl>) -> Result<Items<Ty>, AllocError>
+fn payload_in(alloc: Global, args: &[KeyId], case: Option<&CaseDecl>) -> Result<Items<Ty>, AllocError>
     ensures { IfOk result (λ ts. map ty_of ts
         ≡ b.payload_in (keys_of args.now) (option_map (λ c. case_of c.now) case.entry)) }
 {
@@ -91,7 +91,7 @@ fn payload_in(alloc: Heap, args: &[KeyId], case: Option<&CaseDecl>) -> Result<It
 }
 
 fn case_at(
-    alloc: Heap,
+    alloc: Global,
     cases: &[CaseDecl],
     args: &[KeyId],
     number: usize,
@@ -108,7 +108,7 @@ fn case_at(
 
 #[tactic(auto, unfolding(crate::specs::Builds::case_in))]
 fn case_in(
-    alloc: Heap,
+    alloc: Global,
     cases: &[CaseDecl],
     args: &[KeyId],
     tick: &Name,
@@ -125,7 +125,7 @@ fn case_in(
 /// The case of this tick, where the type is a variant that has it.
 #[tactic(auto, unfolding(crate::specs::Builds::case_of_tick))]
 pub fn case_of_tick(
-    alloc: Heap,
+    alloc: Global,
     kinds: &Kinds<'_>,
     ty: &Ty,
     tick: &Name,
@@ -144,7 +144,7 @@ pub fn case_of_tick(
 
 #[tactic(auto, unfolding(crate::specs::Builds::payload_refused))]
 fn check_payload(
-    alloc: Heap,
+    alloc: Global,
     kinds: &Kinds<'_>,
     scope: &Scope<'_>,
     case: &Case,
@@ -171,7 +171,7 @@ fn check_payload(
 }
 
 fn check_case(
-    alloc: Heap,
+    alloc: Global,
     kinds: &Kinds<'_>,
     scope: &Scope<'_>,
     case: &Option<Case>,
@@ -192,7 +192,7 @@ fn check_case(
 }
 
 fn case_form(
-    alloc: Heap,
+    alloc: Global,
     kinds: &Kinds<'_>,
     scope: &Scope<'_>,
     v: VarId,
@@ -228,7 +228,7 @@ fn case_form(
 /// Tests a tick for the variable `v` of this type, and gives what it becomes. That counts only where nothing is refused.
 #[tactic(auto, unfolding(crate::specs::Builds::build_refused, crate::specs::Builds::core_build))]
 pub fn build(
-    alloc: Heap,
+    alloc: Global,
     kinds: &Kinds<'_>,
     scope: &Scope<'_>,
     ty: &Ty,

@@ -20,7 +20,7 @@ use crate::matching::{
     takes_shape,
 };
 use crate::targets::Target;
-use std::alloc::{AllocError, Global as Heap};
+use std::alloc::{AllocError, Global};
 use vlt_base::{FnId, Items, KeyId, VarId};
 use vlt_core::rules::{DROPPED_RESULT, UNKNOWN_NAME, WRONG_COUNT, WRONG_TYPE};
 use vlt_core::{Entry, Form, Func, Mode, Ty};
@@ -53,7 +53,7 @@ fn check_argument_fit(wanted: &Ty, given: &Option<Ty>, at: u32, found: &mut Foun
 
 #[tactic(auto, using(vlt_kinds_types::proofs::OfNames::Least::least_of_both), unfolding(crate::specs::Calls::argument_refused))]
 fn check_argument(
-    alloc: Heap,
+    alloc: Global,
     kinds: &Kinds<'_>,
     scope: &Scope<'_>,
     wanted: &Ty,
@@ -71,7 +71,7 @@ fn check_argument(
 }
 
 fn check_each_argument(
-    alloc: Heap,
+    alloc: Global,
     kinds: &Kinds<'_>,
     scope: &Scope<'_>,
     params: &[Ty],
@@ -91,7 +91,7 @@ fn check_each_argument(
 
 #[tactic(auto, using(crate::proofs::Arguments::found_all))]
 fn check_arguments(
-    alloc: Heap,
+    alloc: Global,
     kinds: &Kinds<'_>,
     scope: &Scope<'_>,
     params: &[Ty],
@@ -142,7 +142,7 @@ fn check_dropped(head: &Func, at: u32, found: &mut Found)
     );
 }
 
-fn result_keys_fit(alloc: Heap, pairs: &[Pair], gives: &Ty, ty: &Ty) -> Result<bool, AllocError>
+fn result_keys_fit(alloc: Global, pairs: &[Pair], gives: &Ty, ty: &Ty) -> Result<bool, AllocError>
     ensures { IfOk result (λ b. b ≡ c.keys_fit (pairs_of pairs.now)
         (c.key_pairs (types.keys_of_ty (ty_of gives.now)) (types.keys_of_ty (ty_of ty.now)))) }
 {
@@ -153,7 +153,7 @@ fn result_keys_fit(alloc: Heap, pairs: &[Pair], gives: &Ty, ty: &Ty) -> Result<b
     Ok(keys_fit(pairs, keys.as_slice()))
 }
 
-fn result_fits(alloc: Heap, pairs: &[Pair], gives: &Option<Ty>, ty: &Ty) -> Result<bool, AllocError>
+fn result_fits(alloc: Global, pairs: &[Pair], gives: &Option<Ty>, ty: &Ty) -> Result<bool, AllocError>
     ensures { IfOk result (λ b. b ≡ c.result_fits (pairs_of pairs.now)
         (option_map ty_of gives.now) (ty_of ty.now)) }
 {
@@ -171,7 +171,7 @@ fn result_fits(alloc: Heap, pairs: &[Pair], gives: &Option<Ty>, ty: &Ty) -> Resu
 
 #[tactic(auto, unfolding(crate::specs::Calls::target_fits))]
 fn target_fits(
-    alloc: Heap,
+    alloc: Global,
     head: &Func,
     pairs: &[Pair],
     target: &Target,
@@ -188,7 +188,7 @@ fn target_fits(
 
 #[tactic(auto, unfolding(crate::specs::Calls::use_refused))]
 fn check_use(
-    alloc: Heap,
+    alloc: Global,
     head: &Func,
     pairs: &[Pair],
     used: Use<'_>,
@@ -210,7 +210,7 @@ fn check_use(
 
 #[tactic(auto, using(vlt_kinds_types::proofs::OfNames::Least::least_of_both))]
 fn check_given_count(
-    alloc: Heap,
+    alloc: Global,
     head: &Func,
     target: &Target,
     name: u32,
@@ -229,7 +229,7 @@ fn check_given_count(
 
 #[tactic(auto, unfolding(crate::specs::Calls::count_refused))]
 fn check_count(
-    alloc: Heap,
+    alloc: Global,
     head: &Func,
     used: Use<'_>,
     name: u32,
@@ -249,7 +249,7 @@ fn check_count(
 
 // ---- calls
 
-fn param_types(alloc: Heap, head: &Func) -> Result<Items<Ty>, AllocError>
+fn param_types(alloc: Global, head: &Func) -> Result<Items<Ty>, AllocError>
     ensures { IfOk result (λ ts. map ty_of ts ≡ c.param_types (func_of head.now)) }
 {
     let mut types = Items::new(alloc);
@@ -261,7 +261,7 @@ fn param_types(alloc: Heap, head: &Func) -> Result<Items<Ty>, AllocError>
 
 #[tactic(auto, using(vlt_kinds_types::proofs::OfNames::Least::least_of_both), unfolding(crate::specs::Calls::paired_refused))]
 fn check_paired(
-    alloc: Heap,
+    alloc: Global,
     head: &Func,
     pairs: &[Pair],
     used: Use<'_>,
@@ -278,7 +278,7 @@ fn check_paired(
 
 #[tactic(auto, using(vlt_kinds_types::proofs::OfNames::Least::least_of_both), unfolding(crate::specs::Calls::full_call_refused))]
 fn check_full_call(
-    alloc: Heap,
+    alloc: Global,
     kinds: &Kinds<'_>,
     scope: &Scope<'_>,
     head: &Func,
@@ -309,7 +309,7 @@ fn check_full_call(
 
 #[tactic(auto, unfolding(crate::specs::Calls::head_refused))]
 fn check_head(
-    alloc: Heap,
+    alloc: Global,
     kinds: &Kinds<'_>,
     scope: &Scope<'_>,
     head: &Func,
@@ -340,7 +340,7 @@ fn check_head(
 }
 
 fn check_callee(
-    alloc: Heap,
+    alloc: Global,
     kinds: &Kinds<'_>,
     scope: &Scope<'_>,
     head: Option<&Func>,
@@ -382,7 +382,7 @@ fn fresh_key(used: Use<'_>) -> KeyId
 
 #[tactic(auto, unfolding(crate::specs::Calls::head_form))]
 fn head_form(
-    alloc: Heap,
+    alloc: Global,
     kinds: &Kinds<'_>,
     scope: &Scope<'_>,
     head: &Func,
@@ -414,7 +414,7 @@ fn head_form(
 }
 
 fn callee_form(
-    alloc: Heap,
+    alloc: Global,
     kinds: &Kinds<'_>,
     scope: &Scope<'_>,
     head: Option<&Func>,
@@ -451,7 +451,7 @@ fn function_number(f: Option<FnId>) -> FnId
 /// Tests a call, and gives what it becomes. That counts only where nothing is refused.
 #[tactic(auto, unfolding(crate::specs::Calls::call_refused, crate::specs::Calls::core_call))]
 pub fn call(
-    alloc: Heap,
+    alloc: Global,
     kinds: &Kinds<'_>,
     scope: &Scope<'_>,
     used: Use<'_>,

@@ -13,7 +13,7 @@ ghost use Rattle.vlt_core.specs.Types as types;
 ghost use Rattle.vlt_resolve_calls.specs.Calls as c;
 ghost use Rattle.vlt_resolve_calls.specs.Seen.{pair_of, pairs_of};
 
-use std::alloc::{AllocError, Global as Heap};
+use std::alloc::{AllocError, Global};
 use vlt_base::{Items, KeyId, StateSet, TypeId};
 use vlt_core::rules::{CLAUSE_KEYS_MEET, TWO_CALLER_KEYS};
 use vlt_core::{Entry, KeyDecl, Ty};
@@ -110,7 +110,7 @@ fn args_of(ty: &Ty) -> &[KeyId]
     }
 }
 
-fn key_and_args(alloc: Heap, key: KeyId, args: &[KeyId]) -> Result<Items<KeyId>, AllocError>
+fn key_and_args(alloc: Global, key: KeyId, args: &[KeyId]) -> Result<Items<KeyId>, AllocError>
     ensures { IfOk result (λ ks. keys_of ks ≡ key.0 ∷ keys_of args.now) }
 {
     let mut keys = Items::new(alloc);
@@ -120,7 +120,7 @@ fn key_and_args(alloc: Heap, key: KeyId, args: &[KeyId]) -> Result<Items<KeyId>,
 }
 
 /// The keys in a type, its own before the others.
-pub fn keys_of_ty(alloc: Heap, ty: &Ty) -> Result<Items<KeyId>, AllocError>
+pub fn keys_of_ty(alloc: Global, ty: &Ty) -> Result<Items<KeyId>, AllocError>
     ensures { IfOk result (λ ks. keys_of ks ≡ types.keys_of_ty (ty_of ty.now)) }
 {
     match ty {
@@ -131,7 +131,7 @@ pub fn keys_of_ty(alloc: Heap, ty: &Ty) -> Result<Items<KeyId>, AllocError>
 }
 
 /// The keys of an argument that meet those of the parameter.
-fn keys_handed(alloc: Heap, wanted: &Ty, got: &Ty) -> Result<Items<KeyId>, AllocError>
+fn keys_handed(alloc: Global, wanted: &Ty, got: &Ty) -> Result<Items<KeyId>, AllocError>
     ensures { IfOk result (λ ks. keys_of ks ≡ c.keys_handed (ty_of wanted.now) (ty_of got.now)) }
 {
     match wanted {
@@ -142,7 +142,7 @@ fn keys_handed(alloc: Heap, wanted: &Ty, got: &Ty) -> Result<Items<KeyId>, Alloc
 
 #[tactic(auto, unfolding(crate::specs::Calls::fitting_pairs))]
 fn add_fitting(
-    alloc: Heap,
+    alloc: Global,
     wanted: &Ty,
     got: &Ty,
     pairs: &mut Items<Pair>,
@@ -160,7 +160,7 @@ fn add_fitting(
 
 #[tactic(auto, unfolding(crate::specs::Calls::argument_pairs))]
 fn add_given(
-    alloc: Heap,
+    alloc: Global,
     wanted: &Ty,
     given: &Option<Ty>,
     pairs: &mut Items<Pair>,
@@ -175,7 +175,7 @@ fn add_given(
 }
 
 fn add_argument(
-    alloc: Heap,
+    alloc: Global,
     kinds: &Kinds<'_>,
     scope: &Scope<'_>,
     wanted: &Ty,
@@ -193,7 +193,7 @@ fn add_argument(
 
 /// What the arguments and the parameters of a callee pair.
 pub fn call_pairs(
-    alloc: Heap,
+    alloc: Global,
     kinds: &Kinds<'_>,
     scope: &Scope<'_>,
     args: &[Expr],
@@ -269,7 +269,7 @@ fn are_apart(keys: &[u32]) -> bool
     true
 }
 
-fn clause_keys(alloc: Heap, pairs: &[Pair], clause: &[Entry]) -> Result<Items<u32>, AllocError>
+fn clause_keys(alloc: Global, pairs: &[Pair], clause: &[Entry]) -> Result<Items<u32>, AllocError>
     ensures { IfOk result (λ ks. ks ≡ c.clause_keys (pairs_of pairs.now)
         (map entry_of clause.now)) }
 {
@@ -285,7 +285,7 @@ fn clause_keys(alloc: Heap, pairs: &[Pair], clause: &[Entry]) -> Result<Items<u3
 /// What is refused at the callee's name, of the keys that stand for its own.
 #[tactic(auto, using(vlt_kinds_types::proofs::OfNames::Least::least_of_both), unfolding(crate::specs::Calls::matching_refused))]
 pub fn check_matching(
-    alloc: Heap,
+    alloc: Global,
     pairs: &[Pair],
     clause: &[Entry],
     at: u32,
@@ -342,7 +342,7 @@ fn given_key(pairs: &[Pair], fresh: KeyId, key: KeyId) -> KeyId
 
 /// The caller's keys, one for each of these keys of the callee's head.
 pub fn keys_given(
-    alloc: Heap,
+    alloc: Global,
     pairs: &[Pair],
     fresh: KeyId,
     keys: &[KeyDecl],

@@ -10,7 +10,7 @@ ghost use Rattle.vlt_resolve_exprs.specs.Seen.{scope_seen};
 ghost use Rattle.vlt_resolve_calls.specs.Targets as t;
 ghost use Rattle.vlt_resolve_calls.specs.Seen.{target_seen};
 
-use std::alloc::{AllocError, Global as Heap};
+use std::alloc::{AllocError, Global};
 use vlt_base::VarId;
 use vlt_core::rules::WRONG_TYPE;
 use vlt_core::{self, Form, Ty};
@@ -55,7 +55,7 @@ impl Target {
     #[tactic(auto, using(vlt_kinds_types::proofs::OfNames::Least::least_of_both), unfolding(crate::specs::Targets::value_refused))]
     pub fn check_value(
         &self,
-        alloc: Heap,
+        alloc: Global,
         kinds: &Kinds<'_>,
         scope: &Scope<'_>,
         expr: &Expr,
@@ -95,7 +95,7 @@ impl Target {
     #[tactic(auto, unfolding(crate::specs::Targets::core_value))]
     pub fn core_value(
         &self,
-        alloc: Heap,
+        alloc: Global,
         kinds: &Kinds<'_>,
         scope: &Scope<'_>,
         x: VarId,

@@ -12,7 +12,7 @@ ghost use Rattle.vlt_resolve_exprs.specs.Seen.{scope_seen};
 use crate::limits::{TOO_MANY_KEYS, TOO_MANY_VARIABLES};
 use crate::scope::Scope;
 use crate::types::copy_ty;
-use std::alloc::{AllocError, Global as Heap};
+use std::alloc::{AllocError, Global};
 use vlt_base::{Items, VarId};
 use vlt_core::Ty;
 use vlt_core::rules::{NAME_TAKEN, WRONG_COUNT};
@@ -71,7 +71,7 @@ pub fn check_new_key(kinds: &Kinds<'_>, scope: &Scope<'_>, name: &Name, found: &
 // ---- several variables, one after another
 
 fn add_new_vars<'a>(
-    alloc: Heap,
+    alloc: Global,
     kinds: &Kinds<'_>,
     scope: &mut Scope<'a>,
     names: &'a [Name],
@@ -102,7 +102,7 @@ fn add_new_vars<'a>(
 
 #[tactic(auto, using(crate::proofs::Operators::new_vars_are))]
 fn add_each<'a>(
-    alloc: Heap,
+    alloc: Global,
     kinds: &Kinds<'_>,
     scope: &mut Scope<'a>,
     names: &'a [Name],
@@ -124,7 +124,7 @@ fn add_each<'a>(
 /// Binds variables of these types, where there are as many; else the place is refused.
 #[tactic(auto, unfolding(crate::specs::Bindings::several_refused, crate::specs::Bindings::with_several, crate::specs::Bindings::several_numbers))]
 pub fn add_several<'a>(
-    alloc: Heap,
+    alloc: Global,
     kinds: &Kinds<'_>,
     scope: &mut Scope<'a>,
     names: &'a [Name],

@@ -16,7 +16,7 @@ ghost use Rattle.vlt_resolve_exprs.specs.Least.{found_in};
 
 use crate::scope::Scope;
 use crate::types::{copy_ty, is_owning, lies_within, same_ty, ty_under};
-use std::alloc::{AllocError, Global as Heap};
+use std::alloc::{AllocError, Global};
 use vlt_base::{Boxed, KeyId, TypeId, VarId};
 use vlt_core::rules::{GUARDED_FIELD, UNKNOWN_NAME, WRONG_SWAP, WRONG_TYPE};
 use vlt_core::{FieldDecl, Ty, TypeDecl};
@@ -118,7 +118,7 @@ pub fn object_in(ty: &Ty) -> Option<Object<'_>>
 }
 
 fn value_ty(
-    alloc: Heap,
+    alloc: Global,
     args: &[KeyId],
     field: Option<&FieldDecl>,
 ) -> Result<Option<Ty>, AllocError>
@@ -133,7 +133,7 @@ fn value_ty(
 
 #[tactic(auto, unfolding(crate::specs::Exprs::object_field_ty))]
 fn object_field_ty(
-    alloc: Heap,
+    alloc: Global,
     kinds: &Kinds<'_>,
     object: Object<'_>,
     field: &Name,
@@ -149,7 +149,7 @@ fn object_field_ty(
 /// The type of the field, where it may be read.
 #[tactic(auto, unfolding(crate::specs::Exprs::field_ty))]
 pub fn field_ty(
-    alloc: Heap,
+    alloc: Global,
     kinds: &Kinds<'_>,
     scope: &Scope<'_>,
     base: &Name,
@@ -168,7 +168,7 @@ pub fn field_ty(
     }
 }
 
-pub fn copied(alloc: Heap, ty: Option<&Ty>) -> Result<Option<Ty>, AllocError>
+pub fn copied(alloc: Global, ty: Option<&Ty>) -> Result<Option<Ty>, AllocError>
     ensures { IfOk result (λ t. option_map ty_of t ≡ option_map (λ t. ty_of t.now) ty.entry) }
 {
     match ty {
@@ -180,7 +180,7 @@ pub fn copied(alloc: Heap, ty: Option<&Ty>) -> Result<Option<Ty>, AllocError>
 /// The type of an expression, as far as names are known.
 #[tactic(auto, unfolding(crate::specs::Exprs::type_of))]
 pub fn type_of(
-    alloc: Heap,
+    alloc: Global,
     kinds: &Kinds<'_>,
     scope: &Scope<'_>,
     expr: &Expr,
@@ -245,7 +245,7 @@ pub fn var_number(scope: &Scope<'_>, name: &Name) -> VarId
 
 /// What an expression becomes.
 pub fn core_expr(
-    alloc: Heap,
+    alloc: Global,
     kinds: &Kinds<'_>,
     scope: &Scope<'_>,
     expr: &Expr,
@@ -466,7 +466,7 @@ pub fn check_field(
 
 /// Refuses an expression whose type isn't the wanted one.
 fn check_given(
-    alloc: Heap,
+    alloc: Global,
     kinds: &Kinds<'_>,
     scope: &Scope<'_>,
     wanted: &Option<Ty>,
@@ -484,7 +484,7 @@ fn check_given(
 }
 
 fn check_unary_given(
-    alloc: Heap,
+    alloc: Global,
     kinds: &Kinds<'_>,
     scope: &Scope<'_>,
     op: Op,
@@ -502,7 +502,7 @@ fn check_unary_given(
 }
 
 fn check_left_given(
-    alloc: Heap,
+    alloc: Global,
     kinds: &Kinds<'_>,
     scope: &Scope<'_>,
     op: Op,
@@ -520,7 +520,7 @@ fn check_left_given(
 }
 
 fn check_right_given(
-    alloc: Heap,
+    alloc: Global,
     kinds: &Kinds<'_>,
     scope: &Scope<'_>,
     op: Op,
@@ -542,7 +542,7 @@ fn check_right_given(
 
 /// What is refused in an expression.
 pub fn check_expr(
-    alloc: Heap,
+    alloc: Global,
     kinds: &Kinds<'_>,
     scope: &Scope<'_>,
     expr: &Expr,
@@ -582,7 +582,7 @@ pub fn check_expr(
 /// What is refused in an expression of a wanted type.
 #[tactic(auto, using(crate::proofs::Operators::found_both), unfolding(crate::specs::Exprs::wanted_refused))]
 pub fn check_wanted(
-    alloc: Heap,
+    alloc: Global,
     kinds: &Kinds<'_>,
     scope: &Scope<'_>,
     wanted: &Option<Ty>,
@@ -601,7 +601,7 @@ pub fn check_wanted(
 /// What is refused in an expression of any type.
 #[tactic(auto, using(crate::proofs::Operators::found_is))]
 pub fn check_any(
-    alloc: Heap,
+    alloc: Global,
     kinds: &Kinds<'_>,
     scope: &Scope<'_>,
     expr: &Expr,

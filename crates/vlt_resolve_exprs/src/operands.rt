@@ -13,7 +13,7 @@ ghost use Rattle.vlt_resolve_exprs.specs.Seen.{scope_seen};
 use crate::exprs::{check_any, core_expr, place, type_of};
 use crate::scope::Scope;
 use crate::types::takes;
-use std::alloc::{AllocError, Global as Heap};
+use std::alloc::{AllocError, Global};
 use vlt_base::{Items, StateSet, VarId};
 use vlt_core::rules::WRONG_TYPE;
 use vlt_core::{self, Operand, Ty};
@@ -37,7 +37,7 @@ pub fn check_misfit(wanted: &Ty, given: &Option<Ty>, at: u32, found: &mut Found)
 /// What is refused in an operand for a target of this type.
 #[tactic(auto, using(vlt_kinds_types::proofs::OfNames::Least::least_of_both), unfolding(crate::specs::Operands::operand_refused))]
 pub fn check_operand(
-    alloc: Heap,
+    alloc: Global,
     kinds: &Kinds<'_>,
     scope: &Scope<'_>,
     wanted: &Ty,
@@ -55,7 +55,7 @@ pub fn check_operand(
 }
 
 fn check_each_operand(
-    alloc: Heap,
+    alloc: Global,
     kinds: &Kinds<'_>,
     scope: &Scope<'_>,
     wanted: &[Ty],
@@ -76,7 +76,7 @@ fn check_each_operand(
 /// What is refused in operands, one for each target.
 #[tactic(auto, using(crate::proofs::Operators::operands_are))]
 pub fn check_operands(
-    alloc: Heap,
+    alloc: Global,
     kinds: &Kinds<'_>,
     scope: &Scope<'_>,
     wanted: &[Ty],
@@ -128,7 +128,7 @@ pub fn operand_for(wanted: &Ty, got: &Option<Ty>, expr: vlt_core::Expr) -> Opera
 /// What an operand becomes.
 #[tactic(auto, unfolding(crate::specs::Operands::core_operand))]
 pub fn core_operand(
-    alloc: Heap,
+    alloc: Global,
     kinds: &Kinds<'_>,
     scope: &Scope<'_>,
     wanted: &Ty,
@@ -145,7 +145,7 @@ pub fn core_operand(
 
 /// What operands become, one for each target.
 pub fn core_operands(
-    alloc: Heap,
+    alloc: Global,
     kinds: &Kinds<'_>,
     scope: &Scope<'_>,
     exprs: &[Expr],

@@ -9,7 +9,7 @@ ghost use Rattle.vlt_resolve_exprs.specs.Seen.{scope_seen, left_with};
 
 use crate::types::is_owning;
 use indexmap::IndexMap;
-use std::alloc::{AllocError, Global as Heap};
+use std::alloc::{AllocError, Global};
 use std::mem;
 use vlt_base::{Items, KeyId, TypeId, VarId};
 use vlt_core::{KeyDecl, Tok, Ty, VarDecl};
@@ -106,7 +106,7 @@ impl<'a> Scope<'a> {
 
     fn push_key(
         &mut self,
-        alloc: Heap,
+        alloc: Global,
         name: &[u8],
         key_type: Option<TypeId>,
     ) -> Result<KeyId, AllocError>
@@ -128,7 +128,7 @@ impl<'a> Scope<'a> {
     /// A new key that no name stands for: a hidden one where the name is empty.
     pub fn add_hidden_key(
         &mut self,
-        alloc: Heap,
+        alloc: Global,
         name: &[u8],
         key_type: Option<TypeId>,
     ) -> Result<KeyId, AllocError>
@@ -142,7 +142,7 @@ impl<'a> Scope<'a> {
     }
 
     /// A new variable that no name stands for: a hidden one where the name is empty.
-    pub fn add_hidden_var(&mut self, alloc: Heap, name: &[u8], ty: Ty) -> Result<VarId, AllocError>
+    pub fn add_hidden_var(&mut self, alloc: Global, name: &[u8], ty: Ty) -> Result<VarId, AllocError>
         ensures number { IfOk result (λ v. v.0 ≡ length self.old.vars) }
         ensures scope { OnOk result (scope_seen self.new
             ≡ s.more_var (scope_seen self.old) name.now (ty_of ty)) }
@@ -164,7 +164,7 @@ impl<'a> Scope<'a> {
     /// A new key, in scope from here on.
     pub fn add_key(
         &mut self,
-        alloc: Heap,
+        alloc: Global,
         name: &'a [u8],
         key_type: Option<TypeId>,
     ) -> Result<KeyId, AllocError>
@@ -178,7 +178,7 @@ impl<'a> Scope<'a> {
     }
 
     /// A new variable, in scope from here on.
-    pub fn add_var(&mut self, alloc: Heap, name: &'a [u8], ty: Ty) -> Result<VarId, AllocError>
+    pub fn add_var(&mut self, alloc: Global, name: &'a [u8], ty: Ty) -> Result<VarId, AllocError>
         ensures number { IfOk result (λ v. v.0 ≡ length self.old.vars) }
         ensures scope { OnOk result (scope_seen self.new
             ≡ s.with_var (scope_seen self.old) name.now (ty_of ty)) }
@@ -191,7 +191,7 @@ impl<'a> Scope<'a> {
     /// The key of a focus, which no block binds.
     pub fn add_focus_key(
         &mut self,
-        alloc: Heap,
+        alloc: Global,
         name: &'a [u8],
         key_type: Option<TypeId>,
     ) -> Result<KeyId, AllocError>
@@ -215,7 +215,7 @@ pub struct Outer {
 
 impl<'a> Scope<'a> {
     /// Enters a block.
-    pub fn enter(&mut self, alloc: Heap) -> Outer
+    pub fn enter(&mut self, alloc: Global) -> Outer
         ensures scope { scope_seen self.new ≡ s.scope_inside (scope_seen self.old) }
         ensures outer { result ≡ record {
           names = length self.old.names.entries;
@@ -240,7 +240,7 @@ impl<'a> Scope<'a> {
     }
 
     /// The tokens that the block binds, keys first.
-    pub fn bound(&self, alloc: Heap) -> Result<Items<Tok>, AllocError>
+    pub fn bound(&self, alloc: Global) -> Result<Items<Tok>, AllocError>
         ensures { IfOk result (λ ts. map tok_of ts ≡ s.bound_in (scope_seen self.now)) }
     {
         let mut toks = Items::new(alloc);

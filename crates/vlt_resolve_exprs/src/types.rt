@@ -7,7 +7,7 @@ ghost use Rattle.vlt_core.specs.Lookups as lookups;
 ghost use Rattle.vlt_core.specs.Types as types;
 ghost use Rattle.vlt_resolve_exprs.specs.Types as here;
 
-use std::alloc::{AllocError, Global as Heap};
+use std::alloc::{AllocError, Global};
 use vlt_base::{Items, KeyId, StateSet, TypeId};
 use vlt_core::{Ty, TypeDecl};
 
@@ -113,7 +113,7 @@ pub fn unpacks(wanted: &Ty, got: &Ty) -> bool
     }
 }
 
-pub fn copy_ty(alloc: Heap, ty: &Ty) -> Result<Ty, AllocError>
+pub fn copy_ty(alloc: Global, ty: &Ty) -> Result<Ty, AllocError>
     ensures { IfOk result (λ t. t ≡ ty.now) }
 {
     Ok(match ty {
@@ -136,7 +136,7 @@ fn key_at(args: &[KeyId], position: KeyId) -> KeyId
     }
 }
 
-fn keys_at(alloc: Heap, args: &[KeyId], positions: &[KeyId]) -> Result<Items<KeyId>, AllocError>
+fn keys_at(alloc: Global, args: &[KeyId], positions: &[KeyId]) -> Result<Items<KeyId>, AllocError>
     ensures { IfOk result (λ ks. keys_of ks ≡ map (types.stands_for (keys_of args.now))
         (keys_of positions.now)) }
 {
@@ -149,7 +149,7 @@ fn keys_at(alloc: Heap, args: &[KeyId], positions: &[KeyId]) -> Result<Items<Key
 
 /// The type of a field or a payload, where these keys stand for the header's.
 #[tactic(auto, unfolding(crate::specs::Types::ty_under))]
-pub fn ty_under(alloc: Heap, args: &[KeyId], ty: &Ty) -> Result<Ty, AllocError>
+pub fn ty_under(alloc: Global, args: &[KeyId], ty: &Ty) -> Result<Ty, AllocError>
     ensures { IfOk result (λ r. ty_of r ≡ here.ty_under (keys_of args.now) (ty_of ty.now)) }
 {
     Ok(match ty {

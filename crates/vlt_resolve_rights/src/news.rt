@@ -17,7 +17,7 @@ use crate::objects::{
     check_inits, field_types, fields_agree, guards, init_operands, known_args, object_fits,
 };
 use crate::uses::check_named;
-use std::alloc::{AllocError, Global as Heap};
+use std::alloc::{AllocError, Global};
 use vlt_base::{Items, KeyId, TypeId, VarId};
 use vlt_core::rules::{WRONG_COUNT, WRONG_NEW, WRONG_RELEASE, WRONG_TYPE};
 use vlt_core::{FieldDecl, Form, Operand, Ty, TypeDecl};
@@ -151,7 +151,7 @@ fn check_start(kinds: &Kinds<'_>, adopted: bool, ty: &Ty, t: TypeId, at: u32, fo
 }
 
 fn check_values(
-    alloc: Heap,
+    alloc: Global,
     kinds: &Kinds<'_>,
     scope: &Scope<'_>,
     fields: &[FieldDecl],
@@ -174,7 +174,7 @@ fn check_values(
 
 #[tactic(auto, unfolding(crate::specs::News::struct_refused))]
 fn check_struct(
-    alloc: Heap,
+    alloc: Global,
     kinds: &Kinds<'_>,
     scope: &Scope<'_>,
     fields: &[FieldDecl],
@@ -198,7 +198,7 @@ fn check_struct(
 
 #[tactic(auto, unfolding(crate::specs::News::object_refused))]
 fn check_object(
-    alloc: Heap,
+    alloc: Global,
     kinds: &Kinds<'_>,
     scope: &Scope<'_>,
     t: TypeId,
@@ -230,7 +230,7 @@ fn check_object(
 
 #[tactic(auto, using(vlt_kinds_types::proofs::OfNames::Least::least_of_both), unfolding(crate::specs::News::known_made_refused))]
 fn check_known_made(
-    alloc: Heap,
+    alloc: Global,
     kinds: &Kinds<'_>,
     scope: &Scope<'_>,
     adopted: bool,
@@ -253,7 +253,7 @@ fn check_known_made(
 
 #[tactic(auto, unfolding(crate::specs::News::made_refused))]
 fn check_made(
-    alloc: Heap,
+    alloc: Global,
     kinds: &Kinds<'_>,
     scope: &Scope<'_>,
     adopted: bool,
@@ -280,7 +280,7 @@ fn check_made(
 /// What is refused in `new T { .. }` or `new(r) T { .. }`, with `new` at this place.
 #[tactic(auto, using(vlt_kinds_types::proofs::OfNames::Least::least_of_both), unfolding(crate::specs::News::new_refused))]
 pub fn check_new(
-    alloc: Heap,
+    alloc: Global,
     kinds: &Kinds<'_>,
     scope: &Scope<'_>,
     target: &Target,
@@ -379,7 +379,7 @@ pub fn check_hidden(scope: &Scope<'_>, right: &Right, ty: &Option<Ty>, at: u32, 
 }
 
 fn add_object(
-    alloc: Heap,
+    alloc: Global,
     kinds: &Kinds<'_>,
     scope: &mut Scope<'_>,
     named: &Named,
@@ -398,7 +398,7 @@ fn add_object(
 /// Binds the hidden key and variable of a right side that has them.
 #[tactic(auto, unfolding(crate::specs::News::with_hidden))]
 pub fn add_hidden(
-    alloc: Heap,
+    alloc: Global,
     kinds: &Kinds<'_>,
     scope: &mut Scope<'_>,
     right: &Right,
@@ -423,7 +423,7 @@ pub fn add_hidden(
 
 #[tactic(auto, unfolding(crate::specs::News::made_operands))]
 fn made_operands(
-    alloc: Heap,
+    alloc: Global,
     kinds: &Kinds<'_>,
     scope: &Scope<'_>,
     named: &Named,
@@ -473,7 +473,7 @@ fn made_forms(
 /// What a `new` becomes, for the variable `x`, with the hidden variable of this number.
 #[tactic(auto, unfolding(crate::specs::News::new_forms))]
 pub fn new_forms(
-    alloc: Heap,
+    alloc: Global,
     kinds: &Kinds<'_>,
     scope: &Scope<'_>,
     target: &Target,

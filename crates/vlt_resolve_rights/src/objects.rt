@@ -9,7 +9,7 @@ ghost use Rattle.vlt_resolve_exprs.specs.Seen.{scope_seen};
 ghost use Rattle.vlt_resolve_rights.specs.Least.{inits_found};
 ghost use Rattle.vlt_resolve_rights.specs.News as n;
 
-use std::alloc::{AllocError, Global as Heap};
+use std::alloc::{AllocError, Global};
 use vlt_base::{Items, KeyId, TypeId};
 use vlt_core::{FieldDecl, Operand, Ty};
 use vlt_kinds::Kinds;
@@ -20,7 +20,7 @@ use vlt_syntax::{Init, Name, Named};
 // ---- the keys of a new object's type
 
 fn known_keys(
-    alloc: Heap,
+    alloc: Global,
     scope: &Scope<'_>,
     names: &[Name],
 ) -> Result<Option<Items<KeyId>>, AllocError>
@@ -38,7 +38,7 @@ fn known_keys(
 }
 
 fn keys_of_shape(
-    alloc: Heap,
+    alloc: Global,
     shape: Option<&Shape>,
     scope: &Scope<'_>,
     names: &[Name],
@@ -62,7 +62,7 @@ fn keys_of_shape(
 /// The keys that stand for the header's, where they are known and as many.
 #[tactic(auto, unfolding(crate::specs::News::known_args))]
 pub fn known_args(
-    alloc: Heap,
+    alloc: Global,
     kinds: &Kinds<'_>,
     scope: &Scope<'_>,
     named: &Named,
@@ -128,7 +128,7 @@ pub fn fields_agree(fields: &[FieldDecl], inits: &[Init]) -> bool
 
 /// The types of fields, where these keys stand for the header's.
 pub fn field_types(
-    alloc: Heap,
+    alloc: Global,
     fields: &[FieldDecl],
     args: &[KeyId],
 ) -> Result<Items<Ty>, AllocError>
@@ -143,7 +143,7 @@ pub fn field_types(
 }
 
 fn check_each_init(
-    alloc: Heap,
+    alloc: Global,
     kinds: &Kinds<'_>,
     scope: &Scope<'_>,
     inits: &[Init],
@@ -166,7 +166,7 @@ fn check_each_init(
 /// What is refused in the values of fields of these types.
 #[tactic(auto, using(crate::proofs::Arguments::inits_all))]
 pub fn check_inits(
-    alloc: Heap,
+    alloc: Global,
     kinds: &Kinds<'_>,
     scope: &Scope<'_>,
     inits: &[Init],
@@ -183,7 +183,7 @@ pub fn check_inits(
 
 /// What the values of fields of these types become.
 pub fn init_operands(
-    alloc: Heap,
+    alloc: Global,
     kinds: &Kinds<'_>,
     scope: &Scope<'_>,
     inits: &[Init],

@@ -13,7 +13,7 @@ ghost use Rattle.vlt_resolve_rights.specs.Rights as r;
 
 use crate::adopts::{check_adopt, core_adopt};
 use crate::news::{check_new, new_forms};
-use std::alloc::{AllocError, Global as Heap};
+use std::alloc::{AllocError, Global};
 use vlt_base::VarId;
 use vlt_core::rules::WRONG_TYPE;
 use vlt_core::{Form, Ty};
@@ -33,7 +33,7 @@ fn check_input(wanted: &Ty, ty: &Ty, at: u32, found: &mut Found)
 
 /// A value for the variable `x`.
 fn value(
-    alloc: Heap,
+    alloc: Global,
     kinds: &Kinds<'_>,
     scope: &Scope<'_>,
     target: &Target,
@@ -55,7 +55,7 @@ fn value(
 
 /// A call for the variable `x`.
 fn call_for(
-    alloc: Heap,
+    alloc: Global,
     kinds: &Kinds<'_>,
     scope: &Scope<'_>,
     target: &Target,
@@ -76,7 +76,7 @@ fn call_for(
 }
 
 fn target_right(
-    alloc: Heap,
+    alloc: Global,
     kinds: &Kinds<'_>,
     scope: &Scope<'_>,
     target: &Target,
@@ -133,7 +133,7 @@ fn target_right(
 /// Tests a right side for the variable `x`, whose type is known.
 #[tactic(auto, unfolding(crate::specs::Rights::right_refused, crate::specs::Rights::right_forms))]
 pub fn right_for(
-    alloc: Heap,
+    alloc: Global,
     kinds: &Kinds<'_>,
     scope: &Scope<'_>,
     target: &Target,
@@ -156,7 +156,7 @@ pub fn right_for(
 /// refused. An unknown target is refused elsewhere, before the right side.
 #[tactic(auto, unfolding(crate::specs::Rights::right_refused, crate::specs::Rights::right_forms))]
 pub fn right(
-    alloc: Heap,
+    alloc: Global,
     kinds: &Kinds<'_>,
     scope: &Scope<'_>,
     target: &Option<Target>,

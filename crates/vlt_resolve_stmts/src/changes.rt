@@ -11,7 +11,7 @@ ghost use Rattle.vlt_resolve_exprs.specs.Seen.{scope_seen};
 ghost use Rattle.vlt_resolve_calls.specs.Seen.{forms_of};
 ghost use Rattle.vlt_resolve_stmts.specs.Statements as s;
 
-use std::alloc::{AllocError, Global as Heap};
+use std::alloc::{AllocError, Global};
 use vlt_base::{KeyId, TypeId, VarId};
 use vlt_core::rules::{
     NOT_A_STATE, UNKNOWN_NAME, WRONG_BECOME, WRONG_RELEASE, WRONG_SWAP, WRONG_TYPE,
@@ -31,7 +31,7 @@ use vlt_syntax::{Expr, Name};
 
 #[tactic(auto, using(vlt_kinds_types::proofs::OfNames::Least::least_of_both), unfolding(crate::specs::Statements::put_refused))]
 fn check_put(
-    alloc: Heap,
+    alloc: Global,
     kinds: &Kinds<'_>,
     scope: &Scope<'_>,
     base: &Name,
@@ -51,7 +51,7 @@ fn check_put(
 
 #[tactic(auto, unfolding(crate::specs::Statements::core_put))]
 pub fn put(
-    alloc: Heap,
+    alloc: Global,
     kinds: &Kinds<'_>,
     scope: &Scope<'_>,
     base: &Name,
@@ -225,7 +225,7 @@ fn check_swapped(wanted: &Ty, given: Option<&Ty>, name: &Name, found: &mut Found
 
 #[tactic(auto, unfolding(crate::specs::Statements::owner_refused))]
 fn check_owner(
-    alloc: Heap,
+    alloc: Global,
     args: &[KeyId],
     decl: &FieldDecl,
     given: Option<&Ty>,
@@ -248,7 +248,7 @@ fn check_owner(
 }
 
 fn check_swapped_field(
-    alloc: Heap,
+    alloc: Global,
     args: &[KeyId],
     decl: Option<&FieldDecl>,
     given: Option<&Ty>,
@@ -274,7 +274,7 @@ fn check_swapped_field(
 
 #[tactic(auto, unfolding(crate::specs::Statements::base_refused))]
 fn check_base(
-    alloc: Heap,
+    alloc: Global,
     kinds: &Kinds<'_>,
     ty: Option<&Ty>,
     given: Option<&Ty>,
@@ -314,7 +314,7 @@ fn check_base(
 
 #[tactic(auto, using(vlt_kinds_types::proofs::OfNames::Least::least_of_both), unfolding(crate::specs::Statements::swap_refused))]
 fn check_swap(
-    alloc: Heap,
+    alloc: Global,
     kinds: &Kinds<'_>,
     scope: &Scope<'_>,
     base: &Name,
@@ -335,7 +335,7 @@ fn check_swap(
 
 #[tactic(auto, unfolding(crate::specs::Statements::core_swap))]
 pub fn swap(
-    alloc: Heap,
+    alloc: Global,
     kinds: &Kinds<'_>,
     scope: &Scope<'_>,
     base: &Name,

@@ -10,7 +10,7 @@ ghost use Rattle.vlt_resolve_exprs.specs.Seen.{scope_seen};
 ghost use Rattle.vlt_resolve_calls.specs.Seen.{forms_of, target_seen};
 ghost use Rattle.vlt_resolve_stmts.specs.Declarations as d;
 
-use std::alloc::{AllocError, Global as Heap};
+use std::alloc::{AllocError, Global};
 use vlt_base::{Items, TypeId, VarId};
 use vlt_kinds::Kinds;
 use vlt_kinds_types::Found;
@@ -54,7 +54,7 @@ fn type_id(number: Option<u32>) -> Option<TypeId>
 
 #[tactic(auto, unfolding(crate::specs::Declarations::with_bound_key))]
 fn bind_key<'a>(
-    alloc: Heap,
+    alloc: Global,
     kinds: &Kinds<'_>,
     scope: &mut Scope<'a>,
     ty: &'a Ty,
@@ -76,7 +76,7 @@ fn bind_key<'a>(
 
 #[tactic(auto, using(vlt_kinds_types::proofs::OfNames::Least::least_of_both), unfolding(crate::specs::Declarations::type_refused))]
 fn check_type(
-    alloc: Heap,
+    alloc: Global,
     kinds: &Kinds<'_>,
     scope: &Scope<'_>,
     ty: &Ty,
@@ -94,7 +94,7 @@ fn check_type(
 
 #[tactic(auto, unfolding(crate::specs::Declarations::declared_ty))]
 fn declared_ty(
-    alloc: Heap,
+    alloc: Global,
     kinds: &Kinds<'_>,
     scope: &Scope<'_>,
     ty: &Ty,
@@ -117,7 +117,7 @@ pub fn next_var(scope: &Scope<'_>) -> Result<VarId, AllocError>
 
 /// Binds the variable behind its right side, which became these forms.
 fn bind<'a>(
-    alloc: Heap,
+    alloc: Global,
     scope: &mut Scope<'a>,
     name: &'a Name,
     ty: vlt_core::Ty,
@@ -134,7 +134,7 @@ fn bind<'a>(
 /// Behind the hidden variable of this number: the variable, and the right side, in which it isn't in scope.
 #[tactic(auto, using(vlt_kinds_types::proofs::OfNames::Least::least_of_both), unfolding(crate::specs::Declarations::hidden_right_refused, crate::specs::Declarations::declared_became))]
 fn declare_behind<'a>(
-    alloc: Heap,
+    alloc: Global,
     kinds: &Kinds<'_>,
     scope: &mut Scope<'a>,
     target: &Target,
@@ -161,7 +161,7 @@ fn declare_behind<'a>(
 /// Behind the type: the hidden ones of the right side, and then the variable.
 #[tactic(auto, using(vlt_kinds_types::proofs::OfNames::Least::least_of_both), unfolding(crate::specs::Declarations::declared_refused, crate::specs::Declarations::hidden_became))]
 fn declare_target<'a>(
-    alloc: Heap,
+    alloc: Global,
     kinds: &Kinds<'_>,
     scope: &mut Scope<'a>,
     target: &Target,
@@ -189,7 +189,7 @@ fn declare_target<'a>(
 /// In the scope with the key that the type binds.
 #[tactic(auto, using(vlt_kinds_types::proofs::OfNames::Least::least_of_both), unfolding(crate::specs::Declarations::keyed_refused, crate::specs::Declarations::keyed_became))]
 fn declare_keyed<'a>(
-    alloc: Heap,
+    alloc: Global,
     kinds: &Kinds<'_>,
     scope: &mut Scope<'a>,
     binds: bool,
@@ -219,7 +219,7 @@ fn declare_keyed<'a>(
 /// Tests a declaration, and makes it. What it makes counts only where nothing is refused.
 #[tactic(auto, using(vlt_kinds_types::proofs::OfNames::Least::least_of_both), unfolding(crate::specs::Declarations::declare_refused, crate::specs::Declarations::declare_became))]
 pub fn declare<'a>(
-    alloc: Heap,
+    alloc: Global,
     kinds: &Kinds<'_>,
     scope: &mut Scope<'a>,
     ty: &'a Ty,
@@ -244,7 +244,7 @@ pub fn declare<'a>(
 
 // ---- assignments
 
-fn assigned_target(alloc: Heap, ty: &Option<vlt_core::Ty>) -> Result<Option<Target>, AllocError>
+fn assigned_target(alloc: Global, ty: &Option<vlt_core::Ty>) -> Result<Option<Target>, AllocError>
     ensures { IfOk result (λ t. option_map target_seen t
         ≡ d.assigned_target (option_map ty_of ty.now)) }
 {
@@ -259,7 +259,7 @@ fn assigned_target(alloc: Heap, ty: &Option<vlt_core::Ty>) -> Result<Option<Targ
 
 /// The type of a variable, where it is known.
 pub fn known_ty(
-    alloc: Heap,
+    alloc: Global,
     scope: &Scope<'_>,
     name: &Name,
 ) -> Result<Option<vlt_core::Ty>, AllocError>
@@ -275,7 +275,7 @@ pub fn known_ty(
 /// Tests an assignment, and makes it. What it makes counts only where nothing is refused.
 #[tactic(auto, using(vlt_kinds_types::proofs::OfNames::Least::least_of_both), unfolding(crate::specs::Declarations::assign_refused, crate::specs::Declarations::assign_became))]
 pub fn assign(
-    alloc: Heap,
+    alloc: Global,
     kinds: &Kinds<'_>,
     scope: &mut Scope<'_>,
     name: &Name,

@@ -10,7 +10,7 @@ ghost use Rattle.vlt_resolve_exprs.specs.Seen.{scope_seen};
 ghost use Rattle.vlt_resolve_calls.specs.Seen.{forms_of};
 ghost use Rattle.vlt_resolve_stmts.specs.Statements as s;
 
-use std::alloc::{AllocError, Global as Heap};
+use std::alloc::{AllocError, Global};
 use vlt_base::{Items, KeyId, TypeId};
 use vlt_core::rules::{UNKNOWN_NAME, WRONG_RELEASE};
 use vlt_core::{FieldDecl, Form, Ty};
@@ -22,7 +22,7 @@ use vlt_resolve_exprs::{
 };
 use vlt_syntax::Name;
 
-fn owning_types(alloc: Heap, args: &[KeyId], fields: &[FieldDecl]) -> Result<Items<Ty>, AllocError>
+fn owning_types(alloc: Global, args: &[KeyId], fields: &[FieldDecl]) -> Result<Items<Ty>, AllocError>
     ensures { IfOk result (λ ts. map ty_of ts
         ≡ s.owning_types (keys_of args.now) (map field_of fields.now)) }
 {
@@ -36,7 +36,7 @@ fn owning_types(alloc: Heap, args: &[KeyId], fields: &[FieldDecl]) -> Result<Ite
 }
 
 fn parts_of(
-    alloc: Heap,
+    alloc: Global,
     kinds: &Kinds<'_>,
     t: TypeId,
     args: &[KeyId],
@@ -54,7 +54,7 @@ fn parts_of(
 /// The types of the parts of an object that can be opened.
 #[tactic(auto, unfolding(crate::specs::Statements::opened_parts))]
 fn opened_parts(
-    alloc: Heap,
+    alloc: Global,
     kinds: &Kinds<'_>,
     ty: Option<&Ty>,
 ) -> Result<Option<Items<Ty>>, AllocError>
@@ -79,7 +79,7 @@ fn check_unopened(ty: Option<&Ty>, name: &Name, found: &mut Found)
 }
 
 fn open_parts<'a>(
-    alloc: Heap,
+    alloc: Global,
     kinds: &Kinds<'_>,
     scope: &mut Scope<'a>,
     types: &Option<Items<Ty>>,
@@ -113,7 +113,7 @@ fn open_parts<'a>(
 /// Tests an `open`, and makes it. What it makes counts only where nothing is refused.
 #[tactic(auto, unfolding(crate::specs::Statements::open_refused, crate::specs::Statements::open_became))]
 pub fn open<'a>(
-    alloc: Heap,
+    alloc: Global,
     kinds: &Kinds<'_>,
     scope: &mut Scope<'a>,
     name: &Name,

@@ -15,7 +15,7 @@ ghost use Rattle.vlt_resolve_stmts.specs.Statements as s;
 ghost use Rattle.vlt_resolve_stmts.specs.Seen.{around_seen};
 
 use crate::around::Around;
-use std::alloc::{AllocError, Global as Heap};
+use std::alloc::{AllocError, Global};
 use vlt_base::{KeyId, VarId};
 use vlt_core::rules::{RETURNED_KEY, WRONG_JUMP, WRONG_RETURN, WRONG_TYPE};
 use vlt_core::{Entry, Expr as CoreExpr, Form, Mode, Operand, Ty};
@@ -98,7 +98,7 @@ fn check_fresh_given(
 
 #[tactic(auto, using(vlt_kinds_types::proofs::OfNames::Least::least_of_both), unfolding(crate::specs::Statements::fresh_refused))]
 fn check_fresh(
-    alloc: Heap,
+    alloc: Global,
     kinds: &Kinds<'_>,
     scope: &Scope<'_>,
     clause: &[Entry],
@@ -119,7 +119,7 @@ fn check_fresh(
 
 #[tactic(auto, unfolding(crate::specs::Statements::value_refused))]
 fn check_value(
-    alloc: Heap,
+    alloc: Global,
     kinds: &Kinds<'_>,
     scope: &Scope<'_>,
     clause: &[Entry],
@@ -140,7 +140,7 @@ fn check_value(
 }
 
 fn check_value_for(
-    alloc: Heap,
+    alloc: Global,
     kinds: &Kinds<'_>,
     scope: &Scope<'_>,
     clause: &[Entry],
@@ -160,7 +160,7 @@ fn check_value_for(
 }
 
 fn returned_value(
-    alloc: Heap,
+    alloc: Global,
     kinds: &Kinds<'_>,
     scope: &Scope<'_>,
     wanted: &Option<Ty>,
@@ -192,7 +192,7 @@ fn hidden_operand(ty: &Ty, v: VarId) -> Operand
 }
 
 fn return_known_build(
-    alloc: Heap,
+    alloc: Global,
     kinds: &Kinds<'_>,
     scope: &mut Scope<'_>,
     wanted: &Ty,
@@ -216,7 +216,7 @@ fn return_known_build(
 }
 
 fn return_build_for(
-    alloc: Heap,
+    alloc: Global,
     kinds: &Kinds<'_>,
     scope: &mut Scope<'_>,
     wanted: &Option<Ty>,
@@ -239,7 +239,7 @@ fn return_build_for(
 /// Tests a tick for a hidden variable, and returns that.
 #[tactic(auto, using(vlt_kinds_types::proofs::OfNames::Least::least_of_both), unfolding(crate::specs::Statements::built_refused))]
 fn return_build(
-    alloc: Heap,
+    alloc: Global,
     kinds: &Kinds<'_>,
     scope: &mut Scope<'_>,
     wanted: &Option<Ty>,
@@ -263,7 +263,7 @@ fn return_build(
 
 #[tactic(auto, unfolding(crate::specs::Statements::returned_refused, crate::specs::Statements::return_became))]
 fn returned(
-    alloc: Heap,
+    alloc: Global,
     kinds: &Kinds<'_>,
     around: Around<'_>,
     scope: &mut Scope<'_>,
@@ -318,7 +318,7 @@ fn gives_value(gives: &Returned) -> bool
 /// Tests a `return` at this place, and makes it. What it makes counts only where nothing is refused.
 #[tactic(auto, using(vlt_kinds_types::proofs::OfNames::Least::least_of_both), unfolding(crate::specs::Statements::return_refused))]
 pub fn return_stmt(
-    alloc: Heap,
+    alloc: Global,
     kinds: &Kinds<'_>,
     around: Around<'_>,
     scope: &mut Scope<'_>,

@@ -17,7 +17,7 @@ use crate::changes::{change_state, put, release, swap};
 use crate::declare::{assign, declare};
 use crate::opens::open;
 use crate::returns::return_stmt;
-use std::alloc::{AllocError, Global as Heap};
+use std::alloc::{AllocError, Global};
 use vlt_core::rules::WRONG_JUMP;
 use vlt_core::{Form, Ty};
 use vlt_kinds::Kinds;
@@ -45,7 +45,7 @@ fn jump(around: Around<'_>, continues: bool, at: u32, found: &mut Found) -> Form
 }
 
 fn print(
-    alloc: Heap,
+    alloc: Global,
     kinds: &Kinds<'_>,
     scope: &Scope<'_>,
     value: &Expr,
@@ -65,7 +65,7 @@ fn print(
 
 /// A call whose result, if there is one, is dropped at this place.
 fn drop_call(
-    alloc: Heap,
+    alloc: Global,
     kinds: &Kinds<'_>,
     scope: &Scope<'_>,
     called: &Call,
@@ -85,7 +85,7 @@ fn drop_call(
 
 /// Tests a statement without blocks, and makes it. What it makes counts only where nothing is refused.
 pub fn simple<'a>(
-    alloc: Heap,
+    alloc: Global,
     kinds: &Kinds<'_>,
     around: Around<'_>,
     scope: &mut Scope<'a>,

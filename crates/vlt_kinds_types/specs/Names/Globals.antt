@@ -5,17 +5,17 @@ use Rattle.std.specs.Map.{lookup}
 use Rattle.std.specs.Str.{bytes_eq}
 use Rattle.vlt_syntax.specs.Tree as s
 use Rattle.vlt_syntax.specs.Tree.{Name, Decl}
-use Rattle.vlt_kinds_types.specs.declared.names.globals.Global.{Global}
+use Rattle.vlt_kinds_types.specs.declared.names.globals.Entity.{Entity}
 use Rattle.vlt_kinds_types.specs.declared.names.globals.Globals.{Globals as Seen}
 use Rattle.vlt_kinds_types.specs.declared.names.globals.Counts.{Counts as SeenCounts}
-use Rattle.vlt_kinds_types.specs.declared.names.globals.Global.TheVariants.{ASet, AType, AFunction}
+use Rattle.vlt_kinds_types.specs.declared.names.globals.Entity.TheVariants.{ASet, AType, AFunction}
 
 -- each name with what it is
 abbrev pub Globals : Type 0
-Globals = List (List ℕ × Global)
+Globals = List (List ℕ × Entity)
 
 -- what the name is, where it is known
-abbrev pub global_in : Globals → List ℕ → Option Global
+abbrev pub global_in : Globals → List ℕ → Option Entity
 global_in known n = lookup (bytes_eq n) known
 
 abbrev pub is_global : Globals → List ℕ → Bool
@@ -36,7 +36,7 @@ pub record Counts : Type 0 where
   pub functions : ℕ
 
 -- what is declared, numbered among its kind
-abbrev pub global_of : Counts → Decl → Global
+abbrev pub global_of : Counts → Decl → Entity
 global_of c (s.stateset n ss at) = ASet c.sets
 global_of c (s.abstract n ss at) = AType c.types
 global_of c (s.struct n ps ss fs r at) = AType c.types

@@ -6,8 +6,8 @@ use Rattle.std.specs.Str.{bytes_eq}
 use Rattle.vlt_syntax.specs.Tree as s
 use Rattle.vlt_syntax.specs.Tree.{Name, Field, Case, HeaderKey, Head, Decl}
 use Rattle.vlt_kinds_types.specs.declared.names.found.Refusal.{Refusal}
-use Rattle.vlt_kinds_types.specs.declared.names.globals.Global.{Global}
-use Rattle.vlt_kinds_types.specs.declared.names.globals.Global.TheVariants.{ASet}
+use Rattle.vlt_kinds_types.specs.declared.names.globals.Entity.{Entity}
+use Rattle.vlt_kinds_types.specs.declared.names.globals.Entity.TheVariants.{ASet}
 use Rattle.vlt_core.specs.declared.rules.TheConstants as rule
 use Rattle.vlt_kinds_types.specs.Names.Refusals.{refusal, refuse, refuse_if, of_each}
 use Rattle.vlt_kinds_types.specs.Names.Globals.{Globals, global_in, is_global, no_counts, globals_of, declared_again}
@@ -53,7 +53,7 @@ header_keys_taken known ns = refuse rule.HEADER_KEY_TAKEN (filter (λ n. is_glob
 
 -- ---- 6: the name after a type's `@` is no state set
 
-abbrev pub is_set : Option Global → Bool
+abbrev pub is_set : Option Entity → Bool
 is_set (Some (ASet i)) = true
 is_set _ = false
 

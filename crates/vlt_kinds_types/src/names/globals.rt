@@ -10,13 +10,13 @@ ghost use Rattle.vlt_kinds_types.specs.Names.Globals.{names_seen, global_in, is_
 
 use crate::names::found::Found;
 use indexmap::IndexMap;
-use std::alloc::{AllocError, Global as Heap};
+use std::alloc::{AllocError, Global};
 use vlt_core::rules;
 use vlt_syntax::{Decl, Name};
 
 /// What a name of the whole file is, numbered among its kind.
 #[derive(Clone, Copy, Debug, PartialEq, Eq)]
-pub enum Global {
+pub enum Entity {
     ASet(u32),
     AType(u32),
     AFunction(u32),
@@ -25,12 +25,12 @@ pub enum Global {
 /// The names of a file, in the order of their declarations.
 #[derive(Drop)]
 pub struct Globals<'a> {
-    pub names: IndexMap<&'a [u8], Global>,
+    pub names: IndexMap<&'a [u8], Entity>,
 }
 
 impl<'a> Globals<'a> {
     /// What the name is, where the file knows it.
-    pub fn find(&self, name: &[u8]) -> Option<Global>
+    pub fn find(&self, name: &[u8]) -> Option<Entity>
         ensures { result ≡ global_in (names_seen self.now) name.now }
     {
         self.names.get(&name).copied()
@@ -43,7 +43,7 @@ impl<'a> Globals<'a> {
     }
 
     /// Adds a name that isn't known yet.
-    fn add(&mut self, name: &'a [u8], what: Global) -> Result<(), AllocError>
+    fn add(&mut self, name: &'a [u8], what: Entity) -> Result<(), AllocError>
         requires { is_global (names_seen self.old) name.now ≡ false }
         ensures { OnOk result (names_seen self.new
             ≡ names_seen self.old ++ (name.now, what) ∷ []) }
@@ -76,7 +76,7 @@ struct Counts {
 
 impl Counts {
     /// What is declared here, and the counts behind it.
-    fn declare(&mut self, decl: &Decl) -> Global
+    fn declare(&mut self, decl: &Decl) -> Entity
         requires { self.old.sets + self.old.types + self.old.functions < 2 ^ 32 - 1 }
         ensures what { result ≡ global_of (counts_seen self.old) (decl_of decl.now) }
         ensures counts { counts_seen self.new
@@ -87,15 +87,15 @@ impl Counts {
         match decl {
             Decl::StateSet { .. } => {
                 self.sets += 1;
-                Global::ASet(self.sets - 1)
+                Entity::ASet(self.sets - 1)
             }
             Decl::Abstract { .. } | Decl::Struct { .. } | Decl::Variant { .. } => {
                 self.types += 1;
-                Global::AType(self.types - 1)
+                Entity::AType(self.types - 1)
             }
             Decl::Extern { .. } | Decl::Function { .. } => {
                 self.functions += 1;
-                Global::AFunction(self.functions - 1)
+                Entity::AFunction(self.functions - 1)
             }
         }
     }
@@ -104,7 +104,7 @@ impl Counts {
 /// The names of the whole file. A name that is declared again is refused.
 #[tactic(auto, unfolding(crate::specs::Names::Names::names_again))]
 pub fn known_names<'a>(
-    alloc: Heap,
+    alloc: Global,
     decls: &'a [Decl],
     found: &mut Found,
 ) -> Result<Globals<'a>, AllocError>

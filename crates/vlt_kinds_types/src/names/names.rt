@@ -10,8 +10,8 @@ ghost use Rattle.vlt_kinds_types.specs.Names.Names as n;
 ghost use Rattle.vlt_kinds_types.specs.Names.Globals.{globals_of, names_seen};
 
 use crate::names::found::Found;
-use crate::names::globals::{self, Global, Globals};
-use std::alloc::{AllocError, Global as Heap};
+use crate::names::globals::{self, Entity, Globals};
+use std::alloc::{AllocError, Global};
 use vlt_core::rules;
 use vlt_syntax::{Case, Decl, Field, Head, HeaderKey, Name};
 
@@ -112,7 +112,7 @@ fn check_set(set: &Option<Name>, known: &Globals<'_>, found: &mut Found)
 {
     if let Some(name) = set {
         match known.find(name.text.as_slice()) {
-            Some(Global::ASet(_)) => {}
+            Some(Entity::ASet(_)) => {}
             _ => found.add(rules::NOT_A_SET, name.at.from),
         }
     }
@@ -227,7 +227,7 @@ fn check_decls(decls: &[Decl], known: &Globals<'_>, found: &mut Found)
 /// The names of a file. What the rules on declared names refuse is noted.
 #[tactic(auto, using(crate::proofs::OfNames::Least::least_of_both, crate::proofs::OfNames::Least::each_is), unfolding(crate::specs::Names::Names::names_refused))]
 pub fn check_names<'a>(
-    alloc: Heap,
+    alloc: Global,
     decls: &'a [Decl],
     found: &mut Found,
 ) -> Result<Globals<'a>, AllocError>

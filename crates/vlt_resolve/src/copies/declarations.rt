@@ -3,12 +3,12 @@
 ghost use Rattle.std.specs.Prelude.{◌≡◌, IfOk};
 
 use crate::copies::copy_bytes;
-use std::alloc::{AllocError, Global as Heap};
+use std::alloc::{AllocError, Global};
 use vlt_base::{Items, TypeId};
 use vlt_core::{CaseDecl, FieldDecl, SetDecl, Ty, TypeDecl};
 use vlt_resolve_exprs::copy_ty;
 
-fn copy_names(alloc: Heap, names: &[Items<u8>]) -> Result<Items<Items<u8>>, AllocError>
+fn copy_names(alloc: Global, names: &[Items<u8>]) -> Result<Items<Items<u8>>, AllocError>
     ensures { IfOk result (λ ns. ns ≡ names.now) }
 {
     let mut made = Items::new(alloc);
@@ -18,7 +18,7 @@ fn copy_names(alloc: Heap, names: &[Items<u8>]) -> Result<Items<Items<u8>>, Allo
     Ok(made)
 }
 
-fn copy_set(alloc: Heap, set: &SetDecl) -> Result<SetDecl, AllocError>
+fn copy_set(alloc: Global, set: &SetDecl) -> Result<SetDecl, AllocError>
     ensures { IfOk result (λ s. s ≡ set.now) }
 {
     Ok(SetDecl {
@@ -28,7 +28,7 @@ fn copy_set(alloc: Heap, set: &SetDecl) -> Result<SetDecl, AllocError>
     })
 }
 
-pub fn copy_sets(alloc: Heap, sets: &[SetDecl]) -> Result<Items<SetDecl>, AllocError>
+pub fn copy_sets(alloc: Global, sets: &[SetDecl]) -> Result<Items<SetDecl>, AllocError>
     ensures { IfOk result (λ ss. ss ≡ sets.now) }
 {
     let mut made = Items::new(alloc);
@@ -38,7 +38,7 @@ pub fn copy_sets(alloc: Heap, sets: &[SetDecl]) -> Result<Items<SetDecl>, AllocE
     Ok(made)
 }
 
-fn copy_types_in(alloc: Heap, types: &[Ty]) -> Result<Items<Ty>, AllocError>
+fn copy_types_in(alloc: Global, types: &[Ty]) -> Result<Items<Ty>, AllocError>
     ensures { IfOk result (λ ts. ts ≡ types.now) }
 {
     let mut made = Items::new(alloc);
@@ -48,7 +48,7 @@ fn copy_types_in(alloc: Heap, types: &[Ty]) -> Result<Items<Ty>, AllocError>
     Ok(made)
 }
 
-fn copy_field(alloc: Heap, field: &FieldDecl) -> Result<FieldDecl, AllocError>
+fn copy_field(alloc: Global, field: &FieldDecl) -> Result<FieldDecl, AllocError>
     ensures { IfOk result (λ f. f ≡ field.now) }
 {
     Ok(FieldDecl {
@@ -58,7 +58,7 @@ fn copy_field(alloc: Heap, field: &FieldDecl) -> Result<FieldDecl, AllocError>
     })
 }
 
-fn copy_fields(alloc: Heap, fields: &[FieldDecl]) -> Result<Items<FieldDecl>, AllocError>
+fn copy_fields(alloc: Global, fields: &[FieldDecl]) -> Result<Items<FieldDecl>, AllocError>
     ensures { IfOk result (λ fs. fs ≡ fields.now) }
 {
     let mut made = Items::new(alloc);
@@ -68,7 +68,7 @@ fn copy_fields(alloc: Heap, fields: &[FieldDecl]) -> Result<Items<FieldDecl>, Al
     Ok(made)
 }
 
-fn copy_case(alloc: Heap, case: &CaseDecl) -> Result<CaseDecl, AllocError>
+fn copy_case(alloc: Global, case: &CaseDecl) -> Result<CaseDecl, AllocError>
     ensures { IfOk result (λ c. c ≡ case.now) }
 {
     Ok(CaseDecl {
@@ -78,7 +78,7 @@ fn copy_case(alloc: Heap, case: &CaseDecl) -> Result<CaseDecl, AllocError>
     })
 }
 
-fn copy_cases(alloc: Heap, cases: &[CaseDecl]) -> Result<Items<CaseDecl>, AllocError>
+fn copy_cases(alloc: Global, cases: &[CaseDecl]) -> Result<Items<CaseDecl>, AllocError>
     ensures { IfOk result (λ cs. cs ≡ cases.now) }
 {
     let mut made = Items::new(alloc);
@@ -89,7 +89,7 @@ fn copy_cases(alloc: Heap, cases: &[CaseDecl]) -> Result<Items<CaseDecl>, AllocE
 }
 
 fn copy_header(
-    alloc: Heap,
+    alloc: Global,
     header: &Items<Option<TypeId>>,
 ) -> Result<Items<Option<TypeId>>, AllocError>
     ensures { IfOk result (λ h. h ≡ header.now) }
@@ -97,7 +97,7 @@ fn copy_header(
     Items::from_slice(alloc, header.as_slice())
 }
 
-fn copy_decl(alloc: Heap, decl: &TypeDecl) -> Result<TypeDecl, AllocError>
+fn copy_decl(alloc: Global, decl: &TypeDecl) -> Result<TypeDecl, AllocError>
     ensures { IfOk result (λ d. d ≡ decl.now) }
 {
     Ok(match decl {
@@ -130,7 +130,7 @@ fn copy_decl(alloc: Heap, decl: &TypeDecl) -> Result<TypeDecl, AllocError>
     })
 }
 
-pub fn copy_decls(alloc: Heap, decls: &[TypeDecl]) -> Result<Items<TypeDecl>, AllocError>
+pub fn copy_decls(alloc: Global, decls: &[TypeDecl]) -> Result<Items<TypeDecl>, AllocError>
     ensures { IfOk result (λ ds. ds ≡ decls.now) }
 {
     let mut made = Items::new(alloc);

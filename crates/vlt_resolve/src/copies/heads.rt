@@ -3,12 +3,12 @@
 ghost use Rattle.std.specs.Prelude.{◌≡◌, [], IfOk};
 
 use crate::copies::copy_bytes;
-use std::alloc::{AllocError, Global as Heap};
+use std::alloc::{AllocError, Global};
 use vlt_base::Items;
 use vlt_core::{Func, KeyDecl, Ty, VarDecl};
 use vlt_resolve_exprs::copy_ty;
 
-pub fn copy_keys(alloc: Heap, keys: &[KeyDecl]) -> Result<Items<KeyDecl>, AllocError>
+pub fn copy_keys(alloc: Global, keys: &[KeyDecl]) -> Result<Items<KeyDecl>, AllocError>
     ensures { IfOk result (λ ks. ks ≡ keys.now) }
 {
     let mut made = Items::new(alloc);
@@ -21,7 +21,7 @@ pub fn copy_keys(alloc: Heap, keys: &[KeyDecl]) -> Result<Items<KeyDecl>, AllocE
     Ok(made)
 }
 
-pub fn copy_vars(alloc: Heap, vars: &[VarDecl]) -> Result<Items<VarDecl>, AllocError>
+pub fn copy_vars(alloc: Global, vars: &[VarDecl]) -> Result<Items<VarDecl>, AllocError>
     ensures { IfOk result (λ vs. vs ≡ vars.now) }
 {
     let mut made = Items::new(alloc);
@@ -34,7 +34,7 @@ pub fn copy_vars(alloc: Heap, vars: &[VarDecl]) -> Result<Items<VarDecl>, AllocE
     Ok(made)
 }
 
-fn copy_gives(alloc: Heap, gives: &Option<Ty>) -> Result<Option<Ty>, AllocError>
+fn copy_gives(alloc: Global, gives: &Option<Ty>) -> Result<Option<Ty>, AllocError>
     ensures { IfOk result (λ t. t ≡ gives.now) }
 {
     match gives {
@@ -45,7 +45,7 @@ fn copy_gives(alloc: Heap, gives: &Option<Ty>) -> Result<Option<Ty>, AllocError>
 
 /// A head with other keys and variables, and with this body.
 pub fn func_of_head(
-    alloc: Heap,
+    alloc: Global,
     head: &Func,
     keys: Items<KeyDecl>,
     vars: Items<VarDecl>,
@@ -70,7 +70,7 @@ pub fn func_of_head(
 }
 
 /// A head without a body.
-pub fn copy_func(alloc: Heap, head: &Func) -> Result<Func, AllocError>
+pub fn copy_func(alloc: Global, head: &Func) -> Result<Func, AllocError>
     ensures { IfOk result (λ f. f ≡ record head.now { body = [] }) }
 {
     let keys = copy_keys(alloc, head.keys.as_slice())?;

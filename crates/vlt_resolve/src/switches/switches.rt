@@ -12,7 +12,7 @@ ghost use Rattle.vlt_resolve_calls.specs.Seen.{case_seen};
 ghost use Rattle.vlt_resolve.specs.Switches.Switches as s;
 ghost use Rattle.vlt_resolve.specs.Switches.Seen.{texts_seen};
 
-use std::alloc::{AllocError, Global as Heap};
+use std::alloc::{AllocError, Global};
 use vlt_base::{Items, KeyId, TypeId, VarId};
 use vlt_core::rules::{UNKNOWN_NAME, WRONG_SWITCH, WRONG_TYPE};
 use vlt_core::{CaseDecl, Ty};
@@ -25,7 +25,7 @@ use vlt_syntax::{Arm, Name};
 // ---- the cases of a switch
 
 /// The names behind the `'` of each arm's tick.
-pub fn arm_names<'a>(alloc: Heap, arms: &'a [Arm]) -> Result<Items<&'a [u8]>, AllocError>
+pub fn arm_names<'a>(alloc: Global, arms: &'a [Arm]) -> Result<Items<&'a [u8]>, AllocError>
     ensures { IfOk result (λ ns. texts_seen ns ≡ s.arm_names (tree.arms_of arms.now)) }
 {
     let mut names = Items::new(alloc);
@@ -57,7 +57,7 @@ fn are_distinct(names: &[&[u8]]) -> bool
     true
 }
 
-fn case_names<'k>(alloc: Heap, cases: &'k [CaseDecl]) -> Result<Items<&'k [u8]>, AllocError>
+fn case_names<'k>(alloc: Global, cases: &'k [CaseDecl]) -> Result<Items<&'k [u8]>, AllocError>
     ensures { IfOk result (λ ns. texts_seen ns ≡ s.case_names (map case_of cases.now)) }
 {
     let mut names = Items::new(alloc);
@@ -85,7 +85,7 @@ fn covers(arms: &[&[u8]], cases: &[&[u8]]) -> bool
 }
 
 fn variant_covered(
-    alloc: Heap,
+    alloc: Global,
     kinds: &Kinds<'_>,
     ty: &Ty,
     names: &[&[u8]],
@@ -109,7 +109,7 @@ fn variant_covered(
 
 #[tactic(auto, unfolding(crate::specs::Switches::Switches::cases_refused))]
 fn check_cases(
-    alloc: Heap,
+    alloc: Global,
     kinds: &Kinds<'_>,
     ty: &Option<Ty>,
     name: &Name,
@@ -134,7 +134,7 @@ fn check_cases(
 /// What is refused at a switch on a variable of this type, whose arms have these names.
 #[tactic(auto, using(vlt_kinds_types::proofs::OfNames::Least::least_of_both), unfolding(crate::specs::Switches::Switches::switch_refused))]
 pub fn check_switch(
-    alloc: Heap,
+    alloc: Global,
     kinds: &Kinds<'_>,
     ty: &Option<Ty>,
     name: &Name,
@@ -155,7 +155,7 @@ pub fn check_switch(
 
 /// The case of an arm, where the variable's type is known and has it.
 pub fn arm_case(
-    alloc: Heap,
+    alloc: Global,
     kinds: &Kinds<'_>,
     ty: &Option<Ty>,
     tick: &Name,
@@ -172,7 +172,7 @@ pub fn arm_case(
 /// Binds the variables of an arm.
 #[tactic(auto, unfolding(crate::specs::Switches::Switches::arm_refused, crate::specs::Switches::Switches::arm_scope, crate::specs::Switches::Switches::arm_numbers))]
 pub fn bind_arm<'a>(
-    alloc: Heap,
+    alloc: Global,
     kinds: &Kinds<'_>,
     scope: &mut Scope<'a>,
     case: &Option<Case>,
@@ -240,7 +240,7 @@ fn check_focused(ty: &Option<Ty>, name: &Name, found: &mut Found)
     }
 }
 
-fn focus_ty(alloc: Heap, ty: &Option<Ty>, key: KeyId) -> Result<Ty, AllocError>
+fn focus_ty(alloc: Global, ty: &Option<Ty>, key: KeyId) -> Result<Ty, AllocError>
     ensures { IfOk result (λ t. ty_of t ≡ s.focus_ty (option_map ty_of ty.now) key.0) }
 {
     match ty {
@@ -256,7 +256,7 @@ fn focus_ty(alloc: Heap, ty: &Option<Ty>, key: KeyId) -> Result<Ty, AllocError>
 /// Binds the key and the variable of a focus on a variable of this type, in the scope of its block.
 #[tactic(auto, using(vlt_kinds_types::proofs::OfNames::Least::least_of_both), unfolding(crate::specs::Switches::Switches::bound_refused))]
 fn bind_focus_names<'a>(
-    alloc: Heap,
+    alloc: Global,
     kinds: &Kinds<'_>,
     scope: &mut Scope<'a>,
     ty: &Option<Ty>,
@@ -282,7 +282,7 @@ fn bind_focus_names<'a>(
 /// Tests a focus on a variable of this type, and binds its key and its variable in the scope of its block.
 #[tactic(auto, using(vlt_kinds_types::proofs::OfNames::Least::least_of_both), unfolding(crate::specs::Switches::Switches::focus_refused))]
 pub fn bind_focus<'a>(
-    alloc: Heap,
+    alloc: Global,
     kinds: &Kinds<'_>,
     scope: &mut Scope<'a>,
     ty: &Option<Ty>,

@@ -20,7 +20,7 @@ ghost use Rattle.vlt_resolve.specs.Walk.Walk as w;
 use crate::switches::{arm_case, arm_names, bind_arm, bind_focus, case_number, check_switch};
 use crate::walk::blocks::{closing, else_closing, ends, stmt_place};
 use crate::walk::stop::Stop;
-use std::alloc::{AllocError, Global as Heap};
+use std::alloc::{AllocError, Global};
 use vlt_base::{Items, VarId};
 use vlt_core::rules::BEHIND_END;
 use vlt_core::{Form, Ty};
@@ -84,7 +84,7 @@ fn add_placed(at: u32, forms: Forms, made: &mut Items<vlt_core::Stmt>) -> Result
 
 /// A statement without blocks, where something may have been found before.
 fn walk_simple<'a>(
-    alloc: Heap,
+    alloc: Global,
     kinds: &Kinds<'_>,
     around: Around<'_>,
     scope: &mut Scope<'a>,
@@ -105,7 +105,7 @@ fn walk_simple<'a>(
 
 /// A condition, where something may have been found before.
 fn tested(
-    alloc: Heap,
+    alloc: Global,
     kinds: &Kinds<'_>,
     scope: &Scope<'_>,
     found: Found,
@@ -129,7 +129,7 @@ fn tested(
 
 /// The type of the variable of a switch, where something may have been found before.
 fn switched(
-    alloc: Heap,
+    alloc: Global,
     kinds: &Kinds<'_>,
     scope: &Scope<'_>,
     found: Found,
@@ -165,7 +165,7 @@ fn switched(
 
 /// Binds what a focus binds, where something may have been found before.
 fn focused<'a>(
-    alloc: Heap,
+    alloc: Global,
     kinds: &Kinds<'_>,
     scope: &mut Scope<'a>,
     found: Found,
@@ -193,7 +193,7 @@ fn focused<'a>(
 
 /// Binds the variables of an arm.
 fn bound_arm<'a>(
-    alloc: Heap,
+    alloc: Global,
     kinds: &Kinds<'_>,
     scope: &mut Scope<'a>,
     case: &Option<Case>,
@@ -218,7 +218,7 @@ fn bound_arm<'a>(
     Ok(vars)
 }
 
-fn one_stmt(alloc: Heap, at: u32, form: Form, end: u32) -> Result<vlt_core::Block, AllocError>
+fn one_stmt(alloc: Global, at: u32, form: Form, end: u32) -> Result<vlt_core::Block, AllocError>
     ensures { IfOk result (λ b. core_view.block_of b
         ≡ core.block (core.next at (form_of form) core.done) [] end) }
 {
@@ -233,7 +233,7 @@ fn one_stmt(alloc: Heap, at: u32, form: Form, end: u32) -> Result<vlt_core::Bloc
 
 /// Closes a block: its statements, and what it bound.
 fn close_block(
-    alloc: Heap,
+    alloc: Global,
     scope: &mut Scope<'_>,
     outer: Outer,
     stmts: Items<vlt_core::Stmt>,
@@ -253,7 +253,7 @@ fn close_block(
 /// Statements one after another.
 #[cycle(walk)]
 pub fn walk_stmts<'a>(
-    alloc: Heap,
+    alloc: Global,
     kinds: &Kinds<'_>,
     around: Around<'_>,
     scope: &mut Scope<'a>,
@@ -279,7 +279,7 @@ pub fn walk_stmts<'a>(
 /// A statement, where something may have been found before.
 #[cycle(walk)]
 fn walk_stmt<'a>(
-    alloc: Heap,
+    alloc: Global,
     kinds: &Kinds<'_>,
     around: Around<'_>,
     scope: &mut Scope<'a>,
@@ -342,7 +342,7 @@ fn walk_stmt<'a>(
 
 #[cycle(walk)]
 fn walk_focus<'a>(
-    alloc: Heap,
+    alloc: Global,
     kinds: &Kinds<'_>,
     around: Around<'_>,
     scope: &mut Scope<'a>,
@@ -379,7 +379,7 @@ fn walk_focus<'a>(
 
 #[cycle(walk)]
 fn walk_block<'a>(
-    alloc: Heap,
+    alloc: Global,
     kinds: &Kinds<'_>,
     around: Around<'_>,
     scope: &mut Scope<'a>,
@@ -400,7 +400,7 @@ fn walk_block<'a>(
 
 #[cycle(walk)]
 fn walk_if<'a>(
-    alloc: Heap,
+    alloc: Global,
     kinds: &Kinds<'_>,
     around: Around<'_>,
     scope: &mut Scope<'a>,
@@ -427,7 +427,7 @@ fn walk_if<'a>(
 
 #[cycle(walk)]
 fn walk_else<'a>(
-    alloc: Heap,
+    alloc: Global,
     kinds: &Kinds<'_>,
     around: Around<'_>,
     scope: &mut Scope<'a>,
@@ -455,7 +455,7 @@ fn walk_else<'a>(
 /// An `if` behind an `else`, in a block of its own that binds nothing.
 #[cycle(walk)]
 fn walk_chained<'a>(
-    alloc: Heap,
+    alloc: Global,
     kinds: &Kinds<'_>,
     around: Around<'_>,
     scope: &mut Scope<'a>,
@@ -493,7 +493,7 @@ fn walk_chained<'a>(
 
 #[cycle(walk)]
 fn walk_arms<'a>(
-    alloc: Heap,
+    alloc: Global,
     kinds: &Kinds<'_>,
     around: Around<'_>,
     scope: &mut Scope<'a>,
@@ -517,7 +517,7 @@ fn walk_arms<'a>(
 
 #[cycle(walk)]
 fn walk_arm<'a>(
-    alloc: Heap,
+    alloc: Global,
     kinds: &Kinds<'_>,
     around: Around<'_>,
     scope: &mut Scope<'a>,

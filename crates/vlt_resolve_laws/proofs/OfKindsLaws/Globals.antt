@@ -6,8 +6,8 @@ use Rattle.std.proofs.lemmas.Option.{none-some, same_Some}
 use Rattle.std.proofs.lemmas.Slice.Eq.{bytes_eq-Decides}
 use Rattle.vlt_syntax.specs.Tree as s
 use Rattle.vlt_syntax.specs.Tree.{Name, Decl}
-use Rattle.vlt_kinds_types.specs.declared.names.globals.Global.{Global}
-use Rattle.vlt_kinds_types.specs.declared.names.globals.Global.TheVariants.{ASet, AType, AFunction}
+use Rattle.vlt_kinds_types.specs.declared.names.globals.Entity.{Entity}
+use Rattle.vlt_kinds_types.specs.declared.names.globals.Entity.TheVariants.{ASet, AType, AFunction}
 use Rattle.vlt_kinds_types.specs.Names.Refusals.{refuse, of_each}
 use Rattle.vlt_kinds_types.specs.Names.Globals.{Globals, global_in, is_global, decl_name, Counts, global_of, counts_after, with_declared, globals_behind, declared_again, no_counts, globals_of}
 use Rattle.vlt_kinds_types.specs.Names.Names.{names_again}
@@ -17,7 +17,7 @@ use Rattle.vlt_resolve_laws.proofs.OfKindsLaws.Empty.{cons_not_nil}
 
 -- ---- a name more
 
-stays_found : (test : List ℕ → Bool) (known : Globals) (n : List ℕ) (h g : Global) → lookup test known ≡ Some g → lookup test (known ++ (n, h) ∷ []) ≡ Some g
+stays_found : (test : List ℕ → Bool) (known : Globals) (n : List ℕ) (h g : Entity) → lookup test known ≡ Some g → lookup test (known ++ (n, h) ∷ []) ≡ Some g
 stays_found test [] n h g e = absurd (none-some g e)
 stays_found test (k ∷ known) n h g e = by (stays_found test known n h g) (test k.0) e
   where
@@ -26,7 +26,7 @@ stays_found test (k ∷ known) n h g e = by (stays_found test known n h g) (test
     by more true e = e
     by more false e = more e
 
-found_old_or_new : (test : List ℕ → Bool) (known : Globals) (n : List ℕ) (h g : Global) → lookup test (known ++ (n, h) ∷ []) ≡ Some g → (lookup test known ≡ Some g) ⊎ (g ≡ h)
+found_old_or_new : (test : List ℕ → Bool) (known : Globals) (n : List ℕ) (h g : Entity) → lookup test (known ++ (n, h) ∷ []) ≡ Some g → (lookup test known ≡ Some g) ⊎ (g ≡ h)
 found_old_or_new test [] n h g e = by (test n) e
   where
     by : (b : Bool) → cond b (Some h) None ≡ Some g → (None ≡ Some g) ⊎ (g ≡ h)
@@ -39,7 +39,7 @@ found_old_or_new test (k ∷ known) n h g e = by (found_old_or_new test known n 
     by more true e = inl e
     by more false e = more e
 
-found_new : (known : Globals) (n : List ℕ) (h : Global) → bytes_eq n n ≡ true → is_global known n ≡ false → global_in (known ++ (n, h) ∷ []) n ≡ Some h
+found_new : (known : Globals) (n : List ℕ) (h : Entity) → bytes_eq n n ≡ true → is_global known n ≡ false → global_in (known ++ (n, h) ∷ []) n ≡ Some h
 found_new [] n h same none = ap (λ b. cond b (Some h) None) same
 found_new (k ∷ known) n h same none = by (found_new known n h same) (bytes_eq n k.0) none
   where
@@ -50,14 +50,14 @@ found_new (k ∷ known) n h same none = by (found_new known n h same) (bytes_eq 
 
 -- ---- names stay what they are
 
-stays_more : (known : Globals) (c : Counts) (d : Decl) (n : List ℕ) (g : Global) → global_in known n ≡ Some g → global_in (with_declared known c d) n ≡ Some g
+stays_more : (known : Globals) (c : Counts) (d : Decl) (n : List ℕ) (g : Entity) → global_in known n ≡ Some g → global_in (with_declared known c d) n ≡ Some g
 stays_more known c d n g e = by (is_global known (decl_name d).text)
   where
     by : (b : Bool) → global_in (if b then known else known ++ ((decl_name d).text, global_of c d) ∷ []) n ≡ Some g
     by true = e
     by false = stays_found (bytes_eq n) known (decl_name d).text (global_of c d) g e
 
-stays : (known : Globals) (c : Counts) (ds : List Decl) (n : List ℕ) (g : Global) → global_in known n ≡ Some g → global_in (globals_behind known c ds) n ≡ Some g
+stays : (known : Globals) (c : Counts) (ds : List Decl) (n : List ℕ) (g : Entity) → global_in known n ≡ Some g → global_in (globals_behind known c ds) n ≡ Some g
 stays known c [] n g e = e
 stays known c (d ∷ ds) n g e = stays (with_declared known c d) (counts_after c d) ds n g (stays_more known c d n g e)
 
@@ -129,7 +129,7 @@ pub set_known : (ds : List Decl) (o : Option Name) (i : ℕ) → set_in (globals
 set_known ds None i e = absurd (none-some i e)
 set_known ds (Some n) i e = by (global_in (globals_of ds) n.text) refl e
   where
-    by : (o : Option Global) → global_in (globals_of ds) n.text ≡ o → as_set o ≡ Some i → i < length (of_each sets_in ds)
+    by : (o : Option Entity) → global_in (globals_of ds) n.text ≡ o → as_set o ≡ Some i → i < length (of_each sets_in ds)
     by None is e = absurd (none-some i e)
     by (Some (AType t)) is e = absurd (none-some i e)
     by (Some (AFunction f)) is e = absurd (none-some i e)

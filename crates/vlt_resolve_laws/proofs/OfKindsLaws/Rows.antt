@@ -15,7 +15,7 @@ use Rattle.vlt_core.specs.KindedHeads.{Rules, unless, has_set, type_rows, field_
 use Rattle.vlt_core.specs.declared.rules.TheConstants as rule
 use Rattle.vlt_kinds_types.specs.Names.Refusals.{of_each}
 use Rattle.vlt_kinds_types.specs.Names.Globals.{decl_name, global_in, Counts, global_of, counts_after, no_counts}
-use Rattle.vlt_kinds_types.specs.declared.names.globals.Global.TheVariants.{AType}
+use Rattle.vlt_kinds_types.specs.declared.names.globals.Entity.TheVariants.{AType}
 use Rattle.vlt_kinds_types.specs.Files.{File, file_of, sets_in, texts, then_with, as_type, shape_at, shape_named, state_names, header_in}
 use Rattle.vlt_kinds_decls.specs.Decls.{header_refused, field_refused, struct_refused, case_refused, variant_refused, type_refused, types_refused}
 use Rattle.vlt_kinds_decls.specs.Made.{core_header, core_field, core_struct, core_case, core_variant, core_types_in, core_types}
