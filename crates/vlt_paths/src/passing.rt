@@ -20,8 +20,8 @@ use crate::point::{Hunt, Point};
 use vlt_base::VarId;
 use vlt_core::{Expr, Form, Func, Operand, Program, Row, Tok};
 use vlt_rows::{
-    RowError, RowSink, WideRow, take_arm, take_expr, take_focus, take_focus_end, take_form,
-    take_gone, take_handed_back, take_switch,
+    RowError, RowSink, WideRow, give_arm, give_expr, give_focus, give_focus_end, give_form,
+    give_gone, give_handed_back, give_switch,
 };
 
 /// A path that passes rows at a place.
@@ -124,7 +124,7 @@ pub fn past_expr<'a>(
         point.entry result }
 {
     let mut passing = Passing { hunt, at, point };
-    let _all = take_expr(p, f, e, &mut passing);
+    let _all = give_expr(p, f, e, &mut passing);
     passing.point
 }
 
@@ -141,7 +141,7 @@ pub fn past_form<'a>(
         point.entry result }
 {
     let mut passing = Passing { hunt, at, point };
-    let _all = take_form(p, f, form, &mut passing);
+    let _all = give_form(p, f, form, &mut passing);
     passing.point
 }
 
@@ -149,7 +149,7 @@ pub fn past_switch<'a>(f: &Func, hunt: Hunt, at: u32, v: VarId, point: Point<'a>
     ensures { IsPast hunt at (switch_rows (func_of f.now) v.0) point.entry result }
 {
     let mut passing = Passing { hunt, at, point };
-    let _all = take_switch(f, v, &mut passing);
+    let _all = give_switch(f, v, &mut passing);
     passing.point
 }
 
@@ -168,7 +168,7 @@ pub fn past_arm<'a>(
         (arm_rows (program_of p.now) (func_of f.now) v.0 case (vars_of vs.now)) point.entry result }
 {
     let mut passing = Passing { hunt, at, point };
-    let _all = take_arm(p, f, v, case, vs, &mut passing);
+    let _all = give_arm(p, f, v, case, vs, &mut passing);
     passing.point
 }
 
@@ -186,7 +186,7 @@ pub fn past_focus<'a>(
         point.entry result }
 {
     let mut passing = Passing { hunt, at, point };
-    let _all = take_focus(p, f, y, z, &mut passing);
+    let _all = give_focus(p, f, y, z, &mut passing);
     passing.point
 }
 
@@ -203,7 +203,7 @@ pub fn past_focus_end<'a>(
         point.entry result }
 {
     let mut passing = Passing { hunt, at, point };
-    let _all = take_focus_end(p, f, y, z, &mut passing);
+    let _all = give_focus_end(p, f, y, z, &mut passing);
     passing.point
 }
 
@@ -212,7 +212,7 @@ pub fn past_gone<'a>(hunt: Hunt, at: u32, toks: &[Tok], point: Point<'a>) -> Poi
     ensures { IsPast hunt at (map away_row (toks_of toks.now)) point.entry result }
 {
     let mut passing = Passing { hunt, at, point };
-    let _all = take_gone(toks, &mut passing);
+    let _all = give_gone(toks, &mut passing);
     passing.point
 }
 
@@ -274,7 +274,7 @@ fn past_handed_back<'a>(
         point.entry result }
 {
     let mut passing = Passing { hunt, at, point };
-    let _all = take_handed_back(p, f, value, &mut passing);
+    let _all = give_handed_back(p, f, value, &mut passing);
     passing.point
 }
 

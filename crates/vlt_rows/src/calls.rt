@@ -12,8 +12,8 @@ ghost use Rattle.vlt_rows.specs.Taking.{TookOrStopped};
 ghost use Rattle.vlt_rows.specs.Wide.{states_named};
 ghost use Rattle.vlt_rows.specs.Pieces.{entry_rows, callee_rows, value_rows, new_row, given_back_row, handed_back_rows};
 
-use crate::expr::{take_operand, take_operands};
-use crate::pieces::{take_fill, take_gone, take_left, take_row, take_wanted};
+use crate::expr::{give_operand, give_operands};
+use crate::pieces::{give_fill, give_gone, give_left, give_row, give_wanted};
 use crate::sink::{RowError, RowSink};
 use crate::states::{States, side_states, states_up_to};
 use vlt_base::{FnId, KeyId, StateSet, VarId};
@@ -68,7 +68,7 @@ fn wanted_at(e: Entry) -> Wanted
 }
 
 /// The row of a clause's entry at a call, where this key of the caller's stands for its key.
-fn take_entry_at<S: RowSink>(
+fn give_entry_at<S: RowSink>(
     p: &Program,
     f: &Func,
     k: KeyId,
@@ -80,9 +80,9 @@ fn take_entry_at<S: RowSink>(
         to.old to.new result }
 {
     if is_after(e.mode) {
-        take_left(to, Tok::Key(k), wanted_at(e), side_states(p, f, k, e.after))
+        give_left(to, Tok::Key(k), wanted_at(e), side_states(p, f, k, e.after))
     } else {
-        take_row(
+        give_row(
             to,
             Row {
                 tok: Tok::Key(k),
@@ -94,7 +94,7 @@ fn take_entry_at<S: RowSink>(
 }
 
 /// The same, where a bound entry's key keeps its state.
-fn take_called_at<S: RowSink>(
+fn give_called_at<S: RowSink>(
     p: &Program,
     f: &Func,
     k: KeyId,
@@ -107,14 +107,14 @@ fn take_called_at<S: RowSink>(
 {
     match e.mode {
         Mode::Bound(state) => {
-            take_wanted(to, Tok::Key(k), states_up_to(p, f, k, state), After::Same)
+            give_wanted(to, Tok::Key(k), states_up_to(p, f, k, state), After::Same)
         }
-        _ => take_entry_at(p, f, k, e, to),
+        _ => give_entry_at(p, f, k, e, to),
     }
 }
 
 /// The row of a clause's entry at a call.
-fn take_entry<S: RowSink>(
+fn give_entry<S: RowSink>(
     p: &Program,
     f: &Func,
     keys: &[KeyId],
@@ -127,12 +127,12 @@ fn take_entry<S: RowSink>(
 {
     match keys.get(e.key.0 as usize) {
         None => Ok(()),
-        Some(k) => take_called_at(p, f, *k, e, to),
+        Some(k) => give_called_at(p, f, *k, e, to),
     }
 }
 
 /// The rows of a callee's clause.
-fn take_clause<S: RowSink>(
+fn give_clause<S: RowSink>(
     p: &Program,
     f: &Func,
     keys: &[KeyId],
@@ -145,12 +145,12 @@ fn take_clause<S: RowSink>(
         to.old to.new result }
 {
     for e in clause {
-        take_entry(p, f, keys, *e, to)?;
+        give_entry(p, f, keys, *e, to)?;
     }
     Ok(())
 }
 
-fn take_callee<S: RowSink>(
+fn give_callee<S: RowSink>(
     p: &Program,
     f: &Func,
     g: FnId,
@@ -163,22 +163,22 @@ fn take_callee<S: RowSink>(
 {
     match p.fns.get(g.0 as usize) {
         None => Ok(()),
-        Some(callee) => take_clause(p, f, keys, callee.clause.as_slice(), to),
+        Some(callee) => give_clause(p, f, keys, callee.clause.as_slice(), to),
     }
 }
 
-fn take_target<S: RowSink>(f: &Func, target: Option<VarId>, to: &mut S) -> Result<(), RowError>
+fn give_target<S: RowSink>(f: &Func, target: Option<VarId>, to: &mut S) -> Result<(), RowError>
     ensures { TookOrStopped S.takes S.stops
         (target_rows (func_of f.now) (option_map (λ v. v.0) target)) to.old to.new result }
 {
     match target {
         None => Ok(()),
-        Some(v) => take_fill(f, v, to),
+        Some(v) => give_fill(f, v, to),
     }
 }
 
 /// The rows of a call.
-pub fn take_call<S: RowSink>(
+pub fn give_call<S: RowSink>(
     p: &Program,
     f: &Func,
     g: FnId,
@@ -192,12 +192,12 @@ pub fn take_call<S: RowSink>(
         (call g.0 (option_map (λ v. v.0) target) (keys_of keys.now) (map operand_of args.now)))
         to.old to.new result }
 {
-    take_operands(p, f, args, to)?;
-    take_callee(p, f, g, keys, to)?;
-    take_target(f, target, to)
+    give_operands(p, f, args, to)?;
+    give_callee(p, f, g, keys, to)?;
+    give_target(f, target, to)
 }
 
-fn take_value<S: RowSink>(
+fn give_value<S: RowSink>(
     p: &Program,
     f: &Func,
     value: &Option<Operand>,
@@ -209,24 +209,24 @@ fn take_value<S: RowSink>(
 {
     match value {
         None => Ok(()),
-        Some(operand) => take_operand(p, f, operand, to),
+        Some(operand) => give_operand(p, f, operand, to),
     }
 }
 
 /// The key of a returned variable, in one of these states, is gone.
-fn take_returned<S: RowSink>(f: &Func, x: VarId, states: States, to: &mut S) -> Result<(), RowError>
+fn give_returned<S: RowSink>(f: &Func, x: VarId, states: States, to: &mut S) -> Result<(), RowError>
     ensures { TookOrStopped S.takes S.stops
         (key_row (func_of f.now) x.0 (wants_in (states_named states)) becomes_absent)
         to.old to.new result }
 {
     match f.reference(x) {
         None => Ok(()),
-        Some(r) => take_wanted(to, Tok::Key(r.key), states, After::Absent),
+        Some(r) => give_wanted(to, Tok::Key(r.key), states, After::Absent),
     }
 }
 
 /// The row of an entry for a new object, which is the returned variable's.
-fn take_new<S: RowSink>(
+fn give_new<S: RowSink>(
     p: &Program,
     f: &Func,
     value: &Option<Operand>,
@@ -242,13 +242,13 @@ fn take_new<S: RowSink>(
     }
     match value {
         Some(Operand::Pure(Expr::Var(x))) => {
-            take_returned(f, *x, side_states(p, f, e.key, e.after), to)
+            give_returned(f, *x, side_states(p, f, e.key, e.after), to)
         }
         _ => Ok(()),
     }
 }
 
-fn take_news<S: RowSink>(
+fn give_news<S: RowSink>(
     p: &Program,
     f: &Func,
     value: &Option<Operand>,
@@ -259,13 +259,13 @@ fn take_news<S: RowSink>(
         to.old to.new result }
 {
     for e in f.clause.as_slice() {
-        take_new(p, f, value, *e, to)?;
+        give_new(p, f, value, *e, to)?;
     }
     Ok(())
 }
 
 /// The row of an entry whose key the caller has back.
-fn take_given_back<S: RowSink>(p: &Program, f: &Func, e: Entry, to: &mut S) -> Result<(), RowError>
+fn give_given_back<S: RowSink>(p: &Program, f: &Func, e: Entry, to: &mut S) -> Result<(), RowError>
     ensures { TookOrStopped S.takes S.stops
         (given_back_row (program_of p.now) (func_of f.now) (entry_of e)) to.old to.new result }
 {
@@ -273,21 +273,21 @@ fn take_given_back<S: RowSink>(p: &Program, f: &Func, e: Entry, to: &mut S) -> R
         return Ok(());
     }
     let states = side_states(p, f, e.key, e.after);
-    take_wanted(to, Tok::Key(e.key), states, After::Absent)
+    give_wanted(to, Tok::Key(e.key), states, After::Absent)
 }
 
-fn take_given_backs<S: RowSink>(p: &Program, f: &Func, to: &mut S) -> Result<(), RowError>
+fn give_given_backs<S: RowSink>(p: &Program, f: &Func, to: &mut S) -> Result<(), RowError>
     ensures { TookOrStopped S.takes S.stops (given_back_rows (program_of p.now) (func_of f.now))
         to.old to.new result }
 {
     for e in f.clause.as_slice() {
-        take_given_back(p, f, *e, to)?;
+        give_given_back(p, f, *e, to)?;
     }
     Ok(())
 }
 
 /// The rows of a return before those that want the function's tokens away.
-pub fn take_handed_back<S: RowSink>(
+pub fn give_handed_back<S: RowSink>(
     p: &Program,
     f: &Func,
     value: &Option<Operand>,
@@ -297,13 +297,13 @@ pub fn take_handed_back<S: RowSink>(
         (handed_back_rows (program_of p.now) (func_of f.now) (option_map operand_of value.now))
         to.old to.new result }
 {
-    take_value(p, f, value, to)?;
-    take_news(p, f, value, to)?;
-    take_given_backs(p, f, to)
+    give_value(p, f, value, to)?;
+    give_news(p, f, value, to)?;
+    give_given_backs(p, f, to)
 }
 
 /// The rows of a return; `tokens` has the tokens of the function.
-pub fn take_return<S: RowSink>(
+pub fn give_return<S: RowSink>(
     p: &Program,
     f: &Func,
     tokens: &[Tok],
@@ -315,6 +315,6 @@ pub fn take_return<S: RowSink>(
         (return_rows (program_of p.now) (func_of f.now) (option_map operand_of value.now))
         to.old to.new result }
 {
-    take_handed_back(p, f, value, to)?;
-    take_gone(tokens, to)
+    give_handed_back(p, f, value, to)?;
+    give_gone(tokens, to)
 }

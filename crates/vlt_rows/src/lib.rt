@@ -22,15 +22,15 @@ mod steps;
 mod tree;
 
 use crate::body::{all_tokens, flow_stmts};
-pub use calls::{take_call, take_handed_back, take_return};
-pub use expr::{take_expr, take_operand, take_operands};
+pub use calls::{give_call, give_handed_back, give_return};
+pub use expr::{give_expr, give_operand, give_operands};
 pub use list::{
     RowList, arm_list, expr_list, focus_end_list, focus_list, form_list, return_list, switch_list,
 };
-pub use pieces::take_gone;
+pub use pieces::give_gone;
 pub use sink::{RowError, RowSink, WideRow};
 pub use statements::{
-    take_adopt, take_arm, take_build, take_focus, take_focus_end, take_form, take_switch,
+    give_adopt, give_arm, give_build, give_focus, give_focus_end, give_form, give_switch,
 };
 pub use states::{States, side_states};
 use std::alloc::Global;

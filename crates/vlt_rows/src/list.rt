@@ -8,10 +8,10 @@ ghost use Rattle.vlt_core.specs.Rows.{expr_rows, arm_rows, return_rows, focus_en
 ghost use Rattle.vlt_rows.specs.Pieces.{own_rows, switch_rows, focus_rows};
 ghost use Rattle.vlt_rows.specs.Unfit.{Lists};
 
-use crate::calls::take_return;
-use crate::expr::take_expr;
+use crate::calls::give_return;
+use crate::expr::give_expr;
 use crate::sink::{RowError, RowSink, WideRow};
-use crate::statements::{take_arm, take_focus, take_focus_end, take_form, take_switch};
+use crate::statements::{give_arm, give_focus, give_focus_end, give_form, give_switch};
 use std::alloc::Global;
 use vlt_base::{Items, VarId};
 use vlt_core::{Expr, Form, Func, Operand, Program, Row, Tok};
@@ -59,7 +59,7 @@ pub fn expr_list(alloc: Global, p: &Program, f: &Func, e: &Expr) -> Result<Items
     ensures { Lists (expr_rows (program_of p.now) (func_of f.now) (expr_of e.now)) result }
 {
     let mut list = RowList::new(alloc);
-    take_expr(p, f, e, &mut list)?;
+    give_expr(p, f, e, &mut list)?;
     Ok(list.rows)
 }
 
@@ -68,7 +68,7 @@ pub fn form_list(alloc: Global, p: &Program, f: &Func, form: &Form) -> Result<It
     ensures { Lists (own_rows (program_of p.now) (func_of f.now) (form_of form.now)) result }
 {
     let mut list = RowList::new(alloc);
-    take_form(p, f, form, &mut list)?;
+    give_form(p, f, form, &mut list)?;
     Ok(list.rows)
 }
 
@@ -76,7 +76,7 @@ pub fn switch_list(alloc: Global, f: &Func, v: VarId) -> Result<Items<Row>, RowE
     ensures { Lists (switch_rows (func_of f.now) v.0) result }
 {
     let mut list = RowList::new(alloc);
-    take_switch(f, v, &mut list)?;
+    give_switch(f, v, &mut list)?;
     Ok(list.rows)
 }
 
@@ -92,7 +92,7 @@ pub fn arm_list(
     ensures { Lists (arm_rows (program_of p.now) (func_of f.now) v.0 case (vars_of vs.now)) result }
 {
     let mut list = RowList::new(alloc);
-    take_arm(p, f, v, case, vs, &mut list)?;
+    give_arm(p, f, v, case, vs, &mut list)?;
     Ok(list.rows)
 }
 
@@ -107,7 +107,7 @@ pub fn focus_list(
     ensures { Lists (focus_rows (program_of p.now) (func_of f.now) y.0 z.0) result }
 {
     let mut list = RowList::new(alloc);
-    take_focus(p, f, y, z, &mut list)?;
+    give_focus(p, f, y, z, &mut list)?;
     Ok(list.rows)
 }
 
@@ -122,7 +122,7 @@ pub fn focus_end_list(
     ensures { Lists (focus_end_rows (program_of p.now) (func_of f.now) y.0 z.0) result }
 {
     let mut list = RowList::new(alloc);
-    take_focus_end(p, f, y, z, &mut list)?;
+    give_focus_end(p, f, y, z, &mut list)?;
     Ok(list.rows)
 }
 
@@ -139,6 +139,6 @@ pub fn return_list(
         (return_rows (program_of p.now) (func_of f.now) (option_map operand_of value.now)) result }
 {
     let mut list = RowList::new(alloc);
-    take_return(p, f, tokens, value, &mut list)?;
+    give_return(p, f, tokens, value, &mut list)?;
     Ok(list.rows)
 }

@@ -13,7 +13,7 @@ use crate::states::{States, permitted_states, release_states};
 use vlt_base::VarId;
 use vlt_core::{After, Func, Program, Row, Tok, Wanted};
 
-pub fn take_row<S: RowSink>(to: &mut S, row: Row) -> Result<(), RowError>
+pub fn give_row<S: RowSink>(to: &mut S, row: Row) -> Result<(), RowError>
     ensures { TookOrStopped S.takes S.stops (row_of row ∷ [])
         to.old to.new result }
 {
@@ -21,7 +21,7 @@ pub fn take_row<S: RowSink>(to: &mut S, row: Row) -> Result<(), RowError>
 }
 
 /// A row that wants these states.
-pub fn take_wanted<S: RowSink>(
+pub fn give_wanted<S: RowSink>(
     to: &mut S,
     tok: Tok,
     states: States,
@@ -32,7 +32,7 @@ pub fn take_wanted<S: RowSink>(
         to.old to.new result }
 {
     match states {
-        States::Set(set) => take_row(
+        States::Set(set) => give_row(
             to,
             Row {
                 tok,
@@ -45,7 +45,7 @@ pub fn take_wanted<S: RowSink>(
 }
 
 /// A row that leaves these states.
-pub fn take_left<S: RowSink>(
+pub fn give_left<S: RowSink>(
     to: &mut S,
     tok: Tok,
     wanted: Wanted,
@@ -56,7 +56,7 @@ pub fn take_left<S: RowSink>(
         to.old to.new result }
 {
     match states {
-        States::Set(set) => take_row(
+        States::Set(set) => give_row(
             to,
             Row {
                 tok,
@@ -73,7 +73,7 @@ pub fn take_left<S: RowSink>(
 }
 
 /// The row of a touch of a field.
-pub fn take_touch<S: RowSink>(
+pub fn give_touch<S: RowSink>(
     p: &Program,
     f: &Func,
     x: VarId,
@@ -85,10 +85,10 @@ pub fn take_touch<S: RowSink>(
 {
     if let Some(r) = f.reference(x) {
         let states = permitted_states(p, r.type_id, position);
-        take_wanted(to, Tok::Key(r.key), states, After::Same)?;
+        give_wanted(to, Tok::Key(r.key), states, After::Same)?;
     }
     if let Some(g) = f.guarded(x) {
-        take_row(
+        give_row(
             to,
             Row {
                 tok: Tok::Key(g.key),
@@ -101,7 +101,7 @@ pub fn take_touch<S: RowSink>(
 }
 
 /// A row on the key of a tracked variable.
-pub fn take_key<S: RowSink>(
+pub fn give_key<S: RowSink>(
     f: &Func,
     x: VarId,
     wanted: Wanted,
@@ -113,7 +113,7 @@ pub fn take_key<S: RowSink>(
 {
     match f.reference(x) {
         None => Ok(()),
-        Some(r) => take_row(
+        Some(r) => give_row(
             to,
             Row {
                 tok: Tok::Key(r.key),
@@ -125,13 +125,13 @@ pub fn take_key<S: RowSink>(
 }
 
 /// The key of a tracked variable, in a state of its type's release set, is gone.
-pub fn take_end<S: RowSink>(p: &Program, f: &Func, x: VarId, to: &mut S) -> Result<(), RowError>
+pub fn give_end<S: RowSink>(p: &Program, f: &Func, x: VarId, to: &mut S) -> Result<(), RowError>
     ensures { TookOrStopped S.takes S.stops (end_row (program_of p.now) (func_of f.now) x.0)
         to.old to.new result }
 {
     match f.reference(x) {
         None => Ok(()),
-        Some(r) => take_wanted(
+        Some(r) => give_wanted(
             to,
             Tok::Key(r.key),
             release_states(p, r.type_id),
@@ -141,11 +141,11 @@ pub fn take_end<S: RowSink>(p: &Program, f: &Func, x: VarId, to: &mut S) -> Resu
 }
 
 /// An owning variable's value is gone.
-pub fn take_empty<S: RowSink>(v: VarId, to: &mut S) -> Result<(), RowError>
+pub fn give_empty<S: RowSink>(v: VarId, to: &mut S) -> Result<(), RowError>
     ensures { TookOrStopped S.takes S.stops (empty_row v.0 ∷ [])
         to.old to.new result }
 {
-    take_row(
+    give_row(
         to,
         Row {
             tok: Tok::Var(v),
@@ -156,12 +156,12 @@ pub fn take_empty<S: RowSink>(v: VarId, to: &mut S) -> Result<(), RowError>
 }
 
 /// A variable is filled, if it is an owning one.
-pub fn take_fill<S: RowSink>(f: &Func, v: VarId, to: &mut S) -> Result<(), RowError>
+pub fn give_fill<S: RowSink>(f: &Func, v: VarId, to: &mut S) -> Result<(), RowError>
     ensures { TookOrStopped S.takes S.stops (fill_rows (func_of f.now) (v.0 ∷ []))
         to.old to.new result }
 {
     if f.is_owning_var(v) {
-        take_row(
+        give_row(
             to,
             Row {
                 tok: Tok::Var(v),
@@ -175,23 +175,23 @@ pub fn take_fill<S: RowSink>(f: &Func, v: VarId, to: &mut S) -> Result<(), RowEr
 }
 
 /// The owning ones of these variables are filled.
-pub fn take_fills<S: RowSink>(f: &Func, vs: &[VarId], to: &mut S) -> Result<(), RowError>
+pub fn give_fills<S: RowSink>(f: &Func, vs: &[VarId], to: &mut S) -> Result<(), RowError>
     ensures { TookOrStopped S.takes S.stops (fill_rows (func_of f.now) (vars_of vs.now))
         to.old to.new result }
 {
     for v in vs {
-        take_fill(f, *v, to)?;
+        give_fill(f, *v, to)?;
     }
     Ok(())
 }
 
 /// These tokens are absent.
-pub fn take_gone<S: RowSink>(toks: &[Tok], to: &mut S) -> Result<(), RowError>
+pub fn give_gone<S: RowSink>(toks: &[Tok], to: &mut S) -> Result<(), RowError>
     ensures { TookOrStopped S.takes S.stops (map away_row (toks_of toks.now))
         to.old to.new result }
 {
     for tok in toks {
-        take_row(
+        give_row(
             to,
             Row {
                 tok: *tok,

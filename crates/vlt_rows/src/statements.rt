@@ -15,10 +15,10 @@ ghost use Rattle.vlt_core.specs.Rows.{rows_of, simple_rows, arm_rows, focus_end_
 ghost use Rattle.vlt_rows.specs.Taking.{TookOrStopped};
 ghost use Rattle.vlt_rows.specs.Pieces.{unpacked_rows, case_rows, case_key_rows, switch_rows, focus_rows, own_rows};
 
-use crate::calls::take_call;
-use crate::expr::{take_expr, take_operand, take_operands};
+use crate::calls::give_call;
+use crate::expr::{give_expr, give_operand, give_operands};
 use crate::pieces::{
-    take_empty, take_end, take_fill, take_fills, take_key, take_left, take_row, take_touch,
+    give_empty, give_end, give_fill, give_fills, give_key, give_left, give_row, give_touch,
 };
 use crate::sink::{RowError, RowSink};
 use crate::states::{one_state, release_states};
@@ -34,7 +34,7 @@ fn only(s: u8) -> StateSet
 }
 
 /// `x.f = e;`
-fn take_put<S: RowSink>(
+fn give_put<S: RowSink>(
     p: &Program,
     f: &Func,
     x: VarId,
@@ -46,12 +46,12 @@ fn take_put<S: RowSink>(
         (simple_rows (program_of p.now) (func_of f.now)
         (put x.0 position (expr_of e.now))) to.old to.new result }
 {
-    take_expr(p, f, e, to)?;
-    take_touch(p, f, x, position, to)
+    give_expr(p, f, e, to)?;
+    give_touch(p, f, x, position, to)
 }
 
 /// A new object: its operands are gone, and its key is held in the first state.
-fn take_make<S: RowSink>(
+fn give_make<S: RowSink>(
     p: &Program,
     f: &Func,
     x: VarId,
@@ -62,24 +62,24 @@ fn take_make<S: RowSink>(
         (simple_rows (program_of p.now) (func_of f.now)
         (make x.0 (map operand_of args.now))) to.old to.new result }
 {
-    take_operands(p, f, args, to)?;
-    take_key(f, x, Wanted::Absent, After::Set(only(0)), to)
+    give_operands(p, f, args, to)?;
+    give_key(f, x, Wanted::Absent, After::Set(only(0)), to)
 }
 
 /// `become x@s;`
-fn take_become<S: RowSink>(f: &Func, x: VarId, state: u8, to: &mut S) -> Result<(), RowError>
+fn give_become<S: RowSink>(f: &Func, x: VarId, state: u8, to: &mut S) -> Result<(), RowError>
     ensures { TookOrStopped S.takes S.stops
         (key_row (func_of f.now) x.0 wants_held
         (becomes_held (λ s. s == state))) to.old to.new result }
 {
     match f.reference(x) {
         None => Ok(()),
-        Some(r) => take_left(to, Tok::Key(r.key), Wanted::Any, one_state(state)),
+        Some(r) => give_left(to, Tok::Key(r.key), Wanted::Any, one_state(state)),
     }
 }
 
 /// An owning variable is filled.
-fn take_own<S: RowSink>(
+fn give_own<S: RowSink>(
     p: &Program,
     f: &Func,
     v: VarId,
@@ -90,23 +90,23 @@ fn take_own<S: RowSink>(
         (simple_rows (program_of p.now) (func_of f.now)
         (own v.0 (operand_of value.now))) to.old to.new result }
 {
-    take_operand(p, f, value, to)?;
-    take_fill(f, v, to)
+    give_operand(p, f, value, to)?;
+    give_fill(f, v, to)
 }
 
 /// The object of an owning variable comes under a key.
-fn take_unpacked<S: RowSink>(f: &Func, x: VarId, v: VarId, to: &mut S) -> Result<(), RowError>
+fn give_unpacked<S: RowSink>(f: &Func, x: VarId, v: VarId, to: &mut S) -> Result<(), RowError>
     ensures { TookOrStopped S.takes S.stops
         (unpacked_rows (func_of f.now) x.0 v.0) to.old to.new result }
 {
     match f.owning_states(v) {
         None => Ok(()),
-        Some(states) => take_key(f, x, Wanted::Absent, After::Set(states), to),
+        Some(states) => give_key(f, x, Wanted::Absent, After::Set(states), to),
     }
 }
 
 /// `tracked(K) T x = v;`
-fn take_unpack<S: RowSink>(
+fn give_unpack<S: RowSink>(
     p: &Program,
     f: &Func,
     x: VarId,
@@ -116,12 +116,12 @@ fn take_unpack<S: RowSink>(
     ensures { TookOrStopped S.takes S.stops
         (simple_rows (program_of p.now) (func_of f.now) (unpack x.0 v.0)) to.old to.new result }
 {
-    take_empty(v, to)?;
-    take_unpacked(f, x, v, to)
+    give_empty(v, to)?;
+    give_unpacked(f, x, v, to)
 }
 
 /// A key of a case: its object goes into the variant, or comes out of it.
-fn take_case_key<S: RowSink>(
+fn give_case_key<S: RowSink>(
     args: &[KeyId],
     opens: bool,
     key: (u32, StateSet),
@@ -132,7 +132,7 @@ fn take_case_key<S: RowSink>(
 {
     match args.get(key.0 as usize) {
         None => Ok(()),
-        Some(k) if opens => take_row(
+        Some(k) if opens => give_row(
             to,
             Row {
                 tok: Tok::Key(*k),
@@ -140,7 +140,7 @@ fn take_case_key<S: RowSink>(
                 after: After::Set(key.1),
             },
         ),
-        Some(k) => take_row(
+        Some(k) => give_row(
             to,
             Row {
                 tok: Tok::Key(*k),
@@ -152,7 +152,7 @@ fn take_case_key<S: RowSink>(
 }
 
 /// The keys of a case.
-fn take_keys<S: RowSink>(
+fn give_keys<S: RowSink>(
     args: &[KeyId],
     opens: bool,
     keys: &[(u32, StateSet)],
@@ -163,13 +163,13 @@ fn take_keys<S: RowSink>(
         (map case_key_of keys.now)) to.old to.new result }
 {
     for key in keys {
-        take_case_key(args, opens, *key, to)?;
+        give_case_key(args, opens, *key, to)?;
     }
     Ok(())
 }
 
 /// The keys of a case of a variable's variant.
-fn take_case<S: RowSink>(
+fn give_case<S: RowSink>(
     p: &Program,
     f: &Func,
     v: VarId,
@@ -185,13 +185,13 @@ fn take_case<S: RowSink>(
         None => Ok(()),
         Some(t) => match p.case_at(t.type_id, case) {
             None => Ok(()),
-            Some(d) => take_keys(t.args, opens, d.keys.as_slice(), to),
+            Some(d) => give_keys(t.args, opens, d.keys.as_slice(), to),
         },
     }
 }
 
 /// `v = 'Case(..);`
-pub fn take_build<S: RowSink>(
+pub fn give_build<S: RowSink>(
     p: &Program,
     f: &Func,
     v: VarId,
@@ -203,13 +203,13 @@ pub fn take_build<S: RowSink>(
         (simple_rows (program_of p.now) (func_of f.now)
         (build v.0 case (map operand_of args.now))) to.old to.new result }
 {
-    take_operands(p, f, args, to)?;
-    take_case(p, f, v, case, false, to)?;
-    take_fill(f, v, to)
+    give_operands(p, f, args, to)?;
+    give_case(p, f, v, case, false, to)?;
+    give_fill(f, v, to)
 }
 
 /// `swap x.f, v;`
-fn take_swap<S: RowSink>(
+fn give_swap<S: RowSink>(
     p: &Program,
     f: &Func,
     x: VarId,
@@ -221,8 +221,8 @@ fn take_swap<S: RowSink>(
         (simple_rows (program_of p.now) (func_of f.now)
         (swap x.0 position v.0)) to.old to.new result }
 {
-    take_touch(p, f, x, position, to)?;
-    take_row(
+    give_touch(p, f, x, position, to)?;
+    give_row(
         to,
         Row {
             tok: Tok::Var(v),
@@ -233,7 +233,7 @@ fn take_swap<S: RowSink>(
 }
 
 /// `open x into (..);`
-fn take_open<S: RowSink>(
+fn give_open<S: RowSink>(
     p: &Program,
     f: &Func,
     x: VarId,
@@ -244,12 +244,12 @@ fn take_open<S: RowSink>(
         (simple_rows (program_of p.now) (func_of f.now)
         (open_into x.0 (vars_of vs.now))) to.old to.new result }
 {
-    take_end(p, f, x, to)?;
-    take_fills(f, vs, to)
+    give_end(p, f, x, to)?;
+    give_fills(f, vs, to)
 }
 
 /// `G:T y = adopt x into r;`
-pub fn take_adopt<S: RowSink>(
+pub fn give_adopt<S: RowSink>(
     p: &Program,
     f: &Func,
     y: VarId,
@@ -260,24 +260,24 @@ pub fn take_adopt<S: RowSink>(
     ensures { TookOrStopped S.takes S.stops
         (simple_rows (program_of p.now) (func_of f.now) (adopt y.0 x.0 r.0)) to.old to.new result }
 {
-    take_end(p, f, x, to)?;
-    take_key(f, r, Wanted::Any, After::Same, to)
+    give_end(p, f, x, to)?;
+    give_key(f, r, Wanted::Any, After::Same, to)
 }
 
 /// A switch on an owning variable empties it.
-pub fn take_switch<S: RowSink>(f: &Func, v: VarId, to: &mut S) -> Result<(), RowError>
+pub fn give_switch<S: RowSink>(f: &Func, v: VarId, to: &mut S) -> Result<(), RowError>
     ensures { TookOrStopped S.takes S.stops
         (switch_rows (func_of f.now) v.0) to.old to.new result }
 {
     if f.is_owning_var(v) {
-        take_empty(v, to)
+        give_empty(v, to)
     } else {
         Ok(())
     }
 }
 
 /// The rows of an arm, before its block.
-pub fn take_arm<S: RowSink>(
+pub fn give_arm<S: RowSink>(
     p: &Program,
     f: &Func,
     v: VarId,
@@ -289,12 +289,12 @@ pub fn take_arm<S: RowSink>(
         (arm_rows (program_of p.now) (func_of f.now) v.0 case
         (vars_of vs.now)) to.old to.new result }
 {
-    take_case(p, f, v, case, true, to)?;
-    take_fills(f, vs, to)
+    give_case(p, f, v, case, true, to)?;
+    give_fills(f, vs, to)
 }
 
 /// A row on the guard of a guarded variable.
-fn take_guard<S: RowSink>(
+fn give_guard<S: RowSink>(
     f: &Func,
     y: VarId,
     wanted: Wanted,
@@ -307,7 +307,7 @@ fn take_guard<S: RowSink>(
 {
     match f.guarded(y) {
         None => Ok(()),
-        Some(g) => take_row(
+        Some(g) => give_row(
             to,
             Row {
                 tok: Tok::Key(g.key),
@@ -319,14 +319,14 @@ fn take_guard<S: RowSink>(
 }
 
 /// The key that a focus binds is held in the release set.
-fn take_focused<S: RowSink>(p: &Program, f: &Func, z: VarId, to: &mut S) -> Result<(), RowError>
+fn give_focused<S: RowSink>(p: &Program, f: &Func, z: VarId, to: &mut S) -> Result<(), RowError>
     ensures { TookOrStopped S.takes S.stops
         (on_key (reference_of (func_of f.now) z.0) (λ r. row (a_key r.key) wants_absent
         (becomes_held (release_set (program_of p.now) r.type)))) to.old to.new result }
 {
     match f.reference(z) {
         None => Ok(()),
-        Some(r) => take_left(
+        Some(r) => give_left(
             to,
             Tok::Key(r.key),
             Wanted::Absent,
@@ -336,7 +336,7 @@ fn take_focused<S: RowSink>(p: &Program, f: &Func, z: VarId, to: &mut S) -> Resu
 }
 
 /// The rows of a focus, before its block.
-pub fn take_focus<S: RowSink>(
+pub fn give_focus<S: RowSink>(
     p: &Program,
     f: &Func,
     y: VarId,
@@ -346,12 +346,12 @@ pub fn take_focus<S: RowSink>(
     ensures { TookOrStopped S.takes S.stops
         (focus_rows (program_of p.now) (func_of f.now) y.0 z.0) to.old to.new result }
 {
-    take_guard(f, y, Wanted::Any, After::Lend, to)?;
-    take_focused(p, f, z, to)
+    give_guard(f, y, Wanted::Any, After::Lend, to)?;
+    give_focused(p, f, z, to)
 }
 
 /// The rows of a focus's end, behind those of its block's end.
-pub fn take_focus_end<S: RowSink>(
+pub fn give_focus_end<S: RowSink>(
     p: &Program,
     f: &Func,
     y: VarId,
@@ -361,35 +361,35 @@ pub fn take_focus_end<S: RowSink>(
     ensures { TookOrStopped S.takes S.stops
         (focus_end_rows (program_of p.now) (func_of f.now) y.0 z.0) to.old to.new result }
 {
-    take_end(p, f, z, to)?;
-    take_guard(f, y, Wanted::Lent, After::Unlend, to)
+    give_end(p, f, z, to)?;
+    give_guard(f, y, Wanted::Lent, After::Unlend, to)
 }
 
 /// The rows of a statement without blocks that goes on to the next one; none of any other.
-pub fn take_form<S: RowSink>(p: &Program, f: &Func, form: &Form, to: &mut S) -> Result<(), RowError>
+pub fn give_form<S: RowSink>(p: &Program, f: &Func, form: &Form, to: &mut S) -> Result<(), RowError>
     ensures { TookOrStopped S.takes S.stops
         (own_rows (program_of p.now) (func_of f.now) (form_of form.now)) to.old to.new result }
 {
     match form {
-        Form::Set { v: _, e } => take_expr(p, f, e, to),
-        Form::Print { e } => take_expr(p, f, e, to),
-        Form::Put { x, field, e } => take_put(p, f, *x, *field, e, to),
-        Form::New { x, args } => take_make(p, f, *x, args.as_slice(), to),
-        Form::Become { x, state } => take_become(f, *x, *state, to),
-        Form::Release { x } => take_end(p, f, *x, to),
-        Form::Drop { v } => take_empty(*v, to),
-        Form::Own { v, value } => take_own(p, f, *v, value, to),
-        Form::Unpack { x, v } => take_unpack(p, f, *x, *v, to),
-        Form::Build { v, case, args } => take_build(p, f, *v, *case, args.as_slice(), to),
+        Form::Set { v: _, e } => give_expr(p, f, e, to),
+        Form::Print { e } => give_expr(p, f, e, to),
+        Form::Put { x, field, e } => give_put(p, f, *x, *field, e, to),
+        Form::New { x, args } => give_make(p, f, *x, args.as_slice(), to),
+        Form::Become { x, state } => give_become(f, *x, *state, to),
+        Form::Release { x } => give_end(p, f, *x, to),
+        Form::Drop { v } => give_empty(*v, to),
+        Form::Own { v, value } => give_own(p, f, *v, value, to),
+        Form::Unpack { x, v } => give_unpack(p, f, *x, *v, to),
+        Form::Build { v, case, args } => give_build(p, f, *v, *case, args.as_slice(), to),
         Form::Call {
             f: g,
             target,
             keys,
             args,
-        } => take_call(p, f, *g, *target, keys.as_slice(), args.as_slice(), to),
-        Form::Swap { x, field, v } => take_swap(p, f, *x, *field, *v, to),
-        Form::Open { x, into } => take_open(p, f, *x, into.as_slice(), to),
-        Form::Adopt { y, x, r } => take_adopt(p, f, *y, *x, *r, to),
+        } => give_call(p, f, *g, *target, keys.as_slice(), args.as_slice(), to),
+        Form::Swap { x, field, v } => give_swap(p, f, *x, *field, *v, to),
+        Form::Open { x, into } => give_open(p, f, *x, into.as_slice(), to),
+        Form::Adopt { y, x, r } => give_adopt(p, f, *y, *x, *r, to),
         Form::Input { .. } => Ok(()),
         Form::If { .. } => Ok(()),
         Form::While { .. } => Ok(()),

@@ -10,9 +10,9 @@ ghost use Rattle.vlt_rows.specs.Pieces.{focus_rows};
 ghost use Rattle.vlt_rows.specs.Taking.{TookOrStopped};
 ghost use Rattle.vlt_rows.specs.Passing.{IsPassed, IsStopped, Steps};
 
-use crate::calls::take_call;
+use crate::calls::give_call;
 use crate::sink::RowError;
-use crate::statements::{take_adopt, take_arm, take_build, take_focus, take_focus_end};
+use crate::statements::{give_adopt, give_arm, give_build, give_focus, give_focus_end};
 use std::alloc::Global;
 use vlt_base::{FnId, KeyId, VarId};
 use vlt_core::{Func, Operand, Program};
@@ -49,7 +49,7 @@ pub fn apply_call(
         held.old held.new result }
 {
     let mut next = held.copy(alloc)?;
-    let passed = take_call(p, f, g, target, keys, args, &mut next);
+    let passed = give_call(p, f, g, target, keys, args, &mut next);
     settle(held, next, passed)
 }
 
@@ -67,7 +67,7 @@ pub fn pack_case(
         (build v.0 case (map operand_of args.now))) held.old held.new result }
 {
     let mut next = held.copy(alloc)?;
-    let passed = take_build(p, f, v, case, args, &mut next);
+    let passed = give_build(p, f, v, case, args, &mut next);
     settle(held, next, passed)
 }
 
@@ -85,7 +85,7 @@ pub fn open_case(
         held.old held.new result }
 {
     let mut next = held.copy(alloc)?;
-    let passed = take_arm(p, f, v, case, vs, &mut next);
+    let passed = give_arm(p, f, v, case, vs, &mut next);
     settle(held, next, passed)
 }
 
@@ -103,7 +103,7 @@ pub fn adopt(
         held.old held.new result }
 {
     let mut next = held.copy(alloc)?;
-    let passed = take_adopt(p, f, y, x, r, &mut next);
+    let passed = give_adopt(p, f, y, x, r, &mut next);
     settle(held, next, passed)
 }
 
@@ -120,7 +120,7 @@ pub fn focus_in(
         held.old held.new result }
 {
     let mut next = held.copy(alloc)?;
-    let passed = take_focus(p, f, y, z, &mut next);
+    let passed = give_focus(p, f, y, z, &mut next);
     settle(held, next, passed)
 }
 
@@ -137,6 +137,6 @@ pub fn focus_out(
         held.old held.new result }
 {
     let mut next = held.copy(alloc)?;
-    let passed = take_focus_end(p, f, y, z, &mut next);
+    let passed = give_focus_end(p, f, y, z, &mut next);
     settle(held, next, passed)
 }

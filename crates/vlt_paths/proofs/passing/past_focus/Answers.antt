@@ -2,4 +2,4 @@ use Rattle.vlt_paths.proofs.Taking.{all_past}
 use Rattle.vlt_paths.proofs.passing.past_focus.Goals as goal
 
 pub returns : goal.returns
-returns c = all_past _ _ _ _ c.take_focus-all.ensures
+returns c = all_past _ _ _ _ c.give_focus-all.ensures

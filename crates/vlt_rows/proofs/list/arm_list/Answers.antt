@@ -2,8 +2,8 @@ use Rattle.vlt_rows.proofs.Collected.{collected}
 use Rattle.vlt_rows.proofs.Fitting.{unlisted}
 use Rattle.vlt_rows.proofs.list.arm_list.Goals as goal
 
-pub returns-in_err-take_arm : goal.returns-in_err-take_arm
-returns-in_err-take_arm c = unlisted _ _ _ _ _ _ _ c.from_residual.ensures.1 c.in_err-take_arm.ensures
+pub returns-in_err-give_arm : goal.returns-in_err-give_arm
+returns-in_err-give_arm c = unlisted _ _ _ _ _ _ _ c.from_residual.ensures.1 c.in_err-give_arm.ensures
 
 pub returns : goal.returns
-returns c = collected _ _ _ c.new-list.ensures c.in_ok-take_arm.ensures
+returns c = collected _ _ _ c.new-list.ensures c.in_ok-give_arm.ensures

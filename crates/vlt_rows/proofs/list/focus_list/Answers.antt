@@ -2,8 +2,8 @@ use Rattle.vlt_rows.proofs.Collected.{collected}
 use Rattle.vlt_rows.proofs.Fitting.{unlisted}
 use Rattle.vlt_rows.proofs.list.focus_list.Goals as goal
 
-pub returns-in_err-take_focus : goal.returns-in_err-take_focus
-returns-in_err-take_focus c = unlisted _ _ _ _ _ _ _ c.from_residual.ensures.1 c.in_err-take_focus.ensures
+pub returns-in_err-give_focus : goal.returns-in_err-give_focus
+returns-in_err-give_focus c = unlisted _ _ _ _ _ _ _ c.from_residual.ensures.1 c.in_err-give_focus.ensures
 
 pub returns : goal.returns
-returns c = collected _ _ _ c.new-list.ensures c.in_ok-take_focus.ensures
+returns c = collected _ _ _ c.new-list.ensures c.in_ok-give_focus.ensures

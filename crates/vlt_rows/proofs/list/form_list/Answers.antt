@@ -2,8 +2,8 @@ use Rattle.vlt_rows.proofs.Collected.{collected}
 use Rattle.vlt_rows.proofs.Fitting.{unlisted}
 use Rattle.vlt_rows.proofs.list.form_list.Goals as goal
 
-pub returns-in_err-take_form : goal.returns-in_err-take_form
-returns-in_err-take_form c = unlisted _ _ _ _ _ _ _ c.from_residual.ensures.1 c.in_err-take_form.ensures
+pub returns-in_err-give_form : goal.returns-in_err-give_form
+returns-in_err-give_form c = unlisted _ _ _ _ _ _ _ c.from_residual.ensures.1 c.in_err-give_form.ensures
 
 pub returns : goal.returns
-returns c = collected _ _ _ c.new-list.ensures c.in_ok-take_form.ensures
+returns c = collected _ _ _ c.new-list.ensures c.in_ok-give_form.ensures

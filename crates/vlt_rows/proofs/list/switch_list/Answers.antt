@@ -2,8 +2,8 @@ use Rattle.vlt_rows.proofs.Collected.{collected}
 use Rattle.vlt_rows.proofs.Fitting.{unlisted}
 use Rattle.vlt_rows.proofs.list.switch_list.Goals as goal
 
-pub returns-in_err-take_switch : goal.returns-in_err-take_switch
-returns-in_err-take_switch c = unlisted _ _ _ _ _ _ _ c.from_residual.ensures.1 c.in_err-take_switch.ensures
+pub returns-in_err-give_switch : goal.returns-in_err-give_switch
+returns-in_err-give_switch c = unlisted _ _ _ _ _ _ _ c.from_residual.ensures.1 c.in_err-give_switch.ensures
 
 pub returns : goal.returns
-returns c = collected _ _ _ c.new-list.ensures c.in_ok-take_switch.ensures
+returns c = collected _ _ _ c.new-list.ensures c.in_ok-give_switch.ensures

@@ -2,4 +2,4 @@ use Rattle.vlt_rows.proofs.Stepping.{of_copy}
 use Rattle.vlt_rows.proofs.steps.apply_call.Goals as goal
 
 pub returns : goal.returns
-returns c = c.settle.ensures _ (of_copy _ _ _ _ c.take_call-passed.ensures _ c.in_ok-next.ensures)
+returns c = c.settle.ensures _ (of_copy _ _ _ _ c.give_call-passed.ensures _ c.in_ok-next.ensures)
