@@ -25,11 +25,11 @@ use vlt_base::Items;
 use vlt_core::{Func, TypeDecl};
 use vlt_kinds_decls::{Declared, check_types, core_types};
 use vlt_kinds_heads::check_heads;
-use vlt_kinds_types::{File, Found, check_names, file_of};
+use vlt_kinds_types::{File, LeastRefusal, check_names, file_of};
 use vlt_syntax::Decl;
 
 /// Nothing, unless something was refused.
-fn told(found: Found) -> Result<(), KindError>
+fn told(found: LeastRefusal) -> Result<(), KindError>
     ensures ok { IfOk result (λ _. found.least ≡ None) }
     ensures refused { OnRefused result (λ x. found.least ≡ Some x) }
 {
@@ -52,7 +52,7 @@ fn file_table<'a>(alloc: Global, decls: &'a [Decl]) -> Result<File<'a>, KindErro
     ensures refused { OnRefused result (λ x. least (names_refused (map view.decl_of decls.now))
         ≡ Some x) }
 {
-    let mut found = Found { least: None };
+    let mut found = LeastRefusal { least: None };
     let globals = check_names(alloc, decls, &mut found)?;
     told(found)?;
     let file = file_of(alloc, globals, decls)?;
@@ -70,7 +70,7 @@ fn type_table(alloc: Global, file: &File<'_>, decls: &[Decl]) -> Result<Items<Ty
     ensures refused { OnRefused result
         (λ x. least (types_refused (file_seen file.now) (map view.decl_of decls.now)) ≡ Some x) }
 {
-    let mut found = Found { least: None };
+    let mut found = LeastRefusal { least: None };
     check_types(alloc, file, decls, &mut found)?;
     told(found)?;
     let types = core_types(alloc, file, decls)?;
@@ -92,7 +92,7 @@ fn head_table(
     ensures refused { OnRefused result (λ x. least (heads_refused (file_seen file.now)
         (map core_view.type_of types.now) (map view.decl_of decls.now)) ≡ Some x) }
 {
-    let mut found = Found { least: None };
+    let mut found = LeastRefusal { least: None };
     let heads = check_heads(alloc, file, types, decls, &mut found)?;
     told(found)?;
     Ok(heads)

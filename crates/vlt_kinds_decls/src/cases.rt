@@ -13,7 +13,7 @@ use crate::header::{check_header, check_typed, header_position, wanted_of};
 use crate::parts::Part;
 use std::alloc::{AllocError, Global};
 use vlt_base::Items;
-use vlt_kinds_types::{File, Found, Wanted, add_listed, rules};
+use vlt_kinds_types::{File, LeastRefusal, Wanted, add_listed, rules};
 use vlt_syntax::{Case, HeaderKey, KeyStates, States, Ty};
 
 fn is_any(wanted: Option<Wanted>) -> bool
@@ -27,7 +27,7 @@ fn check_object_states(
     file: &File<'_>,
     wanted: Option<Wanted>,
     states: &Option<States>,
-    found: &mut Found,
+    found: &mut LeastRefusal,
 ) -> Result<(), AllocError>
     ensures { OnOk result (found.new.least ≡ least_from found.old.least
         (d.object_states_refused (file_seen file.now) wanted
@@ -51,7 +51,7 @@ fn check_case_key(
     params: &[HeaderKey],
     is_wrong: bool,
     key: &KeyStates,
-    found: &mut Found,
+    found: &mut LeastRefusal,
 ) -> Result<(), AllocError>
     ensures { OnOk result (found.new.least ≡ least_from found.old.least
         (d.case_key_refused (file_seen file.now) (map view.header_key_of params.now) is_wrong
@@ -72,7 +72,7 @@ fn check_next_key(
     params: &[HeaderKey],
     seen: &mut Items<u8>,
     key: &KeyStates,
-    found: &mut Found,
+    found: &mut LeastRefusal,
 ) -> Result<(), AllocError>
     requires few { length params.now ≤ 32 }
     requires seen { All (λ i. i < 32) seen.old }
@@ -93,7 +93,7 @@ fn check_case_keys(
     file: &File<'_>,
     params: &[HeaderKey],
     keys: &[KeyStates],
-    found: &mut Found,
+    found: &mut LeastRefusal,
 ) -> Result<(), AllocError>
     requires { length params.now ≤ 32 }
     ensures { OnOk result (found.new.least ≡ found_along
@@ -113,7 +113,7 @@ fn check_payload(
     file: &File<'_>,
     params: &[HeaderKey],
     payload: &[Ty],
-    found: &mut Found,
+    found: &mut LeastRefusal,
 ) -> Result<(), AllocError>
     ensures { OnOk result (found.new.least ≡ found_each (d.typed_refused (file_seen file.now)
         (map view.header_key_of params.now) part.Payload)
@@ -131,7 +131,7 @@ fn check_case(
     file: &File<'_>,
     params: &[HeaderKey],
     case: &Case,
-    found: &mut Found,
+    found: &mut LeastRefusal,
 ) -> Result<(), AllocError>
     requires { length params.now ≤ 32 }
     ensures { OnOk result (found.new.least ≡ least_from found.old.least
@@ -148,7 +148,7 @@ fn check_cases(
     file: &File<'_>,
     params: &[HeaderKey],
     cases: &[Case],
-    found: &mut Found,
+    found: &mut LeastRefusal,
 ) -> Result<(), AllocError>
     requires { length params.now ≤ 32 }
     ensures { OnOk result (found.new.least ≡ found_each (d.case_refused (file_seen file.now)
@@ -167,7 +167,7 @@ pub fn check_variant(
     file: &File<'_>,
     params: &[HeaderKey],
     cases: &[Case],
-    found: &mut Found,
+    found: &mut LeastRefusal,
 ) -> Result<(), AllocError>
     requires { length params.now ≤ 32 }
     ensures { OnOk result (found.new.least ≡ least_from found.old.least

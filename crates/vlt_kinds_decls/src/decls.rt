@@ -11,14 +11,14 @@ ghost use Rattle.vlt_kinds_decls.specs.Decls as d;
 use crate::cases::check_variant;
 use crate::fields::check_struct;
 use std::alloc::{AllocError, Global};
-use vlt_kinds_types::{File, Found};
+use vlt_kinds_types::{File, LeastRefusal};
 use vlt_syntax::Decl;
 
 fn check_decl(
     alloc: Global,
     file: &File<'_>,
     decl: &Decl,
-    found: &mut Found,
+    found: &mut LeastRefusal,
 ) -> Result<(), AllocError>
     requires { IsDecl language (view.decl_of decl.now) }
     ensures { OnOk result (found.new.least ≡ least_from found.old.least
@@ -53,7 +53,7 @@ fn check_decls(
     alloc: Global,
     file: &File<'_>,
     decls: &[Decl],
-    found: &mut Found,
+    found: &mut LeastRefusal,
 ) -> Result<(), AllocError>
     requires { Each (IsDecl language) (map view.decl_of decls.now) }
     ensures { OnOk result (found.new.least ≡ found_each (d.type_refused (file_seen file.now))
@@ -71,7 +71,7 @@ pub fn check_types(
     alloc: Global,
     file: &File<'_>,
     decls: &[Decl],
-    found: &mut Found,
+    found: &mut LeastRefusal,
 ) -> Result<(), AllocError>
     requires { Each (IsDecl language) (map view.decl_of decls.now) }
     ensures { OnOk result (found.new.least ≡ least_from found.old.least

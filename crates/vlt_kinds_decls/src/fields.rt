@@ -9,7 +9,7 @@ ghost use Rattle.vlt_kinds_decls.specs.Decls as d;
 use crate::header::{check_header, check_typed};
 use crate::parts::Part;
 use std::alloc::{AllocError, Global};
-use vlt_kinds_types::{File, Found, StateNames, check_states};
+use vlt_kinds_types::{File, LeastRefusal, StateNames, check_states};
 use vlt_syntax::{Field, HeaderKey, Name, States};
 
 #[tactic(auto, using(vlt_kinds_types::proofs::OfNames::Least::least_of_both), unfolding(crate::specs::Decls::field_refused))]
@@ -19,7 +19,7 @@ fn check_field(
     params: &[HeaderKey],
     known: &StateNames<'_>,
     field: &Field,
-    found: &mut Found,
+    found: &mut LeastRefusal,
 ) -> Result<(), AllocError>
     ensures { OnOk result (found.new.least ≡ least_from found.old.least
         (d.field_refused (file_seen file.now) (map view.header_key_of params.now)
@@ -36,7 +36,7 @@ fn check_fields(
     params: &[HeaderKey],
     known: &StateNames<'_>,
     fields: &[Field],
-    found: &mut Found,
+    found: &mut LeastRefusal,
 ) -> Result<(), AllocError>
     ensures { OnOk result (found.new.least ≡ found_each (d.field_refused (file_seen file.now)
         (map view.header_key_of params.now) (states_seen known.now))
@@ -57,7 +57,7 @@ pub fn check_struct(
     params: &[HeaderKey],
     fields: &[Field],
     release: &Option<States>,
-    found: &mut Found,
+    found: &mut LeastRefusal,
 ) -> Result<(), AllocError>
     ensures { OnOk result (found.new.least ≡ least_from found.old.least
         (d.struct_refused (file_seen file.now) (view.name_of name.now)

@@ -13,7 +13,7 @@ use crate::parts::Part;
 use std::alloc::{AllocError, Global};
 use vlt_base::Items;
 use vlt_kinds_types::{
-    File, Found, Globals, KeyUse, Sort, Wanted, rules, sort_in, ty_place, wanted_in,
+    File, LeastRefusal, Globals, KeyUse, Sort, Wanted, rules, sort_in, ty_place, wanted_in,
 };
 use vlt_syntax::{HeaderKey, Name, Ty};
 
@@ -44,7 +44,7 @@ pub fn wanted_of(known: &Globals<'_>, params: &[HeaderKey], key: &[u8]) -> Optio
     None
 }
 
-fn check_key_type(file: &File<'_>, key_type: &Option<Name>, found: &mut Found)
+fn check_key_type(file: &File<'_>, key_type: &Option<Name>, found: &mut LeastRefusal)
     ensures { found.new.least ≡ least_from found.old.least
         (d.key_type_refused (file_seen file.now) (option_map view.name_of key_type.now)) }
 {
@@ -58,7 +58,7 @@ fn check_key_type(file: &File<'_>, key_type: &Option<Name>, found: &mut Found)
 }
 
 #[tactic(auto, unfolding(crate::specs::Decls::header_refused))]
-fn check_header_key(file: &File<'_>, param: &HeaderKey, found: &mut Found)
+fn check_header_key(file: &File<'_>, param: &HeaderKey, found: &mut LeastRefusal)
     ensures { found.new.least ≡ least_from found.old.least
         (d.header_refused (file_seen file.now) (view.header_key_of param.now)) }
 {
@@ -66,7 +66,7 @@ fn check_header_key(file: &File<'_>, param: &HeaderKey, found: &mut Found)
 }
 
 /// Refuses what is no type of an object in a header.
-pub fn check_header(file: &File<'_>, params: &[HeaderKey], found: &mut Found)
+pub fn check_header(file: &File<'_>, params: &[HeaderKey], found: &mut LeastRefusal)
     ensures { found.new.least
         ≡ found_each (d.header_refused (file_seen file.now))
         (map view.header_key_of params.now) found.old.least }
@@ -87,7 +87,7 @@ fn disagrees(has: Wanted, wants: Wanted) -> bool
 }
 
 #[tactic(auto, unfolding(crate::specs::Decls::use_refused))]
-fn check_use(file: &File<'_>, params: &[HeaderKey], place: &KeyUse<'_>, found: &mut Found)
+fn check_use(file: &File<'_>, params: &[HeaderKey], place: &KeyUse<'_>, found: &mut LeastRefusal)
     ensures { found.new.least ≡ least_from found.old.least
         (d.use_refused (names_seen file.now.globals) (map view.header_key_of params.now)
         (use_seen place.now)) }
@@ -101,7 +101,7 @@ fn check_use(file: &File<'_>, params: &[HeaderKey], place: &KeyUse<'_>, found: &
     }
 }
 
-fn check_uses(file: &File<'_>, params: &[HeaderKey], uses: &[KeyUse<'_>], found: &mut Found)
+fn check_uses(file: &File<'_>, params: &[HeaderKey], uses: &[KeyUse<'_>], found: &mut LeastRefusal)
     ensures { found.new.least ≡ found_each (d.use_refused (names_seen file.now.globals)
         (map view.header_key_of params.now)) (map use_seen uses.now) found.old.least }
 {
@@ -132,7 +132,7 @@ fn is_wrong_payload(ty: &Ty, sort: Option<Sort>) -> bool
     }
 }
 
-fn check_part(part: Part, ty: &Ty, sort: Option<Sort>, found: &mut Found)
+fn check_part(part: Part, ty: &Ty, sort: Option<Sort>, found: &mut LeastRefusal)
     ensures { found.new.least ≡ least_from found.old.least
         (d.part_refused part (view.ty_of ty.now) sort) }
 {
@@ -154,7 +154,7 @@ pub fn check_typed(
     params: &[HeaderKey],
     part: Part,
     ty: &Ty,
-    found: &mut Found,
+    found: &mut LeastRefusal,
 ) -> Result<(), AllocError>
     ensures { OnOk result (found.new.least ≡ least_from found.old.least
         (d.typed_refused (file_seen file.now) (map view.header_key_of params.now) part

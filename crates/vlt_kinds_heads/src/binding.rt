@@ -13,7 +13,7 @@ use crate::names::HeadName;
 use indexmap::IndexMap;
 use std::alloc::{AllocError, Global};
 use vlt_core::rules;
-use vlt_kinds_types::{Found, Globals};
+use vlt_kinds_types::{LeastRefusal, Globals};
 
 /// The names so far, each with whether it stands for keys alone.
 #[derive(Drop)]
@@ -50,7 +50,7 @@ impl<'a> Names<'a> {
     }
 
     #[tactic(auto, unfolding(crate::specs::Heads::name_refused))]
-    fn check(&self, known: &Globals<'_>, name: &HeadName<'_>, found: &mut Found)
+    fn check(&self, known: &Globals<'_>, name: &HeadName<'_>, found: &mut LeastRefusal)
         ensures { found.new.least ≡ least_from found.old.least
             (h.name_refused (names_seen known.now) (table_seen self.now.seen.entries)
             (name_seen name.now)) }
@@ -65,7 +65,7 @@ pub fn check_names(
     alloc: Global,
     known: &Globals<'_>,
     names: &[HeadName<'_>],
-    found: &mut Found,
+    found: &mut LeastRefusal,
 ) -> Result<(), AllocError>
     ensures { OnOk result (found.new.least ≡ found_along h.with_name
         (h.name_refused (names_seen known.now)) [] (map name_seen names.now) found.old.least) }

@@ -13,7 +13,7 @@ use crate::keys::HeadKeys;
 use crate::places::{clause_in, entry_key, first_states, is_fresh, second_states};
 use std::alloc::{AllocError, Global};
 use vlt_core::rules;
-use vlt_kinds_types::{File, Found};
+use vlt_kinds_types::{File, LeastRefusal};
 use vlt_syntax::{Entry, Head, Name, ResultType, States, Ty};
 
 /// The name of the function that a program begins with.
@@ -25,7 +25,7 @@ fn is_fresh_result(facts: &Facts) -> bool
     facts.is_result_key && !facts.in_result_again && !facts.in_parameters && !facts.in_clause_again
 }
 
-fn check_entry_key(facts: &Facts, is_fresh: bool, at: u32, found: &mut Found)
+fn check_entry_key(facts: &Facts, is_fresh: bool, at: u32, found: &mut LeastRefusal)
     ensures { found.new.least ≡ least_from found.old.least
         (h.entry_key_refused facts.now is_fresh at) }
 {
@@ -53,7 +53,7 @@ fn check_key_states(
     file: &File<'_>,
     facts: &Facts,
     states: Option<&States>,
-    found: &mut Found,
+    found: &mut LeastRefusal,
 ) -> Result<(), AllocError>
     ensures { OnOk result (found.new.least ≡ least_from found.old.least
         (h.key_states_refused (file_seen file.now) facts.now facts.now.typing
@@ -81,7 +81,7 @@ fn check_entry_states(
     file: &File<'_>,
     facts: &Facts,
     entry: &Entry,
-    found: &mut Found,
+    found: &mut LeastRefusal,
 ) -> Result<(), AllocError>
     ensures { OnOk result (found.new.least ≡ least_from found.old.least
         (h.entry_states_refused (file_seen file.now) facts.now (view.entry_of entry.now))) }
@@ -97,7 +97,7 @@ fn check_entry(
     file: &File<'_>,
     keys: &HeadKeys<'_>,
     entry: &Entry,
-    found: &mut Found,
+    found: &mut LeastRefusal,
 ) -> Result<(), AllocError>
     ensures { OnOk result (found.new.least ≡ least_from found.old.least
         (h.entry_refused (file_seen file.now) (keys_seen keys.now) (view.entry_of entry.now))) }
@@ -115,7 +115,7 @@ pub fn check_entries(
     file: &File<'_>,
     keys: &HeadKeys<'_>,
     clause: &[Entry],
-    found: &mut Found,
+    found: &mut LeastRefusal,
 ) -> Result<(), AllocError>
     ensures { OnOk result (found.new.least ≡ found_each
         (h.entry_refused (file_seen file.now) (keys_seen keys.now))
@@ -159,7 +159,7 @@ fn is_main_clause(result_type: &ResultType, clause: &[Entry]) -> bool
 
 /// Refuses a `main` that a program can't begin with.
 #[tactic(auto, unfolding(crate::specs::Heads::main_refused))]
-pub fn check_main(head: &Head, found: &mut Found)
+pub fn check_main(head: &Head, found: &mut LeastRefusal)
     ensures { found.new.least ≡ least_from found.old.least
         (h.main_refused (view.head_of head.now)) }
 {

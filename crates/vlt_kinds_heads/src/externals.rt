@@ -18,7 +18,7 @@ use crate::places::{clause_in, entry_key, is_fresh};
 use std::alloc::AllocError;
 use vlt_base::StateSet;
 use vlt_core::{CaseDecl, Ty, TypeDecl, rules};
-use vlt_kinds_types::{File, Found, Shape, Sort, sort_in, ty_place};
+use vlt_kinds_types::{File, LeastRefusal, Shape, Sort, sort_in, ty_place};
 use vlt_syntax::{Entry, Head, Name, Named, Parameter, ResultType};
 
 fn is_wrong_parameter(ty: &vlt_syntax::Ty, sort: Option<Sort>) -> bool
@@ -32,7 +32,7 @@ fn is_wrong_parameter(ty: &vlt_syntax::Ty, sort: Option<Sort>) -> bool
 }
 
 #[tactic(auto, unfolding(crate::specs::Externals::host_parameter_refused))]
-fn check_parameter(file: &File<'_>, parameter: &Parameter, found: &mut Found)
+fn check_parameter(file: &File<'_>, parameter: &Parameter, found: &mut LeastRefusal)
     ensures { found.new.least ≡ least_from found.old.least
         (e.host_parameter_refused (file_seen file.now) (view.parameter_of parameter.now)) }
 {
@@ -41,7 +41,7 @@ fn check_parameter(file: &File<'_>, parameter: &Parameter, found: &mut Found)
     found.add_if(broken, rules::EXTERN_HEAD, ty_place(ty));
 }
 
-fn check_parameters(file: &File<'_>, parameters: &[Parameter], found: &mut Found)
+fn check_parameters(file: &File<'_>, parameters: &[Parameter], found: &mut LeastRefusal)
     ensures { found.new.least ≡ found_each (e.host_parameter_refused (file_seen file.now))
         (map view.parameter_of parameters.now) found.old.least }
 {
@@ -197,7 +197,7 @@ impl HeadKeys<'_> {
         cases: &[CaseDecl],
         position: u32,
         key: &Name,
-        found: &mut Found,
+        found: &mut LeastRefusal,
     ) -> Result<(), AllocError>
         ensures { OnOk result (found.new.least
             ≡ least_from found.old.least (e.case_argument_refused (keys_seen self.now)
@@ -213,7 +213,7 @@ impl HeadKeys<'_> {
         &self,
         cases: &[CaseDecl],
         args: &[Name],
-        found: &mut Found,
+        found: &mut LeastRefusal,
     ) -> Result<(), AllocError>
         ensures { OnOk result (found.new.least
             ≡ found_along e.next_position (e.case_argument_refused (keys_seen self.now)
@@ -229,7 +229,7 @@ impl HeadKeys<'_> {
     }
 
     #[tactic(auto, unfolding(crate::specs::Externals::host_entry_refused))]
-    fn check_host_entry(&self, entry: &Entry, found: &mut Found) -> Result<(), AllocError>
+    fn check_host_entry(&self, entry: &Entry, found: &mut LeastRefusal) -> Result<(), AllocError>
         ensures { OnOk result (found.new.least ≡ least_from found.old.least
             (e.host_entry_refused (keys_seen self.now) (view.entry_of entry.now))) }
     {
@@ -240,7 +240,7 @@ impl HeadKeys<'_> {
         Ok(())
     }
 
-    fn check_host_entries(&self, clause: &[Entry], found: &mut Found) -> Result<(), AllocError>
+    fn check_host_entries(&self, clause: &[Entry], found: &mut LeastRefusal) -> Result<(), AllocError>
         ensures { OnOk result (found.new.least
             ≡ found_each (e.host_entry_refused (keys_seen self.now))
             (map view.entry_of clause.now) found.old.least) }
@@ -258,7 +258,7 @@ fn check_fitting(
     types: &[TypeDecl],
     keys: &HeadKeys<'_>,
     named: &Named,
-    found: &mut Found,
+    found: &mut LeastRefusal,
 ) -> Result<(), AllocError>
     ensures { OnOk result (found.new.least ≡ least_from found.old.least
         (e.fitting_refused (file_seen file.now) (map core_view.type_of types.now)
@@ -275,7 +275,7 @@ fn check_arguments(
     types: &[TypeDecl],
     keys: &HeadKeys<'_>,
     named: &Named,
-    found: &mut Found,
+    found: &mut LeastRefusal,
 ) -> Result<(), AllocError>
     ensures { OnOk result (found.new.least ≡ least_from found.old.least
         (e.arguments_refused (file_seen file.now) (map core_view.type_of types.now)
@@ -302,7 +302,7 @@ fn check_result_arguments(
     types: &[TypeDecl],
     keys: &HeadKeys<'_>,
     ty: &vlt_syntax::Ty,
-    found: &mut Found,
+    found: &mut LeastRefusal,
 ) -> Result<(), AllocError>
     ensures { OnOk result (found.new.least ≡ least_from found.old.least
         (e.result_arguments_refused (file_seen file.now) (map core_view.type_of types.now)
@@ -321,7 +321,7 @@ fn check_host_type(
     types: &[TypeDecl],
     keys: &HeadKeys<'_>,
     ty: &vlt_syntax::Ty,
-    found: &mut Found,
+    found: &mut LeastRefusal,
 ) -> Result<(), AllocError>
     ensures { OnOk result (found.new.least ≡ least_from found.old.least
         (e.host_ty_refused (file_seen file.now) (map core_view.type_of types.now)
@@ -338,7 +338,7 @@ fn check_host_result(
     types: &[TypeDecl],
     keys: &HeadKeys<'_>,
     result_type: &ResultType,
-    found: &mut Found,
+    found: &mut LeastRefusal,
 ) -> Result<(), AllocError>
     ensures { OnOk result (found.new.least ≡ least_from found.old.least
         (e.host_result_refused (file_seen file.now) (map core_view.type_of types.now)
@@ -357,7 +357,7 @@ pub fn check_external(
     types: &[TypeDecl],
     head: &Head,
     keys: &HeadKeys<'_>,
-    found: &mut Found,
+    found: &mut LeastRefusal,
 ) -> Result<(), AllocError>
     ensures { OnOk result (found.new.least ≡ least_from found.old.least
         (e.external_refused (file_seen file.now) (map core_view.type_of types.now)

@@ -22,14 +22,14 @@ use indexmap::IndexMap;
 use std::alloc::{AllocError, Global};
 use vlt_base::Items;
 use vlt_core::{Func, TypeDecl};
-use vlt_kinds_types::{File, Found, KeyUse};
+use vlt_kinds_types::{File, LeastRefusal, KeyUse};
 use vlt_syntax::{Decl, Entry, Head, Parameter, ResultType};
 
 fn check_result_type(
     alloc: Global,
     file: &File<'_>,
     result_type: &ResultType,
-    found: &mut Found,
+    found: &mut LeastRefusal,
 ) -> Result<(), AllocError>
     ensures { OnOk result (found.new.least ≡ least_from found.old.least
         (h.result_type_refused (file_seen file.now) (view.result_type_of result_type.now))) }
@@ -44,7 +44,7 @@ fn check_parameter_types(
     alloc: Global,
     file: &File<'_>,
     parameters: &[Parameter],
-    found: &mut Found,
+    found: &mut LeastRefusal,
 ) -> Result<(), AllocError>
     ensures { OnOk result (found.new.least ≡ found_each (h.parameter_refused (file_seen file.now))
         (map view.parameter_of parameters.now) found.old.least) }
@@ -60,7 +60,7 @@ fn check_types(
     alloc: Global,
     file: &File<'_>,
     head: &Head,
-    found: &mut Found,
+    found: &mut LeastRefusal,
 ) -> Result<(), AllocError>
     ensures { OnOk result (found.new.least ≡ least_from found.old.least
         (h.types_refused (file_seen file.now) (view.head_of head.now))) }
@@ -75,7 +75,7 @@ fn check_head_names(
     alloc: Global,
     file: &File<'_>,
     head: &Head,
-    found: &mut Found,
+    found: &mut LeastRefusal,
 ) -> Result<(), AllocError>
     ensures { OnOk result (found.new.least ≡ least_from found.old.least
         (h.names_refused (file_seen file.now).globals
@@ -93,7 +93,7 @@ fn note_places<'a>(
     results: &[KeyUse<'a>],
     parameters: &[KeyUse<'a>],
     clause: &'a [Entry],
-    found: &mut Found,
+    found: &mut LeastRefusal,
 ) -> Result<HeadKeys<'a>, AllocError>
     ensures keys { IfOk result (λ keys. keys_seen keys
         ≡ k.places_behind (map use_seen results.now) (map use_seen parameters.now)
@@ -118,7 +118,7 @@ impl<'a> HeadKeys<'a> {
         &mut self,
         results: &[KeyUse<'a>],
         parameters: &[KeyUse<'a>],
-        found: &mut Found,
+        found: &mut LeastRefusal,
     ) -> Result<(), AllocError>
         ensures keys { OnOk result (keys_seen self.new
             ≡ k.typed_keys (keys_seen self.old) (map use_seen results.now)
@@ -133,7 +133,7 @@ impl<'a> HeadKeys<'a> {
     }
 
     #[tactic(auto, using(vlt_kinds_types::proofs::OfNames::Least::least_of_both, vlt_kinds_types::proofs::OfNames::Least::each_is), unfolding(crate::specs::Heads::result_refused))]
-    fn check_result(&self, results: &[KeyUse<'_>], found: &mut Found) -> Result<(), AllocError>
+    fn check_result(&self, results: &[KeyUse<'_>], found: &mut LeastRefusal) -> Result<(), AllocError>
         ensures { OnOk result (found.new.least ≡ least_from found.old.least
             (h.result_refused (keys_seen self.now) (map use_seen results.now))) }
     {
@@ -151,7 +151,7 @@ fn check_head_by<'a>(
     head: &'a Head,
     results: &[KeyUse<'a>],
     parameters: &[KeyUse<'a>],
-    found: &mut Found,
+    found: &mut LeastRefusal,
 ) -> Result<HeadKeys<'a>, AllocError>
     ensures keys { IfOk result (λ keys. keys_seen keys ≡ k.keys_behind (map use_seen results.now)
         (map use_seen parameters.now) (p.clause_in (view.head_of head.now).clause)) }
@@ -174,7 +174,7 @@ fn check_head<'a>(
     alloc: Global,
     file: &File<'_>,
     head: &'a Head,
-    found: &mut Found,
+    found: &mut LeastRefusal,
 ) -> Result<HeadKeys<'a>, AllocError>
     ensures keys { IfOk result (λ keys. keys_seen keys
         ≡ k.keys_of (file_seen file.now) (view.head_of head.now)) }
@@ -199,7 +199,7 @@ fn check_extern<'a>(
     file: &File<'_>,
     types: &[TypeDecl],
     head: &'a Head,
-    found: &mut Found,
+    found: &mut LeastRefusal,
 ) -> Result<HeadKeys<'a>, AllocError>
     ensures keys { IfOk result (λ keys. keys_seen keys
         ≡ k.keys_of (file_seen file.now) (view.head_of head.now)) }
@@ -236,7 +236,7 @@ fn add_head(
     types: &[TypeDecl],
     decl: &Decl,
     heads: &mut Items<Func>,
-    found: &mut Found,
+    found: &mut LeastRefusal,
 ) -> Result<(), AllocError>
     requires { IsDecl language (view.decl_of decl.now) }
     ensures heads { OnOk result (map core_view.func_of heads.new
@@ -264,7 +264,7 @@ fn add_heads(
     file: &File<'_>,
     types: &[TypeDecl],
     decls: &[Decl],
-    found: &mut Found,
+    found: &mut LeastRefusal,
 ) -> Result<Items<Func>, AllocError>
     requires { Each (IsDecl language) (map view.decl_of decls.now) }
     ensures heads { IfOk result (λ heads. map core_view.func_of heads
@@ -287,7 +287,7 @@ pub fn check_heads(
     file: &File<'_>,
     types: &[TypeDecl],
     decls: &[Decl],
-    found: &mut Found,
+    found: &mut LeastRefusal,
 ) -> Result<Items<Func>, AllocError>
     requires { Each (IsDecl language) (map view.decl_of decls.now) }
     ensures heads { IfOk result (λ heads. map core_view.func_of heads

@@ -14,7 +14,7 @@ use crate::keys::HeadKeys;
 use crate::places::entry_key;
 use std::alloc::AllocError;
 use vlt_core::rules;
-use vlt_kinds_types::{Found, KeyUse, Wanted};
+use vlt_kinds_types::{LeastRefusal, KeyUse, Wanted};
 use vlt_syntax::Entry;
 
 fn type_rule(is_tracked: bool) -> u8
@@ -32,7 +32,7 @@ fn check_clash_with(
     wanted: Wanted,
     is_tracked: bool,
     at: u32,
-    found: &mut Found,
+    found: &mut LeastRefusal,
 )
     ensures { found.new.least ≡ least_from found.old.least
         (h.clash_with had wanted is_tracked at) }
@@ -59,7 +59,7 @@ fn check_result_clash_with(
     wanted: Wanted,
     is_tracked: bool,
     at: u32,
-    found: &mut Found,
+    found: &mut LeastRefusal,
 )
     ensures { found.new.least ≡ least_from found.old.least
         (h.result_clash_with facts.now facts.now.typing wanted is_tracked at) }
@@ -78,7 +78,7 @@ fn check_result_clash_with(
 
 impl<'a> HeadKeys<'a> {
     #[tactic(auto, unfolding(crate::specs::Heads::clash))]
-    fn check_clash(&self, place: &KeyUse<'_>, found: &mut Found) -> Result<(), AllocError>
+    fn check_clash(&self, place: &KeyUse<'_>, found: &mut LeastRefusal) -> Result<(), AllocError>
         ensures { OnOk result (found.new.least ≡ least_from found.old.least
             (h.clash (keys_seen self.now) (use_seen place.now))) }
     {
@@ -91,7 +91,7 @@ impl<'a> HeadKeys<'a> {
     pub fn check_parameters(
         &mut self,
         uses: &[KeyUse<'a>],
-        found: &mut Found,
+        found: &mut LeastRefusal,
     ) -> Result<(), AllocError>
         ensures keys { OnOk result (keys_seen self.new
             ≡ k.parameters_typed (keys_seen self.old) (map use_seen uses.now)) }
@@ -107,7 +107,7 @@ impl<'a> HeadKeys<'a> {
     }
 
     #[tactic(auto, unfolding(crate::specs::Heads::result_clash))]
-    fn check_result_clash(&self, place: &KeyUse<'_>, found: &mut Found) -> Result<(), AllocError>
+    fn check_result_clash(&self, place: &KeyUse<'_>, found: &mut LeastRefusal) -> Result<(), AllocError>
         ensures { OnOk result (found.new.least ≡ least_from found.old.least
             (h.result_clash (keys_seen self.now) (use_seen place.now))) }
     {
@@ -120,7 +120,7 @@ impl<'a> HeadKeys<'a> {
     pub fn check_result_clashes(
         &self,
         uses: &[KeyUse<'_>],
-        found: &mut Found,
+        found: &mut LeastRefusal,
     ) -> Result<(), AllocError>
         ensures { OnOk result (found.new.least
             ≡ found_each (h.result_clash (keys_seen self.now))
@@ -133,7 +133,7 @@ impl<'a> HeadKeys<'a> {
     }
 
     #[tactic(auto, unfolding(crate::specs::Heads::result_key_refused))]
-    fn check_result_key(&self, place: &KeyUse<'_>, found: &mut Found) -> Result<(), AllocError>
+    fn check_result_key(&self, place: &KeyUse<'_>, found: &mut LeastRefusal) -> Result<(), AllocError>
         ensures { OnOk result (found.new.least ≡ least_from found.old.least
             (h.result_key_refused (keys_seen self.now) (use_seen place.now))) }
     {
@@ -147,7 +147,7 @@ impl<'a> HeadKeys<'a> {
     pub fn check_result_keys(
         &self,
         uses: &[KeyUse<'_>],
-        found: &mut Found,
+        found: &mut LeastRefusal,
     ) -> Result<(), AllocError>
         ensures { OnOk result (found.new.least
             ≡ found_each (h.result_key_refused (keys_seen self.now))
@@ -160,7 +160,7 @@ impl<'a> HeadKeys<'a> {
     }
 
     #[tactic(auto, unfolding(crate::specs::Heads::again_refused))]
-    fn check_again(&self, entry: &Entry, found: &mut Found) -> Result<(), AllocError>
+    fn check_again(&self, entry: &Entry, found: &mut LeastRefusal) -> Result<(), AllocError>
         ensures { OnOk result (found.new.least ≡ least_from found.old.least
             (h.again_refused (keys_seen self.now) (view.entry_of entry.now))) }
     {
@@ -174,7 +174,7 @@ impl<'a> HeadKeys<'a> {
     pub fn check_clause_again(
         &mut self,
         clause: &'a [Entry],
-        found: &mut Found,
+        found: &mut LeastRefusal,
     ) -> Result<(), AllocError>
         ensures keys { OnOk result
             (keys_seen self.new

@@ -9,7 +9,7 @@ ghost use Rattle.vlt_kinds_types.specs.Types as t;
 ghost use Rattle.vlt_kinds_types.specs.Seen.{file_seen, states_seen};
 
 use crate::file::File;
-use crate::names::{Found, rules};
+use crate::names::{LeastRefusal, rules};
 use crate::shapes::Shape;
 use crate::states::StateNames;
 use std::alloc::{AllocError, Global};
@@ -120,7 +120,7 @@ fn check_listed(
     alloc: Global,
     known: &StateNames<'_>,
     names: &[Name],
-    found: &mut Found,
+    found: &mut LeastRefusal,
 ) -> Result<(), AllocError>
     ensures { OnOk result (found.new.least ≡ least_from found.old.least
         (t.listed_refused (t.known_states (states_seen known.now)) [] (view.names_of names.now))) }
@@ -139,7 +139,7 @@ pub fn check_some_states(
     alloc: Global,
     known: &StateNames<'_>,
     states: &States,
-    found: &mut Found,
+    found: &mut LeastRefusal,
 ) -> Result<(), AllocError>
     ensures { OnOk result (found.new.least ≡ least_from found.old.least
         (t.states_refused (states_seen known.now) (Some (view.states_of states.now)))) }
@@ -153,7 +153,7 @@ pub fn check_states(
     alloc: Global,
     known: &StateNames<'_>,
     states: &Option<States>,
-    found: &mut Found,
+    found: &mut LeastRefusal,
 ) -> Result<(), AllocError>
     ensures { OnOk result (found.new.least ≡ least_from found.old.least
         (t.states_refused (states_seen known.now) (option_map view.states_of states.now))) }

@@ -6,7 +6,7 @@ mod found;
 mod globals;
 mod names;
 
-pub use found::{Found, Refusal};
+pub use found::{LeastRefusal, Refusal};
 pub use globals::{Entity, Globals};
 pub use names::{HasName, check_names};
 pub use vlt_core::rules;

@@ -9,7 +9,7 @@ ghost use Rattle.vlt_kinds_types.specs.Seen.{file_seen};
 
 use crate::file::File;
 use crate::listed;
-use crate::names::{Found, rules};
+use crate::names::{LeastRefusal, rules};
 use crate::shapes::{Shape, Sort};
 use std::alloc::{AllocError, Global};
 use vlt_syntax::{Named, States, Ty};
@@ -84,7 +84,7 @@ pub fn ty_place(ty: &Ty) -> u32
 }
 
 #[tactic(auto, using(crate::proofs::OfNames::Least::least_of_both), unfolding(crate::specs::Types::form_refused))]
-fn check_form(ty: &Ty, sort: Option<Sort>, at: u32, found: &mut Found)
+fn check_form(ty: &Ty, sort: Option<Sort>, at: u32, found: &mut LeastRefusal)
     ensures { found.new.least ≡ least_from found.old.least
         (t.form_refused (view.ty_of ty.now) sort at) }
 {
@@ -94,7 +94,7 @@ fn check_form(ty: &Ty, sort: Option<Sort>, at: u32, found: &mut Found)
 }
 
 #[tactic(auto, unfolding(crate::specs::Types::name_refused))]
-fn check_name(shape: Option<&Shape>, named: &Named, found: &mut Found)
+fn check_name(shape: Option<&Shape>, named: &Named, found: &mut LeastRefusal)
     ensures { found.new.least ≡ least_from found.old.least
         (t.name_refused (option_map (λ s. s.now) shape.entry) (view.named_of named.now)) }
 {
@@ -115,7 +115,7 @@ fn has_states(sort: Option<Sort>) -> bool
 }
 
 #[tactic(auto, using(crate::proofs::OfNames::Least::least_of_both), unfolding(crate::specs::Types::named_refused))]
-fn check_named(shape: Option<&Shape>, ty: &Ty, named: &Named, found: &mut Found)
+fn check_named(shape: Option<&Shape>, ty: &Ty, named: &Named, found: &mut LeastRefusal)
     ensures { found.new.least ≡ least_from found.old.least
         (t.named_refused (option_map (λ s. s.now) shape.entry) (view.ty_of ty.now)
         (view.named_of named.now)) }
@@ -147,7 +147,7 @@ impl File<'_> {
         alloc: Global,
         shape: Option<&Shape>,
         states: &Option<States>,
-        found: &mut Found,
+        found: &mut LeastRefusal,
     ) -> Result<(), AllocError>
         ensures { OnOk result (found.new.least
             ≡ least_from found.old.least (t.owned_states_refused (file_seen self.now)
@@ -167,7 +167,7 @@ impl File<'_> {
         alloc: Global,
         shape: Option<&Shape>,
         states: &States,
-        found: &mut Found,
+        found: &mut LeastRefusal,
     ) -> Result<(), AllocError>
         ensures { OnOk result (found.new.least
             ≡ least_from found.old.least (t.owned_states_refused (file_seen self.now)
@@ -187,7 +187,7 @@ impl File<'_> {
         ty: &Ty,
         states: &Option<States>,
         named: &Named,
-        found: &mut Found,
+        found: &mut LeastRefusal,
     ) -> Result<(), AllocError>
         ensures { OnOk result (found.new.least
             ≡ least_from found.old.least (t.owned_refused (file_seen self.now)
@@ -202,7 +202,7 @@ impl File<'_> {
     }
 
     /// Refuses what is wrong in a type wherever it stands, its keys aside.
-    pub fn check_type(&self, alloc: Global, ty: &Ty, found: &mut Found) -> Result<(), AllocError>
+    pub fn check_type(&self, alloc: Global, ty: &Ty, found: &mut LeastRefusal) -> Result<(), AllocError>
         ensures { OnOk result (found.new.least ≡ least_from found.old.least
             (t.ty_refused (file_seen self.now) (view.ty_of ty.now))) }
     {

@@ -17,7 +17,7 @@ use vlt_base::{FnId, Items, KeyId, VarId};
 use vlt_core::rules::NO_END;
 use vlt_core::{Entry, Form, Func, KeyDecl, Mode, Tok, VarDecl};
 use vlt_kinds::Kinds;
-use vlt_kinds_types::Found;
+use vlt_kinds_types::LeastRefusal;
 use vlt_resolve_exprs::Scope;
 use vlt_resolve_exprs::limits::{TOO_MANY_KEYS, TOO_MANY_VARIABLES};
 use vlt_resolve_stmts::Around;
@@ -94,7 +94,7 @@ fn body_scope<'k>(alloc: Global, head: &'k Func) -> Result<Scope<'k>, AllocError
 // ---- functions
 
 #[tactic(auto, using(vlt_kinds_types::proofs::OfNames::Least::least_of_both), unfolding(crate::specs::Elaboration::head_refused))]
-fn check_head(head: &Func, at: u32, found: &mut Found)
+fn check_head(head: &Func, at: u32, found: &mut LeastRefusal)
     ensures { found.new.least ≡ least_from found.old.least
         (e.head_refused (func_of head.now) at) }
 {
@@ -107,14 +107,14 @@ fn head_passes(head: &Func, at: u32) -> Result<(), Stop>
     ensures refused { OnRefused result (λ r. least (e.head_refused (func_of head.now) at)
         ≡ Some r) }
 {
-    let mut found = Found { least: None };
+    let mut found = LeastRefusal { least: None };
     check_head(head, at, &mut found);
     passed(found)?;
     Ok(())
 }
 
 #[tactic(auto, unfolding(crate::specs::Elaboration::end_refused))]
-fn check_end(head: &Func, body: &Block, found: &mut Found)
+fn check_end(head: &Func, body: &Block, found: &mut LeastRefusal)
     ensures { found.new.least ≡ least_from found.old.least
         (e.end_refused (func_of head.now) (tree.block_of body.now)) }
 {
@@ -131,7 +131,7 @@ fn end_passes(head: &Func, body: &Block) -> Result<(), Stop>
     ensures refused { OnRefused result (λ r.
         least (e.end_refused (func_of head.now) (tree.block_of body.now)) ≡ Some r) }
 {
-    let mut found = Found { least: None };
+    let mut found = LeastRefusal { least: None };
     check_end(head, body, &mut found);
     passed(found)?;
     Ok(())

@@ -17,7 +17,7 @@ use vlt_base::{Items, KeyId, TypeId, VarId};
 use vlt_core::rules::{WRONG_COUNT, WRONG_TYPE};
 use vlt_core::{CaseDecl, Form, Ty, TypeDecl};
 use vlt_kinds::Kinds;
-use vlt_kinds_types::Found;
+use vlt_kinds_types::LeastRefusal;
 use vlt_resolve_exprs::{Scope, check_operands, core_operands, ty_under};
 use vlt_syntax::{Build, Name};
 
@@ -149,7 +149,7 @@ fn check_payload(
     scope: &Scope<'_>,
     case: &Case,
     build: &Build,
-    found: &mut Found,
+    found: &mut LeastRefusal,
 ) -> Result<(), AllocError>
     ensures { OnOk result (found.new.least ≡ least_from found.old.least
         (b.payload_refused (kinds_seen kinds.now) (scope_seen scope.now) (case_seen case.now)
@@ -176,7 +176,7 @@ fn check_case(
     scope: &Scope<'_>,
     case: &Option<Case>,
     build: &Build,
-    found: &mut Found,
+    found: &mut LeastRefusal,
 ) -> Result<(), AllocError>
     ensures { OnOk result (found.new.least ≡ least_from found.old.least
         (b.case_refused (kinds_seen kinds.now) (scope_seen scope.now)
@@ -234,7 +234,7 @@ pub fn build(
     ty: &Ty,
     v: VarId,
     build: &Build,
-    found: &mut Found,
+    found: &mut LeastRefusal,
 ) -> Result<Form, AllocError>
     ensures refused { OnOk result (found.new.least ≡ least_from found.old.least
         (b.build_refused (kinds_seen kinds.now) (scope_seen scope.now) (ty_of ty.now)

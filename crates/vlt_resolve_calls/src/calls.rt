@@ -25,7 +25,7 @@ use vlt_base::{FnId, Items, KeyId, VarId};
 use vlt_core::rules::{DROPPED_RESULT, UNKNOWN_NAME, WRONG_COUNT, WRONG_TYPE};
 use vlt_core::{Entry, Form, Func, Mode, Ty};
 use vlt_kinds::Kinds;
-use vlt_kinds_types::Found;
+use vlt_kinds_types::LeastRefusal;
 use vlt_resolve_exprs::{Scope, check_any, copy_ty, core_operands, is_owning, place, type_of};
 use vlt_syntax::{Call, Expr};
 
@@ -41,7 +41,7 @@ pub enum Use<'t> {
 // ---- arguments
 
 #[tactic(auto, unfolding(crate::specs::Calls::argument_misfit))]
-fn check_argument_fit(wanted: &Ty, given: &Option<Ty>, at: u32, found: &mut Found)
+fn check_argument_fit(wanted: &Ty, given: &Option<Ty>, at: u32, found: &mut LeastRefusal)
     ensures { found.new.least ≡ least_from found.old.least
         (c.argument_misfit (ty_of wanted.now) (option_map ty_of given.now) at) }
 {
@@ -58,7 +58,7 @@ fn check_argument(
     scope: &Scope<'_>,
     wanted: &Ty,
     expr: &Expr,
-    found: &mut Found,
+    found: &mut LeastRefusal,
 ) -> Result<(), AllocError>
     ensures { OnOk result (found.new.least ≡ least_from found.old.least
         (c.argument_refused (kinds_seen kinds.now) (scope_seen scope.now) (ty_of wanted.now)
@@ -76,7 +76,7 @@ fn check_each_argument(
     scope: &Scope<'_>,
     params: &[Ty],
     args: &[Expr],
-    found: &mut Found,
+    found: &mut LeastRefusal,
 ) -> Result<(), AllocError>
     requires { length params.now ≡ length args.now }
     ensures { OnOk result (found.new.least ≡ arguments_found (kinds_seen kinds.now)
@@ -96,7 +96,7 @@ fn check_arguments(
     scope: &Scope<'_>,
     params: &[Ty],
     args: &[Expr],
-    found: &mut Found,
+    found: &mut LeastRefusal,
 ) -> Result<(), AllocError>
     requires { length params.now ≡ length args.now }
     ensures { OnOk result (found.new.least ≡ least_from found.old.least
@@ -131,7 +131,7 @@ fn owns(ty: &Option<Ty>) -> bool
 }
 
 #[tactic(auto, unfolding(crate::specs::Calls::dropped_refused))]
-fn check_dropped(head: &Func, at: u32, found: &mut Found)
+fn check_dropped(head: &Func, at: u32, found: &mut LeastRefusal)
     ensures { found.new.least ≡ least_from found.old.least
         (c.dropped_refused (func_of head.now) at) }
 {
@@ -193,7 +193,7 @@ fn check_use(
     pairs: &[Pair],
     used: Use<'_>,
     name: u32,
-    found: &mut Found,
+    found: &mut LeastRefusal,
 ) -> Result<(), AllocError>
     ensures { OnOk result (found.new.least ≡ least_from found.old.least
         (c.use_refused (func_of head.now) (pairs_of pairs.now) (use_seen used.entry) name)) }
@@ -214,7 +214,7 @@ fn check_given_count(
     head: &Func,
     target: &Target,
     name: u32,
-    found: &mut Found,
+    found: &mut LeastRefusal,
 ) -> Result<(), AllocError>
     ensures { OnOk result (found.new.least ≡ least_from found.old.least
         (refuse_if (not (c.target_fits (func_of head.now) []
@@ -233,7 +233,7 @@ fn check_count(
     head: &Func,
     used: Use<'_>,
     name: u32,
-    found: &mut Found,
+    found: &mut LeastRefusal,
 ) -> Result<(), AllocError>
     ensures { OnOk result (found.new.least ≡ least_from found.old.least
         (c.count_refused (func_of head.now) (use_seen used.entry) name)) }
@@ -266,7 +266,7 @@ fn check_paired(
     pairs: &[Pair],
     used: Use<'_>,
     name: u32,
-    found: &mut Found,
+    found: &mut LeastRefusal,
 ) -> Result<(), AllocError>
     ensures { OnOk result (found.new.least ≡ least_from found.old.least
         (c.paired_refused (func_of head.now) (pairs_of pairs.now) (use_seen used.entry) name)) }
@@ -285,7 +285,7 @@ fn check_full_call(
     params: &[Ty],
     used: Use<'_>,
     call: &Call,
-    found: &mut Found,
+    found: &mut LeastRefusal,
 ) -> Result<(), AllocError>
     requires params { map ty_of params.now ≡ c.param_types (func_of head.now) }
     requires all { length params.now ≡ length call.now.arguments }
@@ -315,7 +315,7 @@ fn check_head(
     head: &Func,
     used: Use<'_>,
     call: &Call,
-    found: &mut Found,
+    found: &mut LeastRefusal,
 ) -> Result<(), AllocError>
     ensures { OnOk result (found.new.least ≡ least_from found.old.least
         (c.head_refused (kinds_seen kinds.now) (scope_seen scope.now) (func_of head.now)
@@ -346,7 +346,7 @@ fn check_callee(
     head: Option<&Func>,
     used: Use<'_>,
     call: &Call,
-    found: &mut Found,
+    found: &mut LeastRefusal,
 ) -> Result<(), AllocError>
     ensures { OnOk result (found.new.least ≡ least_from found.old.least
         (c.callee_refused (kinds_seen kinds.now) (scope_seen scope.now)
@@ -457,7 +457,7 @@ pub fn call(
     used: Use<'_>,
     target: Option<VarId>,
     call: &Call,
-    found: &mut Found,
+    found: &mut LeastRefusal,
 ) -> Result<Form, AllocError>
     ensures refused { OnOk result (found.new.least ≡ least_from found.old.least
         (c.call_refused (kinds_seen kinds.now) (scope_seen scope.now) (use_seen used.entry)

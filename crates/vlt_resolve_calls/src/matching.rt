@@ -18,7 +18,7 @@ use vlt_base::{Items, KeyId, StateSet, TypeId};
 use vlt_core::rules::{CLAUSE_KEYS_MEET, TWO_CALLER_KEYS};
 use vlt_core::{Entry, KeyDecl, Ty};
 use vlt_kinds::Kinds;
-use vlt_kinds_types::Found;
+use vlt_kinds_types::LeastRefusal;
 use vlt_resolve_exprs::{Scope, lies_within, type_of};
 use vlt_syntax::Expr;
 
@@ -289,7 +289,7 @@ pub fn check_matching(
     pairs: &[Pair],
     clause: &[Entry],
     at: u32,
-    found: &mut Found,
+    found: &mut LeastRefusal,
 ) -> Result<(), AllocError>
     ensures { OnOk result (found.new.least ≡ least_from found.old.least
         (c.matching_refused (pairs_of pairs.now) (map entry_of clause.now) at)) }

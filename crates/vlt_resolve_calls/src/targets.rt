@@ -15,7 +15,7 @@ use vlt_base::VarId;
 use vlt_core::rules::WRONG_TYPE;
 use vlt_core::{self, Form, Ty};
 use vlt_kinds::Kinds;
-use vlt_kinds_types::Found;
+use vlt_kinds_types::LeastRefusal;
 use vlt_resolve_exprs::{
     Scope, check_any, core_expr, is_owning, operand_for, place, takes, type_of, unpacks,
     variable_in,
@@ -42,7 +42,7 @@ impl Target {
     }
 
     #[tactic(auto, unfolding(crate::specs::Targets::value_misfit))]
-    fn check_given(&self, given: &Option<Ty>, at: u32, found: &mut Found)
+    fn check_given(&self, given: &Option<Ty>, at: u32, found: &mut LeastRefusal)
         ensures { found.new.least ≡ least_from found.old.least
             (t.value_misfit (target_seen self.now) (option_map ty_of given.now) at) }
     {
@@ -59,7 +59,7 @@ impl Target {
         kinds: &Kinds<'_>,
         scope: &Scope<'_>,
         expr: &Expr,
-        found: &mut Found,
+        found: &mut LeastRefusal,
     ) -> Result<(), AllocError>
         ensures { OnOk result (found.new.least ≡ least_from found.old.least
             (t.value_refused (kinds_seen kinds.now) (scope_seen scope.now) (target_seen self.now)

@@ -17,11 +17,11 @@ use vlt_base::{Items, VarId};
 use vlt_core::Ty;
 use vlt_core::rules::{NAME_TAKEN, WRONG_COUNT};
 use vlt_kinds::Kinds;
-use vlt_kinds_types::Found;
+use vlt_kinds_types::LeastRefusal;
 use vlt_syntax::Name;
 
 #[tactic(auto, unfolding(crate::specs::Bindings::too_many_vars))]
-pub fn check_too_many_vars(scope: &Scope<'_>, at: u32, found: &mut Found)
+pub fn check_too_many_vars(scope: &Scope<'_>, at: u32, found: &mut LeastRefusal)
     ensures { found.new.least ≡ least_from found.old.least
         (b.too_many_vars (scope_seen scope.now) at) }
 {
@@ -29,7 +29,7 @@ pub fn check_too_many_vars(scope: &Scope<'_>, at: u32, found: &mut Found)
 }
 
 #[tactic(auto, unfolding(crate::specs::Bindings::too_many_keys))]
-pub fn check_too_many_keys(scope: &Scope<'_>, at: u32, found: &mut Found)
+pub fn check_too_many_keys(scope: &Scope<'_>, at: u32, found: &mut LeastRefusal)
     ensures { found.new.least ≡ least_from found.old.least
         (b.too_many_keys (scope_seen scope.now) at) }
 {
@@ -37,7 +37,7 @@ pub fn check_too_many_keys(scope: &Scope<'_>, at: u32, found: &mut Found)
 }
 
 #[tactic(auto, unfolding(crate::specs::Bindings::not_free))]
-fn check_free(kinds: &Kinds<'_>, scope: &Scope<'_>, name: &Name, found: &mut Found)
+fn check_free(kinds: &Kinds<'_>, scope: &Scope<'_>, name: &Name, found: &mut LeastRefusal)
     ensures { found.new.least ≡ least_from found.old.least
         (b.not_free (kinds_seen kinds.now) (scope_seen scope.now) (tree.name_of name.now)) }
 {
@@ -50,7 +50,7 @@ fn check_free(kinds: &Kinds<'_>, scope: &Scope<'_>, name: &Name, found: &mut Fou
 
 /// What is refused where a variable of this name is bound.
 #[tactic(auto, using(vlt_kinds_types::proofs::OfNames::Least::least_of_both), unfolding(crate::specs::Bindings::new_var_refused))]
-pub fn check_new_var(kinds: &Kinds<'_>, scope: &Scope<'_>, name: &Name, found: &mut Found)
+pub fn check_new_var(kinds: &Kinds<'_>, scope: &Scope<'_>, name: &Name, found: &mut LeastRefusal)
     ensures { found.new.least ≡ least_from found.old.least
         (b.new_var_refused (kinds_seen kinds.now) (scope_seen scope.now) (tree.name_of name.now)) }
 {
@@ -60,7 +60,7 @@ pub fn check_new_var(kinds: &Kinds<'_>, scope: &Scope<'_>, name: &Name, found: &
 
 /// What is refused where a key of this name is bound.
 #[tactic(auto, using(vlt_kinds_types::proofs::OfNames::Least::least_of_both), unfolding(crate::specs::Bindings::new_key_refused))]
-pub fn check_new_key(kinds: &Kinds<'_>, scope: &Scope<'_>, name: &Name, found: &mut Found)
+pub fn check_new_key(kinds: &Kinds<'_>, scope: &Scope<'_>, name: &Name, found: &mut LeastRefusal)
     ensures { found.new.least ≡ least_from found.old.least
         (b.new_key_refused (kinds_seen kinds.now) (scope_seen scope.now) (tree.name_of name.now)) }
 {
@@ -76,7 +76,7 @@ fn add_new_vars<'a>(
     scope: &mut Scope<'a>,
     names: &'a [Name],
     types: &[Ty],
-    found: &mut Found,
+    found: &mut LeastRefusal,
 ) -> Result<Items<VarId>, AllocError>
     ensures refused { OnOk result (found.new.least
         ≡ new_vars_found (kinds_seen kinds.now) (scope_seen scope.old) (tree.names_of names.now)
@@ -107,7 +107,7 @@ fn add_each<'a>(
     scope: &mut Scope<'a>,
     names: &'a [Name],
     types: &[Ty],
-    found: &mut Found,
+    found: &mut LeastRefusal,
 ) -> Result<Items<VarId>, AllocError>
     ensures refused { OnOk result (found.new.least
         ≡ least_from found.old.least (b.new_vars_refused (kinds_seen kinds.now)
@@ -130,7 +130,7 @@ pub fn add_several<'a>(
     names: &'a [Name],
     types: &[Ty],
     at: u32,
-    found: &mut Found,
+    found: &mut LeastRefusal,
 ) -> Result<Items<VarId>, AllocError>
     ensures refused { OnOk result (found.new.least
         ≡ least_from found.old.least (b.several_refused (kinds_seen kinds.now)

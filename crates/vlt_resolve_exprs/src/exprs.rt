@@ -21,7 +21,7 @@ use vlt_base::{Boxed, KeyId, TypeId, VarId};
 use vlt_core::rules::{GUARDED_FIELD, UNKNOWN_NAME, WRONG_SWAP, WRONG_TYPE};
 use vlt_core::{FieldDecl, Ty, TypeDecl};
 use vlt_kinds::Kinds;
-use vlt_kinds_types::Found;
+use vlt_kinds_types::LeastRefusal;
 use vlt_ops::{Op, Takes, row};
 use vlt_syntax::{Expr, Name, Operands};
 
@@ -280,7 +280,7 @@ pub fn core_expr(
 
 /// Refuses a type that isn't the wanted one. What isn't known fits.
 #[tactic(auto, unfolding(crate::specs::Exprs::unfit))]
-pub fn check_fit(wanted: &Option<Ty>, given: &Option<Ty>, at: u32, found: &mut Found)
+pub fn check_fit(wanted: &Option<Ty>, given: &Option<Ty>, at: u32, found: &mut LeastRefusal)
     ensures { found.new.least ≡ least_from found.old.least
         (e.unfit (option_map ty_of wanted.now) (option_map ty_of given.now) at) }
 {
@@ -299,7 +299,7 @@ fn is_basic(ty: &Ty) -> bool
 }
 
 #[tactic(auto, unfolding(crate::specs::Exprs::not_basic))]
-fn check_basic(ty: &Option<Ty>, at: u32, found: &mut Found)
+fn check_basic(ty: &Option<Ty>, at: u32, found: &mut LeastRefusal)
     ensures { found.new.least ≡ least_from found.old.least
         (e.not_basic (option_map ty_of ty.now) at) }
 {
@@ -328,7 +328,7 @@ fn taken(takes: Takes, left: &Option<Ty>) -> Option<Ty>
 }
 
 #[tactic(auto, unfolding(crate::specs::Exprs::left_refused))]
-fn check_left(takes: Takes, ty: &Option<Ty>, at: u32, found: &mut Found)
+fn check_left(takes: Takes, ty: &Option<Ty>, at: u32, found: &mut LeastRefusal)
     ensures { found.new.least ≡ least_from found.old.least
         (e.left_refused takes (option_map ty_of ty.now) at) }
 {
@@ -341,7 +341,7 @@ fn check_left(takes: Takes, ty: &Option<Ty>, at: u32, found: &mut Found)
 
 /// Refuses a name that no variable in scope has.
 #[tactic(auto, unfolding(crate::specs::Refused::unknown_name))]
-pub fn check_known(scope: &Scope<'_>, name: &Name, found: &mut Found)
+pub fn check_known(scope: &Scope<'_>, name: &Name, found: &mut LeastRefusal)
     ensures { found.new.least ≡ least_from found.old.least
         (unknown_name (s.var_named (scope_seen scope.now) (tree.name_of name.now).text)
         (tree.name_of name.now)) }
@@ -357,7 +357,7 @@ fn check_guard(
     decl: Option<&TypeDecl>,
     field: &FieldDecl,
     base: &Name,
-    found: &mut Found,
+    found: &mut LeastRefusal,
 )
     ensures { found.new.least ≡ least_from found.old.least
         (e.guard_refused guarded (option_map (λ d. type_of d.now) decl.entry) (field_of field.now)
@@ -379,7 +379,7 @@ fn check_guard(
 }
 
 #[tactic(auto, unfolding(crate::specs::Exprs::owner_refused))]
-fn check_owner(field: &FieldDecl, base: &Name, found: &mut Found)
+fn check_owner(field: &FieldDecl, base: &Name, found: &mut LeastRefusal)
     ensures { found.new.least ≡ least_from found.old.least
         (e.owner_refused (field_of field.now) (tree.name_of base.now)) }
 {
@@ -392,7 +392,7 @@ fn check_touch(
     decl: Option<&TypeDecl>,
     field: &FieldDecl,
     base: &Name,
-    found: &mut Found,
+    found: &mut LeastRefusal,
 )
     ensures { found.new.least ≡ least_from found.old.least
         (e.touch_refused guarded (option_map (λ d. type_of d.now) decl.entry) (field_of field.now)
@@ -408,7 +408,7 @@ fn check_named(
     field: Option<&FieldDecl>,
     base: &Name,
     name: &Name,
-    found: &mut Found,
+    found: &mut LeastRefusal,
 )
     ensures { found.new.least ≡ least_from found.old.least
         (e.named_refused guarded (option_map (λ d. type_of d.now) decl.entry)
@@ -426,7 +426,7 @@ fn check_object(
     object: Option<Object<'_>>,
     base: &Name,
     field: &Name,
-    found: &mut Found,
+    found: &mut LeastRefusal,
 )
     ensures { found.new.least ≡ least_from found.old.least
         (e.object_refused (kinds_seen kinds.now) (option_map object_seen object.entry)
@@ -452,7 +452,7 @@ pub fn check_field(
     scope: &Scope<'_>,
     base: &Name,
     field: &Name,
-    found: &mut Found,
+    found: &mut LeastRefusal,
 )
     ensures { found.new.least ≡ least_from found.old.least
         (e.field_refused (kinds_seen kinds.now) (scope_seen scope.now) (tree.name_of base.now)
@@ -471,7 +471,7 @@ fn check_given(
     scope: &Scope<'_>,
     wanted: &Option<Ty>,
     expr: &Expr,
-    found: &mut Found,
+    found: &mut LeastRefusal,
 ) -> Result<(), AllocError>
     ensures { OnOk result (found.new.least ≡ least_from found.old.least
         (e.unfit (option_map ty_of wanted.now)
@@ -489,7 +489,7 @@ fn check_unary_given(
     scope: &Scope<'_>,
     op: Op,
     operand: &Expr,
-    found: &mut Found,
+    found: &mut LeastRefusal,
 ) -> Result<(), AllocError>
     ensures { OnOk result (found.new.least ≡ least_from found.old.least
         (e.unfit (Some (e.type_given op))
@@ -507,7 +507,7 @@ fn check_left_given(
     scope: &Scope<'_>,
     op: Op,
     left: &Expr,
-    found: &mut Found,
+    found: &mut LeastRefusal,
 ) -> Result<(), AllocError>
     ensures { OnOk result (found.new.least ≡ least_from found.old.least
         (e.left_refused (row_of op).takes
@@ -526,7 +526,7 @@ fn check_right_given(
     op: Op,
     left: &Expr,
     right: &Expr,
-    found: &mut Found,
+    found: &mut LeastRefusal,
 ) -> Result<(), AllocError>
     ensures { OnOk result (found.new.least ≡ least_from found.old.least
         (e.unfit (e.operand_wanted (row_of op).takes
@@ -546,7 +546,7 @@ pub fn check_expr(
     kinds: &Kinds<'_>,
     scope: &Scope<'_>,
     expr: &Expr,
-    found: &mut Found,
+    found: &mut LeastRefusal,
 ) -> Result<(), AllocError>
     ensures { OnOk result (found.new.least
         ≡ found_in (kinds_seen kinds.now) (scope_seen scope.now)
@@ -587,7 +587,7 @@ pub fn check_wanted(
     scope: &Scope<'_>,
     wanted: &Option<Ty>,
     expr: &Expr,
-    found: &mut Found,
+    found: &mut LeastRefusal,
 ) -> Result<(), AllocError>
     ensures { OnOk result (found.new.least ≡ least_from found.old.least
         (e.wanted_refused (kinds_seen kinds.now) (scope_seen scope.now)
@@ -605,7 +605,7 @@ pub fn check_any(
     kinds: &Kinds<'_>,
     scope: &Scope<'_>,
     expr: &Expr,
-    found: &mut Found,
+    found: &mut LeastRefusal,
 ) -> Result<(), AllocError>
     ensures { OnOk result (found.new.least ≡ least_from found.old.least
         (e.expr_refused (kinds_seen kinds.now) (scope_seen scope.now) (tree.expr_of expr.now))) }

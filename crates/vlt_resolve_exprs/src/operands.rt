@@ -18,11 +18,11 @@ use vlt_base::{Items, StateSet, VarId};
 use vlt_core::rules::WRONG_TYPE;
 use vlt_core::{self, Operand, Ty};
 use vlt_kinds::Kinds;
-use vlt_kinds_types::Found;
+use vlt_kinds_types::LeastRefusal;
 use vlt_syntax::Expr;
 
 #[tactic(auto, unfolding(crate::specs::Operands::misfit))]
-pub fn check_misfit(wanted: &Ty, given: &Option<Ty>, at: u32, found: &mut Found)
+pub fn check_misfit(wanted: &Ty, given: &Option<Ty>, at: u32, found: &mut LeastRefusal)
     ensures { found.new.least ≡ least_from found.old.least
         (o.misfit (ty_of wanted.now) (option_map ty_of given.now) at) }
 {
@@ -42,7 +42,7 @@ pub fn check_operand(
     scope: &Scope<'_>,
     wanted: &Ty,
     expr: &Expr,
-    found: &mut Found,
+    found: &mut LeastRefusal,
 ) -> Result<(), AllocError>
     ensures { OnOk result (found.new.least ≡ least_from found.old.least
         (o.operand_refused (kinds_seen kinds.now) (scope_seen scope.now) (ty_of wanted.now)
@@ -60,7 +60,7 @@ fn check_each_operand(
     scope: &Scope<'_>,
     wanted: &[Ty],
     exprs: &[Expr],
-    found: &mut Found,
+    found: &mut LeastRefusal,
 ) -> Result<(), AllocError>
     requires { length wanted.now ≡ length exprs.now }
     ensures { OnOk result (found.new.least ≡ operands_found (kinds_seen kinds.now)
@@ -81,7 +81,7 @@ pub fn check_operands(
     scope: &Scope<'_>,
     wanted: &[Ty],
     exprs: &[Expr],
-    found: &mut Found,
+    found: &mut LeastRefusal,
 ) -> Result<(), AllocError>
     requires { length wanted.now ≡ length exprs.now }
     ensures { OnOk result (found.new.least ≡ least_from found.old.least

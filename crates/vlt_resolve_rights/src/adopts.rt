@@ -14,7 +14,7 @@ use vlt_base::VarId;
 use vlt_core::rules::{WRONG_RELEASE, WRONG_TYPE};
 use vlt_core::{Form, Ty};
 use vlt_kinds::Kinds;
-use vlt_kinds_types::Found;
+use vlt_kinds_types::LeastRefusal;
 use vlt_resolve_exprs::{Scope, check_known, same_object, var_number};
 use vlt_syntax::Name;
 
@@ -67,7 +67,7 @@ fn is_adoptable(kinds: &Kinds<'_>, ty: &Ty) -> bool
 }
 
 #[tactic(auto, unfolding(crate::specs::Adopts::object_refused))]
-fn check_object(kinds: &Kinds<'_>, ty: Option<&Ty>, name: &Name, found: &mut Found)
+fn check_object(kinds: &Kinds<'_>, ty: Option<&Ty>, name: &Name, found: &mut LeastRefusal)
     ensures { found.new.least ≡ least_from found.old.least
         (a.object_refused (kinds_seen kinds.now) (option_map (λ t. ty_of t.now) ty.entry)
         (tree.name_of name.now)) }
@@ -87,7 +87,7 @@ pub fn check_adopt(
     object: &Name,
     recipient: &Name,
     at: u32,
-    found: &mut Found,
+    found: &mut LeastRefusal,
 )
     ensures { found.new.least ≡ least_from found.old.least
         (a.adopt_refused (kinds_seen kinds.now) (scope_seen scope.now) (ty_of ty.now)

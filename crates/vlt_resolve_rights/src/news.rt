@@ -22,7 +22,7 @@ use vlt_base::{Items, KeyId, TypeId, VarId};
 use vlt_core::rules::{WRONG_COUNT, WRONG_NEW, WRONG_RELEASE, WRONG_TYPE};
 use vlt_core::{FieldDecl, Form, Operand, Ty, TypeDecl};
 use vlt_kinds::Kinds;
-use vlt_kinds_types::Found;
+use vlt_kinds_types::LeastRefusal;
 use vlt_resolve_calls::{Forms, Target};
 use vlt_resolve_exprs::{
     Scope, check_known, check_too_many_keys, check_too_many_vars, fields_of, is_struct, var_number,
@@ -52,7 +52,7 @@ fn check_target(
     t: Option<TypeId>,
     args: &Option<Items<KeyId>>,
     at: u32,
-    found: &mut Found,
+    found: &mut LeastRefusal,
 )
     ensures { found.new.least ≡ least_from found.old.least
         (n.target_refused adopted (target_seen target.now) (option_map (λ t. t.0) t)
@@ -64,7 +64,7 @@ fn check_target(
     }
 }
 
-fn check_recipient_fit(recipient: Option<&Ty>, ty: &Ty, at: u32, found: &mut Found)
+fn check_recipient_fit(recipient: Option<&Ty>, ty: &Ty, at: u32, found: &mut LeastRefusal)
     ensures { found.new.least ≡ least_from found.old.least
         (n.recipient_unfit (option_map (λ t. ty_of t.now) recipient.entry) (ty_of ty.now) at) }
 {
@@ -75,7 +75,7 @@ fn check_recipient_fit(recipient: Option<&Ty>, ty: &Ty, at: u32, found: &mut Fou
 }
 
 #[tactic(auto, using(vlt_kinds_types::proofs::OfNames::Least::least_of_both), unfolding(crate::specs::News::recipient_refused))]
-fn check_recipient(scope: &Scope<'_>, target: &Target, recipient: &Name, at: u32, found: &mut Found)
+fn check_recipient(scope: &Scope<'_>, target: &Target, recipient: &Name, at: u32, found: &mut LeastRefusal)
     ensures { found.new.least ≡ least_from found.old.least
         (n.recipient_refused (scope_seen scope.now) (target_seen target.now)
         (tree.name_of recipient.now) at) }
@@ -95,7 +95,7 @@ fn check_adopter(
     target: &Target,
     recipient: &Option<Name>,
     at: u32,
-    found: &mut Found,
+    found: &mut LeastRefusal,
 )
     ensures { found.new.least ≡ least_from found.old.least
         (n.adopter_refused (scope_seen scope.now) (target_seen target.now)
@@ -126,7 +126,7 @@ fn takes_first(ty: &Ty) -> bool
 }
 
 #[tactic(auto, using(vlt_kinds_types::proofs::OfNames::Least::least_of_both), unfolding(crate::specs::News::adopted_refused))]
-fn check_adopted(kinds: &Kinds<'_>, t: TypeId, at: u32, found: &mut Found)
+fn check_adopted(kinds: &Kinds<'_>, t: TypeId, at: u32, found: &mut LeastRefusal)
     ensures { found.new.least ≡ least_from found.old.least
         (n.adopted_refused (kinds_seen kinds.now) t.0 at) }
 {
@@ -139,7 +139,7 @@ fn check_adopted(kinds: &Kinds<'_>, t: TypeId, at: u32, found: &mut Found)
 }
 
 #[tactic(auto, unfolding(crate::specs::News::start_refused))]
-fn check_start(kinds: &Kinds<'_>, adopted: bool, ty: &Ty, t: TypeId, at: u32, found: &mut Found)
+fn check_start(kinds: &Kinds<'_>, adopted: bool, ty: &Ty, t: TypeId, at: u32, found: &mut LeastRefusal)
     ensures { found.new.least ≡ least_from found.old.least
         (n.start_refused (kinds_seen kinds.now) adopted (ty_of ty.now) t.0 at) }
 {
@@ -157,7 +157,7 @@ fn check_values(
     fields: &[FieldDecl],
     args: &Option<Items<KeyId>>,
     inits: &[Init],
-    found: &mut Found,
+    found: &mut LeastRefusal,
 ) -> Result<(), AllocError>
     ensures { OnOk result (found.new.least ≡ least_from found.old.least
         (n.values_refused (kinds_seen kinds.now) (scope_seen scope.now)
@@ -181,7 +181,7 @@ fn check_struct(
     args: &Option<Items<KeyId>>,
     inits: &[Init],
     at: u32,
-    found: &mut Found,
+    found: &mut LeastRefusal,
 ) -> Result<(), AllocError>
     ensures { OnOk result (found.new.least ≡ least_from found.old.least
         (n.struct_refused (kinds_seen kinds.now) (scope_seen scope.now)
@@ -205,7 +205,7 @@ fn check_object(
     args: &Option<Items<KeyId>>,
     inits: &[Init],
     at: u32,
-    found: &mut Found,
+    found: &mut LeastRefusal,
 ) -> Result<(), AllocError>
     ensures { OnOk result (found.new.least ≡ least_from found.old.least
         (n.object_refused (kinds_seen kinds.now) (scope_seen scope.now) t.0
@@ -239,7 +239,7 @@ fn check_known_made(
     args: &Option<Items<KeyId>>,
     inits: &[Init],
     at: u32,
-    found: &mut Found,
+    found: &mut LeastRefusal,
 ) -> Result<(), AllocError>
     ensures { OnOk result (found.new.least ≡ least_from found.old.least
         (n.known_made_refused (kinds_seen kinds.now) (scope_seen scope.now) adopted
@@ -262,7 +262,7 @@ fn check_made(
     args: &Option<Items<KeyId>>,
     inits: &[Init],
     at: u32,
-    found: &mut Found,
+    found: &mut LeastRefusal,
 ) -> Result<(), AllocError>
     ensures { OnOk result (found.new.least ≡ least_from found.old.least
         (n.made_refused (kinds_seen kinds.now) (scope_seen scope.now) adopted
@@ -288,7 +288,7 @@ pub fn check_new(
     named: &Named,
     inits: &[Init],
     at: u32,
-    found: &mut Found,
+    found: &mut LeastRefusal,
 ) -> Result<(), AllocError>
     ensures { OnOk result (found.new.least ≡ least_from found.old.least
         (n.new_refused (kinds_seen kinds.now) (scope_seen scope.now) (target_seen target.now)
@@ -330,7 +330,7 @@ fn hides(right: &Right, ty: &Option<Ty>) -> bool
 
 /// What is refused where a right side at this place has a hidden key and variable.
 #[tactic(auto, using(vlt_kinds_types::proofs::OfNames::Least::least_of_both), unfolding(crate::specs::News::hidden_refused))]
-fn check_both_hidden(scope: &Scope<'_>, at: u32, found: &mut Found)
+fn check_both_hidden(scope: &Scope<'_>, at: u32, found: &mut LeastRefusal)
     ensures { found.new.least ≡ least_from found.old.least
         (n.hidden_refused (scope_seen scope.now) true at) }
 {
@@ -368,7 +368,7 @@ fn number_of_type(t: Option<TypeId>) -> TypeId
 
 /// What is refused where the right side has a hidden key and variable, which are bound at this place.
 #[tactic(auto, unfolding(crate::specs::News::hidden_refused))]
-pub fn check_hidden(scope: &Scope<'_>, right: &Right, ty: &Option<Ty>, at: u32, found: &mut Found)
+pub fn check_hidden(scope: &Scope<'_>, right: &Right, ty: &Option<Ty>, at: u32, found: &mut LeastRefusal)
     ensures { found.new.least ≡ least_from found.old.least
         (n.hidden_refused (scope_seen scope.now)
         (n.hides (tree.right_of right.now) (option_map ty_of ty.now)) at) }

@@ -13,7 +13,7 @@ use std::alloc::{AllocError, Global};
 use vlt_base::{Items, KeyId, TypeId};
 use vlt_core::{FieldDecl, Operand, Ty};
 use vlt_kinds::Kinds;
-use vlt_kinds_types::{Found, Shape};
+use vlt_kinds_types::{LeastRefusal, Shape};
 use vlt_resolve_exprs::{Scope, check_operand, core_operand, same_keys, ty_under};
 use vlt_syntax::{Init, Name, Named};
 
@@ -148,7 +148,7 @@ fn check_each_init(
     scope: &Scope<'_>,
     inits: &[Init],
     types: &[Ty],
-    found: &mut Found,
+    found: &mut LeastRefusal,
 ) -> Result<(), AllocError>
     ensures { OnOk result (found.new.least ≡ inits_found (kinds_seen kinds.now)
         (scope_seen scope.now) (map tree.init_of inits.now)
@@ -171,7 +171,7 @@ pub fn check_inits(
     scope: &Scope<'_>,
     inits: &[Init],
     types: &[Ty],
-    found: &mut Found,
+    found: &mut LeastRefusal,
 ) -> Result<(), AllocError>
     ensures { OnOk result (found.new.least ≡ least_from found.old.least
         (n.inits_refused (kinds_seen kinds.now) (scope_seen scope.now)

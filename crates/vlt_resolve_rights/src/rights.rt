@@ -18,13 +18,13 @@ use vlt_base::VarId;
 use vlt_core::rules::WRONG_TYPE;
 use vlt_core::{Form, Ty};
 use vlt_kinds::Kinds;
-use vlt_kinds_types::Found;
+use vlt_kinds_types::LeastRefusal;
 use vlt_resolve_calls::{Forms, Target, Use, build, call};
 use vlt_resolve_exprs::{Scope, same_ty};
 use vlt_syntax::{Call, Expr, Right};
 
 #[tactic(auto, unfolding(crate::specs::Rights::input_refused))]
-fn check_input(wanted: &Ty, ty: &Ty, at: u32, found: &mut Found)
+fn check_input(wanted: &Ty, ty: &Ty, at: u32, found: &mut LeastRefusal)
     ensures { found.new.least ≡ least_from found.old.least
         (r.input_refused (ty_of wanted.now) (ty_of ty.now) at) }
 {
@@ -39,7 +39,7 @@ fn value(
     target: &Target,
     x: VarId,
     expr: &Expr,
-    found: &mut Found,
+    found: &mut LeastRefusal,
 ) -> Result<Forms, AllocError>
     ensures refused { OnOk result (found.new.least ≡ least_from found.old.least
         (t.value_refused (kinds_seen kinds.now) (scope_seen scope.now) (target_seen target.now)
@@ -61,7 +61,7 @@ fn call_for(
     target: &Target,
     x: VarId,
     called: &Call,
-    found: &mut Found,
+    found: &mut LeastRefusal,
 ) -> Result<Forms, AllocError>
     ensures refused { OnOk result (found.new.least ≡ least_from found.old.least
         (c.call_refused (kinds_seen kinds.now) (scope_seen scope.now)
@@ -83,7 +83,7 @@ fn target_right(
     x: VarId,
     hidden: VarId,
     right: &Right,
-    found: &mut Found,
+    found: &mut LeastRefusal,
 ) -> Result<Forms, AllocError>
     ensures refused { OnOk result (found.new.least
         ≡ least_from found.old.least (r.target_right_refused (kinds_seen kinds.now)
@@ -140,7 +140,7 @@ pub fn right_for(
     x: VarId,
     hidden: VarId,
     right: &Right,
-    found: &mut Found,
+    found: &mut LeastRefusal,
 ) -> Result<Forms, AllocError>
     ensures refused { OnOk result (found.new.least ≡ least_from found.old.least (r.right_refused
         (kinds_seen kinds.now) (scope_seen scope.now) (Some (target_seen target.now))
@@ -163,7 +163,7 @@ pub fn right(
     x: VarId,
     hidden: VarId,
     right: &Right,
-    found: &mut Found,
+    found: &mut LeastRefusal,
 ) -> Result<Forms, AllocError>
     ensures refused { OnOk result (found.new.least ≡ least_from found.old.least (r.right_refused
         (kinds_seen kinds.now) (scope_seen scope.now) (option_map target_seen target.now)

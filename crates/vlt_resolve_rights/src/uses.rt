@@ -13,11 +13,11 @@ ghost use Rattle.vlt_resolve_rights.specs.News as n;
 use vlt_base::TypeId;
 use vlt_core::rules::{KEY_ARGUMENT, KEY_COUNT, NOT_A_TYPE, TWO_KEY_TYPES, UNKNOWN_NAME};
 use vlt_kinds::Kinds;
-use vlt_kinds_types::{Found, KeyUse, Shape, Wanted};
+use vlt_kinds_types::{LeastRefusal, KeyUse, Shape, Wanted};
 use vlt_resolve_exprs::Scope;
 use vlt_syntax::{Name, Named};
 
-fn check_typed(given: Option<TypeId>, wanted: u32, tracked: bool, at: u32, found: &mut Found)
+fn check_typed(given: Option<TypeId>, wanted: u32, tracked: bool, at: u32, found: &mut LeastRefusal)
     ensures { found.new.least ≡ least_from found.old.least
         (n.typed_refused (option_map (λ t. t.0) given) wanted tracked at) }
 {
@@ -33,7 +33,7 @@ fn check_typed(given: Option<TypeId>, wanted: u32, tracked: bool, at: u32, found
     }
 }
 
-fn check_wanted(given: Option<TypeId>, wanted: Wanted, tracked: bool, at: u32, found: &mut Found)
+fn check_wanted(given: Option<TypeId>, wanted: Wanted, tracked: bool, at: u32, found: &mut LeastRefusal)
     ensures { found.new.least ≡ least_from found.old.least
         (n.wanted_refused (option_map (λ t. t.0) given) wanted tracked at) }
 {
@@ -45,7 +45,7 @@ fn check_wanted(given: Option<TypeId>, wanted: Wanted, tracked: bool, at: u32, f
 }
 
 #[tactic(auto, unfolding(crate::specs::News::use_refused))]
-fn check_use(scope: &Scope<'_>, key: KeyUse<'_>, found: &mut Found)
+fn check_use(scope: &Scope<'_>, key: KeyUse<'_>, found: &mut LeastRefusal)
     ensures { found.new.least ≡ least_from found.old.least
         (n.use_refused (scope_seen scope.now) (use_seen key.entry)) }
 {
@@ -55,7 +55,7 @@ fn check_use(scope: &Scope<'_>, key: KeyUse<'_>, found: &mut Found)
     }
 }
 
-fn check_each_use(scope: &Scope<'_>, uses: &[KeyUse<'_>], found: &mut Found)
+fn check_each_use(scope: &Scope<'_>, uses: &[KeyUse<'_>], found: &mut LeastRefusal)
     ensures { found.new.least ≡ found_each (n.use_refused (scope_seen scope.now))
         (map use_seen uses.now) found.old.least }
 {
@@ -66,7 +66,7 @@ fn check_each_use(scope: &Scope<'_>, uses: &[KeyUse<'_>], found: &mut Found)
 
 /// What is refused in the keys of a type: each has to be in scope, and its object of the type that is wanted there.
 #[tactic(auto, using(vlt_kinds_types::proofs::OfNames::Least::each_is), unfolding(crate::specs::News::uses_refused))]
-pub fn check_uses(scope: &Scope<'_>, uses: &[KeyUse<'_>], found: &mut Found)
+pub fn check_uses(scope: &Scope<'_>, uses: &[KeyUse<'_>], found: &mut LeastRefusal)
     ensures { found.new.least ≡ least_from found.old.least
         (n.uses_refused (scope_seen scope.now) (map use_seen uses.now)) }
 {
@@ -76,7 +76,7 @@ pub fn check_uses(scope: &Scope<'_>, uses: &[KeyUse<'_>], found: &mut Found)
 // ---- the type of a new object
 
 #[tactic(auto, unfolding(vlt_kinds_types::specs::Types::name_refused))]
-fn check_name(shape: Option<&Shape>, named: &Named, found: &mut Found)
+fn check_name(shape: Option<&Shape>, named: &Named, found: &mut LeastRefusal)
     ensures { found.new.least ≡ least_from found.old.least
         (t.name_refused (option_map (λ s. s.now) shape.entry) (tree.named_of named.now)) }
 {
@@ -101,7 +101,7 @@ fn key_use(wanted: Wanted, key: &Name) -> KeyUse<'_>
     }
 }
 
-fn check_open(scope: &Scope<'_>, keys: &[Name], found: &mut Found)
+fn check_open(scope: &Scope<'_>, keys: &[Name], found: &mut LeastRefusal)
     ensures { found.new.least ≡ found_each (n.use_refused (scope_seen scope.now))
         (map (t.key_use wanted.Unknown) (tree.names_of keys.now)) found.old.least }
 {
@@ -110,7 +110,7 @@ fn check_open(scope: &Scope<'_>, keys: &[Name], found: &mut Found)
     }
 }
 
-fn check_arguments(scope: &Scope<'_>, header: &[Wanted], keys: &[Name], found: &mut Found)
+fn check_arguments(scope: &Scope<'_>, header: &[Wanted], keys: &[Name], found: &mut LeastRefusal)
     requires { length header.now ≡ length keys.now }
     ensures { found.new.least ≡ found_each (n.use_refused (scope_seen scope.now))
         (t.argument_uses header.now (tree.names_of keys.now)) found.old.least }
@@ -120,7 +120,7 @@ fn check_arguments(scope: &Scope<'_>, header: &[Wanted], keys: &[Name], found: &
     }
 }
 
-fn check_keys(shape: Option<&Shape>, scope: &Scope<'_>, keys: &[Name], found: &mut Found)
+fn check_keys(shape: Option<&Shape>, scope: &Scope<'_>, keys: &[Name], found: &mut LeastRefusal)
     ensures { found.new.least ≡ found_each (n.use_refused (scope_seen scope.now))
         (t.header_uses (option_map (λ s. s.now) shape.entry)
         (tree.names_of keys.now)) found.old.least }
@@ -140,7 +140,7 @@ fn check_keys(shape: Option<&Shape>, scope: &Scope<'_>, keys: &[Name], found: &m
 
 /// What is refused at the name of a new object's type, and at the keys behind it.
 #[tactic(auto, using(vlt_kinds_types::proofs::OfNames::Least::least_of_both, vlt_kinds_types::proofs::OfNames::Least::each_is), unfolding(crate::specs::News::named_refused, crate::specs::News::uses_refused, vlt_kinds_types::specs::Types::named_uses))]
-pub fn check_named(kinds: &Kinds<'_>, scope: &Scope<'_>, named: &Named, found: &mut Found)
+pub fn check_named(kinds: &Kinds<'_>, scope: &Scope<'_>, named: &Named, found: &mut LeastRefusal)
     ensures { found.new.least ≡ least_from found.old.least
         (n.named_refused (kinds_seen kinds.now) (scope_seen scope.now) (tree.named_of named.now)) }
 {

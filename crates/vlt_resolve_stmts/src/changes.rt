@@ -18,7 +18,7 @@ use vlt_core::rules::{
 };
 use vlt_core::{FieldDecl, Form, Ty};
 use vlt_kinds::Kinds;
-use vlt_kinds_types::Found;
+use vlt_kinds_types::LeastRefusal;
 use vlt_resolve_calls::Forms;
 use vlt_resolve_exprs::{
     Scope, check_field, check_known, check_wanted, core_expr, field_named, field_number, field_ty,
@@ -37,7 +37,7 @@ fn check_put(
     base: &Name,
     field: &Name,
     value: &Expr,
-    found: &mut Found,
+    found: &mut LeastRefusal,
 ) -> Result<(), AllocError>
     ensures { OnOk result (found.new.least ≡ least_from found.old.least
         (s.put_refused (kinds_seen kinds.now) (scope_seen scope.now) (tree.name_of base.now)
@@ -57,7 +57,7 @@ pub fn put(
     base: &Name,
     field: &Name,
     value: &Expr,
-    found: &mut Found,
+    found: &mut LeastRefusal,
 ) -> Result<Forms, AllocError>
     ensures refused { OnOk result (found.new.least
         ≡ least_from found.old.least (s.put_refused (kinds_seen kinds.now)
@@ -89,7 +89,7 @@ fn is_releasable(kinds: &Kinds<'_>, ty: &Ty) -> bool
 }
 
 #[tactic(auto, unfolding(crate::specs::Statements::release_refused))]
-fn check_release(kinds: &Kinds<'_>, ty: Option<&Ty>, name: &Name, found: &mut Found)
+fn check_release(kinds: &Kinds<'_>, ty: Option<&Ty>, name: &Name, found: &mut LeastRefusal)
     ensures { found.new.least ≡ least_from found.old.least
         (s.release_refused (kinds_seen kinds.now) (option_map (λ t. ty_of t.now) ty.entry)
         (tree.name_of name.now)) }
@@ -110,7 +110,7 @@ fn release_form(ty: Option<&Ty>, v: VarId) -> Form
     }
 }
 
-pub fn release(kinds: &Kinds<'_>, scope: &Scope<'_>, name: &Name, found: &mut Found) -> Forms
+pub fn release(kinds: &Kinds<'_>, scope: &Scope<'_>, name: &Name, found: &mut LeastRefusal) -> Forms
     ensures refused { found.new.least ≡ least_from found.old.least
         (s.release_refused (kinds_seen kinds.now)
         (var_ty (scope_seen scope.now) (tree.name_of name.now).text) (tree.name_of name.now)) }
@@ -136,7 +136,7 @@ fn state_of(kinds: &Kinds<'_>, t: TypeId, name: &Name) -> Option<u8>
 }
 
 #[tactic(auto, unfolding(crate::specs::Statements::state_refused))]
-fn check_state(kinds: &Kinds<'_>, t: TypeId, name: &Name, state: &Name, found: &mut Found)
+fn check_state(kinds: &Kinds<'_>, t: TypeId, name: &Name, state: &Name, found: &mut LeastRefusal)
     ensures { found.new.least ≡ least_from found.old.least
         (s.state_refused (kinds_seen kinds.now) t.0 (tree.name_of name.now)
         (tree.name_of state.now)) }
@@ -153,7 +153,7 @@ fn check_state(kinds: &Kinds<'_>, t: TypeId, name: &Name, state: &Name, found: &
 }
 
 #[tactic(auto, unfolding(crate::specs::Statements::become_refused))]
-fn check_become(kinds: &Kinds<'_>, ty: Option<&Ty>, name: &Name, state: &Name, found: &mut Found)
+fn check_become(kinds: &Kinds<'_>, ty: Option<&Ty>, name: &Name, state: &Name, found: &mut LeastRefusal)
     ensures { found.new.least ≡ least_from found.old.least
         (s.become_refused (kinds_seen kinds.now) (option_map (λ t. ty_of t.now) ty.entry)
         (tree.name_of name.now) (tree.name_of state.now)) }
@@ -195,7 +195,7 @@ pub fn change_state(
     scope: &Scope<'_>,
     name: &Name,
     state: &Name,
-    found: &mut Found,
+    found: &mut LeastRefusal,
 ) -> Forms
     ensures refused { found.new.least ≡ least_from found.old.least
         (s.become_refused (kinds_seen kinds.now)
@@ -212,7 +212,7 @@ pub fn change_state(
 
 // ---- swap x.f, v
 
-fn check_swapped(wanted: &Ty, given: Option<&Ty>, name: &Name, found: &mut Found)
+fn check_swapped(wanted: &Ty, given: Option<&Ty>, name: &Name, found: &mut LeastRefusal)
     ensures { found.new.least ≡ least_from found.old.least
         (s.swapped_misfit (ty_of wanted.now) (option_map (λ t. ty_of t.now) given.entry)
         (tree.name_of name.now)) }
@@ -231,7 +231,7 @@ fn check_owner(
     given: Option<&Ty>,
     base: &Name,
     variable: &Name,
-    found: &mut Found,
+    found: &mut LeastRefusal,
 ) -> Result<(), AllocError>
     ensures { OnOk result (found.new.least ≡ least_from found.old.least
         (s.owner_refused (keys_of args.now) (field_of decl.now)
@@ -255,7 +255,7 @@ fn check_swapped_field(
     base: &Name,
     field: &Name,
     variable: &Name,
-    found: &mut Found,
+    found: &mut LeastRefusal,
 ) -> Result<(), AllocError>
     ensures { OnOk result (found.new.least ≡ least_from found.old.least
         (s.swapped_field_refused (keys_of args.now)
@@ -281,7 +281,7 @@ fn check_base(
     base: &Name,
     field: &Name,
     variable: &Name,
-    found: &mut Found,
+    found: &mut LeastRefusal,
 ) -> Result<(), AllocError>
     ensures { OnOk result (found.new.least ≡ least_from found.old.least
         (s.base_refused (kinds_seen kinds.now) (option_map (λ t. ty_of t.now) ty.entry)
@@ -320,7 +320,7 @@ fn check_swap(
     base: &Name,
     field: &Name,
     variable: &Name,
-    found: &mut Found,
+    found: &mut LeastRefusal,
 ) -> Result<(), AllocError>
     ensures { OnOk result (found.new.least ≡ least_from found.old.least
         (s.swap_refused (kinds_seen kinds.now) (scope_seen scope.now) (tree.name_of base.now)
@@ -341,7 +341,7 @@ pub fn swap(
     base: &Name,
     field: &Name,
     variable: &Name,
-    found: &mut Found,
+    found: &mut LeastRefusal,
 ) -> Result<Forms, AllocError>
     ensures refused { OnOk result (found.new.least
         ≡ least_from found.old.least (s.swap_refused (kinds_seen kinds.now)

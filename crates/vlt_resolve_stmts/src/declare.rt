@@ -13,7 +13,7 @@ ghost use Rattle.vlt_resolve_stmts.specs.Declarations as d;
 use std::alloc::{AllocError, Global};
 use vlt_base::{Items, TypeId, VarId};
 use vlt_kinds::Kinds;
-use vlt_kinds_types::Found;
+use vlt_kinds_types::LeastRefusal;
 use vlt_resolve_calls::{Forms, Target};
 use vlt_resolve_exprs::{Scope, check_known, check_new_key, check_new_var, copy_ty, var_number};
 use vlt_resolve_rights::{add_hidden, check_hidden, check_uses, right, right_for};
@@ -29,7 +29,7 @@ fn binds_key(scope: &Scope<'_>, ty: &Ty) -> bool
 }
 
 #[tactic(auto, unfolding(crate::specs::Declarations::bound_key_refused))]
-fn check_bound_key(kinds: &Kinds<'_>, scope: &Scope<'_>, ty: &Ty, found: &mut Found)
+fn check_bound_key(kinds: &Kinds<'_>, scope: &Scope<'_>, ty: &Ty, found: &mut LeastRefusal)
     ensures { found.new.least ≡ least_from found.old.least
         (d.bound_key_refused (kinds_seen kinds.now) (scope_seen scope.now) (tree.ty_of ty.now)) }
 {
@@ -80,7 +80,7 @@ fn check_type(
     kinds: &Kinds<'_>,
     scope: &Scope<'_>,
     ty: &Ty,
-    found: &mut Found,
+    found: &mut LeastRefusal,
 ) -> Result<(), AllocError>
     ensures { OnOk result (found.new.least ≡ least_from found.old.least
         (d.type_refused (kinds_seen kinds.now) (scope_seen scope.now) (tree.ty_of ty.now))) }
@@ -141,7 +141,7 @@ fn declare_behind<'a>(
     hidden: VarId,
     name: &'a Name,
     value: &Right,
-    found: &mut Found,
+    found: &mut LeastRefusal,
 ) -> Result<Forms, AllocError>
     ensures refused { OnOk result (found.new.least
         ≡ least_from found.old.least (d.hidden_right_refused (kinds_seen kinds.now)
@@ -168,7 +168,7 @@ fn declare_target<'a>(
     name: &'a Name,
     value: &Right,
     at: u32,
-    found: &mut Found,
+    found: &mut LeastRefusal,
 ) -> Result<Forms, AllocError>
     ensures refused { OnOk result (found.new.least
         ≡ least_from found.old.least (d.declared_refused (kinds_seen kinds.now)
@@ -197,7 +197,7 @@ fn declare_keyed<'a>(
     name: &'a Name,
     value: &Right,
     at: u32,
-    found: &mut Found,
+    found: &mut LeastRefusal,
 ) -> Result<Forms, AllocError>
     ensures refused { OnOk result (found.new.least ≡ least_from found.old.least (d.keyed_refused
         (kinds_seen kinds.now) binds (scope_seen scope.old) (tree.ty_of ty.now)
@@ -226,7 +226,7 @@ pub fn declare<'a>(
     name: &'a Name,
     value: &Right,
     at: u32,
-    found: &mut Found,
+    found: &mut LeastRefusal,
 ) -> Result<Forms, AllocError>
     ensures refused { OnOk result (found.new.least ≡ least_from found.old.least (d.declare_refused
         (kinds_seen kinds.now) (scope_seen scope.old) (tree.ty_of ty.now) (tree.name_of name.now)
@@ -281,7 +281,7 @@ pub fn assign(
     name: &Name,
     value: &Right,
     at: u32,
-    found: &mut Found,
+    found: &mut LeastRefusal,
 ) -> Result<Forms, AllocError>
     ensures refused { OnOk result (found.new.least ≡ least_from found.old.least (d.assign_refused
         (kinds_seen kinds.now) (scope_seen scope.old) (tree.name_of name.now)

@@ -15,7 +15,7 @@ use vlt_base::{Items, KeyId, TypeId};
 use vlt_core::rules::{UNKNOWN_NAME, WRONG_RELEASE};
 use vlt_core::{FieldDecl, Form, Ty};
 use vlt_kinds::Kinds;
-use vlt_kinds_types::Found;
+use vlt_kinds_types::LeastRefusal;
 use vlt_resolve_calls::Forms;
 use vlt_resolve_exprs::{
     Scope, add_several, fields_of, is_owning, is_struct, ty_under, var_number,
@@ -68,7 +68,7 @@ fn opened_parts(
 }
 
 #[tactic(auto, unfolding(crate::specs::Statements::unopened_refused))]
-fn check_unopened(ty: Option<&Ty>, name: &Name, found: &mut Found)
+fn check_unopened(ty: Option<&Ty>, name: &Name, found: &mut LeastRefusal)
     ensures { found.new.least ≡ least_from found.old.least
         (s.unopened_refused (option_map (λ t. ty_of t.now) ty.entry) (tree.name_of name.now)) }
 {
@@ -86,7 +86,7 @@ fn open_parts<'a>(
     name: &Name,
     parts: &'a [Name],
     at: u32,
-    found: &mut Found,
+    found: &mut LeastRefusal,
 ) -> Result<Forms, AllocError>
     ensures refused { OnOk result (found.new.least
         ≡ least_from found.old.least (s.opened_refused (kinds_seen kinds.now)
@@ -119,7 +119,7 @@ pub fn open<'a>(
     name: &Name,
     parts: &'a [Name],
     at: u32,
-    found: &mut Found,
+    found: &mut LeastRefusal,
 ) -> Result<Forms, AllocError>
     ensures refused { OnOk result (found.new.least
         ≡ least_from found.old.least (s.open_refused (kinds_seen kinds.now)

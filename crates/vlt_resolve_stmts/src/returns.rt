@@ -20,7 +20,7 @@ use vlt_base::{KeyId, VarId};
 use vlt_core::rules::{RETURNED_KEY, WRONG_JUMP, WRONG_RETURN, WRONG_TYPE};
 use vlt_core::{Entry, Expr as CoreExpr, Form, Mode, Operand, Ty};
 use vlt_kinds::Kinds;
-use vlt_kinds_types::Found;
+use vlt_kinds_types::LeastRefusal;
 use vlt_resolve_calls::{Forms, build, has_fresh};
 use vlt_resolve_exprs::{
     Scope, check_any, check_operand, check_too_many_vars, copy_ty, core_operand, is_owning, place,
@@ -78,7 +78,7 @@ fn check_fresh_given(
     given: &Option<Ty>,
     value: u32,
     at: u32,
-    found: &mut Found,
+    found: &mut LeastRefusal,
 )
     ensures { found.new.least ≡ least_from found.old.least
         (s.fresh_misfit (map entry_of clause.now) (ty_of wanted.now)
@@ -105,7 +105,7 @@ fn check_fresh(
     wanted: &Ty,
     expr: &Expr,
     at: u32,
-    found: &mut Found,
+    found: &mut LeastRefusal,
 ) -> Result<(), AllocError>
     ensures { OnOk result (found.new.least ≡ least_from found.old.least
         (s.fresh_refused (kinds_seen kinds.now) (scope_seen scope.now) (map entry_of clause.now)
@@ -126,7 +126,7 @@ fn check_value(
     wanted: &Ty,
     expr: &Expr,
     at: u32,
-    found: &mut Found,
+    found: &mut LeastRefusal,
 ) -> Result<(), AllocError>
     ensures { OnOk result (found.new.least ≡ least_from found.old.least
         (s.value_refused (kinds_seen kinds.now) (scope_seen scope.now) (map entry_of clause.now)
@@ -147,7 +147,7 @@ fn check_value_for(
     wanted: &Option<Ty>,
     expr: &Expr,
     at: u32,
-    found: &mut Found,
+    found: &mut LeastRefusal,
 ) -> Result<(), AllocError>
     ensures { OnOk result (found.new.least ≡ least_from found.old.least
         (s.value_refused_for (kinds_seen kinds.now) (scope_seen scope.now)
@@ -197,7 +197,7 @@ fn return_known_build(
     scope: &mut Scope<'_>,
     wanted: &Ty,
     built: &Build,
-    found: &mut Found,
+    found: &mut LeastRefusal,
 ) -> Result<Forms, AllocError>
     ensures refused { OnOk result (found.new.least
         ≡ least_from found.old.least (b.build_refused (kinds_seen kinds.now)
@@ -221,7 +221,7 @@ fn return_build_for(
     scope: &mut Scope<'_>,
     wanted: &Option<Ty>,
     built: &Build,
-    found: &mut Found,
+    found: &mut LeastRefusal,
 ) -> Result<Forms, AllocError>
     ensures refused { OnOk result (found.new.least
         ≡ least_from found.old.least (s.build_refused_for (kinds_seen kinds.now)
@@ -245,7 +245,7 @@ fn return_build(
     wanted: &Option<Ty>,
     built: &Build,
     at: u32,
-    found: &mut Found,
+    found: &mut LeastRefusal,
 ) -> Result<Forms, AllocError>
     ensures refused { OnOk result (found.new.least
         ≡ least_from found.old.least (s.built_refused (kinds_seen kinds.now)
@@ -269,7 +269,7 @@ fn returned(
     scope: &mut Scope<'_>,
     gives: &Returned,
     at: u32,
-    found: &mut Found,
+    found: &mut LeastRefusal,
 ) -> Result<Forms, AllocError>
     ensures refused { OnOk result (found.new.least
         ≡ least_from found.old.least (s.returned_refused (kinds_seen kinds.now)
@@ -324,7 +324,7 @@ pub fn return_stmt(
     scope: &mut Scope<'_>,
     gives: &Returned,
     at: u32,
-    found: &mut Found,
+    found: &mut LeastRefusal,
 ) -> Result<Forms, AllocError>
     ensures refused { OnOk result (found.new.least
         ≡ least_from found.old.least (s.return_refused (kinds_seen kinds.now)

@@ -21,13 +21,13 @@ use std::alloc::{AllocError, Global};
 use vlt_core::rules::WRONG_JUMP;
 use vlt_core::{Form, Ty};
 use vlt_kinds::Kinds;
-use vlt_kinds_types::Found;
+use vlt_kinds_types::LeastRefusal;
 use vlt_resolve_calls::{Forms, Use, call};
 use vlt_resolve_exprs::{Scope, check_wanted, core_expr};
 use vlt_syntax::{Call, Expr, Stmt};
 
 #[tactic(auto, unfolding(crate::specs::Statements::jump_refused))]
-fn check_jump(around: Around<'_>, at: u32, found: &mut Found)
+fn check_jump(around: Around<'_>, at: u32, found: &mut LeastRefusal)
     ensures { found.new.least ≡ least_from found.old.least
         (s.jump_refused (around_seen around.entry) at) }
 {
@@ -35,7 +35,7 @@ fn check_jump(around: Around<'_>, at: u32, found: &mut Found)
 }
 
 /// A jump out of the innermost loop, or to its head.
-fn jump(around: Around<'_>, continues: bool, at: u32, found: &mut Found) -> Forms
+fn jump(around: Around<'_>, continues: bool, at: u32, found: &mut LeastRefusal) -> Forms
     ensures refused { found.new.least ≡ least_from found.old.least
         (s.jump_refused (around_seen around.entry) at) }
     ensures forms { forms_of result ≡ core.jump continues ∷ [] }
@@ -49,7 +49,7 @@ fn print(
     kinds: &Kinds<'_>,
     scope: &Scope<'_>,
     value: &Expr,
-    found: &mut Found,
+    found: &mut LeastRefusal,
 ) -> Result<Forms, AllocError>
     ensures refused { OnOk result (found.new.least
         ≡ least_from found.old.least (e.wanted_refused (kinds_seen kinds.now)
@@ -70,7 +70,7 @@ fn drop_call(
     scope: &Scope<'_>,
     called: &Call,
     at: u32,
-    found: &mut Found,
+    found: &mut LeastRefusal,
 ) -> Result<Forms, AllocError>
     ensures refused { OnOk result (found.new.least ≡ least_from found.old.least
         (c.call_refused (kinds_seen kinds.now) (scope_seen scope.now) (c.dropped at)
@@ -90,7 +90,7 @@ pub fn simple<'a>(
     around: Around<'_>,
     scope: &mut Scope<'a>,
     stmt: &'a Stmt,
-    found: &mut Found,
+    found: &mut LeastRefusal,
 ) -> Result<Forms, AllocError>
     ensures refused { OnOk result (found.new.least
         ≡ least_from found.old.least (s.simple_refused (kinds_seen kinds.now)

@@ -12,11 +12,11 @@ pub struct Refusal {
 
 /// The least refusal so far: that of the least place, and there of the least rule.
 #[derive(Clone, Copy, Debug, PartialEq, Eq)]
-pub struct Found {
+pub struct LeastRefusal {
     pub least: Option<Refusal>,
 }
 
-impl Found {
+impl LeastRefusal {
     /// Notes that a rule refuses here.
     pub fn add(&mut self, rule: u8, at: u32)
         ensures { self.new.least ≡ lesser self.old.least (refusal rule at) }

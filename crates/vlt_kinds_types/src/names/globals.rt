@@ -8,7 +8,7 @@ ghost use Rattle.vlt_kinds_types.specs.Names.Refusals.{least_from};
 ghost use Rattle.vlt_kinds_types.specs.Names.Names.{names_again};
 ghost use Rattle.vlt_kinds_types.specs.Names.Globals.{names_seen, global_in, is_global, decl_name, global_of, counts_after, globals_of, counts_seen};
 
-use crate::names::found::Found;
+use crate::names::found::LeastRefusal;
 use indexmap::IndexMap;
 use std::alloc::{AllocError, Global};
 use vlt_core::rules;
@@ -106,7 +106,7 @@ impl Counts {
 pub fn known_names<'a>(
     alloc: Global,
     decls: &'a [Decl],
-    found: &mut Found,
+    found: &mut LeastRefusal,
 ) -> Result<Globals<'a>, AllocError>
     requires { length decls.now < 2 ^ 32 - 1 }
     ensures names { IfOk result (λ g. names_seen g ≡ globals_of (map decl_of decls.now)) }

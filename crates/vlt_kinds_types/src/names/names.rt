@@ -9,7 +9,7 @@ ghost use Rattle.vlt_kinds_types.specs.Names.Refusals.{least_from, found_each, r
 ghost use Rattle.vlt_kinds_types.specs.Names.Names as n;
 ghost use Rattle.vlt_kinds_types.specs.Names.Globals.{globals_of, names_seen};
 
-use crate::names::found::Found;
+use crate::names::found::LeastRefusal;
 use crate::names::globals::{self, Entity, Globals};
 use std::alloc::{AllocError, Global};
 use vlt_core::rules;
@@ -71,7 +71,7 @@ fn is_named_one<T: HasName>(name: &Name, others: &[T]) -> bool
 
 /// Refuses each name that stands here for another time. The lists that come here are bounded by limits of the grammar.
 #[tactic(auto, unfolding(crate::specs::Names::Names::repeated_names))]
-pub fn refuse_repeated<T: HasName>(rule: u8, named: &[T], found: &mut Found)
+pub fn refuse_repeated<T: HasName>(rule: u8, named: &[T], found: &mut LeastRefusal)
     ensures { found.new.least ≡ least_from found.old.least
         (refuse rule (n.repeated_names (map T.name named.now))) }
 {
@@ -84,7 +84,7 @@ pub fn refuse_repeated<T: HasName>(rule: u8, named: &[T], found: &mut Found)
 }
 
 #[tactic(auto, unfolding(crate::specs::Names::Names::header_keys_taken))]
-fn check_taken(params: &[HeaderKey], known: &Globals<'_>, found: &mut Found)
+fn check_taken(params: &[HeaderKey], known: &Globals<'_>, found: &mut LeastRefusal)
     ensures { found.new.least ≡ least_from found.old.least
         (n.header_keys_taken (names_seen known.now)
         (map (λ p. (view.header_key_of p).key) params.now)) }
@@ -97,7 +97,7 @@ fn check_taken(params: &[HeaderKey], known: &Globals<'_>, found: &mut Found)
 }
 
 #[tactic(auto, using(crate::proofs::OfNames::Least::least_of_both, crate::proofs::OfNames::Least::mapped_twice), unfolding(crate::specs::Names::Names::header_refused))]
-fn check_header(params: &[HeaderKey], known: &Globals<'_>, found: &mut Found)
+fn check_header(params: &[HeaderKey], known: &Globals<'_>, found: &mut LeastRefusal)
     ensures { found.new.least ≡ least_from found.old.least
         (n.header_refused (names_seen known.now) (map view.header_key_of params.now)) }
 {
@@ -106,7 +106,7 @@ fn check_header(params: &[HeaderKey], known: &Globals<'_>, found: &mut Found)
 }
 
 #[tactic(auto, unfolding(crate::specs::Names::Names::set_refused))]
-fn check_set(set: &Option<Name>, known: &Globals<'_>, found: &mut Found)
+fn check_set(set: &Option<Name>, known: &Globals<'_>, found: &mut LeastRefusal)
     ensures { found.new.least ≡ least_from found.old.least
         (n.set_refused (names_seen known.now) (option_map view.name_of set.now)) }
 {
@@ -135,7 +135,7 @@ fn check_struct(
     set: &Option<Name>,
     fields: &[Field],
     known: &Globals<'_>,
-    found: &mut Found,
+    found: &mut LeastRefusal,
 )
     ensures { found.new.least ≡ least_from found.old.least
         (n.struct_refused (names_seen known.now) (map view.header_key_of params.now)
@@ -147,7 +147,7 @@ fn check_struct(
 }
 
 #[tactic(auto, using(crate::proofs::OfNames::Least::least_of_both, crate::proofs::OfNames::Least::mapped_twice), unfolding(crate::specs::Names::Names::variant_refused))]
-fn check_variant(params: &[HeaderKey], cases: &[Case], known: &Globals<'_>, found: &mut Found)
+fn check_variant(params: &[HeaderKey], cases: &[Case], known: &Globals<'_>, found: &mut LeastRefusal)
     ensures { found.new.least ≡ least_from found.old.least
         (n.variant_refused (names_seen known.now) (map view.header_key_of params.now)
         (map view.case_of cases.now)) }
@@ -157,7 +157,7 @@ fn check_variant(params: &[HeaderKey], cases: &[Case], known: &Globals<'_>, foun
 }
 
 #[tactic(auto, unfolding(crate::specs::Names::Names::name_beyond_ascii))]
-fn check_extern(head: &Head, found: &mut Found)
+fn check_extern(head: &Head, found: &mut LeastRefusal)
     ensures { found.new.least ≡ least_from found.old.least
         (n.name_beyond_ascii (view.head_of head.now)) }
 {
@@ -166,7 +166,7 @@ fn check_extern(head: &Head, found: &mut Found)
     }
 }
 
-fn check_decl(decl: &Decl, known: &Globals<'_>, found: &mut Found)
+fn check_decl(decl: &Decl, known: &Globals<'_>, found: &mut LeastRefusal)
     ensures { found.new.least ≡ least_from found.old.least
         (n.decl_refused (names_seen known.now) (view.decl_of decl.now)) }
 {
@@ -205,7 +205,7 @@ fn has_main(decls: &[Decl]) -> bool
 }
 
 #[tactic(auto, unfolding(crate::specs::Names::Names::no_main))]
-fn check_main(decls: &[Decl], found: &mut Found)
+fn check_main(decls: &[Decl], found: &mut LeastRefusal)
     ensures { found.new.least ≡ least_from found.old.least
         (n.no_main (map view.decl_of decls.now)) }
 {
@@ -214,7 +214,7 @@ fn check_main(decls: &[Decl], found: &mut Found)
     }
 }
 
-fn check_decls(decls: &[Decl], known: &Globals<'_>, found: &mut Found)
+fn check_decls(decls: &[Decl], known: &Globals<'_>, found: &mut LeastRefusal)
     ensures { found.new.least
         ≡ found_each (n.decl_refused (names_seen known.now))
         (map view.decl_of decls.now) found.old.least }
@@ -229,7 +229,7 @@ fn check_decls(decls: &[Decl], known: &Globals<'_>, found: &mut Found)
 pub fn check_names<'a>(
     alloc: Global,
     decls: &'a [Decl],
-    found: &mut Found,
+    found: &mut LeastRefusal,
 ) -> Result<Globals<'a>, AllocError>
     requires { length decls.now < 2 ^ 32 - 1 }
     ensures names { IfOk result (λ g. names_seen g ≡ globals_of (map view.decl_of decls.now)) }

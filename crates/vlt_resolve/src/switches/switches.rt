@@ -17,7 +17,7 @@ use vlt_base::{Items, KeyId, TypeId, VarId};
 use vlt_core::rules::{UNKNOWN_NAME, WRONG_SWITCH, WRONG_TYPE};
 use vlt_core::{CaseDecl, Ty};
 use vlt_kinds::Kinds;
-use vlt_kinds_types::Found;
+use vlt_kinds_types::LeastRefusal;
 use vlt_resolve_calls::{Case, case_of_tick, cases_of, without_tick};
 use vlt_resolve_exprs::{Scope, add_several, check_new_key, check_new_var};
 use vlt_syntax::{Arm, Name};
@@ -115,7 +115,7 @@ fn check_cases(
     name: &Name,
     names: &[&[u8]],
     at: u32,
-    found: &mut Found,
+    found: &mut LeastRefusal,
 ) -> Result<(), AllocError>
     ensures { OnOk result (found.new.least ≡ least_from found.old.least
         (s.cases_refused (kinds_seen kinds.now) (option_map ty_of ty.now)
@@ -140,7 +140,7 @@ pub fn check_switch(
     name: &Name,
     names: &[&[u8]],
     at: u32,
-    found: &mut Found,
+    found: &mut LeastRefusal,
 ) -> Result<(), AllocError>
     ensures { OnOk result (found.new.least ≡ least_from found.old.least
         (s.switch_refused (kinds_seen kinds.now) (option_map ty_of ty.now)
@@ -178,7 +178,7 @@ pub fn bind_arm<'a>(
     case: &Option<Case>,
     tick: &Name,
     names: &'a [Name],
-    found: &mut Found,
+    found: &mut LeastRefusal,
 ) -> Result<Items<VarId>, AllocError>
     ensures refused { OnOk result (found.new.least
         ≡ least_from found.old.least (s.arm_refused (kinds_seen kinds.now)
@@ -229,7 +229,7 @@ fn focused_type(ty: &Option<Ty>) -> Option<TypeId>
 }
 
 #[tactic(auto, unfolding(crate::specs::Switches::Switches::focused_refused))]
-fn check_focused(ty: &Option<Ty>, name: &Name, found: &mut Found)
+fn check_focused(ty: &Option<Ty>, name: &Name, found: &mut LeastRefusal)
     ensures { found.new.least ≡ least_from found.old.least
         (s.focused_refused (option_map ty_of ty.now) (tree.name_of name.now)) }
 {
@@ -262,7 +262,7 @@ fn bind_focus_names<'a>(
     ty: &Option<Ty>,
     key: &'a Name,
     alias: &'a Name,
-    found: &mut Found,
+    found: &mut LeastRefusal,
 ) -> Result<(), AllocError>
     ensures refused { OnOk result (found.new.least
         ≡ least_from found.old.least (s.bound_refused (kinds_seen kinds.now)
@@ -289,7 +289,7 @@ pub fn bind_focus<'a>(
     name: &Name,
     key: &'a Name,
     alias: &'a Name,
-    found: &mut Found,
+    found: &mut LeastRefusal,
 ) -> Result<(), AllocError>
     ensures refused { OnOk result (found.new.least
         ≡ least_from found.old.least (s.focus_refused (kinds_seen kinds.now)

@@ -25,7 +25,7 @@ use vlt_base::{Items, VarId};
 use vlt_core::rules::BEHIND_END;
 use vlt_core::{Form, Ty};
 use vlt_kinds::Kinds;
-use vlt_kinds_types::Found;
+use vlt_kinds_types::LeastRefusal;
 use vlt_resolve_calls::{Case, Forms};
 use vlt_resolve_exprs::{Outer, Scope, check_wanted, core_expr, var_number};
 use vlt_resolve_stmts::{Around, known_ty, next_var, simple};
@@ -34,16 +34,16 @@ use vlt_syntax::{Arm, Block, Else, Expr, If, Name, Stmt};
 // ---- what was found
 
 #[tactic(auto, unfolding(crate::specs::Walk::Walk::late))]
-fn late(ended: bool, stmt: &Stmt) -> Found
+fn late(ended: bool, stmt: &Stmt) -> LeastRefusal
     ensures { result.least ≡ w.late ended (tree.stmt_of stmt.now) }
 {
-    let mut found = Found { least: None };
+    let mut found = LeastRefusal { least: None };
     found.add_if(ended, BEHIND_END, stmt_place(stmt));
     found
 }
 
 /// Goes on where nothing was found.
-pub fn passed(found: Found) -> Result<(), Stop>
+pub fn passed(found: LeastRefusal) -> Result<(), Stop>
     ensures ok { OnOk result (found.least ≡ None) }
     ensures refused { OnRefused result (λ r. found.least ≡ Some r) }
 {
@@ -54,7 +54,7 @@ pub fn passed(found: Found) -> Result<(), Stop>
 }
 
 /// Gives the forms where nothing was found.
-fn passed_with(found: Found, forms: Forms) -> Result<Forms, Stop>
+fn passed_with(found: LeastRefusal, forms: Forms) -> Result<Forms, Stop>
     ensures ok { IfOk result (λ fs. (found.least ≡ None) × (forms_of fs ≡ forms_of forms)) }
     ensures refused { OnRefused result (λ r. found.least ≡ Some r) }
 {
@@ -88,7 +88,7 @@ fn walk_simple<'a>(
     kinds: &Kinds<'_>,
     around: Around<'_>,
     scope: &mut Scope<'a>,
-    found: Found,
+    found: LeastRefusal,
     stmt: &'a Stmt,
 ) -> Result<Forms, Stop>
     ensures ok { IfOk result (λ fs. w.walk_simple (kinds_seen kinds.now)
@@ -108,7 +108,7 @@ fn tested(
     alloc: Global,
     kinds: &Kinds<'_>,
     scope: &Scope<'_>,
-    found: Found,
+    found: LeastRefusal,
     condition: &Expr,
 ) -> Result<vlt_core::Expr, Stop>
     ensures ok { IfOk result (λ c. (least_from found.least
@@ -132,7 +132,7 @@ fn switched(
     alloc: Global,
     kinds: &Kinds<'_>,
     scope: &Scope<'_>,
-    found: Found,
+    found: LeastRefusal,
     variable: &Name,
     arms: &[Arm],
     at: u32,
@@ -168,7 +168,7 @@ fn focused<'a>(
     alloc: Global,
     kinds: &Kinds<'_>,
     scope: &mut Scope<'a>,
-    found: Found,
+    found: LeastRefusal,
     ty: &Option<Ty>,
     variable: &Name,
     key: &'a Name,
@@ -212,7 +212,7 @@ fn bound_arm<'a>(
         (option_map case_seen case.now) (tree.name_of tick.now) (tree.names_of names.now))
         ≡ Some r) }
 {
-    let mut found = Found { least: None };
+    let mut found = LeastRefusal { least: None };
     let vars = bind_arm(alloc, kinds, scope, case, tick, names, &mut found)?;
     passed(found)?;
     Ok(vars)
@@ -283,7 +283,7 @@ fn walk_stmt<'a>(
     kinds: &Kinds<'_>,
     around: Around<'_>,
     scope: &mut Scope<'a>,
-    found: Found,
+    found: LeastRefusal,
     stmt: &'a Stmt,
 ) -> Result<Forms, Stop>
     ensures ok { IfOk result (λ fs. w.walk_stmt (kinds_seen kinds.now)
@@ -346,7 +346,7 @@ fn walk_focus<'a>(
     kinds: &Kinds<'_>,
     around: Around<'_>,
     scope: &mut Scope<'a>,
-    found: Found,
+    found: LeastRefusal,
     variable: &Name,
     key: &'a Name,
     alias: &'a Name,
@@ -404,7 +404,7 @@ fn walk_if<'a>(
     kinds: &Kinds<'_>,
     around: Around<'_>,
     scope: &mut Scope<'a>,
-    found: Found,
+    found: LeastRefusal,
     choice: &'a If,
 ) -> Result<Forms, Stop>
     ensures ok { IfOk result (λ fs. w.walk_if (kinds_seen kinds.now) (around_seen around.entry)
@@ -473,7 +473,7 @@ fn walk_chained<'a>(
         alloc,
         kinds,
         scope,
-        Found { least: None },
+        LeastRefusal { least: None },
         &choice.condition,
     )?;
     let then_block = walk_block(alloc, kinds, around, scope, &choice.then_block)?;
