@@ -34,7 +34,7 @@ fn field(alloc: Global, tokens: &[Token<'_>], at: usize) -> Result<(Field, usize
     ensures placed { Lies field_of field_at tokens.now at result }
     ensures right { Holds field_of IsField result }
     ensures moves { Advances tokens.now at result }
-    ensures place { Takes (automaton.thing automaton.a_ty ∷ automaton.name ∷
+    ensures takes { Takes (automaton.thing automaton.a_ty ∷ automaton.name ∷
         automaton.at_states ∷ automaton.sign Semicolon ∷ []) tokens.now at result }
 {
     let (ty, next) = ty(alloc, tokens, at)?;
@@ -76,7 +76,7 @@ fn fields(
     ensures right { Holds (map field_of) (Each IsField) result }
     ensures few { Holds (map field_of) (AtMost language.fields) result }
     ensures moves { MayAdvance tokens.now at result }
-    ensures place { Turns (automaton.fields (fields_left 0) ∷
+    ensures takes { Turns (automaton.fields (fields_left 0) ∷
         []) (λ x. automaton.behind_fields ∷ []) (λ x. x.1) tokens.now at result }
 {
     let most = Some(bound(FIELDS));
@@ -103,7 +103,7 @@ fn release(
     ensures placed { Lies (option_map states_of) release_at tokens.now at result }
     ensures right { MayBe (option_map states_of) IsStates result }
     ensures moves { MayAdvance tokens.now at result }
-    ensures place { Turns (automaton.behind_fields ∷ []) (λ x. automaton.sign CloseBrace ∷
+    ensures takes { Turns (automaton.behind_fields ∷ []) (λ x. automaton.sign CloseBrace ∷
         []) (λ x. x.1) tokens.now at result }
 {
     let Ok(next) = keyword(tokens, at, Word::Release) else {
@@ -120,7 +120,7 @@ fn stateset(alloc: Global, tokens: &[Token<'_>], at: usize) -> Result<(Decl, usi
     ensures placed { Lies decl_of decl_at tokens.now at result }
     ensures right { Holds decl_of (IsDecl language) result }
     ensures moves { Advances tokens.now at result }
-    ensures place { Takes (automaton.keyword Stateset ∷ automaton.behind_stateset)
+    ensures takes { Takes (automaton.keyword Stateset ∷ automaton.behind_stateset)
         tokens.now at result }
 {
     let next = keyword(tokens, at, Word::Stateset)?;
@@ -142,7 +142,7 @@ fn abstract_decl(
     ensures placed { Lies decl_of decl_at tokens.now at result }
     ensures right { Holds decl_of (IsDecl language) result }
     ensures moves { Advances tokens.now at result }
-    ensures place { Takes (automaton.keyword Abstract ∷ automaton.behind_abstract)
+    ensures takes { Takes (automaton.keyword Abstract ∷ automaton.behind_abstract)
         tokens.now at result }
 {
     let next = keyword(tokens, at, Word::Abstract)?;
@@ -175,7 +175,7 @@ fn struct_head(
         (name_of x.0.name, map header_key_of x.0.params, option_map name_of x.0.states) x.1) }
     ensures few { IfOk result (λ x. AtMost language.parameters (map header_key_of x.0.params)) }
     ensures moves { Advances tokens.now at result }
-    ensures place { Takes (automaton.keyword Struct ∷ automaton.name ∷ automaton.header ∷
+    ensures takes { Takes (automaton.keyword Struct ∷ automaton.name ∷ automaton.header ∷
         automaton.marked_name At ∷ automaton.sign OpenBrace ∷ []) tokens.now at result }
 {
     let next = keyword(tokens, at, Word::Struct)?;
@@ -199,7 +199,7 @@ fn struct_decl(alloc: Global, tokens: &[Token<'_>], at: usize) -> Result<(Decl, 
     ensures placed { Lies decl_of decl_at tokens.now at result }
     ensures right { Holds decl_of (IsDecl language) result }
     ensures moves { Advances tokens.now at result }
-    ensures place { Takes (automaton.keyword Struct ∷ automaton.behind_struct) tokens.now
+    ensures takes { Takes (automaton.keyword Struct ∷ automaton.behind_struct) tokens.now
         at result }
 {
     let (head, next) = struct_head(alloc, tokens, at)?;
@@ -226,7 +226,7 @@ fn variant(alloc: Global, tokens: &[Token<'_>], at: usize) -> Result<(Decl, usiz
     ensures placed { Lies decl_of decl_at tokens.now at result }
     ensures right { Holds decl_of (IsDecl language) result }
     ensures moves { Advances tokens.now at result }
-    ensures place { Takes (automaton.keyword Variant ∷ automaton.behind_variant) tokens.now at
+    ensures takes { Takes (automaton.keyword Variant ∷ automaton.behind_variant) tokens.now at
         result }
 {
     let next = keyword(tokens, at, Word::Variant)?;
@@ -253,7 +253,7 @@ fn external(alloc: Global, tokens: &[Token<'_>], at: usize) -> Result<(Decl, usi
     ensures placed { Lies decl_of decl_at tokens.now at result }
     ensures right { Holds decl_of (IsDecl language) result }
     ensures moves { Advances tokens.now at result }
-    ensures place { Takes (automaton.keyword Extern ∷ automaton.behind_extern) tokens.now
+    ensures takes { Takes (automaton.keyword Extern ∷ automaton.behind_extern) tokens.now
         at result }
 {
     let next = keyword(tokens, at, Word::Extern)?;
@@ -269,7 +269,7 @@ fn function(alloc: Global, tokens: &[Token<'_>], at: usize) -> Result<(Decl, usi
     ensures placed { Lies decl_of decl_at tokens.now at result }
     ensures right { Holds decl_of (IsDecl language) result }
     ensures moves { Advances tokens.now at result }
-    ensures place { Takes (automaton.head ∷ automaton.block language.depth ∷ []) tokens.now at
+    ensures takes { Takes (automaton.head ∷ automaton.block language.depth ∷ []) tokens.now at
         result }
 {
     let (head, next) = head(alloc, tokens, at)?;
@@ -304,7 +304,7 @@ fn decl(alloc: Global, tokens: &[Token<'_>], at: usize) -> Result<(Decl, usize),
     ensures placed { Lies decl_of decl_at tokens.now at result }
     ensures right { Holds decl_of (IsDecl language) result }
     ensures moves { Advances tokens.now at result }
-    ensures place { Takes (automaton.thing automaton.a_decl ∷ []) tokens.now at result }
+    ensures takes { Takes (automaton.thing automaton.a_decl ∷ []) tokens.now at result }
 {
     match kind(tokens, at) {
         Some(TokenKind::Keyword(Word::Stateset)) => stateset(alloc, tokens, at),
@@ -325,7 +325,7 @@ pub fn decls(alloc: Global, tokens: &[Token<'_>]) -> Result<Items<Decl>, ParseEr
         (length tokens.now)) }
     ensures right { IfOk result (λ x. Each (IsDecl language) (map decl_of x)) }
     ensures few { IfOk result (λ x. AtMost language.decls (map decl_of x)) }
-    ensures place { Ends (automaton.decls (decls_left 0)) tokens.now result }
+    ensures takes { Ends (automaton.decls (decls_left 0)) tokens.now result }
 {
     let most = Some(bound(DECLARATIONS));
     let mut decls = Items::new(alloc);

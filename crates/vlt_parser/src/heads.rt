@@ -31,7 +31,7 @@ fn result_type(
     ensures placed { Lies result_type_of result_type_at tokens.now at result }
     ensures right { Holds result_type_of IsResultType result }
     ensures moves { Advances tokens.now at result }
-    ensures place { Takes (automaton.thing automaton.a_result_type ∷ []) tokens.now at result }
+    ensures takes { Takes (automaton.thing automaton.a_result_type ∷ []) tokens.now at result }
 {
     match kind(tokens, at) {
         Some(TokenKind::Keyword(Word::Void)) => Ok((
@@ -57,7 +57,7 @@ fn clause(
     ensures placed { Lies (option_map (map entry_of)) clause_at tokens.now at result }
     ensures right { MayBe (option_map (map entry_of)) (Each IsEntry) result }
     ensures moves { MayAdvance tokens.now at result }
-    ensures place { Takes (automaton.clause ∷ []) tokens.now at result }
+    ensures takes { Takes (automaton.clause ∷ []) tokens.now at result }
 {
     match behind_sign(tokens, at, Mark::OpenBracket) {
         Some(next) => {
@@ -88,7 +88,7 @@ fn head_start(
         tokens.now at (result_type_of x.0.result_type, name_of x.0.name) x.1) }
     ensures right { IfOk result (λ x. IsResultType (result_type_of x.0.result_type)) }
     ensures moves { Advances tokens.now at result }
-    ensures place { Takes (automaton.thing automaton.a_result_type ∷ automaton.name ∷
+    ensures takes { Takes (automaton.thing automaton.a_result_type ∷ automaton.name ∷
         automaton.sign OpenParen ∷ []) tokens.now at result }
 {
     let (result_type, next) = result_type(alloc, tokens, at)?;
@@ -103,7 +103,7 @@ pub fn head(alloc: Global, tokens: &[Token<'_>], at: usize) -> Result<(Head, usi
     ensures placed { Lies head_of head_at tokens.now at result }
     ensures right { Holds head_of (IsHead language) result }
     ensures moves { Advances tokens.now at result }
-    ensures place { Takes (automaton.head ∷ []) tokens.now at result }
+    ensures takes { Takes (automaton.head ∷ []) tokens.now at result }
 {
     let (start, next) = head_start(alloc, tokens, at)?;
     let most = Some(bound(PARAMETERS));

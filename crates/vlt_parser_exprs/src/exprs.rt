@@ -120,7 +120,7 @@ fn variable(alloc: Global, tokens: &[Token<'_>], at: usize) -> Result<(Expr, usi
     ensures binds { IfOk result (λ x. (least : ℕ) → BindsFrom least (expr_of x.0)) }
     ensures depth { IfOk result (λ x. depth_of (expr_of x.0) ≡ 1) }
     ensures moves { Advances tokens.now at result }
-    ensures place { (fs : List automaton.Pending) → Turns (automaton.name ∷
+    ensures takes { (fs : List automaton.Pending) → Turns (automaton.name ∷
         automaton.behind_variable 1 fs ∷ []) (λ x. automaton.behind_operand 1 fs ∷ []) (λ x. x.1)
         tokens.now at result }
 {
@@ -152,7 +152,7 @@ fn primary(
     ensures depth { IfOk result (λ x. x.0.depth ≡ depth_of (expr_of x.0.expr)) }
     ensures within { IfOk result (λ x. (1 ≤ x.0.depth) × (x.0.depth ≤ room)) }
     ensures moves { Advances tokens.now at result }
-    ensures place { (fs : List automaton.Pending) → Turns (automaton.operand room fs ∷
+    ensures takes { (fs : List automaton.Pending) → Turns (automaton.operand room fs ∷
         []) (λ x. automaton.behind_operand x.0.depth fs ∷ []) (λ x. x.1) tokens.now at result }
 {
     let (expr, next) = match kind(tokens, at) {
@@ -189,7 +189,7 @@ fn group(
     ensures depth { IfOk result (λ x. x.0.depth ≡ depth_of (expr_of x.0.expr)) }
     ensures within { IfOk result (λ x. (1 ≤ x.0.depth) × (x.0.depth ≤ room)) }
     ensures moves { Advances tokens.now at result }
-    ensures place { (fs : List automaton.Pending) → Turns (automaton.operand room fs ∷
+    ensures takes { (fs : List automaton.Pending) → Turns (automaton.operand room fs ∷
         []) (λ x. automaton.behind_operand x.0.depth fs ∷ []) (λ x. x.1) tokens.now from result }
 {
     let inside = deeper(1, room)?;
@@ -224,7 +224,7 @@ fn unary(
     ensures depth { IfOk result (λ x. x.0.depth ≡ depth_of (expr_of x.0.expr)) }
     ensures within { IfOk result (λ x. (1 ≤ x.0.depth) × (x.0.depth ≤ room)) }
     ensures moves { Advances tokens.now at result }
-    ensures place { (fs : List automaton.Pending) → Turns (automaton.operand room fs ∷
+    ensures takes { (fs : List automaton.Pending) → Turns (automaton.operand room fs ∷
         []) (λ x. automaton.behind_operand x.0.depth fs ∷ []) (λ x. x.1) tokens.now at result }
 {
     let Some(op) = prefix(mark) else {
@@ -272,7 +272,7 @@ fn expression(
     ensures depth { IfOk result (λ x. x.0.depth ≡ depth_of (expr_of x.0.expr)) }
     ensures within { IfOk result (λ x. (1 ≤ x.0.depth) × (x.0.depth ≤ room)) }
     ensures moves { Advances tokens.now at result }
-    ensures place { (fs : List automaton.Pending) →
+    ensures takes { (fs : List automaton.Pending) →
         Turns (automaton.operand room (automaton.level_from least room ∷ fs) ∷
         []) (λ x. automaton.operations x.0.depth (automaton.level_from least room ∷ fs) ∷
         []) (λ x. x.1) tokens.now at result }
@@ -297,7 +297,7 @@ pub fn expr(alloc: Global, tokens: &[Token<'_>], at: usize) -> Result<(Expr, usi
     ensures placed { Lies expr_of expr_at tokens.now at result }
     ensures right { Holds expr_of (IsExpr language) result }
     ensures moves { Advances tokens.now at result }
-    ensures place { Takes (automaton.thing automaton.an_expr ∷ []) tokens.now at result }
+    ensures takes { Takes (automaton.thing automaton.an_expr ∷ []) tokens.now at result }
 {
     let (found, next) = expression(alloc, tokens, at, LEAST, limit(DEPTH) as usize)?;
     Ok((found.expr, next))

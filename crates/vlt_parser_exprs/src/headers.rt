@@ -54,7 +54,7 @@ pub fn header(
     ensures placed { Lies (map header_key_of) (enclosed_at header_key_at) tokens.now at result }
     ensures few { Holds (map header_key_of) (AtMost language.parameters) result }
     ensures moves { MayAdvance tokens.now at result }
-    ensures place { Takes (automaton.header ∷ []) tokens.now at result }
+    ensures takes { Takes (automaton.header ∷ []) tokens.now at result }
 {
     let most = Some(bound(PARAMETERS));
     enclosed(alloc, tokens, at, Mark::Less, Mark::Greater, most)

@@ -40,7 +40,7 @@ pub trait Part: Sized + Drop {
         ensures placed { Lies view places tokens.now at result }
         ensures right { IfOk result (λ x. right (view x.0)) }
         ensures moves { Advances tokens.now at result }
-        ensures place { Takes (automaton.thing thing ∷ []) tokens.now at result };
+        ensures takes { Takes (automaton.thing thing ∷ []) tokens.now at result };
 }
 
 impl Part for Name {
@@ -109,7 +109,7 @@ pub fn some_listed<T: Part>(
     ensures right { Holds (map T.view) (Each T.right) result }
     ensures few { IfOk result (λ x. IsWithin most (length (map T.view x.0))) }
     ensures moves { Advances tokens.now at result }
-    ensures place { Takes (automaton.thing T.thing ∷
+    ensures takes { Takes (automaton.thing T.thing ∷
         automaton.further T.thing closing (left_of most 1) ∷ []) tokens.now at result }
 {
     let mut items = Items::new(alloc);
@@ -141,7 +141,7 @@ pub fn listed<T: Part>(
     ensures right { Holds (map T.view) (Each T.right) result }
     ensures few { IfOk result (λ x. IsWithin most (length (map T.view x.0))) }
     ensures moves { Advances tokens.now at result }
-    ensures place { Takes (automaton.listed T.thing closing (left_of most 0) ∷ [])
+    ensures takes { Takes (automaton.listed T.thing closing (left_of most 0) ∷ [])
         tokens.now at result }
 {
     if let Some(end) = behind_sign(tokens, at, closing) {
@@ -168,7 +168,7 @@ pub fn enclosed<T: Part>(
     ensures right { Holds (map T.view) (Each T.right) result }
     ensures few { IfOk result (λ x. IsWithin most (length (map T.view x.0))) }
     ensures moves { MayAdvance tokens.now at result }
-    ensures place { Takes (automaton.enclosed T.thing opening closing (left_of most 0) ∷ [])
+    ensures takes { Takes (automaton.enclosed T.thing opening closing (left_of most 0) ∷ [])
         tokens.now at result }
 {
     match behind_sign(tokens, at, opening) {

@@ -49,7 +49,7 @@ fn held_entry(alloc: Global, tokens: &[Token<'_>], at: usize) -> Result<(Entry, 
     ensures placed { Lies entry_of entry_at tokens.now at result }
     ensures right { Holds entry_of IsEntry result }
     ensures moves { Advances tokens.now at result }
-    ensures place { Takes (automaton.name ∷ automaton.entry_states ∷ []) tokens.now at result }
+    ensures takes { Takes (automaton.name ∷ automaton.entry_states ∷ []) tokens.now at result }
 {
     let (key, next) = name(alloc, tokens, at)?;
     let Some(next) = behind_sign(tokens, next, Mark::At) else {

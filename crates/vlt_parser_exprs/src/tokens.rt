@@ -104,7 +104,7 @@ pub fn sign(tokens: &[Token<'_>], at: usize, mark: Mark) -> Result<usize, ParseE
         tokens_from tokens.now at ≡ a_sign mark ∷ tokens_from tokens.now next) }
     ensures one { IfOk result (λ next. next ≡ at + 1) }
     ensures moves { IfOk result (λ next. Moves tokens.now at next) }
-    ensures place { Follows (automaton.sign mark ∷ []) (λ next. next) tokens.now at result }
+    ensures takes { Follows (automaton.sign mark ∷ []) (λ next. next) tokens.now at result }
     ensures takes { IfOk result (λ next. Comes (a_sign mark) tokens.now at next) }
     ensures lacks { IfErr result (λ e.
         (e ≡ refusal (lexemes_from tokens.now at)) × LacksSign mark (lexemes_from tokens.now at)) }
@@ -135,7 +135,7 @@ pub fn keyword(tokens: &[Token<'_>], at: usize, word: Word) -> Result<usize, Par
         tokens_from tokens.now at ≡ a_keyword word ∷ tokens_from tokens.now next) }
     ensures one { IfOk result (λ next. next ≡ at + 1) }
     ensures moves { IfOk result (λ next. Moves tokens.now at next) }
-    ensures place { Follows (automaton.keyword word ∷ []) (λ next. next) tokens.now at result }
+    ensures takes { Follows (automaton.keyword word ∷ []) (λ next. next) tokens.now at result }
     ensures takes { IfOk result (λ next. Comes (a_keyword word) tokens.now at next) }
     ensures lacks { IfErr result (λ e.
         (e ≡ refusal (lexemes_from tokens.now at)) ×
@@ -151,7 +151,7 @@ pub fn name(alloc: Global, tokens: &[Token<'_>], at: usize) -> Result<(Name, usi
     ensures spelled { Spells name_of name_then tokens.now at result }
     ensures placed { Lies name_of name_at tokens.now at result }
     ensures moves { Advances tokens.now at result }
-    ensures place { Takes (automaton.name ∷ []) tokens.now at result }
+    ensures takes { Takes (automaton.name ∷ []) tokens.now at result }
 {
     match tokens.get(at) {
         Some(token) if matches!(token.kind, TokenKind::Name) => {
@@ -171,7 +171,7 @@ pub fn case_name(
     ensures spelled { Spells name_of case_name_then tokens.now at result }
     ensures placed { Lies name_of name_at tokens.now at result }
     ensures moves { Advances tokens.now at result }
-    ensures place { Takes (automaton.tick ∷ []) tokens.now at result }
+    ensures takes { Takes (automaton.tick ∷ []) tokens.now at result }
 {
     match tokens.get(at) {
         Some(token) if matches!(token.kind, TokenKind::Tick) => {

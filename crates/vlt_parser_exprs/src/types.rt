@@ -31,7 +31,7 @@ pub fn marked_name(
     ensures spelled { Spells (option_map name_of) (marked_name_then mark) tokens.now at result }
     ensures placed { Lies (option_map name_of) (marked_at name_at) tokens.now at result }
     ensures moves { MayAdvance tokens.now at result }
-    ensures place { Takes (automaton.marked_name mark ∷ []) tokens.now at result }
+    ensures takes { Takes (automaton.marked_name mark ∷ []) tokens.now at result }
 {
     match behind_sign(tokens, at, mark) {
         Some(next) => {
@@ -49,7 +49,7 @@ pub fn states(alloc: Global, tokens: &[Token<'_>], at: usize) -> Result<(States,
     ensures placed { Lies states_of states_at tokens.now at result }
     ensures right { Holds states_of IsStates result }
     ensures moves { Advances tokens.now at result }
-    ensures place { Takes (automaton.states ∷ []) tokens.now at result }
+    ensures takes { Takes (automaton.states ∷ []) tokens.now at result }
 {
     match behind_sign(tokens, at, Mark::OpenBrace) {
         Some(inside) => {
@@ -75,7 +75,7 @@ pub fn at_states(
     ensures placed { Lies (option_map states_of) (marked_at states_at) tokens.now at result }
     ensures right { MayBe (option_map states_of) IsStates result }
     ensures moves { MayAdvance tokens.now at result }
-    ensures place { Takes (automaton.at_states ∷ []) tokens.now at result }
+    ensures takes { Takes (automaton.at_states ∷ []) tokens.now at result }
 {
     match behind_sign(tokens, at, Mark::At) {
         Some(next) => {
@@ -97,7 +97,7 @@ pub fn key_states(
     ensures placed { Lies key_states_of key_states_at tokens.now at result }
     ensures right { Holds key_states_of IsKeyStates result }
     ensures moves { Advances tokens.now at result }
-    ensures place { Takes (automaton.thing automaton.a_key ∷ []) tokens.now at result }
+    ensures takes { Takes (automaton.thing automaton.a_key ∷ []) tokens.now at result }
 {
     let (key, next) = name(alloc, tokens, at)?;
     let (states, next) = at_states(alloc, tokens, next)?;
@@ -132,7 +132,7 @@ pub fn named(alloc: Global, tokens: &[Token<'_>], at: usize) -> Result<(Named, u
     ensures spelled { Spells named_of named_then tokens.now at result }
     ensures placed { Lies named_of named_at tokens.now at result }
     ensures moves { Advances tokens.now at result }
-    ensures place { Takes (automaton.named ∷ []) tokens.now at result }
+    ensures takes { Takes (automaton.named ∷ []) tokens.now at result }
 {
     let (name, next) = name(alloc, tokens, at)?;
     let (keys, next) = enclosed(alloc, tokens, next, Mark::Less, Mark::Greater, None)?;
@@ -153,7 +153,7 @@ fn tracked(
     ensures placed { Lies ty_of ty_at tokens.now from result }
     ensures right { Holds ty_of IsTy result }
     ensures moves { Advances tokens.now at result }
-    ensures place { Takes (automaton.behind_tracked ∷ []) tokens.now at result }
+    ensures takes { Takes (automaton.behind_tracked ∷ []) tokens.now at result }
 {
     if let Some(next) = behind_sign(tokens, at, Mark::OpenParen) {
         let (key, next) = name(alloc, tokens, next)?;
@@ -175,7 +175,7 @@ fn named_ty(alloc: Global, tokens: &[Token<'_>], at: usize) -> Result<(Ty, usize
     ensures placed { Lies ty_of ty_at tokens.now at result }
     ensures right { Holds ty_of IsTy result }
     ensures moves { Advances tokens.now at result }
-    ensures place { Takes (automaton.name ∷ automaton.behind_type_name ∷ [])
+    ensures takes { Takes (automaton.name ∷ automaton.behind_type_name ∷ [])
         tokens.now at result }
 {
     let (first, next) = name(alloc, tokens, at)?;
@@ -193,7 +193,7 @@ pub fn ty(alloc: Global, tokens: &[Token<'_>], at: usize) -> Result<(Ty, usize),
     ensures placed { Lies ty_of ty_at tokens.now at result }
     ensures right { Holds ty_of IsTy result }
     ensures moves { Advances tokens.now at result }
-    ensures place { Takes (automaton.thing automaton.a_ty ∷ []) tokens.now at result }
+    ensures takes { Takes (automaton.thing automaton.a_ty ∷ []) tokens.now at result }
 {
     match kind(tokens, at) {
         Some(TokenKind::Keyword(Word::Int)) => Ok((Ty::Int(span(tokens, at, at + 1)), at + 1)),

@@ -29,7 +29,7 @@ fn build(alloc: Global, tokens: &[Token<'_>], at: usize) -> Result<(Build, usize
     ensures placed { Lies build_of build_at tokens.now at result }
     ensures right { Holds build_of (IsBuild language) result }
     ensures moves { Advances tokens.now at result }
-    ensures place { Takes (automaton.tick ∷
+    ensures takes { Takes (automaton.tick ∷
         automaton.enclosed automaton.an_expr OpenParen CloseParen None ∷ []) tokens.now at result }
 {
     let (case, next) = case_name(alloc, tokens, at)?;
@@ -43,7 +43,7 @@ pub fn call(alloc: Global, tokens: &[Token<'_>], at: usize) -> Result<(Call, usi
     ensures placed { Lies call_of call_at tokens.now at result }
     ensures right { Holds call_of (IsCall language) result }
     ensures moves { Advances tokens.now at result }
-    ensures place { Takes (automaton.name ∷ automaton.sign OpenParen ∷
+    ensures takes { Takes (automaton.name ∷ automaton.sign OpenParen ∷
         automaton.listed automaton.an_expr CloseParen None ∷ []) tokens.now at result }
 {
     let (function, next) = name(alloc, tokens, at)?;
@@ -71,7 +71,7 @@ fn owner(
     ensures spelled { Spells (option_map name_of) owner_then tokens.now at result }
     ensures placed { Lies (option_map name_of) owner_at tokens.now at result }
     ensures moves { MayAdvance tokens.now at result }
-    ensures place { Takes (automaton.owner ∷ []) tokens.now at result }
+    ensures takes { Takes (automaton.owner ∷ []) tokens.now at result }
 {
     match behind_sign(tokens, at, Mark::OpenParen) {
         Some(next) => {
@@ -96,7 +96,7 @@ fn make(
     ensures placed { Lies right_of right_at tokens.now from result }
     ensures right { Holds right_of (IsRight language) result }
     ensures moves { Advances tokens.now at result }
-    ensures place { Takes (automaton.owner ∷ automaton.named ∷ automaton.sign OpenBrace ∷
+    ensures takes { Takes (automaton.owner ∷ automaton.named ∷ automaton.sign OpenBrace ∷
         automaton.listed automaton.an_init CloseBrace None ∷ []) tokens.now at result }
 {
     let (owner, next) = owner(alloc, tokens, at)?;
@@ -128,7 +128,7 @@ fn adopt(
     ensures placed { Lies right_of right_at tokens.now from result }
     ensures right { Holds right_of (IsRight language) result }
     ensures moves { Advances tokens.now at result }
-    ensures place { Takes (automaton.name ∷ automaton.keyword Into ∷ automaton.name ∷ [])
+    ensures takes { Takes (automaton.name ∷ automaton.keyword Into ∷ automaton.name ∷ [])
         tokens.now at result }
 {
     let (variable, next) = name(alloc, tokens, at)?;
@@ -164,7 +164,7 @@ fn no_arguments(tokens: &[Token<'_>], at: usize) -> Result<usize, ParseError>
         a_sign CloseParen ∷ tokens_from tokens.now next) }
     ensures two { IfOk result (λ next. next ≡ at + 1 + 1) }
     ensures moves { IfOk result (λ next. Moves tokens.now at next) }
-    ensures place { Follows (automaton.sign OpenParen ∷ automaton.sign CloseParen ∷
+    ensures takes { Follows (automaton.sign OpenParen ∷ automaton.sign CloseParen ∷
         []) (λ x. x) tokens.now at result }
 {
     let next = sign(tokens, at, Mark::OpenParen)?;
@@ -177,7 +177,7 @@ pub fn right(alloc: Global, tokens: &[Token<'_>], at: usize) -> Result<(Right, u
     ensures placed { Lies right_of right_at tokens.now at result }
     ensures right { Holds right_of (IsRight language) result }
     ensures moves { Advances tokens.now at result }
-    ensures place { Takes (automaton.right ∷ []) tokens.now at result }
+    ensures takes { Takes (automaton.right ∷ []) tokens.now at result }
 {
     match kind(tokens, at) {
         Some(TokenKind::Tick) => {
@@ -217,7 +217,7 @@ pub fn returned(
     ensures placed { Lies returned_of returned_at tokens.now at result }
     ensures right { Holds returned_of (IsReturned language) result }
     ensures moves { MayAdvance tokens.now at result }
-    ensures place { Takes (automaton.returned ∷ []) tokens.now at result }
+    ensures takes { Takes (automaton.returned ∷ []) tokens.now at result }
 {
     match kind(tokens, at) {
         Some(TokenKind::Sign(Mark::Semicolon)) => Ok((Returned::Nothing, at)),

@@ -33,7 +33,7 @@ pub fn condition(
     ensures placed { Lies expr_of condition_at tokens.now at result }
     ensures right { Holds expr_of (IsExpr language) result }
     ensures moves { Advances tokens.now at result }
-    ensures place { Takes (automaton.sign OpenParen ∷ automaton.thing automaton.an_expr ∷
+    ensures takes { Takes (automaton.sign OpenParen ∷ automaton.thing automaton.an_expr ∷
         automaton.sign CloseParen ∷ []) tokens.now at result }
 {
     let next = sign(tokens, at, Mark::OpenParen)?;
@@ -48,7 +48,7 @@ fn set_to(alloc: Global, tokens: &[Token<'_>], at: usize) -> Result<(Right, usiz
     ensures placed { Lies right_of set_at tokens.now at result }
     ensures right { Holds right_of (IsRight language) result }
     ensures moves { Advances tokens.now at result }
-    ensures place { Takes (automaton.sign Assign ∷ automaton.right ∷
+    ensures takes { Takes (automaton.sign Assign ∷ automaton.right ∷
         automaton.sign Semicolon ∷ []) tokens.now at result }
 {
     let next = sign(tokens, at, Mark::Assign)?;
@@ -63,7 +63,7 @@ fn declare(alloc: Global, tokens: &[Token<'_>], at: usize) -> Result<(Stmt, usiz
     ensures placed { Lies stmt_of stmt_at tokens.now at result }
     ensures right { Holds stmt_of IsSimple result }
     ensures moves { Advances tokens.now at result }
-    ensures place { Takes (automaton.thing automaton.a_ty ∷ automaton.name ∷
+    ensures takes { Takes (automaton.thing automaton.a_ty ∷ automaton.name ∷
         automaton.sign Assign ∷ automaton.right ∷ automaton.sign Semicolon ∷ [])
         tokens.now at result }
 {
@@ -88,7 +88,7 @@ fn assign(alloc: Global, tokens: &[Token<'_>], at: usize) -> Result<(Stmt, usize
     ensures placed { Lies stmt_of stmt_at tokens.now at result }
     ensures right { Holds stmt_of IsSimple result }
     ensures moves { Advances tokens.now at result }
-    ensures place { Takes (automaton.name ∷ automaton.sign Assign ∷ automaton.right ∷
+    ensures takes { Takes (automaton.name ∷ automaton.sign Assign ∷ automaton.right ∷
         automaton.sign Semicolon ∷ []) tokens.now at result }
 {
     let (name, next) = name(alloc, tokens, at)?;
@@ -103,7 +103,7 @@ fn put(alloc: Global, tokens: &[Token<'_>], at: usize) -> Result<(Stmt, usize), 
     ensures placed { Lies stmt_of stmt_at tokens.now at result }
     ensures right { Holds stmt_of IsSimple result }
     ensures moves { Advances tokens.now at result }
-    ensures place { Takes (automaton.name ∷ automaton.sign Dot ∷ automaton.name ∷
+    ensures takes { Takes (automaton.name ∷ automaton.sign Dot ∷ automaton.name ∷
         automaton.sign Assign ∷ automaton.thing automaton.an_expr ∷ automaton.sign Semicolon ∷ [])
         tokens.now at result }
 {
@@ -131,7 +131,7 @@ fn call_stmt(alloc: Global, tokens: &[Token<'_>], at: usize) -> Result<(Stmt, us
     ensures placed { Lies stmt_of stmt_at tokens.now at result }
     ensures right { Holds stmt_of IsSimple result }
     ensures moves { Advances tokens.now at result }
-    ensures place { Takes (automaton.name ∷ automaton.sign OpenParen ∷
+    ensures takes { Takes (automaton.name ∷ automaton.sign OpenParen ∷
         automaton.listed automaton.an_expr CloseParen None ∷ automaton.sign Semicolon ∷ [])
         tokens.now at result }
 {
@@ -150,7 +150,7 @@ fn named_stmt(alloc: Global, tokens: &[Token<'_>], at: usize) -> Result<(Stmt, u
     ensures placed { Lies stmt_of stmt_at tokens.now at result }
     ensures right { Holds stmt_of IsSimple result }
     ensures moves { Advances tokens.now at result }
-    ensures place { Takes (automaton.name ∷ automaton.behind_stmt_name ∷ [])
+    ensures takes { Takes (automaton.name ∷ automaton.behind_stmt_name ∷ [])
         tokens.now at result }
 {
     match next_sign(tokens, at + 1) {
@@ -167,7 +167,7 @@ fn print(alloc: Global, tokens: &[Token<'_>], at: usize) -> Result<(Stmt, usize)
     ensures placed { Lies stmt_of stmt_at tokens.now at result }
     ensures right { Holds stmt_of IsSimple result }
     ensures moves { Advances tokens.now at result }
-    ensures place { Takes (automaton.keyword Print ∷ automaton.sign OpenParen ∷
+    ensures takes { Takes (automaton.keyword Print ∷ automaton.sign OpenParen ∷
         automaton.thing automaton.an_expr ∷ automaton.sign CloseParen ∷
         automaton.sign Semicolon ∷ [])
         tokens.now at result }
@@ -185,7 +185,7 @@ fn return_stmt(alloc: Global, tokens: &[Token<'_>], at: usize) -> Result<(Stmt, 
     ensures placed { Lies stmt_of stmt_at tokens.now at result }
     ensures right { Holds stmt_of IsSimple result }
     ensures moves { Advances tokens.now at result }
-    ensures place { Takes (automaton.keyword Return ∷ automaton.returned ∷ automaton.sign
+    ensures takes { Takes (automaton.keyword Return ∷ automaton.returned ∷ automaton.sign
         Semicolon ∷ []) tokens.now at result }
 {
     let next = keyword(tokens, at, Word::Return)?;
@@ -201,7 +201,7 @@ fn release(alloc: Global, tokens: &[Token<'_>], at: usize) -> Result<(Stmt, usiz
     ensures placed { Lies stmt_of stmt_at tokens.now at result }
     ensures right { Holds stmt_of IsSimple result }
     ensures moves { Advances tokens.now at result }
-    ensures place { Takes (automaton.keyword Release ∷ automaton.name ∷
+    ensures takes { Takes (automaton.keyword Release ∷ automaton.name ∷
         automaton.sign Semicolon ∷ []) tokens.now at result }
 {
     let next = keyword(tokens, at, Word::Release)?;
@@ -217,7 +217,7 @@ fn change_state(alloc: Global, tokens: &[Token<'_>], at: usize) -> Result<(Stmt,
     ensures placed { Lies stmt_of stmt_at tokens.now at result }
     ensures right { Holds stmt_of IsSimple result }
     ensures moves { Advances tokens.now at result }
-    ensures place { Takes (automaton.keyword Become ∷ automaton.name ∷ automaton.sign At ∷
+    ensures takes { Takes (automaton.keyword Become ∷ automaton.name ∷ automaton.sign At ∷
         automaton.name ∷ automaton.sign Semicolon ∷ []) tokens.now at result }
 {
     let next = keyword(tokens, at, Word::Become)?;
@@ -242,7 +242,7 @@ fn swap(alloc: Global, tokens: &[Token<'_>], at: usize) -> Result<(Stmt, usize),
     ensures placed { Lies stmt_of stmt_at tokens.now at result }
     ensures right { Holds stmt_of IsSimple result }
     ensures moves { Advances tokens.now at result }
-    ensures place { Takes (automaton.keyword Swap ∷ automaton.name ∷ automaton.sign Dot ∷
+    ensures takes { Takes (automaton.keyword Swap ∷ automaton.name ∷ automaton.sign Dot ∷
         automaton.name ∷ automaton.sign Comma ∷ automaton.name ∷ automaton.sign Semicolon ∷ [])
         tokens.now at result }
 {
@@ -271,7 +271,7 @@ fn open(alloc: Global, tokens: &[Token<'_>], at: usize) -> Result<(Stmt, usize),
     ensures placed { Lies stmt_of stmt_at tokens.now at result }
     ensures right { Holds stmt_of IsSimple result }
     ensures moves { Advances tokens.now at result }
-    ensures place { Takes (automaton.keyword Open ∷ automaton.name ∷ automaton.keyword Into ∷
+    ensures takes { Takes (automaton.keyword Open ∷ automaton.name ∷ automaton.keyword Into ∷
         automaton.sign OpenParen ∷ automaton.name ∷
         automaton.further automaton.a_name CloseParen None ∷
         automaton.sign Semicolon ∷ []) tokens.now at result }
@@ -300,7 +300,7 @@ pub fn simple(alloc: Global, tokens: &[Token<'_>], at: usize) -> Result<(Stmt, u
     ensures placed { Lies stmt_of stmt_at tokens.now at result }
     ensures right { Holds stmt_of IsSimple result }
     ensures moves { Advances tokens.now at result }
-    ensures place { Takes (automaton.thing automaton.a_simple ∷ []) tokens.now at result }
+    ensures takes { Takes (automaton.thing automaton.a_simple ∷ []) tokens.now at result }
 {
     match kind(tokens, at) {
         Some(TokenKind::Name) => named_stmt(alloc, tokens, at),

@@ -55,7 +55,7 @@ fn focus_head(
     ensures placed { IfOk result (λ x. Stands focus_at
         tokens.now at (name_of x.0.variable, name_of x.0.key, name_of x.0.alias) x.1) }
     ensures moves { Advances tokens.now at result }
-    ensures place { Takes (automaton.keyword words.Focus ∷ automaton.name ∷
+    ensures takes { Takes (automaton.keyword words.Focus ∷ automaton.name ∷
         automaton.keyword words.As ∷ automaton.keyword words.Tracked ∷
         automaton.sign OpenParen ∷ automaton.name ∷ automaton.sign CloseParen ∷
         automaton.name ∷ []) tokens.now at result }
@@ -92,7 +92,7 @@ pub fn block(
     ensures placed { Lies block_of block_at tokens.now at result }
     ensures right { Holds block_of (IsBlock language room) result }
     ensures moves { Advances tokens.now at result }
-    ensures place { Takes (automaton.block room ∷ []) tokens.now at result }
+    ensures takes { Takes (automaton.block room ∷ []) tokens.now at result }
 {
     let inside = sign(tokens, at, Mark::OpenBrace)?;
     let mut stmts = Items::new(alloc);
@@ -120,7 +120,7 @@ fn stmt(
     ensures placed { Lies stmt_of stmt_at tokens.now at result }
     ensures right { Holds stmt_of (IsStmt language room) result }
     ensures moves { Advances tokens.now at result }
-    ensures place { Takes (automaton.thing (automaton.a_stmt room) ∷ []) tokens.now at result }
+    ensures takes { Takes (automaton.thing (automaton.a_stmt room) ∷ []) tokens.now at result }
 {
     match kind(tokens, at) {
         Some(TokenKind::Sign(Mark::OpenBrace)) => {
@@ -153,7 +153,7 @@ fn if_stmt(
     ensures placed { Lies if_of if_at tokens.now at result }
     ensures right { Holds if_of (IsIf language room) result }
     ensures moves { Advances tokens.now at result }
-    ensures place { Takes (automaton.thing (automaton.a_stmt room) ∷ []) tokens.now at result }
+    ensures takes { Takes (automaton.thing (automaton.a_stmt room) ∷ []) tokens.now at result }
 {
     let next = keyword(tokens, at, Word::If)?;
     enter(room)?;
@@ -187,7 +187,7 @@ fn otherwise(
     ensures placed { Lies else_of else_at tokens.now at result }
     ensures right { Holds else_of (IsElse language room) result }
     ensures moves { MayAdvance tokens.now at result }
-    ensures place { Takes (automaton.otherwise room ∷ []) tokens.now at result }
+    ensures takes { Takes (automaton.otherwise room ∷ []) tokens.now at result }
 {
     let Ok(next) = keyword(tokens, at, Word::Else) else {
         return Ok((Else::Nothing, at));
@@ -213,7 +213,7 @@ fn while_stmt(
     ensures placed { Lies stmt_of stmt_at tokens.now at result }
     ensures right { Holds stmt_of (IsStmt language room) result }
     ensures moves { Advances tokens.now at result }
-    ensures place { Takes (automaton.thing (automaton.a_stmt room) ∷ []) tokens.now at result }
+    ensures takes { Takes (automaton.thing (automaton.a_stmt room) ∷ []) tokens.now at result }
 {
     let next = keyword(tokens, at, Word::While)?;
     enter(room)?;
@@ -243,7 +243,7 @@ fn focus(
     ensures placed { Lies stmt_of stmt_at tokens.now at result }
     ensures right { Holds stmt_of (IsStmt language room) result }
     ensures moves { Advances tokens.now at result }
-    ensures place { Takes (automaton.thing (automaton.a_stmt room) ∷ []) tokens.now at result }
+    ensures takes { Takes (automaton.thing (automaton.a_stmt room) ∷ []) tokens.now at result }
 {
     enter(room)?;
     let (head, next) = focus_head(alloc, tokens, at)?;
@@ -274,7 +274,7 @@ fn switch(
     ensures placed { Lies stmt_of stmt_at tokens.now at result }
     ensures right { Holds stmt_of (IsStmt language room) result }
     ensures moves { Advances tokens.now at result }
-    ensures place { Takes (automaton.thing (automaton.a_stmt room) ∷ []) tokens.now at result }
+    ensures takes { Takes (automaton.thing (automaton.a_stmt room) ∷ []) tokens.now at result }
 {
     let next = keyword(tokens, at, Word::Switch)?;
     enter(room)?;
@@ -303,7 +303,7 @@ fn arms(
     ensures some { Holds arms_of IsSomeArm result }
     ensures right { Holds arms_of (AreArms language room) result }
     ensures moves { Advances tokens.now at result }
-    ensures place { Takes (automaton.arm room ∷ automaton.arms room ∷ []) tokens.now at result }
+    ensures takes { Takes (automaton.arm room ∷ automaton.arms room ∷ []) tokens.now at result }
 {
     let mut arms = Items::new(alloc);
     let mut here = at;
@@ -333,7 +333,7 @@ fn arm(
         [])) x.1) }
     ensures right { IfOk result (λ x. AreArms language room (arms_made (arm_of x.0 ∷ []))) }
     ensures moves { Advances tokens.now at result }
-    ensures place { Takes (automaton.arm room ∷ []) tokens.now at result }
+    ensures takes { Takes (automaton.arm room ∷ []) tokens.now at result }
 {
     let next = keyword(tokens, at, Word::Case)?;
     let (case, next) = case_name(alloc, tokens, next)?;

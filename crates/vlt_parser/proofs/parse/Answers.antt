@@ -18,4 +18,4 @@ pub returns-in_err-decls-clause-refused : goal.returns-in_err-decls-clause-refus
 returns-in_err-decls-clause-refused c =
     let is : c.from_residual.result ≡ Err c.in_err-decls.field-0.0 = first_of (search rules, grind (arith, common_steps)) in
     rw is (refused_for (lexemes c.args.tokens.now) c.in_err-decls.field-0.0
-    (λ f told. ap (m.run (m.decls (decls_left 0) ∷ [])) (places_seen c.args.tokens.now) ∙ c.in_err-decls.ensures.place f told))
+    (λ f told. ap (m.run (m.decls (decls_left 0) ∷ [])) (places_seen c.args.tokens.now) ∙ c.in_err-decls.ensures.takes f told))

@@ -33,20 +33,20 @@ loop-here-preserved c =
       right = each_more decl_of (IsDecl language) all c.loop-here.decls c.in_ok-next.next pushed before.right c.in_ok-next.ensures.right;
       few = few;
       within = c.in_ok-next.ensures.moves.within;
-      place = before.place ∙ decls_one n (length all) [] here (decl_can here begins) one_longer few ∙ c.in_ok-next.ensures.place (m.decls (decls_left (length all)) ∷ []);
+      place = before.place ∙ decls_one n (length all) [] here (decl_can here begins) one_longer few ∙ c.in_ok-next.ensures.takes (m.decls (decls_left (length all)) ∷ []);
     }
 
-pub returns-then-not-begins_decl-clause-place : goal.returns-then-not-begins_decl-clause-place
-returns-then-not-begins_decl-clause-place c =
+pub returns-then-not-begins_decl-clause-takes : goal.returns-then-not-begins_decl-clause-takes
+returns-then-not-begins_decl-clause-takes c =
     let here = lexemes_from c.args.tokens.now c.loop-here.here in
     let none : can_begin m.start_decl here ≡ false = first_of (search rules, grind (arith, common_steps)) in
     rw c.unexpected.ensures (λ f told. c.loop-here.invariant.place ∙ decls_stop (length c.loop-here.decls) here (some_ahead c.args.tokens.now c.loop-here.here c.loop-here-test.true) none f told)
 
-pub returns-in_err-next-clause-place : goal.returns-in_err-next-clause-place
-returns-in_err-next-clause-place c =
+pub returns-in_err-next-clause-takes : goal.returns-in_err-next-clause-takes
+returns-in_err-next-clause-takes c =
     let here = lexemes_from c.args.tokens.now c.loop-here.here in
     let n = length c.loop-here.decls in
     let is : c.from_residual-in_err-next.result ≡ Err c.in_err-next.field-0.0 = first_of (search rules, grind (arith, common_steps)) in
     let begins : can_begin m.start_decl here ≡ true = first_of (search rules, grind (arith, common_steps)) in
     let few : n + 1 ≤ language.decls = first_of (search rules, grind (arith, common_steps)) in
-    rw is (λ f told. c.loop-here.invariant.place ∙ decls_one n (n + 1) [] here (decl_can here begins) refl few ∙ c.in_err-next.ensures.place (m.decls (decls_left (n + 1)) ∷ []) f told)
+    rw is (λ f told. c.loop-here.invariant.place ∙ decls_one n (n + 1) [] here (decl_can here begins) refl few ∙ c.in_err-next.ensures.takes (m.decls (decls_left (n + 1)) ∷ []) f told)

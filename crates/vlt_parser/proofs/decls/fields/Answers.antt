@@ -24,7 +24,7 @@ loop-alloc-preserved c =
     let few : length all ≤ language.fields = still_few all c.loop-alloc.fields c.in_ok-next.next c.len.result c.bound.result.count language.fields pushed c.len.ensures c.in_ok-allow_one_more.ensures.within c.bound.ensures.count in
     let read : (s : List Symbol) → run (m.fields (fields_left (length c.loop-alloc.fields)) ∷ s) (lexemes_from c.args.tokens.now c.loop-alloc.here) ≡ run (m.fields (fields_left (length all)) ∷ s) (lexemes_from c.args.tokens.now c.in_ok-next.behind) = λ s.
     fields_one (length c.loop-alloc.fields) (length all) s (lexemes_from c.args.tokens.now c.loop-alloc.here) (ty_can (lexemes_from c.args.tokens.now c.loop-alloc.here) (sym c.loop-alloc-test.ensures)) one_longer few
-    ∙ c.in_ok-next.ensures.place (m.fields (fields_left (length all)) ∷ s) in
+    ∙ c.in_ok-next.ensures.takes (m.fields (fields_left (length all)) ∷ s) in
     record {
       spelled = one_more field_of field_then all c.loop-alloc.fields c.in_ok-next.next (start c.args.at) (start c.loop-alloc.here) (start c.in_ok-next.behind) pushed before.spelled c.in_ok-next.ensures.spelled;
       stands = one_more_stands field_of field_at c.args.tokens.now all c.loop-alloc.fields c.in_ok-next.next c.args.at c.loop-alloc.here c.in_ok-next.behind pushed before.stands c.in_ok-next.ensures.placed;
@@ -35,11 +35,11 @@ loop-alloc-preserved c =
       place = λ s. before.place s ∙ read s;
     }
 
-pub returns-in_err-next-clause-place : goal.returns-in_err-next-clause-place
-returns-in_err-next-clause-place c =
+pub returns-in_err-next-clause-takes : goal.returns-in_err-next-clause-takes
+returns-in_err-next-clause-takes c =
     let here = lexemes_from c.args.tokens.now c.loop-alloc.here in
     let n = length c.loop-alloc.fields in
     let is : c.from_residual-in_err-next.result ≡ Err c.in_err-next.field-0.0 = first_of (search rules, grind (arith, common_steps)) in
     let few : n + 1 ≤ language.fields = first_of (search rules, grind (arith, common_steps)) in
     rw is (λ s f told. c.loop-alloc.invariant.place s ∙ fields_one n (n + 1) s here (ty_can here (sym c.loop-alloc-test.ensures)) refl few
-    ∙ c.in_err-next.ensures.place (m.fields (fields_left (n + 1)) ∷ s) f told)
+    ∙ c.in_err-next.ensures.takes (m.fields (fields_left (n + 1)) ∷ s) f told)

@@ -8,14 +8,14 @@ use Rattle.vlt_parser_exprs.specs.Ahead.{lexemes_from, left_of}
 use Rattle.vlt_parser_exprs.proofs.Runs.{bounded_below}
 use Rattle.vlt_parser.proofs.decls.stateset.Goals as goal
 
-pub returns-in_err-states-clause-place : goal.returns-in_err-states-clause-place
-returns-in_err-states-clause-place c =
+pub returns-in_err-states-clause-takes : goal.returns-in_err-states-clause-takes
+returns-in_err-states-clause-takes c =
     let at = lexemes_from c.args.tokens.now c.in_ok-next-2.next in
     let bound : left_of (Some c.bound.result) 1 ≡ Some (record { limit = 5; more = language.states - 1 }) = bounded_below c.bound.result 5 language.states c.bound.ensures.limit c.bound.ensures.count in
     let is : c.from_residual-in_err-states.result ≡ Err c.in_err-states.field-0.0 = first_of (search rules, grind (arith, common_steps)) in
     rw is (λ s f told.
-    c.in_ok-next.ensures.place (m.name ∷ m.sign mark.OpenBrace ∷ m.name ∷ m.further m.a_name mark.CloseBrace (Some (record { limit = 5; more = language.states - 1 })) ∷ s)
-    ∙ c.in_ok-name.ensures.place (m.sign mark.OpenBrace ∷ m.name ∷ m.further m.a_name mark.CloseBrace (Some (record { limit = 5; more = language.states - 1 })) ∷ s)
-    ∙ c.in_ok-next-2.ensures.place (m.name ∷ m.further m.a_name mark.CloseBrace (Some (record { limit = 5; more = language.states - 1 })) ∷ s)
+    c.in_ok-next.ensures.takes (m.name ∷ m.sign mark.OpenBrace ∷ m.name ∷ m.further m.a_name mark.CloseBrace (Some (record { limit = 5; more = language.states - 1 })) ∷ s)
+    ∙ c.in_ok-name.ensures.takes (m.sign mark.OpenBrace ∷ m.name ∷ m.further m.a_name mark.CloseBrace (Some (record { limit = 5; more = language.states - 1 })) ∷ s)
+    ∙ c.in_ok-next-2.ensures.takes (m.name ∷ m.further m.a_name mark.CloseBrace (Some (record { limit = 5; more = language.states - 1 })) ∷ s)
     ∙ ap (λ l. run (m.name ∷ m.further m.a_name mark.CloseBrace l ∷ s) at) (sym bound)
-    ∙ c.in_err-states.ensures.place s f told)
+    ∙ c.in_err-states.ensures.takes s f told)

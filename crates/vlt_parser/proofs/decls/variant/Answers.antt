@@ -8,15 +8,15 @@ use Rattle.vlt_parser_exprs.specs.Ahead.{lexemes_from, left_of}
 use Rattle.vlt_parser_exprs.proofs.Runs.{bounded_below}
 use Rattle.vlt_parser.proofs.decls.variant.Goals as goal
 
-pub returns-in_err-cases-clause-place : goal.returns-in_err-cases-clause-place
-returns-in_err-cases-clause-place c =
+pub returns-in_err-cases-clause-takes : goal.returns-in_err-cases-clause-takes
+returns-in_err-cases-clause-takes c =
     let at = lexemes_from c.args.tokens.now c.in_ok-next-2.next in
     let bound : left_of (Some c.bound.result) 1 ≡ Some (record { limit = 7; more = language.cases - 1 }) = bounded_below c.bound.result 7 language.cases c.bound.ensures.limit c.bound.ensures.count in
     let is : c.from_residual-in_err-cases.result ≡ Err c.in_err-cases.field-0.0 = first_of (search rules, grind (arith, common_steps)) in
     rw is (λ s f told.
-    c.in_ok-next.ensures.place (m.name ∷ m.header ∷ m.sign mark.OpenBrace ∷ m.thing m.a_case ∷ m.further m.a_case mark.CloseBrace (Some (record { limit = 7; more = language.cases - 1 })) ∷ s)
-    ∙ c.in_ok-name.ensures.place (m.header ∷ m.sign mark.OpenBrace ∷ m.thing m.a_case ∷ m.further m.a_case mark.CloseBrace (Some (record { limit = 7; more = language.cases - 1 })) ∷ s)
-    ∙ c.in_ok-params.ensures.place (m.sign mark.OpenBrace ∷ m.thing m.a_case ∷ m.further m.a_case mark.CloseBrace (Some (record { limit = 7; more = language.cases - 1 })) ∷ s)
-    ∙ c.in_ok-next-2.ensures.place (m.thing m.a_case ∷ m.further m.a_case mark.CloseBrace (Some (record { limit = 7; more = language.cases - 1 })) ∷ s)
+    c.in_ok-next.ensures.takes (m.name ∷ m.header ∷ m.sign mark.OpenBrace ∷ m.thing m.a_case ∷ m.further m.a_case mark.CloseBrace (Some (record { limit = 7; more = language.cases - 1 })) ∷ s)
+    ∙ c.in_ok-name.ensures.takes (m.header ∷ m.sign mark.OpenBrace ∷ m.thing m.a_case ∷ m.further m.a_case mark.CloseBrace (Some (record { limit = 7; more = language.cases - 1 })) ∷ s)
+    ∙ c.in_ok-params.ensures.takes (m.sign mark.OpenBrace ∷ m.thing m.a_case ∷ m.further m.a_case mark.CloseBrace (Some (record { limit = 7; more = language.cases - 1 })) ∷ s)
+    ∙ c.in_ok-next-2.ensures.takes (m.thing m.a_case ∷ m.further m.a_case mark.CloseBrace (Some (record { limit = 7; more = language.cases - 1 })) ∷ s)
     ∙ ap (λ l. run (m.thing m.a_case ∷ m.further m.a_case mark.CloseBrace l ∷ s) at) (sym bound)
-    ∙ c.in_err-cases.ensures.place s f told)
+    ∙ c.in_err-cases.ensures.takes s f told)

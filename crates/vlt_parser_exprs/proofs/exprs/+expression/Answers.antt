@@ -45,26 +45,26 @@ expression-loop-next-preserved t c =
           c.loop-next.invariant.place fs rest
           ∙ operator_goes_on op first c.args.least c.args.room inside fs rest here right c.in-Some.ensures.binds.0 c.in_ok-inside.ensures.room c.in_ok-inside.ensures.fits c.in-Some.ensures.begins
           ∙ ap (λ l. run (m.operand inside (m.level_from (l + 1) inside ∷ outer) ∷ rest) right) (sym c.in-Some.ensures.level)
-          ∙ c.in_ok-second.ensures.place outer rest
+          ∙ c.in_ok-second.ensures.takes outer rest
           ∙ right_ended (c.in-Some.next.level + 1) inside first second c.args.least c.args.room fs rest behind c.in_ok-second.ensures.stops
           ∙ ap (λ d. run (m.operations d (m.level_from c.args.least c.args.room ∷ fs) ∷ rest) behind) deeper;
     }
 
-pub group-returns-in_err-next-clause-place : goal.group-returns-in_err-next-clause-place
-group-returns-in_err-next-clause-place t c = λ fs.
+pub group-returns-in_err-next-clause-takes : goal.group-returns-in_err-next-clause-takes
+group-returns-in_err-next-clause-takes t c = λ fs.
     let tokens = c.args.tokens.now in
     let inside = c.in_ok-inside.inside in
     let next = lexemes_from tokens c.in_ok-inner.next in
     let is : c.from_residual-in_err-next.result ≡ Err (refusal next) = first_of (search rules, grind (arith, common_steps)) in
     rw is (λ s f told.
     group_opens c.args.room inside fs s (lexemes_from tokens c.args.from) (lexemes_from tokens c.args.at) c.in_ok-inside.ensures.room c.in_ok-inside.ensures.fits c.requires.opens
-    ∙ c.in_ok-inner.ensures.place [] (m.close_group fs ∷ s)
+    ∙ c.in_ok-inner.ensures.takes [] (m.close_group fs ∷ s)
     ∙ group_stays_open c.in_ok-inner.inner.depth inside fs s next c.in_ok-inner.ensures.stops c.in_err-next.ensures.lacks.1 f told)
 
-pub primary-returns-in_err-expr-in-Some-Name-clause-place : goal.primary-returns-in_err-expr-in-Some-Name-clause-place
-primary-returns-in_err-expr-in-Some-Name-clause-place t c = λ fs.
+pub primary-returns-in_err-expr-in-Some-Name-clause-takes : goal.primary-returns-in_err-expr-in-Some-Name-clause-takes
+primary-returns-in_err-expr-in-Some-Name-clause-takes t c = λ fs.
     let tokens = c.args.tokens.now in
     let here = lexemes_from tokens c.args.at in
     let is : c.from_residual.result ≡ Err c.in_err-expr-in-Some-Name.field-0.0 = first_of (search rules, grind (arith, common_steps)) in
     let named : BeginsWith Name here (lexemes_from tokens (c.args.at + 1)) = subst (λ k. BeginsWith k here (lexemes_from tokens (c.args.at + 1))) c.in-Some-Name.field-0-is c.in-Some-Name.ensures.ahead in
-    rw is (λ s f told. operand_named named.text c.args.room fs s here (lexemes_from tokens (c.args.at + 1)) named.begins ∙ c.in_err-expr-in-Some-Name.ensures.place fs s f told)
+    rw is (λ s f told. operand_named named.text c.args.room fs s here (lexemes_from tokens (c.args.at + 1)) named.begins ∙ c.in_err-expr-in-Some-Name.ensures.takes fs s f told)

@@ -34,7 +34,7 @@ loop-items-preserved g c =
       right = each-pushed g.T.Part.right (map view all) (map view c.loop-items.items) (view item) grown before.right c.in_ok-item.ensures.right;
       few = subst (λ n. IsWithin c.args.most (n + 1)) c.len.ensures c.in_ok-allow_one_more.ensures.within;
       later = omega (arith, before.later, c.in_ok-item.ensures.moves.later, c.in_ok-next.ensures.moves.later);
-      place = λ s. before.place s ∙ c.in_ok-item.ensures.place (m.further g.T.Part.thing c.args.closing (left_of c.args.most (length c.loop-items.items + 1)) ∷ s)
+      place = λ s. before.place s ∙ c.in_ok-item.ensures.takes (m.further g.T.Part.thing c.args.closing (left_of c.args.most (length c.loop-items.items + 1)) ∷ s)
           ∙ further_one g.T.Part.thing c.args.closing c.args.most (length c.loop-items.items + 1) (length all + 1) s (lexemes_from c.args.tokens.now c.in_ok-item.behind) (lexemes_from c.args.tokens.now c.in_ok-next.next)
           c.in_default.ensures.lacks c.in_ok-next.ensures.takes (ap (λ n. n + 1) one_longer) (subst (λ n. IsWithin c.args.most (n + 1)) c.len.ensures c.in_ok-allow_one_more.ensures.within);
     }

@@ -7,26 +7,26 @@ use Rattle.vlt_parser_exprs.specs.Ahead.{lexemes_from, BeginsWith}
 use Rattle.vlt_parser_simple.proofs.Sides.{right_build, right_call, right_variable}
 use Rattle.vlt_parser_simple.proofs.rights.right.Goals as goal
 
-pub returns-in_err-built-in-Some-Tick-clause-place : goal.returns-in_err-built-in-Some-Tick-clause-place
-returns-in_err-built-in-Some-Tick-clause-place c =
+pub returns-in_err-built-in-Some-Tick-clause-takes : goal.returns-in_err-built-in-Some-Tick-clause-takes
+returns-in_err-built-in-Some-Tick-clause-takes c =
     let here = lexemes_from c.args.tokens.now c.args.at in
     let next = lexemes_from c.args.tokens.now (c.args.at + 1) in
     let is : c.from_residual.result ≡ Err c.in_err-built-in-Some-Tick.field-0.0 = first_of (search rules, grind (arith, common_steps)) in
     let tick : BeginsWith Tick here next = subst (λ k. BeginsWith k here next) c.in-Some-Tick.field-0-is c.in-Some-Tick.ensures.ahead in
-    rw is (λ s f told. right_build tick.text s here next tick.begins ∙ c.in_err-built-in-Some-Tick.ensures.place s f told)
+    rw is (λ s f told. right_build tick.text s here next tick.begins ∙ c.in_err-built-in-Some-Tick.ensures.takes s f told)
 
-pub returns-in_err-called-in-Some-Name-clause-place : goal.returns-in_err-called-in-Some-Name-clause-place
-returns-in_err-called-in-Some-Name-clause-place c =
+pub returns-in_err-called-in-Some-Name-clause-takes : goal.returns-in_err-called-in-Some-Name-clause-takes
+returns-in_err-called-in-Some-Name-clause-takes c =
     let here = lexemes_from c.args.tokens.now c.args.at in
     let next = lexemes_from c.args.tokens.now (c.args.at + 1) in
     let is : c.from_residual-in_err-called-in-Some-Name.result ≡ Err c.in_err-called-in-Some-Name.field-0.0 = first_of (search rules, grind (arith, common_steps)) in
     let name : BeginsWith Name here next = subst (λ k. BeginsWith k here next) c.in-Some-Name.field-0-is c.in-Some-Name.ensures.ahead in
     let paren = c.begins_call.ensures.yes c.if-begins_call.true in
-    rw is (λ s f told. right_call name.text s here next (lexemes_from c.args.tokens.now paren.0) name.begins paren.1 ∙ c.in_err-called-in-Some-Name.ensures.place s f told)
+    rw is (λ s f told. right_call name.text s here next (lexemes_from c.args.tokens.now paren.0) name.begins paren.1 ∙ c.in_err-called-in-Some-Name.ensures.takes s f told)
 
-pub returns-in_err-value-in_default-clause-place : goal.returns-in_err-value-in_default-clause-place
-returns-in_err-value-in_default-clause-place c =
+pub returns-in_err-value-in_default-clause-takes : goal.returns-in_err-value-in_default-clause-takes
+returns-in_err-value-in_default-clause-takes c =
     let here = lexemes_from c.args.tokens.now c.args.at in
     let is : c.from_residual-in_err-value-in_default.result ≡ Err c.in_err-value-in_default.field-0.0 = first_of (search rules, grind (arith, common_steps)) in
     let same : (s : List Symbol) → run (m.right ∷ s) here ≡ run (m.thing m.an_expr ∷ s) here = first_of (search (rules, right_variable), grind (arith, common_steps)) in
-    rw is (λ s f told. same s ∙ c.in_err-value-in_default.ensures.place s f told)
+    rw is (λ s f told. same s ∙ c.in_err-value-in_default.ensures.takes s f told)

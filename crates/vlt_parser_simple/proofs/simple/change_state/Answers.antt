@@ -4,7 +4,7 @@ use Rattle.vlt_lexer.specs.declared.token.Mark.TheVariants as mark
 use Rattle.vlt_automaton.specs.Language as m
 use Rattle.vlt_parser_simple.proofs.simple.change_state.Goals as goal
 
-pub returns-in_err-variable-clause-place : goal.returns-in_err-variable-clause-place
-returns-in_err-variable-clause-place c =
+pub returns-in_err-variable-clause-takes : goal.returns-in_err-variable-clause-takes
+returns-in_err-variable-clause-takes c =
     let is : c.from_residual-in_err-variable.result ≡ Err c.in_err-variable.field-0.0 = first_of (search rules, grind (arith, common_steps)) in
-    rw is (λ s f told. c.in_ok-next.ensures.place (m.name ∷ m.sign mark.At ∷ m.name ∷ m.sign mark.Semicolon ∷ s) ∙ c.in_err-variable.ensures.place (m.sign mark.At ∷ m.name ∷ m.sign mark.Semicolon ∷ s) f told)
+    rw is (λ s f told. c.in_ok-next.ensures.takes (m.name ∷ m.sign mark.At ∷ m.name ∷ m.sign mark.Semicolon ∷ s) ∙ c.in_err-variable.ensures.takes (m.sign mark.At ∷ m.name ∷ m.sign mark.Semicolon ∷ s) f told)

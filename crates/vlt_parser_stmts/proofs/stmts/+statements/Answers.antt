@@ -34,7 +34,7 @@ block-loop-end-preserved t c =
       stands = subst (λ xs. Stands stmts_at c.args.tokens.now c.in_ok-inside.inside (stmts_made xs) c.in_ok-next.behind) (sym grown) (stmts_append c.args.tokens.now stmts next c.in_ok-inside.inside c.loop-end.here c.in_ok-next.behind before.stands c.in_ok-next.ensures.placed);
       right = rw grown (are_stmts-append (c.args.room - 1) stmts next before.right c.in_ok-next.ensures.right);
       later = omega (arith, before.later, c.in_ok-next.ensures.moves.later);
-      place = λ s. before.place s ∙ stmts_one (c.args.room - 1) s (lexemes_from c.args.tokens.now c.loop-end.here) c.in_default.ensures.lacks ∙ c.in_ok-next.ensures.place (m.stmts (c.args.room - 1) ∷ s);
+      place = λ s. before.place s ∙ stmts_one (c.args.room - 1) s (lexemes_from c.args.tokens.now c.loop-end.here) c.in_default.ensures.lacks ∙ c.in_ok-next.ensures.takes (m.stmts (c.args.room - 1) ∷ s);
     }
 
 -- one more arm was read
@@ -62,7 +62,7 @@ arms-loop-arms-preserved t c =
       stands = arms_stand c.args.tokens.now c.push.new.self c.loop-arms.arms next c.args.at c.loop-arms.here c.in_ok-next.behind c.in_ok-push.ensures.ok before.stands c.in_ok-next.ensures.placed;
       right = arms_right c.args.room c.push.new.self c.loop-arms.arms next c.in_ok-push.ensures.ok before.right c.in_ok-next.ensures.right;
       later = omega (arith, before.later, c.in_ok-next.ensures.moves.later);
-      place = λ s. before.place s ∙ c.in_ok-next.ensures.place (m.arms c.args.room ∷ s) ∙ arms_one c.args.room s (lexemes_from c.args.tokens.now c.in_ok-next.behind) c.in_default.ensures.lacks;
+      place = λ s. before.place s ∙ c.in_ok-next.ensures.takes (m.arms c.args.room ∷ s) ∙ arms_one c.args.room s (lexemes_from c.args.tokens.now c.in_ok-next.behind) c.in_default.ensures.lacks;
     }
 
 pub arms-returns-in-Some-clause-spelled : goal.arms-returns-in-Some-clause-spelled
@@ -82,36 +82,36 @@ arms-returns-in-Some-clause-some t c = rw (pushed arm_of c.push.new.self c.loop-
 pub arms-returns-in-Some-clause-right : goal.arms-returns-in-Some-clause-right
 arms-returns-in-Some-clause-right t c = arms_right c.args.room c.push.new.self c.loop-arms.arms c.in_ok-next.next c.in_ok-push.ensures.ok c.loop-arms.invariant.right c.in_ok-next.ensures.right
 
-pub block-returns-in_err-next-clause-place : goal.block-returns-in_err-next-clause-place
-block-returns-in_err-next-clause-place t c =
+pub block-returns-in_err-next-clause-takes : goal.block-returns-in_err-next-clause-takes
+block-returns-in_err-next-clause-takes t c =
     let places = lexemes_from c.args.tokens.now in
     let is : c.from_residual-in_err-next.result ≡ Err c.in_err-next.field-0.0 = first_of (search rules, grind (arith, common_steps)) in
     rw is (λ s f told.
     block_is c.args.room s (places c.args.at)
-    ∙ c.in_ok-inside.ensures.place (m.stmts (c.args.room - 1) ∷ s)
+    ∙ c.in_ok-inside.ensures.takes (m.stmts (c.args.room - 1) ∷ s)
     ∙ c.loop-end.invariant.place s
     ∙ stmts_one (c.args.room - 1) s (places c.loop-end.here) c.in_default.ensures.lacks
-    ∙ c.in_err-next.ensures.place (m.stmts (c.args.room - 1) ∷ s) f told)
+    ∙ c.in_err-next.ensures.takes (m.stmts (c.args.room - 1) ∷ s) f told)
 
-pub focus-returns-in_err-head-clause-place : goal.focus-returns-in_err-head-clause-place
-focus-returns-in_err-head-clause-place t c =
+pub focus-returns-in_err-head-clause-takes : goal.focus-returns-in_err-head-clause-takes
+focus-returns-in_err-head-clause-takes t c =
     let places = lexemes_from c.args.tokens.now in
     let is : c.from_residual-in_err-head.result ≡ Err c.in_err-head.field-0.0 = first_of (search rules, grind (arith, common_steps)) in
     rw is (λ s f told.
     focus_is c.args.room s (places c.args.at) (places (c.args.at + 1)) c.in_ok-enter.ensures.some c.requires.begins
-    ∙ c.in_err-head.ensures.place (m.block c.args.room ∷ s) f told)
+    ∙ c.in_err-head.ensures.takes (m.block c.args.room ∷ s) f told)
 
-pub focus-returns-in_err-body-clause-place : goal.focus-returns-in_err-body-clause-place
-focus-returns-in_err-body-clause-place t c =
+pub focus-returns-in_err-body-clause-takes : goal.focus-returns-in_err-body-clause-takes
+focus-returns-in_err-body-clause-takes t c =
     let places = lexemes_from c.args.tokens.now in
     let is : c.from_residual-in_err-body.result ≡ Err c.in_err-body.field-0.0 = first_of (search rules, grind (arith, common_steps)) in
     rw is (λ s f told.
     focus_is c.args.room s (places c.args.at) (places (c.args.at + 1)) c.in_ok-enter.ensures.some c.requires.begins
-    ∙ c.in_ok-head.ensures.place (m.block c.args.room ∷ s)
-    ∙ c.in_err-body.ensures.place s f told)
+    ∙ c.in_ok-head.ensures.takes (m.block c.args.room ∷ s)
+    ∙ c.in_err-body.ensures.takes s f told)
 
-pub otherwise-returns-in_err-choice-clause-place : goal.otherwise-returns-in_err-choice-clause-place
-otherwise-returns-in_err-choice-clause-place t c =
+pub otherwise-returns-in_err-choice-clause-takes : goal.otherwise-returns-in_err-choice-clause-takes
+otherwise-returns-in_err-choice-clause-takes t c =
     let places = lexemes_from c.args.tokens.now in
     let next = places c.in-Ok.next in
     let behind = places (c.in-Ok.next + 1) in
@@ -120,46 +120,46 @@ otherwise-returns-in_err-choice-clause-place t c =
     rw is (λ s f told.
     otherwise_some c.args.room s (places c.args.at) next c.in-Ok.ensures.takes
     ∙ else_if c.args.room s next behind chosen.begins
-    ∙ c.in_err-choice.ensures.place s f told)
+    ∙ c.in_err-choice.ensures.takes s f told)
 
-pub otherwise-returns-in_err-last-clause-place : goal.otherwise-returns-in_err-last-clause-place
-otherwise-returns-in_err-last-clause-place t c =
+pub otherwise-returns-in_err-last-clause-takes : goal.otherwise-returns-in_err-last-clause-takes
+otherwise-returns-in_err-last-clause-takes t c =
     let places = lexemes_from c.args.tokens.now in
     let next = places c.in-Ok.next in
     let is : c.from_residual-in_err-last.result ≡ Err c.in_err-last.field-0.0 = first_of (search rules, grind (arith, common_steps)) in
     let same : (s : List Symbol) → run (m.behind_else c.args.room ∷ s) next ≡ run (m.block c.args.room ∷ s) next = first_of (search (rules, else_block), grind (arith, common_steps)) in
-    rw is (λ s f told. otherwise_some c.args.room s (places c.args.at) next c.in-Ok.ensures.takes ∙ same s ∙ c.in_err-last.ensures.place s f told)
+    rw is (λ s f told. otherwise_some c.args.room s (places c.args.at) next c.in-Ok.ensures.takes ∙ same s ∙ c.in_err-last.ensures.takes s f told)
 
-pub stmt-returns-in_err-body-in-Some-Sign-OpenBrace-clause-place : goal.stmt-returns-in_err-body-in-Some-Sign-OpenBrace-clause-place
-stmt-returns-in_err-body-in-Some-Sign-OpenBrace-clause-place t c =
+pub stmt-returns-in_err-body-in-Some-Sign-OpenBrace-clause-takes : goal.stmt-returns-in_err-body-in-Some-Sign-OpenBrace-clause-takes
+stmt-returns-in_err-body-in-Some-Sign-OpenBrace-clause-takes t c =
     let here = lexemes_from c.args.tokens.now c.args.at in
     let behind = lexemes_from c.args.tokens.now (c.args.at + 1) in
     let is : c.from_residual-in_err-body-in-Some-Sign-OpenBrace.result ≡ Err c.in_err-body-in-Some-Sign-OpenBrace.field-0.0 = first_of (search rules, grind (arith, common_steps)) in
     let opens : BeginsWith (kind.Sign mark.OpenBrace) here behind = subst (λ k. BeginsWith k here behind) (c.in-Some-Sign-OpenBrace.field-0-is ∙ ap kind.Sign c.in-Some-Sign-OpenBrace.field-0-0-is) c.in-Some-Sign-OpenBrace.ensures.ahead in
-    rw is (λ s f told. stmt_block c.args.room s here behind c.in_ok-enter-in-Some-Sign-OpenBrace.ensures.some opens.begins ∙ c.in_err-body-in-Some-Sign-OpenBrace.ensures.place s f told)
+    rw is (λ s f told. stmt_block c.args.room s here behind c.in_ok-enter-in-Some-Sign-OpenBrace.ensures.some opens.begins ∙ c.in_err-body-in-Some-Sign-OpenBrace.ensures.takes s f told)
 
-pub switch-returns-in_err-arms-clause-place : goal.switch-returns-in_err-arms-clause-place
-switch-returns-in_err-arms-clause-place t c =
+pub switch-returns-in_err-arms-clause-takes : goal.switch-returns-in_err-arms-clause-takes
+switch-returns-in_err-arms-clause-takes t c =
     let places = lexemes_from c.args.tokens.now in
     let is : c.from_residual-in_err-arms.result ≡ Err c.in_err-arms.field-0.0 = first_of (search rules, grind (arith, common_steps)) in
     rw is (λ s f told.
     stmt_enters (keyword word.Switch) c.args.room (m.sign mark.OpenParen ∷ m.name ∷ m.sign mark.CloseParen ∷ m.sign mark.OpenBrace ∷ m.arm c.args.room ∷ m.arms c.args.room ∷ []) s (places c.args.at) (places c.in_ok-next.next) refl c.in_ok-enter.ensures.some c.in_ok-next.ensures.takes
-    ∙ c.in_ok-next-2.ensures.place (m.name ∷ m.sign mark.CloseParen ∷ m.sign mark.OpenBrace ∷ m.arm c.args.room ∷ m.arms c.args.room ∷ s)
-    ∙ c.in_ok-variable.ensures.place (m.sign mark.CloseParen ∷ m.sign mark.OpenBrace ∷ m.arm c.args.room ∷ m.arms c.args.room ∷ s)
-    ∙ c.in_ok-next-3.ensures.place (m.sign mark.OpenBrace ∷ m.arm c.args.room ∷ m.arms c.args.room ∷ s)
-    ∙ c.in_ok-next-4.ensures.place (m.arm c.args.room ∷ m.arms c.args.room ∷ s)
-    ∙ c.in_err-arms.ensures.place s f told)
+    ∙ c.in_ok-next-2.ensures.takes (m.name ∷ m.sign mark.CloseParen ∷ m.sign mark.OpenBrace ∷ m.arm c.args.room ∷ m.arms c.args.room ∷ s)
+    ∙ c.in_ok-variable.ensures.takes (m.sign mark.CloseParen ∷ m.sign mark.OpenBrace ∷ m.arm c.args.room ∷ m.arms c.args.room ∷ s)
+    ∙ c.in_ok-next-3.ensures.takes (m.sign mark.OpenBrace ∷ m.arm c.args.room ∷ m.arms c.args.room ∷ s)
+    ∙ c.in_ok-next-4.ensures.takes (m.arm c.args.room ∷ m.arms c.args.room ∷ s)
+    ∙ c.in_err-arms.ensures.takes s f told)
 
-pub if_stmt-returns-in_err-otherwise-clause-place : goal.if_stmt-returns-in_err-otherwise-clause-place
-if_stmt-returns-in_err-otherwise-clause-place t c =
+pub if_stmt-returns-in_err-otherwise-clause-takes : goal.if_stmt-returns-in_err-otherwise-clause-takes
+if_stmt-returns-in_err-otherwise-clause-takes t c =
     let places = lexemes_from c.args.tokens.now in
     let is : c.from_residual-in_err-otherwise.result ≡ Err c.in_err-otherwise.field-0.0 =
     let told = err_from_is_err_and c.from_residual-in_err-otherwise.result c.from_residual-in_err-otherwise.ensures.1 in told.1 ∙ ap Err told.2 in
     rw is (λ s f told.
     stmt_enters (keyword word.If) c.args.room (m.sign mark.OpenParen ∷ m.thing m.an_expr ∷ m.sign mark.CloseParen ∷ m.block c.args.room ∷ m.otherwise c.args.room ∷ []) s (places c.args.at) (places c.in_ok-next.next) refl c.in_ok-enter.ensures.some c.in_ok-next.ensures.takes
-    ∙ c.in_ok-condition.ensures.place (m.block c.args.room ∷ m.otherwise c.args.room ∷ s)
-    ∙ c.in_ok-then_block.ensures.place (m.otherwise c.args.room ∷ s)
-    ∙ c.in_err-otherwise.ensures.place s f told)
+    ∙ c.in_ok-condition.ensures.takes (m.block c.args.room ∷ m.otherwise c.args.room ∷ s)
+    ∙ c.in_ok-then_block.ensures.takes (m.otherwise c.args.room ∷ s)
+    ∙ c.in_err-otherwise.ensures.takes s f told)
 
 pub while_stmt-returns-clause-placed : goal.while_stmt-returns-clause-placed
 while_stmt-returns-clause-placed t c =
@@ -171,15 +171,15 @@ if_stmt-returns-clause-placed t c =
     rw (if_seen c.in_ok-condition.condition c.in_ok-then_block.then_block c.in_ok-otherwise.otherwise c.span-at.result) (if_stands c.args.tokens.now c.args.at c.in_ok-next.next c.in_ok-condition.next c.in_ok-then_block.next c.in_ok-otherwise.next (expr_of c.in_ok-condition.condition) (block_of c.in_ok-then_block.then_block)
     (else_of c.in_ok-otherwise.otherwise) c.span-at.result c.in_ok-next.ensures.one c.in_ok-condition.ensures.placed c.in_ok-then_block.ensures.placed c.in_ok-otherwise.ensures.placed c.span-at.ensures)
 
-pub arm-returns-in_err-body-clause-place : goal.arm-returns-in_err-body-clause-place
-arm-returns-in_err-body-clause-place t c =
+pub arm-returns-in_err-body-clause-takes : goal.arm-returns-in_err-body-clause-takes
+arm-returns-in_err-body-clause-takes t c =
     let room = c.args.room in
     let variables : List Symbol → List Symbol = λ s. m.enclosed m.a_name mark.OpenParen mark.CloseParen None ∷ m.sign mark.Colon ∷ m.block room ∷ s in
     let is : c.from_residual-in_err-body.result ≡ Err c.in_err-body.field-0.0 = first_of (search rules, grind (arith, common_steps)) in
     rw is (λ s f told.
     arm_is room s (lexemes_from c.args.tokens.now c.args.at)
-    ∙ c.in_ok-next.ensures.place (m.tick ∷ variables s)
-    ∙ c.in_ok-case.ensures.place (variables s)
-    ∙ c.in_ok-variables.ensures.place (m.sign mark.Colon ∷ m.block room ∷ s)
-    ∙ c.in_ok-next-2.ensures.place (m.block room ∷ s)
-    ∙ c.in_err-body.ensures.place s f told)
+    ∙ c.in_ok-next.ensures.takes (m.tick ∷ variables s)
+    ∙ c.in_ok-case.ensures.takes (variables s)
+    ∙ c.in_ok-variables.ensures.takes (m.sign mark.Colon ∷ m.block room ∷ s)
+    ∙ c.in_ok-next-2.ensures.takes (m.block room ∷ s)
+    ∙ c.in_err-body.ensures.takes s f told)
