@@ -1,6 +1,6 @@
 //! Worked programs, written as core programs: what their runs are told, and the rows of their statements.
 //! Read `specs/Told.antt` first, then any of the programs, each below its text.
-//! Used by: nothing. Each is a theorem that is proved by computing.
+//! Used by: `c_lower_accepted`, for one program. Each is a theorem that is proved by computing.
 #![tactic(auto)]
 
 ghost use Rattle.vlt_core.specs.Derives.{IsAccepted};
