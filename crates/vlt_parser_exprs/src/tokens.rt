@@ -105,7 +105,7 @@ pub fn sign(tokens: &[Token<'_>], at: usize, mark: Mark) -> Result<usize, ParseE
     ensures one { IfOk result (λ next. next ≡ at + 1) }
     ensures moves { IfOk result (λ next. Moves tokens.now at next) }
     ensures takes { Follows (automaton.sign mark ∷ []) (λ next. next) tokens.now at result }
-    ensures takes { IfOk result (λ next. Comes (a_sign mark) tokens.now at next) }
+    ensures ahead { IfOk result (λ next. Comes (a_sign mark) tokens.now at next) }
     ensures lacks { IfErr result (λ e.
         (e ≡ refusal (lexemes_from tokens.now at)) × LacksSign mark (lexemes_from tokens.now at)) }
 {
@@ -136,7 +136,7 @@ pub fn keyword(tokens: &[Token<'_>], at: usize, word: Word) -> Result<usize, Par
     ensures one { IfOk result (λ next. next ≡ at + 1) }
     ensures moves { IfOk result (λ next. Moves tokens.now at next) }
     ensures takes { Follows (automaton.keyword word ∷ []) (λ next. next) tokens.now at result }
-    ensures takes { IfOk result (λ next. Comes (a_keyword word) tokens.now at next) }
+    ensures ahead { IfOk result (λ next. Comes (a_keyword word) tokens.now at next) }
     ensures lacks { IfErr result (λ e.
         (e ≡ refusal (lexemes_from tokens.now at)) ×
         LacksKeyword word (lexemes_from tokens.now at)) }

@@ -36,7 +36,7 @@ loop-items-preserved g c =
       later = omega (arith, before.later, c.in_ok-item.ensures.moves.later, c.in_ok-next.ensures.moves.later);
       place = λ s. before.place s ∙ c.in_ok-item.ensures.takes (m.further g.T.Part.thing c.args.closing (left_of c.args.most (length c.loop-items.items + 1)) ∷ s)
           ∙ further_one g.T.Part.thing c.args.closing c.args.most (length c.loop-items.items + 1) (length all + 1) s (lexemes_from c.args.tokens.now c.in_ok-item.behind) (lexemes_from c.args.tokens.now c.in_ok-next.next)
-          c.in_default.ensures.lacks c.in_ok-next.ensures.takes (ap (λ n. n + 1) one_longer) (subst (λ n. IsWithin c.args.most (n + 1)) c.len.ensures c.in_ok-allow_one_more.ensures.within);
+          c.in_default.ensures.lacks c.in_ok-next.ensures.ahead (ap (λ n. n + 1) one_longer) (subst (λ n. IsWithin c.args.most (n + 1)) c.len.ensures c.in_ok-allow_one_more.ensures.within);
     }
 
 pub returns-in-Some-clause-spelled : goal.returns-in-Some-clause-spelled
