@@ -97,3 +97,8 @@ pub focus_is : (room : ℕ) (s : List Symbol) (ts rest : List Located) → 1 ≤
     ≡ run (m.keyword word.Focus ∷ m.name ∷ m.keyword word.As ∷ m.keyword word.Tracked ∷ m.sign mark.OpenParen ∷ m.name ∷ m.sign mark.CloseParen ∷ m.name ∷ m.block room ∷ s) ts
 focus_is zero s ts rest some b = absurd (omega (arith, some))
 focus_is (suc room) s ts rest some b = rw b.is refl
+
+pub switch_is : (room : ℕ) (s : List Symbol) (ts rest : List Located) → 1 ≤ room → Begins (t.keyword word.Switch) ts rest → run (m.thing (m.a_stmt room) ∷ s) ts
+    ≡ run (m.keyword word.Switch ∷ m.sign mark.OpenParen ∷ m.name ∷ m.sign mark.CloseParen ∷ m.sign mark.OpenBrace ∷ m.arm room ∷ m.arms room ∷ s) ts
+switch_is zero s ts rest some b = absurd (omega (arith, some))
+switch_is (suc room) s ts rest some b = rw b.is refl

@@ -1,9 +1,9 @@
 //! Statements with blocks. `room` is how many more blocks may stand in one another where a part stands.
 
-ghost use Rattle.std.specs.Prelude.{◌≡◌, ◌∷◌, [], ◌-◌, ◌≤◌, length, IfOk, IfErr, OnOk};
+ghost use Rattle.std.specs.Prelude.{◌≡◌, ◌∷◌, [], ◌-◌, ◌≤◌, None, length, map, IfOk, IfErr, OnOk};
 ghost use Rattle.vlt_lexer.specs.declared.token.TokenKind.TheVariants as kinds;
 ghost use Rattle.vlt_lexer.specs.declared.token.Word.TheVariants as words;
-ghost use Rattle.vlt_lexer.specs.declared.token.Mark.TheVariants.{OpenParen, CloseParen, CloseBrace};
+ghost use Rattle.vlt_lexer.specs.declared.token.Mark.TheVariants.{OpenParen, CloseParen, OpenBrace, CloseBrace, Colon};
 ghost use Rattle.vlt_syntax.specs.Tokens.{sign as a_sign};
 ghost use Rattle.vlt_syntax.specs.Spelling.{stmt_then, block_then, if_then, else_then, arms_then};
 ghost use Rattle.vlt_syntax.specs.Grammar.{IsStmt, IsBlock, IsIf, IsElse, IsSomeArm, AreArms, language};
@@ -12,7 +12,7 @@ ghost use Rattle.vlt_syntax.specs.View.{stmt_of, block_of, if_of, else_of, arm_o
 ghost use Rattle.vlt_parser_exprs.specs.declared.error.ParseError.TheVariants.{Limit};
 ghost use Rattle.vlt_automaton.specs.Language as automaton;
 ghost use Rattle.vlt_parser_exprs.specs.Reading.{tokens_from, Stands};
-ghost use Rattle.vlt_parser_stmts.specs.Statements.{focus_then, focus_at, rows_at};
+ghost use Rattle.vlt_parser_stmts.specs.Statements.{focus_then, focus_at, switch_then, switch_at, case_then, case_at, rows_at};
 ghost use Rattle.vlt_parser_exprs.specs.Promises.{Advances, Holds, KindComes, Lies, MayAdvance, Spells, Takes};
 
 use std::alloc::Global;
@@ -76,6 +76,48 @@ fn focus_head(
         },
         next,
     ))
+}
+
+/// `switch (x) {`
+fn switch_head(alloc: Global, tokens: &[Token<'_>], at: usize) -> Result<(Name, usize), ParseError>
+    ensures spelled { Spells name_of switch_then tokens.now at result }
+    ensures placed { Lies name_of switch_at tokens.now at result }
+    ensures moves { Advances tokens.now at result }
+    ensures takes { Takes (automaton.keyword words.Switch ∷ automaton.sign OpenParen ∷
+        automaton.name ∷ automaton.sign CloseParen ∷ automaton.sign OpenBrace ∷ [])
+        tokens.now at result }
+{
+    let next = keyword(tokens, at, Word::Switch)?;
+    let next = sign(tokens, next, Mark::OpenParen)?;
+    let (variable, next) = name(alloc, tokens, next)?;
+    let next = sign(tokens, next, Mark::CloseParen)?;
+    let next = sign(tokens, next, Mark::OpenBrace)?;
+    Ok((variable, next))
+}
+
+/// What an arm has before its block.
+#[derive(Drop)]
+struct ArmHead {
+    case: Name,
+    variables: Items<Name>,
+}
+
+/// `case 'A(v, w):`
+fn arm_head(alloc: Global, tokens: &[Token<'_>], at: usize) -> Result<(ArmHead, usize), ParseError>
+    ensures spelled { IfOk result (λ x. tokens_from tokens.now at ≡
+        case_then (name_of x.0.case) (map name_of x.0.variables) (tokens_from tokens.now x.1)) }
+    ensures placed { IfOk result (λ x. Stands case_at
+        tokens.now at (name_of x.0.case, map name_of x.0.variables) x.1) }
+    ensures moves { Advances tokens.now at result }
+    ensures takes { Takes (automaton.keyword words.Case ∷ automaton.tick ∷
+        automaton.enclosed automaton.a_name OpenParen CloseParen None ∷
+        automaton.sign Colon ∷ []) tokens.now at result }
+{
+    let next = keyword(tokens, at, Word::Case)?;
+    let (case, next) = case_name(alloc, tokens, next)?;
+    let (variables, next) = enclosed(alloc, tokens, next, Mark::OpenParen, Mark::CloseParen, None)?;
+    let next = sign(tokens, next, Mark::Colon)?;
+    Ok((ArmHead { case, variables }, next))
 }
 
 /// A block, where one may stand.
@@ -261,7 +303,7 @@ fn focus(
     ))
 }
 
-#[tactic(auto, using(crate::proofs::Blocks::stmt_enters, crate::proofs::Blocks::stmt_too_deep))]
+#[tactic(auto, using(crate::proofs::Blocks::switch_is, crate::proofs::Blocks::stmt_too_deep))]
 #[cycle(statements)]
 fn switch(
     alloc: Global,
@@ -276,12 +318,8 @@ fn switch(
     ensures moves { Advances tokens.now at result }
     ensures takes { Takes (automaton.thing (automaton.a_stmt room) ∷ []) tokens.now at result }
 {
-    let next = keyword(tokens, at, Word::Switch)?;
     enter(room)?;
-    let next = sign(tokens, next, Mark::OpenParen)?;
-    let (variable, next) = name(alloc, tokens, next)?;
-    let next = sign(tokens, next, Mark::CloseParen)?;
-    let next = sign(tokens, next, Mark::OpenBrace)?;
+    let (variable, next) = switch_head(alloc, tokens, at)?;
     let (arms, next) = arms(alloc, tokens, next, room)?;
     let at = span(tokens, at, next);
     Ok((Stmt::Switch { variable, arms, at }, next))
@@ -335,16 +373,13 @@ fn arm(
     ensures moves { Advances tokens.now at result }
     ensures takes { Takes (automaton.arm room ∷ []) tokens.now at result }
 {
-    let next = keyword(tokens, at, Word::Case)?;
-    let (case, next) = case_name(alloc, tokens, next)?;
-    let (variables, next) = enclosed(alloc, tokens, next, Mark::OpenParen, Mark::CloseParen, None)?;
-    let next = sign(tokens, next, Mark::Colon)?;
+    let (head, next) = arm_head(alloc, tokens, at)?;
     let (body, next) = block(alloc, tokens, next, room)?;
     let at = span(tokens, at, next);
     Ok((
         Arm {
-            case,
-            variables,
+            case: head.case,
+            variables: head.variables,
             body,
             at,
         },

@@ -13,7 +13,7 @@ use Rattle.vlt_lexer.specs.declared.token.Mark.TheVariants as mark
 use Rattle.vlt_automaton.specs.Language as m
 use Rattle.vlt_automaton.specs.Language.{Symbol, run}
 use Rattle.vlt_parser_exprs.specs.Ahead.{lexemes_from, BeginsWith}
-use Rattle.vlt_parser_stmts.proofs.Blocks.{arm_is, stmts_one, arms_one, block_is, focus_is, otherwise_some, else_if, else_block, stmt_block, stmt_enters}
+use Rattle.vlt_parser_stmts.proofs.Blocks.{arm_is, stmts_one, arms_one, block_is, focus_is, switch_is, otherwise_some, else_if, else_block, stmt_block, stmt_enters}
 use Rattle.vlt_lexer.specs.declared.token.Token.{Token as CodeToken}
 use Rattle.vlt_syntax.specs.Places.{stmts_at, arms_at}
 use Rattle.vlt_parser_exprs.specs.Reading.{tokens_from, Stands}
@@ -118,7 +118,7 @@ otherwise-returns-in_err-choice-clause-takes t c =
     let is : c.from_residual.result ≡ Err c.in_err-choice.field-0.0 = first_of (search rules, grind (arith, common_steps)) in
     let chosen : BeginsWith (kind.Keyword word.If) next behind = subst (λ k. BeginsWith k next behind) (c.in-Some-Keyword-If.field-0-is ∙ ap kind.Keyword c.in-Some-Keyword-If.field-0-0-is) c.in-Some-Keyword-If.ensures.ahead in
     rw is (λ s f told.
-    otherwise_some c.args.room s (places c.args.at) next c.in-Ok.ensures.takes
+    otherwise_some c.args.room s (places c.args.at) next c.in-Ok.ensures.ahead
     ∙ else_if c.args.room s next behind chosen.begins
     ∙ c.in_err-choice.ensures.takes s f told)
 
@@ -128,7 +128,7 @@ otherwise-returns-in_err-last-clause-takes t c =
     let next = places c.in-Ok.next in
     let is : c.from_residual-in_err-last.result ≡ Err c.in_err-last.field-0.0 = first_of (search rules, grind (arith, common_steps)) in
     let same : (s : List Symbol) → run (m.behind_else c.args.room ∷ s) next ≡ run (m.block c.args.room ∷ s) next = first_of (search (rules, else_block), grind (arith, common_steps)) in
-    rw is (λ s f told. otherwise_some c.args.room s (places c.args.at) next c.in-Ok.ensures.takes ∙ same s ∙ c.in_err-last.ensures.takes s f told)
+    rw is (λ s f told. otherwise_some c.args.room s (places c.args.at) next c.in-Ok.ensures.ahead ∙ same s ∙ c.in_err-last.ensures.takes s f told)
 
 pub stmt-returns-in_err-body-in-Some-Sign-OpenBrace-clause-takes : goal.stmt-returns-in_err-body-in-Some-Sign-OpenBrace-clause-takes
 stmt-returns-in_err-body-in-Some-Sign-OpenBrace-clause-takes t c =
@@ -138,16 +138,21 @@ stmt-returns-in_err-body-in-Some-Sign-OpenBrace-clause-takes t c =
     let opens : BeginsWith (kind.Sign mark.OpenBrace) here behind = subst (λ k. BeginsWith k here behind) (c.in-Some-Sign-OpenBrace.field-0-is ∙ ap kind.Sign c.in-Some-Sign-OpenBrace.field-0-0-is) c.in-Some-Sign-OpenBrace.ensures.ahead in
     rw is (λ s f told. stmt_block c.args.room s here behind c.in_ok-enter-in-Some-Sign-OpenBrace.ensures.some opens.begins ∙ c.in_err-body-in-Some-Sign-OpenBrace.ensures.takes s f told)
 
+pub switch-returns-in_err-variable-clause-takes : goal.switch-returns-in_err-variable-clause-takes
+switch-returns-in_err-variable-clause-takes t c =
+    let places = lexemes_from c.args.tokens.now in
+    let is : c.from_residual-in_err-variable.result ≡ Err c.in_err-variable.field-0.0 = first_of (search rules, grind (arith, common_steps)) in
+    rw is (λ s f told.
+    switch_is c.args.room s (places c.args.at) (places (c.args.at + 1)) c.in_ok-enter.ensures.some c.requires.begins
+    ∙ c.in_err-variable.ensures.takes (m.arm c.args.room ∷ m.arms c.args.room ∷ s) f told)
+
 pub switch-returns-in_err-arms-clause-takes : goal.switch-returns-in_err-arms-clause-takes
 switch-returns-in_err-arms-clause-takes t c =
     let places = lexemes_from c.args.tokens.now in
     let is : c.from_residual-in_err-arms.result ≡ Err c.in_err-arms.field-0.0 = first_of (search rules, grind (arith, common_steps)) in
     rw is (λ s f told.
-    stmt_enters (keyword word.Switch) c.args.room (m.sign mark.OpenParen ∷ m.name ∷ m.sign mark.CloseParen ∷ m.sign mark.OpenBrace ∷ m.arm c.args.room ∷ m.arms c.args.room ∷ []) s (places c.args.at) (places c.in_ok-next.next) refl c.in_ok-enter.ensures.some c.in_ok-next.ensures.takes
-    ∙ c.in_ok-next-2.ensures.takes (m.name ∷ m.sign mark.CloseParen ∷ m.sign mark.OpenBrace ∷ m.arm c.args.room ∷ m.arms c.args.room ∷ s)
-    ∙ c.in_ok-variable.ensures.takes (m.sign mark.CloseParen ∷ m.sign mark.OpenBrace ∷ m.arm c.args.room ∷ m.arms c.args.room ∷ s)
-    ∙ c.in_ok-next-3.ensures.takes (m.sign mark.OpenBrace ∷ m.arm c.args.room ∷ m.arms c.args.room ∷ s)
-    ∙ c.in_ok-next-4.ensures.takes (m.arm c.args.room ∷ m.arms c.args.room ∷ s)
+    switch_is c.args.room s (places c.args.at) (places (c.args.at + 1)) c.in_ok-enter.ensures.some c.requires.begins
+    ∙ c.in_ok-variable.ensures.takes (m.arm c.args.room ∷ m.arms c.args.room ∷ s)
     ∙ c.in_err-arms.ensures.takes s f told)
 
 pub if_stmt-returns-in_err-otherwise-clause-takes : goal.if_stmt-returns-in_err-otherwise-clause-takes
@@ -156,7 +161,7 @@ if_stmt-returns-in_err-otherwise-clause-takes t c =
     let is : c.from_residual-in_err-otherwise.result ≡ Err c.in_err-otherwise.field-0.0 =
     let told = err_from_is_err_and c.from_residual-in_err-otherwise.result c.from_residual-in_err-otherwise.ensures.1 in told.1 ∙ ap Err told.2 in
     rw is (λ s f told.
-    stmt_enters (keyword word.If) c.args.room (m.sign mark.OpenParen ∷ m.thing m.an_expr ∷ m.sign mark.CloseParen ∷ m.block c.args.room ∷ m.otherwise c.args.room ∷ []) s (places c.args.at) (places c.in_ok-next.next) refl c.in_ok-enter.ensures.some c.in_ok-next.ensures.takes
+    stmt_enters (keyword word.If) c.args.room (m.sign mark.OpenParen ∷ m.thing m.an_expr ∷ m.sign mark.CloseParen ∷ m.block c.args.room ∷ m.otherwise c.args.room ∷ []) s (places c.args.at) (places c.in_ok-next.next) refl c.in_ok-enter.ensures.some c.in_ok-next.ensures.ahead
     ∙ c.in_ok-condition.ensures.takes (m.block c.args.room ∷ m.otherwise c.args.room ∷ s)
     ∙ c.in_ok-then_block.ensures.takes (m.otherwise c.args.room ∷ s)
     ∙ c.in_err-otherwise.ensures.takes s f told)
@@ -173,13 +178,8 @@ if_stmt-returns-clause-placed t c =
 
 pub arm-returns-in_err-body-clause-takes : goal.arm-returns-in_err-body-clause-takes
 arm-returns-in_err-body-clause-takes t c =
-    let room = c.args.room in
-    let variables : List Symbol → List Symbol = λ s. m.enclosed m.a_name mark.OpenParen mark.CloseParen None ∷ m.sign mark.Colon ∷ m.block room ∷ s in
     let is : c.from_residual-in_err-body.result ≡ Err c.in_err-body.field-0.0 = first_of (search rules, grind (arith, common_steps)) in
     rw is (λ s f told.
-    arm_is room s (lexemes_from c.args.tokens.now c.args.at)
-    ∙ c.in_ok-next.ensures.takes (m.tick ∷ variables s)
-    ∙ c.in_ok-case.ensures.takes (variables s)
-    ∙ c.in_ok-variables.ensures.takes (m.sign mark.Colon ∷ m.block room ∷ s)
-    ∙ c.in_ok-next-2.ensures.takes (m.block room ∷ s)
+    arm_is c.args.room s (lexemes_from c.args.tokens.now c.args.at)
+    ∙ c.in_ok-head.ensures.takes (m.block c.args.room ∷ s)
     ∙ c.in_err-body.ensures.takes s f told)
