@@ -4,13 +4,20 @@ use Rattle.vlt_lexer.specs.declared.token.Mark.TheVariants as mark
 use Rattle.vlt_lexer.specs.declared.token.Word.TheVariants as word
 use Rattle.vlt_lexer.specs.declared.token.Token.{Token as CodeToken}
 use Rattle.vlt_syntax.specs.Tokens.{Token, sign, keyword}
-use Rattle.vlt_syntax.specs.Tree.{Name, HeaderKey}
-use Rattle.vlt_syntax.specs.Spelling.{name_then, marked_name_then, header_then}
+use Rattle.vlt_syntax.specs.Tree.{Name, States, HeaderKey}
+use Rattle.vlt_syntax.specs.Spelling.{name_then, at_states_then, marked_name_then, header_then}
 use Rattle.vlt_syntax.specs.Grammar.{language}
-use Rattle.vlt_syntax.specs.Places.{Placing, without_tokens, ◌◂◌, ◌⊛◌, enclosed_at, marked_at, name_at, header_key_at}
+use Rattle.vlt_syntax.specs.Places.{Placing, without_tokens, ◌◂◌, ◌⊛◌, enclosed_at, marked_at, name_at, states_at, header_key_at}
 use Rattle.vlt_automaton.specs.Language.{Located, Left, Reaction, take, Symbol, run}
 use Rattle.vlt_parser_exprs.specs.Ahead.{lexemes_from, Fails}
 use Rattle.vlt_parser_exprs.specs.declared.error.ParseError.{ParseError}
+
+-- what a field has after its type, with the semicolon
+abbrev pub field_name_then : Name → Option States → List Token → List Token
+field_name_then n ss rest = name_then n (at_states_then ss (sign mark.Semicolon ∷ rest))
+
+abbrev pub field_name_at : Name × Option States → Placing (Name × Option States)
+field_name_at f = without_tokens (λ n ss. (n, ss)) ⊛ name_at f.0 ⊛ marked_at states_at f.1 ◂ 1
 
 -- `struct`, its name, its header, its state set and the opening brace
 abbrev pub struct_head_then : Name → List HeaderKey → Option Name → List Token → List Token

@@ -1,6 +1,6 @@
 //! Declarations.
 
-ghost use Rattle.std.specs.Prelude.{◌≡◌, ◌∷◌, [], ◌≤◌, length, map, IfOk, option_map};
+ghost use Rattle.std.specs.Prelude.{◌≡◌, ◌∷◌, [], ◌≤◌, length, map, IfOk, IfSome, option_map};
 ghost use Rattle.vlt_lexer.specs.declared.token.Word.TheVariants.{Stateset, Abstract, Struct, Variant, Extern};
 ghost use Rattle.vlt_lexer.specs.declared.token.Mark.TheVariants.{At, OpenBrace, CloseBrace, Semicolon};
 ghost use Rattle.vlt_syntax.specs.Tokens.{tokens_of};
@@ -11,7 +11,7 @@ ghost use Rattle.vlt_syntax.specs.Places.{decl_at, each_at, field_at, release_at
 ghost use Rattle.vlt_syntax.specs.View.{name_of, states_of, header_key_of, field_of, decl_of};
 ghost use Rattle.vlt_automaton.specs.Language as automaton;
 ghost use Rattle.vlt_parser_exprs.specs.Reading.{tokens_from, Stands};
-ghost use Rattle.vlt_parser.specs.Declarations.{struct_head_then, struct_head_at};
+ghost use Rattle.vlt_parser.specs.Declarations.{field_name_then, field_name_at, struct_head_then, struct_head_at};
 ghost use Rattle.vlt_parser_exprs.specs.Ahead.{lexemes_from, Turns};
 ghost use Rattle.vlt_parser.specs.Declarations.{fields_left, decls_left, can_begin, Ends};
 ghost use Rattle.vlt_parser_exprs.specs.Promises.{Advances, Holds, Lies, MayAdvance, MayBe, Spells, Takes};
@@ -28,6 +28,35 @@ use vlt_parser_exprs::types::{at_states, marked_name, states, ty};
 use vlt_parser_stmts::block;
 use vlt_syntax::{Decl, Field, HeaderKey, Name, States};
 
+/// What a field has after its type.
+#[derive(Drop)]
+struct FieldName {
+    name: Name,
+    states: Option<States>,
+}
+
+/// `x;` or `x@s;`
+fn field_name(
+    alloc: Global,
+    tokens: &[Token<'_>],
+    at: usize,
+) -> Result<(FieldName, usize), ParseError>
+    ensures spelled { IfOk result (λ x. tokens_from tokens.now at ≡
+        field_name_then (name_of x.0.name) (option_map states_of x.0.states)
+        (tokens_from tokens.now x.1)) }
+    ensures placed { IfOk result (λ x. Stands field_name_at
+        tokens.now at (name_of x.0.name, option_map states_of x.0.states) x.1) }
+    ensures right { IfOk result (λ x. IfSome (option_map states_of x.0.states) IsStates) }
+    ensures moves { Advances tokens.now at result }
+    ensures takes { Takes (automaton.name ∷ automaton.at_states ∷ automaton.sign Semicolon ∷ [])
+        tokens.now at result }
+{
+    let (name, next) = name(alloc, tokens, at)?;
+    let (states, next) = at_states(alloc, tokens, next)?;
+    let next = sign(tokens, next, Mark::Semicolon)?;
+    Ok((FieldName { name, states }, next))
+}
+
 /// `int x;` or `int x@s;`
 fn field(alloc: Global, tokens: &[Token<'_>], at: usize) -> Result<(Field, usize), ParseError>
     ensures spelled { Spells field_of field_then tokens.now at result }
@@ -38,15 +67,13 @@ fn field(alloc: Global, tokens: &[Token<'_>], at: usize) -> Result<(Field, usize
         automaton.at_states ∷ automaton.sign Semicolon ∷ []) tokens.now at result }
 {
     let (ty, next) = ty(alloc, tokens, at)?;
-    let (name, next) = name(alloc, tokens, next)?;
-    let (states, next) = at_states(alloc, tokens, next)?;
-    let next = sign(tokens, next, Mark::Semicolon)?;
+    let (named, next) = field_name(alloc, tokens, next)?;
     let at = span(tokens, at, next);
     Ok((
         Field {
             ty,
-            name,
-            states,
+            name: named.name,
+            states: named.states,
             at,
         },
         next,
