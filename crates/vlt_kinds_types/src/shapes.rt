@@ -13,7 +13,7 @@ use vlt_base::Items;
 use vlt_syntax::{Case, Decl, HeaderKey, Name, Ty};
 
 /// Of which sort a declared type is.
-#[derive(Clone, Copy, Debug, PartialEq, Eq)]
+#[derive(Clone, Copy, PartialEq, Eq)]
 pub enum Sort {
     Abstract,
     Struct,
@@ -28,7 +28,7 @@ pub enum Sort {
 }
 
 /// The type that the object of a key has to be of: any, that of an unknown name, or this one.
-#[derive(Clone, Copy, Debug, PartialEq, Eq)]
+#[derive(Clone, Copy)]
 pub enum Wanted {
     Any,
     Unknown,

@@ -202,7 +202,12 @@ impl File<'_> {
     }
 
     /// Refuses what is wrong in a type wherever it stands, its keys aside.
-    pub fn check_type(&self, alloc: Global, ty: &Ty, found: &mut LeastRefusal) -> Result<(), AllocError>
+    pub fn check_type(
+        &self,
+        alloc: Global,
+        ty: &Ty,
+        found: &mut LeastRefusal,
+    ) -> Result<(), AllocError>
         ensures { OnOk result (found.new.least ≡ least_from found.old.least
             (t.ty_refused (file_seen self.now) (view.ty_of ty.now))) }
     {

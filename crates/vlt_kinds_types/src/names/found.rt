@@ -4,14 +4,14 @@ ghost use Rattle.std.specs.Prelude.{◌≡◌};
 ghost use Rattle.vlt_kinds_types.specs.Names.Refusals.{least_from, lesser, refusal, refuse_if};
 
 /// A rule that refuses, and the place where it does, as a byte of the source counted from 0.
-#[derive(Clone, Copy, Debug, PartialEq, Eq)]
+#[derive(Clone, Copy)]
 pub struct Refusal {
     pub rule: u8,
     pub at: u32,
 }
 
 /// The least refusal so far: that of the least place, and there of the least rule.
-#[derive(Clone, Copy, Debug, PartialEq, Eq)]
+#[derive(Clone, Copy)]
 pub struct LeastRefusal {
     pub least: Option<Refusal>,
 }

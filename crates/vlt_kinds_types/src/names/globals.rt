@@ -15,7 +15,7 @@ use vlt_core::rules;
 use vlt_syntax::{Decl, Name};
 
 /// What a name of the whole file is, numbered among its kind.
-#[derive(Clone, Copy, Debug, PartialEq, Eq)]
+#[derive(Clone, Copy)]
 pub enum Entity {
     ASet(u32),
     AType(u32),

@@ -147,7 +147,12 @@ fn check_struct(
 }
 
 #[tactic(auto, using(crate::proofs::OfNames::Least::least_of_both, crate::proofs::OfNames::Least::mapped_twice), unfolding(crate::specs::Names::Names::variant_refused))]
-fn check_variant(params: &[HeaderKey], cases: &[Case], known: &Globals<'_>, found: &mut LeastRefusal)
+fn check_variant(
+    params: &[HeaderKey],
+    cases: &[Case],
+    known: &Globals<'_>,
+    found: &mut LeastRefusal,
+)
     ensures { found.new.least ≡ least_from found.old.least
         (n.variant_refused (names_seen known.now) (map view.header_key_of params.now)
         (map view.case_of cases.now)) }
