@@ -13,7 +13,7 @@ use crate::parts::Part;
 use std::alloc::{AllocError, Global};
 use vlt_base::Items;
 use vlt_kinds_types::{
-    File, LeastRefusal, Globals, KeyUse, Sort, Wanted, rules, sort_in, ty_place, wanted_in,
+    File, Globals, KeyUse, LeastRefusal, Sort, Wanted, rules, sort_in, ty_place, wanted_in,
 };
 use vlt_syntax::{HeaderKey, Name, Ty};
 

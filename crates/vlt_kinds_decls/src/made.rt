@@ -96,8 +96,8 @@ fn core_field(
 {
     let name = Items::from_slice(alloc, field.name.text.as_slice())?;
     let numbers = HeaderNumbers { params };
-    let ty = file.core_type(alloc, &numbers, &field.ty)?;
     let states = states_listed(alloc, known, &field.states)?;
+    let ty = file.core_type(alloc, &numbers, &field.ty)?;
     Ok(FieldDecl { name, ty, states })
 }
 

@@ -1,7 +1,7 @@
 //! Parts of a declared type.
 
 /// What a type is in a declaration.
-#[derive(Clone, Copy, Debug, PartialEq, Eq)]
+#[derive(Clone, Copy)]
 pub enum Part {
     Field,
     Payload,
