@@ -13,15 +13,27 @@ use crate::names::HeadName;
 use indexmap::IndexMap;
 use std::alloc::{AllocError, Global};
 use vlt_core::rules;
-use vlt_kinds_types::{LeastRefusal, Globals};
+use vlt_kinds_types::{Globals, LeastRefusal};
 
 /// The names so far, each with whether it stands for keys alone.
 #[derive(Drop)]
-struct Names<'a> {
+pub struct Names<'a> {
     seen: IndexMap<&'a [u8], bool>,
 }
 
 impl<'a> Names<'a> {
+    pub fn new(alloc: Global) -> Names<'a> {
+        Names {
+            seen: IndexMap::new(alloc),
+        }
+    }
+
+    fn clear(&mut self)
+        ensures { table_seen self.new.seen.entries ≡ [] }
+    {
+        self.seen.clear();
+    }
+
     fn find(&self, name: &[u8]) -> Option<bool>
         ensures { result ≡ lookup (bytes_eq name.now) (table_seen self.now.seen.entries) }
     {
@@ -60,19 +72,17 @@ impl<'a> Names<'a> {
     }
 }
 
-/// Refuses each name that is repeated or global.
-pub fn check_names(
-    alloc: Global,
+/// Refuses each name that is repeated or global. The names of other heads are forgotten.
+pub fn check_names<'a>(
     known: &Globals<'_>,
-    names: &[HeadName<'_>],
+    names: &[HeadName<'a>],
+    seen: &mut Names<'a>,
     found: &mut LeastRefusal,
 ) -> Result<(), AllocError>
     ensures { OnOk result (found.new.least ≡ found_along h.with_name
         (h.name_refused (names_seen known.now)) [] (map name_seen names.now) found.old.least) }
 {
-    let mut seen = Names {
-        seen: IndexMap::new(alloc),
-    };
+    seen.clear();
     for name in names {
         seen.check(known, name, found);
         seen.add(name)?;

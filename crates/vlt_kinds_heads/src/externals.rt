@@ -240,7 +240,11 @@ impl HeadKeys<'_> {
         Ok(())
     }
 
-    fn check_host_entries(&self, clause: &[Entry], found: &mut LeastRefusal) -> Result<(), AllocError>
+    fn check_host_entries(
+        &self,
+        clause: &[Entry],
+        found: &mut LeastRefusal,
+    ) -> Result<(), AllocError>
         ensures { OnOk result (found.new.least
             ≡ found_each (e.host_entry_refused (keys_seen self.now))
             (map view.entry_of clause.now) found.old.least) }

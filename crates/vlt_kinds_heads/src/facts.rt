@@ -1,7 +1,7 @@
 //! What is known of a key of a head.
 
 /// A type that a place gives to a key, and that place as a byte of the source counted from 0.
-#[derive(Clone, Copy, Debug, PartialEq, Eq)]
+#[derive(Clone, Copy)]
 pub struct Typing {
     pub type_id: u32,
     pub at: u32,

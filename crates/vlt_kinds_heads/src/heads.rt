@@ -13,7 +13,7 @@ ghost use Rattle.vlt_kinds_heads.specs.Heads as h;
 ghost use Rattle.vlt_kinds_heads.specs.Phase as q;
 ghost use Rattle.vlt_kinds_heads.specs.Seen.{keys_seen};
 
-use crate::binding::check_names;
+use crate::binding::{Names, check_names};
 use crate::clauses::{check_entries, check_main};
 use crate::externals::check_external;
 use crate::keys::HeadKeys;
@@ -22,7 +22,7 @@ use indexmap::IndexMap;
 use std::alloc::{AllocError, Global};
 use vlt_base::Items;
 use vlt_core::{Func, TypeDecl};
-use vlt_kinds_types::{File, LeastRefusal, KeyUse};
+use vlt_kinds_types::{File, KeyUse, LeastRefusal};
 use vlt_syntax::{Decl, Entry, Head, Parameter, ResultType};
 
 fn check_result_type(
@@ -71,10 +71,11 @@ fn check_types(
 }
 
 #[tactic(auto, using(vlt_kinds_types::proofs::OfNames::Along::along_is))]
-fn check_head_names(
+fn check_head_names<'a>(
     alloc: Global,
     file: &File<'_>,
-    head: &Head,
+    head: &'a Head,
+    seen: &mut Names<'a>,
     found: &mut LeastRefusal,
 ) -> Result<(), AllocError>
     ensures { OnOk result (found.new.least ≡ least_from found.old.least
@@ -82,36 +83,40 @@ fn check_head_names(
         (p.head_names (file_seen file.now) (view.head_of head.now)))) }
 {
     let names = head_names(alloc, file, head)?;
-    check_names(alloc, &file.globals, names.as_slice(), found)?;
+    check_names(&file.globals, names.as_slice(), seen, found)?;
     Ok(())
 }
 
-/// Where the keys of a head stand. A key that its clause names another time is refused.
-#[tactic(auto, using(vlt_kinds_types::proofs::OfNames::Along::along_is), unfolding(crate::specs::Heads::clause_again, crate::specs::Keys::places_behind))]
-fn note_places<'a>(
-    alloc: Global,
-    results: &[KeyUse<'a>],
-    parameters: &[KeyUse<'a>],
-    clause: &'a [Entry],
-    found: &mut LeastRefusal,
-) -> Result<HeadKeys<'a>, AllocError>
-    ensures keys { IfOk result (λ keys. keys_seen keys
-        ≡ k.places_behind (map use_seen results.now) (map use_seen parameters.now)
-        (map view.entry_of clause.now)) }
-    ensures refused { OnOk result (found.new.least ≡ least_from found.old.least
-        (h.clause_again (map use_seen results.now) (map use_seen parameters.now)
-        (map view.entry_of clause.now))) }
-{
-    let mut keys = HeadKeys {
-        table: IndexMap::new(alloc),
-    };
-    keys.note_results(results)?;
-    keys.note_parameters(parameters)?;
-    keys.check_clause_again(clause, found)?;
-    Ok(keys)
-}
-
 impl<'a> HeadKeys<'a> {
+    fn clear(&mut self)
+        ensures { keys_seen self.new ≡ [] }
+    {
+        self.table.clear();
+    }
+
+    /// Where the keys of a head stand; those of other heads are forgotten. A key that its clause names another time is refused.
+    #[tactic(auto, using(vlt_kinds_types::proofs::OfNames::Along::along_is), unfolding(crate::specs::Heads::clause_again, crate::specs::Keys::places_behind))]
+    fn note_places(
+        &mut self,
+        results: &[KeyUse<'a>],
+        parameters: &[KeyUse<'a>],
+        clause: &'a [Entry],
+        found: &mut LeastRefusal,
+    ) -> Result<(), AllocError>
+        ensures keys { OnOk result (keys_seen self.new
+            ≡ k.places_behind (map use_seen results.now) (map use_seen parameters.now)
+            (map view.entry_of clause.now)) }
+        ensures refused { OnOk result (found.new.least ≡ least_from found.old.least
+            (h.clause_again (map use_seen results.now) (map use_seen parameters.now)
+            (map view.entry_of clause.now))) }
+    {
+        self.clear();
+        self.note_results(results)?;
+        self.note_parameters(parameters)?;
+        self.check_clause_again(clause, found)?;
+        Ok(())
+    }
+
     /// Notes the types of the keys. Another type for one of them in a parameter is refused.
     #[tactic(auto, using(vlt_kinds_types::proofs::OfNames::Along::along_is), unfolding(crate::specs::Heads::typings_refused, crate::specs::Keys::typed_keys))]
     fn note_types(
@@ -133,7 +138,11 @@ impl<'a> HeadKeys<'a> {
     }
 
     #[tactic(auto, using(vlt_kinds_types::proofs::OfNames::Least::least_of_both, vlt_kinds_types::proofs::OfNames::Least::each_is), unfolding(crate::specs::Heads::result_refused))]
-    fn check_result(&self, results: &[KeyUse<'_>], found: &mut LeastRefusal) -> Result<(), AllocError>
+    fn check_result(
+        &self,
+        results: &[KeyUse<'_>],
+        found: &mut LeastRefusal,
+    ) -> Result<(), AllocError>
         ensures { OnOk result (found.new.least ≡ least_from found.old.least
             (h.result_refused (keys_seen self.now) (map use_seen results.now))) }
     {
@@ -143,7 +152,14 @@ impl<'a> HeadKeys<'a> {
     }
 }
 
-/// The keys of a head. What is wrong in it is refused.
+/// What is known of the head at hand; the tables keep their memory from head to head.
+#[derive(Drop)]
+struct HeadTables<'a> {
+    names: Names<'a>,
+    keys: HeadKeys<'a>,
+}
+
+/// Notes the keys of a head. What is wrong in it is refused.
 #[tactic(auto, using(vlt_kinds_types::proofs::OfNames::Least::least_of_both, vlt_kinds_types::proofs::OfNames::Least::each_is), unfolding(crate::specs::Heads::head_refused_by, crate::specs::Keys::keys_behind))]
 fn check_head_by<'a>(
     alloc: Global,
@@ -151,32 +167,35 @@ fn check_head_by<'a>(
     head: &'a Head,
     results: &[KeyUse<'a>],
     parameters: &[KeyUse<'a>],
+    tables: &mut HeadTables<'a>,
     found: &mut LeastRefusal,
-) -> Result<HeadKeys<'a>, AllocError>
-    ensures keys { IfOk result (λ keys. keys_seen keys ≡ k.keys_behind (map use_seen results.now)
-        (map use_seen parameters.now) (p.clause_in (view.head_of head.now).clause)) }
+) -> Result<(), AllocError>
+    ensures keys { OnOk result (keys_seen tables.new.keys
+        ≡ k.keys_behind (map use_seen results.now) (map use_seen parameters.now)
+        (p.clause_in (view.head_of head.now).clause)) }
     ensures refused { OnOk result (found.new.least ≡ least_from found.old.least (h.head_refused_by
         (file_seen file.now) (view.head_of head.now) (map use_seen results.now)
         (map use_seen parameters.now))) }
 {
     let clause = clause_in(&head.clause);
     check_types(alloc, file, head, found)?;
-    check_head_names(alloc, file, head, found)?;
-    let mut keys = note_places(alloc, results, parameters, clause, found)?;
-    keys.note_types(results, parameters, found)?;
-    keys.check_result(results, found)?;
-    check_entries(alloc, file, &keys, clause, found)?;
+    check_head_names(alloc, file, head, &mut tables.names, found)?;
+    tables.keys.note_places(results, parameters, clause, found)?;
+    tables.keys.note_types(results, parameters, found)?;
+    tables.keys.check_result(results, found)?;
+    check_entries(alloc, file, &tables.keys, clause, found)?;
     check_main(head, found);
-    Ok(keys)
+    Ok(())
 }
 
 fn check_head<'a>(
     alloc: Global,
     file: &File<'_>,
     head: &'a Head,
+    tables: &mut HeadTables<'a>,
     found: &mut LeastRefusal,
-) -> Result<HeadKeys<'a>, AllocError>
-    ensures keys { IfOk result (λ keys. keys_seen keys
+) -> Result<(), AllocError>
+    ensures keys { OnOk result (keys_seen tables.new.keys
         ≡ k.keys_of (file_seen file.now) (view.head_of head.now)) }
     ensures refused { OnOk result (found.new.least ≡ least_from found.old.least
         (h.head_refused (file_seen file.now) (view.head_of head.now))) }
@@ -189,6 +208,7 @@ fn check_head<'a>(
         head,
         results.as_slice(),
         parameters.as_slice(),
+        tables,
         found,
     )
 }
@@ -199,17 +219,18 @@ fn check_extern<'a>(
     file: &File<'_>,
     types: &[TypeDecl],
     head: &'a Head,
+    tables: &mut HeadTables<'a>,
     found: &mut LeastRefusal,
-) -> Result<HeadKeys<'a>, AllocError>
-    ensures keys { IfOk result (λ keys. keys_seen keys
+) -> Result<(), AllocError>
+    ensures keys { OnOk result (keys_seen tables.new.keys
         ≡ k.keys_of (file_seen file.now) (view.head_of head.now)) }
     ensures refused { OnOk result (found.new.least ≡ least_from found.old.least
         (q.extern_refused (file_seen file.now) (map core_view.type_of types.now)
         (view.head_of head.now))) }
 {
-    let keys = check_head(alloc, file, head, found)?;
-    check_external(file, types, head, &keys, found)?;
-    Ok(keys)
+    check_head(alloc, file, head, tables, found)?;
+    check_external(file, types, head, &tables.keys, found)?;
+    Ok(())
 }
 
 /// Adds the head that has these keys.
@@ -230,11 +251,12 @@ fn push_head(
 }
 
 /// Adds the head that is declared here, if one is. What is wrong in it is refused.
-fn add_head(
+fn add_head<'a>(
     alloc: Global,
     file: &File<'_>,
     types: &[TypeDecl],
-    decl: &Decl,
+    decl: &'a Decl,
+    tables: &mut HeadTables<'a>,
     heads: &mut Items<Func>,
     found: &mut LeastRefusal,
 ) -> Result<(), AllocError>
@@ -248,12 +270,12 @@ fn add_head(
 {
     match decl {
         Decl::Extern { head, .. } => {
-            let keys = check_extern(alloc, file, types, head, found)?;
-            push_head(alloc, file, true, head, &keys, heads)
+            check_extern(alloc, file, types, head, tables, found)?;
+            push_head(alloc, file, true, head, &tables.keys, heads)
         }
         Decl::Function { head, .. } => {
-            let keys = check_head(alloc, file, head, found)?;
-            push_head(alloc, file, false, head, &keys, heads)
+            check_head(alloc, file, head, tables, found)?;
+            push_head(alloc, file, false, head, &tables.keys, heads)
         }
         _ => Ok(()),
     }
@@ -273,9 +295,15 @@ fn add_heads(
         ≡ found_each (q.heads_refused_in (file_seen file.now) (map core_view.type_of types.now))
         (map view.decl_of decls.now) found.old.least) }
 {
+    let mut tables = HeadTables {
+        names: Names::new(alloc),
+        keys: HeadKeys {
+            table: IndexMap::new(alloc),
+        },
+    };
     let mut heads = Items::new(alloc);
     for decl in decls {
-        add_head(alloc, file, types, decl, &mut heads, found)?;
+        add_head(alloc, file, types, decl, &mut tables, &mut heads, found)?;
     }
     Ok(heads)
 }

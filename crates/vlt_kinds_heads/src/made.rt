@@ -245,10 +245,10 @@ impl HeadKeys<'_> {
             (keys_seen self.now)) }
     {
         let name = Items::from_slice(alloc, head.name.text.as_slice())?;
-        let result = self.core_result(alloc, file, &head.result_type)?;
         let clause = self.core_clause(alloc, file, clause_in(&head.clause))?;
         let keys = key_decls(alloc, self)?;
         let vars = self.core_parameters(alloc, file, head.parameters.as_slice())?;
+        let result = self.core_result(alloc, file, &head.result_type)?;
         let params = head.parameters.len() as u32;
         let body = Items::new(alloc);
         Ok(Func {

@@ -14,7 +14,7 @@ use crate::keys::HeadKeys;
 use crate::places::entry_key;
 use std::alloc::AllocError;
 use vlt_core::rules;
-use vlt_kinds_types::{LeastRefusal, KeyUse, Wanted};
+use vlt_kinds_types::{KeyUse, LeastRefusal, Wanted};
 use vlt_syntax::Entry;
 
 fn type_rule(is_tracked: bool) -> u8
@@ -107,7 +107,11 @@ impl<'a> HeadKeys<'a> {
     }
 
     #[tactic(auto, unfolding(crate::specs::Heads::result_clash))]
-    fn check_result_clash(&self, place: &KeyUse<'_>, found: &mut LeastRefusal) -> Result<(), AllocError>
+    fn check_result_clash(
+        &self,
+        place: &KeyUse<'_>,
+        found: &mut LeastRefusal,
+    ) -> Result<(), AllocError>
         ensures { OnOk result (found.new.least ≡ least_from found.old.least
             (h.result_clash (keys_seen self.now) (use_seen place.now))) }
     {
@@ -133,7 +137,11 @@ impl<'a> HeadKeys<'a> {
     }
 
     #[tactic(auto, unfolding(crate::specs::Heads::result_key_refused))]
-    fn check_result_key(&self, place: &KeyUse<'_>, found: &mut LeastRefusal) -> Result<(), AllocError>
+    fn check_result_key(
+        &self,
+        place: &KeyUse<'_>,
+        found: &mut LeastRefusal,
+    ) -> Result<(), AllocError>
         ensures { OnOk result (found.new.least ≡ least_from found.old.least
             (h.result_key_refused (keys_seen self.now) (use_seen place.now))) }
     {
