@@ -4,7 +4,7 @@ ghost use Rattle.std.specs.Prelude.{◌≡◌};
 ghost use Rattle.vlt_kinds_types.specs.Names.Refusals.{least_from, lesser, refusal, refuse_if};
 
 /// A rule that refuses, and the place where it does, as a byte of the source counted from 0.
-#[derive(Clone, Copy)]
+#[derive(Clone, Copy, Debug, PartialEq, Eq)]
 pub struct Refusal {
     pub rule: u8,
     pub at: u32,
