@@ -1,0 +1,29 @@
+use Rattle.std.proofs.Common.{◌≡◌, Err, None, ◌∷◌, ◌∙◌, ap}
+use Rattle.std.proofs.lemmas.Result.{err_from_is_err_and}
+use Rattle.vlt_lexer.specs.declared.token.Mark.TheVariants as mark
+use Rattle.vlt_automaton.specs.Language as m
+use Rattle.vlt_parser_simple.proofs.rights.make.Goals as goal
+
+pub returns-in_err-named-clause-takes : goal.returns-in_err-named-clause-takes
+returns-in_err-named-clause-takes c =
+    let is : c.from_residual-in_err-named.result ≡ Err c.in_err-named.field-0.0 =
+    let told = err_from_is_err_and c.from_residual-in_err-named.result c.from_residual-in_err-named.ensures.1 in told.1 ∙ ap Err told.2 in
+    rw is (λ s f told. c.in_ok-owner.ensures.takes (m.named ∷ m.sign mark.OpenBrace ∷ m.listed m.an_init mark.CloseBrace None ∷ s)
+    ∙ c.in_err-named.ensures.takes (m.sign mark.OpenBrace ∷ m.listed m.an_init mark.CloseBrace None ∷ s) f told)
+
+pub returns-in_err-next-clause-takes : goal.returns-in_err-next-clause-takes
+returns-in_err-next-clause-takes c =
+    let is : c.from_residual-in_err-next.result ≡ Err c.in_err-next.field-0.0 =
+    let told = err_from_is_err_and c.from_residual-in_err-next.result c.from_residual-in_err-next.ensures.1 in told.1 ∙ ap Err told.2 in
+    rw is (λ s f told. c.in_ok-owner.ensures.takes (m.named ∷ m.sign mark.OpenBrace ∷ m.listed m.an_init mark.CloseBrace None ∷ s)
+    ∙ c.in_ok-named.ensures.takes (m.sign mark.OpenBrace ∷ m.listed m.an_init mark.CloseBrace None ∷ s)
+    ∙ c.in_err-next.ensures.takes (m.listed m.an_init mark.CloseBrace None ∷ s) f told)
+
+pub returns-in_err-fields-clause-takes : goal.returns-in_err-fields-clause-takes
+returns-in_err-fields-clause-takes c =
+    let is : c.from_residual-in_err-fields.result ≡ Err c.in_err-fields.field-0.0 =
+    let told = err_from_is_err_and c.from_residual-in_err-fields.result c.from_residual-in_err-fields.ensures.1 in told.1 ∙ ap Err told.2 in
+    rw is (λ s f told. c.in_ok-owner.ensures.takes (m.named ∷ m.sign mark.OpenBrace ∷ m.listed m.an_init mark.CloseBrace None ∷ s)
+    ∙ c.in_ok-named.ensures.takes (m.sign mark.OpenBrace ∷ m.listed m.an_init mark.CloseBrace None ∷ s)
+    ∙ c.in_ok-next.ensures.takes (m.listed m.an_init mark.CloseBrace None ∷ s)
+    ∙ c.in_err-fields.ensures.takes s f told)

@@ -1,0 +1,50 @@
+use Rattle.std.proofs.Common.{◌≡◌, Err, ◌∷◌, ◌∙◌, ap}
+use Rattle.std.proofs.lemmas.Result.{err_from_is_err_and}
+use Rattle.vlt_lexer.specs.declared.token.Mark.TheVariants as mark
+use Rattle.vlt_automaton.specs.Language as m
+use Rattle.vlt_parser_simple.proofs.simple.put.Goals as goal
+
+pub returns-in_err-next-clause-takes : goal.returns-in_err-next-clause-takes
+returns-in_err-next-clause-takes c =
+    let is : c.from_residual-in_err-next.result ≡ Err c.in_err-next.field-0.0 =
+    let told = err_from_is_err_and c.from_residual-in_err-next.result c.from_residual-in_err-next.ensures.1 in told.1 ∙ ap Err told.2 in
+    rw is (λ s f told. c.in_ok-base.ensures.takes (m.sign mark.Dot ∷ m.name ∷ m.sign mark.Assign ∷ m.thing m.an_expr ∷ m.sign mark.Semicolon ∷ s)
+    ∙ c.in_err-next.ensures.takes (m.name ∷ m.sign mark.Assign ∷ m.thing m.an_expr ∷ m.sign mark.Semicolon ∷ s) f told)
+
+pub returns-in_err-field-clause-takes : goal.returns-in_err-field-clause-takes
+returns-in_err-field-clause-takes c =
+    let is : c.from_residual-in_err-field.result ≡ Err c.in_err-field.field-0.0 =
+    let told = err_from_is_err_and c.from_residual-in_err-field.result c.from_residual-in_err-field.ensures.1 in told.1 ∙ ap Err told.2 in
+    rw is (λ s f told. c.in_ok-base.ensures.takes (m.sign mark.Dot ∷ m.name ∷ m.sign mark.Assign ∷ m.thing m.an_expr ∷ m.sign mark.Semicolon ∷ s)
+    ∙ c.in_ok-next.ensures.takes (m.name ∷ m.sign mark.Assign ∷ m.thing m.an_expr ∷ m.sign mark.Semicolon ∷ s)
+    ∙ c.in_err-field.ensures.takes (m.sign mark.Assign ∷ m.thing m.an_expr ∷ m.sign mark.Semicolon ∷ s) f told)
+
+pub returns-in_err-next-2-clause-takes : goal.returns-in_err-next-2-clause-takes
+returns-in_err-next-2-clause-takes c =
+    let is : c.from_residual-in_err-next-2.result ≡ Err c.in_err-next-2.field-0.0 =
+    let told = err_from_is_err_and c.from_residual-in_err-next-2.result c.from_residual-in_err-next-2.ensures.1 in told.1 ∙ ap Err told.2 in
+    rw is (λ s f told. c.in_ok-base.ensures.takes (m.sign mark.Dot ∷ m.name ∷ m.sign mark.Assign ∷ m.thing m.an_expr ∷ m.sign mark.Semicolon ∷ s)
+    ∙ c.in_ok-next.ensures.takes (m.name ∷ m.sign mark.Assign ∷ m.thing m.an_expr ∷ m.sign mark.Semicolon ∷ s)
+    ∙ c.in_ok-field.ensures.takes (m.sign mark.Assign ∷ m.thing m.an_expr ∷ m.sign mark.Semicolon ∷ s)
+    ∙ c.in_err-next-2.ensures.takes (m.thing m.an_expr ∷ m.sign mark.Semicolon ∷ s) f told)
+
+pub returns-in_err-value-clause-takes : goal.returns-in_err-value-clause-takes
+returns-in_err-value-clause-takes c =
+    let is : c.from_residual-in_err-value.result ≡ Err c.in_err-value.field-0.0 =
+    let told = err_from_is_err_and c.from_residual-in_err-value.result c.from_residual-in_err-value.ensures.1 in told.1 ∙ ap Err told.2 in
+    rw is (λ s f told. c.in_ok-base.ensures.takes (m.sign mark.Dot ∷ m.name ∷ m.sign mark.Assign ∷ m.thing m.an_expr ∷ m.sign mark.Semicolon ∷ s)
+    ∙ c.in_ok-next.ensures.takes (m.name ∷ m.sign mark.Assign ∷ m.thing m.an_expr ∷ m.sign mark.Semicolon ∷ s)
+    ∙ c.in_ok-field.ensures.takes (m.sign mark.Assign ∷ m.thing m.an_expr ∷ m.sign mark.Semicolon ∷ s)
+    ∙ c.in_ok-next-2.ensures.takes (m.thing m.an_expr ∷ m.sign mark.Semicolon ∷ s)
+    ∙ c.in_err-value.ensures.takes (m.sign mark.Semicolon ∷ s) f told)
+
+pub returns-in_err-next-3-clause-takes : goal.returns-in_err-next-3-clause-takes
+returns-in_err-next-3-clause-takes c =
+    let is : c.from_residual-in_err-next-3.result ≡ Err c.in_err-next-3.field-0.0 =
+    let told = err_from_is_err_and c.from_residual-in_err-next-3.result c.from_residual-in_err-next-3.ensures.1 in told.1 ∙ ap Err told.2 in
+    rw is (λ s f told. c.in_ok-base.ensures.takes (m.sign mark.Dot ∷ m.name ∷ m.sign mark.Assign ∷ m.thing m.an_expr ∷ m.sign mark.Semicolon ∷ s)
+    ∙ c.in_ok-next.ensures.takes (m.name ∷ m.sign mark.Assign ∷ m.thing m.an_expr ∷ m.sign mark.Semicolon ∷ s)
+    ∙ c.in_ok-field.ensures.takes (m.sign mark.Assign ∷ m.thing m.an_expr ∷ m.sign mark.Semicolon ∷ s)
+    ∙ c.in_ok-next-2.ensures.takes (m.thing m.an_expr ∷ m.sign mark.Semicolon ∷ s)
+    ∙ c.in_ok-value.ensures.takes (m.sign mark.Semicolon ∷ s)
+    ∙ c.in_err-next-3.ensures.takes s f told)
