@@ -48,8 +48,8 @@ fn field_name(
         tokens.now at (name_of x.0.name, option_map states_of x.0.states) x.1) }
     ensures right { IfOk result (λ x. IfSome (option_map states_of x.0.states) IsStates) }
     ensures moves { Advances tokens.now at result }
-    ensures takes { Takes (automaton.name ∷ automaton.at_states ∷ automaton.sign Semicolon ∷ [])
-        tokens.now at result }
+    ensures takes { Takes (automaton.name ∷ automaton.at_states ∷ automaton.sign Semicolon ∷
+        []) tokens.now at result }
 {
     let (name, next) = name(alloc, tokens, at)?;
     let (states, next) = at_states(alloc, tokens, next)?;

@@ -1,5 +1,6 @@
-use Rattle.std.proofs.Common.{◌≡◌, Err, ◌∷◌, ◌∙◌, rules, arith}
+use Rattle.std.proofs.Common.{◌≡◌, Err, ◌∷◌, ◌∙◌, ap, rules, arith}
 use Rattle.std.proofs.lemmas.Grind.{common_steps}
+use Rattle.std.proofs.lemmas.Result.{err_from_is_err_and}
 use Rattle.vlt_lexer.specs.declared.token.Mark.TheVariants as mark
 use Rattle.vlt_automaton.specs.Language as m
 use Rattle.vlt_parser.proofs.decls.struct_head.Goals as goal
@@ -11,3 +12,28 @@ returns-in_err-states-clause-takes c =
     ∙ c.in_ok-name.ensures.takes (m.header ∷ m.marked_name mark.At ∷ m.sign mark.OpenBrace ∷ s)
     ∙ c.in_ok-params.ensures.takes (m.marked_name mark.At ∷ m.sign mark.OpenBrace ∷ s)
     ∙ c.in_err-states.ensures.takes (m.sign mark.OpenBrace ∷ s) f told)
+
+pub returns-in_err-name-clause-takes : goal.returns-in_err-name-clause-takes
+returns-in_err-name-clause-takes c =
+    let is : c.from_residual-in_err-name.result ≡ Err c.in_err-name.field-0.0 =
+    let told = err_from_is_err_and c.from_residual-in_err-name.result c.from_residual-in_err-name.ensures.1 in told.1 ∙ ap Err told.2 in
+    rw is (λ s f told. c.in_ok-next.ensures.takes (m.name ∷ m.header ∷ m.marked_name mark.At ∷ m.sign mark.OpenBrace ∷ s)
+    ∙ c.in_err-name.ensures.takes (m.header ∷ m.marked_name mark.At ∷ m.sign mark.OpenBrace ∷ s) f told)
+
+pub returns-in_err-params-clause-takes : goal.returns-in_err-params-clause-takes
+returns-in_err-params-clause-takes c =
+    let is : c.from_residual-in_err-params.result ≡ Err c.in_err-params.field-0.0 =
+    let told = err_from_is_err_and c.from_residual-in_err-params.result c.from_residual-in_err-params.ensures.1 in told.1 ∙ ap Err told.2 in
+    rw is (λ s f told. c.in_ok-next.ensures.takes (m.name ∷ m.header ∷ m.marked_name mark.At ∷ m.sign mark.OpenBrace ∷ s)
+    ∙ c.in_ok-name.ensures.takes (m.header ∷ m.marked_name mark.At ∷ m.sign mark.OpenBrace ∷ s)
+    ∙ c.in_err-params.ensures.takes (m.marked_name mark.At ∷ m.sign mark.OpenBrace ∷ s) f told)
+
+pub returns-in_err-next-2-clause-takes : goal.returns-in_err-next-2-clause-takes
+returns-in_err-next-2-clause-takes c =
+    let is : c.from_residual-in_err-next-2.result ≡ Err c.in_err-next-2.field-0.0 =
+    let told = err_from_is_err_and c.from_residual-in_err-next-2.result c.from_residual-in_err-next-2.ensures.1 in told.1 ∙ ap Err told.2 in
+    rw is (λ s f told. c.in_ok-next.ensures.takes (m.name ∷ m.header ∷ m.marked_name mark.At ∷ m.sign mark.OpenBrace ∷ s)
+    ∙ c.in_ok-name.ensures.takes (m.header ∷ m.marked_name mark.At ∷ m.sign mark.OpenBrace ∷ s)
+    ∙ c.in_ok-params.ensures.takes (m.marked_name mark.At ∷ m.sign mark.OpenBrace ∷ s)
+    ∙ c.in_ok-states.ensures.takes (m.sign mark.OpenBrace ∷ s)
+    ∙ c.in_err-next-2.ensures.takes s f told)
