@@ -1,10 +1,39 @@
-use Rattle.std.proofs.Common.{◌≡◌, Err, ◌∷◌, ◌∙◌, rules, arith}
-use Rattle.std.proofs.lemmas.Grind.{common_steps}
+use Rattle.std.proofs.Common.{◌≡◌, Err, ◌∷◌, ◌∙◌, ap}
+use Rattle.std.proofs.lemmas.Result.{err_from_is_err_and}
 use Rattle.vlt_lexer.specs.declared.token.Mark.TheVariants as mark
 use Rattle.vlt_automaton.specs.Language as m
 use Rattle.vlt_parser_simple.proofs.simple.change_state.Goals as goal
 
 pub returns-in_err-variable-clause-takes : goal.returns-in_err-variable-clause-takes
 returns-in_err-variable-clause-takes c =
-    let is : c.from_residual-in_err-variable.result ≡ Err c.in_err-variable.field-0.0 = first_of (search rules, grind (arith, common_steps)) in
-    rw is (λ s f told. c.in_ok-next.ensures.takes (m.name ∷ m.sign mark.At ∷ m.name ∷ m.sign mark.Semicolon ∷ s) ∙ c.in_err-variable.ensures.takes (m.sign mark.At ∷ m.name ∷ m.sign mark.Semicolon ∷ s) f told)
+    let is : c.from_residual-in_err-variable.result ≡ Err c.in_err-variable.field-0.0 =
+    let told = err_from_is_err_and c.from_residual-in_err-variable.result c.from_residual-in_err-variable.ensures.1 in told.1 ∙ ap Err told.2 in
+    rw is (λ s f told. c.in_ok-next.ensures.takes (m.name ∷ m.sign mark.At ∷ m.name ∷ m.sign mark.Semicolon ∷ s)
+    ∙ c.in_err-variable.ensures.takes (m.sign mark.At ∷ m.name ∷ m.sign mark.Semicolon ∷ s) f told)
+
+pub returns-in_err-next-2-clause-takes : goal.returns-in_err-next-2-clause-takes
+returns-in_err-next-2-clause-takes c =
+    let is : c.from_residual-in_err-next-2.result ≡ Err c.in_err-next-2.field-0.0 =
+    let told = err_from_is_err_and c.from_residual-in_err-next-2.result c.from_residual-in_err-next-2.ensures.1 in told.1 ∙ ap Err told.2 in
+    rw is (λ s f told. c.in_ok-next.ensures.takes (m.name ∷ m.sign mark.At ∷ m.name ∷ m.sign mark.Semicolon ∷ s)
+    ∙ c.in_ok-variable.ensures.takes (m.sign mark.At ∷ m.name ∷ m.sign mark.Semicolon ∷ s)
+    ∙ c.in_err-next-2.ensures.takes (m.name ∷ m.sign mark.Semicolon ∷ s) f told)
+
+pub returns-in_err-state-clause-takes : goal.returns-in_err-state-clause-takes
+returns-in_err-state-clause-takes c =
+    let is : c.from_residual-in_err-state.result ≡ Err c.in_err-state.field-0.0 =
+    let told = err_from_is_err_and c.from_residual-in_err-state.result c.from_residual-in_err-state.ensures.1 in told.1 ∙ ap Err told.2 in
+    rw is (λ s f told. c.in_ok-next.ensures.takes (m.name ∷ m.sign mark.At ∷ m.name ∷ m.sign mark.Semicolon ∷ s)
+    ∙ c.in_ok-variable.ensures.takes (m.sign mark.At ∷ m.name ∷ m.sign mark.Semicolon ∷ s)
+    ∙ c.in_ok-next-2.ensures.takes (m.name ∷ m.sign mark.Semicolon ∷ s)
+    ∙ c.in_err-state.ensures.takes (m.sign mark.Semicolon ∷ s) f told)
+
+pub returns-in_err-next-3-clause-takes : goal.returns-in_err-next-3-clause-takes
+returns-in_err-next-3-clause-takes c =
+    let is : c.from_residual-in_err-next-3.result ≡ Err c.in_err-next-3.field-0.0 =
+    let told = err_from_is_err_and c.from_residual-in_err-next-3.result c.from_residual-in_err-next-3.ensures.1 in told.1 ∙ ap Err told.2 in
+    rw is (λ s f told. c.in_ok-next.ensures.takes (m.name ∷ m.sign mark.At ∷ m.name ∷ m.sign mark.Semicolon ∷ s)
+    ∙ c.in_ok-variable.ensures.takes (m.sign mark.At ∷ m.name ∷ m.sign mark.Semicolon ∷ s)
+    ∙ c.in_ok-next-2.ensures.takes (m.name ∷ m.sign mark.Semicolon ∷ s)
+    ∙ c.in_ok-state.ensures.takes (m.sign mark.Semicolon ∷ s)
+    ∙ c.in_err-next-3.ensures.takes s f told)
