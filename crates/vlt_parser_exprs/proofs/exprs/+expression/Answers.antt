@@ -1,12 +1,13 @@
 use Rattle.std.proofs.Common.{◌≡◌, ◌≤◌, ◌+◌, suc, max, Err, [], ◌∷◌, ap, sym, subst, ◌∙◌, rules, arith}
 use Rattle.std.proofs.lemmas.Grind.{common_steps}
+use Rattle.std.proofs.lemmas.Result.{err_from_is_err_and}
 use Rattle.vlt_lexer.specs.declared.token.TokenKind.TheVariants.{Name}
 use Rattle.vlt_syntax.specs.Tree as s
 use Rattle.vlt_syntax.specs.View.{expr_of}
 use Rattle.vlt_automaton.specs.Language as m
 use Rattle.vlt_automaton.specs.Language.{run}
 use Rattle.vlt_parser_exprs.specs.Ahead.{lexemes_from, refusal, BeginsWith}
-use Rattle.vlt_parser_exprs.proofs.Expressions.{operator_goes_on, right_ended, group_opens, group_stays_open, operand_named}
+use Rattle.vlt_parser_exprs.proofs.Expressions.{operator_goes_on, right_ended, group_opens, group_stays_open, operand_named, prefix_opens}
 use Rattle.vlt_syntax.specs.Grammar.{level}
 use Rattle.vlt_syntax.proofs.Viewing.{unary_seen}
 use Rattle.vlt_parser_exprs.proofs.exprs.+expression.Goals as goal
@@ -68,3 +69,36 @@ primary-returns-in_err-expr-in-Some-Name-clause-takes t c = λ fs.
     let is : c.from_residual.result ≡ Err c.in_err-expr-in-Some-Name.field-0.0 = first_of (search rules, grind (arith, common_steps)) in
     let named : BeginsWith Name here (lexemes_from tokens (c.args.at + 1)) = subst (λ k. BeginsWith k here (lexemes_from tokens (c.args.at + 1))) c.in-Some-Name.field-0-is c.in-Some-Name.ensures.ahead in
     rw is (λ s f told. operand_named named.text c.args.room fs s here (lexemes_from tokens (c.args.at + 1)) named.begins ∙ c.in_err-expr-in-Some-Name.ensures.takes fs s f told)
+
+pub group-returns-in_err-inner-clause-takes : goal.group-returns-in_err-inner-clause-takes
+group-returns-in_err-inner-clause-takes t c = λ fs.
+    let tokens = c.args.tokens.now in
+    let is : c.from_residual-in_err-inner.result ≡ Err c.in_err-inner.field-0.0 =
+    let told = err_from_is_err_and c.from_residual-in_err-inner.result c.from_residual-in_err-inner.ensures.1 in told.1 ∙ ap Err told.2 in
+    rw is (λ s f told.
+    group_opens c.args.room c.in_ok-inside.inside fs s (lexemes_from tokens c.args.from) (lexemes_from tokens c.args.at) c.in_ok-inside.ensures.room c.in_ok-inside.ensures.fits c.requires.opens
+    ∙ c.in_err-inner.ensures.takes [] (m.close_group fs ∷ s) f told)
+
+pub expression-returns-in_err-second-clause-takes : goal.expression-returns-in_err-second-clause-takes
+expression-returns-in_err-second-clause-takes t c = λ fs.
+    let tokens = c.args.tokens.now in
+    let first = c.loop-next.first.depth in
+    let inside = c.in_ok-inside.inside in
+    let right = lexemes_from tokens (c.loop-next.here + 1) in
+    let outer = m.right_of c.args.least c.args.room first ∷ fs in
+    let is : c.from_residual-in_err-second.result ≡ Err c.in_err-second.field-0.0 =
+    let told = err_from_is_err_and c.from_residual-in_err-second.result c.from_residual-in_err-second.ensures.1 in told.1 ∙ ap Err told.2 in
+    rw is (λ s f told.
+    c.loop-next.invariant.place fs s
+    ∙ operator_goes_on c.in-Some.next.op first c.args.least c.args.room inside fs s (lexemes_from tokens c.loop-next.here) right c.in-Some.ensures.binds.0 c.in_ok-inside.ensures.room c.in_ok-inside.ensures.fits c.in-Some.ensures.begins
+    ∙ ap (λ l. run (m.operand inside (m.level_from (l + 1) inside ∷ outer) ∷ s) right) (sym c.in-Some.ensures.level)
+    ∙ c.in_err-second.ensures.takes outer s f told)
+
+pub unary-returns-in_err-operand-clause-takes : goal.unary-returns-in_err-operand-clause-takes
+unary-returns-in_err-operand-clause-takes t c = λ fs.
+    let tokens = c.args.tokens.now in
+    let is : c.from_residual-in_err-operand.result ≡ Err c.in_err-operand.field-0.0 =
+    let told = err_from_is_err_and c.from_residual-in_err-operand.result c.from_residual-in_err-operand.ensures.1 in told.1 ∙ ap Err told.2 in
+    rw is (λ s f told.
+    prefix_opens c.args.mark c.in-Some.op c.args.room c.in_ok-inside.inside fs s (lexemes_from tokens c.args.at) (lexemes_from tokens (c.args.at + 1)) (sym c.in-Some.ensures.which) c.in_ok-inside.ensures.room c.in_ok-inside.ensures.fits c.requires.begins
+    ∙ c.in_err-operand.ensures.takes (m.prefixed ∷ fs) s f told)
