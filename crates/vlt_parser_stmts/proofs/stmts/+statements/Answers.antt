@@ -1,4 +1,4 @@
-use Rattle.std.proofs.Common.{◌≡◌, ℕ, ◌+◌, Err, None, rules, refl, subst, ◌-◌, [], ◌∷◌, ◌++◌, List, map, sym, ap, ◌∙◌, arith}
+use Rattle.std.proofs.Common.{◌≡◌, ℕ, ◌+◌, Err, rules, refl, subst, ◌-◌, [], ◌∷◌, ◌++◌, List, map, sym, ap, ◌∙◌, arith}
 use Rattle.vlt_lexer.specs.declared.token.TokenKind.TheVariants as kind
 use Rattle.vlt_syntax.specs.Tokens.{Token, keyword}
 use Rattle.vlt_syntax.specs.declared.tree.Arm.{Arm}
