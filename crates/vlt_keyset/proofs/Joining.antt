@@ -10,9 +10,10 @@ use Rattle.vlt_core.proofs.Maps.{status_refl}
 use Rattle.vlt_core.specs.declared.held.Status.{Status}
 use Rattle.vlt_core.specs.declared.held.Status.TheVariants.{Absent}
 use Rattle.vlt_core.specs.HeldView.{status_of}
+use Rattle.vlt_keyset.specs.Pairs.{HasOnly}
 use Rattle.vlt_keyset.specs.Held.{at, Statuses, map_of, gap, IsJoin}
 use Rattle.vlt_keyset.specs.Statuses.{gap_of, IsUnion, table_gap}
-use Rattle.vlt_keyset.specs.Tables.{IsJoined, IsAllAbsent}
+use Rattle.vlt_keyset.specs.Tables.{IsAlike, IsJoined, IsAllAbsent}
 
 pub union_same : (a : maps.Status) → IsUnion a a a
 union_same a = record { left = status_refl a; right = status_refl a; least = λ d p q. p }
@@ -48,11 +49,28 @@ joining_keep xs ys cur i g j below = record {
   grown = j.grown;
 }
 
-pub joining_all : (xs ys cur : List Status) (i : ℕ) (g : Bool) → Joining xs ys cur i g → length xs ≡ length ys → length xs ≤ i → IsJoined xs ys cur
-joining_all xs ys cur i g j same past = record {
+-- what is of the kind of an absent status is absent
+absent_alike : (s : maps.Status) → kind_of absent ≡ kind_of s → s ≡ absent
+absent_alike maps.absent e = refl
+absent_alike (maps.held s) e = absurd (never e)
+  where
+    never : kind_of absent ≡ kind_of (maps.held s) → ⊥
+    never e = cc
+absent_alike (maps.lent s) e = absurd (never e)
+  where
+    never : kind_of absent ≡ kind_of (maps.lent s) → ⊥
+    never e = cc
+absent_alike maps.full e = absurd (never e)
+  where
+    never : kind_of absent ≡ kind_of maps.full → ⊥
+    never e = cc
+
+pub joining_all : (xs ys cur : List Status) (i : ℕ) (g : Bool) → Joining xs ys cur i g → IsAlike xs ys → length xs ≤ i → IsJoined xs ys cur
+joining_all xs ys cur i g j alike past = record {
   long = j.long;
   each = λ k. ⊎_elim (j.done k)
-      (λ ge. rw (ap status_of (get_or_past xs k Absent (omega arith)), ap status_of (get_or_past ys k Absent (omega arith)), ap status_of (get_or_past cur k Absent (omega (arith, j.long)))) (union_same absent))
+      (λ ge. let none : at xs k ≡ absent = ap status_of (get_or_past xs k Absent (omega (arith, ge, past))) in
+      rw (none, absent_alike (at ys k) (subst (λ s. kind_of s ≡ kind_of (at ys k)) none (alike.each k)), ap status_of (get_or_past cur k Absent (omega (arith, j.long, ge, past)))) (union_same absent))
       (cases_lt k i);
 }
 
@@ -81,6 +99,41 @@ absent_put (y ∷ xs) x (suc i) e p = absent_put xs x i e (λ k. p (suc k))
 
 pub absent_more : (xs : List Status) → IsAllAbsent xs → IsAllAbsent (xs ++ Absent ∷ [])
 absent_more xs p = record { each = λ i. absent_put xs Absent i refl p.each }
+
+-- a table that is longer by an absent place says the same
+pub longer_same : (xs ys : List Status) → ys ≡ xs ++ Absent ∷ [] → (i : ℕ) → at ys i ≡ at xs i
+longer_same xs ys e i = ap (λ l. at l i) e ∙ one xs i
+  where
+    one : (xs : List Status) (i : ℕ) → at (xs ++ Absent ∷ []) i ≡ at xs i
+    one [] zero = refl
+    one [] (suc i) = refl
+    one (x ∷ xs) zero = refl
+    one (x ∷ xs) (suc i) = one xs i
+
+-- tables that say the same
+pub same_maps : (h k : Statuses) → ((i : ℕ) → at k.keys i ≡ at h.keys i) → ((i : ℕ) → at k.vars i ≡ at h.vars i) → map_of k ≡ map_of h
+same_maps h k p q = λ i t. each t i
+  where
+    each : (t : Tok) → map_of k t ≡ map_of h t
+    each (a_key n) = p n
+    each (a_var n) = q n
+
+-- what is absent from a place on
+pub absent_end : (xs : List Status) (n i : ℕ) → length xs ≤ i → ((k : ℕ) → n ≤ k → k < i → kind_of (at xs k) ≡ kind_of absent) → (k : ℕ) → n ≤ k → at xs k ≡ absent
+absent_end xs n i past all k le = ⊎_elim (λ lt. absent_alike (at xs k) (sym (all k le lt))) (λ ge. ap status_of (get_or_past xs k Absent (omega (arith, past, ge)))) (cases_lt k i)
+
+among_not : (m n : ℕ) (h : Statuses) → ((i : ℕ) → m ≤ i → at h.keys i ≡ absent) → ((i : ℕ) → n ≤ i → at h.vars i ≡ absent) → HasOnly m n (map_of h)
+among_not m n h p q (a_key k) never = p k (⊎_elim (λ lt. absurd (never lt)) (λ le. le) (cases_lt k m))
+among_not m n h p q (a_var v) never = q v (⊎_elim (λ lt. absurd (never lt)) (λ le. le) (cases_lt v n))
+
+pub only_both : (m n : ℕ) (h : Statuses) (a b : Bool) → IsTrue a → IsTrue a ↔ ((i : ℕ) → m ≤ i → at h.keys i ≡ absent) → IsTrue b ↔ ((i : ℕ) → n ≤ i → at h.vars i ≡ absent) → IsTrue b ↔ HasOnly m n (map_of h)
+only_both m n h a b t p q = (λ x. among_not m n h (p.0 t) (q.0 x), λ f. q.1 (λ i le. f (a_var i) (λ lt. omega (arith, le, lt))))
+
+pub only_not : (m n : ℕ) (h : Statuses) (a : Bool) → a ≡ false → IsTrue a ↔ ((i : ℕ) → m ≤ i → at h.keys i ≡ absent) → IsTrue a ↔ HasOnly m n (map_of h)
+only_not m n h a f p = (λ x. absurd (false_true (subst IsTrue f x)), λ g. p.1 (λ i le. g (a_key i) (λ lt. omega (arith, le, lt))))
+  where
+    false_true : IsTrue false → ⊥
+    false_true h = search rules
 
 pub joined_maps : (a b c : Statuses) → IsJoined a.keys b.keys c.keys → IsJoined a.vars b.vars c.vars → IsJoin (map_of a) (map_of b) (map_of c)
 joined_maps a b c p q = record {

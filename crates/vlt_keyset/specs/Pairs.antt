@@ -1,5 +1,5 @@
 -- Maps that are given as lists of pairs, as annotations and certificates have them.
-use Rattle.std.specs.Prelude.{◌<◌, ℕ, List, [], ◌∷◌, if◌then◌else◌}
+use Rattle.std.specs.Prelude.{◌≡◌, ◌<◌, ℕ, List, [], ◌∷◌, if◌then◌else◌}
 use Rattle.vlt_core.specs.Core.{Tok, a_key, a_var}
 use Rattle.vlt_core.specs.Maps as maps
 use Rattle.vlt_core.specs.Maps.{HeldMap, is_tok}
@@ -47,6 +47,10 @@ AreInOrder (x ∷ xs) = IsPresent x.1 × ComesFirst (tok_of x.0) xs × AreInOrde
 abbrev pub IsAmong : (keys vars : ℕ) → Tok → Type 0
 IsAmong keys vars (a_key k) = k < keys
 IsAmong keys vars (a_var v) = v < vars
+
+-- the tokens that aren't among so many keys and variables are absent
+abbrev pub HasOnly : (keys vars : ℕ) → HeldMap → Type 0
+HasOnly keys vars h = (t : Tok) → (IsAmong keys vars t → ⊥) → h t ≡ maps.absent
 
 abbrev pub AreAmong : (keys vars : ℕ) → List Pair → Type 0
 AreAmong keys vars [] = Unit {0}

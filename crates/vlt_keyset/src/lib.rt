@@ -3,11 +3,11 @@
 //! Used by: the check of programs, and that of certificates, which is to come.
 #![tactic(auto)]
 
-ghost use Rattle.std.specs.Prelude.{◌≡◌, ◌↔◌, ◌<◌, ◌^◌, length, IsTrue, IfOk, OnOk, IfErr, OnErr, IfSome, IfNone, MatchBool};
+ghost use Rattle.std.specs.Prelude.{◌≡◌, ◌↔◌, ◌<◌, ◌≤◌, ◌^◌, length, IsTrue, IfOk, OnOk, IfErr, OnErr, IfSome, IfNone, MatchBool};
 ghost use Rattle.vlt_core.specs.View.{tok_of};
 ghost use Rattle.vlt_core.specs.HeldView.{status_of, wanted_of, row_of};
 ghost use Rattle.vlt_core.specs.Maps.{IsWanted, IsBelow, kind_of, row_passed, absent};
-ghost use Rattle.vlt_keyset.specs.Pairs.{map_of_pairs, AreInOrder, AreAmong};
+ghost use Rattle.vlt_keyset.specs.Pairs.{map_of_pairs, AreInOrder, AreAmong, HasOnly};
 ghost use Rattle.vlt_keyset.specs.Held.{map_of, HasPlace, IsSameRange, gap, IsJoin, IsTokenFault, IsJoinFault, IsApart};
 ghost use Rattle.vlt_keyset.specs.Tables.{IsAlikeMap, IsAllAbsent, put_in};
 
@@ -24,7 +24,7 @@ pub use pairs::in_order;
 use statuses::{changed, is_wanted};
 use std::alloc::{AllocError, Global};
 use std::marker::Model;
-use tables::{all_below, all_same, first_unlike, unite_all};
+use tables::{all_absent_from, all_below, all_same, first_unlike, reach_to, status_at, unite_all};
 pub use tokens::TokenCounts;
 use vlt_base::{KeyId, Memory, VarId};
 use vlt_core::{Row, Status, Tok};
@@ -34,8 +34,8 @@ use vlt_core::{Row, Status, Tok};
 pub struct Held {
     keys: Vec<Status>,
     vars: Vec<Status>,
-    ghost few_keys: { length keys.items < 2 ^ 32 },
-    ghost few_vars: { length vars.items < 2 ^ 32 },
+    ghost few_keys: { length keys.items ≤ 2 ^ 32 },
+    ghost few_vars: { length vars.items ≤ 2 ^ 32 },
 }
 
 impl Model for Held {
@@ -59,7 +59,8 @@ fn absents(alloc: Global, count: u32) -> Result<Vec<Status>, AllocError>
 }
 
 impl Held {
-    /// A map in which each token is absent. It takes all the memory that the map ever has.
+    /// A map with places for so many keys and variables, in which each token is absent. It takes all the memory that
+    /// these places ever need.
     pub fn open(alloc: Global, keys: u32, vars: u32) -> Result<Held, Memory>
         ensures absent { IfOk result (λ h. map_of h ≡ (λ t. absent)) }
         ensures keys { IfOk result (λ h. length h.keys ≡ keys) }
@@ -112,11 +113,37 @@ impl Held {
         }
     }
 
-    /// Whether both have places for the same tokens.
-    pub fn is_range_of(&self, o: &Held) -> bool
-        ensures { IsTrue result ↔ IsSameRange self.now o.now }
+    /// How many keys have places.
+    pub fn key_count(&self) -> usize
+        ensures { result ≡ length self.now.keys }
     {
-        self.keys.len() == o.keys.len() && self.vars.len() == o.vars.len()
+        self.keys.len()
+    }
+
+    /// How many variables have places.
+    pub fn var_count(&self) -> usize
+        ensures { result ≡ length self.now.vars }
+    {
+        self.vars.len()
+    }
+
+    /// Whether all tokens but so many keys and variables are absent.
+    pub fn has_only(&self, counts: TokenCounts) -> bool
+        ensures { IsTrue result ↔ HasOnly counts.keys counts.vars (map_of self.now) }
+    {
+        all_absent_from(self.keys.as_slice(), counts.keys as usize)
+            && all_absent_from(self.vars.as_slice(), counts.vars as usize)
+    }
+
+    /// Makes a place for the token, where it has none; the map says the same as before.
+    pub fn reach(&mut self, t: Tok) -> Result<(), Memory>
+        ensures place { OnOk result (HasPlace self.new (tok_of t)) }
+        ensures same { map_of self.new ≡ map_of self.old }
+    {
+        match t {
+            Tok::Key(k) => reach_to(&mut self.keys, k.0),
+            Tok::Var(v) => reach_to(&mut self.vars, v.0),
+        }
     }
 
     pub fn status(&self, t: Tok) -> Status
@@ -193,30 +220,29 @@ impl Held {
 
     /// The first token whose kinds differ, with both statuses.
     fn first_unlike(&self, o: &Held) -> Option<JoinFault>
-        requires { IsSameRange self.now o.now }
         ensures none { IfNone result (IsAlikeMap self.now o.now) }
         ensures some { IfSome result (IsJoinFault (map_of self.now) (map_of o.now)) }
     {
         if let Some(i) = first_unlike(self.keys.as_slice(), o.keys.as_slice()) {
             return Some(JoinFault {
                 tok: Tok::Key(KeyId(i as u32)),
-                left: self.keys[i],
-                right: o.keys[i],
+                left: status_at(self.keys.as_slice(), i),
+                right: status_at(o.keys.as_slice(), i),
             });
         }
         if let Some(i) = first_unlike(self.vars.as_slice(), o.vars.as_slice()) {
             return Some(JoinFault {
                 tok: Tok::Var(VarId(i as u32)),
-                left: self.vars[i],
-                right: o.vars[i],
+                left: status_at(self.vars.as_slice(), i),
+                right: status_at(o.vars.as_slice(), i),
             });
         }
         None
     }
 
-    /// Unites with the other map, and says whether this one grew.
+    /// Unites with the other map, and says whether this one grew. A token without a place is absent, so this one needs no
+    /// more places.
     pub fn join(&mut self, o: &Held) -> Result<bool, JoinFault>
-        requires { IsSameRange self.old o.now }
         ensures range { IsSameRange self.old self.new }
         ensures joined { OnOk result (IsJoin (map_of self.old) (map_of o.now) (map_of self.new)) }
         ensures grew { IfOk result (λ g. MatchBool g (gap self.new < gap self.old) (self.new
