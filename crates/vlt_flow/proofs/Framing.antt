@@ -154,7 +154,7 @@ loop_frame (Some i) k n m x y f room = record {
 pub room_frame : (l k : Option ℕ) (n m n' m' : ℕ) (x y : Marks) → HasRoom x l n m → IsFrame l k n' m' x y → HasRoom y l n m
 room_frame l k n m n' m' x y r f = record {
   long = f.long_behind ∙ r.long ∙ sym f.long;
-  few = subst (λ w. w < 2 ^ 63) (sym f.long) r.few;
+  few = subst (λ w. w < 2 ^ 62) (sym f.long) r.few;
   loop = loop_frame l k n' m' x y f r.loop;
   fits = subst (λ w. m ≤ w) (sym f.long) r.fits;
   apart = r.apart;
@@ -255,7 +255,7 @@ frame_also l k n m x y lt o f = record {
 pub room_put : (l : Option ℕ) (n k : ℕ) (h : Statuses) (x y : Marks) → HasRoom x l n (n + (1 + k)) → IsPutAround n h x y → HasRoom y None (n + 1) (n + 1 + k)
 room_put l n k h x y r p = record {
   long = ap length p.behind ∙ r.long ∙ sym p.long;
-  few = subst (λ w. w < 2 ^ 63) (sym p.long) r.few;
+  few = subst (λ w. w < 2 ^ 62) (sym p.long) r.few;
   loop = tt;
   fits = subst (λ w. n + 1 + k ≤ w) (sym p.long) (omega (arith, r.fits));
   apart = λ i u v. tt;

@@ -1,5 +1,5 @@
 -- The walks of parts, put together.
-use Rattle.std.proofs.Common.{◌≡◌, ◌≢◌, ◌<◌, ◌+◌, ◌^◌, ◌⊎◌, ◌||◌, inl, inr, ⊎_elim, ℕ, List, map, length, Bool, true, false, MatchBool, Option, Some, None, refl, sym, ap, ◌∙◌, subst, arith, rules}
+use Rattle.std.proofs.Common.{◌≡◌, ◌≢◌, ◌<◌, ◌+◌, ◌^◌, ◌⊎◌, ◌||◌, inl, inr, ⊎_elim, ℕ, List, map, length, Bool, true, false, MatchBool, Option, Some, None, true≢false, refl, sym, ap, ◌∙◌, subst, arith, rules}
 use Rattle.std.specs.Prelude.{IsSome}
 use Rattle.std.proofs.lemmas.Bool.{cases_lt}
 use Rattle.vlt_core.specs.Core.{Tok}
@@ -248,6 +248,28 @@ way_same l k n s h y z w e g grown = record {
   local = local_block_grown s (notes_of y) (notes_of z) l n h e g w.local;
 }
 
+-- where a way can be passed, a map is kept behind its choice
+some_leads : (b : Bool) (o : Option HeldMap) → b ≡ true → MatchBool b (IsSome o) (o ≡ None) → IsSome o
+some_leads true o e p = p
+some_leads false o e p = absurd (true≢false (sym e))
+
+when_there : (o : Option HeldMap) (P : Type 0) (Q : HeldMap → Type 0) → IsSome o → When o (λ m. P × Q m) → P
+when_there None P Q s w = absurd (none_some s)
+  where
+    none_some : IsSome {T = HeldMap} None → ⊥
+    none_some s = search rules
+when_there (Some m) P Q s w = w.0
+
+pub way_there : (l : Option ℕ) (k n : ℕ) (s : Block) (h : HeldMap) (x y : Marks) → IsJoinedWay l k n s h x y → passes_block s ≡ true → IsSome (slot y.behind k)
+way_there l k n s h x y w e = when_there (leads_block (notes_of y) n h s) _ (λ m. IsBelow m (map_in (slot y.behind k))) (some_leads (passes_block s) _ e (leads_block_some s (notes_of y) n h)) w.way.into
+
+pub or_true : (a b : Bool) → (a || b) ≡ true → (a ≡ true) ⊎ (b ≡ true)
+or_true true b e = inl refl
+or_true false b e = inr e
+
+pub ways_there : (l : Option ℕ) (k n m : ℕ) (s t : Block) (h i : HeldMap) (x y z : Marks) → IsJoinedWay l k n s h x y → IsJoinedWay l k m t i y z → (passes_block s || passes_block t) ≡ true → IsSome (slot z.behind k)
+ways_there l k n m s t h i x y z v w e = ⊎_elim (λ a. grown_some _ _ (way_there l k n s h x y v a) w.frame.join.behind) (λ b. way_there l k m t i y z w b) (or_true (passes_block s) (passes_block t) e)
+
 pub when_second : (o : Option HeldMap) (P : Type 0) (Q : HeldMap → Type 0) → When o (λ m. P × Q m) → When o Q
 when_second None P Q w = tt
 when_second (Some m) P Q w = w.1
@@ -334,7 +356,7 @@ body_none s h x p q never a loc = never a h (map_refl h) loc (under_nothing x a 
 pub body_room : (m : ℕ) (x : Marks) → length x.around ≡ m → length x.behind ≡ m → m < 2 ^ 62 → HasRoom x None 0 (0 + m)
 body_room m x p q lt = record {
   long = q ∙ sym p;
-  few = subst (λ w. w < 2 ^ 63) (sym p) (omega arith);
+  few = subst (λ w. w < 2 ^ 62) (sym p) (omega arith);
   loop = tt;
   fits = omega (arith, p);
   apart = λ i u v. tt;

@@ -4,26 +4,39 @@ use Rattle.std.specs.Result.{IsErrAnd}
 use Rattle.std.proofs.lemmas.List.{drop_all}
 use Rattle.vlt_core.specs.Maps.{Row, HeldMap, CanPass, map_after}
 use Rattle.vlt_flow.specs.declared.errors.Stop.{Stop}
-use Rattle.vlt_flow.specs.declared.errors.Stop.TheVariants.{Refused, Memory}
-use Rattle.vlt_flow.specs.Walks.{IfRefused, Passes}
+use Rattle.vlt_flow.specs.declared.errors.Stop.TheVariants as stop
+use Rattle.vlt_flow.specs.declared.errors.Halt.{Halt}
+use Rattle.vlt_flow.specs.declared.errors.Halt.TheVariants.{Refused, Memory}
+use Rattle.vlt_flow.specs.Walks.{IfRefused, IfHalted, Passes}
 
 -- an error that a `?` hands on
-pub refused_through : {A B P Q : Type 0} (r : Result A Stop) (s : Result B Stop) → (r ≡ Err Refused → s ≡ Err Refused) → (P → Q) → IfRefused s P → IfRefused r Q
+pub refused_through : {A B P Q : Type 0} (r : Result A Halt) (s : Result B Halt) → (r ≡ Err Refused → s ≡ Err Refused) → (P → Q) → IfHalted s P → IfHalted r Q
 refused_through r s same f h = record { holds = λ e. f (h.holds (same e)) }
 
-pub handed : {A B P Q : Type 0} (r : Result A Stop) (s : Result B Stop) (d : Stop) → IsErrAnd r (λ x. x ≡ d) → s ≡ Err d → (P → Q) → IfRefused s P → IfRefused r Q
+pub handed : {A B P Q : Type 0} (r : Result A Halt) (s : Result B Halt) (d : Halt) → IsErrAnd r (λ x. x ≡ d) → s ≡ Err d → (P → Q) → IfHalted s P → IfHalted r Q
 handed (Ok x) s d gives was f h = absurd gives
 handed (Err x) s d gives was f h = record { holds = λ e. f (h.holds (was ∙ ap Err (sym gives ∙ error x e))) }
   where
-    error : {A : Type 0} (x : Stop) → (let r : Result A Stop = Err x in r ≡ Err Refused) → x ≡ Refused
+    error : {A : Type 0} (x : Halt) → (let r : Result A Halt = Err x in r ≡ Err Refused) → x ≡ Refused
     error x e = cc
 
 -- an error that isn't a refusal
-pub memory_only : {A P : Type 0} (r : Result A Stop) → IsErrAnd r (λ x. x ≡ Memory) → IfRefused r P
+pub memory_only : {A P : Type 0} (r : Result A Halt) → IsErrAnd r (λ x. x ≡ Memory) → IfHalted r P
 memory_only (Ok x) gives = absurd gives
 memory_only (Err x) gives = record { holds = λ e. absurd (never x gives e) }
   where
-    never : {A : Type 0} (x : Stop) → x ≡ Memory → (let r : Result A Stop = Err x in r ≡ Err Refused) → ⊥
+    never : {A : Type 0} (x : Halt) → x ≡ Memory → (let r : Result A Halt = Err x in r ≡ Err Refused) → ⊥
+    never x g e = cc
+
+-- the same of what a walk gives in the end
+pub stop_through : {A B P Q : Type 0} (r : Result A Stop) (s : Result B Stop) → (r ≡ Err stop.Refused → s ≡ Err stop.Refused) → (P → Q) → IfRefused s P → IfRefused r Q
+stop_through r s same f h = record { holds = λ e. f (h.holds (same e)) }
+
+pub stop_memory : {A P : Type 0} (r : Result A Stop) → IsErrAnd r (λ x. x ≡ stop.Memory) → IfRefused r P
+stop_memory (Ok x) gives = absurd gives
+stop_memory (Err x) gives = record { holds = λ e. absurd (never x gives e) }
+  where
+    never : {A : Type 0} (x : Stop) → x ≡ stop.Memory → (let r : Result A Stop = Err x in r ≡ Err stop.Refused) → ⊥
     never x g e = cc
 
 -- the first i of the things were passed, whose rows these are

@@ -7,7 +7,7 @@ use Rattle.std.proofs.lemmas.Option.{slice_get-map, slice_get-get_or}
 use Rattle.std.proofs.lemmas.Bool.Decides.{nat_tests}
 use Rattle.vlt_core.specs.Core.{States, Entry, VarDecl, Func, Program, Tok, a_key, a_var}
 use Rattle.vlt_core.specs.Lookups.{is_held_before, before_set, is_owning_var}
-use Rattle.vlt_core.specs.Maps.{HeldMap, Status, absent, held, lent, full, kind_of, Kind, is_absent, becomes_held, becomes_full, wants_absent, row_passed}
+use Rattle.vlt_core.specs.Maps.{HeldMap, Status, absent, held, lent, full, kind_of, is_absent, becomes_held, becomes_full, wants_absent, row_passed}
 use Rattle.vlt_core.specs.Rows.{row}
 use Rattle.vlt_core.specs.Derives.{status_at_start, start_map}
 use Rattle.vlt_core.specs.Flow.{Block}
@@ -200,7 +200,7 @@ vars_end p f i h is s = λ j t. one t j
 -- ---- places
 
 pub range_kept : (f : Func) (h k : Statuses) → HasRange f h → IsSameRange h k → HasRange f k
-range_kept f h k r s = record { keys = sym s.keys ∙ r.keys; vars = sym s.vars ∙ r.vars }
+range_kept f h k r s = record { keys = sym s.keys ∙ r.keys; vars = sym s.vars ∙ r.vars; few_keys = r.few_keys; few_vars = r.few_vars }
 
 some_there : {X : Type 0} (xs : List X) (i : ℕ) (x : X) → slice_get xs i ≡ Some x → i < length xs
 some_there [] i x e = absurd (never e)

@@ -1,5 +1,5 @@
 -- The turns of a loop, the arms of a switch, and the statements of a list.
-use Rattle.std.proofs.Common.{◌≡◌, ◌<◌, ◌≤◌, ◌+◌, ◌^◌, ◌||◌, ⊎_elim, ℕ, List, [], ◌∷◌, drop, length, Bool, true, false, Option, Some, None, refl, sym, ap, ◌∙◌, subst, arith, rules}
+use Rattle.std.proofs.Common.{◌≡◌, ◌<◌, ◌≤◌, ◌+◌, ◌^◌, ◌||◌, ⊎_elim, ℕ, List, [], ◌∷◌, drop, length, Bool, true, false, Option, Some, None, true≢false, refl, sym, ap, ◌∙◌, subst, arith, rules}
 use Rattle.std.specs.Prelude.{IsSome}
 use Rattle.std.proofs.lemmas.List.{drop_all}
 use Rattle.vlt_core.specs.Maps.{Row, HeldMap, IsBelow, CanPass, map_after}
@@ -14,7 +14,7 @@ use Rattle.vlt_core_laws.proofs.Changes.{IsSameOn, IsGrownAt, same_part, when_sa
 use Rattle.vlt_keyset.specs.Held.{Statuses, map_of, gap}
 use Rattle.vlt_flow.specs.Walks.{Marks, slot, map_in, maybe_map, notes_of, Above, IsUnder, Grown, IsFrame, IsLoop, HasRoom, HasRoomFor, Passes, IsWalked, HasNone, Lies, form_part, block_part, stmts_part, IsJoinedWay, HasNoWay, IsTurn, HasNoTurn, IsTurned, IsJoinedArms, HasNoArms, IsWalkedOn, HasNoneOn}
 use Rattle.vlt_flow.proofs.Framing.{grown_below, grown_some, frame_refl, frame_trans, frame_wider, frame_loop, frame_before, frame_meets, loop_frame, room_frame, IsPutAround, IsPutBehind, put_around_frame, put_behind_frame}
-use Rattle.vlt_flow.proofs.Parts.{inside_below, lies_when, under_around, under_behind, into_in}
+use Rattle.vlt_flow.proofs.Parts.{or_true, way_there, inside_below, lies_when, under_around, under_behind, into_in}
 
 -- ---- turns
 
@@ -32,7 +32,7 @@ loop_there n m x y before inside room le e p = record {
 pub room_inside : (n m : ℕ) (x y : Marks) (before inside : Statuses) → HasRoom x None (n + 1) m → n + 1 ≤ m → slot x.around n ≡ Some before → IsPutBehind n inside x y → HasRoom y (Some n) (n + 1) m
 room_inside n m x y before inside room le e p = record {
   long = p.long ∙ room.long ∙ sym (ap length p.around);
-  few = subst (λ w. length w < 2 ^ 63) (sym p.around) room.few;
+  few = subst (λ w. length w < 2 ^ 62) (sym p.around) room.few;
   loop = loop_there n m x y before inside room le e p;
   fits = subst (λ w. m ≤ length w) (sym p.around) room.fits;
   apart = λ i u v. omega arith;
@@ -120,11 +120,15 @@ turning_stops rs s n x cur t never a l h loc u = never a l h loc (t.least a l h 
 pub turning_room : (rs : List Row) (s : Block) (n : ℕ) (x cur : Marks) → Turning rs s n x cur → HasRoom x None (n + 1) (n + 1 + size_block s) → HasRoom cur None (n + 1) (n + 1 + size_block s)
 turning_room rs s n x cur t r = record {
   long = t.frame.long_behind ∙ r.long ∙ sym t.frame.long;
-  few = subst (λ w. w < 2 ^ 63) (sym t.frame.long) r.few;
+  few = subst (λ w. w < 2 ^ 62) (sym t.frame.long) r.few;
   loop = tt;
   fits = subst (λ w. n + 1 + size_block s ≤ w) (sym t.frame.long) r.fits;
   apart = r.apart;
 }
+
+-- the map at the head stays
+pub turning_some : (rs : List Row) (s : Block) (n : ℕ) (x cur : Marks) → Turning rs s n x cur → IsSome (slot x.around n) → IsSome (slot cur.around n)
+turning_some rs s n x cur t some = grown_some _ _ some t.frame.loop.around
 
 pub turned : (rs : List Row) (s : Block) (n : ℕ) (before : Statuses) (x cur new : Marks) → IsSome (slot x.around n) → Turning rs s n x cur → IsTurn rs s n (n + 1 + size_block s) before cur new → slot new.around n ≡ Some before → IsTurned rs s n x new
 turned rs s n before x cur new some t p e =
@@ -188,6 +192,7 @@ pub record Arming (l : Option ℕ) (n : ℕ) (arms : List FlowArm) (h : HeldMap)
   pub size : at + size_arms (arms_view (drop i arms)) ≡ n + 1 + size_arms (arms_view arms)
   pub low : n + 1 ≤ at
   pub passes : (p || passes_arms (arms_view (drop i arms))) ≡ passes_arms (arms_view arms)
+  pub there : p ≡ true → IsSome (slot cur.behind n)
   pub frame : IsFrame l (Some n) (n + 1) at x cur
   pub local : (b : Notes) → IsSameOn (notes_of cur) b (n + 1) at → IsGrownAt (notes_of cur) b l → (IsSome (slot cur.behind n) → IsBelow (map_in (slot cur.behind n)) (b.behind n)) →
       IsLocalArms b l at h (arms_view (drop i arms)) (b.behind n) → IsLocalArms b l (n + 1) h (arms_view arms) (b.behind n)
@@ -198,6 +203,7 @@ arming_first l n arms h x = record {
   size = refl;
   low = omega arith;
   passes = refl;
+  there = λ e. absurd (true≢false (sym e));
   frame = frame_refl l (Some n) (n + 1) (n + 1) x;
   local = λ b same grown more loc. loc;
   least = λ a j below loc u. (u, loc);
@@ -237,6 +243,7 @@ arming_more l n arms h x i at cur new p a inside e room g pass way =
       size = omega (arith, g.size, sizes);
       low = omega (arith, g.low);
       passes = or_assoc p (passes_block (block_view (out-FlowArm a).body)) (passes_arms (arms_view (drop (i + 1) arms))) ∙ ap (λ t. p || passes_arms t) (sym split) ∙ g.passes;
+      there = λ e. ⊎_elim (λ q. grown_some _ _ (g.there q) way.frame.join.behind) (λ q. way_there l n at s inside cur new way q) (or_true p (passes_block s) e);
       frame = frame_trans l (Some n) (n + 1) (at + size_block (block_view (out-FlowArm a).body)) x cur new (frame_wider l (Some n) (n + 1) at (n + 1) (at + size_block (block_view (out-FlowArm a).body)) x cur (omega arith) (omega arith) g.frame) (frame_wider l (Some n) at (at + size_block (block_view (out-FlowArm a).body)) (n + 1) (at + size_block (block_view (out-FlowArm a).body)) cur new g.low (omega arith) way.frame);
       local = λ b same grown more loc.
           let part = same_part (notes_of new) b (n + 1) (at + size_block (block_view (out-FlowArm a).body)) at (at + size_block (block_view (out-FlowArm a).body)) same g.low (omega arith) in
@@ -263,22 +270,6 @@ arming_more l n arms h x i at cur new p a inside e room g pass way =
     or_assoc true q r = refl
     or_assoc false q r = refl
 
-pub arming_ends : (l : Option ℕ) (n : ℕ) (arms : List FlowArm) (h : HeldMap) (x : Marks) (i at : ℕ) (cur : Marks) (p : Bool) → length arms ≤ i → Arming l n arms h x i at cur p → IsJoinedArms l n (arms_view arms) h x cur
-arming_ends l n arms h x i at cur p past g =
-    let all : drop i arms ≡ [] = drop_all i arms past in
-    let size : at ≡ n + 1 + size_arms (arms_view arms) = omega (arith, g.size, ap (λ t. size_arms (arms_view t)) all) in
-    record {
-      local = g.local (notes_of cur) (same_self (notes_of cur) (n + 1) at) (record { each = λ k h m. m }) (λ some. map_refl (map_in (slot cur.behind n)))
-          (subst (λ t. IsLocalArms (notes_of cur) l at h (arms_view t) (map_in (slot cur.behind n))) (sym all) tt);
-      frame = subst (λ t. IsFrame l (Some n) (n + 1) t x cur) size g.frame;
-      least = λ a j below loc u. (g.least a j below loc u).0;
-    }
-
-pub arming_at : (l : Option ℕ) (n : ℕ) (arms : List FlowArm) (h : HeldMap) (x : Marks) (i at : ℕ) (cur : Marks) (p : Bool) → length arms ≤ i → Arming l n arms h x i at cur p → at ≡ n + 1 + size_arms (arms_view arms)
-arming_at l n arms h x i at cur p past g =
-    let all : drop i arms ≡ [] = drop_all i arms past in
-    omega (arith, g.size, ap (λ t. size_arms (arms_view t)) all)
-
 pub arming_passes : (l : Option ℕ) (n : ℕ) (arms : List FlowArm) (h : HeldMap) (x : Marks) (i at : ℕ) (cur : Marks) (p : Bool) → length arms ≤ i → Arming l n arms h x i at cur p → p ≡ passes_arms (arms_view arms)
 arming_passes l n arms h x i at cur p past g =
     let all : drop i arms ≡ [] = drop_all i arms past in
@@ -287,6 +278,23 @@ arming_passes l n arms h x i at cur p past g =
     or_false : (p : Bool) → p ≡ (p || false)
     or_false true = refl
     or_false false = refl
+
+pub arming_ends : (l : Option ℕ) (n : ℕ) (arms : List FlowArm) (h : HeldMap) (x : Marks) (i at : ℕ) (cur : Marks) (p : Bool) → length arms ≤ i → Arming l n arms h x i at cur p → IsJoinedArms l n (arms_view arms) h x cur
+arming_ends l n arms h x i at cur p past g =
+    let all : drop i arms ≡ [] = drop_all i arms past in
+    let size : at ≡ n + 1 + size_arms (arms_view arms) = omega (arith, g.size, ap (λ t. size_arms (arms_view t)) all) in
+    record {
+      local = g.local (notes_of cur) (same_self (notes_of cur) (n + 1) at) (record { each = λ k h m. m }) (λ some. map_refl (map_in (slot cur.behind n)))
+          (subst (λ t. IsLocalArms (notes_of cur) l at h (arms_view t) (map_in (slot cur.behind n))) (sym all) tt);
+      there = λ e. g.there (arming_passes l n arms h x i at cur p past g ∙ e);
+      frame = subst (λ t. IsFrame l (Some n) (n + 1) t x cur) size g.frame;
+      least = λ a j below loc u. (g.least a j below loc u).0;
+    }
+
+pub arming_at : (l : Option ℕ) (n : ℕ) (arms : List FlowArm) (h : HeldMap) (x : Marks) (i at : ℕ) (cur : Marks) (p : Bool) → length arms ≤ i → Arming l n arms h x i at cur p → at ≡ n + 1 + size_arms (arms_view arms)
+arming_at l n arms h x i at cur p past g =
+    let all : drop i arms ≡ [] = drop_all i arms past in
+    omega (arith, g.size, ap (λ t. size_arms (arms_view t)) all)
 
 pub arming_rows_none : (l : Option ℕ) (n : ℕ) (arms : List FlowArm) (h : HeldMap) (x : Marks) (i at : ℕ) (cur : Marks) (p : Bool) (a : FlowArm) → drop i arms ≡ a ∷ drop (i + 1) arms → Arming l n arms h x i at cur p → (CanPass (rows_view (out-FlowArm a).rows) h → ⊥) → HasNoArms l n (arms_view arms) h x
 arming_rows_none l n arms h x i at cur p a e g never b j below loc u =

@@ -1,5 +1,5 @@
--- The map that a body begins with, entry by entry; private contracts alone cite this.
-use Rattle.std.specs.Prelude.{◌≡◌, ◌⊎◌, ℕ, Bool, true, false, ◌&&◌, nat_lt, length, if◌then◌else◌}
+-- The map that a body begins with: its places, which a public clause cites; and entry by entry, for private contracts alone.
+use Rattle.std.specs.Prelude.{◌≡◌, ◌<◌, ◌^◌, ◌⊎◌, ℕ, Bool, true, false, ◌&&◌, nat_lt, length, if◌then◌else◌}
 use Rattle.vlt_core.specs.Core.{Entry, Func, Program, Tok, a_key, a_var}
 use Rattle.vlt_core.specs.Lookups.{is_held_before, before_set, is_owning_var}
 use Rattle.vlt_core.specs.Maps as maps
@@ -31,10 +31,12 @@ abbrev pub or_else : Status → Status → Status
 or_else absent s = s
 or_else u s = u
 
--- there is a place for each key and variable of the function
+-- there is a place for each key and variable of the function, and each has a number of 32 bits
 pub record HasRange (f : Func) (h : Statuses) : Type 0 where
   pub keys : length h.keys ≡ length f.keys
   pub vars : length h.vars ≡ length f.vars
+  pub few_keys : length f.keys < 2 ^ 32
+  pub few_vars : length f.vars < 2 ^ 32
 
 -- the keys of the clause are held, no variable has a value
 pub record HasKeys (p : Program) (f : Func) (h : HeldMap) : Type 0 where

@@ -2,7 +2,7 @@
 use Rattle.std.specs.Prelude.{◌≡◌, ◌≢◌, ◌<◌, ◌≤◌, ◌+◌, ◌^◌, ℕ, Bool, true, false, List, Option, Some, None, IsSome, ◌⊎◌, length, map, slice_index_or, Result, Err}
 use Rattle.vlt_core.specs.Core.{Tok, Func, Program}
 use Rattle.vlt_core.specs.Maps.{Row, HeldMap, IsBelow, CanPass, map_after, away_row}
-use Rattle.vlt_core.specs.Flow.{loop as while_form, choose, Flow, Block, Stmts, Arms, size, size_block, size_arms}
+use Rattle.vlt_core.specs.Flow.{loop as while_form, choose, Flow, Block, Stmts, Arms, size, size_block, size_arms, passes_arms}
 use Rattle.vlt_core.specs.Local.{Notes, When, Meets, leads, leads_block, leads_stmts, IsLocal, IsLocalBlock, IsLocalStmts, IsLocalArms, IsLocalIn}
 use Rattle.vlt_core.specs.Maps as maps
 use Rattle.vlt_core.specs.declared.held.Row as code
@@ -10,6 +10,10 @@ use Rattle.vlt_rows.specs.declared.tree.FlowBlock.{FlowBlock}
 use Rattle.vlt_rows.specs.FlowView.{rows_view, block_view}
 use Rattle.vlt_flow.specs.declared.errors.Stop.{Stop}
 use Rattle.vlt_flow.specs.declared.errors.Stop.TheVariants as stop
+use Rattle.vlt_flow.specs.declared.errors.Halt.{Halt}
+use Rattle.vlt_flow.specs.declared.errors.NoteError.{NoteError}
+use Rattle.vlt_flow.specs.declared.errors.NoteError.TheVariants as note
+use Rattle.vlt_flow.specs.declared.errors.Halt.TheVariants as halt
 use Rattle.vlt_flow.specs.declared.errors.Stop.TheVariants.{Refused}
 use Rattle.vlt_rows.specs.declared.sink.RowError.{RowError}
 use Rattle.vlt_rows.specs.declared.sink.RowError.TheVariants as row
@@ -19,11 +23,20 @@ use Rattle.vlt_keyset.specs.Held.{Statuses, map_of, gap}
 pub record IfRefused {A : Type 0} (r : Result A Stop) (p : Type 0) : Type 0 where
   pub holds : r ≡ Err Refused → p
 
+-- a fact for the halt that refuses
+pub record IfHalted {A : Type 0} (r : Result A Halt) (p : Type 0) : Type 0 where
+  pub holds : r ≡ Err halt.Refused → p
+
 -- what rows that aren't listed say of a walk
 abbrev pub stop_of : RowError → Stop
 stop_of (row.Refused e) = stop.Refused
 stop_of row.Unfit = stop.Unfit
 stop_of row.Memory = stop.Memory
+
+-- what notes that aren't made say of it
+abbrev pub stop_of_notes : NoteError → Stop
+stop_of_notes note.Unfit = stop.Unfit
+stop_of_notes note.Memory = stop.Memory
 
 -- the rows were passed
 pub record Passes (rs : List Row) (old new : HeldMap) : Type 0 where
@@ -106,7 +119,7 @@ pub record IsLoop (k : Marks) (i : ℕ) : Type 0 where
 -- there is a place for each statement from n up to m; the loop l round them isn't one of them
 pub record HasRoom (k : Marks) (l : Option ℕ) (n m : ℕ) : Type 0 where
   pub long : length k.behind ≡ length k.around
-  pub few : length k.around < 2 ^ 63
+  pub few : length k.around < 2 ^ 62
   pub loop : ForLoop l (IsLoop k)
   pub fits : m ≤ length k.around
   pub apart : (i : ℕ) → n ≤ i → i < m → IsOther i l
@@ -212,6 +225,7 @@ pub record IsTurned (rs : List Row) (s : Block) (n : ℕ) (old new : Marks) : Ty
 -- the arms of the choice n
 pub record IsJoinedArms (l : Option ℕ) (n : ℕ) (arms : Arms) (h : HeldMap) (old new : Marks) : Type 0 where
   pub local : IsLocalArms (notes_of new) l (n + 1) h arms (map_in (slot new.behind n))
+  pub there : passes_arms arms ≡ true → IsSome (slot new.behind n)
   pub frame : IsFrame l (Some n) (n + 1) (n + 1 + size_arms arms) old new
   pub least : (a : Notes) (j : HeldMap) → IsBelow h j → IsLocalArms a l (n + 1) j arms (a.behind n) → IsUnder old a → IsUnder new a
 

@@ -1,7 +1,9 @@
 //! Why a walk gives no maps.
 
 ghost use Rattle.std.specs.Prelude.{◌≡◌};
-ghost use Rattle.vlt_flow.specs.declared.errors.Stop.TheVariants.{Memory, Refused};
+ghost use Rattle.vlt_flow.specs.declared.errors.Stop.TheVariants.{Memory};
+ghost use Rattle.vlt_flow.specs.declared.errors.Halt.TheVariants as halt;
+ghost use Rattle.vlt_flow.specs.declared.errors.NoteError.TheVariants as note;
 
 use std::alloc::{AllocError, AllocFailed};
 use thiserror::Error;
@@ -21,12 +23,77 @@ pub enum Stop {
     Memory,
 }
 
-/// A token has no place in a map, two maps are for different tokens, or none is kept where one is wanted. That no elaborated
-/// body meets any of these isn't proved here: it counts as want of memory.
-pub fn misplaced() -> Stop
-    ensures { result ≡ Memory }
-{
-    Stop::Memory
+/// Why a walk halts on its way through a body.
+#[derive(Clone, Copy, Debug, PartialEq, Eq, Error)]
+pub enum Halt {
+    /// A row or a join is refused.
+    #[error("a row or a join is refused")]
+    Refused,
+    #[error("there was no memory for a map")]
+    Memory,
+}
+
+/// Why there are no notes.
+#[derive(Clone, Copy, Debug, PartialEq, Eq, Error)]
+pub enum NoteError {
+    /// A statement has no number, or a map of it no list.
+    #[error("a statement has no note")]
+    Unfit,
+    #[error("there was no memory for the notes")]
+    Memory,
+}
+
+impl From<AllocError> for NoteError {
+    ghost from_gives = { λ _ e. e ≡ note.Memory };
+
+    fn from(_: AllocError) -> NoteError {
+        NoteError::Memory
+    }
+}
+
+impl From<vlt_base::Memory> for NoteError {
+    ghost from_gives = { λ _ e. e ≡ note.Memory };
+
+    fn from(_: vlt_base::Memory) -> NoteError {
+        NoteError::Memory
+    }
+}
+
+impl From<NoteError> for Stop {
+    ghost use Rattle.vlt_flow.specs.Walks.{stop_of_notes};
+
+    ghost from_gives = { λ r e. e ≡ stop_of_notes r };
+
+    fn from(error: NoteError) -> Stop {
+        match error {
+            NoteError::Unfit => Stop::Unfit,
+            NoteError::Memory => Stop::Memory,
+        }
+    }
+}
+
+impl From<vlt_base::Memory> for Halt {
+    ghost from_gives = { λ _ e. e ≡ halt.Memory };
+
+    fn from(_: vlt_base::Memory) -> Halt {
+        Halt::Memory
+    }
+}
+
+impl From<TokenFault> for Halt {
+    ghost from_gives = { λ _ e. e ≡ halt.Refused };
+
+    fn from(_: TokenFault) -> Halt {
+        Halt::Refused
+    }
+}
+
+impl From<JoinFault> for Halt {
+    ghost from_gives = { λ _ e. e ≡ halt.Refused };
+
+    fn from(_: JoinFault) -> Halt {
+        Halt::Refused
+    }
 }
 
 impl From<AllocError> for Stop {
@@ -64,21 +131,5 @@ impl From<RowError> for Stop {
             RowError::Unfit => Stop::Unfit,
             RowError::Memory => Stop::Memory,
         }
-    }
-}
-
-impl From<TokenFault> for Stop {
-    ghost from_gives = { λ _ e. e ≡ Refused };
-
-    fn from(_: TokenFault) -> Stop {
-        Stop::Refused
-    }
-}
-
-impl From<JoinFault> for Stop {
-    ghost from_gives = { λ _ e. e ≡ Refused };
-
-    fn from(_: JoinFault) -> Stop {
-        Stop::Refused
     }
 }

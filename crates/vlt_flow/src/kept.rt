@@ -1,13 +1,15 @@
 //! The maps that a walk keeps for each loop and each choice.
 
-ghost use Rattle.std.specs.Prelude.{◌≡◌, ◌≢◌, ◌<◌, ◌↔◌, ℕ, length, IsTrue, IfOk, OnOk, Some, None};
+ghost use Rattle.std.specs.Prelude.{◌≡◌, ◌≢◌, ◌<◌, ◌↔◌, ℕ, length, IsTrue, IsSome, IfOk, OnOk, Some, None};
+ghost use Rattle.std.specs.Option.{option_copied};
 ghost use Rattle.vlt_core.specs.Maps.{HeldMap, IsBelow};
 ghost use Rattle.vlt_keyset.specs.Held.{map_of};
-ghost use Rattle.vlt_flow.specs.Walks.{IfRefused, slot, Above, IsInto, IsSameAt};
+ghost use Rattle.vlt_flow.specs.Walks.{IfHalted, slot, Above, IsInto, IsSameAt};
 
-use crate::errors::{Stop, misplaced};
+use crate::errors::Halt;
 use std::alloc::{AllocError, Global};
 use std::marker::Model;
+use vlt_base::Memory;
 use vlt_keyset::Held;
 
 /// The maps kept, by statement. They are only ever joined into.
@@ -26,9 +28,9 @@ impl Model for Kept {
 }
 
 /// Unites a map with what came before.
-fn join_into(slot: &mut Option<Held>, held: Held) -> Result<(), Stop>
+fn join_into(slot: &mut Option<Held>, held: Held) -> Result<(), Halt>
     ensures ok { OnOk result (IsInto slot.old held slot.new) }
-    ensures refused { IfRefused result ((m : HeldMap) → Above slot.old m →
+    ensures refused { IfHalted result ((m : HeldMap) → Above slot.old m →
         IsBelow (map_of held) m → ⊥) }
 {
     match slot {
@@ -37,23 +39,38 @@ fn join_into(slot: &mut Option<Held>, held: Held) -> Result<(), Stop>
             Ok(())
         }
         Some(old) => {
-            if !old.is_range_of(&held) {
-                return Err(misplaced());
-            }
             let _grew = old.join(&held)?;
             Ok(())
         }
     }
 }
 
-fn copy_in(alloc: Global, slot: &Option<Held>) -> Result<Held, Stop>
-    ensures same { IfOk result (λ h. slot.now ≡ Some h) }
-    ensures never { IfRefused result ⊥ }
+fn copy_in(alloc: Global, slot: &Option<Held>) -> Result<Held, Memory>
+    requires { IsSome slot.now }
+    ensures { IfOk result (λ h. slot.now ≡ Some h) }
 {
     match slot {
-        None => Err(misplaced()),
-        Some(held) => Ok(held.copy(alloc)?),
+        None => unreachable!(),
+        Some(held) => held.copy(alloc),
     }
+}
+
+/// A copy of the map at the head of the loop n.
+pub fn copy_around(alloc: Global, kept: &Kept, n: usize) -> Result<Held, Memory>
+    requires within { n < length kept.now.around }
+    requires some { IsSome (slot kept.now.around n) }
+    ensures same { IfOk result (λ h. slot kept.now.around n ≡ Some h) }
+{
+    copy_in(alloc, &kept.around[n])
+}
+
+/// A copy of the map behind the loop or choice n.
+pub fn copy_behind(alloc: Global, kept: &Kept, n: usize) -> Result<Held, Memory>
+    requires within { n < length kept.now.behind }
+    requires some { IsSome (slot kept.now.behind n) }
+    ensures same { IfOk result (λ h. slot kept.now.behind n ≡ Some h) }
+{
+    copy_in(alloc, &kept.behind[n])
 }
 
 fn nothing(alloc: Global, count: usize) -> Result<Vec<Option<Held>>, AllocError>
@@ -80,46 +97,46 @@ impl Kept {
         Ok(Kept { around, behind })
     }
 
-    pub fn join_around(&mut self, n: usize, held: Held) -> Result<(), Stop>
+    pub fn join_around(&mut self, n: usize, held: Held) -> Result<(), Halt>
         requires { n < length self.old.around }
         ensures long { length self.new.around ≡ length self.old.around }
         ensures into { OnOk result (IsInto (slot self.old.around n) held (slot self.new.around n)) }
         ensures others { (i : ℕ) → i ≢ n →
             slot self.new.around i ≡ slot self.old.around i }
         ensures behind { self.new.behind ≡ self.old.behind }
-        ensures refused { IfRefused result ((m : HeldMap) → Above (slot self.old.around n) m →
+        ensures refused { IfHalted result ((m : HeldMap) → Above (slot self.old.around n) m →
             IsBelow (map_of held) m → ⊥) }
     {
         join_into(&mut self.around[n], held)
     }
 
-    pub fn join_behind(&mut self, n: usize, held: Held) -> Result<(), Stop>
+    pub fn join_behind(&mut self, n: usize, held: Held) -> Result<(), Halt>
         requires { n < length self.old.behind }
         ensures long { length self.new.behind ≡ length self.old.behind }
         ensures into { OnOk result (IsInto (slot self.old.behind n) held (slot self.new.behind n)) }
         ensures others { (i : ℕ) → i ≢ n →
             slot self.new.behind i ≡ slot self.old.behind i }
         ensures around { self.new.around ≡ self.old.around }
-        ensures refused { IfRefused result ((m : HeldMap) → Above (slot self.old.behind n) m →
+        ensures refused { IfHalted result ((m : HeldMap) → Above (slot self.old.behind n) m →
             IsBelow (map_of held) m → ⊥) }
     {
         join_into(&mut self.behind[n], held)
     }
 
-    pub fn copy_around(&self, alloc: Global, n: usize) -> Result<Held, Stop>
+    /// The map at the head of the loop n, if one is kept.
+    pub fn around(&self, n: usize) -> Option<&Held>
         requires { n < length self.now.around }
-        ensures same { IfOk result (λ h. slot self.now.around n ≡ Some h) }
-        ensures never { IfRefused result ⊥ }
+        ensures { option_copied result ≡ slot self.now.around n }
     {
-        copy_in(alloc, &self.around[n])
+        self.around[n].as_ref()
     }
 
-    pub fn copy_behind(&self, alloc: Global, n: usize) -> Result<Held, Stop>
+    /// The map behind the loop or choice n, if one is kept.
+    pub fn behind(&self, n: usize) -> Option<&Held>
         requires { n < length self.now.behind }
-        ensures same { IfOk result (λ h. slot self.now.behind n ≡ Some h) }
-        ensures never { IfRefused result ⊥ }
+        ensures { option_copied result ≡ slot self.now.behind n }
     {
-        copy_in(alloc, &self.behind[n])
+        self.behind[n].as_ref()
     }
 
     /// Whether the map at the head of the loop is this one.

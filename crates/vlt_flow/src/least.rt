@@ -9,7 +9,7 @@ ghost use Rattle.vlt_flow.specs.Walks.{IfRefused, IsLeastLocal};
 ghost use Rattle.vlt_flow.specs.Unfit.{IfUnfit};
 
 use crate::count::count_block;
-use crate::errors::Stop;
+use crate::errors::{Halt, Stop};
 use crate::kept::Kept;
 use crate::walking::walk_block;
 use std::alloc::Global;
@@ -33,7 +33,7 @@ pub fn least_maps(alloc: Global, start: Held, body: &FlowBlock) -> Result<Kept, 
     let mut kept = Kept::open(alloc, count)?;
     match walk_block(alloc, &mut kept, body, None, 0, start) {
         Ok(_) => Ok(kept),
-        Err(Stop::Refused) => Err(Stop::Refused),
-        Err(_) => Err(Stop::Memory),
+        Err(Halt::Refused) => Err(Stop::Refused),
+        Err(Halt::Memory) => Err(Stop::Memory),
     }
 }

@@ -2,7 +2,7 @@
 //! Read `vlt_core/specs/Least.antt` first, then `specs/Notes/Listed.antt`.
 //! Used by: certificates, which are to come.
 
-ghost use Rattle.std.specs.Prelude.{◌≡◌, map, length, IfOk, None};
+ghost use Rattle.std.specs.Prelude.{◌≡◌, ◌⊎◌, map, length, IfOk, None};
 ghost use Rattle.vlt_core.specs.View.{program_of, func_of};
 ghost use Rattle.vlt_core.specs.Least.{IsLeast};
 ghost use Rattle.vlt_core.specs.Local.{Notes, IsLocalBlock, IsLocalIn};
@@ -10,7 +10,10 @@ ghost use Rattle.vlt_keyset.specs.Held.{map_of};
 ghost use Rattle.vlt_rows.specs.FlowView.{block_view};
 ghost use Rattle.vlt_flow.specs.Walks.{IfRefused};
 ghost use Rattle.vlt_flow.specs.Notes.Listed.{note_of, AreListed};
-ghost use Rattle.vlt_flow.specs.Notes.Noted.{AreNotes};
+ghost use Rattle.vlt_flow.specs.Notes.Noted.{AreNotes, IsUnnoted};
+ghost use Rattle.vlt_flow.specs.Unfit.{IfUnfit, IsUnfit};
+ghost use Rattle.vlt_core.specs.Bodies.{body_flow};
+ghost use Rattle.vlt_core.specs.Derives.{start_map};
 
 mod listing;
 mod passing;
@@ -26,7 +29,8 @@ use vlt_core::{Annotation, Func, Program};
 use vlt_keyset::{Held, TokenCounts};
 use vlt_rows::{FlowBlock, body_flow};
 
-/// The least annotation of a body that begins with the map, in a function with so many tokens.
+/// The least annotation of a body that begins with the map, in a function with so many tokens; `Unfit` where it has none
+/// that can be listed (`IsUnnoted`).
 pub fn annotate_block(
     alloc: Global,
     start: Held,
@@ -38,6 +42,8 @@ pub fn annotate_block(
     ensures order { IfOk result (λ a. AreListed counts.keys counts.vars a.maps) }
     ensures refused { IfRefused result ((a : Notes) →
         IsLocalBlock a None 0 (map_of start) (block_view flow.now) → ⊥) }
+    ensures unfit { IfUnfit result (IsUnnoted counts.keys counts.vars
+        (block_view flow.now) (map_of start)) }
 {
     match least_maps(alloc, start, flow) {
         Ok(kept) => {
@@ -50,18 +56,22 @@ pub fn annotate_block(
 }
 
 /// The least annotation of a function's body; `Refused` where none holds in it. Statements are counted from 0 in the function,
-/// each before those inside it, and each map is listed in ascending order, keys first, without absent tokens.
+/// each before those inside it, and each map is listed in ascending order, keys first, without absent tokens. `Unfit` where the
+/// body is (`IsUnfit`), or where it has no notes (`IsUnnoted`).
 pub fn annotate(alloc: Global, p: &Program, f: &Func) -> Result<Annotation, Stop>
     ensures least { IfOk result (λ a. IsLeast (program_of p.now) (func_of f.now)
         (map note_of a.maps)) }
     ensures order { IfOk result (λ a. AreListed (length f.now.keys) (length f.now.vars) a.maps) }
     ensures refused { IfRefused result ((a : Notes) →
         IsLocalIn (program_of p.now) (func_of f.now) a → ⊥) }
+    ensures unfit { IfUnfit result (IsUnfit (program_of p.now) (func_of f.now) ⊎
+        IsUnnoted (length f.now.keys) (length f.now.vars)
+        (body_flow (program_of p.now) (func_of f.now)) (start_map (program_of p.now) (func_of f.now))) }
 {
     let flow = body_flow(alloc, p, f)?;
     let start = start_map_of(alloc, p, f)?;
     match TokenCounts::of(f) {
         Some(counts) => annotate_block(alloc, start, &flow, counts),
-        None => Err(Stop::Memory),
+        None => Err(Stop::Unfit),
     }
 }

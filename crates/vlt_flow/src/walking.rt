@@ -1,17 +1,17 @@
 //! The walk over a body.
 
-ghost use Rattle.std.specs.Prelude.{◌≡◌, ◌||◌, ◌+◌, ◌<◌, Some, None, IsSome, IfOk, OnOk, length, map};
+ghost use Rattle.std.specs.Prelude.{◌≡◌, true, ◌||◌, ◌+◌, ◌<◌, Some, None, IsSome, IfOk, OnOk, length, map};
 ghost use Rattle.vlt_core.specs.Flow.{size, size_block, size_stmts, size_arms};
 ghost use Rattle.vlt_core.specs.Maps.{CanPass, away_row};
 ghost use Rattle.vlt_core.specs.Flow.{passes_block, passes_arms};
 ghost use Rattle.vlt_core.specs.HeldView.{toks_of};
 ghost use Rattle.vlt_rows.specs.FlowView.{flow_view, block_view, stmts_view, arms_view, rows_view};
 ghost use Rattle.vlt_keyset.specs.Held.{map_of};
-ghost use Rattle.vlt_flow.specs.Walks.{IfRefused, Passes, slot, HasRoom, IsWalked, HasNone, form_part, block_part, stmts_part, IsJoinedWay, HasNoWay, IsTurn, HasNoTurn, IsJump, HasNoJump, IsLeft, NoLeft, IsPlace, IsWalkedOn, HasNoneOn, IsTurned, IsJoinedArms, HasNoArms, HasRoomFor, ForLoop, IsLoop, choice_of};
+ghost use Rattle.vlt_flow.specs.Walks.{IfHalted, Passes, slot, HasRoom, IsWalked, HasNone, form_part, block_part, stmts_part, IsJoinedWay, HasNoWay, IsTurn, HasNoTurn, IsJump, HasNoJump, IsLeft, NoLeft, IsPlace, IsWalkedOn, HasNoneOn, IsTurned, IsJoinedArms, HasNoArms, HasRoomFor, ForLoop, IsLoop, choice_of};
 
 use crate::count::count_form;
-use crate::errors::Stop;
-use crate::kept::Kept;
+use crate::errors::Halt;
+use crate::kept::{Kept, copy_around, copy_behind};
 use crate::pass::{pass_gone, pass_rows};
 use std::alloc::Global;
 use vlt_base::either;
@@ -52,9 +52,9 @@ fn stops(at: usize) -> Walked
     Walked { held: None, at }
 }
 
-fn pass(held: Held, rows: &[Row]) -> Result<Held, Stop>
+fn pass(held: Held, rows: &[Row]) -> Result<Held, Halt>
     ensures ok { IfOk result (λ h. Passes (rows_view rows.now) (map_of held) (map_of h)) }
-    ensures refused { IfRefused result (CanPass (rows_view rows.now) (map_of held) → ⊥) }
+    ensures refused { IfHalted result (CanPass (rows_view rows.now) (map_of held) → ⊥) }
 {
     let mut held = held;
     pass_rows(&mut held, rows)?;
@@ -62,14 +62,15 @@ fn pass(held: Held, rows: &[Row]) -> Result<Held, Stop>
 }
 
 /// The map behind a choice, if one of its ways can be passed.
-fn behind(alloc: Global, kept: &Kept, n: usize, way: Way) -> Result<Walked, Stop>
-    requires { n < length kept.now.behind }
+fn behind(alloc: Global, kept: &Kept, n: usize, way: Way) -> Result<Walked, Halt>
+    requires within { n < length kept.now.behind }
+    requires some { way.passes ≡ true → IsSome (slot kept.now.behind n) }
     ensures place { IfOk result (λ w. IsPlace kept.now n way.passes w.held) }
     ensures at { IfOk result (λ w. w.at ≡ way.at) }
-    ensures never { IfRefused result ⊥ }
+    ensures never { IfHalted result ⊥ }
 {
     let held = if way.passes {
-        Some(kept.copy_behind(alloc, n)?)
+        Some(copy_behind(alloc, kept, n)?)
     } else {
         None
     };
@@ -77,10 +78,10 @@ fn behind(alloc: Global, kept: &Kept, n: usize, way: Way) -> Result<Walked, Stop
 }
 
 /// The rows at the end of a part, if it can be passed.
-fn leave_rows(walked: Walked, rows: &[Row]) -> Result<Walked, Stop>
+fn leave_rows(walked: Walked, rows: &[Row]) -> Result<Walked, Halt>
     ensures ok { IfOk result (λ w. IsLeft (rows_view rows.now) walked.held w.held) }
     ensures at { IfOk result (λ w. w.at ≡ walked.at) }
-    ensures refused { IfRefused result (NoLeft (rows_view rows.now) walked.held) }
+    ensures refused { IfHalted result (NoLeft (rows_view rows.now) walked.held) }
 {
     let Walked { held, at } = walked;
     match held {
@@ -95,10 +96,10 @@ fn leave_rows(walked: Walked, rows: &[Row]) -> Result<Walked, Stop>
     }
 }
 
-fn leave_gone(walked: Walked, toks: &[Tok]) -> Result<Walked, Stop>
+fn leave_gone(walked: Walked, toks: &[Tok]) -> Result<Walked, Halt>
     ensures ok { IfOk result (λ w. IsLeft (map away_row (toks_of toks.now)) walked.held w.held) }
     ensures at { IfOk result (λ w. w.at ≡ walked.at) }
-    ensures refused { IfRefused result (NoLeft (map away_row (toks_of toks.now)) walked.held) }
+    ensures refused { IfHalted result (NoLeft (map away_row (toks_of toks.now)) walked.held) }
 {
     let Walked { held, at } = walked;
     match held {
@@ -120,18 +121,18 @@ fn jump(
     left: &[Tok],
     l: Option<usize>,
     held: Held,
-) -> Result<(), Stop>
+) -> Result<(), Halt>
     requires long { length kept.old.behind ≡ length kept.old.around }
     requires around { ForLoop l (IsLoop kept.old) }
     ensures ok { OnOk result (IsJump l continues (toks_of left.now)
         (map_of held) kept.old kept.new) }
-    ensures refused { IfRefused result (HasNoJump l continues (toks_of left.now)
+    ensures refused { IfHalted result (HasNoJump l continues (toks_of left.now)
         (map_of held) kept.old) }
 {
     let mut held = held;
     pass_gone(&mut held, left)?;
     match l {
-        None => Err(Stop::Refused),
+        None => Err(Halt::Refused),
         Some(l) => {
             if continues {
                 kept.join_around(l, held)
@@ -151,12 +152,12 @@ pub fn walk_form(
     l: Option<usize>,
     n: usize,
     held: Held,
-) -> Result<Walked, Stop>
+) -> Result<Walked, Halt>
     requires room { HasRoom kept.old l n (n + size (flow_view form.now)) }
     ensures ok { IfOk result (λ w. IsWalked (form_part l n (flow_view form.now))
         l n (n + size (flow_view form.now)) (map_of held) kept.old kept.new w.held) }
     ensures at { IfOk result (λ w. w.at ≡ n + size (flow_view form.now)) }
-    ensures refused { IfRefused result (HasNone (form_part l n (flow_view form.now))
+    ensures refused { IfHalted result (HasNone (form_part l n (flow_view form.now))
         (map_of held) kept.old) }
 {
     match form {
@@ -175,7 +176,7 @@ pub fn walk_form(
         Flow::While { rows, body } => {
             kept.join_around(n, held)?;
             let at = walk_turns(alloc, kept, body, rows.as_slice(), n)?;
-            let exit = kept.copy_behind(alloc, n)?;
+            let exit = copy_behind(alloc, kept, n)?;
             Ok(comes(exit, at))
         }
         Flow::Switch { rows, arms, end } => {
@@ -211,14 +212,14 @@ fn walk_if(
     l: Option<usize>,
     n: usize,
     held: Held,
-) -> Result<Walked, Stop>
+) -> Result<Walked, Halt>
     requires room { HasRoom kept.old l n
         (n + size (choice_of rows.now then_block.now else_block.now)) }
     ensures ok { IfOk result (λ w. IsWalkedOn l n
         (choice_of rows.now then_block.now else_block.now) (Some held) kept.old kept.new w.held) }
     ensures at { IfOk result (λ w. w.at
         ≡ n + size (choice_of rows.now then_block.now else_block.now)) }
-    ensures refused { IfRefused result (HasNoneOn l n
+    ensures refused { IfHalted result (HasNoneOn l n
         (choice_of rows.now then_block.now else_block.now) (Some held) kept.old) }
 {
     let inside = pass(held, rows)?;
@@ -242,13 +243,13 @@ fn walk_way(
     k: usize,
     n: usize,
     held: Held,
-) -> Result<Way, Stop>
+) -> Result<Way, Halt>
     requires room { HasRoomFor kept.old l k n (n + size_block (block_view body.now)) }
     ensures ok { OnOk result (
         IsJoinedWay l k n (block_view body.now) (map_of held) kept.old kept.new) }
     ensures passes { IfOk result (λ w. w.passes ≡ passes_block (block_view body.now)) }
     ensures at { IfOk result (λ w. w.at ≡ n + size_block (block_view body.now)) }
-    ensures refused { IfRefused result (HasNoWay l k n (block_view body.now)
+    ensures refused { IfHalted result (HasNoWay l k n (block_view body.now)
         (map_of held) kept.old) }
 {
     let Walked { held, at } = walk_block(alloc, kept, body, l, n, held)?;
@@ -270,13 +271,13 @@ fn walk_arms(
     l: Option<usize>,
     n: usize,
     held: Held,
-) -> Result<Way, Stop>
+) -> Result<Way, Halt>
     requires room { HasRoomFor kept.old l n (n + 1) (n + 1 + size_arms (arms_view arms.now)) }
     ensures ok { OnOk result (IsJoinedArms l n (arms_view arms.now)
         (map_of held) kept.old kept.new) }
     ensures passes { IfOk result (λ w. w.passes ≡ passes_arms (arms_view arms.now)) }
     ensures at { IfOk result (λ w. w.at ≡ n + 1 + size_arms (arms_view arms.now)) }
-    ensures refused { IfRefused result (HasNoArms l n (arms_view arms.now) (map_of held) kept.old) }
+    ensures refused { IfHalted result (HasNoArms l n (arms_view arms.now) (map_of held) kept.old) }
 {
     let mut passes = false;
     let mut at = n + 1;
@@ -298,13 +299,13 @@ fn walk_turn(
     rows: &[Row],
     n: usize,
     before: &Held,
-) -> Result<usize, Stop>
+) -> Result<usize, Halt>
     requires room { HasRoom kept.old None (n + 1) (n + 1 + size_block (block_view body.now)) }
     requires before { slot kept.old.around n ≡ Some before.now }
     ensures ok { OnOk result (IsTurn (rows_view rows.now) (block_view body.now)
         n (n + 1 + size_block (block_view body.now)) before.now kept.old kept.new) }
     ensures at { IfOk result (λ m. m ≡ n + 1 + size_block (block_view body.now)) }
-    ensures refused { IfRefused result (HasNoTurn (rows_view rows.now)
+    ensures refused { IfHalted result (HasNoTurn (rows_view rows.now)
         (block_view body.now) n kept.old) }
 {
     let inside = pass(before.copy(alloc)?, rows)?;
@@ -327,17 +328,17 @@ fn walk_turns(
     body: &FlowBlock,
     rows: &[Row],
     n: usize,
-) -> Result<usize, Stop>
+) -> Result<usize, Halt>
     requires room { HasRoom kept.old None (n + 1) (n + 1 + size_block (block_view body.now)) }
     requires some { IsSome (slot kept.old.around n) }
     ensures ok { OnOk result (IsTurned (rows_view rows.now)
         (block_view body.now) n kept.old kept.new) }
     ensures at { IfOk result (λ m. m ≡ n + 1 + size_block (block_view body.now)) }
-    ensures refused { IfRefused result (HasNoTurn (rows_view rows.now)
+    ensures refused { IfHalted result (HasNoTurn (rows_view rows.now)
         (block_view body.now) n kept.old) }
 {
     loop {
-        let before = kept.copy_around(alloc, n)?;
+        let before = copy_around(alloc, kept, n)?;
         let at = walk_turn(alloc, kept, body, rows, n, &before)?;
         if kept.is_around(n, &before) {
             return Ok(at);
@@ -353,12 +354,12 @@ pub fn walk_block(
     l: Option<usize>,
     n: usize,
     held: Held,
-) -> Result<Walked, Stop>
+) -> Result<Walked, Halt>
     requires room { HasRoom kept.old l n (n + size_block (block_view block.now)) }
     ensures ok { IfOk result (λ w. IsWalked (block_part l n (block_view block.now))
         l n (n + size_block (block_view block.now)) (map_of held) kept.old kept.new w.held) }
     ensures at { IfOk result (λ w. w.at ≡ n + size_block (block_view block.now)) }
-    ensures refused { IfRefused result (HasNone (block_part l n (block_view block.now))
+    ensures refused { IfHalted result (HasNone (block_part l n (block_view block.now))
         (map_of held) kept.old) }
 {
     let walked = walk_list(alloc, kept, block.stmts.as_slice(), l, n, held)?;
@@ -373,23 +374,23 @@ fn walk_on(
     form: &Flow,
     l: Option<usize>,
     flow: Walked,
-) -> Result<Walked, Stop>
+) -> Result<Walked, Halt>
     requires room { HasRoom kept.old l flow.at (flow.at + size (flow_view form.now)) }
     ensures ok { IfOk result (λ w. IsWalkedOn l flow.at
         (flow_view form.now) flow.held kept.old kept.new w.held) }
     ensures at { IfOk result (λ w. w.at ≡ flow.at + size (flow_view form.now)) }
-    ensures refused { IfRefused result (HasNoneOn l flow.at
+    ensures refused { IfHalted result (HasNoneOn l flow.at
         (flow_view form.now) flow.held kept.old) }
 {
     let Walked { held, at } = flow;
     match held {
-        None => {
-            let more = count_form(form)?;
-            Ok(Walked {
+        None => match count_form(form) {
+            Ok(more) => Ok(Walked {
                 held: None,
                 at: at + more,
-            })
-        }
+            }),
+            Err(_) => unreachable!(),
+        },
         Some(held) => walk_form(alloc, kept, form, l, at, held),
     }
 }
@@ -402,12 +403,12 @@ fn walk_list(
     l: Option<usize>,
     n: usize,
     held: Held,
-) -> Result<Walked, Stop>
+) -> Result<Walked, Halt>
     requires room { HasRoom kept.old l n (n + size_stmts (stmts_view stmts.now)) }
     ensures ok { IfOk result (λ w. IsWalked (stmts_part l n (stmts_view stmts.now))
         l n (n + size_stmts (stmts_view stmts.now)) (map_of held) kept.old kept.new w.held) }
     ensures at { IfOk result (λ w. w.at ≡ n + size_stmts (stmts_view stmts.now)) }
-    ensures refused { IfRefused result (HasNone (stmts_part l n (stmts_view stmts.now))
+    ensures refused { IfHalted result (HasNone (stmts_part l n (stmts_view stmts.now))
         (map_of held) kept.old) }
 {
     let mut flow = Walked {

@@ -1,5 +1,5 @@
 -- Notes that come behind others.
-use Rattle.std.proofs.Common.{◌≡◌, ◌<◌, ◌≤◌, ◌+◌, ℕ, Bool, true, false, ◌&&◌, ◌||◌, List, [], ◌∷◌, ◌++◌, map, length, drop, drop-cons, add-one, get_or, suc, if◌then◌else◌, Result, Ok, Err, OnOk, IfOk, refl, sym, ap, ◌∙◌, subst, arith}
+use Rattle.std.proofs.Common.{◌≡◌, ◌<◌, ◌≤◌, ◌+◌, ℕ, Bool, true, false, ◌&&◌, ◌||◌, List, [], ◌∷◌, ◌++◌, map, length, drop, drop-cons, add-one, get_or, suc, if◌then◌else◌, Result, Ok, Err, OnOk, IfOk, inl, inr, ⊎_elim, true≢false, refl, sym, ap, ◌∙◌, subst, arith}
 use Rattle.std.proofs.lemmas.List.{append-nil, append_assoc, drop_all}
 use Rattle.vlt_core.specs.Flow.{next, arm, passes, passes_block, passes_stmts, passes_arms, size, size_block, size_stmts, size_arms}
 use Rattle.vlt_core.specs.Least.{Noted, a_loop, a_join, noted_by, noted, noted_block, noted_stmts, noted_arms}
@@ -13,7 +13,7 @@ use Rattle.vlt_rows.specs.FlowView.{flow_view, block_view, arms_view, stmts_view
 use Rattle.vlt_rows.proofs.Views.{stmt_parts, arm_parts}
 use Rattle.vlt_flow.specs.Walks.{Marks, slot}
 use Rattle.vlt_flow.specs.Notes.Listed.{map_in, note_of}
-use Rattle.vlt_flow.specs.Notes.Noted.{IsHeld, IsRead, AreRead, IsNoted, IsLong}
+use Rattle.vlt_flow.specs.Notes.Noted.{IsHeld, IsRead, AreRead, IsNoted, IsLong, HasNoNote, LacksNote}
 
 pub split_at : {X : Type 0} (xs : List X) (i : ℕ) (x : X) → i < length xs → x ≡ get_or xs i x → drop i xs ≡ x ∷ drop (i + 1) xs
 split_at xs i x lt read = rw add-one (drop-cons xs i x lt ∙ ap (λ y. y ∷ drop (suc i) xs) (sym read))
@@ -121,6 +121,29 @@ arming_ends k arms n old i at now past g = going_ends k old now _ (subst (λ ss.
 
 pub arming_at : (k : Marks) (arms : List FlowArm) (n : ℕ) (old : List DN.Note) (i at : ℕ) (now : List DN.Note) → length arms ≤ i → Arming k arms n old i at now → at ≡ n + size_arms (arms_view arms)
 arming_at k arms n old i at now past g = let e = ap (λ ss. size_arms (arms_view ss)) (drop_all i arms past) in let a = g.size in omega (arith, a, e)
+
+-- ---- a note that is lacking
+
+pub lacks_left : (m n : ℕ) (k : Marks) (xs ys : List Noted) → LacksNote m n k xs → LacksNote m n k (xs ++ ys)
+lacks_left m n k [] ys l = absurd l
+lacks_left m n k (x ∷ xs) ys l = ⊎_elim (λ h. inl h) (λ t. inr (lacks_left m n k xs ys t)) l
+
+pub lacks_right : (m n : ℕ) (k : Marks) (xs ys : List Noted) → LacksNote m n k ys → LacksNote m n k (xs ++ ys)
+lacks_right m n k [] ys l = l
+lacks_right m n k (x ∷ xs) ys l = inr (lacks_right m n k xs ys l)
+
+pub join_lacks : (m v : ℕ) (k : Marks) (n : ℕ) (p : Bool) → p ≡ true → HasNoNote m v k (a_join n) → LacksNote m v k (if p then a_join n ∷ [] else [])
+join_lacks m v k n true e h = inl h
+join_lacks m v k n false e h = absurd (true≢false (sym e))
+
+going_lacks : (m v : ℕ) (k : Marks) (old now : List DN.Note) (all xs rest : List Noted) → Going k old all now (xs ++ rest) → LacksNote m v k xs → LacksNote m v k all
+going_lacks m v k old now all xs rest g l = subst (LacksNote m v k) (sym g.is) (lacks_right m v k g.so_far (xs ++ rest) (lacks_left m v k xs rest l))
+
+pub listing_lacks : (m v : ℕ) (k : Marks) (stmts : List FlowStmt) (n : ℕ) (old : List DN.Note) (i at : ℕ) (now : List DN.Note) (s : FlowStmt) → drop i stmts ≡ s ∷ drop (i + 1) stmts → Listing k stmts n old i at now → LacksNote m v k (noted at (flow_view s.flow)) → LacksNote m v k (noted_stmts n (stmts_view stmts))
+listing_lacks m v k stmts n old i at now s e g l = going_lacks m v k old now _ (noted at (flow_view s.flow)) _ (subst (λ ss. Going k old (noted_stmts n (stmts_view stmts)) now (noted_stmts at ss)) (stmts_split stmts i s e) g.going) l
+
+pub arming_lacks : (m v : ℕ) (k : Marks) (arms : List FlowArm) (n : ℕ) (old : List DN.Note) (i at : ℕ) (now : List DN.Note) (a : FlowArm) → drop i arms ≡ a ∷ drop (i + 1) arms → Arming k arms n old i at now → LacksNote m v k (noted_block at (block_view (out-FlowArm a).body)) → LacksNote m v k (noted_arms n (arms_view arms))
+arming_lacks m v k arms n old i at now a e g l = going_lacks m v k old now _ (noted_block at (block_view (out-FlowArm a).body)) _ (subst (λ ss. Going k old (noted_arms n (arms_view arms)) now (noted_arms at ss)) (arms_split arms i a e) g.going) l
 
 -- ---- whether statements and arms can be passed
 

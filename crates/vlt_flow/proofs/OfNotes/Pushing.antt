@@ -12,7 +12,7 @@ use Rattle.vlt_core.specs.declared.held.Tok as D
 use Rattle.vlt_core.specs.declared.held.Status as DS
 use Rattle.vlt_core.specs.declared.held.Status.TheVariants.{Absent}
 use Rattle.vlt_core.specs.declared.held.Status.TheVariants as status
-use Rattle.vlt_keyset.specs.Pairs.{Pair, map_of_pairs, IsPresent, AreInOrder}
+use Rattle.vlt_keyset.specs.Pairs.{Pair, map_of_pairs, IsPresent, AreInOrder, HasOnly}
 use Rattle.vlt_keyset.specs.Held.{Statuses, map_of, HasPlace}
 use Rattle.vlt_flow.specs.Notes.Pushed.{first_of, status_at, status_in, keys_of, vars_of, IsPushed}
 
@@ -147,6 +147,31 @@ vars_end h n old new none g t = g.each t ∙ ap (first_of (status_in old t)) (ea
     each : (t : Tok) → vars_below (map_of h) n t ≡ vars_of (map_of h) t
     each (a_key k) = refl
     each (a_var v) = all_below v n h.vars (past_place (length h.vars) n none)
+
+only_below : (k n : ℕ) (s : maps.Status) → (n ≤ k → s ≡ maps.absent) → (if nat_lt k n then s else maps.absent) ≡ s
+only_below k n s none = by (nat_lt k n) refl
+  where
+    far : (k n : ℕ) → nat_lt k n ≡ false → n ≤ k
+    far k n e = grind (arith, nat_tests)
+
+    by : (b : Bool) → nat_lt k n ≡ b → (if b then s else maps.absent) ≡ s
+    by true e = refl
+    by false e = sym (none (far k n e))
+
+-- all of so many keys, or variables, where other tokens are absent
+pub keys_over : (h : HeldMap) (m n : ℕ) (old new : List Pair) → HasOnly m n h → IsGrown old new (keys_below h m) → (t : Tok) → status_in new t ≡ first_of (status_in old t) (keys_of h t)
+keys_over h m n old new only g t = g.each t ∙ ap (first_of (status_in old t)) (each t)
+  where
+    each : (t : Tok) → keys_below h m t ≡ keys_of h t
+    each (a_key k) = only_below k m (h (a_key k)) (λ le. only (a_key k) (λ lt. omega (arith, le, lt)))
+    each (a_var v) = refl
+
+pub vars_over : (h : HeldMap) (m n : ℕ) (old new : List Pair) → HasOnly m n h → IsGrown old new (vars_below h n) → (t : Tok) → status_in new t ≡ first_of (status_in old t) (vars_of h t)
+vars_over h m n old new only g t = g.each t ∙ ap (first_of (status_in old t)) (each t)
+  where
+    each : (t : Tok) → vars_below h n t ≡ vars_of h t
+    each (a_key k) = refl
+    each (a_var v) = only_below v n (h (a_var v)) (λ le. only (a_var v) (λ lt. omega (arith, le, lt)))
 
 -- of a list in order both readings are the same
 said : (xs : List Pair) → AreInOrder xs → (t : Tok) → map_of_pairs xs t ≡ status_in xs t

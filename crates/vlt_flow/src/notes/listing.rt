@@ -1,50 +1,54 @@
 //! The notes of each part, in order.
 
-ghost use Rattle.std.specs.Prelude.{◌≡◌, ◌+◌, ◌||◌, [], ◌∷◌, if◌then◌else◌, IfOk, OnOk};
+ghost use Rattle.std.specs.Prelude.{◌≡◌, ◌≤◌, ◌^◌, ◌+◌, ◌||◌, [], ◌∷◌, if◌then◌else◌, IfOk, OnOk};
 ghost use Rattle.vlt_core.specs.Flow.{size, size_block, size_stmts, size_arms};
 ghost use Rattle.vlt_core.specs.Least.{a_loop, a_join, noted, noted_block, noted_stmts, noted_arms};
 ghost use Rattle.vlt_rows.specs.FlowView.{flow_view, block_view, stmts_view, arms_view};
 ghost use Rattle.vlt_flow.specs.Walks.{slot};
 ghost use Rattle.vlt_flow.specs.Notes.Listed.{map_in, IsListed, AreListed};
-ghost use Rattle.vlt_flow.specs.Notes.Noted.{IsLong, IsHeld, IsNoted};
+ghost use Rattle.vlt_flow.specs.Notes.Noted.{IsLong, IsHeld, IsNoted, HasNoList, LacksNote, IfUnlisted};
 
 use crate::Kept;
+use crate::errors::NoteError;
 use crate::notes::passing::{passes_arms, passes_block};
 use crate::notes::statuses::listed;
 use std::alloc::Global;
-use vlt_base::{Items, Memory, StmtId, either};
+use vlt_base::{Items, StmtId, either};
 use vlt_core::{Note, TokMap};
 use vlt_keyset::TokenCounts;
 use vlt_rows::{Flow, FlowArm, FlowBlock, FlowStmt};
 
-fn stmt_id(n: usize) -> Result<StmtId, Memory>
-    ensures { IfOk result (λ id. id.0 ≡ n) }
+fn stmt_id(n: usize) -> Result<StmtId, NoteError>
+    ensures id { IfOk result (λ id. id.0 ≡ n) }
+    ensures unfit { IfUnlisted result (2 ^ 32 ≤ n) }
 {
     match u32::try_from(n) {
         Ok(n) => Ok(StmtId(n)),
-        Err(_) => Err(Memory),
+        Err(_) => Err(NoteError::Unfit),
     }
 }
 
-fn around(alloc: Global, kept: &Kept, n: usize, counts: TokenCounts) -> Result<TokMap, Memory>
+fn around(alloc: Global, kept: &Kept, n: usize, counts: TokenCounts) -> Result<TokMap, NoteError>
     requires { IsLong kept.now (n + 1) }
     ensures held { IfOk result (λ m. IsHeld (slot kept.now.around n) (map_in m)) }
     ensures order { IfOk result (λ m. IsListed counts.keys counts.vars m.pairs) }
+    ensures unfit { IfUnlisted result (HasNoList counts.keys counts.vars (slot kept.now.around n)) }
 {
-    match kept.copy_around(alloc, n) {
-        Ok(held) => listed(alloc, &held, counts),
-        Err(_) => Err(Memory),
+    match kept.around(n) {
+        Some(held) => listed(alloc, held, counts),
+        None => Err(NoteError::Unfit),
     }
 }
 
-fn behind(alloc: Global, kept: &Kept, n: usize, counts: TokenCounts) -> Result<TokMap, Memory>
+fn behind(alloc: Global, kept: &Kept, n: usize, counts: TokenCounts) -> Result<TokMap, NoteError>
     requires { IsLong kept.now (n + 1) }
     ensures held { IfOk result (λ m. IsHeld (slot kept.now.behind n) (map_in m)) }
     ensures order { IfOk result (λ m. IsListed counts.keys counts.vars m.pairs) }
+    ensures unfit { IfUnlisted result (HasNoList counts.keys counts.vars (slot kept.now.behind n)) }
 {
-    match kept.copy_behind(alloc, n) {
-        Ok(held) => listed(alloc, &held, counts),
-        Err(_) => Err(Memory),
+    match kept.behind(n) {
+        Some(held) => listed(alloc, held, counts),
+        None => Err(NoteError::Unfit),
     }
 }
 
@@ -54,11 +58,13 @@ fn note_loop(
     kept: &Kept,
     n: usize,
     counts: TokenCounts,
-) -> Result<(), Memory>
+) -> Result<(), NoteError>
     requires { IsLong kept.now (n + 1) }
     ensures noted { OnOk result (IsNoted kept.now (a_loop n ∷ []) notes.old notes.new) }
     ensures order { AreListed counts.keys counts.vars notes.old →
         OnOk result (AreListed counts.keys counts.vars notes.new) }
+    ensures unfit { IfUnlisted result (LacksNote counts.keys counts.vars kept.now
+        (a_loop n ∷ [])) }
 {
     let stmt = stmt_id(n)?;
     let around = around(alloc, kept, n, counts)?;
@@ -74,12 +80,14 @@ fn note_join(
     n: usize,
     passes: bool,
     counts: TokenCounts,
-) -> Result<(), Memory>
+) -> Result<(), NoteError>
     requires { IsLong kept.now (n + 1) }
     ensures noted { OnOk result (IsNoted kept.now (if passes then a_join n ∷ [] else []) notes.old
         notes.new) }
     ensures order { AreListed counts.keys counts.vars notes.old →
         OnOk result (AreListed counts.keys counts.vars notes.new) }
+    ensures unfit { IfUnlisted result (LacksNote counts.keys counts.vars kept.now
+        (if passes then a_join n ∷ [] else [])) }
 {
     if !passes {
         return Ok(());
@@ -97,13 +105,15 @@ fn note_form(
     form: &Flow,
     n: usize,
     counts: TokenCounts,
-) -> Result<usize, Memory>
+) -> Result<usize, NoteError>
     requires room { IsLong kept.now (n + size (flow_view form.now)) }
     ensures noted { OnOk result (IsNoted kept.now
         (noted n (flow_view form.now)) notes.old notes.new) }
     ensures order { AreListed counts.keys counts.vars notes.old →
         OnOk result (AreListed counts.keys counts.vars notes.new) }
     ensures at { IfOk result (λ m. m ≡ n + size (flow_view form.now)) }
+    ensures unfit { IfUnlisted result (LacksNote counts.keys counts.vars kept.now
+        (noted n (flow_view form.now))) }
 {
     match form {
         Flow::If {
@@ -139,13 +149,15 @@ pub fn note_block(
     block: &FlowBlock,
     n: usize,
     counts: TokenCounts,
-) -> Result<usize, Memory>
+) -> Result<usize, NoteError>
     requires room { IsLong kept.now (n + size_block (block_view block.now)) }
     ensures noted { OnOk result (IsNoted kept.now
         (noted_block n (block_view block.now)) notes.old notes.new) }
     ensures order { AreListed counts.keys counts.vars notes.old →
         OnOk result (AreListed counts.keys counts.vars notes.new) }
     ensures at { IfOk result (λ m. m ≡ n + size_block (block_view block.now)) }
+    ensures unfit { IfUnlisted result (LacksNote counts.keys counts.vars kept.now
+        (noted_block n (block_view block.now))) }
 {
     note_list(alloc, notes, kept, block.stmts.as_slice(), n, counts)
 }
@@ -158,13 +170,15 @@ fn note_list(
     stmts: &[FlowStmt],
     n: usize,
     counts: TokenCounts,
-) -> Result<usize, Memory>
+) -> Result<usize, NoteError>
     requires room { IsLong kept.now (n + size_stmts (stmts_view stmts.now)) }
     ensures noted { OnOk result (IsNoted kept.now
         (noted_stmts n (stmts_view stmts.now)) notes.old notes.new) }
     ensures order { AreListed counts.keys counts.vars notes.old →
         OnOk result (AreListed counts.keys counts.vars notes.new) }
     ensures at { IfOk result (λ m. m ≡ n + size_stmts (stmts_view stmts.now)) }
+    ensures unfit { IfUnlisted result (LacksNote counts.keys counts.vars kept.now
+        (noted_stmts n (stmts_view stmts.now))) }
 {
     let mut at = n;
     for s in stmts {
@@ -181,13 +195,15 @@ fn note_arms(
     arms: &[FlowArm],
     n: usize,
     counts: TokenCounts,
-) -> Result<usize, Memory>
+) -> Result<usize, NoteError>
     requires room { IsLong kept.now (n + size_arms (arms_view arms.now)) }
     ensures noted { OnOk result (IsNoted kept.now
         (noted_arms n (arms_view arms.now)) notes.old notes.new) }
     ensures order { AreListed counts.keys counts.vars notes.old →
         OnOk result (AreListed counts.keys counts.vars notes.new) }
     ensures at { IfOk result (λ m. m ≡ n + size_arms (arms_view arms.now)) }
+    ensures unfit { IfUnlisted result (LacksNote counts.keys counts.vars kept.now
+        (noted_arms n (arms_view arms.now))) }
 {
     let mut at = n;
     for arm in arms {

@@ -1,4 +1,4 @@
-use Rattle.std.proofs.Common.{inl, inr}
+use Rattle.std.proofs.Common.{inl}
 use Rattle.vlt_flow.proofs.Starting.{absent_kind}
 use Rattle.vlt_flow.proofs.start.give.Goals as goal
 

@@ -20,5 +20,5 @@ loop-v-preserved c = elim c.if-is_owning_var.branch [
       rw w.held-is (vars_kept _ _ _ _ (sym c.is_owning_var.ensures ∙ w.if-is_owning_var.false) c.loop-v.invariant.0, c.loop-v.invariant.1)
 ]
 
-pub returns : goal.returns
-returns c = vars_end _ _ _ _ (omega (arith, c.loop-v-test.false)) c.loop-v.invariant.0
+pub returns-clause-map : goal.returns-clause-map
+returns-clause-map c = vars_end _ _ _ _ (omega (arith, c.loop-v-test.false)) c.loop-v.invariant.0

@@ -10,27 +10,27 @@ use Rattle.vlt_flow.specs.Walks.{Marks, slot, Passes, IsWalked, IsLeft, form_par
 use Rattle.vlt_core.specs.HeldView.{toks_of}
 use Rattle.vlt_rows.specs.FlowView.{block_view, arms_view, stmts_view, rows_view}
 use Rattle.vlt_rows.proofs.Views.{block_parts, step_form, while_form, switch_form, scope_form, focus_form, return_form, jump_form}
-use Rattle.vlt_flow.specs.declared.errors.Stop.{Stop}
+use Rattle.vlt_flow.specs.declared.errors.Halt.{Halt}
 use Rattle.vlt_keyset.specs.Held.{Statuses, map_of}
 use Rattle.vlt_flow.proofs.Passing.{handed, refused_through, split_at}
 use Rattle.vlt_flow.proofs.Framing.{room_frame, room_part, room_put}
-use Rattle.vlt_flow.proofs.Parts.{step_walked, step_none, return_walked, return_none, jump_walked, jump_none, focus_walked, focus_rows_none, focus_body_none, focus_end_none, scope_walked, scope_none, block_walked, block_list_none, block_end_none, way_passes_none, way_passes_some, way_none, way_some, way_body_none, way_join_none, choose_walked, choose_rows_none, choose_first_none, choose_second_none, switch_walked, switch_rows_none, switch_arms_none}
-use Rattle.vlt_flow.proofs.Turning.{room_inside, turn_none, turn_some, turn_rows_none, turn_exit_none, turn_body_none, turn_back_none, turning_first, turning_more, turning_stops, turning_room, turned, gap_less, loop_walked, loop_turns_none, arming_first, arming_room, arming_more, arming_ends, arming_at, arming_passes, arming_rows_none, arming_way_none, listing_first, listing_room, listing_more, listing_ends, listing_at, listing_none, listing_small, arming_small}
+use Rattle.vlt_flow.proofs.Parts.{ways_there, step_walked, step_none, return_walked, return_none, jump_walked, jump_none, focus_walked, focus_rows_none, focus_body_none, focus_end_none, scope_walked, scope_none, block_walked, block_list_none, block_end_none, way_passes_none, way_passes_some, way_none, way_some, way_body_none, way_join_none, choose_walked, choose_rows_none, choose_first_none, choose_second_none, switch_walked, switch_rows_none, switch_arms_none}
+use Rattle.vlt_flow.proofs.Turning.{room_inside, turn_none, turn_some, turn_rows_none, turn_exit_none, turn_body_none, turn_back_none, turning_first, turning_more, turning_stops, turning_some, turning_room, turned, gap_less, loop_walked, loop_turns_none, arming_first, arming_room, arming_more, arming_ends, arming_at, arming_passes, arming_rows_none, arming_way_none, listing_first, listing_room, listing_more, listing_ends, listing_at, listing_none, listing_small, arming_small}
 use Rattle.vlt_flow.proofs.walking.+walk.Goals as goal
 
-ok_block : (r : Result Walked Stop) (l : Option ℕ) (n : ℕ) (ss : Stmts) (bound : List Tok) (end : ℕ) (h : HeldMap) (x y : Marks) (o : Option Statuses) → IsWalked (stmts_part l n ss) l n (n + size_stmts ss) h x y o → IfOk r (λ w. IsLeft (map away_row bound) o w.held) → IfOk r (λ w. IsWalked (block_part l n (block ss bound end)) l n (n + size_stmts ss) h x y w.held)
+ok_block : (r : Result Walked Halt) (l : Option ℕ) (n : ℕ) (ss : Stmts) (bound : List Tok) (end : ℕ) (h : HeldMap) (x y : Marks) (o : Option Statuses) → IsWalked (stmts_part l n ss) l n (n + size_stmts ss) h x y o → IfOk r (λ w. IsLeft (map away_row bound) o w.held) → IfOk r (λ w. IsWalked (block_part l n (block ss bound end)) l n (n + size_stmts ss) h x y w.held)
 ok_block (Ok w) l n ss bound end h x y o p q = block_walked l n ss bound end h x y o w.held p q
 ok_block (Err e) l n ss bound end h x y o p q = q
 
-ok_scope : (r : Result Walked Stop) (l : Option ℕ) (n : ℕ) (s : Block) (h : HeldMap) (x y : Marks) → IfOk r (λ w. IsWalked (block_part l (n + 1) s) l (n + 1) (n + 1 + size_block s) h x y w.held) → IfOk r (λ w. IsWalked (form_part l n (scope s)) l n (n + (1 + size_block s)) h x y w.held)
+ok_scope : (r : Result Walked Halt) (l : Option ℕ) (n : ℕ) (s : Block) (h : HeldMap) (x y : Marks) → IfOk r (λ w. IsWalked (block_part l (n + 1) s) l (n + 1) (n + 1 + size_block s) h x y w.held) → IfOk r (λ w. IsWalked (form_part l n (scope s)) l n (n + (1 + size_block s)) h x y w.held)
 ok_scope (Ok w) l n s h x y q = scope_walked l n s h x y w.held q
 ok_scope (Err e) l n s h x y q = q
 
-ok_focus : (r : Result Walked Stop) (l : Option ℕ) (n : ℕ) (rs : List Row) (s : Block) (es : List Row) (h : HeldMap) (xs : Statuses) (x y : Marks) (o : Option Statuses) → Passes rs h (map_of xs) → IsWalked (block_part l (n + 1) s) l (n + 1) (n + 1 + size_block s) (map_of xs) x y o → IfOk r (λ w. IsLeft es o w.held) → IfOk r (λ w. IsWalked (form_part l n (focus rs s es)) l n (n + (1 + size_block s)) h x y w.held)
+ok_focus : (r : Result Walked Halt) (l : Option ℕ) (n : ℕ) (rs : List Row) (s : Block) (es : List Row) (h : HeldMap) (xs : Statuses) (x y : Marks) (o : Option Statuses) → Passes rs h (map_of xs) → IsWalked (block_part l (n + 1) s) l (n + 1) (n + 1 + size_block s) (map_of xs) x y o → IfOk r (λ w. IsLeft es o w.held) → IfOk r (λ w. IsWalked (form_part l n (focus rs s es)) l n (n + (1 + size_block s)) h x y w.held)
 ok_focus (Ok w) l n rs s es h xs x y o p b q = focus_walked l n rs s es h xs x y o w.held p b q
 ok_focus (Err e) l n rs s es h xs x y o p b q = q
 
-ok_at : (r : Result Walked Stop) (a b : ℕ) → a ≡ b → IfOk r (λ w. w.at ≡ a) → IfOk r (λ w. w.at ≡ b)
+ok_at : (r : Result Walked Halt) (a b : ℕ) → a ≡ b → IfOk r (λ w. w.at ≡ a) → IfOk r (λ w. w.at ≡ b)
 ok_at (Ok w) a b e q = q ∙ e
 ok_at (Err x) a b e q = q
 
@@ -168,7 +168,7 @@ walk_turns-loop-before-init t c = turning_first _ _ _ _
 pub walk_turns-copy_around-requires : goal.walk_turns-copy_around-requires
 walk_turns-copy_around-requires t c =
     let r = turning_room _ _ _ _ _ c.loop-before.invariant c.requires.room in
-    omega (arith, r.fits)
+    record { within = omega (arith, r.fits); some = turning_some _ _ _ _ _ c.loop-before.invariant c.requires.some }
 
 pub walk_turns-walk_turn-requires : goal.walk_turns-walk_turn-requires
 walk_turns-walk_turn-requires t c =
@@ -261,11 +261,21 @@ walk_if-returns-in_err-second-clause-refused t c =
     let never = rw (c.in_ok-first.ensures.at, c.in_ok-other.ensures) at c.walk_way-2.ensures.refused in
     handed _ _ _ c.from_residual-in_err-second.ensures.1 c.in_err-second.was (choose_second_none _ _ _ _ _ _ _ _ _ c.in_ok-inside.ensures.ok c.in_ok-first.ensures.ok) never
 
+pub walk_if-behind-requires : goal.walk_if-behind-requires
+walk_if-behind-requires t c =
+    let room = c.requires.room in
+    let first = c.in_ok-first.ensures.ok in
+    let second = rw (c.in_ok-first.ensures.at, c.in_ok-other.ensures) at c.in_ok-second.ensures.ok in
+    record {
+      within = omega (arith, room.fits, room.long, first.frame.long_behind, second.frame.long_behind);
+      some = λ e. ways_there _ _ _ _ _ _ _ _ _ _ _ first second (rw (c.either.ensures, c.in_ok-first.ensures.passes, c.in_ok-second.ensures.passes) at e);
+    }
+
 pub walk_if-returns-clause-ok : goal.walk_if-returns-clause-ok
 walk_if-returns-clause-ok t c =
     let second = rw (c.in_ok-first.ensures.at, c.in_ok-other.ensures) at c.in_ok-second.ensures.ok in
     let place = rw (c.either.ensures, c.in_ok-first.ensures.passes, c.in_ok-second.ensures.passes) at c.behind.ensures.place in
-    IfOk-weaker {Y = Stop} _ _ _ (λ r q. choose_walked _ _ _ _ _ _ _ _ _ _ _ c.requires.room c.in_ok-inside.ensures.ok c.in_ok-first.ensures.ok second q) place
+    IfOk-weaker {Y = Halt} _ _ _ (λ r q. choose_walked _ _ _ _ _ _ _ _ _ _ _ c.requires.room c.in_ok-inside.ensures.ok c.in_ok-first.ensures.ok second q) place
 
 -- ---- forms
 
@@ -291,6 +301,13 @@ walk_form-returns-in_err-at-in-While-clause-refused t c =
     let never = rw c.as_slice-in-While.ensures at c.walk_turns.ensures.refused in
     rw (while_form _ _ _ c.in-While.is) (handed _ _ _ c.from_residual-in_err-at-in-While.ensures.1 c.in_err-at-in-While.was (loop_turns_none c.args.l c.args.n (rows_view c.in-While.rows) (block_view c.in-While.body) c.args.held c.args.kept.now _ (record { long = g.long; into = g.into; others = g.others; behind = g.behind })) never)
 
+pub walk_form-copy_behind-requires : goal.walk_form-copy_behind-requires
+walk_form-copy_behind-requires t c =
+    let room = rw (while_form _ _ _ c.in-While.is) at c.requires.room in
+    let g = c.in_ok-join_around-in-While.ensures in
+    let turned = c.in_ok-at-in-While.ensures.ok in
+    record { within = omega (arith, room.fits, room.long, ap length g.behind, turned.frame.long_behind); some = turned.some }
+
 pub walk_form-returns-in_ok-exit-in-While-clause-ok : goal.walk_form-returns-in_ok-exit-in-While-clause-ok
 walk_form-returns-in_ok-exit-in-While-clause-ok t c =
     let room = rw (while_form _ _ _ c.in-While.is) at c.requires.room in
@@ -314,13 +331,20 @@ walk_form-returns-in_err-way-in-Switch-clause-refused t c =
     let never = rw c.as_slice-in-Switch-2.ensures at c.walk_arms.ensures.refused in
     rw (switch_form _ _ _ _ c.in-Switch.is) (handed _ _ _ c.from_residual-in_err-way-in-Switch.ensures.1 c.in_err-way-in-Switch.was (switch_arms_none c.args.l c.args.n (rows_view c.in-Switch.rows) (arms_view c.in-Switch.arms) c.in-Switch.end (map_of c.args.held) _ c.args.kept.now p) never)
 
+pub walk_form-behind-requires : goal.walk_form-behind-requires
+walk_form-behind-requires t c =
+    let room = rw (switch_form _ _ _ _ c.in-Switch.is) at c.requires.room in
+    let arms = rw c.as_slice-in-Switch-2.ensures at c.in_ok-way-in-Switch.ensures.ok in
+    let passes = rw c.as_slice-in-Switch-2.ensures at c.in_ok-way-in-Switch.ensures.passes in
+    record { within = omega (arith, room.fits, room.long, arms.frame.long_behind); some = λ e. arms.there (sym passes ∙ e) }
+
 pub walk_form-returns-in_ok-way-in-Switch-clause-ok : goal.walk_form-returns-in_ok-way-in-Switch-clause-ok
 walk_form-returns-in_ok-way-in-Switch-clause-ok t c =
     let p = rw c.as_slice-in-Switch.ensures at c.in_ok-inside-in-Switch.ensures.ok in
     let arms = rw c.as_slice-in-Switch-2.ensures at c.in_ok-way-in-Switch.ensures.ok in
     let passes = rw c.as_slice-in-Switch-2.ensures at c.in_ok-way-in-Switch.ensures.passes in
     let place = rw passes at c.behind.ensures.place in
-    rw (switch_form _ _ _ _ c.in-Switch.is) (IfOk-weaker {Y = Stop} _ _ _ (λ r q. switch_walked _ _ _ _ c.in-Switch.end _ _ _ _ _ p arms q) place)
+    rw (switch_form _ _ _ _ c.in-Switch.is) (IfOk-weaker {Y = Halt} _ _ _ (λ r q. switch_walked _ _ _ _ c.in-Switch.end _ _ _ _ _ p arms q) place)
 
 pub walk_form-walk_block-requires : goal.walk_form-walk_block-requires
 walk_form-walk_block-requires t c =

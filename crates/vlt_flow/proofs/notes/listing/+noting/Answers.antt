@@ -1,10 +1,12 @@
-use Rattle.std.proofs.Common.{◌<◌, ◌+◌, length, arith, subst}
-use Rattle.vlt_core.specs.Flow.{choose, loop, switch}
+use Rattle.std.proofs.Common.{◌<◌, ◌+◌, ◌||◌, [], ◌∷◌, ◌++◌, if◌then◌else◌, length, arith, subst}
+use Rattle.vlt_core.specs.Flow.{choose, loop, switch, passes_block}
 use Rattle.vlt_rows.specs.FlowView.{rows_view, block_view, arms_view}
 use Rattle.vlt_rows.proofs.Views.{if_form, while_form, switch_form}
-use Rattle.vlt_core.specs.Least.{noted, noted_block, noted_arms}
-use Rattle.vlt_flow.specs.Notes.Noted.{IsNoted}
+use Rattle.vlt_core.specs.Least.{a_join, noted, noted_block, noted_arms}
+use Rattle.vlt_flow.specs.Notes.Noted.{IsNoted, LacksNote}
 use Rattle.vlt_flow.proofs.OfNotes.Noting.{split_at, noted_more, on_more, listing_first, listing_long, listing_small, listing_more, listing_ends, listing_at, arming_first, arming_long, arming_small, arming_more, arming_ends, arming_at}
+use Rattle.vlt_flow.proofs.OfNotes.Noting.{lacks_left, lacks_right, listing_lacks, arming_lacks}
+use Rattle.vlt_flow.proofs.Unfitting.{unlisted_handed, unlisted_through}
 use Rattle.vlt_flow.proofs.notes.listing.+noting.Goals as goal
 
 pub note_list-loop-s-init : goal.note_list-loop-s-init
@@ -78,3 +80,29 @@ note_form-returns-in_ok-note_join-in-Switch-clause-noted t c =
     (IsNoted k (noted_arms (c.args.n + 1) (arms_view c.in-Switch.arms)) c.note_join-in-Switch.new.notes c.note_arms.new.notes)
     (IsNoted k (noted c.args.n (switch (rows_view c.in-Switch.rows) (arms_view c.in-Switch.arms) c.in-Switch.end)) c.args.notes.now c.note_arms.new.notes)
     (λ q. noted_more k _ _ _ _ _ own q) arms)
+
+-- ---- notes that are lacking
+
+pub note_list-returns-in_err-at-clause-unfit : goal.note_list-returns-in_err-at-clause-unfit
+note_list-returns-in_err-at-clause-unfit t c =
+    let lt : c.loop-s.s-index < length c.args.stmts.now = omega arith in
+    unlisted_handed _ _ _ c.from_residual.ensures.1 c.in_err-at.was (λ l. listing_lacks _ _ _ _ _ _ _ _ _ c.s-item.result (split_at _ _ _ lt c.s-item.is) c.loop-s.invariant.0 l) c.note_form.ensures.unfit
+
+pub note_arms-returns-in_err-at-clause-unfit : goal.note_arms-returns-in_err-at-clause-unfit
+note_arms-returns-in_err-at-clause-unfit t c =
+    let lt : c.loop-arm.arm-index < length c.args.arms.now = omega arith in
+    unlisted_handed _ _ _ c.from_residual.ensures.1 c.in_err-at.was (λ l. arming_lacks _ _ _ _ _ _ _ _ _ c.arm-item.result (split_at _ _ _ lt c.arm-item.is) c.loop-arm.invariant.0 l) c.note_block.ensures.unfit
+
+pub note_form-returns-in_err-m-in-If-clause-unfit : goal.note_form-returns-in_err-m-in-If-clause-unfit
+note_form-returns-in_err-m-in-If-clause-unfit t c =
+    let a = block_view c.in-If.then_block in
+    let b = block_view c.in-If.else_block in
+    rw (if_form _ _ _ _ c.in-If.is) (unlisted_handed _ _ _ c.from_residual-in_err-m-in-If.ensures.1 c.in_err-m-in-If.was
+    (λ l. lacks_left _ _ _ ((if passes_block a || passes_block b then a_join c.args.n ∷ [] else []) ++ noted_block (c.args.n + 1) a) _ (lacks_right _ _ _ (if passes_block a || passes_block b then a_join c.args.n ∷ [] else []) (noted_block (c.args.n + 1) a) l)) c.note_block.ensures.unfit)
+
+pub note_form-returns-in_ok-m-in-If-clause-unfit : goal.note_form-returns-in_ok-m-in-If-clause-unfit
+note_form-returns-in_ok-m-in-If-clause-unfit t c =
+    let a = block_view c.in-If.then_block in
+    let b = block_view c.in-If.else_block in
+    rw (if_form _ _ _ _ c.in-If.is) (unlisted_through _
+    (λ l. lacks_right _ _ _ ((if passes_block a || passes_block b then a_join c.args.n ∷ [] else []) ++ noted_block (c.args.n + 1) a) _ (subst (λ m. LacksNote c.args.counts.keys c.args.counts.vars c.args.kept.now (noted_block m b)) c.in_ok-m-in-If.ensures.at l)) c.note_block-in-If.ensures.unfit)

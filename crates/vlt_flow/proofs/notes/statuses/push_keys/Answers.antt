@@ -1,6 +1,6 @@
-use Rattle.std.proofs.Common.{◌<◌, refl, arith}
+use Rattle.std.proofs.Common.{◌<◌, refl, subst, arith}
 use Rattle.vlt_keyset.specs.Held.{map_of}
-use Rattle.vlt_flow.proofs.OfNotes.Pushing.{keys_first, keys_more}
+use Rattle.vlt_flow.proofs.OfNotes.Pushing.{IsGrown, keys_below, keys_first, keys_more, keys_over}
 use Rattle.vlt_flow.proofs.OfNotes.Ordering.{key_grown, keys_done}
 use Rattle.vlt_flow.proofs.notes.statuses.push_keys.Goals as goal
 
@@ -16,6 +16,9 @@ loop-key-preserved c =
 
 pub returns-then-not-has-clause-order : goal.returns-then-not-has-clause-order
 returns-then-not-has-clause-order c = λ l. keys_done _ _ _ _ (c.loop-key.invariant.1 l)
+
+pub returns-clause-status : goal.returns-clause-status
+returns-clause-status c = keys_over (map_of c.args.held.now) _ _ _ _ c.requires (subst (λ n. IsGrown c.args.pairs.now c.loop-key.pairs (keys_below (map_of c.args.held.now) n)) (omega (arith, c.loop-key-test.false)) c.loop-key.invariant.0)
 
 pub returns-clause-order : goal.returns-clause-order
 returns-clause-order c = λ l. keys_done _ _ _ _ (c.loop-key.invariant.1 l)

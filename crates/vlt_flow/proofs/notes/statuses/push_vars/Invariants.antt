@@ -7,4 +7,4 @@ use Rattle.vlt_flow.proofs.notes.statuses.push_vars.Given as goal
 abbrev pub invariant-loop-var : goal.invariant-loop-var
 invariant-loop-var l =
     IsGrown l.fn.pairs l.pairs (vars_below (map_of l.held) l.var) ×
-    (IsListedTo l.counts.keys l.counts.vars (a_var 0) l.fn.pairs → IsListedTo l.counts.keys l.counts.vars (a_var l.var) l.pairs)
+    (IsListedTo l.fn.counts.keys l.fn.counts.vars (a_var 0) l.fn.pairs → IsListedTo l.fn.counts.keys l.fn.counts.vars (a_var l.var) l.pairs)
