@@ -2,14 +2,13 @@
 //! Read `vlt_core/specs/Faults.antt` first, then `specs/Judge/Blames.antt`.
 //! Used by: the check. A refusal reports this fault, and a body without one isn't refused.
 
-ghost use Rattle.std.specs.Prelude.{◌≡◌, ◌⊎◌, IfOk, IfErr, IfSome, IsNone, None};
+ghost use Rattle.std.specs.Prelude.{◌≡◌, IfOk, IfErr, IfSome, IsNone, None};
 ghost use Rattle.vlt_core.specs.Faults.{HasFault, IsFirstIn};
 ghost use Rattle.vlt_core.specs.Local.{Notes, IsLocalIn};
 ghost use Rattle.vlt_core.specs.View.{program_of, func_of, tok_of};
 ghost use Rattle.vlt_core.specs.FaultView.{kind_of};
-ghost use Rattle.vlt_rows.specs.Unfit.{UnfitBy, HasNoFlow};
-ghost use Rattle.vlt_flow.specs.Unfit.{HasNoStart};
-ghost use Rattle.vlt_faults.specs.Judge.Faulty.{IsFitIn};
+ghost use Rattle.vlt_rows.specs.Unfit.{UnfitBy};
+ghost use Rattle.vlt_faults.specs.Judge.Faulty.{IsFitIn, IsUntold};
 
 mod blame;
 mod extent;
@@ -43,7 +42,7 @@ fn fault_of(fn_id: FnId, blame: Blame) -> FlowFault
 }
 
 /// The first fault of a function's body, if it has one. It has one where no annotation holds in it. `Unfit` where the
-/// body has no flow, or no map to begin with.
+/// body has no flow or no map to begin with, or where something in it has no number (`IsUntold`).
 pub fn fault_in(
     alloc: Global,
     p: &Program,
@@ -59,15 +58,11 @@ pub fn fault_in(
         HasFault (program_of p.now) (func_of f.now) → ⊥) }
     ensures always { IfOk result (λ x. IsNone x → IsFitIn (program_of p.now) (func_of f.now) →
         ((a : Notes) → IsLocalIn (program_of p.now) (func_of f.now) a → ⊥) → ⊥) }
-    ensures unfit { IfErr result (UnfitBy (HasNoFlow (program_of p.now) (func_of f.now) ⊎
-        HasNoStart (program_of p.now) (func_of f.now))) }
+    ensures unfit { IfErr result (UnfitBy (IsUntold (program_of p.now) (func_of f.now))) }
 {
     let flow = body_flow(alloc, p, f)?;
     let start = start_map_of(alloc, p, f)?;
-    let Ok(first) = judge(alloc, &flow, &start) else {
-        return Err(RowError::Memory);
-    };
-    match first {
+    match judge(alloc, &flow, &start)? {
         None => Ok(None),
         Some(blame) => Ok(Some(fault_of(fn_id, blame))),
     }

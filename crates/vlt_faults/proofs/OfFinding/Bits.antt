@@ -1,5 +1,5 @@
 -- Tables of single statuses by their bits.
-use Rattle.std.proofs.Common.{◌≡◌, ◌↔◌, ◌<◌, ◌≤◌, ◌+◌, ◌-◌, ◌^◌, ◌||◌, ◌&&◌, ℕ, Bool, true, false, IsTrue, bit_or, bit_and, max, min, refl, sym, ap, ◌∙◌, subst, ◌⊎◌, inl, inr, ⊎_elim, arith, rules}
+use Rattle.std.proofs.Common.{◌≡◌, ◌↔◌, ◌<◌, ◌||◌, ℕ, Bool, true, false, IsTrue, bit_or, bit_and, min, refl, sym, subst, ◌⊎◌, inl, inr, ⊎_elim, arith, rules}
 use Rattle.std.specs.Int.{bit_at}
 use Rattle.std.proofs.lemmas.Nat.Bits.{bit_at_and, bit_at-lt, bit_at_above}
 use Rattle.std.proofs.lemmas.Bool.Decides.{nat_tests}

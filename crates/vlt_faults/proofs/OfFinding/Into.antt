@@ -1,5 +1,5 @@
 -- Joins into one slot.
-use Rattle.std.proofs.Common.{◌≡◌, ◌≢◌, ◌↔◌, ◌<◌, ◌≤◌, ◌+◌, ◌-◌, ◌^◌, ℕ, Bool, true, false, IsTrue, List, [], ◌∷◌, ◌++◌, zero, suc, length, set, get_or, bit_or, refl, sym, ap, ◌∙◌, subst, ◌⊎◌, inl, inr, ⊎_elim, arith, rules, sum_by, true≢false}
+use Rattle.std.proofs.Common.{◌≡◌, ◌≢◌, ◌↔◌, ◌<◌, ◌≤◌, ◌^◌, ℕ, Bool, true, false, IsTrue, List, [], ◌∷◌, ◌++◌, zero, suc, length, set, get_or, refl, sym, ap, ◌∙◌, subst, ◌⊎◌, inl, inr, ⊎_elim, arith, rules, sum_by}
 use Rattle.std.proofs.lemmas.Bool.{cases_lt}
 use Rattle.std.proofs.lemmas.Nat.{le_or_l}
 use Rattle.vlt_base.specs.States.{is_bit}
@@ -12,7 +12,7 @@ use Rattle.std.proofs.lemmas.List.{get_or_read, get_or-set_same, get_or-set_othe
 use Rattle.std.proofs.lemmas.List.Sums.{sum_by-set}
 use Rattle.vlt_core_laws.specs.Sweep.{IntoHead, IntoExit, IsNothing}
 use Rattle.vlt_faults.proofs.OfFinding.Bits.{no_bit}
-use Rattle.vlt_faults.specs.Finding.Marks.{Marks, IsInto, IsNearer, IsSameParts, IsPut, slot, at, no_ones, stock_of, gap, IsGrown, Went}
+use Rattle.vlt_faults.specs.Finding.Marks.{Marks, IsInto, IsSameParts, IsPut, slot, at, no_ones, stock_of, IsGrown, Went}
 
 pub same_in : (a b : Ones) → IsSameParts a b → (o : One) → In (many_of a) o → In (many_of b) o
 same_in a b e one_absent h = subst IsTrue e.0 h

@@ -1,9 +1,9 @@
 -- Rows, one after another.
-use Rattle.std.proofs.Common.{◌≡◌, ◌↔◌, ◌<◌, ◌≤◌, ◌+◌, ℕ, Bool, true, false, IsTrue, List, [], ◌∷◌, map, length, drop, refl, sym, ap, ◌∙◌, subst, arith}
+use Rattle.std.proofs.Common.{◌≡◌, ◌↔◌, ◌≤◌, ◌+◌, ℕ, true, false, List, [], ◌∷◌, map, length, drop, refl, sym, ap, subst}
 use Rattle.std.proofs.lemmas.List.{drop_all}
 use Rattle.vlt_core.specs.Core.{Tok}
 use Rattle.vlt_core.specs.Maps.{Row, is_tok}
-use Rattle.vlt_core.specs.Found.{One, Ones, WantsOne, LeftBy, image_if, image, images}
+use Rattle.vlt_core.specs.Found.{One, WantsOne, LeftBy, image_if, image, images}
 use Rattle.vlt_core_laws.specs.Sweep.{Many, In, IsImage}
 use Rattle.vlt_core_laws.proofs.Smooth.{smooth_images}
 use Rattle.vlt_faults.specs.Finding.Passes.{IsMoved}

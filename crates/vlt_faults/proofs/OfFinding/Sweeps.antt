@@ -1,16 +1,16 @@
 -- Lists and arms, swept one after another.
-use Rattle.std.proofs.Common.{◌≡◌, ◌<◌, ◌≤◌, ◌+◌, ℕ, List, [], ◌∷◌, map, length, drop, drop-cons, add-one, get_or, suc, Option, Some, None, Bool, true, false, IsTrue, ◌⊎◌, ⊎_elim, sum_by, rules, refl, sym, ap, ◌∙◌, subst, arith}
+use Rattle.std.proofs.Common.{◌≡◌, ◌<◌, ◌≤◌, ◌+◌, ℕ, List, ◌∷◌, length, drop, drop-cons, add-one, get_or, suc, Option, None, true, false, IsTrue, ⊎_elim, sum_by, rules, refl, sym, ap, ◌∙◌, subst, arith}
 use Rattle.std.proofs.lemmas.List.{drop_all}
 use Rattle.vlt_core.specs.Flow as s
 use Rattle.vlt_core.specs.Core.{Tok}
 use Rattle.vlt_core.specs.Flow.{Stmts, done, next, Arms, no_arms, size, size_block, size_stmts, size_arms}
-use Rattle.vlt_core.specs.Found.{One, Ones}
+use Rattle.vlt_core.specs.Found.{Ones}
 use Rattle.vlt_rows.specs.declared.tree.FlowStmt.{FlowStmt}
 use Rattle.vlt_rows.specs.declared.tree.FlowArm.{FlowArm, out-FlowArm}
-use Rattle.vlt_rows.specs.FlowView.{stmt_view, arm_view, flow_view, block_view, arms_view, stmts_view, rows_view}
+use Rattle.vlt_rows.specs.FlowView.{flow_view, block_view, arms_view, stmts_view, rows_view}
 use Rattle.vlt_rows.proofs.Views.{stmt_parts, arm_parts}
 use Rattle.vlt_core_laws.specs.Sweep.{Many, In, Stock, IsImage, WayBy, Swept, SweptBlock, SweptStmts, SweptArms}
-use Rattle.vlt_core_laws.specs.Sweep.{IsReached, IsFoundIn, IsNothing}
+use Rattle.vlt_core_laws.specs.Sweep.{IsReached, IsFoundIn}
 use Rattle.vlt_core_laws.proofs.Sweeping.{found}
 use Rattle.vlt_faults.specs.Finding.Ones.{gap_of}
 use Rattle.vlt_faults.specs.Finding.Marks.{Marks, stock_of, at, gap, Went, HasRoom, ForLoop}

@@ -19,7 +19,7 @@ pub stmts_more : (stmts : List FlowStmt) (i : ℕ) (s : FlowStmt) (e a e' : Exte
 stmts_more stmts i s e a e' split c own z =
     let rest = stmts_view (drop (i + 1) stmts) in
     let now = subst (λ ss. CountingStmts (stmts_view stmts) ss e) (stmts_split stmts i s split) c in
-    counting_more _ _ _ _ (size_stmts rest) (spots_stmts rest) (size (flow_view s.flow)) (spots (flow_view s.flow)) _ (λ t. AvoidsStmts t (next s.at (flow_view s.flow) rest)) (λ t. Avoids t (flow_view s.flow)) (λ t. AvoidsStmts t rest) e a e' now own z refl refl (λ t p q. (p, q))
+    counting_more _ _ _ _ (size_stmts rest) (spots_stmts rest) (size (flow_view s.flow)) (spots (flow_view s.flow)) _ (λ t. AvoidsStmts t (next s.at (flow_view s.flow) rest)) (λ t. Avoids t (flow_view s.flow)) (λ t. AvoidsStmts t rest) e a e' now own z refl refl (λ t p q. (p, q)) (λ t p. p)
 
 pub stmts_end : (stmts : List FlowStmt) (i : ℕ) (e : Extent) → length stmts ≤ i → CountingStmts (stmts_view stmts) (stmts_view (drop i stmts)) e → IsExtent (size_stmts (stmts_view stmts)) (spots_stmts (stmts_view stmts)) (λ t. AvoidsStmts t (stmts_view stmts)) e
 stmts_end stmts i e past c =
@@ -35,7 +35,7 @@ arms_more arms i x e a e' split c own z =
     let rest = arms_view (drop (i + 1) arms) in
     let now = subst (λ ss. CountingArms (arms_view arms) ss e) (arms_split arms i x split) c in
     let same = length-map (out-FlowArm x).rows row_of in
-    counting_more _ _ _ _ (size_arms rest) (spots_arms rest) _ _ _ (λ t. AvoidsArms t (arm (rows_view (out-FlowArm x).rows) (block_view (out-FlowArm x).body) rest)) (λ t. AvoidsRows t (rows_view (out-FlowArm x).rows) × AvoidsBlock t (block_view (out-FlowArm x).body)) (λ t. AvoidsArms t rest) e a e' now own z (omega arith) (omega (arith, same)) (λ t p q. (p, q))
+    counting_more _ _ _ _ (size_arms rest) (spots_arms rest) _ _ _ (λ t. AvoidsArms t (arm (rows_view (out-FlowArm x).rows) (block_view (out-FlowArm x).body) rest)) (λ t. AvoidsRows t (rows_view (out-FlowArm x).rows) × AvoidsBlock t (block_view (out-FlowArm x).body)) (λ t. AvoidsArms t rest) e a e' now own z (omega arith) (omega (arith, same)) (λ t p q. (p, q)) (λ t p. p)
 
 pub arms_end : (arms : List FlowArm) (i : ℕ) (e : Extent) → length arms ≤ i → CountingArms (arms_view arms) (arms_view (drop i arms)) e → IsExtent (size_arms (arms_view arms)) (spots_arms (arms_view arms)) (λ t. AvoidsArms t (arms_view arms)) e
 arms_end arms i e past c =

@@ -1,5 +1,5 @@
 -- The first fault over more and more tokens.
-use Rattle.std.proofs.Common.{◌≡◌, ◌↔◌, ◌<◌, ◌≤◌, ◌+◌, ◌^◌, ℕ, length, Option, Some, None, IfSome, ◌⊎◌, inl, inr, ⊎_elim, refl, sym, ap, ◌∙◌, subst, arith}
+use Rattle.std.proofs.Common.{◌≡◌, ◌↔◌, ◌<◌, ◌≤◌, ◌+◌, ◌^◌, max, ℕ, length, Option, Some, None, IfSome, ◌⊎◌, inl, inr, ⊎_elim, refl, sym, ap, ◌∙◌, subst, arith}
 use Rattle.std.proofs.lemmas.Bool.{cases_lt}
 use Rattle.std.proofs.lemmas.List.{get_or_past}
 use Rattle.vlt_core.specs.Core.{Tok, a_key, a_var}
@@ -21,10 +21,12 @@ use Rattle.vlt_core.specs.FaultView.{kind_of}
 use Rattle.vlt_keyset.specs.Held.{Statuses, map_of, HasPlace}
 use Rattle.vlt_faults.specs.declared.judge.blame.Blame.{Blame}
 use Rattle.vlt_faults.specs.declared.judge.extent.Extent.{Extent}
+use Rattle.vlt_faults.specs.declared.judge.tokens.Whole.{Whole}
 use Rattle.vlt_faults.specs.Judge.Blames.{spot_of, NoLaterThan, IsEarlier, TellsUnwanted, TellsMixed, FirstOfBlock}
-use Rattle.vlt_faults.specs.Judge.Extents.{IsBeyond, AvoidsBlock, IsExtent}
+use Rattle.vlt_faults.specs.Judge.Extents.{IsBeyond, IsCount, AvoidsBlock, IsExtent}
+use Rattle.vlt_faults.specs.Judge.Faulty.{HasNoNumber, many_statements, many_spots, names_last_key, names_last_var}
 use Rattle.vlt_faults.specs.Judge.Judging.{HasRoom, FittingBlock}
-use Rattle.vlt_faults.specs.Judge.Overs.{IsTabled, IsFaulty, IsFirstOver, IsKeyBelow, IsVarBelow, IsWhole}
+use Rattle.vlt_faults.specs.Judge.Overs.{IsTabled, IsFaulty, IsFirstOver, IsKeyBelow, IsVarBelow, IsWhole, IsNumbered}
 use Rattle.vlt_faults.proofs.OfJudge.Firsts.{later_trans}
 use Rattle.vlt_faults.proofs.OfJudge.Points.{block_first_same}
 use Rattle.vlt_faults.proofs.OfJudge.Renaming.{heads_block_named, exits_block_named, spot_block_named}
@@ -157,7 +159,7 @@ fits_found t s m k f = fits_block s (λ i. In (table k.around i)) (λ i. In (tab
     (record { there = λ i o p q x. (f.around i o).0 x; back = λ i o x. (f.around i o).1 x })
     (record { there = λ i o p q x. (f.behind i o).0 x; back = λ i o x. (f.behind i o).1 x })
 
-pub room_found : (s : Block) (h : HeldMap) (e : Extent) (m : D.Ones) (k : Marks) → IsWhole s h e → length k.around ≡ size_block s → length k.behind ≡ length k.around → HasRoom k (size_block s) (spots_block s) (record { stmt = 0; spot = 0; ones = m })
+pub room_found : (s : Block) (h : HeldMap) (e : Whole) (m : D.Ones) (k : Marks) → IsWhole s h e → length k.around ≡ size_block s → length k.behind ≡ length k.around → HasRoom k (size_block s) (spots_block s) (record { stmt = 0; spot = 0; ones = m })
 room_found s h e m k w long behind = let a = w.few in let b = w.few_spots in record { fits = omega (arith, long); long = behind; few = omega (arith, long, a); numbers = omega (arith, b) }
 
 -- ---- tokens that no row names
@@ -177,7 +179,7 @@ found_named t u s S k p q f = record {
 }
 
 -- the key of the first number past all stands for each token beyond
-pub over_beyond : (s : Block) (h : HeldMap) (e : Extent) (x : Option Blame) → IsWhole s h e → IsFirstOver (λ u. u ≡ a_key e.keys) s h x → IsFirstOver (IsBeyond e.keys e.vars) s h x
+pub over_beyond : (s : Block) (h : HeldMap) (e : Whole) (x : Option Blame) → IsWhole s h e → IsFirstOver (λ u. u ≡ a_key e.keys) s h x → IsFirstOver (IsBeyond e.keys e.vars) s h x
 over_beyond s h e x w f = record {
   there = f.there;
   first = λ p u b z. later_tok x p (a_key e.keys) u (beyond_later e.keys e.vars u b) (f.first p (a_key e.keys) refl (named p u b z));
@@ -213,16 +215,50 @@ pub no_place : (h : Statuses) (t : Tok) → (HasPlace h t → ⊥) → map_of h 
 no_place h (a_key k) f = ap status_of (get_or_past h.keys k Absent (⊎_elim (λ p. absurd (f p)) (λ p. p) (cases_lt k (length h.keys))))
 no_place h (a_var v) f = ap status_of (get_or_past h.vars v Absent (⊎_elim (λ p. absurd (f p)) (λ p. p) (cases_lt v (length h.vars))))
 
-less_beyond : (keys vars more also : ℕ) (t : Tok) → keys ≤ more → vars ≤ also → IsBeyond more also t → IsBeyond keys vars t
-less_beyond keys vars more also (a_key k) p q b = omega (arith, p, b)
-less_beyond keys vars more also (a_var v) p q b = omega (arith, q, b)
+-- counts that are small, or large
+count_small : (c n : ℕ) → IsCount c n → c < 2 ^ 62 → c ≡ n
+count_small c n p lt = ⊎_elim (λ e. e) (λ l. absurd (never l.0)) p
+  where
+    never : 2 ^ 62 ≤ c → ⊥
+    never l = omega (arith, l, lt)
 
-pub whole : (s : Block) (h : Statuses) (e : Extent) (e' : Extent) → IsExtent (size_block s) (spots_block s) (λ t. AvoidsBlock t s) e → e'.stmts ≡ e.stmts → e'.spots ≡ e.spots → e.stmts < 2 ^ 62 → e.spots < 2 ^ 62 → e.keys ≤ e'.keys → e.vars ≤ e'.vars → length h.keys ≤ e'.keys → length h.vars ≤ e'.vars → IsWhole s (map_of h) e'
-whole s h e e' x same alike few less p q past beyond = record {
-  stmts = same ∙ x.stmts_are;
-  spots = alike ∙ x.spots_are;
-  few = subst (λ n. n < 2 ^ 62) x.stmts_are few;
-  few_spots = subst (λ n. n < 2 ^ 62) x.spots_are less;
-  avoids = λ t b. x.avoids t (less_beyond e.keys e.vars e'.keys e'.vars t p q b);
-  absent = λ t b. past_absent h t e'.keys e'.vars past beyond b;
-}
+count_large : (c n : ℕ) → IsCount c n → 2 ^ 62 ≤ c → 2 ^ 62 ≤ n
+count_large c n p l = ⊎_elim (λ e. subst (λ k. 2 ^ 62 ≤ k) e l) (λ q. q.1) p
+
+beyond_left : (keys vars m n : ℕ) (t : Tok) → IsBeyond (max keys m) (max vars n) t → IsBeyond keys vars t
+beyond_left keys vars m n (a_key k) b = grind (arith, b)
+beyond_left keys vars m n (a_var v) b = grind (arith, b)
+
+at_most : (n m k : ℕ) → max n m ≤ k → m ≤ k
+at_most n m k p = grind (arith, p)
+
+pub whole : (s : Block) (h : Statuses) (x : Extent) (w : Whole) → IsExtent (size_block s) (spots_block s) (λ t. AvoidsBlock t s) x → x.stmts < 2 ^ 62 → x.spots < 2 ^ 62 → w.stmts ≡ x.stmts → w.keys ≡ max x.keys (length h.keys) → w.vars ≡ max x.vars (length h.vars) → IsWhole s (map_of h) w
+whole s h x w is few less same keys vars =
+    let stmts = count_small x.stmts (size_block s) is.stmts_are few in
+    let spots = count_small x.spots (spots_block s) is.spots_are less in
+    record {
+      stmts = same ∙ stmts;
+      few = subst (λ n. n < 2 ^ 62) stmts few;
+      few_spots = subst (λ n. n < 2 ^ 62) spots less;
+      avoids = λ t b. is.avoids t (beyond_left x.keys x.vars (length h.keys) (length h.vars) t (beyond t b));
+      absent = λ t b. past_absent h t (max x.keys (length h.keys)) (max x.vars (length h.vars)) (at_most x.keys (length h.keys) _ (omega arith)) (at_most x.vars (length h.vars) _ (omega arith)) (beyond t b);
+    }
+  where
+    beyond : (t : Tok) → IsBeyond w.keys w.vars t → IsBeyond (max x.keys (length h.keys)) (max x.vars (length h.vars)) t
+    beyond t b = subst (λ n. IsBeyond (max x.keys (length h.keys)) n t) vars (subst (λ n. IsBeyond n w.vars t) keys b)
+
+-- why there is no whole extent
+pub too_many_statements : (s : Block) (x : Extent) → IsExtent (size_block s) (spots_block s) (λ t. AvoidsBlock t s) x → 2 ^ 62 ≤ x.stmts → HasNoNumber s
+too_many_statements s x is l = many_statements (count_large x.stmts (size_block s) is.stmts_are l)
+
+pub too_many_spots : (s : Block) (x : Extent) → IsExtent (size_block s) (spots_block s) (λ t. AvoidsBlock t s) x → 2 ^ 62 ≤ x.spots → HasNoNumber s
+too_many_spots s x is l = many_spots (count_large x.spots (spots_block s) is.spots_are l)
+
+past_last : (keys m : ℕ) → keys ≤ 2 ^ 32 → m < 2 ^ 32 → 2 ^ 32 ≤ max keys m → keys ≡ 2 ^ 32
+past_last keys m few less l = grind (arith, few, less, l)
+
+pub too_late_key : (s : Block) (h : Statuses) (x : Extent) → IsNumbered h → IsExtent (size_block s) (spots_block s) (λ t. AvoidsBlock t s) x → 2 ^ 32 ≤ max x.keys (length h.keys) → HasNoNumber s
+too_late_key s h x r is l = names_last_key (is.names_key (past_last x.keys (length h.keys) is.few_keys r.keys l))
+
+pub too_late_var : (s : Block) (h : Statuses) (x : Extent) → IsNumbered h → IsExtent (size_block s) (spots_block s) (λ t. AvoidsBlock t s) x → 2 ^ 32 ≤ max x.vars (length h.vars) → HasNoNumber s
+too_late_var s h x r is l = names_last_var (is.names_var (past_last x.vars (length h.vars) is.few_vars r.vars l))

@@ -1,7 +1,7 @@
 -- The tables kept.
 use Rattle.std.specs.Prelude.{◌≡◌, ◌<◌, ◌≤◌, ◌+◌, ◌^◌, ℕ, Bool, true, false, IsTrue, List, Option, Some, None, ◌⊎◌, length, slice_index_or, slice_set, sum_by}
 use Rattle.std.proofs.Common.{arith}
-use Rattle.vlt_core.specs.Found.{One, one_absent, one_held, one_lent, one_full}
+use Rattle.vlt_core.specs.Found.{One}
 use Rattle.vlt_core_laws.specs.Sweep.{Many, In, Stock}
 use Rattle.vlt_faults.specs.declared.finding.ones.Ones.{Ones}
 use Rattle.vlt_faults.specs.Finding.Ones.{many_of, gap_of}

@@ -1,7 +1,7 @@
 -- The code's tables of single statuses.
-use Rattle.std.specs.Prelude.{◌≡◌, ℕ, ◌-◌, ◌+◌, ◌^◌, Bool, true, false, IsTrue}
+use Rattle.std.specs.Prelude.{ℕ, ◌-◌, ◌+◌, ◌^◌, Bool, true, false}
 use Rattle.vlt_base.specs.States.{is_bit}
-use Rattle.vlt_core.specs.Found.{One, one_absent, one_held, one_lent, one_full}
+use Rattle.vlt_core.specs.Found.{one_absent, one_held, one_lent, one_full}
 use Rattle.vlt_core_laws.specs.Sweep.{Many}
 use Rattle.vlt_faults.specs.declared.finding.ones.Ones.{Ones}
 

@@ -1,5 +1,5 @@
 -- How much a part has, and which tokens its rows name.
-use Rattle.std.specs.Prelude.{◌≡◌, ℕ, ◌+◌, ◌≤◌, false, List, [], ◌∷◌, map}
+use Rattle.std.specs.Prelude.{◌≡◌, ℕ, ◌+◌, ◌-◌, ◌^◌, ◌≤◌, max, ◌⊎◌, false, List, [], ◌∷◌, map}
 use Rattle.vlt_core.specs.Core.{Tok, a_key, a_var}
 use Rattle.vlt_core.specs.Maps.{Row, is_tok, away_row}
 use Rattle.vlt_core.specs.Flow.{Flow, step, choose, loop, switch, scope, focus, return, jump, Block, block, Stmts, done, next, Arms, no_arms, arm}
@@ -37,14 +37,30 @@ abbrev pub IsBeyond : (keys vars : ℕ) → Tok → Type 0
 IsBeyond keys vars (a_key k) = keys ≤ k
 IsBeyond keys vars (a_var v) = vars ≤ v
 
--- so many statements, rows and joins; of each token beyond the numbers this is so
+-- the count is this number, or both are large
+abbrev pub IsCount : (count n : ℕ) → Type 0
+IsCount count n = (count ≡ n) ⊎ ((2 ^ 62 ≤ count) × (2 ^ 62 ≤ n))
+
+-- the last key, and the last variable, that has a number of 32 bits
+abbrev pub last_key : Tok
+last_key = a_key (2 ^ 32 - 1)
+
+abbrev pub last_var : Tok
+last_var = a_var (2 ^ 32 - 1)
+
+-- So many statements, rows and joins; of each token beyond the numbers A is so, and not of the last ones if these are counted.
 pub record IsExtent (stmts spots : ℕ) (A : Tok → Type 0) (e : Extent) : Type 0 where
-  pub stmts_are : e.stmts ≡ stmts
-  pub spots_are : e.spots ≡ spots
+  pub stmts_are : IsCount e.stmts stmts
+  pub spots_are : IsCount e.spots spots
+  pub few_keys : e.keys ≤ 2 ^ 32
+  pub few_vars : e.vars ≤ 2 ^ 32
   pub avoids : (t : Tok) → IsBeyond e.keys e.vars t → A t
+  pub names_key : e.keys ≡ 2 ^ 32 → A last_key → ⊥
+  pub names_var : e.vars ≡ 2 ^ 32 → A last_var → ⊥
 
 -- of two parts together
 pub record IsBoth (a b e : Extent) : Type 0 where
-  pub stmts : e.stmts ≡ a.stmts + b.stmts
-  pub spots : e.spots ≡ a.spots + b.spots
-  pub beyond : (t : Tok) → IsBeyond e.keys e.vars t → IsBeyond a.keys a.vars t × IsBeyond b.keys b.vars t
+  pub stmts : IsCount e.stmts (a.stmts + b.stmts)
+  pub spots : IsCount e.spots (a.spots + b.spots)
+  pub keys : e.keys ≡ max a.keys b.keys
+  pub vars : e.vars ≡ max a.vars b.vars

@@ -1,5 +1,5 @@
 -- The first fault of a whole body over several tokens, with the tables that show what is found of each.
-use Rattle.std.specs.Prelude.{◌≡◌, ◌<◌, ◌≤◌, ◌^◌, ℕ, Option, IfSome, length}
+use Rattle.std.specs.Prelude.{◌≡◌, ◌<◌, ◌^◌, ℕ, Option, IfSome, length}
 use Rattle.vlt_core.specs.Core.{Tok, a_key, a_var}
 use Rattle.vlt_core.specs.Maps as maps
 use Rattle.vlt_core.specs.Maps.{HeldMap}
@@ -12,7 +12,7 @@ use Rattle.vlt_core_laws.specs.Sweep.{IsFoundIn}
 use Rattle.vlt_faults.specs.Finding.Marks.{Marks, stock_of}
 use Rattle.vlt_keyset.specs.Held.{Statuses}
 use Rattle.vlt_faults.specs.declared.judge.blame.Blame.{Blame}
-use Rattle.vlt_faults.specs.declared.judge.extent.Extent.{Extent}
+use Rattle.vlt_faults.specs.declared.judge.tokens.Whole.{Whole}
 use Rattle.vlt_faults.specs.Judge.Blames.{spot_of, NoLaterThan, TellsUnwanted, TellsMixed}
 use Rattle.vlt_faults.specs.Judge.Extents.{IsBeyond, AvoidsBlock}
 
@@ -41,17 +41,14 @@ IsVarBelow n (a_key k) = ⊥
 IsVarBelow n (a_var v) = v < n
 
 -- How much the body has; what is beyond the numbers is named by no row, and absent at the start.
-pub record IsWhole (s : Block) (h : HeldMap) (e : Extent) : Type 0 where
+pub record IsWhole (s : Block) (h : HeldMap) (e : Whole) : Type 0 where
   pub stmts : e.stmts ≡ size_block s
-  pub spots : e.spots ≡ spots_block s
   pub few : size_block s < 2 ^ 62
   pub few_spots : spots_block s < 2 ^ 62
   pub avoids : (t : Tok) → IsBeyond e.keys e.vars t → AvoidsBlock t s
   pub absent : (t : Tok) → IsBeyond e.keys e.vars t → h t ≡ maps.absent
 
--- no key from the number on has a place, and no variable
-abbrev pub IsPastKeys : Statuses → ℕ → Type 0
-IsPastKeys h n = length h.keys ≤ n
-
-abbrev pub IsPastVars : Statuses → ℕ → Type 0
-IsPastVars h n = length h.vars ≤ n
+-- the number after the last place has 32 bits
+pub record IsNumbered (h : Statuses) : Type 0 where
+  pub keys : length h.keys < 2 ^ 32
+  pub vars : length h.vars < 2 ^ 32

@@ -1,6 +1,4 @@
-use Rattle.std.proofs.Common.{◌≡◌, sym, refl, ◌∙◌, arith, None}
-use Rattle.vlt_core.specs.View.{tok_of}
-use Rattle.vlt_rows.specs.FlowView.{block_view}
+use Rattle.std.proofs.Common.{sym, ◌∙◌, arith}
 use Rattle.vlt_faults.proofs.finding.found.Goals as goal
 
 pub spread-requires : goal.spread-requires

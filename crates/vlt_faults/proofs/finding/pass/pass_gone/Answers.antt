@@ -1,8 +1,8 @@
-use Rattle.std.proofs.Common.{◌<◌, ◌≤◌, length, arith}
+use Rattle.std.proofs.Common.{◌<◌, length, arith}
 use Rattle.std.proofs.lemmas.List.{get_or_default}
 use Rattle.vlt_core.specs.Maps.{away_row}
 use Rattle.vlt_core.specs.View.{tok_of}
-use Rattle.vlt_faults.proofs.OfFinding.Passing.{Going, going_more, going_ends, map_twice}
+use Rattle.vlt_faults.proofs.OfFinding.Passing.{going_more, going_ends, map_twice}
 use Rattle.vlt_faults.proofs.OfFinding.Sweeps.{split_at}
 use Rattle.vlt_faults.proofs.finding.pass.pass_gone.Goals as goal
 

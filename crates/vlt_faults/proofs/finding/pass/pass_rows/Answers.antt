@@ -1,6 +1,6 @@
-use Rattle.std.proofs.Common.{◌<◌, ◌≤◌, length, arith}
+use Rattle.std.proofs.Common.{◌<◌, length, arith}
 use Rattle.vlt_core.specs.HeldView.{row_of}
-use Rattle.vlt_faults.proofs.OfFinding.Passing.{Going, going_more, going_ends}
+use Rattle.vlt_faults.proofs.OfFinding.Passing.{going_more, going_ends}
 use Rattle.vlt_faults.proofs.OfFinding.Sweeps.{split_at}
 use Rattle.vlt_faults.proofs.finding.pass.pass_rows.Goals as goal
 

@@ -1,7 +1,3 @@
-use Rattle.std.proofs.Common.{⊎_elim, false}
-use Rattle.vlt_core.specs.Found.{One}
-use Rattle.vlt_core_laws.specs.Sweep.{In}
-use Rattle.vlt_faults.specs.Finding.Ones.{many_of}
 use Rattle.vlt_faults.proofs.OfFinding.Bits.{left_states, left_lent, left_held, some_if}
 use Rattle.vlt_faults.proofs.finding.singles.left_by.Goals as goal
 

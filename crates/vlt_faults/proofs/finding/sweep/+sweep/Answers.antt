@@ -1,13 +1,5 @@
-use Rattle.std.proofs.Common.{◌≡◌, ◌<◌, ◌≤◌, ◌+◌, length, arith, refl, sym, ap, ◌∙◌, ◌∷◌, map}
-use Rattle.vlt_core.specs.Maps.{away_row}
-use Rattle.vlt_core.specs.Flow.{size, size_block, size_stmts, size_arms, step, choose, loop, switch, focus, jump, block}
-use Rattle.vlt_core.specs.View.{tok_of}
-use Rattle.vlt_core.specs.HeldView.{toks_of}
-use Rattle.vlt_rows.specs.FlowView.{flow_view, block_view, rows_view, stmts_view, arms_view}
-use Rattle.vlt_rows.specs.declared.tree.FlowBlock.{out-FlowBlock}
-use Rattle.vlt_rows.specs.declared.tree.FlowArm.{out-FlowArm}
-use Rattle.vlt_rows.proofs.Views.{step_form, if_form, while_form, switch_form, scope_form, focus_form, return_form, jump_form, block_parts}
-use Rattle.vlt_core_laws.specs.Sweep.{Many, In, Stock, IsImage}
+use Rattle.std.proofs.Common.{◌<◌, length, arith, refl, ap}
+use Rattle.vlt_rows.proofs.Views.{step_form, if_form, while_form, switch_form, focus_form, jump_form, block_parts}
 use Rattle.vlt_faults.specs.Finding.Ones.{many_of}
 use Rattle.vlt_faults.specs.Finding.Marks.{stock_of}
 use Rattle.vlt_faults.proofs.OfFinding.Into.{head_put, exit_put}

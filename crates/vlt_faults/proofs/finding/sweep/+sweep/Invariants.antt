@@ -1,7 +1,7 @@
-use Rattle.std.proofs.Common.{ℕ, ◌+◌, ◌*◌}
+use Rattle.std.proofs.Common.{◌+◌, ◌*◌}
 use Rattle.vlt_core.specs.Flow.{size, size_block, size_stmts, size_arms}
 use Rattle.vlt_core.specs.View.{tok_of}
-use Rattle.vlt_rows.specs.FlowView.{rows_view, block_view, flow_view, stmts_view, arms_view}
+use Rattle.vlt_rows.specs.FlowView.{block_view, flow_view, stmts_view, arms_view}
 use Rattle.vlt_faults.specs.Finding.Ones.{many_of}
 use Rattle.vlt_faults.proofs.OfFinding.Sweeps.{Arming, Listing}
 use Rattle.vlt_faults.proofs.finding.sweep.+sweep.Given as goal

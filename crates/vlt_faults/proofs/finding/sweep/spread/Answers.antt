@@ -1,9 +1,7 @@
-use Rattle.std.proofs.Common.{length, ap, sym, ◌∙◌, refl, None}
+use Rattle.std.proofs.Common.{length, ap, sym, ◌∙◌}
 use Rattle.vlt_core.specs.View.{tok_of}
 use Rattle.vlt_rows.specs.FlowView.{block_view}
 use Rattle.vlt_core_laws.proofs.Sweeping.{reached}
-use Rattle.vlt_faults.specs.Finding.Ones.{many_of}
-use Rattle.vlt_faults.specs.Finding.Marks.{stock_of}
 use Rattle.vlt_faults.proofs.OfFinding.Sweeps.{room_begun, room_went, reached_begun, found_after}
 use Rattle.vlt_faults.proofs.finding.sweep.spread.Goals as goal
 

@@ -1,4 +1,4 @@
-use Rattle.std.proofs.Common.{subst, sym, false, rules}
+use Rattle.std.proofs.Common.{rules}
 use Rattle.vlt_faults.proofs.OfFinding.Into.{into_of, into_same, nearer_of, not_true}
 use Rattle.vlt_faults.proofs.finding.tables.join_into.Goals as goal
 

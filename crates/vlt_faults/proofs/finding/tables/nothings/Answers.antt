@@ -1,4 +1,4 @@
-use Rattle.std.proofs.Common.{length, arith, subst, sym, refl, ◌∷◌, []}
+use Rattle.std.proofs.Common.{arith, refl, ◌∷◌, []}
 use Rattle.std.proofs.lemmas.List.{length-append}
 use Rattle.vlt_faults.proofs.OfFinding.Into.{none_first, none_more}
 use Rattle.vlt_faults.proofs.finding.tables.nothings.Goals as goal

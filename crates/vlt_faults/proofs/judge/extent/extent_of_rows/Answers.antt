@@ -10,7 +10,7 @@ loop-row-init c = counting_first _ _ _ _ c.only-sum.ensures
 pub loop-row-preserved : goal.loop-row-preserved
 loop-row-preserved c =
     let lt : c.loop-row.row-index < length c.args.rows.now = omega arith in
-    rows_more row_of _ _ c.row-item.result _ _ _ (split_at _ _ _ lt c.row-item.is) c.loop-row.invariant c.in_ok-own.ensures c.in_ok-sum.ensures
+    rows_more row_of _ _ c.row-item.result _ _ _ (split_at _ _ _ lt c.row-item.is) c.loop-row.invariant c.extent_of_tok-own.ensures c.both-sum.ensures
 
 pub returns : goal.returns
 returns c = rows_end row_of _ _ _ (omega (arith, c.loop-row-test.false)) c.loop-row.invariant

@@ -13,7 +13,7 @@ loop-tok-init c = counting_first _ _ _ _ c.only-sum.ensures
 pub loop-tok-preserved : goal.loop-tok-preserved
 loop-tok-preserved c =
     let lt : c.loop-tok.tok-index < length c.args.toks.now = omega arith in
-    rows_more (λ t. away_row (tok_of t)) _ _ _ _ _ _ (split_at _ _ _ lt (get_or_default _ _ _ _ lt)) c.loop-tok.invariant c.in_ok-own.ensures c.in_ok-sum.ensures
+    rows_more (λ t. away_row (tok_of t)) _ _ _ _ _ _ (split_at _ _ _ lt (get_or_default _ _ _ _ lt)) c.loop-tok.invariant c.extent_of_tok-own.ensures c.both-sum.ensures
 
 pub returns : goal.returns
 returns c = rw (← map_twice away_row tok_of c.args.toks.now) (rows_end (λ t. away_row (tok_of t)) _ _ _ (omega (arith, c.loop-tok-test.false)) c.loop-tok.invariant)
