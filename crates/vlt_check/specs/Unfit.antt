@@ -2,7 +2,9 @@
 use Rattle.std.specs.Prelude.{◌≡◌, ◌≤◌, ◌^◌, ℕ, false, length, Some, slice_get, Result, Err}
 use Rattle.vlt_core.specs.Core.{Func, Program}
 use Rattle.vlt_flow.specs.Unfit as walk
+use Rattle.vlt_core.specs.Bodies.{body_flow}
 use Rattle.vlt_faults.specs.Judge.Faulty.{IsFitIn}
+pub use Rattle.vlt_faults.specs.Judge.Faulty.{HasNoNumber}
 use Rattle.vlt_check.specs.declared.program.CheckError.{CheckError}
 use Rattle.vlt_check.specs.declared.program.CheckError.TheVariants.{Unfit}
 
@@ -10,11 +12,12 @@ use Rattle.vlt_check.specs.declared.program.CheckError.TheVariants.{Unfit}
 pub record IfUnfit {A : Type 0} (r : Result A CheckError) (p : Type 0) : Type 0 where
   pub holds : r ≡ Err Unfit → p
 
--- A body can't be walked; or of one that is refused no fault can be told, since a token of it is lent outside a focus or a
--- set has no state.
+-- A body can't be walked; or of one that is refused no fault can be told, since a token of it is lent outside a focus, a set
+-- has no state, or something in it has no number.
 pub data IsUnfitBody (p : Program) (f : Func) : Type 0 where
   no_walk : walk.IsUnfit p f → IsUnfitBody p f
   no_fault : (IsFitIn p f → ⊥) → IsUnfitBody p f
+  no_number : HasNoNumber (body_flow p f) → IsUnfitBody p f
 
 pub data IsUnfit (p : Program) : Type 0 where
   -- the number after the last function has more than 32 bits

@@ -2,7 +2,7 @@ use Rattle.std.proofs.Common.{◌≡◌, ◌<◌, ◌+◌, arith, ap, length, re
 use Rattle.vlt_core.specs.View.{program_of, func_of}
 use Rattle.vlt_check.specs.Checks.{fault_of}
 use Rattle.vlt_check.specs.Tellings.{IsTold}
-use Rattle.vlt_check.proofs.Listed.{checking_first, checking_more, checking_ends, refused_at, first_at, told_on, unfit_at, unfit_on, many_at}
+use Rattle.vlt_check.proofs.Listed.{checking_first, checking_more, checking_ends, refused_at, first_at, told_on, unfit_at, unfit_on}
 use Rattle.vlt_check.proofs.program.check_funcs.Goals as goal
 
 pub loop-f-init : goal.loop-f-init
