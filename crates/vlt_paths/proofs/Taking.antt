@@ -1,5 +1,5 @@
 -- Rows that a path takes, one after another; none stops it.
-use Rattle.std.proofs.Common.{◌≡◌, ◌↔◌, ◌⊎◌, ℕ, Bool, true, false, IsTrue, rules, List, [], ◌∷◌, ◌++◌, map, Option, Some, None, Result, Ok, Err, refl, sym, subst, inl, inr}
+use Rattle.std.proofs.Common.{◌≡◌, ◌↔◌, ◌⊎◌, ℕ, Bool, true, false, IsTrue, rules, List, [], ◌∷◌, ◌++◌, map, Option, Some, None, Result, Ok, Err, refl, sym, subst, inl, inr, ◌||◌, ⊎_elim}
 use Rattle.vlt_core.specs.Core.{Tok}
 use Rattle.vlt_core.specs.Maps.{Row, Wanted, After, is_tok, away_row}
 use Rattle.vlt_core.specs.Found.{One, WantsOne, LeftBy}
@@ -49,6 +49,16 @@ row_brings old mid new w a f g q = (
   λ h. let x = (g q).0 h in let y = (f x.0).0 x.1 in (x.0, y.0, y.1, x.2),
   λ x. (g q).1 (x.0, (f x.0).1 (x.1, x.2), x.3),
 )
+
+pub either_is : (r a b : Bool) → r ≡ (a || b) → IsTrue r ↔ (IsTrue a ⊎ IsTrue b)
+either_is r a b e = subst (λ x. IsTrue x ↔ (IsTrue a ⊎ IsTrue b)) (sym e) (both a b)
+  where
+    never : IsTrue false → ⊥
+    never h = search rules
+
+    both : (a b : Bool) → IsTrue (a || b) ↔ (IsTrue a ⊎ IsTrue b)
+    both true b = (λ h. inl h, λ h. search rules)
+    both false b = (λ h. inr h, λ h. ⊎_elim (λ x. absurd (never x)) (λ y. y) h)
 
 pub own_past : (h : Hunt) (at : ℕ) (r : Row) (v : Point) (comes : Comes) (met b : Bool) → is_tok (tok_of h.tok) r.tok ≡ true → ((q : One) → Brings comes q ↔ ((o : One) × Brings v.comes o × WantsOne r.wanted o × LeftBy r.after o q)) → (IsTrue met ↔ (IsTrue v.met ⊎ IsTrue b)) → (IsTrue b ↔ MeetsRow h at r v) → Passes (sought_of h) (tok_of h.tok) at (r ∷ []) (state_of v) (record { brings = Brings comes; left = choices_of v.rest.now; met = met })
 own_past h at r v comes met b is brings meets hit = passes_own (sought_of h) (tok_of h.tok) at r (state_of v) (record { brings = Brings comes; left = choices_of v.rest.now; met = met }) b is refl brings meets hit

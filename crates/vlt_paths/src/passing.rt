@@ -1,6 +1,6 @@
 //! A path through the rows of statements, without memory.
 
-ghost use Rattle.std.specs.Prelude.{◌≡◌, ◌↔◌, ◌⊎◌, ◌∷◌, [], IsTrue, List, map};
+ghost use Rattle.std.specs.Prelude.{◌≡◌, ◌↔◌, ◌∷◌, [], IsTrue, List, map};
 ghost use Rattle.std.specs.List.{list_any};
 ghost use Rattle.std.specs.Option.{option_map};
 ghost use Rattle.vlt_core.specs.Maps as maps;
@@ -17,7 +17,7 @@ ghost use Rattle.vlt_paths.specs.Taken.{IsTaken};
 use crate::comes::{Leaves, Wants};
 use crate::numbers::Numbers;
 use crate::point::{Hunt, Point};
-use vlt_base::VarId;
+use vlt_base::{VarId, either};
 use vlt_core::{Expr, Form, Func, Operand, Program, Row, Tok};
 use vlt_rows::{
     RowError, RowSink, WideRow, give_arm, give_expr, give_focus, give_focus_end, give_form,
@@ -57,12 +57,6 @@ impl Hunt {
         }
         point.comes.is_refused(wants)
     }
-}
-
-fn either(a: bool, b: bool) -> bool
-    ensures { IsTrue result ↔ (IsTrue a ⊎ IsTrue b) }
-{
-    a || b
 }
 
 impl<'a> Passing<'a> {
