@@ -45,6 +45,38 @@ fn join_into(slot: &mut Option<Held>, held: Held) -> Result<(), Halt>
     }
 }
 
+/// Unites a map with what came before, and copies it where nothing did.
+fn join_copy_into(alloc: Global, slot: &mut Option<Held>, held: &Held) -> Result<(), Halt>
+    ensures ok { OnOk result (IsInto slot.old held.now slot.new) }
+    ensures refused { IfHalted result ((m : HeldMap) → Above slot.old m →
+        IsBelow (map_of held.now) m → ⊥) }
+{
+    match slot {
+        None => {
+            *slot = Some(held.copy(alloc)?);
+            Ok(())
+        }
+        Some(old) => {
+            let _grew = old.join(held)?;
+            Ok(())
+        }
+    }
+}
+
+/// Unites a map with the one kept behind the loop n; it is copied where none is kept yet.
+pub fn join_copy_behind(alloc: Global, kept: &mut Kept, n: usize, held: &Held) -> Result<(), Halt>
+    requires { n < length kept.old.behind }
+    ensures long { length kept.new.behind ≡ length kept.old.behind }
+    ensures into { OnOk result (IsInto (slot kept.old.behind n) held.now (slot kept.new.behind n)) }
+    ensures others { (i : ℕ) → i ≢ n →
+        slot kept.new.behind i ≡ slot kept.old.behind i }
+    ensures around { kept.new.around ≡ kept.old.around }
+    ensures refused { IfHalted result ((m : HeldMap) → Above (slot kept.old.behind n) m →
+        IsBelow (map_of held.now) m → ⊥) }
+{
+    join_copy_into(alloc, &mut kept.behind[n], held)
+}
+
 fn copy_in(alloc: Global, slot: &Option<Held>) -> Result<Held, Memory>
     requires { IsSome slot.now }
     ensures { IfOk result (λ h. slot.now ≡ Some h) }

@@ -11,7 +11,7 @@ ghost use Rattle.vlt_flow.specs.Walks.{IfHalted, Passes, slot, HasRoom, IsWalked
 
 use crate::count::count_form;
 use crate::errors::Halt;
-use crate::kept::{Kept, copy_around, copy_behind};
+use crate::kept::{Kept, copy_around, copy_behind, join_copy_behind};
 use crate::pass::{pass_gone, pass_rows};
 use std::alloc::Global;
 use vlt_base::either;
@@ -309,7 +309,7 @@ fn walk_turn(
         (block_view body.now) n kept.old) }
 {
     let inside = pass(before.copy(alloc)?, rows)?;
-    kept.join_behind(n, inside.copy(alloc)?)?;
+    join_copy_behind(alloc, kept, n, &inside)?;
     let Walked { held, at } = walk_block(alloc, kept, body, Some(n), n + 1, inside)?;
     match held {
         None => Ok(at),

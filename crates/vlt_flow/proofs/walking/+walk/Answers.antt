@@ -118,39 +118,39 @@ walk_turn-returns-in_err-inside-clause-refused t c =
     let never = rw c.in_ok-copy.ensures at c.pass.ensures.refused in
     handed _ _ _ c.from_residual-in_err-inside.ensures.1 c.in_err-inside.was (turn_rows_none _ _ _ _ _ c.requires.before) never
 
-pub walk_turn-returns-in_err-join_behind-clause-refused : goal.walk_turn-returns-in_err-join_behind-clause-refused
-walk_turn-returns-in_err-join_behind-clause-refused t c =
+pub walk_turn-returns-in_err-join_copy_behind-clause-refused : goal.walk_turn-returns-in_err-join_copy_behind-clause-refused
+walk_turn-returns-in_err-join_copy_behind-clause-refused t c =
     let pass = rw c.in_ok-copy.ensures at c.in_ok-inside.ensures.ok in
-    let never = rw c.in_ok-copy-2.ensures at c.join_behind.ensures.refused in
-    handed _ _ _ c.from_residual-in_err-join_behind.ensures.1 c.in_err-join_behind.was (turn_exit_none _ _ _ _ _ _ c.requires.before pass) never
+    let never = c.join_copy_behind.ensures.refused in
+    handed _ _ _ c.from_residual-in_err-join_copy_behind.ensures.1 c.in_err-join_copy_behind.was (turn_exit_none _ _ _ _ _ _ c.requires.before pass) never
 
 pub walk_turn-returns-in_err-held-clause-refused : goal.walk_turn-returns-in_err-held-clause-refused
 walk_turn-returns-in_err-held-clause-refused t c =
     let pass = rw c.in_ok-copy.ensures at c.in_ok-inside.ensures.ok in
-    let f = c.in_ok-join_behind.ensures in
-    let into = rw c.in_ok-copy-2.ensures at f.into in
+    let f = c.in_ok-join_copy_behind.ensures in
+    let into = f.into in
     handed _ _ _ c.from_residual-in_err-held.ensures.1 c.in_err-held.was (turn_body_none _ _ _ _ _ _ _ c.requires.before pass (record { long = f.long; into = into; others = f.others; around = f.around })) c.walk_block.ensures.refused
 
 pub walk_turn-walk_block-requires : goal.walk_turn-walk_block-requires
 walk_turn-walk_block-requires t c =
     let pass = rw c.in_ok-copy.ensures at c.in_ok-inside.ensures.ok in
-    let f = c.in_ok-join_behind.ensures in
-    let into = rw c.in_ok-copy-2.ensures at f.into in
+    let f = c.in_ok-join_copy_behind.ensures in
+    let into = f.into in
     (omega (arith, c.decreases), room_inside _ _ _ _ _ _ c.requires.room (omega arith) c.requires.before (record { long = f.long; into = into; others = f.others; around = f.around }))
 
 pub walk_turn-returns-in_err-join_around-in-Some-clause-refused : goal.walk_turn-returns-in_err-join_around-in-Some-clause-refused
 walk_turn-returns-in_err-join_around-in-Some-clause-refused t c =
     let pass = rw c.in_ok-copy.ensures at c.in_ok-inside.ensures.ok in
-    let f = c.in_ok-join_behind.ensures in
-    let into = rw c.in_ok-copy-2.ensures at f.into in
+    let f = c.in_ok-join_copy_behind.ensures in
+    let into = f.into in
     let w = rw c.in-Some.is at c.in_ok-held.ensures.ok in
     handed _ _ _ c.from_residual-in_err-join_around-in-Some.ensures.1 c.in_err-join_around-in-Some.was (turn_back_none _ _ _ _ _ _ _ _ _ _ c.requires.before pass (record { long = f.long; into = into; others = f.others; around = f.around }) w) c.join_around.ensures.refused
 
 pub walk_turn-returns-in_ok-join_around-in-Some-clause-ok : goal.walk_turn-returns-in_ok-join_around-in-Some-clause-ok
 walk_turn-returns-in_ok-join_around-in-Some-clause-ok t c =
     let pass = rw c.in_ok-copy.ensures at c.in_ok-inside.ensures.ok in
-    let f = c.in_ok-join_behind.ensures in
-    let into = rw c.in_ok-copy-2.ensures at f.into in
+    let f = c.in_ok-join_copy_behind.ensures in
+    let into = f.into in
     let w = rw c.in-Some.is at c.in_ok-held.ensures.ok in
     let g = c.in_ok-join_around-in-Some.ensures in
     turn_some _ _ _ _ _ _ _ _ _ _ c.requires.room c.requires.before pass (record { long = f.long; into = into; others = f.others; around = f.around }) w (record { long = g.long; into = g.into; others = g.others; behind = g.behind })
@@ -158,8 +158,8 @@ walk_turn-returns-in_ok-join_around-in-Some-clause-ok t c =
 pub walk_turn-returns-in-None-clause-ok : goal.walk_turn-returns-in-None-clause-ok
 walk_turn-returns-in-None-clause-ok t c =
     let pass = rw c.in_ok-copy.ensures at c.in_ok-inside.ensures.ok in
-    let f = c.in_ok-join_behind.ensures in
-    let into = rw c.in_ok-copy-2.ensures at f.into in
+    let f = c.in_ok-join_copy_behind.ensures in
+    let into = f.into in
     turn_none _ _ _ _ _ _ _ _ _ c.requires.before pass (record { long = f.long; into = into; others = f.others; around = f.around }) (rw c.in-None.is at c.in_ok-held.ensures.ok)
 
 pub walk_turns-loop-before-init : goal.walk_turns-loop-before-init
