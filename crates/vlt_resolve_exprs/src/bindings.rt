@@ -117,8 +117,7 @@ fn add_each<'a>(
     ensures numbers { IfOk result (λ vs. vars_of vs
         ≡ b.numbers_from (length scope.old.vars) (tree.names_of names.now) (map ty_of types.now)) }
 {
-    let vars = add_new_vars(alloc, kinds, scope, names, types, found)?;
-    Ok(vars)
+    add_new_vars(alloc, kinds, scope, names, types, found)
 }
 
 /// Binds variables of these types, where there are as many; else the place is refused.
@@ -142,8 +141,7 @@ pub fn add_several<'a>(
         (map ty_of types.now)) }
 {
     if types.len() == names.len() {
-        let vars = add_each(alloc, kinds, scope, names, types, found)?;
-        Ok(vars)
+        add_each(alloc, kinds, scope, names, types, found)
     } else {
         found.add(WRONG_COUNT, at);
         Ok(Items::new(alloc))

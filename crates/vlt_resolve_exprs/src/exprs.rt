@@ -13,6 +13,7 @@ ghost use Rattle.vlt_resolve_exprs.specs.Refused.{unknown_name};
 ghost use Rattle.vlt_resolve_exprs.specs.Scopes as s;
 ghost use Rattle.vlt_resolve_exprs.specs.Seen.{object_seen, scope_seen};
 ghost use Rattle.vlt_resolve_exprs.specs.Least.{found_in};
+ghost use Rattle.vlt_resolve_exprs.specs.Types.{then_with};
 
 use crate::scope::Scope;
 use crate::types::{copy_ty, is_owning, lies_within, same_ty, ty_under};
@@ -209,19 +210,11 @@ fn object_type(ty: Option<&Ty>) -> TypeId
     }
 }
 
-/// The number of a field. An unknown one is 0.
-#[tactic(auto, unfolding(crate::specs::Exprs::field_number))]
-pub fn field_number(
-    kinds: &Kinds<'_>,
-    scope: &Scope<'_>,
-    base: &Name,
-    field: &Name,
-) -> Result<u32, AllocError>
-    ensures { IfOk result (λ n. n
-        ≡ e.field_number (kinds_seen kinds.now) (scope_seen scope.now) (tree.name_of base.now)
-        (tree.name_of field.now)) }
+/// The number of a field of this type. An unknown one is 0.
+fn number_in(kinds: &Kinds<'_>, t: TypeId, field: &Name) -> Result<u32, AllocError>
+    ensures { IfOk result (λ n. n ≡ e.number_of
+        (e.field_position (kinds_seen kinds.now) t.0 (tree.name_of field.now))) }
 {
-    let t = object_type(scope.var_ty(base.text.as_slice()));
     let number = match field_position(kinds, t, field) {
         Some(i) => i,
         None => 0,
@@ -232,15 +225,41 @@ pub fn field_number(
     }
 }
 
+/// The number of a variable that was looked up. An unknown one is 0.
+pub fn known_or_first(v: Option<VarId>) -> VarId
+    ensures { result.0 ≡ e.number_of (option_map (λ v. v.0) v) }
+{
+    match v {
+        Some(v) => v,
+        None => VarId(0),
+    }
+}
+
 /// The number of a variable. An unknown one is 0.
 #[tactic(auto, unfolding(crate::specs::Exprs::var_number))]
 pub fn var_number(scope: &Scope<'_>, name: &Name) -> VarId
     ensures { result.0 ≡ e.var_number (scope_seen scope.now) (tree.name_of name.now) }
 {
-    match scope.var_named(name.text.as_slice()) {
-        Some(v) => v,
-        None => VarId(0),
-    }
+    known_or_first(scope.var_named(name.text.as_slice()))
+}
+
+/// The number of a variable, and that of its field. Unknown ones are 0.
+#[tactic(auto, unfolding(crate::specs::Exprs::var_number, crate::specs::Exprs::field_number, crate::specs::Scopes::var_ty))]
+pub fn field_at(
+    kinds: &Kinds<'_>,
+    scope: &Scope<'_>,
+    base: &Name,
+    field: &Name,
+) -> Result<(VarId, u32), AllocError>
+    ensures variable { IfOk result (λ p. p.0.0
+        ≡ e.var_number (scope_seen scope.now) (tree.name_of base.now)) }
+    ensures field { IfOk result (λ p. p.1
+        ≡ e.field_number (kinds_seen kinds.now) (scope_seen scope.now) (tree.name_of base.now)
+        (tree.name_of field.now)) }
+{
+    let v = scope.var_named(base.text.as_slice());
+    let number = number_in(kinds, object_type(scope.ty_at(v)), field)?;
+    Ok((known_or_first(v), number))
 }
 
 /// What an expression becomes.
@@ -259,19 +278,22 @@ pub fn core_expr(
         Expr::False(_) => Ok(vlt_core::Expr::Bool(false)),
         Expr::Variable(name) => Ok(vlt_core::Expr::Var(var_number(scope, name))),
         Expr::Field { base, field } => {
-            let number = field_number(kinds, scope, base, field)?;
-            Ok(vlt_core::Expr::Field(var_number(scope, base), number))
+            let (x, number) = field_at(kinds, scope, base, field)?;
+            Ok(vlt_core::Expr::Field(x, number))
         }
         Expr::Group(inner, _) => core_expr(alloc, kinds, scope, inner.get()),
         Expr::Unary { op, operand, .. } => {
             let a = core_expr(alloc, kinds, scope, operand.get())?;
-            Ok(vlt_core::Expr::Un(*op, Boxed::new(alloc, a)?))
+            let a = Boxed::new(alloc, a)?;
+            Ok(vlt_core::Expr::Un(*op, a))
         }
         Expr::Binary { op, operands, .. } => {
             let Operands { left, right } = operands.get();
             let a = core_expr(alloc, kinds, scope, left)?;
+            let a = Boxed::new(alloc, a)?;
             let b = core_expr(alloc, kinds, scope, right)?;
-            Ok(vlt_core::Expr::Bin(*op, Boxed::new(alloc, a)?, Boxed::new(alloc, b)?))
+            let b = Boxed::new(alloc, b)?;
+            Ok(vlt_core::Expr::Bin(*op, a, b))
         }
     }
 }
@@ -351,6 +373,27 @@ pub fn check_known(scope: &Scope<'_>, name: &Name, found: &mut LeastRefusal)
     }
 }
 
+/// Refuses a name that no variable in scope has, and gives the type of the one that has it.
+#[tactic(auto, unfolding(crate::specs::Refused::unknown_name, crate::specs::Scopes::var_ty))]
+fn check_variable(
+    alloc: Global,
+    scope: &Scope<'_>,
+    name: &Name,
+    found: &mut LeastRefusal,
+) -> Result<Option<Ty>, AllocError>
+    ensures refused { OnOk result (found.new.least ≡ least_from found.old.least
+        (unknown_name (s.var_named (scope_seen scope.now) (tree.name_of name.now).text)
+        (tree.name_of name.now))) }
+    ensures gives { IfOk result (λ t. option_map ty_of t
+        ≡ s.var_ty (scope_seen scope.now) (tree.name_of name.now).text) }
+{
+    let v = scope.var_named(name.text.as_slice());
+    if v.is_none() {
+        found.add(UNKNOWN_NAME, name.at.from);
+    }
+    copied(alloc, scope.ty_at(v))
+}
+
 #[tactic(auto, unfolding(crate::specs::Exprs::guard_refused))]
 fn check_guard(
     guarded: bool,
@@ -421,160 +464,118 @@ fn check_named(
     }
 }
 
+#[tactic(auto, unfolding(crate::specs::Exprs::object_field_ty))]
 fn check_object(
+    alloc: Global,
     kinds: &Kinds<'_>,
     object: Option<Object<'_>>,
     base: &Name,
     field: &Name,
     found: &mut LeastRefusal,
-)
-    ensures { found.new.least ≡ least_from found.old.least
+) -> Result<Option<Ty>, AllocError>
+    ensures refused { OnOk result (found.new.least ≡ least_from found.old.least
         (e.object_refused (kinds_seen kinds.now) (option_map object_seen object.entry)
-        (tree.name_of base.now) (tree.name_of field.now)) }
+        (tree.name_of base.now) (tree.name_of field.now))) }
+    ensures gives { IfOk result (λ t. option_map ty_of t
+        ≡ then_with (option_map object_seen object.entry)
+        (λ o. e.object_field_ty (kinds_seen kinds.now) o (tree.name_of field.now))) }
 {
     match object {
-        None => found.add(WRONG_TYPE, base.at.from),
-        Some(object) => check_named(
-            object.guarded,
-            kinds.types.get(object.type_id.0 as usize),
-            field_named(kinds, object.type_id, field),
-            base,
-            field,
-            found,
-        ),
+        None => {
+            found.add(WRONG_TYPE, base.at.from);
+            Ok(None)
+        }
+        Some(object) => {
+            let decl = field_named(kinds, object.type_id, field);
+            let of = kinds.types.get(object.type_id.0 as usize);
+            check_named(object.guarded, of, decl, base, field, found);
+            value_ty(alloc, object.args, decl)
+        }
     }
 }
 
-/// What is refused where a field is read or assigned.
-#[tactic(auto, unfolding(crate::specs::Exprs::field_refused))]
+/// What is refused where a field is read or assigned, and its type where it may be.
+#[tactic(auto, unfolding(crate::specs::Exprs::field_refused, crate::specs::Exprs::field_ty))]
 pub fn check_field(
+    alloc: Global,
     kinds: &Kinds<'_>,
     scope: &Scope<'_>,
     base: &Name,
     field: &Name,
     found: &mut LeastRefusal,
-)
-    ensures { found.new.least ≡ least_from found.old.least
+) -> Result<Option<Ty>, AllocError>
+    ensures refused { OnOk result (found.new.least ≡ least_from found.old.least
         (e.field_refused (kinds_seen kinds.now) (scope_seen scope.now) (tree.name_of base.now)
+        (tree.name_of field.now))) }
+    ensures gives { IfOk result (λ t. option_map ty_of t
+        ≡ e.field_ty (kinds_seen kinds.now) (scope_seen scope.now) (tree.name_of base.now)
         (tree.name_of field.now)) }
 {
     match scope.var_ty(base.text.as_slice()) {
-        None => found.add(UNKNOWN_NAME, base.at.from),
-        Some(ty) => check_object(kinds, object_in(ty), base, field, found),
+        None => {
+            found.add(UNKNOWN_NAME, base.at.from);
+            Ok(None)
+        }
+        Some(ty) => check_object(alloc, kinds, object_in(ty), base, field, found),
     }
 }
 
-/// Refuses an expression whose type isn't the wanted one.
-fn check_given(
-    alloc: Global,
-    kinds: &Kinds<'_>,
-    scope: &Scope<'_>,
-    wanted: &Option<Ty>,
-    expr: &Expr,
-    found: &mut LeastRefusal,
-) -> Result<(), AllocError>
-    ensures { OnOk result (found.new.least ≡ least_from found.old.least
-        (e.unfit (option_map ty_of wanted.now)
-        (e.type_of (kinds_seen kinds.now) (scope_seen scope.now) (tree.expr_of expr.now))
-        (e.expr_place (tree.expr_of expr.now)))) }
-{
-    let given = type_of(alloc, kinds, scope, expr)?;
-    check_fit(wanted, &given, place(expr), found);
-    Ok(())
-}
-
-fn check_unary_given(
-    alloc: Global,
-    kinds: &Kinds<'_>,
-    scope: &Scope<'_>,
-    op: Op,
-    operand: &Expr,
-    found: &mut LeastRefusal,
-) -> Result<(), AllocError>
-    ensures { OnOk result (found.new.least ≡ least_from found.old.least
-        (e.unfit (Some (e.type_given op))
-        (e.type_of (kinds_seen kinds.now) (scope_seen scope.now) (tree.expr_of operand.now))
-        (e.expr_place (tree.expr_of operand.now)))) }
+/// Refuses an operand whose type, which is given, the operator doesn't take.
+fn check_unary_given(op: Op, operand: &Expr, given: Option<Ty>, found: &mut LeastRefusal)
+    ensures { found.new.least ≡ least_from found.old.least
+        (e.unfit (Some (e.type_given op)) (option_map ty_of given)
+        (e.expr_place (tree.expr_of operand.now))) }
 {
     let wanted = Some(type_given(op));
-    check_given(alloc, kinds, scope, &wanted, operand, found)?;
-    Ok(())
+    check_fit(&wanted, &given, place(operand), found);
 }
 
-fn check_left_given(
-    alloc: Global,
-    kinds: &Kinds<'_>,
-    scope: &Scope<'_>,
-    op: Op,
-    left: &Expr,
-    found: &mut LeastRefusal,
-) -> Result<(), AllocError>
-    ensures { OnOk result (found.new.least ≡ least_from found.old.least
-        (e.left_refused (row_of op).takes
-        (e.type_of (kinds_seen kinds.now) (scope_seen scope.now) (tree.expr_of left.now))
-        (e.expr_place (tree.expr_of left.now)))) }
+/// Refuses a first operand whose type, which is given, the operator doesn't take, and gives what is wanted of the second.
+fn check_left_given(op: Op, left: &Expr, given: Option<Ty>, found: &mut LeastRefusal) -> Option<Ty>
+    ensures refused { found.new.least ≡ least_from found.old.least
+        (e.left_refused (row_of op).takes (option_map ty_of given)
+        (e.expr_place (tree.expr_of left.now))) }
+    ensures wanted { option_map ty_of result
+        ≡ e.operand_wanted (row_of op).takes (option_map ty_of given) }
 {
-    let given = type_of(alloc, kinds, scope, left)?;
-    check_left(row(op).takes, &given, place(left), found);
-    Ok(())
+    let takes = row(op).takes;
+    check_left(takes, &given, place(left), found);
+    taken(takes, &given)
 }
 
-fn check_right_given(
-    alloc: Global,
-    kinds: &Kinds<'_>,
-    scope: &Scope<'_>,
-    op: Op,
-    left: &Expr,
-    right: &Expr,
-    found: &mut LeastRefusal,
-) -> Result<(), AllocError>
-    ensures { OnOk result (found.new.least ≡ least_from found.old.least
-        (e.unfit (e.operand_wanted (row_of op).takes
-        (e.type_of (kinds_seen kinds.now) (scope_seen scope.now) (tree.expr_of left.now)))
-        (e.type_of (kinds_seen kinds.now) (scope_seen scope.now) (tree.expr_of right.now))
-        (e.expr_place (tree.expr_of right.now)))) }
-{
-    let given = type_of(alloc, kinds, scope, left)?;
-    let wanted = taken(row(op).takes, &given);
-    check_given(alloc, kinds, scope, &wanted, right, found)?;
-    Ok(())
-}
-
-/// What is refused in an expression.
+/// What is refused in an expression, and its type as far as names are known.
+#[tactic(auto, unfolding(crate::specs::Exprs::type_of))]
 pub fn check_expr(
     alloc: Global,
     kinds: &Kinds<'_>,
     scope: &Scope<'_>,
     expr: &Expr,
     found: &mut LeastRefusal,
-) -> Result<(), AllocError>
-    ensures { OnOk result (found.new.least
+) -> Result<Option<Ty>, AllocError>
+    ensures refused { OnOk result (found.new.least
         ≡ found_in (kinds_seen kinds.now) (scope_seen scope.now)
         (tree.expr_of expr.now) found.old.least) }
+    ensures gives { IfOk result (λ t. option_map ty_of t
+        ≡ e.type_of (kinds_seen kinds.now) (scope_seen scope.now) (tree.expr_of expr.now)) }
 {
     match expr {
-        Expr::Number(..) | Expr::True(_) | Expr::False(_) => Ok(()),
-        Expr::Variable(name) => {
-            check_known(scope, name, found);
-            Ok(())
-        }
-        Expr::Field { base, field } => {
-            check_field(kinds, scope, base, field, found);
-            Ok(())
-        }
+        Expr::Number(..) => Ok(Some(Ty::Int)),
+        Expr::True(_) | Expr::False(_) => Ok(Some(Ty::Bool)),
+        Expr::Variable(name) => check_variable(alloc, scope, name, found),
+        Expr::Field { base, field } => check_field(alloc, kinds, scope, base, field, found),
         Expr::Group(inner, _) => check_expr(alloc, kinds, scope, inner.get(), found),
         Expr::Unary { op, operand, .. } => {
-            check_expr(alloc, kinds, scope, operand.get(), found)?;
-            check_unary_given(alloc, kinds, scope, *op, operand.get(), found)?;
-            Ok(())
+            let given = check_expr(alloc, kinds, scope, operand.get(), found)?;
+            check_unary_given(*op, operand.get(), given, found);
+            Ok(Some(type_given(*op)))
         }
         Expr::Binary { op, operands, .. } => {
             let Operands { left, right } = operands.get();
-            check_expr(alloc, kinds, scope, left, found)?;
-            check_left_given(alloc, kinds, scope, *op, left, found)?;
-            check_expr(alloc, kinds, scope, right, found)?;
-            check_right_given(alloc, kinds, scope, *op, left, right, found)?;
-            Ok(())
+            let given = check_expr(alloc, kinds, scope, left, found)?;
+            let wanted = check_left_given(*op, left, given, found);
+            let behind = check_expr(alloc, kinds, scope, right, found)?;
+            check_fit(&wanted, &behind, place(right), found);
+            Ok(Some(type_given(*op)))
         }
     }
 }
@@ -593,12 +594,12 @@ pub fn check_wanted(
         (e.wanted_refused (kinds_seen kinds.now) (scope_seen scope.now)
         (option_map ty_of wanted.now) (tree.expr_of expr.now))) }
 {
-    check_expr(alloc, kinds, scope, expr, found)?;
-    check_given(alloc, kinds, scope, wanted, expr, found)?;
+    let given = check_expr(alloc, kinds, scope, expr, found)?;
+    check_fit(wanted, &given, place(expr), found);
     Ok(())
 }
 
-/// What is refused in an expression of any type.
+/// What is refused in an expression of any type, and its type as far as names are known.
 #[tactic(auto, using(crate::proofs::Operators::found_is))]
 pub fn check_any(
     alloc: Global,
@@ -606,10 +607,11 @@ pub fn check_any(
     scope: &Scope<'_>,
     expr: &Expr,
     found: &mut LeastRefusal,
-) -> Result<(), AllocError>
-    ensures { OnOk result (found.new.least ≡ least_from found.old.least
+) -> Result<Option<Ty>, AllocError>
+    ensures refused { OnOk result (found.new.least ≡ least_from found.old.least
         (e.expr_refused (kinds_seen kinds.now) (scope_seen scope.now) (tree.expr_of expr.now))) }
+    ensures gives { IfOk result (λ t. option_map ty_of t
+        ≡ e.type_of (kinds_seen kinds.now) (scope_seen scope.now) (tree.expr_of expr.now)) }
 {
-    check_expr(alloc, kinds, scope, expr, found)?;
-    Ok(())
+    check_expr(alloc, kinds, scope, expr, found)
 }

@@ -14,12 +14,10 @@ pub use bindings::{
     add_several, check_new_key, check_new_var, check_too_many_keys, check_too_many_vars,
 };
 pub use exprs::{
-    Object, check_any, check_field, check_known, check_wanted, core_expr, field_named,
-    field_number, field_ty, fields_of, object_in, place, type_of, var_number,
+    Object, check_any, check_field, check_known, check_wanted, copied, core_expr, field_at,
+    field_named, fields_of, known_or_first, object_in, place, type_of, var_number,
 };
-pub use operands::{
-    check_operand, check_operands, core_operand, core_operands, operand_for, variable_in,
-};
+pub use operands::{check_operand, check_operands, core_operand, core_operands, core_variable};
 pub use scope::{Outer, Scope};
 pub use types::{
     copy_ty, is_owning, is_struct, is_variant, lies_within, same_keys, same_object, same_ty, takes,

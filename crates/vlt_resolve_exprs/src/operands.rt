@@ -6,6 +6,7 @@ ghost use Rattle.vlt_syntax.specs.View as tree;
 ghost use Rattle.vlt_core.specs.View.{ty_of, expr_of, operand_of};
 ghost use Rattle.vlt_kinds_types.specs.Names.Refusals.{least_from};
 ghost use Rattle.vlt_kinds.specs.Seen.{kinds_seen};
+ghost use Rattle.vlt_resolve_exprs.specs.Exprs as e;
 ghost use Rattle.vlt_resolve_exprs.specs.Least.{operands_found};
 ghost use Rattle.vlt_resolve_exprs.specs.Operands as o;
 ghost use Rattle.vlt_resolve_exprs.specs.Seen.{scope_seen};
@@ -48,8 +49,7 @@ pub fn check_operand(
         (o.operand_refused (kinds_seen kinds.now) (scope_seen scope.now) (ty_of wanted.now)
         (tree.expr_of expr.now))) }
 {
-    check_any(alloc, kinds, scope, expr, found)?;
-    let given = type_of(alloc, kinds, scope, expr)?;
+    let given = check_any(alloc, kinds, scope, expr, found)?;
     check_misfit(wanted, &given, place(expr), found);
     Ok(())
 }
@@ -88,12 +88,11 @@ pub fn check_operands(
         (o.operands_refused (kinds_seen kinds.now) (scope_seen scope.now) (map ty_of wanted.now)
         (map tree.expr_of exprs.now))) }
 {
-    check_each_operand(alloc, kinds, scope, wanted, exprs, found)?;
-    Ok(())
+    check_each_operand(alloc, kinds, scope, wanted, exprs, found)
 }
 
 /// The variable that an expression is.
-pub fn variable_in(expr: &vlt_core::Expr) -> VarId
+fn variable_in(expr: &vlt_core::Expr) -> VarId
     ensures { result.0 ≡ o.variable_in (expr_of expr.now) }
 {
     match expr {
@@ -112,21 +111,22 @@ fn object_operand(states: StateSet, got: &Option<Ty>, v: VarId) -> Operand
     }
 }
 
-/// An expression of one type, for a target of another that takes it.
-#[tactic(auto, unfolding(crate::specs::Operands::operand_for))]
-pub fn operand_for(wanted: &Ty, got: &Option<Ty>, expr: vlt_core::Expr) -> Operand
-    ensures { operand_of result ≡ o.operand_for (ty_of wanted.now) (option_map ty_of got.now)
-        (expr_of expr) }
+/// The variable that an expression becomes.
+pub fn core_variable(
+    alloc: Global,
+    kinds: &Kinds<'_>,
+    scope: &Scope<'_>,
+    expr: &Expr,
+) -> Result<VarId, AllocError>
+    ensures { IfOk result (λ v. v.0 ≡ o.variable_in
+        (e.core_expr (kinds_seen kinds.now) (scope_seen scope.now) (tree.expr_of expr.now))) }
 {
-    match wanted {
-        Ty::Own(states, ..) => object_operand(*states, got, variable_in(&expr)),
-        Ty::OwnVar(..) => Operand::Move(variable_in(&expr)),
-        _ => Operand::Pure(expr),
-    }
+    let made = core_expr(alloc, kinds, scope, expr)?;
+    Ok(variable_in(&made))
 }
 
-/// What an operand becomes.
-#[tactic(auto, unfolding(crate::specs::Operands::core_operand))]
+/// What an operand becomes. Its own type counts only for an owning target.
+#[tactic(auto, unfolding(crate::specs::Operands::core_operand, crate::specs::Operands::operand_for))]
 pub fn core_operand(
     alloc: Global,
     kinds: &Kinds<'_>,
@@ -138,9 +138,21 @@ pub fn core_operand(
         ≡ o.core_operand (kinds_seen kinds.now) (scope_seen scope.now) (ty_of wanted.now)
         (tree.expr_of expr.now)) }
 {
-    let got = type_of(alloc, kinds, scope, expr)?;
-    let made = core_expr(alloc, kinds, scope, expr)?;
-    Ok(operand_for(wanted, &got, made))
+    match wanted {
+        Ty::Own(states, ..) => {
+            let v = core_variable(alloc, kinds, scope, expr)?;
+            let got = type_of(alloc, kinds, scope, expr)?;
+            Ok(object_operand(*states, &got, v))
+        }
+        Ty::OwnVar(..) => {
+            let v = core_variable(alloc, kinds, scope, expr)?;
+            Ok(Operand::Move(v))
+        }
+        _ => {
+            let made = core_expr(alloc, kinds, scope, expr)?;
+            Ok(Operand::Pure(made))
+        }
+    }
 }
 
 /// What operands become, one for each target.

@@ -1,11 +1,12 @@
 //! What is known where a statement stands.
 
-ghost use Rattle.std.specs.Prelude.{◌≡◌, [], ◌∷◌, ◌++◌, map, option_map, length, IfOk, OnOk};
+ghost use Rattle.std.specs.Prelude.{◌≡◌, [], ◌∷◌, ◌++◌, map, option_map, length, slice_get, IfOk, OnOk};
 ghost use Rattle.vlt_core.specs.View.{tok_of, ty_of, var_of};
 ghost use Rattle.vlt_kinds.specs.Seen.{kinds_seen};
 ghost use Rattle.vlt_resolve_exprs.specs.Exprs.{number_of};
 ghost use Rattle.vlt_resolve_exprs.specs.Scopes as s;
 ghost use Rattle.vlt_resolve_exprs.specs.Seen.{scope_seen, left_with};
+ghost use Rattle.vlt_resolve_exprs.specs.Types.{then_with};
 
 use crate::types::is_owning;
 use indexmap::IndexMap;
@@ -53,15 +54,24 @@ impl Scope<'_> {
         }
     }
 
+    /// The type of a variable that was looked up.
+    pub fn ty_at(&self, v: Option<VarId>) -> Option<&Ty>
+        ensures { option_map (λ t. ty_of t.now) result
+            ≡ then_with (option_map (λ v. v.0) v)
+            (λ n. s.ty_in (slice_get (scope_seen self.now).vars n)) }
+    {
+        let v = v?;
+        let decl = self.vars.get(v.0 as usize)?;
+        Some(&decl.ty)
+    }
+
     /// The type of the variable of this name.
     #[tactic(auto, unfolding(crate::specs::Scopes::var_ty))]
     pub fn var_ty(&self, name: &[u8]) -> Option<&Ty>
         ensures { option_map (λ t. ty_of t.now) result
             ≡ s.var_ty (scope_seen self.now) name.now }
     {
-        let v = self.var_named(name)?;
-        let decl = self.vars.get(v.0 as usize)?;
-        Some(&decl.ty)
+        self.ty_at(self.var_named(name))
     }
 
     /// The type of a key's object, where it has one.
@@ -142,7 +152,12 @@ impl<'a> Scope<'a> {
     }
 
     /// A new variable that no name stands for: a hidden one where the name is empty.
-    pub fn add_hidden_var(&mut self, alloc: Global, name: &[u8], ty: Ty) -> Result<VarId, AllocError>
+    pub fn add_hidden_var(
+        &mut self,
+        alloc: Global,
+        name: &[u8],
+        ty: Ty,
+    ) -> Result<VarId, AllocError>
         ensures number { IfOk result (λ v. v.0 ≡ length self.old.vars) }
         ensures scope { OnOk result (scope_seen self.new
             ≡ s.more_var (scope_seen self.old) name.now (ty_of ty)) }
