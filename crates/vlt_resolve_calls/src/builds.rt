@@ -80,7 +80,11 @@ fn types_under(alloc: Global, args: &[KeyId], types: &[Ty]) -> Result<Items<Ty>,
     Ok(made)
 }
 
-fn payload_in(alloc: Global, args: &[KeyId], case: Option<&CaseDecl>) -> Result<Items<Ty>, AllocError>
+fn payload_in(
+    alloc: Global,
+    args: &[KeyId],
+    case: Option<&CaseDecl>,
+) -> Result<Items<Ty>, AllocError>
     ensures { IfOk result (λ ts. map ty_of ts
         ≡ b.payload_in (keys_of args.now) (option_map (λ c. case_of c.now) case.entry)) }
 {

@@ -26,7 +26,7 @@ use vlt_core::rules::{DROPPED_RESULT, UNKNOWN_NAME, WRONG_COUNT, WRONG_TYPE};
 use vlt_core::{Entry, Form, Func, Mode, Ty};
 use vlt_kinds::Kinds;
 use vlt_kinds_types::LeastRefusal;
-use vlt_resolve_exprs::{Scope, check_any, copy_ty, core_operands, is_owning, place, type_of};
+use vlt_resolve_exprs::{Scope, check_any, copy_ty, core_operands, is_owning, place};
 use vlt_syntax::{Call, Expr};
 
 /// What is done with the result of a call.
@@ -64,8 +64,7 @@ fn check_argument(
         (c.argument_refused (kinds_seen kinds.now) (scope_seen scope.now) (ty_of wanted.now)
         (tree.expr_of expr.now))) }
 {
-    check_any(alloc, kinds, scope, expr, found)?;
-    let given = type_of(alloc, kinds, scope, expr)?;
+    let given = check_any(alloc, kinds, scope, expr, found)?;
     check_argument_fit(wanted, &given, place(expr), found);
     Ok(())
 }
@@ -103,8 +102,7 @@ fn check_arguments(
         (c.arguments_refused (kinds_seen kinds.now) (scope_seen scope.now)
         (map ty_of params.now) (map tree.expr_of args.now))) }
 {
-    check_each_argument(alloc, kinds, scope, params, args, found)?;
-    Ok(())
+    check_each_argument(alloc, kinds, scope, params, args, found)
 }
 
 // ---- what a call gives
@@ -153,7 +151,12 @@ fn result_keys_fit(alloc: Global, pairs: &[Pair], gives: &Ty, ty: &Ty) -> Result
     Ok(keys_fit(pairs, keys.as_slice()))
 }
 
-fn result_fits(alloc: Global, pairs: &[Pair], gives: &Option<Ty>, ty: &Ty) -> Result<bool, AllocError>
+fn result_fits(
+    alloc: Global,
+    pairs: &[Pair],
+    gives: &Option<Ty>,
+    ty: &Ty,
+) -> Result<bool, AllocError>
     ensures { IfOk result (λ b. b ≡ c.result_fits (pairs_of pairs.now)
         (option_map ty_of gives.now) (ty_of ty.now)) }
 {
@@ -272,8 +275,7 @@ fn check_paired(
         (c.paired_refused (func_of head.now) (pairs_of pairs.now) (use_seen used.entry) name)) }
 {
     check_matching(alloc, pairs, head.clause.as_slice(), name, found)?;
-    check_use(alloc, head, pairs, used, name, found)?;
-    Ok(())
+    check_use(alloc, head, pairs, used, name, found)
 }
 
 #[tactic(auto, using(vlt_kinds_types::proofs::OfNames::Least::least_of_both), unfolding(crate::specs::Calls::full_call_refused))]
@@ -283,28 +285,23 @@ fn check_full_call(
     scope: &Scope<'_>,
     head: &Func,
     params: &[Ty],
+    pairs: &[Pair],
     used: Use<'_>,
     call: &Call,
     found: &mut LeastRefusal,
 ) -> Result<(), AllocError>
     requires params { map ty_of params.now ≡ c.param_types (func_of head.now) }
+    requires pairs { pairs_of pairs.now ≡ c.call_pairs (kinds_seen kinds.now)
+        (scope_seen scope.now) (tree.call_of call.now).arguments
+        (c.param_types (func_of head.now)) }
     requires all { length params.now ≡ length call.now.arguments }
     ensures { OnOk result (found.new.least ≡ least_from found.old.least
         (c.full_call_refused (kinds_seen kinds.now) (scope_seen scope.now) (func_of head.now)
         (use_seen used.entry) (tree.call_of call.now))) }
 {
+    check_paired(alloc, head, pairs, used, call.function.at.from, found)?;
     let args = call.arguments.as_slice();
-    let pairs = call_pairs(alloc, kinds, scope, args, params)?;
-    check_paired(
-        alloc,
-        head,
-        pairs.as_slice(),
-        used,
-        call.function.at.from,
-        found,
-    )?;
-    check_arguments(alloc, kinds, scope, params, args, found)?;
-    Ok(())
+    check_arguments(alloc, kinds, scope, params, args, found)
 }
 
 #[tactic(auto, unfolding(crate::specs::Calls::head_refused))]
@@ -313,52 +310,24 @@ fn check_head(
     kinds: &Kinds<'_>,
     scope: &Scope<'_>,
     head: &Func,
+    params: &[Ty],
+    pairs: &[Pair],
     used: Use<'_>,
     call: &Call,
     found: &mut LeastRefusal,
 ) -> Result<(), AllocError>
+    requires params { map ty_of params.now ≡ c.param_types (func_of head.now) }
+    requires pairs { pairs_of pairs.now ≡ c.call_pairs (kinds_seen kinds.now)
+        (scope_seen scope.now) (tree.call_of call.now).arguments
+        (c.param_types (func_of head.now)) }
     ensures { OnOk result (found.new.least ≡ least_from found.old.least
         (c.head_refused (kinds_seen kinds.now) (scope_seen scope.now) (func_of head.now)
         (use_seen used.entry) (tree.call_of call.now))) }
 {
-    let params = param_types(alloc, head)?;
     if params.len() == call.arguments.len() {
-        check_full_call(
-            alloc,
-            kinds,
-            scope,
-            head,
-            params.as_slice(),
-            used,
-            call,
-            found,
-        )?;
+        check_full_call(alloc, kinds, scope, head, params, pairs, used, call, found)
     } else {
-        check_count(alloc, head, used, call.function.at.from, found)?;
-    }
-    Ok(())
-}
-
-fn check_callee(
-    alloc: Global,
-    kinds: &Kinds<'_>,
-    scope: &Scope<'_>,
-    head: Option<&Func>,
-    used: Use<'_>,
-    call: &Call,
-    found: &mut LeastRefusal,
-) -> Result<(), AllocError>
-    ensures { OnOk result (found.new.least ≡ least_from found.old.least
-        (c.callee_refused (kinds_seen kinds.now) (scope_seen scope.now)
-        (option_map (λ f. func_of f.now) head.entry) (use_seen used.entry)
-        (tree.call_of call.now))) }
-{
-    match head {
-        None => {
-            found.add(UNKNOWN_NAME, call.function.at.from);
-            Ok(())
-        }
-        Some(head) => check_head(alloc, kinds, scope, head, used, call, found),
+        check_count(alloc, head, used, call.function.at.from, found)
     }
 }
 
@@ -386,25 +355,23 @@ fn head_form(
     kinds: &Kinds<'_>,
     scope: &Scope<'_>,
     head: &Func,
+    params: &[Ty],
+    pairs: &[Pair],
     f: FnId,
     used: Use<'_>,
     target: Option<VarId>,
     call: &Call,
 ) -> Result<Form, AllocError>
+    requires params { map ty_of params.now ≡ c.param_types (func_of head.now) }
+    requires pairs { pairs_of pairs.now ≡ c.call_pairs (kinds_seen kinds.now)
+        (scope_seen scope.now) (tree.call_of call.now).arguments
+        (c.param_types (func_of head.now)) }
     ensures { IfOk result (λ form. form_of form
         ≡ c.head_form (kinds_seen kinds.now) (scope_seen scope.now) (func_of head.now) f.0
         (use_seen used.entry) (option_map (λ v. v.0) target) (tree.call_of call.now)) }
 {
-    let params = param_types(alloc, head)?;
-    let given = call.arguments.as_slice();
-    let pairs = call_pairs(alloc, kinds, scope, given, params.as_slice())?;
-    let keys = keys_given(
-        alloc,
-        pairs.as_slice(),
-        fresh_key(used),
-        head.keys.as_slice(),
-    )?;
-    let args = core_operands(alloc, kinds, scope, given, params.as_slice())?;
+    let keys = keys_given(alloc, pairs, fresh_key(used), head.keys.as_slice())?;
+    let args = core_operands(alloc, kinds, scope, call.arguments.as_slice(), params)?;
     Ok(Form::Call {
         f,
         target,
@@ -413,7 +380,36 @@ fn head_form(
     })
 }
 
-fn callee_form(
+/// A call of a known function. Its parameters are read once, and so is what they pair with the arguments.
+fn call_head(
+    alloc: Global,
+    kinds: &Kinds<'_>,
+    scope: &Scope<'_>,
+    head: &Func,
+    f: FnId,
+    used: Use<'_>,
+    target: Option<VarId>,
+    call: &Call,
+    found: &mut LeastRefusal,
+) -> Result<Form, AllocError>
+    ensures refused { OnOk result (found.new.least ≡ least_from found.old.least
+        (c.head_refused (kinds_seen kinds.now) (scope_seen scope.now) (func_of head.now)
+        (use_seen used.entry) (tree.call_of call.now))) }
+    ensures form { IfOk result (λ form. form_of form
+        ≡ c.head_form (kinds_seen kinds.now) (scope_seen scope.now) (func_of head.now) f.0
+        (use_seen used.entry) (option_map (λ v. v.0) target) (tree.call_of call.now)) }
+{
+    let types = param_types(alloc, head)?;
+    let params = types.as_slice();
+    let pairs = call_pairs(alloc, kinds, scope, call.arguments.as_slice(), params)?;
+    let pairs = pairs.as_slice();
+    check_head(alloc, kinds, scope, head, params, pairs, used, call, found)?;
+    head_form(
+        alloc, kinds, scope, head, params, pairs, f, used, target, call,
+    )
+}
+
+fn call_callee(
     alloc: Global,
     kinds: &Kinds<'_>,
     scope: &Scope<'_>,
@@ -422,20 +418,28 @@ fn callee_form(
     used: Use<'_>,
     target: Option<VarId>,
     call: &Call,
+    found: &mut LeastRefusal,
 ) -> Result<Form, AllocError>
-    ensures { IfOk result (λ form. form_of form
+    ensures refused { OnOk result (found.new.least ≡ least_from found.old.least
+        (c.callee_refused (kinds_seen kinds.now) (scope_seen scope.now)
+        (option_map (λ f. func_of f.now) head.entry) (use_seen used.entry)
+        (tree.call_of call.now))) }
+    ensures form { IfOk result (λ form. form_of form
         ≡ c.callee_form (kinds_seen kinds.now) (scope_seen scope.now)
         (option_map (λ f. func_of f.now) head.entry) f.0 (use_seen used.entry)
         (option_map (λ v. v.0) target) (tree.call_of call.now)) }
 {
     match head {
-        None => Ok(Form::Call {
-            f,
-            target,
-            keys: Items::new(alloc),
-            args: Items::new(alloc),
-        }),
-        Some(head) => head_form(alloc, kinds, scope, head, f, used, target, call),
+        None => {
+            found.add(UNKNOWN_NAME, call.function.at.from);
+            Ok(Form::Call {
+                f,
+                target,
+                keys: Items::new(alloc),
+                args: Items::new(alloc),
+            })
+        }
+        Some(head) => call_head(alloc, kinds, scope, head, f, used, target, call, found),
     }
 }
 
@@ -466,24 +470,7 @@ pub fn call(
         ≡ c.core_call (kinds_seen kinds.now) (scope_seen scope.now) (use_seen used.entry)
         (option_map (λ v. v.0) target) (tree.call_of call.now)) }
 {
-    check_callee(
-        alloc,
-        kinds,
-        scope,
-        kinds.head_named(&call.function),
-        used,
-        call,
-        found,
-    )?;
+    let head = kinds.head_named(&call.function);
     let f = function_number(kinds.function_named(&call.function));
-    callee_form(
-        alloc,
-        kinds,
-        scope,
-        kinds.head_named(&call.function),
-        f,
-        used,
-        target,
-        call,
-    )
+    call_callee(alloc, kinds, scope, head, f, used, target, call, found)
 }

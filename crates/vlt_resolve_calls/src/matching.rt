@@ -187,8 +187,7 @@ fn add_argument(
         (type_of_expr (kinds_seen kinds.now) (scope_seen scope.now) (tree.expr_of arg.now))) }
 {
     let given = type_of(alloc, kinds, scope, arg)?;
-    add_given(alloc, wanted, &given, pairs)?;
-    Ok(())
+    add_given(alloc, wanted, &given, pairs)
 }
 
 /// What the arguments and the parameters of a callee pair.

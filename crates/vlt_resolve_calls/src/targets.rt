@@ -17,8 +17,7 @@ use vlt_core::{self, Form, Ty};
 use vlt_kinds::Kinds;
 use vlt_kinds_types::LeastRefusal;
 use vlt_resolve_exprs::{
-    Scope, check_any, core_expr, is_owning, operand_for, place, takes, type_of, unpacks,
-    variable_in,
+    Scope, check_any, core_expr, core_operand, core_variable, is_owning, place, takes, unpacks,
 };
 use vlt_syntax::Expr;
 
@@ -65,34 +64,12 @@ impl Target {
             (t.value_refused (kinds_seen kinds.now) (scope_seen scope.now) (target_seen self.now)
             (tree.expr_of expr.now))) }
     {
-        check_any(alloc, kinds, scope, expr, found)?;
-        let given = type_of(alloc, kinds, scope, expr)?;
+        let given = check_any(alloc, kinds, scope, expr, found)?;
         self.check_given(&given, place(expr), found);
         Ok(())
     }
 
-    #[tactic(auto, unfolding(crate::specs::Targets::value_form))]
-    fn value_form(&self, x: VarId, got: &Option<Ty>, value: vlt_core::Expr) -> Form
-        ensures { form_of result
-            ≡ core.simple (t.value_form (target_seen self.now) x.0 (option_map ty_of got.now)
-            (expr_of value)) }
-    {
-        if self.binds {
-            Form::Unpack {
-                x,
-                v: variable_in(&value),
-            }
-        } else if is_owning(&self.ty) {
-            Form::Own {
-                v: x,
-                value: operand_for(&self.ty, got, value),
-            }
-        } else {
-            Form::Set { v: x, e: value }
-        }
-    }
-
-    #[tactic(auto, unfolding(crate::specs::Targets::core_value))]
+    #[tactic(auto, unfolding(crate::specs::Targets::core_value, crate::specs::Targets::value_form, vlt_resolve_exprs::specs::Operands::core_operand))]
     pub fn core_value(
         &self,
         alloc: Global,
@@ -105,8 +82,15 @@ impl Target {
             ≡ t.core_value (kinds_seen kinds.now) (scope_seen scope.now)
             (target_seen self.now) x.0 (tree.expr_of expr.now)) }
     {
-        let got = type_of(alloc, kinds, scope, expr)?;
-        let value = core_expr(alloc, kinds, scope, expr)?;
-        Ok(self.value_form(x, &got, value))
+        if self.binds {
+            let v = core_variable(alloc, kinds, scope, expr)?;
+            Ok(Form::Unpack { x, v })
+        } else if is_owning(&self.ty) {
+            let value = core_operand(alloc, kinds, scope, &self.ty, expr)?;
+            Ok(Form::Own { v: x, value })
+        } else {
+            let e = core_expr(alloc, kinds, scope, expr)?;
+            Ok(Form::Set { v: x, e })
+        }
     }
 }
