@@ -18,7 +18,7 @@ use crate::objects::{
 };
 use crate::uses::check_named;
 use std::alloc::{AllocError, Global};
-use vlt_base::{Items, KeyId, TypeId, VarId};
+use vlt_base::{Boxed, Items, KeyId, TypeId, VarId};
 use vlt_core::rules::{WRONG_COUNT, WRONG_NEW, WRONG_RELEASE, WRONG_TYPE};
 use vlt_core::{FieldDecl, Form, Operand, Ty, TypeDecl};
 use vlt_kinds::Kinds;
@@ -75,7 +75,13 @@ fn check_recipient_fit(recipient: Option<&Ty>, ty: &Ty, at: u32, found: &mut Lea
 }
 
 #[tactic(auto, using(vlt_kinds_types::proofs::OfNames::Least::least_of_both), unfolding(crate::specs::News::recipient_refused))]
-fn check_recipient(scope: &Scope<'_>, target: &Target, recipient: &Name, at: u32, found: &mut LeastRefusal)
+fn check_recipient(
+    scope: &Scope<'_>,
+    target: &Target,
+    recipient: &Name,
+    at: u32,
+    found: &mut LeastRefusal,
+)
     ensures { found.new.least ≡ least_from found.old.least
         (n.recipient_refused (scope_seen scope.now) (target_seen target.now)
         (tree.name_of recipient.now) at) }
@@ -139,7 +145,14 @@ fn check_adopted(kinds: &Kinds<'_>, t: TypeId, at: u32, found: &mut LeastRefusal
 }
 
 #[tactic(auto, unfolding(crate::specs::News::start_refused))]
-fn check_start(kinds: &Kinds<'_>, adopted: bool, ty: &Ty, t: TypeId, at: u32, found: &mut LeastRefusal)
+fn check_start(
+    kinds: &Kinds<'_>,
+    adopted: bool,
+    ty: &Ty,
+    t: TypeId,
+    at: u32,
+    found: &mut LeastRefusal,
+)
     ensures { found.new.least ≡ least_from found.old.least
         (n.start_refused (kinds_seen kinds.now) adopted (ty_of ty.now) t.0 at) }
 {
@@ -247,8 +260,7 @@ fn check_known_made(
         (map tree.init_of inits.now) at)) }
 {
     check_start(kinds, adopted, &target.ty, t, at, found);
-    check_object(alloc, kinds, scope, t, args, inits, at, found)?;
-    Ok(())
+    check_object(alloc, kinds, scope, t, args, inits, at, found)
 }
 
 #[tactic(auto, unfolding(crate::specs::News::made_refused))]
@@ -312,14 +324,14 @@ pub fn check_new(
         inits,
         named.name.at.from,
         found,
-    )?;
-    Ok(())
+    )
 }
 
 // ---- hidden keys and variables
 
-fn hides(right: &Right, ty: &Option<Ty>) -> bool
-    ensures { result ≡ n.hides (tree.right_of right.now) (option_map ty_of ty.now) }
+fn hides(right: &Right, ty: Option<&Ty>) -> bool
+    ensures { result ≡ n.hides (tree.right_of right.now)
+        (option_map (λ t. ty_of t.now) ty.entry) }
 {
     match (right, ty) {
         (Right::New { owner: Some(_), .. }, _) => true,
@@ -368,10 +380,16 @@ fn number_of_type(t: Option<TypeId>) -> TypeId
 
 /// What is refused where the right side has a hidden key and variable, which are bound at this place.
 #[tactic(auto, unfolding(crate::specs::News::hidden_refused))]
-pub fn check_hidden(scope: &Scope<'_>, right: &Right, ty: &Option<Ty>, at: u32, found: &mut LeastRefusal)
+pub fn check_hidden(
+    scope: &Scope<'_>,
+    right: &Right,
+    ty: Option<&Ty>,
+    at: u32,
+    found: &mut LeastRefusal,
+)
     ensures { found.new.least ≡ least_from found.old.least
         (n.hidden_refused (scope_seen scope.now)
-        (n.hides (tree.right_of right.now) (option_map ty_of ty.now)) at) }
+        (n.hides (tree.right_of right.now) (option_map (λ t. ty_of t.now) ty.entry)) at) }
 {
     if hides(right, ty) {
         check_both_hidden(scope, at, found);
@@ -402,11 +420,11 @@ pub fn add_hidden(
     kinds: &Kinds<'_>,
     scope: &mut Scope<'_>,
     right: &Right,
-    ty: &Option<Ty>,
+    ty: Option<&Ty>,
 ) -> Result<(), AllocError>
     ensures { OnOk result (scope_seen scope.new
         ≡ n.with_hidden (kinds_seen kinds.now) (scope_seen scope.old) (tree.right_of right.now)
-        (option_map ty_of ty.now)) }
+        (option_map (λ t. ty_of t.now) ty.entry)) }
 {
     match right {
         Right::New { named, .. } => {
@@ -440,33 +458,30 @@ fn made_operands(
 }
 
 fn made_forms(
+    alloc: Global,
     scope: &Scope<'_>,
     ty: &Ty,
     x: VarId,
     hidden: VarId,
     recipient: &Option<Name>,
     args: Items<Operand>,
-) -> Forms
-    ensures { forms_of result ≡ n.made_forms (scope_seen scope.now) (ty_of ty.now) x.0 hidden.0
-        (option_map tree.name_of recipient.now) (map operand_of args) }
+) -> Result<Forms, AllocError>
+    ensures { IfOk result (λ fs. forms_of fs
+        ≡ n.made_forms (scope_seen scope.now) (ty_of ty.now) x.0 hidden.0
+        (option_map tree.name_of recipient.now) (map operand_of args)) }
 {
     match (recipient, ty) {
         (Some(name), _) => {
-            let adopted = Form::Adopt {
-                y: x,
-                x: hidden,
-                r: var_number(scope, name),
-            };
-            Forms::Two(Form::New { x: hidden, args }, adopted)
+            let r = var_number(scope, name);
+            let made = Boxed::new(alloc, Form::New { x: hidden, args })?;
+            Forms::two(alloc, made, Form::Adopt { y: x, x: hidden, r })
         }
         (None, Ty::Own(states, ..)) => {
-            let owned = Form::Own {
-                v: x,
-                value: Operand::Pack(hidden, *states),
-            };
-            Forms::Two(Form::New { x: hidden, args }, owned)
+            let value = Operand::Pack(hidden, *states);
+            let made = Boxed::new(alloc, Form::New { x: hidden, args })?;
+            Forms::two(alloc, made, Form::Own { v: x, value })
         }
-        _ => Forms::One(Form::New { x, args }),
+        _ => Forms::one(alloc, Form::New { x, args }),
     }
 }
 
@@ -489,5 +504,5 @@ pub fn new_forms(
         (tree.named_of named.now) (map tree.init_of inits.now)) }
 {
     let args = made_operands(alloc, kinds, scope, named, inits)?;
-    Ok(made_forms(scope, &target.ty, x, hidden, recipient, args))
+    made_forms(alloc, scope, &target.ty, x, hidden, recipient, args)
 }

@@ -177,8 +177,7 @@ pub fn check_inits(
         (n.inits_refused (kinds_seen kinds.now) (scope_seen scope.now)
         (map tree.init_of inits.now) (map ty_of types.now))) }
 {
-    check_each_init(alloc, kinds, scope, inits, types, found)?;
-    Ok(())
+    check_each_init(alloc, kinds, scope, inits, types, found)
 }
 
 /// What the values of fields of these types become.

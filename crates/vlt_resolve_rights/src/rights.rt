@@ -50,7 +50,7 @@ fn value(
 {
     target.check_value(alloc, kinds, scope, expr, found)?;
     let form = target.core_value(alloc, kinds, scope, x, expr)?;
-    Ok(Forms::One(form))
+    Forms::one(alloc, form)
 }
 
 /// A call for the variable `x`.
@@ -72,7 +72,7 @@ fn call_for(
 {
     let used = Use::Given(target);
     let form = call(alloc, kinds, scope, used, Some(x), called, found)?;
-    Ok(Forms::One(form))
+    Forms::one(alloc, form)
 }
 
 fn target_right(
@@ -96,16 +96,16 @@ fn target_right(
         Right::Value(expr) => value(alloc, kinds, scope, target, x, expr, found),
         Right::Build(built) => {
             let form = build(alloc, kinds, scope, &target.ty, x, built, found)?;
-            Ok(Forms::One(form))
+            Forms::one(alloc, form)
         }
         Right::Call(called) => call_for(alloc, kinds, scope, target, x, called, found),
         Right::Input(at) => {
             check_input(&Ty::Int, &target.ty, at.from, found);
-            Ok(Forms::One(Form::Input { v: x, more: false }))
+            Forms::one(alloc, Form::Input { v: x, more: false })
         }
         Right::More(at) => {
             check_input(&Ty::Bool, &target.ty, at.from, found);
-            Ok(Forms::One(Form::Input { v: x, more: true }))
+            Forms::one(alloc, Form::Input { v: x, more: true })
         }
         Right::New {
             owner,
@@ -125,7 +125,7 @@ fn target_right(
             at,
         } => {
             check_adopt(kinds, scope, &target.ty, variable, owner, at.from, found);
-            Ok(Forms::One(core_adopt(scope, x, variable, owner)))
+            Forms::one(alloc, core_adopt(scope, x, variable, owner))
         }
     }
 }

@@ -13,7 +13,7 @@ ghost use Rattle.vlt_resolve_rights.specs.News as n;
 use vlt_base::TypeId;
 use vlt_core::rules::{KEY_ARGUMENT, KEY_COUNT, NOT_A_TYPE, TWO_KEY_TYPES, UNKNOWN_NAME};
 use vlt_kinds::Kinds;
-use vlt_kinds_types::{LeastRefusal, KeyUse, Shape, Wanted};
+use vlt_kinds_types::{KeyUse, LeastRefusal, Shape, Wanted};
 use vlt_resolve_exprs::Scope;
 use vlt_syntax::{Name, Named};
 
@@ -33,7 +33,13 @@ fn check_typed(given: Option<TypeId>, wanted: u32, tracked: bool, at: u32, found
     }
 }
 
-fn check_wanted(given: Option<TypeId>, wanted: Wanted, tracked: bool, at: u32, found: &mut LeastRefusal)
+fn check_wanted(
+    given: Option<TypeId>,
+    wanted: Wanted,
+    tracked: bool,
+    at: u32,
+    found: &mut LeastRefusal,
+)
     ensures { found.new.least ≡ least_from found.old.least
         (n.wanted_refused (option_map (λ t. t.0) given) wanted tracked at) }
 {
