@@ -21,8 +21,8 @@ use vlt_kinds::Kinds;
 use vlt_kinds_types::LeastRefusal;
 use vlt_resolve_calls::Forms;
 use vlt_resolve_exprs::{
-    Scope, check_field, check_known, check_wanted, core_expr, field_named, field_number, field_ty,
-    is_owning, is_struct, same_ty, ty_under, var_number,
+    Scope, check_field, check_known, check_wanted, core_expr, field_at, field_named, is_owning,
+    is_struct, same_ty, ty_under, var_number,
 };
 use vlt_resolve_rights::droppable::{may_drop, may_drop_struct};
 use vlt_syntax::{Expr, Name};
@@ -43,10 +43,8 @@ fn check_put(
         (s.put_refused (kinds_seen kinds.now) (scope_seen scope.now) (tree.name_of base.now)
         (tree.name_of field.now) (tree.expr_of value.now))) }
 {
-    check_field(kinds, scope, base, field, found);
-    let wanted = field_ty(alloc, kinds, scope, base, field)?;
-    check_wanted(alloc, kinds, scope, &wanted, value, found)?;
-    Ok(())
+    let wanted = check_field(alloc, kinds, scope, base, field, found)?;
+    check_wanted(alloc, kinds, scope, &wanted, value, found)
 }
 
 #[tactic(auto, unfolding(crate::specs::Statements::core_put))]
@@ -68,13 +66,9 @@ pub fn put(
         (tree.name_of field.now) (tree.expr_of value.now) ∷ []) }
 {
     check_put(alloc, kinds, scope, base, field, value, found)?;
-    let number = field_number(kinds, scope, base, field)?;
+    let (x, field) = field_at(kinds, scope, base, field)?;
     let e = core_expr(alloc, kinds, scope, value)?;
-    Ok(Forms::One(Form::Put {
-        x: var_number(scope, base),
-        field: number,
-        e,
-    }))
+    Forms::one(alloc, Form::Put { x, field, e })
 }
 
 // ---- release x
@@ -110,17 +104,23 @@ fn release_form(ty: Option<&Ty>, v: VarId) -> Form
     }
 }
 
-pub fn release(kinds: &Kinds<'_>, scope: &Scope<'_>, name: &Name, found: &mut LeastRefusal) -> Forms
-    ensures refused { found.new.least ≡ least_from found.old.least
+pub fn release(
+    alloc: Global,
+    kinds: &Kinds<'_>,
+    scope: &Scope<'_>,
+    name: &Name,
+    found: &mut LeastRefusal,
+) -> Result<Forms, AllocError>
+    ensures refused { OnOk result (found.new.least ≡ least_from found.old.least
         (s.release_refused (kinds_seen kinds.now)
-        (var_ty (scope_seen scope.now) (tree.name_of name.now).text) (tree.name_of name.now)) }
-    ensures forms { forms_of result ≡ s.release_form
+        (var_ty (scope_seen scope.now) (tree.name_of name.now).text) (tree.name_of name.now))) }
+    ensures forms { IfOk result (λ fs. forms_of fs ≡ s.release_form
         (var_ty (scope_seen scope.now) (tree.name_of name.now).text)
-        (e.var_number (scope_seen scope.now) (tree.name_of name.now)) ∷ [] }
+        (e.var_number (scope_seen scope.now) (tree.name_of name.now)) ∷ []) }
 {
     let ty = scope.var_ty(name.text.as_slice());
     check_release(kinds, ty, name, found);
-    Forms::One(release_form(ty, var_number(scope, name)))
+    Forms::one(alloc, release_form(ty, var_number(scope, name)))
 }
 
 // ---- become x@s
@@ -153,7 +153,13 @@ fn check_state(kinds: &Kinds<'_>, t: TypeId, name: &Name, state: &Name, found: &
 }
 
 #[tactic(auto, unfolding(crate::specs::Statements::become_refused))]
-fn check_become(kinds: &Kinds<'_>, ty: Option<&Ty>, name: &Name, state: &Name, found: &mut LeastRefusal)
+fn check_become(
+    kinds: &Kinds<'_>,
+    ty: Option<&Ty>,
+    name: &Name,
+    state: &Name,
+    found: &mut LeastRefusal,
+)
     ensures { found.new.least ≡ least_from found.old.least
         (s.become_refused (kinds_seen kinds.now) (option_map (λ t. ty_of t.now) ty.entry)
         (tree.name_of name.now) (tree.name_of state.now)) }
@@ -191,23 +197,24 @@ fn become_form(kinds: &Kinds<'_>, scope: &Scope<'_>, name: &Name, state: &Name) 
 }
 
 pub fn change_state(
+    alloc: Global,
     kinds: &Kinds<'_>,
     scope: &Scope<'_>,
     name: &Name,
     state: &Name,
     found: &mut LeastRefusal,
-) -> Forms
-    ensures refused { found.new.least ≡ least_from found.old.least
+) -> Result<Forms, AllocError>
+    ensures refused { OnOk result (found.new.least ≡ least_from found.old.least
         (s.become_refused (kinds_seen kinds.now)
         (var_ty (scope_seen scope.now) (tree.name_of name.now).text) (tree.name_of name.now)
-        (tree.name_of state.now)) }
-    ensures forms { forms_of result
+        (tree.name_of state.now))) }
+    ensures forms { IfOk result (λ fs. forms_of fs
         ≡ s.core_become (kinds_seen kinds.now) (scope_seen scope.now)
-        (tree.name_of name.now) (tree.name_of state.now) ∷ [] }
+        (tree.name_of name.now) (tree.name_of state.now) ∷ []) }
 {
     let ty = scope.var_ty(name.text.as_slice());
     check_become(kinds, ty, name, state, found);
-    Forms::One(become_form(kinds, scope, name, state))
+    Forms::one(alloc, become_form(kinds, scope, name, state))
 }
 
 // ---- swap x.f, v
@@ -352,10 +359,7 @@ pub fn swap(
         (tree.name_of field.now) (tree.name_of variable.now) ∷ []) }
 {
     check_swap(alloc, kinds, scope, base, field, variable, found)?;
-    let number = field_number(kinds, scope, base, field)?;
-    Ok(Forms::One(Form::Swap {
-        x: var_number(scope, base),
-        field: number,
-        v: var_number(scope, variable),
-    }))
+    let (x, field) = field_at(kinds, scope, base, field)?;
+    let v = var_number(scope, variable);
+    Forms::one(alloc, Form::Swap { x, field, v })
 }

@@ -1,21 +1,26 @@
 //! Declarations of variables, and assignments.
 
-ghost use Rattle.std.specs.Prelude.{◌≡◌, map, option_map, length, IfOk, OnOk};
+ghost use Rattle.std.specs.Prelude.{◌≡◌, ◌++◌, option_map, length, IfOk, OnOk};
 ghost use Rattle.vlt_syntax.specs.View as tree;
 ghost use Rattle.vlt_core.specs.View.{ty_of};
 ghost use Rattle.vlt_kinds_types.specs.Names.Refusals.{least_from};
 ghost use Rattle.vlt_kinds.specs.Seen.{kinds_seen};
-ghost use Rattle.vlt_resolve_exprs.specs.Scopes.{var_ty, with_var};
+ghost use Rattle.vlt_resolve_exprs.specs.Exprs.{var_number};
+ghost use Rattle.vlt_resolve_exprs.specs.Refused.{unknown_name};
+ghost use Rattle.vlt_resolve_exprs.specs.Scopes.{var_named, var_ty, with_var};
 ghost use Rattle.vlt_resolve_exprs.specs.Seen.{scope_seen};
 ghost use Rattle.vlt_resolve_calls.specs.Seen.{forms_of, target_seen};
+ghost use Rattle.vlt_resolve_rights.specs.News.{hides, hidden_refused, with_hidden};
+ghost use Rattle.vlt_resolve_rights.specs.Rights.{right_refused, right_forms};
 ghost use Rattle.vlt_resolve_stmts.specs.Declarations as d;
 
 use std::alloc::{AllocError, Global};
 use vlt_base::{Items, TypeId, VarId};
+use vlt_core::rules::UNKNOWN_NAME;
 use vlt_kinds::Kinds;
 use vlt_kinds_types::LeastRefusal;
 use vlt_resolve_calls::{Forms, Target};
-use vlt_resolve_exprs::{Scope, check_known, check_new_key, check_new_var, copy_ty, var_number};
+use vlt_resolve_exprs::{Scope, check_new_key, check_new_var, copied, copy_ty, known_or_first};
 use vlt_resolve_rights::{add_hidden, check_hidden, check_uses, right, right_for};
 use vlt_syntax::{Name, Right, Ty};
 
@@ -115,20 +120,19 @@ pub fn next_var(scope: &Scope<'_>) -> Result<VarId, AllocError>
     }
 }
 
-/// Binds the variable behind its right side, which became these forms.
+/// Binds a variable of this type.
 fn bind<'a>(
     alloc: Global,
     scope: &mut Scope<'a>,
     name: &'a Name,
-    ty: vlt_core::Ty,
-    forms: Forms,
-) -> Result<Forms, AllocError>
-    ensures forms { IfOk result (λ fs. forms_of fs ≡ forms_of forms) }
-    ensures scope { OnOk result (scope_seen scope.new
-        ≡ with_var (scope_seen scope.old) (tree.name_of name.now).text (ty_of ty)) }
+    ty: &vlt_core::Ty,
+) -> Result<(), AllocError>
+    ensures { OnOk result (scope_seen scope.new
+        ≡ with_var (scope_seen scope.old) (tree.name_of name.now).text (ty_of ty.now)) }
 {
+    let ty = copy_ty(alloc, ty)?;
     scope.add_var(alloc, name.text.as_slice(), ty)?;
-    Ok(forms)
+    Ok(())
 }
 
 /// Behind the hidden variable of this number: the variable, and the right side, in which it isn't in scope.
@@ -153,9 +157,9 @@ fn declare_behind<'a>(
 {
     check_new_var(kinds, scope, name, found);
     let x = next_var(scope)?;
-    let ty = copy_ty(alloc, &target.ty)?;
     let forms = right_for(alloc, kinds, scope, target, x, hidden, value, found)?;
-    bind(alloc, scope, name, ty, forms)
+    bind(alloc, scope, name, &target.ty)?;
+    Ok(forms)
 }
 
 /// Behind the type: the hidden ones of the right side, and then the variable.
@@ -178,12 +182,10 @@ fn declare_target<'a>(
         (scope_seen scope.old) (target_seen target.now) (tree.name_of name.now)
         (tree.right_of value.now) ≡ (forms_of fs, scope_seen scope.new)) }
 {
-    let ty = Some(copy_ty(alloc, &target.ty)?);
-    check_hidden(scope, value, &ty, at, found);
+    check_hidden(scope, value, Some(&target.ty), at, found);
     let hidden = next_var(scope)?;
-    add_hidden(alloc, kinds, scope, value, &ty)?;
-    let forms = declare_behind(alloc, kinds, scope, target, hidden, name, value, found)?;
-    Ok(forms)
+    add_hidden(alloc, kinds, scope, value, Some(&target.ty))?;
+    declare_behind(alloc, kinds, scope, target, hidden, name, value, found)
 }
 
 /// In the scope with the key that the type binds.
@@ -208,12 +210,9 @@ fn declare_keyed<'a>(
         (tree.right_of value.now) ≡ (forms_of fs, scope_seen scope.new)) }
 {
     check_type(alloc, kinds, scope, ty, found)?;
-    let target = Target {
-        ty: declared_ty(alloc, kinds, scope, ty)?,
-        binds,
-    };
-    let forms = declare_target(alloc, kinds, scope, &target, name, value, at, found)?;
-    Ok(forms)
+    let ty = declared_ty(alloc, kinds, scope, ty)?;
+    let target = Target { ty, binds };
+    declare_target(alloc, kinds, scope, &target, name, value, at, found)
 }
 
 /// Tests a declaration, and makes it. What it makes counts only where nothing is refused.
@@ -238,8 +237,7 @@ pub fn declare<'a>(
     check_bound_key(kinds, scope, ty, found);
     let binds = binds_key(scope, ty);
     bind_key(alloc, kinds, scope, ty)?;
-    let forms = declare_keyed(alloc, kinds, scope, binds, ty, name, value, at, found)?;
-    Ok(forms)
+    declare_keyed(alloc, kinds, scope, binds, ty, name, value, at, found)
 }
 
 // ---- assignments
@@ -272,6 +270,96 @@ pub fn known_ty(
     }
 }
 
+fn borrowed(ty: &Option<vlt_core::Ty>) -> Option<&vlt_core::Ty>
+    ensures { option_map (λ t. ty_of t.now) result ≡ option_map ty_of ty.now }
+{
+    match ty {
+        None => None,
+        Some(ty) => Some(ty),
+    }
+}
+
+/// The right side of an assignment to the variable `x` of this type, behind its hidden variable.
+fn assign_right(
+    alloc: Global,
+    kinds: &Kinds<'_>,
+    scope: &Scope<'_>,
+    ty: &Option<vlt_core::Ty>,
+    x: VarId,
+    hidden: VarId,
+    value: &Right,
+    found: &mut LeastRefusal,
+) -> Result<Forms, AllocError>
+    ensures refused { OnOk result (found.new.least ≡ least_from found.old.least (right_refused
+        (kinds_seen kinds.now) (scope_seen scope.now)
+        (d.assigned_target (option_map ty_of ty.now)) (tree.right_of value.now))) }
+    ensures forms { IfOk result (λ fs. forms_of fs
+        ≡ right_forms (kinds_seen kinds.now) (scope_seen scope.now)
+        (d.assigned_target (option_map ty_of ty.now)) x.0 hidden.0 (tree.right_of value.now)) }
+{
+    let target = assigned_target(alloc, ty)?;
+    right(alloc, kinds, scope, &target, x, hidden, value, found)
+}
+
+/// An assignment to the variable `x` of this type.
+#[tactic(auto, using(vlt_kinds_types::proofs::OfNames::Least::least_of_both))]
+fn assign_to(
+    alloc: Global,
+    kinds: &Kinds<'_>,
+    scope: &mut Scope<'_>,
+    ty: &Option<vlt_core::Ty>,
+    x: VarId,
+    value: &Right,
+    at: u32,
+    found: &mut LeastRefusal,
+) -> Result<Forms, AllocError>
+    ensures refused { OnOk result (found.new.least ≡ least_from found.old.least
+        (hidden_refused (scope_seen scope.old)
+        (hides (tree.right_of value.now) (option_map ty_of ty.now)) at
+        ++ right_refused (kinds_seen kinds.now)
+        (with_hidden (kinds_seen kinds.now) (scope_seen scope.old) (tree.right_of value.now)
+        (option_map ty_of ty.now))
+        (d.assigned_target (option_map ty_of ty.now)) (tree.right_of value.now))) }
+    ensures scope { OnOk result (scope_seen scope.new
+        ≡ with_hidden (kinds_seen kinds.now) (scope_seen scope.old) (tree.right_of value.now)
+        (option_map ty_of ty.now)) }
+    ensures forms { IfOk result (λ fs. forms_of fs
+        ≡ right_forms (kinds_seen kinds.now)
+        (with_hidden (kinds_seen kinds.now) (scope_seen scope.old) (tree.right_of value.now)
+        (option_map ty_of ty.now))
+        (d.assigned_target (option_map ty_of ty.now)) x.0 (length scope.old.vars)
+        (tree.right_of value.now)) }
+{
+    let hidden = next_var(scope)?;
+    check_hidden(scope, value, borrowed(ty), at, found);
+    add_hidden(alloc, kinds, scope, value, borrowed(ty))?;
+    assign_right(alloc, kinds, scope, ty, x, hidden, value, found)
+}
+
+/// Refuses a name that no variable in scope has, and gives the number and the type of the one that has it.
+#[tactic(auto, unfolding(vlt_resolve_exprs::specs::Refused::unknown_name, vlt_resolve_exprs::specs::Scopes::var_ty, vlt_resolve_exprs::specs::Exprs::var_number))]
+fn check_assigned(
+    alloc: Global,
+    scope: &Scope<'_>,
+    name: &Name,
+    found: &mut LeastRefusal,
+) -> Result<(VarId, Option<vlt_core::Ty>), AllocError>
+    ensures refused { OnOk result (found.new.least ≡ least_from found.old.least
+        (unknown_name (var_named (scope_seen scope.now) (tree.name_of name.now).text)
+        (tree.name_of name.now))) }
+    ensures number { IfOk result (λ p. p.0.0
+        ≡ var_number (scope_seen scope.now) (tree.name_of name.now)) }
+    ensures ty { IfOk result (λ p. option_map ty_of p.1
+        ≡ var_ty (scope_seen scope.now) (tree.name_of name.now).text) }
+{
+    let v = scope.var_named(name.text.as_slice());
+    if v.is_none() {
+        found.add(UNKNOWN_NAME, name.at.from);
+    }
+    let ty = copied(alloc, scope.ty_at(v))?;
+    Ok((known_or_first(v), ty))
+}
+
 /// Tests an assignment, and makes it. What it makes counts only where nothing is refused.
 #[tactic(auto, using(vlt_kinds_types::proofs::OfNames::Least::least_of_both), unfolding(crate::specs::Declarations::assign_refused, crate::specs::Declarations::assign_became))]
 pub fn assign(
@@ -290,13 +378,6 @@ pub fn assign(
         (scope_seen scope.old) (tree.name_of name.now) (tree.right_of value.now)
         ≡ (forms_of fs, scope_seen scope.new)) }
 {
-    let ty = known_ty(alloc, scope, name)?;
-    let x = var_number(scope, name);
-    let hidden = next_var(scope)?;
-    check_known(scope, name, found);
-    check_hidden(scope, value, &ty, at, found);
-    add_hidden(alloc, kinds, scope, value, &ty)?;
-    let target = assigned_target(alloc, &ty)?;
-    let forms = right(alloc, kinds, scope, &target, x, hidden, value, found)?;
-    Ok(forms)
+    let (x, ty) = check_assigned(alloc, scope, name, found)?;
+    assign_to(alloc, kinds, scope, &ty, x, value, at, found)
 }

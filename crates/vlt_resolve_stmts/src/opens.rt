@@ -22,7 +22,11 @@ use vlt_resolve_exprs::{
 };
 use vlt_syntax::Name;
 
-fn owning_types(alloc: Global, args: &[KeyId], fields: &[FieldDecl]) -> Result<Items<Ty>, AllocError>
+fn owning_types(
+    alloc: Global,
+    args: &[KeyId],
+    fields: &[FieldDecl],
+) -> Result<Items<Ty>, AllocError>
     ensures { IfOk result (λ ts. map ty_of ts
         ≡ s.owning_types (keys_of args.now) (map field_of fields.now)) }
 {
@@ -105,7 +109,7 @@ fn open_parts<'a>(
         Some(types) => {
             let x = var_number(scope, name);
             let into = add_several(alloc, kinds, scope, parts, types.as_slice(), at, found)?;
-            Ok(Forms::One(Form::Open { x, into }))
+            Forms::one(alloc, Form::Open { x, into })
         }
     }
 }
@@ -128,6 +132,5 @@ pub fn open<'a>(
         (tree.name_of name.now) (tree.names_of parts.now) ≡ (forms_of fs, scope_seen scope.new)) }
 {
     let types = opened_parts(alloc, kinds, scope.var_ty(name.text.as_slice()))?;
-    let forms = open_parts(alloc, kinds, scope, &types, name, parts, at, found)?;
-    Ok(forms)
+    open_parts(alloc, kinds, scope, &types, name, parts, at, found)
 }

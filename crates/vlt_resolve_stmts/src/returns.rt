@@ -4,7 +4,7 @@ ghost use Rattle.std.specs.Prelude.{◌≡◌, ◌==◌, ◌&&◌, [], map, opti
 ghost use Rattle.std.specs.List.{list_any};
 ghost use Rattle.vlt_syntax.specs.View as tree;
 ghost use Rattle.vlt_core.specs.Lookups.{is_given_back};
-ghost use Rattle.vlt_core.specs.View.{ty_of, entry_of, operand_of};
+ghost use Rattle.vlt_core.specs.View.{ty_of, entry_of, form_of, operand_of};
 ghost use Rattle.vlt_kinds_types.specs.Names.Refusals.{least_from};
 ghost use Rattle.vlt_kinds.specs.Seen.{kinds_seen};
 ghost use Rattle.vlt_resolve_exprs.specs.Seen.{scope_seen};
@@ -16,7 +16,7 @@ ghost use Rattle.vlt_resolve_stmts.specs.Seen.{around_seen};
 
 use crate::around::Around;
 use std::alloc::{AllocError, Global};
-use vlt_base::{KeyId, VarId};
+use vlt_base::{Boxed, KeyId, VarId};
 use vlt_core::rules::{RETURNED_KEY, WRONG_JUMP, WRONG_RETURN, WRONG_TYPE};
 use vlt_core::{Entry, Expr as CoreExpr, Form, Mode, Operand, Ty};
 use vlt_kinds::Kinds;
@@ -24,7 +24,7 @@ use vlt_kinds_types::LeastRefusal;
 use vlt_resolve_calls::{Forms, build, has_fresh};
 use vlt_resolve_exprs::{
     Scope, check_any, check_operand, check_too_many_vars, copy_ty, core_operand, is_owning, place,
-    same_object, type_of,
+    same_object,
 };
 use vlt_syntax::{Build, Expr, Returned};
 
@@ -111,8 +111,7 @@ fn check_fresh(
         (s.fresh_refused (kinds_seen kinds.now) (scope_seen scope.now) (map entry_of clause.now)
         (ty_of wanted.now) (tree.expr_of expr.now) at)) }
 {
-    check_any(alloc, kinds, scope, expr, found)?;
-    let given = type_of(alloc, kinds, scope, expr)?;
+    let given = check_any(alloc, kinds, scope, expr, found)?;
     check_fresh_given(clause, wanted, &given, place(expr), at, found);
     Ok(())
 }
@@ -174,7 +173,7 @@ fn returned_value(
         None => Ok(Forms::Nothing),
         Some(ty) => {
             let value = core_operand(alloc, kinds, scope, ty, expr)?;
-            Ok(Forms::One(Form::Return { value: Some(value) }))
+            Forms::one(alloc, Form::Return { value: Some(value) })
         }
     }
 }
@@ -189,6 +188,26 @@ fn hidden_operand(ty: &Ty, v: VarId) -> Operand
     } else {
         Operand::Pure(CoreExpr::Var(v))
     }
+}
+
+fn build_boxed(
+    alloc: Global,
+    kinds: &Kinds<'_>,
+    scope: &Scope<'_>,
+    wanted: &Ty,
+    hidden: VarId,
+    built: &Build,
+    found: &mut LeastRefusal,
+) -> Result<Boxed<Form>, AllocError>
+    ensures refused { OnOk result (found.new.least ≡ least_from found.old.least
+        (b.build_refused (kinds_seen kinds.now) (scope_seen scope.now) (ty_of wanted.now)
+        (tree.build_of built.now))) }
+    ensures form { IfOk result (λ f. form_of f
+        ≡ b.core_build (kinds_seen kinds.now) (scope_seen scope.now) (ty_of wanted.now) hidden.0
+        (tree.build_of built.now)) }
+{
+    let form = build(alloc, kinds, scope, wanted, hidden, built, found)?;
+    Boxed::new(alloc, form)
 }
 
 fn return_known_build(
@@ -208,11 +227,9 @@ fn return_known_build(
         ≡ (forms_of fs, scope_seen scope.new)) }
 {
     let hidden = scope.add_hidden_var(alloc, &[], copy_ty(alloc, wanted)?)?;
-    let form = build(alloc, kinds, scope, wanted, hidden, built, found)?;
-    let returned = Form::Return {
-        value: Some(hidden_operand(wanted, hidden)),
-    };
-    Ok(Forms::Two(form, returned))
+    let made = build_boxed(alloc, kinds, scope, wanted, hidden, built, found)?;
+    let value = Some(hidden_operand(wanted, hidden));
+    Forms::two(alloc, made, Form::Return { value })
 }
 
 fn return_build_for(
@@ -255,8 +272,7 @@ fn return_build(
         ≡ (forms_of fs, scope_seen scope.new)) }
 {
     check_too_many_vars(scope, at, found);
-    let forms = return_build_for(alloc, kinds, scope, wanted, built, found)?;
-    Ok(forms)
+    return_build_for(alloc, kinds, scope, wanted, built, found)
 }
 
 // ---- all of them
@@ -279,7 +295,7 @@ fn returned(
         ≡ (forms_of fs, scope_seen scope.new)) }
 {
     match gives {
-        Returned::Nothing => Ok(Forms::One(Form::Return { value: None })),
+        Returned::Nothing => Forms::one(alloc, Form::Return { value: None }),
         Returned::Value(expr) => {
             let clause = around.head.clause.as_slice();
             check_value_for(
@@ -339,6 +355,5 @@ pub fn return_stmt(
         WRONG_RETURN,
         at,
     );
-    let forms = returned(alloc, kinds, around, scope, gives, at, found)?;
-    Ok(forms)
+    returned(alloc, kinds, around, scope, gives, at, found)
 }

@@ -35,13 +35,19 @@ fn check_jump(around: Around<'_>, at: u32, found: &mut LeastRefusal)
 }
 
 /// A jump out of the innermost loop, or to its head.
-fn jump(around: Around<'_>, continues: bool, at: u32, found: &mut LeastRefusal) -> Forms
-    ensures refused { found.new.least ≡ least_from found.old.least
-        (s.jump_refused (around_seen around.entry) at) }
-    ensures forms { forms_of result ≡ core.jump continues ∷ [] }
+fn jump(
+    alloc: Global,
+    around: Around<'_>,
+    continues: bool,
+    at: u32,
+    found: &mut LeastRefusal,
+) -> Result<Forms, AllocError>
+    ensures refused { OnOk result (found.new.least ≡ least_from found.old.least
+        (s.jump_refused (around_seen around.entry) at)) }
+    ensures forms { IfOk result (λ fs. forms_of fs ≡ core.jump continues ∷ []) }
 {
     check_jump(around, at, found);
-    Forms::One(Form::Jump { continues })
+    Forms::one(alloc, Form::Jump { continues })
 }
 
 fn print(
@@ -60,7 +66,7 @@ fn print(
 {
     check_wanted(alloc, kinds, scope, &Some(Ty::Int), value, found)?;
     let e = core_expr(alloc, kinds, scope, value)?;
-    Ok(Forms::One(Form::Print { e }))
+    Forms::one(alloc, Form::Print { e })
 }
 
 /// A call whose result, if there is one, is dropped at this place.
@@ -80,7 +86,7 @@ fn drop_call(
         (tree.call_of called.now) ∷ []) }
 {
     let form = call(alloc, kinds, scope, Use::Dropped(at), None, called, found)?;
-    Ok(Forms::One(form))
+    Forms::one(alloc, form)
 }
 
 /// Tests a statement without blocks, and makes it. What it makes counts only where nothing is refused.
@@ -117,15 +123,15 @@ pub fn simple<'a>(
         } => put(alloc, kinds, scope, base, field, value, found),
         Stmt::Call(called, at) => drop_call(alloc, kinds, scope, called, at.from, found),
         Stmt::Print(value, _) => print(alloc, kinds, scope, value, found),
-        Stmt::Break(at) => Ok(jump(around, false, at.from, found)),
-        Stmt::Continue(at) => Ok(jump(around, true, at.from, found)),
+        Stmt::Break(at) => jump(alloc, around, false, at.from, found),
+        Stmt::Continue(at) => jump(alloc, around, true, at.from, found),
         Stmt::Return(value, at) => return_stmt(alloc, kinds, around, scope, value, at.from, found),
-        Stmt::Release(name, _) => Ok(release(kinds, scope, name, found)),
+        Stmt::Release(name, _) => release(alloc, kinds, scope, name, found),
         Stmt::Become {
             variable,
             state,
             ..
-        } => Ok(change_state(kinds, scope, variable, state, found)),
+        } => change_state(alloc, kinds, scope, variable, state, found),
         Stmt::Swap {
             base,
             field,
