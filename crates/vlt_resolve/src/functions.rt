@@ -69,11 +69,15 @@ fn add_var_names<'k>(scope: &mut Scope<'k>, vars: &'k [VarDecl]) -> Result<(), A
     Ok(())
 }
 
+/// As many names of a body's own as a scope has room for without growing.
+const LOCAL_NAMES: usize = 4;
+
 fn nameless_scope<'k>(alloc: Global, head: &Func) -> Result<Scope<'k>, AllocError>
     ensures { IfOk result (λ x. scope_seen x ≡ e.nameless_scope (func_of head.now)) }
 {
+    let names = head.keys.len().saturating_add(head.vars.len());
     Ok(Scope {
-        names: IndexMap::new(alloc),
+        names: IndexMap::with_capacity(alloc, names.saturating_add(LOCAL_NAMES))?,
         keys: copy_keys(alloc, head.keys.as_slice())?,
         vars: copy_vars(alloc, head.vars.as_slice())?,
         block_keys: Items::new(alloc),
@@ -109,8 +113,7 @@ fn head_passes(head: &Func, at: u32) -> Result<(), Stop>
 {
     let mut found = LeastRefusal { least: None };
     check_head(head, at, &mut found);
-    passed(found)?;
-    Ok(())
+    passed(found)
 }
 
 #[tactic(auto, unfolding(crate::specs::Elaboration::end_refused))]
@@ -133,8 +136,7 @@ fn end_passes(head: &Func, body: &Block) -> Result<(), Stop>
 {
     let mut found = LeastRefusal { least: None };
     check_end(head, body, &mut found);
-    passed(found)?;
-    Ok(())
+    passed(found)
 }
 
 /// A body that doesn't end has a last statement at its closing brace.
@@ -151,6 +153,33 @@ fn add_last(body: &Block, stmts: &mut Items<vlt_core::Stmt>) -> Result<(), Alloc
     Ok(())
 }
 
+/// The statements of a body up to its closing brace, where it ends as its head wants.
+fn finished(
+    head: &Func,
+    body: &Block,
+    stmts: Items<vlt_core::Stmt>,
+) -> Result<Items<vlt_core::Stmt>, Stop>
+    ensures ok { IfOk result (λ r.
+        (least (e.end_refused (func_of head.now) (tree.block_of body.now)) ≡ None) ×
+        (map stmt_of r ≡ map stmt_of stmts ++ e.last_return (tree.block_of body.now))) }
+    ensures refused { OnRefused result (λ r.
+        least (e.end_refused (func_of head.now) (tree.block_of body.now)) ≡ Some r) }
+{
+    end_passes(head, body)?;
+    let mut stmts = stmts;
+    add_last(body, &mut stmts)?;
+    Ok(stmts)
+}
+
+/// All keys and variables of a function.
+fn declared_in(scope: Scope<'_>) -> (Items<KeyDecl>, Items<VarDecl>)
+    ensures keys { result.0 ≡ scope.entry.keys }
+    ensures vars { result.1 ≡ scope.entry.vars }
+{
+    let Scope { keys, vars, .. } = scope;
+    (keys, vars)
+}
+
 fn walk_body(alloc: Global, kinds: &Kinds<'_>, head: &Func, body: &Block) -> Result<Func, Stop>
     ensures ok { IfOk result (λ f. e.walk_body (kinds_seen kinds.now) (func_of head.now)
         (tree.block_of body.now) ≡ Ok (func_of f)) }
@@ -163,10 +192,9 @@ fn walk_body(alloc: Global, kinds: &Kinds<'_>, head: &Func, body: &Block) -> Res
         in_loop: false,
         in_focus: false,
     };
-    let mut stmts = walk_stmts(alloc, kinds, around, &mut scope, body.stmts.as_slice())?;
-    end_passes(head, body)?;
-    add_last(body, &mut stmts)?;
-    let Scope { keys, vars, .. } = scope;
+    let stmts = walk_stmts(alloc, kinds, around, &mut scope, body.stmts.as_slice())?;
+    let stmts = finished(head, body, stmts)?;
+    let (keys, vars) = declared_in(scope);
     let made = func_of_head(alloc, head, keys, vars, stmts, closing(body))?;
     Ok(made)
 }

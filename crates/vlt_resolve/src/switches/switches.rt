@@ -147,8 +147,7 @@ pub fn check_switch(
         (tree.name_of name.now) (texts_seen names.now) at)) }
 {
     found.add_if(!are_distinct(names), WRONG_SWITCH, at);
-    check_cases(alloc, kinds, ty, name, names, at, found)?;
-    Ok(())
+    check_cases(alloc, kinds, ty, name, names, at, found)
 }
 
 // ---- an arm
@@ -194,16 +193,8 @@ pub fn bind_arm<'a>(
     match case {
         None => Ok(Items::new(alloc)),
         Some(case) => {
-            let vars = add_several(
-                alloc,
-                kinds,
-                scope,
-                names,
-                case.payload.as_slice(),
-                tick.at.from,
-                found,
-            )?;
-            Ok(vars)
+            let types = case.payload.as_slice();
+            add_several(alloc, kinds, scope, names, types, tick.at.from, found)
         }
     }
 }
@@ -299,6 +290,5 @@ pub fn bind_focus<'a>(
         (option_map ty_of ty.now) (tree.name_of key.now) (tree.name_of alias.now)) }
 {
     check_focused(ty, name, found);
-    bind_focus_names(alloc, kinds, scope, ty, key, alias, found)?;
-    Ok(())
+    bind_focus_names(alloc, kinds, scope, ty, key, alias, found)
 }

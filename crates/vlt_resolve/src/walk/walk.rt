@@ -1,6 +1,6 @@
 //! Statements in the order of the text.
 
-ghost use Rattle.std.specs.Prelude.{◌≡◌, ◌++◌, false, [], map, option_map, Some, None, Ok, Err, IfOk, OnOk};
+ghost use Rattle.std.specs.Prelude.{◌≡◌, ◌++◌, ◌∷◌, false, [], map, option_map, Some, None, Ok, Err, IfOk, OnOk};
 ghost use Rattle.vlt_syntax.specs.View as tree;
 ghost use Rattle.vlt_core.specs.Core as core;
 ghost use Rattle.vlt_core.specs.View as core_view;
@@ -21,7 +21,7 @@ use crate::switches::{arm_case, arm_names, bind_arm, bind_focus, case_number, ch
 use crate::walk::blocks::{closing, else_closing, ends, stmt_place};
 use crate::walk::stop::Stop;
 use std::alloc::{AllocError, Global};
-use vlt_base::{Items, VarId};
+use vlt_base::{Boxed, Items, VarId};
 use vlt_core::rules::BEHIND_END;
 use vlt_core::{Form, Ty};
 use vlt_kinds::Kinds;
@@ -64,6 +64,14 @@ fn passed_with(found: LeastRefusal, forms: Forms) -> Result<Forms, Stop>
     }
 }
 
+fn add_form(at: u32, form: Boxed<Form>, made: &mut Items<vlt_core::Stmt>) -> Result<(), AllocError>
+    ensures { OnOk result (map core_view.stmt_of made.new
+        ≡ map core_view.stmt_of made.old ++ (at, form_of form) ∷ []) }
+{
+    let form = form.into_inner();
+    made.push(vlt_core::Stmt { at, form })
+}
+
 /// Adds the forms that a statement became, each at its place.
 fn add_placed(at: u32, forms: Forms, made: &mut Items<vlt_core::Stmt>) -> Result<(), AllocError>
     ensures { OnOk result (map core_view.stmt_of made.new
@@ -71,10 +79,10 @@ fn add_placed(at: u32, forms: Forms, made: &mut Items<vlt_core::Stmt>) -> Result
 {
     match forms {
         Forms::Nothing => {}
-        Forms::One(form) => made.push(vlt_core::Stmt { at, form })?,
+        Forms::One(form) => add_form(at, form, made)?,
         Forms::Two(first, second) => {
-            made.push(vlt_core::Stmt { at, form: first })?;
-            made.push(vlt_core::Stmt { at, form: second })?;
+            add_form(at, first, made)?;
+            add_form(at, second, made)?;
         }
     }
     Ok(())
@@ -187,8 +195,7 @@ fn focused<'a>(
 {
     let mut found = found;
     bind_focus(alloc, kinds, scope, ty, variable, key, alias, &mut found)?;
-    passed(found)?;
-    Ok(())
+    passed(found)
 }
 
 /// Binds the variables of an arm.
@@ -216,6 +223,37 @@ fn bound_arm<'a>(
     let vars = bind_arm(alloc, kinds, scope, case, tick, names, &mut found)?;
     passed(found)?;
     Ok(vars)
+}
+
+/// Opens an arm of a switch on a variable of this type: its case, and its variables, which it binds.
+fn opened_arm<'a>(
+    alloc: Global,
+    kinds: &Kinds<'_>,
+    scope: &mut Scope<'a>,
+    ty: &Option<Ty>,
+    tick: &Name,
+    names: &'a [Name],
+) -> Result<(u8, Items<VarId>), Stop>
+    ensures ok { IfOk result (λ p. (least_from None
+        (sw.arm_refused (kinds_seen kinds.now) (scope_seen scope.old)
+        (sw.arm_case (kinds_seen kinds.now) (option_map ty_of ty.now) (tree.name_of tick.now))
+        (tree.name_of tick.now) (tree.names_of names.now)) ≡ None) ×
+        (scope_seen scope.new ≡ sw.arm_scope (scope_seen scope.old)
+        (sw.arm_case (kinds_seen kinds.now) (option_map ty_of ty.now) (tree.name_of tick.now))
+        (tree.names_of names.now)) ×
+        (p.0 ≡ sw.case_number (sw.arm_case (kinds_seen kinds.now) (option_map ty_of ty.now)
+        (tree.name_of tick.now))) ×
+        (core_view.vars_of p.1 ≡ sw.arm_numbers (scope_seen scope.old)
+        (sw.arm_case (kinds_seen kinds.now) (option_map ty_of ty.now) (tree.name_of tick.now))
+        (tree.names_of names.now))) }
+    ensures refused { OnRefused result (λ r.
+        least_from None (sw.arm_refused (kinds_seen kinds.now) (scope_seen scope.old)
+        (sw.arm_case (kinds_seen kinds.now) (option_map ty_of ty.now) (tree.name_of tick.now))
+        (tree.name_of tick.now) (tree.names_of names.now)) ≡ Some r) }
+{
+    let case = arm_case(alloc, kinds, ty, tick)?;
+    let vars = bound_arm(alloc, kinds, scope, &case, tick, names)?;
+    Ok((case_number(&case), vars))
 }
 
 fn one_stmt(alloc: Global, at: u32, form: Form, end: u32) -> Result<vlt_core::Block, AllocError>
@@ -297,7 +335,8 @@ fn walk_stmt<'a>(
         Stmt::Block(block) => {
             passed(found)?;
             let body = walk_block(alloc, kinds, around, scope, block)?;
-            Ok(Forms::One(Form::Scope { body }))
+            let forms = Forms::one(alloc, Form::Scope { body })?;
+            Ok(forms)
         }
         Stmt::If(choice) => walk_if(alloc, kinds, around, scope, found, choice),
         Stmt::While {
@@ -307,7 +346,8 @@ fn walk_stmt<'a>(
         } => {
             let cond = tested(alloc, kinds, scope, found, condition)?;
             let body = walk_block(alloc, kinds, around.inside_loop(), scope, body)?;
-            Ok(Forms::One(Form::While { cond, body }))
+            let forms = Forms::one(alloc, Form::While { cond, body })?;
+            Ok(forms)
         }
         Stmt::Switch { variable, arms, at } => {
             let ty = switched(
@@ -320,12 +360,10 @@ fn walk_stmt<'a>(
                 at.from,
             )?;
             let v = var_number(scope, variable);
-            let made = walk_arms(alloc, kinds, around, scope, &ty, arms.as_slice())?;
-            Ok(Forms::One(Form::Switch {
-                v,
-                arms: made,
-                end: at.to.saturating_sub(1),
-            }))
+            let arms = walk_arms(alloc, kinds, around, scope, &ty, arms.as_slice())?;
+            let end = at.to.saturating_sub(1);
+            let forms = Forms::one(alloc, Form::Switch { v, arms, end })?;
+            Ok(forms)
         }
         Stmt::Focus {
             variable,
@@ -373,8 +411,9 @@ fn walk_focus<'a>(
         scope,
         body.stmts.as_slice(),
     )?;
-    let made = close_block(alloc, scope, outer, stmts, closing(body))?;
-    Ok(Forms::One(Form::Focus { y, z, body: made }))
+    let body = close_block(alloc, scope, outer, stmts, closing(body))?;
+    let forms = Forms::one(alloc, Form::Focus { y, z, body })?;
+    Ok(forms)
 }
 
 #[cycle(walk)]
@@ -418,11 +457,15 @@ fn walk_if<'a>(
     let then_block = walk_block(alloc, kinds, around, scope, &choice.then_block)?;
     let end = else_closing(closing(&choice.then_block), &choice.otherwise);
     let else_block = walk_else(alloc, kinds, around, scope, end, &choice.otherwise)?;
-    Ok(Forms::One(Form::If {
-        cond,
-        then_block,
-        else_block,
-    }))
+    let forms = Forms::one(
+        alloc,
+        Form::If {
+            cond,
+            then_block,
+            else_block,
+        },
+    )?;
+    Ok(forms)
 }
 
 #[cycle(walk)]
@@ -531,21 +574,10 @@ fn walk_arm<'a>(
         w.walk_one_arm (kinds_seen kinds.now) (around_seen around.entry) (scope_seen scope.old)
         (option_map ty_of ty.now) (tree.arm_of arm.now) ≡ Err r) }
 {
-    let case = arm_case(alloc, kinds, ty, &arm.case)?;
     let outer = scope.enter(alloc);
-    let vars = bound_arm(
-        alloc,
-        kinds,
-        scope,
-        &case,
-        &arm.case,
-        arm.variables.as_slice(),
-    )?;
+    let names = arm.variables.as_slice();
+    let (case, vars) = opened_arm(alloc, kinds, scope, ty, &arm.case, names)?;
     let stmts = walk_stmts(alloc, kinds, around, scope, arm.body.stmts.as_slice())?;
     let body = close_block(alloc, scope, outer, stmts, closing(&arm.body))?;
-    Ok(vlt_core::Arm {
-        case: case_number(&case),
-        vars,
-        body,
-    })
+    Ok(vlt_core::Arm { case, vars, body })
 }
