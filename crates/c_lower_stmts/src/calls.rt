@@ -19,7 +19,7 @@ ghost use Rattle.c_lower_stmts.specs.Values.{is_var_of_kind, kind_gets};
 use crate::objects::count_atom;
 use crate::returns::is_variant;
 use crate::runtime::value_one;
-use c_lower_exprs::{Atom, Numbers, Scope, Slot, lower_operands, successor};
+use c_lower_exprs::{Atom, Numbers, Scope, Slot, lower_operands};
 use c_syntax::{CArg, CCall, CPrim, CStmt, CVar};
 use std::alloc::Global;
 use vlt_base::{FnId, Items, Memory, VarId};
@@ -89,7 +89,7 @@ fn get_kind(
     for slot in slots {
         if is_var_of_kind(references, slot.var) {
             get_value(alloc, out, references, number, slot.var)?;
-            number = successor(number)?;
+            number += 1;
         }
     }
     Ok(())

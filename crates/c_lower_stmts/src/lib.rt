@@ -17,6 +17,6 @@ mod variants;
 
 pub use blocks::{Body, push_case};
 pub use objects::count_atom;
-pub use returns::return_atoms;
+pub use returns::{gives_variant, return_atoms};
 pub use runtime::{call_none, call_one, call_two, value_none, value_one, value_two};
 pub use stmts::lower_stmts;

@@ -16,7 +16,7 @@ ghost use Rattle.c_lower_stmts.specs.Values.{is_of_kind, kind_puts};
 
 use crate::objects::count_atom;
 use crate::runtime::call_two;
-use c_lower_exprs::{Atom, Numbers, Scope, lower_operand, successor};
+use c_lower_exprs::{Atom, Numbers, Scope, lower_operand};
 use c_syntax::{CPrim, CStmt};
 use std::alloc::Global;
 use vlt_base::{Items, Memory};
@@ -75,7 +75,7 @@ fn put_kind(
     for &atom in atoms {
         if is_of_kind(references, atom) {
             put_atom(alloc, out, references, number, atom)?;
-            number = successor(number)?;
+            number += 1;
         }
     }
     Ok(())
@@ -89,7 +89,7 @@ pub fn is_variant(ty: &Ty) -> bool
 }
 
 /// Whether a result is a variant.
-fn gives_variant(ty: &Option<Ty>) -> bool
+pub fn gives_variant(ty: &Option<Ty>) -> bool
     ensures { result ≡ is_variant (option_map view.ty_of ty.now) }
 {
     match ty {
