@@ -11,7 +11,7 @@ ghost use Rattle.c_lower_exprs.specs.Scopes.{AreTables, IsScope, func_in, progra
 ghost use Rattle.c_lower_stmts.specs.Written.{Writes};
 
 use crate::heads::{params_of, result_of, vars_between};
-use c_lower_exprs::{ProgramTables, Scope, frame_slots, successor};
+use c_lower_exprs::{ProgramTables, Scope, frame_slots};
 use c_lower_stmts::{Body, lower_stmts};
 use c_syntax::CFunc;
 use std::alloc::Global;
@@ -19,7 +19,7 @@ use vlt_base::{Items, Memory};
 use vlt_core::{Func, Program};
 
 /// The function of a body.
-fn func_with(alloc: Global, scope: &Scope<'_>, number: u64, body: Body) -> Result<CFunc, Memory>
+pub fn func_with(alloc: Global, scope: &Scope<'_>, number: u64, body: Body) -> Result<CFunc, Memory>
     requires { IsScope scope.now }
     ensures { IfOk result (λ x. func_of x ≡ func_with (program_in scope.now) number
         (func_in scope.now) (stmt_code (map stmt_of body.stmts) (numbers_of body.most))) }
@@ -87,7 +87,7 @@ pub fn lower_bodies(
     for func in program.fns.as_slice() {
         if !func.external {
             made.push(lower_func(alloc, program, tables, number, func)?)?;
-            number = successor(number)?;
+            number += 1;
         }
     }
     Ok(made)

@@ -1,9 +1,9 @@
 //! Functions of a core program in; functions of C, with head, variables and statements, out.
 //! Read `c_lower/specs/Lowering.antt` first, then `specs/Heads.antt`.
-//! Used by: the lowering of whole programs, once the functions that stand for externals are here.
+//! Used by: `c_lower_glue`, for the functions that stand for externals, and the lowering of whole programs.
 #![tactic(auto)]
 
 mod funcs;
 mod heads;
 
-pub use funcs::lower_bodies;
+pub use funcs::{func_with, lower_bodies};
