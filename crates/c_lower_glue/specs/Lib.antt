@@ -1,0 +1,3 @@
+pub mod ManyCases
+pub mod Picks
+pub mod Parts
