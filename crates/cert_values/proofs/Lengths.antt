@@ -1,6 +1,6 @@
 -- Heads of blocks and of arms.
-use Rattle.std.proofs.Common.{◌≡◌, ℕ, suc, refl, ap, ◌∙◌, List, [], ◌∷◌, map, length}
-use Rattle.vlt_core.specs.View.{tok_of, vars_of, stmts_made, stmt_of, block_of, arm_of, arms_of}
+use Rattle.std.proofs.Common.{◌≡◌, suc, refl, ap, ◌∙◌, List, [], ◌∷◌, map, length}
+use Rattle.vlt_core.specs.View.{tok_of, vars_of, stmts_made, stmt_of, block_of, arms_of}
 use Rattle.vlt_core.specs.declared.program.Stmt.{Stmt}
 use Rattle.vlt_core.specs.declared.program.Block.{Block, out-Block}
 use Rattle.vlt_core.specs.declared.program.Arm.{Arm, out-Arm}

@@ -1,6 +1,6 @@
 -- The rows of statements without blocks, the heads of blocks, and maps of the code as a
 -- certificate lists them.
-use Rattle.std.specs.Prelude.{ℕ, false, List, [], ◌∷◌, map, Option, Some, None}
+use Rattle.std.specs.Prelude.{false, List, [], ◌∷◌, map, Option, Some, None}
 use Rattle.serde_json.specs.Data.{Data}
 use Rattle.vlt_core.specs.Core as core
 use Rattle.vlt_core.specs.View.{tok_of, arm_of}

@@ -10,9 +10,10 @@ ghost use Rattle.cert_rows.specs.Rows as row;
 ghost use Rattle.cert_rows.specs.Rows.{head, arm};
 ghost use Rattle.cert_values.specs.Heads.{head_of, heads_of, arm_head, plain_data};
 
+use crate::arrays::{pair, quadruple, tagged, tagged_four, tagged_three};
 use crate::exprs::expr_value;
 use crate::parts::{toks_value, vars_value};
-use serde_json::{Value, json};
+use serde_json::Value;
 use std::alloc::{AllocError, Global};
 use vlt_base::VarId;
 use vlt_core::{Arm, Block, Expr, Tok};
@@ -22,7 +23,7 @@ fn counted_value(alloc: Global, count: usize, bound: &[Tok]) -> Result<Value, Al
         ∷ list (map token.data_of (map tok_of bound.now)) ∷ [])) }
 {
     let bound = toks_value(alloc, bound)?;
-    json!(in alloc; [count, bound])
+    pair(alloc, Value::from(count), bound)
 }
 
 /// How many statements a block has, and the tokens that it binds.
@@ -47,7 +48,7 @@ pub fn if_value(
     let cond = expr_value(alloc, cond)?;
     let then_head = head_value(alloc, then_block)?;
     let else_head = head_value(alloc, else_block)?;
-    json!(in alloc; ["if", cond, then_head, else_head, join])
+    tagged_four(alloc, "if", cond, then_head, else_head, join)
 }
 
 /// The row of a loop, with the maps at its head and those after it.
@@ -64,7 +65,7 @@ pub fn while_value(
 {
     let cond = expr_value(alloc, cond)?;
     let body = head_value(alloc, body)?;
-    json!(in alloc; ["while", cond, body, around, exit])
+    tagged_four(alloc, "while", cond, body, around, exit)
 }
 
 fn arm_row(
@@ -83,7 +84,7 @@ fn arm_row(
 {
     let vars = vars_value(alloc, vars)?;
     let bound = toks_value(alloc, bound)?;
-    json!(in alloc; [case, vars, count, bound])
+    quadruple(alloc, Value::from(case), vars, Value::from(count), bound)
 }
 
 fn arm_value(alloc: Global, item: &Arm) -> Result<Value, AllocError>
@@ -121,7 +122,7 @@ pub fn switch_value(alloc: Global, v: VarId, arms: &[Arm], join: Value) -> Resul
         ∷ list (map arm.data_of (heads_of (arms_of arms.now))) ∷ view join ∷ [])) }
 {
     let arms = arms_value(alloc, arms)?;
-    json!(in alloc; ["switch", v.0, arms, join])
+    tagged_three(alloc, "switch", Value::from(v.0), arms, join)
 }
 
 /// The row of a `focus`.
@@ -130,7 +131,7 @@ pub fn focus_value(alloc: Global, y: VarId, z: VarId, body: &Block) -> Result<Va
         ≡ plain_data (row.focus y.0 z.0 (head_of (block_of body.now)))) }
 {
     let body = head_value(alloc, body)?;
-    json!(in alloc; ["focus", y.0, z.0, body])
+    tagged_three(alloc, "focus", Value::from(y.0), Value::from(z.0), body)
 }
 
 /// The row of a block that stands as a statement.
@@ -138,5 +139,5 @@ pub fn scope_value(alloc: Global, body: &Block) -> Result<Value, AllocError>
     ensures { IfOk result (λ v. view v ≡ plain_data (row.scope (head_of (block_of body.now)))) }
 {
     let body = head_value(alloc, body)?;
-    json!(in alloc; ["scope", body])
+    tagged(alloc, "scope", body)
 }

@@ -1,23 +1,19 @@
 //! Expressions, operands before their operator, and operands of statements.
 
-ghost use Rattle.std.specs.Prelude.{◌≡◌, ◌∷◌, ◌++◌, [], map, IfOk, OnOk};
-ghost use Rattle.serde_json.specs.Data.{string};
+ghost use Rattle.std.specs.Prelude.{◌≡◌, ◌∷◌, ◌++◌, [], map, codes, if◌then◌else◌, IfOk, OnOk};
 ghost use Rattle.serde_json.specs.View.{view};
 ghost use Rattle.cert_rows.specs.Parts.{nat, list};
+ghost use Rattle.cert_rows.specs.Values.{tagged_list};
 ghost use Rattle.cert_rows.specs.Expressions.{expr, expr_items, magnitude as magnitude_of, operand as operand_part, operator_data};
 ghost use Rattle.vlt_core.specs.View.{expr_of, operand_of};
 
-use crate::parts::{mask_value, tagged};
-use serde_json::{Value, json};
+use crate::arrays::{array_of, tagged, tagged_two};
+use crate::parts::mask_value;
+use serde_json::Value;
 use std::alloc::{AllocError, Global};
+use vlt_base::VarId;
 use vlt_core::{Expr, Operand};
 use vlt_ops::{Op, row};
-
-fn tagged_number(alloc: Global, tag: &str, number: u64) -> Result<Value, AllocError>
-    ensures { IfOk result (λ v. view v ≡ list (string tag.now ∷ nat number ∷ [])) }
-{
-    json!(in alloc; [tag, number])
-}
 
 /// The number itself, which has no sign in an expression.
 fn magnitude(number: i64) -> u64
@@ -26,10 +22,43 @@ fn magnitude(number: i64) -> u64
     if number < 0 { 0 } else { number as u64 }
 }
 
-fn op_value(alloc: Global, op: Op) -> Result<Value, AllocError>
-    ensures { IfOk result (λ v. view v ≡ operator_data op) }
+fn flag_number(truth: bool) -> u64
+    ensures { result ≡ (if truth then 1 else 0) }
 {
-    tagged_number(alloc, "o", row(op).number as u64)
+    if truth { 1 } else { 0 }
+}
+
+/// Writes an item.
+fn put(out: &mut Vec<Value>, item: Value) -> Result<(), AllocError>
+    ensures { OnOk result (map view out.new.items ≡ map view out.old.items ++ view item ∷ []) }
+{
+    out.push(item)?;
+    Ok(())
+}
+
+/// Writes an item that is a tag with a number.
+fn put_number(alloc: Global, tag: &str, number: u64, out: &mut Vec<Value>) -> Result<(), AllocError>
+    ensures { OnOk result (map view out.new.items ≡ map view out.old.items
+        ++ tagged_list tag.now (nat number ∷ []) ∷ []) }
+{
+    put(out, tagged(alloc, tag, Value::from(number))?)
+}
+
+fn put_field(alloc: Global, x: VarId, field: u32, out: &mut Vec<Value>) -> Result<(), AllocError>
+    ensures { OnOk result (map view out.new.items ≡ map view out.old.items
+        ++ tagged_list (codes "f") (nat x.0 ∷ nat field ∷ []) ∷ []) }
+{
+    put(
+        out,
+        tagged_two(alloc, "f", Value::from(x.0), Value::from(field))?,
+    )
+}
+
+fn put_op(alloc: Global, op: Op, out: &mut Vec<Value>) -> Result<(), AllocError>
+    ensures { OnOk result (map view out.new.items ≡ map view out.old.items
+        ++ operator_data op ∷ []) }
+{
+    put_number(alloc, "o", row(op).number as u64, out)
 }
 
 /// Writes the items of an expression.
@@ -38,32 +67,18 @@ fn put_expr(alloc: Global, e: &Expr, out: &mut Vec<Value>) -> Result<(), AllocEr
         ≡ map view out.old.items ++ expr_items (expr_of e.now)) }
 {
     match e {
-        Expr::Number(number) => {
-            out.push(tagged_number(alloc, "n", magnitude(*number))?)?;
-            Ok(())
-        }
-        Expr::Bool(truth) => {
-            out.push(tagged_number(alloc, "b", if *truth { 1 } else { 0 })?)?;
-            Ok(())
-        }
-        Expr::Var(v) => {
-            out.push(tagged_number(alloc, "v", v.0 as u64)?)?;
-            Ok(())
-        }
-        Expr::Field(x, field) => {
-            out.push(json!(in alloc; ["f", x.0, *field])?)?;
-            Ok(())
-        }
+        Expr::Number(number) => put_number(alloc, "n", magnitude(*number), out),
+        Expr::Bool(truth) => put_number(alloc, "b", flag_number(*truth), out),
+        Expr::Var(v) => put_number(alloc, "v", v.0 as u64, out),
+        Expr::Field(x, field) => put_field(alloc, *x, *field, out),
         Expr::Un(op, a) => {
             put_expr(alloc, a.get(), out)?;
-            out.push(op_value(alloc, *op)?)?;
-            Ok(())
+            put_op(alloc, *op, out)
         }
         Expr::Bin(op, a, b) => {
             put_expr(alloc, a.get(), out)?;
             put_expr(alloc, b.get(), out)?;
-            out.push(op_value(alloc, *op)?)?;
-            Ok(())
+            put_op(alloc, *op, out)
         }
     }
 }
@@ -74,7 +89,7 @@ pub fn expr_value(alloc: Global, e: &Expr) -> Result<Value, AllocError>
 {
     let mut out = Vec::new(alloc);
     put_expr(alloc, e, &mut out)?;
-    Ok(Value::Array(out))
+    Ok(array_of(out))
 }
 
 /// What is handed over.
@@ -83,8 +98,10 @@ pub fn operand_value(alloc: Global, operand: &Operand) -> Result<Value, AllocErr
 {
     match operand {
         Operand::Pure(e) => tagged(alloc, "e", expr_value(alloc, e)?),
-        Operand::Move(v) => json!(in alloc; ["m", v.0]),
-        Operand::Pack(x, states) => json!(in alloc; ["p", x.0, mask_value(*states)]),
+        Operand::Move(v) => tagged(alloc, "m", Value::from(v.0)),
+        Operand::Pack(x, states) => {
+            tagged_two(alloc, "p", Value::from(x.0), mask_value(*states))
+        }
     }
 }
 
@@ -97,5 +114,5 @@ pub fn operands_value(alloc: Global, operands: &[Operand]) -> Result<Value, Allo
     for item in operands {
         out.push(operand_value(alloc, item)?)?;
     }
-    Ok(Value::Array(out))
+    Ok(array_of(out))
 }

@@ -9,8 +9,9 @@ ghost use Rattle.cert_rows.specs.Parts.{nat};
 ghost use Rattle.cert_rows.specs.Values.{token, kind_number, status_mask, token_status, map_part};
 ghost use Rattle.cert_values.specs.Heads.{token_status_of, listed_map};
 
+use crate::arrays::triple;
 use crate::parts::{mask_value, tok_value};
-use serde_json::{Value, json};
+use serde_json::Value;
 use std::alloc::{AllocError, Global};
 use vlt_core::{Status, Tok, TokMap};
 
@@ -40,7 +41,12 @@ fn states_value(status: Status) -> Value
 fn token_status_value(alloc: Global, tok: Tok, status: Status) -> Result<Value, AllocError>
     ensures { IfOk result (λ v. view v ≡ token_status.data_of (token_status_of (tok, status))) }
 {
-    json!(in alloc; [tok_value(tok), kind_value(status), states_value(status)])
+    triple(
+        alloc,
+        tok_value(tok),
+        kind_value(status),
+        states_value(status),
+    )
 }
 
 /// A map, as an array of its tokens with their statuses.

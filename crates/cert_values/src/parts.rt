@@ -1,14 +1,13 @@
 //! Numbers, sets of states, tokens, and lists of them.
 
-ghost use Rattle.std.specs.Prelude.{◌≡◌, ◌∷◌, [], map, if◌then◌else◌, IfOk};
-ghost use Rattle.serde_json.specs.Data.{string};
+ghost use Rattle.std.specs.Prelude.{◌≡◌, map, if◌then◌else◌, IfOk};
 ghost use Rattle.serde_json.specs.View.{view};
 ghost use Rattle.cert_rows.specs.Parts.{nat, list, minus_data};
 ghost use Rattle.cert_rows.specs.Values.{flag as flag_part, mask, token, ids};
 ghost use Rattle.vlt_base.specs.States.{has_state};
 ghost use Rattle.vlt_core.specs.View.{tok_of, keys_of, vars_of};
 
-use serde_json::{Value, json};
+use serde_json::Value;
 use std::alloc::{AllocError, Global};
 use vlt_base::{KeyId, StateSet, VarId};
 use vlt_core::Tok;
@@ -82,11 +81,4 @@ pub fn toks_value(alloc: Global, toks: &[Tok]) -> Result<Value, AllocError>
         out.push(tok_value(*tok))?;
     }
     Ok(Value::Array(out))
-}
-
-/// An array of a tag and one item.
-pub fn tagged(alloc: Global, tag: &str, item: Value) -> Result<Value, AllocError>
-    ensures { IfOk result (λ v. view v ≡ list (string tag.now ∷ view item ∷ [])) }
-{
-    json!(in alloc; [tag, item])
 }

@@ -7,9 +7,10 @@ ghost use Rattle.vlt_core.specs.View.{expr_of, operand_of, keys_of, vars_of, for
 ghost use Rattle.cert_rows.specs.Rows as row;
 ghost use Rattle.cert_values.specs.Heads.{plain_row, plain_data};
 
+use crate::arrays::{tagged, tagged_four, tagged_three, tagged_two};
 use crate::exprs::{expr_value, operand_value, operands_value};
-use crate::parts::{flag_value, ids_value, number_or_minus, tagged, vars_value};
-use serde_json::{Value, json};
+use crate::parts::{flag_value, ids_value, number_or_minus, vars_value};
+use serde_json::Value;
 use std::alloc::{AllocError, Global};
 use vlt_base::{FnId, KeyId, VarId};
 use vlt_core::{Expr, Form, Operand};
@@ -18,7 +19,7 @@ fn set_value(alloc: Global, v: VarId, e: &Expr) -> Result<Value, AllocError>
     ensures { IfOk result (λ r. view r ≡ plain_data (row.simple (core.set v.0 (expr_of e.now)))) }
 {
     let e = expr_value(alloc, e)?;
-    json!(in alloc; ["set", v.0, e])
+    tagged_two(alloc, "set", Value::from(v.0), e)
 }
 
 fn print_value(alloc: Global, e: &Expr) -> Result<Value, AllocError>
@@ -32,7 +33,7 @@ fn put_value(alloc: Global, x: VarId, field: u32, e: &Expr) -> Result<Value, All
         (expr_of e.now)))) }
 {
     let e = expr_value(alloc, e)?;
-    json!(in alloc; ["put", x.0, field, e])
+    tagged_three(alloc, "put", Value::from(x.0), Value::from(field), e)
 }
 
 fn new_value(alloc: Global, x: VarId, args: &[Operand]) -> Result<Value, AllocError>
@@ -40,7 +41,7 @@ fn new_value(alloc: Global, x: VarId, args: &[Operand]) -> Result<Value, AllocEr
         (map operand_of args.now)))) }
 {
     let args = operands_value(alloc, args)?;
-    json!(in alloc; ["new", x.0, args])
+    tagged_two(alloc, "new", Value::from(x.0), args)
 }
 
 fn own_value(alloc: Global, v: VarId, value: &Operand) -> Result<Value, AllocError>
@@ -48,7 +49,7 @@ fn own_value(alloc: Global, v: VarId, value: &Operand) -> Result<Value, AllocErr
         (operand_of value.now)))) }
 {
     let value = operand_value(alloc, value)?;
-    json!(in alloc; ["own", v.0, value])
+    tagged_two(alloc, "own", Value::from(v.0), value)
 }
 
 fn build_value(alloc: Global, v: VarId, case: u8, args: &[Operand]) -> Result<Value, AllocError>
@@ -56,7 +57,7 @@ fn build_value(alloc: Global, v: VarId, case: u8, args: &[Operand]) -> Result<Va
         (map operand_of args.now)))) }
 {
     let args = operands_value(alloc, args)?;
-    json!(in alloc; ["build", v.0, case, args])
+    tagged_three(alloc, "build", Value::from(v.0), Value::from(case), args)
 }
 
 fn var_number(v: Option<VarId>) -> Option<u32>
@@ -77,7 +78,8 @@ fn call_value(
 {
     let keys = ids_value(alloc, keys)?;
     let args = operands_value(alloc, args)?;
-    json!(in alloc; ["call", f.0, number_or_minus(var_number(target)), keys, args])
+    let target = number_or_minus(var_number(target));
+    tagged_four(alloc, "call", Value::from(f.0), target, keys, args)
 }
 
 fn open_value(alloc: Global, x: VarId, into: &[VarId]) -> Result<Value, AllocError>
@@ -85,7 +87,7 @@ fn open_value(alloc: Global, x: VarId, into: &[VarId]) -> Result<Value, AllocErr
         (vars_of into.now)))) }
 {
     let into = vars_value(alloc, into)?;
-    json!(in alloc; ["open", x.0, into])
+    tagged_two(alloc, "open", Value::from(x.0), into)
 }
 
 fn return_value(alloc: Global, value: &Option<Operand>) -> Result<Value, AllocError>
@@ -93,7 +95,7 @@ fn return_value(alloc: Global, value: &Option<Operand>) -> Result<Value, AllocEr
         (option_map operand_of value.now))) }
 {
     match value {
-        None => json!(in alloc; ["return", 0u32]),
+        None => tagged(alloc, "return", Value::from(0u32)),
         Some(operand) => tagged(alloc, "return", operand_value(alloc, operand)?),
     }
 }
@@ -119,15 +121,19 @@ pub fn plain_value(alloc: Global, form: &Form) -> Result<Value, AllocError>
 {
     match form {
         Form::Set { v, e } => set_value(alloc, *v, e),
-        Form::Input { v, more } => json!(in alloc; ["input", v.0, flag_value(*more)]),
+        Form::Input { v, more } => {
+            tagged_two(alloc, "input", Value::from(v.0), flag_value(*more))
+        }
         Form::Print { e } => print_value(alloc, e),
         Form::Put { x, field, e } => put_value(alloc, *x, *field, e),
         Form::New { x, args } => new_value(alloc, *x, args.as_slice()),
-        Form::Become { x, state } => json!(in alloc; ["become", x.0, *state]),
-        Form::Release { x } => json!(in alloc; ["release", x.0]),
-        Form::Drop { v } => json!(in alloc; ["drop", v.0]),
+        Form::Become { x, state } => {
+            tagged_two(alloc, "become", Value::from(x.0), Value::from(*state))
+        }
+        Form::Release { x } => tagged(alloc, "release", Value::from(x.0)),
+        Form::Drop { v } => tagged(alloc, "drop", Value::from(v.0)),
         Form::Own { v, value } => own_value(alloc, *v, value),
-        Form::Unpack { x, v } => json!(in alloc; ["unpack", x.0, v.0]),
+        Form::Unpack { x, v } => { tagged_two(alloc, "unpack", Value::from(x.0), Value::from(v.0)) }
         Form::Build { v, case, args } => build_value(alloc, *v, *case, args.as_slice()),
         Form::Call {
             f,
@@ -135,11 +141,17 @@ pub fn plain_value(alloc: Global, form: &Form) -> Result<Value, AllocError>
             keys,
             args,
         } => call_value(alloc, *f, *target, keys.as_slice(), args.as_slice()),
-        Form::Swap { x, field, v } => json!(in alloc; ["swap", x.0, *field, v.0]),
+        Form::Swap { x, field, v } => {
+            let (x, field, v) = (Value::from(x.0), Value::from(*field), Value::from(v.0));
+            tagged_three(alloc, "swap", x, field, v)
+        }
         Form::Open { x, into } => open_value(alloc, *x, into.as_slice()),
-        Form::Adopt { y, x, r } => json!(in alloc; ["adopt", y.0, x.0, r.0]),
+        Form::Adopt { y, x, r } => {
+            let (y, x, r) = (Value::from(y.0), Value::from(x.0), Value::from(r.0));
+            tagged_three(alloc, "adopt", y, x, r)
+        }
         Form::Return { value } => return_value(alloc, value),
-        Form::Jump { continues } => json!(in alloc; ["jump", flag_value(*continues)]),
+        Form::Jump { continues } => tagged(alloc, "jump", flag_value(*continues)),
         _ => Ok(Value::Null),
     }
 }

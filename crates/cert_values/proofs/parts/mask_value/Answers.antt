@@ -1,4 +1,4 @@
-use Rattle.std.proofs.Common.{◌≡◌, ◌∙◌, ap, arith}
+use Rattle.std.proofs.Common.{◌∙◌, ap, arith}
 use Rattle.cert_rows.specs.Parts.{nat}
 use Rattle.cert_values.proofs.Masks.{mask_back}
 use Rattle.cert_values.proofs.parts.mask_value.Goals as goal
