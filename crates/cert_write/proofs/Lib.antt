@@ -1,0 +1,11 @@
+pub mod Each
+pub mod Finding
+pub mod Going
+pub mod Keeping
+pub mod Placing
+pub mod Written
+pub mod Shallow
+pub mod Functions
+pub mod Tables
+pub mod Certified
+pub mod Same

@@ -1,0 +1,19 @@
+//! A core program and the notes of its functions in, the text of its certificate out.
+//! Read `cert_format/specs/Certificate.antt` first, then `specs/Notes.antt`.
+//! Used by: nothing yet; `emit` will.
+#![tactic(auto)]
+
+mod ends;
+mod laws;
+mod maps;
+mod notes;
+mod ordered;
+mod own;
+mod place;
+mod program;
+mod text;
+mod walk;
+
+pub use cert_decl_values::Unwritten;
+pub use laws::notes_are_kept;
+pub use program::to_text;
