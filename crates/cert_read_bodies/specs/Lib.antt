@@ -1,0 +1,4 @@
+pub mod Tree
+pub mod Reads
+pub mod Bodies
+pub mod Notes

@@ -1,0 +1,42 @@
+//! Statements as rows give them: a block says how many it has, and may break off before.
+
+use cert_read_rows::PlainRow;
+use vlt_base::{Boxed, Items, VarId};
+use vlt_core::{Expr, Tok, TokMap};
+
+#[cycle(drafts)]
+#[derive(Drop)]
+pub enum Draft {
+    /// A statement without blocks.
+    Plain(Boxed<PlainRow>),
+    /// The maps after it are one for each instance; without them the row has 0.
+    If(Boxed<Expr>, Block, Block, Option<Items<TokMap>>),
+    While(Boxed<Expr>, Block, Items<TokMap>, Items<TokMap>),
+    Switch(VarId, Items<Arm>, Option<Items<TokMap>>),
+    Focus(VarId, VarId, Block),
+    Scope(Block),
+}
+
+#[cycle(drafts)]
+#[derive(Drop)]
+pub struct Arm {
+    pub case: u8,
+    pub vars: Items<VarId>,
+    pub body: Block,
+}
+
+#[cycle(drafts)]
+#[derive(Drop)]
+pub struct Block {
+    pub count: u32,
+    pub bound: Items<Tok>,
+    pub stmts: Items<Draft>,
+}
+
+/// Whether a statement ends, as far as its rows tell.
+#[derive(Clone, Copy, Debug, PartialEq, Eq)]
+pub enum Ending {
+    Sure,
+    Never,
+    Unsure,
+}
