@@ -1,0 +1,9 @@
+mod Counting
+mod Said
+mod CaseMore
+mod Standing
+mod OneRow
+mod Parted
+mod Going
+mod Marks
+mod Texts

@@ -1,0 +1,4 @@
+pub mod Heads
+pub mod Cases
+pub mod Declarations
+pub mod Certificates
