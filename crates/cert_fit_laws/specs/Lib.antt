@@ -1,0 +1,5 @@
+pub mod Formed
+pub mod Annotation
+pub mod Programs
+pub mod Limits
+pub mod Complete
