@@ -1,0 +1,17 @@
+pub mod CNames
+pub mod Few
+pub mod Shorter
+pub mod Counting
+pub mod Shallow
+pub mod Simple
+pub mod Bodies
+pub mod Declarations
+pub mod Functions
+pub mod Main
+pub mod Limited
+pub mod Unordered
+pub mod ListedMaps
+pub mod Annotated
+pub mod Holding
+pub mod Verifying
+pub mod NarrowHeads

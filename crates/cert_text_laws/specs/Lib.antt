@@ -1,0 +1,4 @@
+pub mod Annotations
+pub mod Texts
+pub mod Verified
+pub mod Fit

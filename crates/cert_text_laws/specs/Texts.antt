@@ -1,0 +1,66 @@
+-- Accepted programs of texts have certificates.
+use Rattle.std.specs.Prelude.{◌≡◌, ◌≤◌, ℕ, false, List, map, length, Option}
+use Rattle.vlt_base.specs.Limits.{limit_of}
+use Rattle.vlt_lexer.specs.Reading.{Lexeme}
+use Rattle.vlt_lexer.specs.Text.{IsTokensOf}
+use Rattle.vlt_syntax.specs.Tokens.{tokens_in}
+use Rattle.vlt_syntax.specs.Tree.{Tree}
+use Rattle.vlt_syntax.specs.Spelling.{spelling}
+use Rattle.vlt_core.specs.Core.{Program}
+use Rattle.vlt_core.specs.View.{program_of}
+use Rattle.vlt_core.specs.declared.notes.Note.{Note as CodeNote}
+use Rattle.vlt_core.specs.declared.program.Program.{Program as CodeProgram}
+use Rattle.vlt_kinds.specs.Kinds.{Kinds}
+use Rattle.vlt_resolve_laws.specs.Elaborated.{IsElaborated}
+use Rattle.cert_rows.specs.Parts.{list}
+use Rattle.cert_format.specs.Places.{unplaced_program}
+use Rattle.cert_format.specs.Text.{marked}
+use Rattle.cert_format.specs.Certificate.{program_data, FitsCertificate, IsCertificateOf}
+use Rattle.cert_format_laws.specs.Texts.{IsWrittenText}
+use Rattle.cert_format_laws.specs.Versions.{is_ordered}
+use Rattle.cert_fit_laws.specs.Limits.{IsLimitedProgram}
+use Rattle.cert_text_laws.specs.Annotations.{listed_notes, AreAnnotated}
+
+-- The program is what elaboration gives of the tree that the tokens of the text spell, whose number
+-- is within its limit.
+pub record IsProgramOfText (bytes : List ℕ) (p : Program) : Type 0 where
+  pub tokens : List Lexeme
+  pub tree : Tree
+  pub kinds : Kinds
+  pub read : IsTokensOf bytes tokens
+  pub few : length tokens ≤ limit_of 3
+  pub spelled : tokens_in tokens ≡ spelling tree
+  pub elaborated : IsElaborated tree kinds p
+
+-- the program of a text keeps the limits of certificates of version 1
+abbrev pub TextsAreLimited : Type 0
+TextsAreLimited =
+    (bytes : List ℕ) (p : Program) → IsProgramOfText bytes p → IsLimitedProgram p
+
+-- so version 1 is the one that is written of it
+abbrev pub TextsAreUnordered : Type 0
+TextsAreUnordered =
+    (bytes : List ℕ) (p : Program) → IsProgramOfText bytes p →
+    is_ordered (unplaced_program p) ≡ false
+
+-- The program that the code makes of a text, each of whose bodies has its least annotation, has a
+-- certificate of version 1, without its places, and with the notes of the annotations. An annotation
+-- holds in each body, so the program is accepted.
+abbrev pub AcceptedProgramsHaveCertificates : Type 0
+AcceptedProgramsHaveCertificates =
+    (bytes : List ℕ) (p : CodeProgram) (all : List (Option (List CodeNote))) →
+    IsProgramOfText bytes (program_of p) → AreAnnotated p p.fns all →
+    FitsCertificate false (unplaced_program (program_of p)) (map listed_notes all)
+
+-- the text that is written of a program without its places, and of these notes
+abbrev pub IsWrittenOf : (body : List ℕ) → CodeProgram → List (Option (List CodeNote)) → Type 0
+IsWrittenOf body p all =
+    let q = unplaced_program (program_of p) in
+    IsWrittenText body (list (program_data (is_ordered q) q (map listed_notes all)))
+
+-- What is written of it is, between the marks, its certificate.
+abbrev pub AcceptedProgramsHaveTexts : Type 0
+AcceptedProgramsHaveTexts =
+    (bytes : List ℕ) (p : CodeProgram) (all : List (Option (List CodeNote))) (body : List ℕ) →
+    IsProgramOfText bytes (program_of p) → AreAnnotated p p.fns all → IsWrittenOf body p all →
+    IsCertificateOf (marked body) (unplaced_program (program_of p)) (map listed_notes all)
