@@ -1,0 +1,10 @@
+pub mod Deciding
+pub mod Ends
+pub mod Holding
+pub mod Leading
+pub mod Listing
+pub mod Lookups
+pub mod OneRefusal
+pub mod Pointing
+pub mod Rowing
+pub mod Sequences
