@@ -195,12 +195,11 @@ pub fn close(alloc: Global, ways: &[Way], turn: &[Way]) -> Result<Items<Way>, Al
 {
     let mut list = Items::new(alloc);
     join(alloc, &mut list, ways)?;
-    for index in 0..usize::MAX {
-        if index >= list.len() {
-            return Ok(list);
-        }
+    let mut index = 0;
+    while index < list.len() {
         let way = copied(alloc, &list.as_slice()[index])?;
         extend(alloc, &way, turn, &mut list)?;
+        index += 1;
     }
-    Err(AllocError)
+    Ok(list)
 }

@@ -8,12 +8,12 @@ pub loop-index-init : goal.loop-index-init
 loop-index-init c =
     closing_first (On c.args.turn.now) (On c.args.ways.now) c.join.new.list (subst (λ l. Joined (On l) (On c.args.ways.now) (On c.join.new.list)) c.new-list.ensures c.in_ok-join.ensures)
 
-pub returns-then-index-len : goal.returns-then-index-len
-returns-then-index-len c = closing_ends (On c.args.turn.now) (On c.args.ways.now) c.loop-index.list c.loop-index.index (omega (arith, c.if-index-len.true, c.len.ensures)) c.loop-index.invariant
+pub returns : goal.returns
+returns c = closing_ends (On c.args.turn.now) (On c.args.ways.now) c.loop-index.list c.loop-index.index (omega (arith, c.loop-index-test.false, c.len.ensures)) c.loop-index.invariant
 
 pub loop-index-preserved : goal.loop-index-preserved
 loop-index-preserved c =
-    let lt : c.loop-index.index < length c.loop-index.list = omega (arith, c.if-index-len.false, c.len.ensures) in
+    let lt : c.loop-index.index < length c.loop-index.list = omega (arith, c.loop-index-test.true, c.len.ensures) in
     let read = rw c.as_slice.ensures at c.index-as_slice-index.is in
     let x = c.index-as_slice-index.result in
     let S = On c.args.turn.now in
