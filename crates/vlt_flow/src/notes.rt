@@ -66,7 +66,8 @@ pub fn annotate(alloc: Global, p: &Program, f: &Func) -> Result<Annotation, Stop
         IsLocalIn (program_of p.now) (func_of f.now) a → ⊥) }
     ensures unfit { IfUnfit result (IsUnfit (program_of p.now) (func_of f.now) ⊎
         IsUnnoted (length f.now.keys) (length f.now.vars)
-        (body_flow (program_of p.now) (func_of f.now)) (start_map (program_of p.now) (func_of f.now))) }
+        (body_flow (program_of p.now) (func_of f.now))
+        (start_map (program_of p.now) (func_of f.now))) }
 {
     let flow = body_flow(alloc, p, f)?;
     let start = start_map_of(alloc, p, f)?;

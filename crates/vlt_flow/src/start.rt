@@ -107,7 +107,8 @@ fn start_keys(alloc: Global, p: &Program, f: &Func) -> Result<Held, RowError>
 /// The map that a body begins with. `Unfit` where there are more keys or variables than numbers, or where an entry of the
 /// clause names a key that the function doesn't have, or states of which there is no set.
 pub fn start_map_of(alloc: Global, p: &Program, f: &Func) -> Result<Held, RowError>
-    ensures map { MatchResult result (λ h. map_of h ≡ start_map (program_of p.now) (func_of f.now))
+    ensures map { MatchResult result
+        (λ h. map_of h ≡ start_map (program_of p.now) (func_of f.now))
         (UnfitBy (HasNoStart (program_of p.now) (func_of f.now))) }
     ensures range { IfOk result (HasRange (func_of f.now)) }
 {
