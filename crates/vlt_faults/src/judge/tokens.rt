@@ -134,7 +134,8 @@ fn judge_vars(
 /// names. `Unfit` where something in the body has no number.
 pub fn judge(alloc: Global, body: &FlowBlock, start: &Held) -> Result<Option<Blame>, RowError>
     requires { IsNumbered start.now }
-    ensures first { IfOk result (IsFirstOver (λ t. Unit {0}) (block_view body.now) (map_of start.now)) }
+    ensures first { IfOk result (IsFirstOver (λ t. Unit {0}) (block_view body.now)
+        (map_of start.now)) }
     ensures unfit { IfErr result (UnfitBy (HasNoNumber (block_view body.now))) }
 {
     let whole = whole_extent(body, start)?;
