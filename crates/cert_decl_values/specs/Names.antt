@@ -17,7 +17,8 @@ HasTextType (a_variant d) = IsUtf8 d.name × All (λ c. IsUtf8 c.name) d.cases
 
 -- the names of its keys and variables too
 abbrev pub HasTextFunc : Func → Type 0
-HasTextFunc f = IsUtf8 f.name × All (λ k. IsUtf8 k.name) f.keys × All (λ v. IsUtf8 v.name) f.vars
+HasTextFunc f =
+    IsUtf8 f.name × All (λ k. IsUtf8 k.name) f.keys × All (λ v. IsUtf8 v.name) f.vars
 
 -- each name of the program is UTF-8
 pub record HasTextNames (p : Program) : Type 0 where

@@ -24,17 +24,17 @@ fn first_items(
     alloc: Global,
     tag: &str,
     name: Value,
-    given: &Option<Ty>,
+    ty: &Option<Ty>,
     params: u32,
     clause: &[Entry],
 ) -> Result<Vec<Value>, AllocError>
     ensures { IfOk result (λ items. map view items.items ≡ string tag.now ∷ view name
-        ∷ result_data (option_map ty_of given.now) ∷ nat params
+        ∷ result_data (option_map ty_of ty.now) ∷ nat params
         ∷ list (map (entry_part true).data_of (map entry_of clause.now)) ∷ []) }
 {
-    let given = result_value(alloc, given)?;
+    let ty = result_value(alloc, ty)?;
     let items = start(alloc, tag)?;
-    let items = two_more(items, name, given)?;
+    let items = two_more(items, name, ty)?;
     let clause = clause_value(alloc, clause)?;
     two_more(items, Value::from(params), clause)
 }

@@ -18,10 +18,10 @@ use vlt_base::{StateSet, TypeId};
 use vlt_core::{Entry, KeyDecl, Mode, Ty, VarDecl};
 
 /// A result's type, or that there is none.
-pub fn result_value(alloc: Global, given: &Option<Ty>) -> Result<Value, AllocError>
-    ensures { IfOk result (λ v. view v ≡ result_data (option_map ty_of given.now)) }
+pub fn result_value(alloc: Global, ty: &Option<Ty>) -> Result<Value, AllocError>
+    ensures { IfOk result (λ v. view v ≡ result_data (option_map ty_of ty.now)) }
 {
-    match given {
+    match ty {
         None => bare(alloc, "void"),
         Some(ty) => ty_value(alloc, ty),
     }
@@ -117,7 +117,8 @@ fn key_value(alloc: Global, key: &KeyDecl) -> Result<Value, Unwritten>
 
 /// The keys of a function with their types.
 pub fn keys_value(alloc: Global, keys: &[KeyDecl]) -> Result<Value, Unwritten>
-    ensures value { IfOk result (λ v. view v ≡ list (map key_decl.data_of (map key_of keys.now))) }
+    ensures value { IfOk result (λ v. view v ≡ list (map key_decl.data_of
+        (map key_of keys.now))) }
     ensures named { All (λ k. IsUtf8 k.name) (map key_of keys.now) → IsNamed result }
 {
     let mut out = Vec::new(alloc);
@@ -128,7 +129,8 @@ pub fn keys_value(alloc: Global, keys: &[KeyDecl]) -> Result<Value, Unwritten>
 }
 
 fn var_row(alloc: Global, name: Value, ty: &Ty) -> Result<Value, AllocError>
-    ensures { IfOk result (λ v. view v ≡ list (view name ∷ ty_part.data_of (ty_of ty.now) ∷ [])) }
+    ensures { IfOk result (λ v. view v ≡ list (view name
+        ∷ ty_part.data_of (ty_of ty.now) ∷ [])) }
 {
     let ty = ty_value(alloc, ty)?;
     pair(alloc, name, ty)
@@ -144,7 +146,8 @@ fn var_value(alloc: Global, var: &VarDecl) -> Result<Value, Unwritten>
 
 /// The variables of a function with their types.
 pub fn vars_value(alloc: Global, vars: &[VarDecl]) -> Result<Value, Unwritten>
-    ensures value { IfOk result (λ v. view v ≡ list (map var_decl.data_of (map var_of vars.now))) }
+    ensures value { IfOk result (λ v. view v ≡ list (map var_decl.data_of
+        (map var_of vars.now))) }
     ensures named { All (λ x. IsUtf8 x.name) (map var_of vars.now) → IsNamed result }
 {
     let mut out = Vec::new(alloc);

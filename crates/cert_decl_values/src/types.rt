@@ -91,7 +91,8 @@ fn case_key_value(alloc: Global, position: u32, states: StateSet) -> Result<Valu
 }
 
 fn case_keys_value(alloc: Global, keys: &[(u32, StateSet)]) -> Result<Value, AllocError>
-    ensures { IfOk result (λ v. view v ≡ list (map case_key.data_of (map case_key_of keys.now))) }
+    ensures { IfOk result (λ v. view v ≡ list (map case_key.data_of
+        (map case_key_of keys.now))) }
 {
     let mut out = Vec::new(alloc);
     for key in keys {
@@ -224,7 +225,8 @@ fn put_cases(alloc: Global, cases: &[CaseDecl], out: &mut Vec<Value>) -> Result<
 
 /// Writes a row.
 fn put(out: &mut Vec<Value>, row: Value) -> Result<(), Unwritten>
-    ensures rows { OnOk result (map view out.new.items ≡ map view out.old.items ++ view row ∷ []) }
+    ensures rows { OnOk result (map view out.new.items
+        ≡ map view out.old.items ++ view row ∷ []) }
     ensures named { IsNamed result }
 {
     out.push(row)?;

@@ -78,7 +78,8 @@ pub fn tagged_three(
     b: Value,
     c: Value,
 ) -> Result<Value, AllocError>
-    ensures { IfOk result (λ v. view v ≡ tagged_list tag.now (view a ∷ view b ∷ view c ∷ [])) }
+    ensures { IfOk result (λ v. view v
+        ≡ tagged_list tag.now (view a ∷ view b ∷ view c ∷ [])) }
 {
     let items = start(alloc, tag)?;
     let items = two_more(items, a, b)?;

@@ -41,7 +41,8 @@ pub fn if_value(
     else_block: &Block,
     join: Value,
 ) -> Result<Value, AllocError>
-    ensures { IfOk result (λ v. view v ≡ tagged_list (codes "if") (expr.data_of (expr_of cond.now)
+    ensures { IfOk result (λ v. view v ≡ tagged_list (codes "if")
+        (expr.data_of (expr_of cond.now)
         ∷ head.data_of (head_of (block_of then_block.now))
         ∷ head.data_of (head_of (block_of else_block.now)) ∷ view join ∷ [])) }
 {

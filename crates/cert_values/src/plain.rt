@@ -16,7 +16,8 @@ use vlt_base::{FnId, KeyId, VarId};
 use vlt_core::{Expr, Form, Operand};
 
 fn set_value(alloc: Global, v: VarId, e: &Expr) -> Result<Value, AllocError>
-    ensures { IfOk result (λ r. view r ≡ plain_data (row.simple (core.set v.0 (expr_of e.now)))) }
+    ensures { IfOk result (λ r. view r ≡ plain_data (row.simple (core.set v.0
+        (expr_of e.now)))) }
 {
     let e = expr_value(alloc, e)?;
     tagged_two(alloc, "set", Value::from(v.0), e)

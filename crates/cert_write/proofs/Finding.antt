@@ -1,11 +1,11 @@
--- The note at a place is the first one of its statement, and what comes before it is of statements before.
+-- The note at a cursor is the first one of its statement, and those before it are of statements before.
 use Rattle.std.proofs.Common.{◌≡◌, ◌<◌, ◌+◌, ℕ, zero, suc, ◌==◌, true, false, if◌then◌else◌, List, [], ◌∷◌, take, length, get_or, sym, ap, ◌∙◌, subst, arith, Some}
 use Rattle.std.proofs.lemmas.Bool.Decides.{nat_tests}
 use Rattle.vlt_core.specs.declared.notes.Note as code
 use Rattle.vlt_core.specs.declared.notes.Annotation.{Annotation}
 use Rattle.cert_write.specs.Notes.{number_of, note_at}
 use Rattle.cert_write.specs.Rows.{AreBefore, AreAllBefore}
-use Rattle.cert_write.specs.declared.place.Place.{Place}
+use Rattle.cert_write.specs.declared.cursor.Cursor.{Cursor}
 
 pub unlike : (m n : ℕ) → m < n → (m == n) ≡ false
 unlike m n less = grind (arith, nat_tests)
@@ -41,6 +41,6 @@ more_before notes i n x less is before same =
     subst (λ j. AreBefore (n + 1) (take j notes)) (sym s) (suc_before notes i n x less is before same)
 
 -- in all annotations
-pub all_later : (given : List Annotation) (p : Place) → AreAllBefore given p → AreAllBefore given (record { next = p.next + 1; at = p.at })
+pub all_later : (annotations : List Annotation) (p : Cursor) → AreAllBefore annotations p → AreAllBefore annotations (record { next = p.next + 1; at = p.at })
 all_later [] p b = tt
 all_later (a ∷ more) p b = (later p.next (take p.at a.maps) b.0, all_later more p b.1)

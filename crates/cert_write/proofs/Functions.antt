@@ -39,17 +39,17 @@ head_same o true k r = refl
 head_same o false k r = refl
 
 -- the function's rows, without its places
-fn_same : (o : Bool) (p : Program) (f : Func) (given : List Annotation) →
-    map (row_data (fn_shape o p (unplaced_func f))) (function_rows (unplaced_func f) (fn_notes f given)) ≡ fn_data f given
-fn_same o p f given =
-    sym (ap (λ d. d ∷ list_data (is_some (bound_in f.clause)) (maps_in given) 0 f.body)
+fn_same : (o : Bool) (p : Program) (f : Func) (annotations : List Annotation) →
+    map (row_data (fn_shape o p (unplaced_func f))) (function_rows (unplaced_func f) (fn_notes f annotations)) ≡ fn_data f annotations
+fn_same o p f annotations =
+    sym (ap (λ d. d ∷ list_data (is_some (bound_in f.clause)) (maps_in annotations) 0 f.body)
     (ap (λ n. plain_data (if f.external then external (named n) else function (named n))) (sym (lengthy f.body)) ∙
     head_same o f.external k (fn_row (unplaced_func f))) ∙
     ap (λ l. row_data (shape o k) head ∷ l)
-    (ap (λ b. list_data b (maps_in given) 0 f.body) (sym (is_bounded p (unplaced_func f))) ∙
-    list_same o k (maps_in given) 0 f.body ∙
+    (ap (λ b. list_data b (maps_in annotations) 0 f.body) (sym (is_bounded p (unplaced_func f))) ∙
+    list_same o k (maps_in annotations) 0 f.body ∙
     ap (λ ds. map (row_data (shape o k)) (list_rows ds))
-    (sym (same_list (maps_of (fn_notes f given)) 0 f.body ∙ own_notes (maps_in given) f.body))))
+    (sym (same_list (maps_of (fn_notes f annotations)) 0 f.body ∙ own_notes (maps_in annotations) f.body))))
   where
     k : Option ℕ
     k = instances p (unplaced_func f)
@@ -66,9 +66,9 @@ fns_same o p [] all = refl
 fns_same o p (f ∷ fs) [] =
     ap (λ l. l ++ functions_data o p (map unplaced_func fs) (notes_in fs [])) (fn_same o p f []) ∙
     ap (λ l. fn_data f [] ++ l) (fns_same o p fs [])
-fns_same o p (f ∷ fs) (given ∷ all) =
-    ap (λ l. l ++ functions_data o p (map unplaced_func fs) (notes_in fs all)) (fn_same o p f given) ∙
-    ap (λ l. fn_data f given ++ l) (fns_same o p fs all)
+fns_same o p (f ∷ fs) (annotations ∷ all) =
+    ap (λ l. l ++ functions_data o p (map unplaced_func fs) (notes_in fs all)) (fn_same o p f annotations) ∙
+    ap (λ l. fn_data f annotations ++ l) (fns_same o p fs all)
 
 -- ---- types
 

@@ -1,6 +1,7 @@
 pub mod Each
 pub mod Finding
 pub mod Going
+pub mod Inside
 pub mod Keeping
 pub mod Placing
 pub mod Written

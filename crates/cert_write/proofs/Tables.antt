@@ -10,7 +10,7 @@ use Rattle.vlt_core.specs.declared.program.Func.{Func}
 use Rattle.vlt_core.specs.declared.notes.Annotation.{Annotation}
 use Rattle.cert_format.specs.Certificate.{type_rows}
 use Rattle.cert_values.specs.Heads.{plain_data}
-use Rattle.cert_write.specs.Rows.{fn_data, first_given, fns_data, types_data}
+use Rattle.cert_write.specs.Rows.{fn_data, first_annotations, fns_data, types_data}
 use Rattle.cert_write.proofs.Each.{split_at}
 
 abbrev pub TypesGoing : (ds : List TypeDecl) (old : List Value) (i : ℕ) (now : List Value) → Type 0
@@ -31,14 +31,14 @@ module _ (fns : List Func) (all : List (List Annotation)) (old : List Value) whe
   abbrev pub FnsGoing : (i : ℕ) (left : List (List Annotation)) (now : List Value) → Type 0
   FnsGoing i left now = map view now ++ fns_data (map func_of (drop i fns)) left ≡ map view old ++ fns_data (map func_of fns) all
 
-  pub fns_more : (i : ℕ) (left rest : List (List Annotation)) (given : List Annotation) (now new : List Value) (f : Func) → i < length fns → f ≡ get_or fns i f →
-      given ≡ first_given left → rest ≡ drop 1 left → FnsGoing i left now →
-      map view new ≡ map view now ++ fn_data (func_of f) given → FnsGoing (i + 1) rest new
-  fns_more i left rest given now new f lt is one others g put =
+  pub fns_more : (i : ℕ) (left rest : List (List Annotation)) (annotations : List Annotation) (now new : List Value) (f : Func) → i < length fns → f ≡ get_or fns i f →
+      annotations ≡ first_annotations left → rest ≡ drop 1 left → FnsGoing i left now →
+      map view new ≡ map view now ++ fn_data (func_of f) annotations → FnsGoing (i + 1) rest new
+  fns_more i left rest annotations now new f lt is one others g put =
       ap (λ l. l ++ fns_data (map func_of (drop (i + 1) fns)) rest) put ∙
-      append_assoc (map view now) (fn_data (func_of f) given) (fns_data (map func_of (drop (i + 1) fns)) rest) ∙
+      append_assoc (map view now) (fn_data (func_of f) annotations) (fns_data (map func_of (drop (i + 1) fns)) rest) ∙
       ap (λ x. map view now ++ (fn_data (func_of f) x ++ fns_data (map func_of (drop (i + 1) fns)) rest)) one ∙
-      ap (λ x. map view now ++ (fn_data (func_of f) (first_given left) ++ fns_data (map func_of (drop (i + 1) fns)) x)) others ∙
+      ap (λ x. map view now ++ (fn_data (func_of f) (first_annotations left) ++ fns_data (map func_of (drop (i + 1) fns)) x)) others ∙
       ap (λ l. map view now ++ fns_data (map func_of l) left) (sym (split_at fns i f lt is)) ∙ g
 
   pub fns_end : (i : ℕ) (left : List (List Annotation)) (now : List Value) → length fns ≤ i → FnsGoing i left now → map view now ≡ map view old ++ fns_data (map func_of fns) all

@@ -35,20 +35,20 @@ behind_in (Some (note.Join stmt m)) = listed_map m
 
 -- the maps of each statement, one of each annotation
 abbrev pub maps_in : List Annotation → MapNotes
-maps_in given = record {
-  around = λ n. map (λ a. around_in (note_at a.maps n)) given;
-  behind = λ n. map (λ a. behind_in (note_at a.maps n)) given;
+maps_in annotations = record {
+  around = λ n. map (λ a. around_in (note_at a.maps n)) annotations;
+  behind = λ n. map (λ a. behind_in (note_at a.maps n)) annotations;
 }
 
 -- the notes of a function's loops and of its choices that don't end, in order
 abbrev pub fn_notes : Func → List Annotation → List Note
-fn_notes f given = list_notes 0 (list_draft (maps_in given) 0 f.body)
+fn_notes f annotations = list_notes 0 (list_draft (maps_in annotations) 0 f.body)
 
--- of each function, where none are given those without maps
+-- of each function; without annotations its notes have no maps
 abbrev pub notes_in : List Func → List (List Annotation) → List (List Note)
 notes_in [] all = []
 notes_in (f ∷ fs) [] = fn_notes f [] ∷ notes_in fs []
-notes_in (f ∷ fs) (given ∷ all) = fn_notes f given ∷ notes_in fs all
+notes_in (f ∷ fs) (annotations ∷ all) = fn_notes f annotations ∷ notes_in fs all
 
 -- ---- a function without a bound entry
 

@@ -20,7 +20,7 @@ use Rattle.cert_format.specs.Bodies.{count, count_block}
 use Rattle.cert_format.specs.Certificate.{shape, type_rows, fn_row}
 use Rattle.cert_values.specs.Heads.{plain_data, head_of, heads_of}
 use Rattle.cert_write.specs.Notes.{number_of, maps_in}
-use Rattle.cert_write.specs.declared.place.Place.{Place}
+use Rattle.cert_write.specs.declared.cursor.Cursor.{Cursor}
 
 -- the maps of a function that has a bound entry, and of one that has none
 abbrev pub maps_data : (bound : Bool) → List ListedMap → Data
@@ -80,22 +80,22 @@ module _ (bound : Bool) (a : MapNotes) where
 abbrev pub AreBefore : (n : ℕ) → List code.Note → Type 0
 AreBefore n notes = All (λ x. number_of x < n) notes
 
--- of each annotation the notes before the place are of statements before it
-abbrev pub AreAllBefore : List Annotation → Place → Type 0
-AreAllBefore given p = All (λ a. AreBefore p.next (take p.at a.maps)) given
+-- of each annotation the notes before the cursor are of statements before it
+abbrev pub AreAllBefore : List Annotation → Cursor → Type 0
+AreAllBefore annotations p = All (λ a. AreBefore p.next (take p.at a.maps)) annotations
 
--- a walk that has written so many rows may stand at the place
-pub record IsReady (given : List Annotation) (rows : ℕ) (p : Place) : Type 0 where
-  pub before : AreAllBefore given p
+-- a walk that has written so many rows may stand at the cursor
+pub record IsReady (annotations : List Annotation) (rows : ℕ) (p : Cursor) : Type 0 where
+  pub before : AreAllBefore annotations p
   pub early : p.at ≤ p.next
   pub room : p.next ≤ rows
 
 -- From the statement of number n rows of so many statements were written after the old ones.
-pub record IsPut (given : List Annotation) (n size : ℕ) (rows : List Data) (old new : List Value)
-    (to : Place) : Type 0 where
+pub record IsPut (annotations : List Annotation) (n size : ℕ) (rows : List Data)
+    (old new : List Value) (to : Cursor) : Type 0 where
   pub written : map view new ≡ map view old ++ rows
   pub next : to.next ≡ n + size
-  pub ready : IsReady given (length new) to
+  pub ready : IsReady annotations (length new) to
 
 -- the values nest at most 5 deep
 abbrev pub AreShallow : List Data → Type 0
@@ -109,19 +109,19 @@ head_data f =
     plain_data (if f.external then row.external (fn_row f) else row.function (fn_row f))
 
 abbrev pub body_data : core.Func → List Annotation → List Data
-body_data f given = list_data (is_some (bound_in f.clause)) (maps_in given) 0 f.body
+body_data f annotations = list_data (is_some (bound_in f.clause)) (maps_in annotations) 0 f.body
 
 abbrev pub fn_data : core.Func → List Annotation → List Data
-fn_data f given = head_data f ∷ body_data f given
+fn_data f annotations = head_data f ∷ body_data f annotations
 
 -- the annotations of the first function
-abbrev pub first_given : List (List Annotation) → List Annotation
-first_given [] = []
-first_given (given ∷ all) = given
+abbrev pub first_annotations : List (List Annotation) → List Annotation
+first_annotations [] = []
+first_annotations (annotations ∷ all) = annotations
 
 abbrev pub fns_data : List core.Func → List (List Annotation) → List Data
 fns_data [] all = []
-fns_data (f ∷ fs) all = fn_data f (first_given all) ++ fns_data fs (drop 1 all)
+fns_data (f ∷ fs) all = fn_data f (first_annotations all) ++ fns_data fs (drop 1 all)
 
 abbrev pub sets_data : (ordered : Bool) → List core.SetDecl → List Data
 sets_data o ds = map (row_data (shape o None)) (map row.states ds)

@@ -3,13 +3,13 @@
 //! Used by: nothing yet; `emit` will.
 #![tactic(auto)]
 
+mod cursor;
 mod ends;
 mod laws;
 mod maps;
 mod notes;
 mod ordered;
 mod own;
-mod place;
 mod program;
 mod text;
 mod walk;

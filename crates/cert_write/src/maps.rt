@@ -6,8 +6,8 @@ ghost use Rattle.cert_rows.specs.Values.{map_part};
 ghost use Rattle.cert_write.specs.Notes.{note_at as note_of, around_in, behind_in, maps_in};
 ghost use Rattle.cert_write.specs.Rows.{AreBefore, AreAllBefore, maps_data, join_data};
 
+use crate::cursor::Cursor;
 use crate::notes::note_at;
-use crate::place::Place;
 use cert_values::map_value;
 use serde_json::Value;
 use std::alloc::{AllocError, Global};
@@ -37,7 +37,7 @@ fn note_behind(alloc: Global, note: &Note) -> Result<Value, AllocError>
     }
 }
 
-fn around_at(alloc: Global, notes: &[Note], from: Place) -> Result<Value, AllocError>
+fn around_at(alloc: Global, notes: &[Note], from: Cursor) -> Result<Value, AllocError>
     requires { AreBefore from.next (take from.at notes.now) }
     ensures { IfOk result (λ v. view v
         ≡ map_part.data_of (around_in (note_of notes.now from.next))) }
@@ -48,7 +48,7 @@ fn around_at(alloc: Global, notes: &[Note], from: Place) -> Result<Value, AllocE
     }
 }
 
-fn behind_at(alloc: Global, notes: &[Note], from: Place) -> Result<Value, AllocError>
+fn behind_at(alloc: Global, notes: &[Note], from: Cursor) -> Result<Value, AllocError>
     requires { AreBefore from.next (take from.at notes.now) }
     ensures { IfOk result (λ v. view v
         ≡ map_part.data_of (behind_in (note_of notes.now from.next))) }
@@ -59,45 +59,63 @@ fn behind_at(alloc: Global, notes: &[Note], from: Place) -> Result<Value, AllocE
     }
 }
 
-fn each_around(alloc: Global, given: &[Annotation], from: Place) -> Result<Vec<Value>, AllocError>
-    requires { AreAllBefore given.now from }
+fn each_around(
+    alloc: Global,
+    annotations: &[Annotation],
+    from: Cursor,
+) -> Result<Vec<Value>, AllocError>
+    requires { AreAllBefore annotations.now from }
     ensures { IfOk result (λ out. map view out.items
-        ≡ map map_part.data_of ((maps_in given.now).around from.next)) }
+        ≡ map map_part.data_of ((maps_in annotations.now).around from.next)) }
 {
     let mut out = Vec::new(alloc);
-    for annotation in given {
+    for annotation in annotations {
         out.push(around_at(alloc, annotation.maps.as_slice(), from)?)?;
     }
     Ok(out)
 }
 
-fn each_behind(alloc: Global, given: &[Annotation], from: Place) -> Result<Vec<Value>, AllocError>
-    requires { AreAllBefore given.now from }
+fn each_behind(
+    alloc: Global,
+    annotations: &[Annotation],
+    from: Cursor,
+) -> Result<Vec<Value>, AllocError>
+    requires { AreAllBefore annotations.now from }
     ensures { IfOk result (λ out. map view out.items
-        ≡ map map_part.data_of ((maps_in given.now).behind from.next)) }
+        ≡ map map_part.data_of ((maps_in annotations.now).behind from.next)) }
 {
     let mut out = Vec::new(alloc);
-    for annotation in given {
+    for annotation in annotations {
         out.push(behind_at(alloc, annotation.maps.as_slice(), from)?)?;
     }
     Ok(out)
 }
 
-fn first_around(alloc: Global, given: &[Annotation], from: Place) -> Result<Value, AllocError>
-    requires { AreAllBefore given.now from }
-    ensures { IfOk result (λ v. view v ≡ maps_data false ((maps_in given.now).around from.next)) }
+fn first_around(
+    alloc: Global,
+    annotations: &[Annotation],
+    from: Cursor,
+) -> Result<Value, AllocError>
+    requires { AreAllBefore annotations.now from }
+    ensures { IfOk result (λ v. view v
+        ≡ maps_data false ((maps_in annotations.now).around from.next)) }
 {
-    match given.first() {
+    match annotations.first() {
         Some(annotation) => around_at(alloc, annotation.maps.as_slice(), from),
         None => Ok(no_map(alloc)),
     }
 }
 
-fn first_behind(alloc: Global, given: &[Annotation], from: Place) -> Result<Value, AllocError>
-    requires { AreAllBefore given.now from }
-    ensures { IfOk result (λ v. view v ≡ maps_data false ((maps_in given.now).behind from.next)) }
+fn first_behind(
+    alloc: Global,
+    annotations: &[Annotation],
+    from: Cursor,
+) -> Result<Value, AllocError>
+    requires { AreAllBefore annotations.now from }
+    ensures { IfOk result (λ v. view v
+        ≡ maps_data false ((maps_in annotations.now).behind from.next)) }
 {
-    match given.first() {
+    match annotations.first() {
         Some(annotation) => behind_at(alloc, annotation.maps.as_slice(), from),
         None => Ok(no_map(alloc)),
     }
@@ -107,16 +125,17 @@ fn first_behind(alloc: Global, given: &[Annotation], from: Place) -> Result<Valu
 pub fn maps_around(
     alloc: Global,
     bound: bool,
-    given: &[Annotation],
-    from: Place,
+    annotations: &[Annotation],
+    from: Cursor,
 ) -> Result<Value, AllocError>
-    requires { AreAllBefore given.now from }
-    ensures { IfOk result (λ v. view v ≡ maps_data bound ((maps_in given.now).around from.next)) }
+    requires { AreAllBefore annotations.now from }
+    ensures { IfOk result (λ v. view v
+        ≡ maps_data bound ((maps_in annotations.now).around from.next)) }
 {
     if bound {
-        Ok(Value::Array(each_around(alloc, given, from)?))
+        Ok(Value::Array(each_around(alloc, annotations, from)?))
     } else {
-        first_around(alloc, given, from)
+        first_around(alloc, annotations, from)
     }
 }
 
@@ -124,16 +143,17 @@ pub fn maps_around(
 pub fn maps_behind(
     alloc: Global,
     bound: bool,
-    given: &[Annotation],
-    from: Place,
+    annotations: &[Annotation],
+    from: Cursor,
 ) -> Result<Value, AllocError>
-    requires { AreAllBefore given.now from }
-    ensures { IfOk result (λ v. view v ≡ maps_data bound ((maps_in given.now).behind from.next)) }
+    requires { AreAllBefore annotations.now from }
+    ensures { IfOk result (λ v. view v
+        ≡ maps_data bound ((maps_in annotations.now).behind from.next)) }
 {
     if bound {
-        Ok(Value::Array(each_behind(alloc, given, from)?))
+        Ok(Value::Array(each_behind(alloc, annotations, from)?))
     } else {
-        first_behind(alloc, given, from)
+        first_behind(alloc, annotations, from)
     }
 }
 
@@ -141,16 +161,17 @@ pub fn maps_behind(
 pub fn join_value(
     alloc: Global,
     bound: bool,
-    given: &[Annotation],
-    from: Place,
+    annotations: &[Annotation],
+    from: Cursor,
     ends: bool,
 ) -> Result<Value, AllocError>
-    requires { AreAllBefore given.now from }
-    ensures { IfOk result (λ v. view v ≡ join_data bound (maps_in given.now) from.next ends) }
+    requires { AreAllBefore annotations.now from }
+    ensures { IfOk result (λ v. view v
+        ≡ join_data bound (maps_in annotations.now) from.next ends) }
 {
     if ends {
         Ok(Value::from(0u32))
     } else {
-        maps_behind(alloc, bound, given, from)
+        maps_behind(alloc, bound, annotations, from)
     }
 }

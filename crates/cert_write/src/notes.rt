@@ -1,12 +1,12 @@
-//! The note of a statement. Notes stand in the order of their statements, so the note at a walk's place is the one that is
-//! wanted; where it isn't, all are looked through.
+//! The note of a statement. Notes stand in the order of their statements, so the note at a walk's cursor is the one that
+//! is wanted; where it isn't, all are looked through.
 
 ghost use Rattle.std.specs.Prelude.{◌≡◌, ◌+◌, ◌<◌, ◌≤◌, take, IsTrue, OnSome};
 ghost use Rattle.std.specs.Option.{option_copied};
 ghost use Rattle.cert_write.specs.Notes.{number_of, note_at as note_of};
 ghost use Rattle.cert_write.specs.Rows.{AreBefore, AreAllBefore, IsReady};
 
-use crate::place::Place;
+use crate::cursor::Cursor;
 use vlt_core::{Annotation, Note};
 
 fn number(note: &Note) -> usize
@@ -29,8 +29,8 @@ fn find(notes: &[Note], n: usize) -> Option<&Note>
     None
 }
 
-/// The note at the place, if it is the next statement's.
-fn next_note(notes: &[Note], from: Place) -> Option<&Note>
+/// The note at the cursor, if it is the next statement's.
+fn next_note(notes: &[Note], from: Cursor) -> Option<&Note>
     requires { AreBefore from.next (take from.at notes.now) }
     ensures value { OnSome result (option_copied result ≡ note_of notes.now from.next) }
     ensures before { OnSome result (AreBefore (from.next + 1) (take (from.at + 1) notes.now)) }
@@ -44,7 +44,7 @@ fn next_note(notes: &[Note], from: Place) -> Option<&Note>
 }
 
 /// The first note of the next statement.
-pub fn note_at(notes: &[Note], from: Place) -> Option<&Note>
+pub fn note_at(notes: &[Note], from: Cursor) -> Option<&Note>
     requires { AreBefore from.next (take from.at notes.now) }
     ensures { option_copied result ≡ note_of notes.now from.next }
 {
@@ -54,12 +54,13 @@ pub fn note_at(notes: &[Note], from: Place) -> Option<&Note>
     }
 }
 
-/// Whether the note at the place is the next statement's, in each annotation.
-fn are_next(given: &[Annotation], from: Place) -> bool
-    requires { AreAllBefore given.now from }
-    ensures { IsTrue result → AreAllBefore given.now (record { next = from.next + 1; at = from.at + 1 }) }
+/// Whether the note at the cursor is the next statement's, in each annotation.
+fn are_next(annotations: &[Annotation], from: Cursor) -> bool
+    requires { AreAllBefore annotations.now from }
+    ensures { IsTrue result → AreAllBefore annotations.now
+        (record { next = from.next + 1; at = from.at + 1 }) }
 {
-    for annotation in given {
+    for annotation in annotations {
         if next_note(annotation.maps.as_slice(), from).is_none() {
             return false;
         }
@@ -67,20 +68,20 @@ fn are_next(given: &[Annotation], from: Place) -> bool
     true
 }
 
-/// The place after a statement without those inside it, of which so many rows at least were written.
-pub fn after(given: &[Annotation], from: Place, rows: usize) -> Place
-    requires before { AreAllBefore given.now from }
+/// The cursor after a statement's own row. So many rows were written, that one among them: so its number has room.
+pub fn after(annotations: &[Annotation], from: Cursor, rows: usize) -> Cursor
+    requires before { AreAllBefore annotations.now from }
     requires early { from.at ≤ from.next }
     requires room { from.next < rows }
     ensures next { result.next ≡ from.next + 1 }
-    ensures ready { IsReady given.now rows result }
+    ensures ready { IsReady annotations.now rows result }
 {
-    let at = if are_next(given, from) {
+    let at = if are_next(annotations, from) {
         from.at + 1
     } else {
         from.at
     };
-    Place {
+    Cursor {
         next: from.next + 1,
         at,
     }

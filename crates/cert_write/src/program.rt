@@ -13,10 +13,10 @@ ghost use Rattle.cert_format_laws.specs.Versions.{is_ordered as is_ordered_progr
 ghost use Rattle.cert_decl_values.specs.Names.{HasTextSet, HasTextType, HasTextFunc, HasTextNames, IsNamed, IfNameless};
 ghost use Rattle.cert_write.specs.Notes.{notes_in};
 ghost use Rattle.cert_write.specs.Texts.{IsTextOf};
-ghost use Rattle.cert_write.specs.Rows.{head_data, body_data, fn_data, first_given as first_of, fns_data, sets_data, types_data, rows_data};
+ghost use Rattle.cert_write.specs.Rows.{head_data, body_data, fn_data, first_annotations as first_of, fns_data, sets_data, types_data, rows_data};
 
+use crate::cursor::Cursor;
 use crate::ordered::is_ordered;
-use crate::place::Place;
 use crate::text::text_of;
 use crate::walk::put_stmts;
 use cert_decl_values::{Unwritten, fn_value, put_type, set_value};
@@ -84,39 +84,46 @@ fn has_bound(f: &Func) -> bool
 fn put_body(
     alloc: Global,
     f: &Func,
-    given: &[Annotation],
+    annotations: &[Annotation],
     out: &mut Vec<Value>,
 ) -> Result<(), AllocError>
     ensures { OnOk result (map view out.new.items ≡ map view out.old.items
-        ++ body_data (func_of f.now) given.now) }
+        ++ body_data (func_of f.now) annotations.now) }
 {
-    let start = Place { next: 0, at: 0 };
-    let _end = put_stmts(alloc, has_bound(f), given, f.body.as_slice(), start, out)?;
+    let start = Cursor { next: 0, at: 0 };
+    let _end = put_stmts(
+        alloc,
+        has_bound(f),
+        annotations,
+        f.body.as_slice(),
+        start,
+        out,
+    )?;
     Ok(())
 }
 
 fn put_fn(
     alloc: Global,
     f: &Func,
-    given: &[Annotation],
+    annotations: &[Annotation],
     out: &mut Vec<Value>,
 ) -> Result<(), Unwritten>
     ensures rows { OnOk result (map view out.new.items ≡ map view out.old.items
-        ++ fn_data (func_of f.now) given.now) }
+        ++ fn_data (func_of f.now) annotations.now) }
     ensures named { HasTextFunc (func_of f.now) → IsNamed result }
 {
     put_head(alloc, f, out)?;
-    put_body(alloc, f, given, out)?;
+    put_body(alloc, f, annotations, out)?;
     Ok(())
 }
 
 /// The annotations of the next function, and those of the others.
-fn next_given(notes: &[Items<Annotation>]) -> (&[Annotation], &[Items<Annotation>])
+fn next_annotations(notes: &[Items<Annotation>]) -> (&[Annotation], &[Items<Annotation>])
     ensures first { result.0.now ≡ first_of notes.now }
     ensures rest { result.1.now ≡ drop 1 notes.now }
 {
     match notes.split_first() {
-        Some((given, rest)) => (given.as_slice(), rest),
+        Some((annotations, rest)) => (annotations.as_slice(), rest),
         None => (&[], notes),
     }
 }
@@ -133,8 +140,8 @@ fn put_fns(
 {
     let mut left = notes;
     for f in fns {
-        let (given, rest) = next_given(left);
-        put_fn(alloc, f, given, out)?;
+        let (annotations, rest) = next_annotations(left);
+        put_fn(alloc, f, annotations, out)?;
         left = rest;
     }
     Ok(())

@@ -6,8 +6,8 @@ ghost use Rattle.cert_format.specs.Bodies.{count, count_block, count_list, count
 ghost use Rattle.cert_write.specs.Notes.{maps_in};
 ghost use Rattle.cert_write.specs.Rows.{form_data, block_data, list_data, arms_data, IsReady, IsPut};
 
+use crate::cursor::Cursor;
 use crate::own::{cases_value, choice_value, loop_value, put_plain, put_row};
-use crate::place::Place;
 use cert_values::{focus_value, scope_value};
 use serde_json::Value;
 use std::alloc::{AllocError, Global};
@@ -18,14 +18,14 @@ use vlt_core::{Annotation, Arm, Block, Form, Stmt};
 fn put_form(
     alloc: Global,
     bound: bool,
-    given: &[Annotation],
+    annotations: &[Annotation],
     form: &Form,
-    from: Place,
+    from: Cursor,
     out: &mut Vec<Value>,
-) -> Result<Place, AllocError>
-    requires { IsReady given.now (length out.old.items) from }
-    ensures { IfOk result (λ to. IsPut given.now from.next (count (form_of form.now))
-        (form_data bound (maps_in given.now) from.next (form_of form.now))
+) -> Result<Cursor, AllocError>
+    requires { IsReady annotations.now (length out.old.items) from }
+    ensures { IfOk result (λ to. IsPut annotations.now from.next (count (form_of form.now))
+        (form_data bound (maps_in annotations.now) from.next (form_of form.now))
         out.old.items out.new.items to) }
 {
     match form {
@@ -34,32 +34,40 @@ fn put_form(
             then_block,
             else_block,
         } => {
-            let row = choice_value(alloc, bound, given, from, cond, then_block, else_block)?;
-            let to = put_row(given, row, from, out)?;
-            let to = put_block(alloc, bound, given, then_block, to, out)?;
-            put_block(alloc, bound, given, else_block, to, out)
+            let row = choice_value(
+                alloc,
+                bound,
+                annotations,
+                from,
+                cond,
+                then_block,
+                else_block,
+            )?;
+            let to = put_row(annotations, row, from, out)?;
+            let to = put_block(alloc, bound, annotations, then_block, to, out)?;
+            put_block(alloc, bound, annotations, else_block, to, out)
         }
         Form::While { cond, body } => {
-            let row = loop_value(alloc, bound, given, from, cond, body)?;
-            let to = put_row(given, row, from, out)?;
-            put_block(alloc, bound, given, body, to, out)
+            let row = loop_value(alloc, bound, annotations, from, cond, body)?;
+            let to = put_row(annotations, row, from, out)?;
+            put_block(alloc, bound, annotations, body, to, out)
         }
         Form::Switch { v, arms, .. } => {
-            let row = cases_value(alloc, bound, given, from, *v, arms.as_slice())?;
-            let to = put_row(given, row, from, out)?;
-            put_arms(alloc, bound, given, arms.as_slice(), to, out)
+            let row = cases_value(alloc, bound, annotations, from, *v, arms.as_slice())?;
+            let to = put_row(annotations, row, from, out)?;
+            put_arms(alloc, bound, annotations, arms.as_slice(), to, out)
         }
         Form::Focus { y, z, body } => {
             let row = focus_value(alloc, *y, *z, body)?;
-            let to = put_row(given, row, from, out)?;
-            put_block(alloc, bound, given, body, to, out)
+            let to = put_row(annotations, row, from, out)?;
+            put_block(alloc, bound, annotations, body, to, out)
         }
         Form::Scope { body } => {
             let row = scope_value(alloc, body)?;
-            let to = put_row(given, row, from, out)?;
-            put_block(alloc, bound, given, body, to, out)
+            let to = put_row(annotations, row, from, out)?;
+            put_block(alloc, bound, annotations, body, to, out)
         }
-        _ => put_plain(alloc, given, form, from, out),
+        _ => put_plain(alloc, annotations, form, from, out),
     }
 }
 
@@ -67,17 +75,17 @@ fn put_form(
 fn put_block(
     alloc: Global,
     bound: bool,
-    given: &[Annotation],
+    annotations: &[Annotation],
     block: &Block,
-    from: Place,
+    from: Cursor,
     out: &mut Vec<Value>,
-) -> Result<Place, AllocError>
-    requires { IsReady given.now (length out.old.items) from }
-    ensures { IfOk result (λ to. IsPut given.now from.next (count_block (block_of block.now))
-        (block_data bound (maps_in given.now) from.next (block_of block.now))
+) -> Result<Cursor, AllocError>
+    requires { IsReady annotations.now (length out.old.items) from }
+    ensures { IfOk result (λ to. IsPut annotations.now from.next (count_block (block_of block.now))
+        (block_data bound (maps_in annotations.now) from.next (block_of block.now))
         out.old.items out.new.items to) }
 {
-    put_stmts(alloc, bound, given, block.stmts.as_slice(), from, out)
+    put_stmts(alloc, bound, annotations, block.stmts.as_slice(), from, out)
 }
 
 /// Writes the rows of statements, one after another, in a function with or without a bound entry.
@@ -85,19 +93,19 @@ fn put_block(
 pub fn put_stmts(
     alloc: Global,
     bound: bool,
-    given: &[Annotation],
+    annotations: &[Annotation],
     stmts: &[Stmt],
-    from: Place,
+    from: Cursor,
     out: &mut Vec<Value>,
-) -> Result<Place, AllocError>
-    requires { IsReady given.now (length out.old.items) from }
-    ensures { IfOk result (λ to. IsPut given.now from.next (count_list (stmts_of stmts.now))
-        (list_data bound (maps_in given.now) from.next (stmts_of stmts.now))
+) -> Result<Cursor, AllocError>
+    requires { IsReady annotations.now (length out.old.items) from }
+    ensures { IfOk result (λ to. IsPut annotations.now from.next (count_list (stmts_of stmts.now))
+        (list_data bound (maps_in annotations.now) from.next (stmts_of stmts.now))
         out.old.items out.new.items to) }
 {
     let mut to = from;
     for stmt in stmts {
-        to = put_form(alloc, bound, given, &stmt.form, to, out)?;
+        to = put_form(alloc, bound, annotations, &stmt.form, to, out)?;
     }
     Ok(to)
 }
@@ -106,19 +114,19 @@ pub fn put_stmts(
 fn put_arms(
     alloc: Global,
     bound: bool,
-    given: &[Annotation],
+    annotations: &[Annotation],
     arms: &[Arm],
-    from: Place,
+    from: Cursor,
     out: &mut Vec<Value>,
-) -> Result<Place, AllocError>
-    requires { IsReady given.now (length out.old.items) from }
-    ensures { IfOk result (λ to. IsPut given.now from.next (count_arms (arms_of arms.now))
-        (arms_data bound (maps_in given.now) from.next (arms_of arms.now))
+) -> Result<Cursor, AllocError>
+    requires { IsReady annotations.now (length out.old.items) from }
+    ensures { IfOk result (λ to. IsPut annotations.now from.next (count_arms (arms_of arms.now))
+        (arms_data bound (maps_in annotations.now) from.next (arms_of arms.now))
         out.old.items out.new.items to) }
 {
     let mut to = from;
     for arm in arms {
-        to = put_block(alloc, bound, given, &arm.body, to, out)?;
+        to = put_block(alloc, bound, annotations, &arm.body, to, out)?;
     }
     Ok(to)
 }

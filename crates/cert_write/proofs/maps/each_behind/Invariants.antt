@@ -6,4 +6,4 @@ use Rattle.cert_write.proofs.maps.each_behind.Given as goal
 
 abbrev pub invariant-loop-annotation : goal.invariant-loop-annotation
 invariant-loop-annotation l =
-    map view l.out.items ≡ map map_part.data_of ((maps_in (take l.annotation-index l.given)).behind l.from.next)
+    map view l.out.items ≡ map map_part.data_of ((maps_in (take l.annotation-index l.annotations)).behind l.from.next)
