@@ -16,7 +16,7 @@ use Rattle.c_lower_stmts.specs.Written.{Writes}
 use Rattle.c_lower_glue.specs.declared.payloads.Part.{Part}
 use Rattle.c_lower_glue.specs.declared.payloads.Part.TheVariants as part
 use Rattle.c_lower_glue.specs.Picks.{picked}
-use Rattle.c_lower_glue.specs.Parts.{result_clears, clause_picks, number_code, payload_code, key_code, keys_code, payloads_code, case_code, result_code, call_code, answer_code, glue_of}
+use Rattle.c_lower_glue.specs.Parts.{result_clears, clause_picks, number_code, payload_code, key_code, keys_code, payloads_code, case_code, result_code, call_code, answer_code, written, glue_of}
 use Rattle.c_lower_glue.proofs.Sums.{picked_all}
 
 -- ---- lists of lists
@@ -139,22 +139,21 @@ whole_is p f slots =
     ∙ in_one_list (question p f) code.clears (go_out p f) (pick_clause p f) code.numbers (come_back p f) code.backs code.objects (give_back f.result slots) (runtime_call prim.End [])
 
 glue_is : (p : Program) (f : Func) → glue_of p f ≡ glue_code p f
-unfolding glue_of
+unfolding glue_of written
 glue_is p f =
     let t = first_temps p f in
     let sorts = sorts_of p f.result in
     ap (λ xs. stmt_code xs (past_all t sorts)) (whole_is p f (vars_at t sorts))
 
--- what is written in three steps is the whole
-pub glue_written : (p : Program) (f : Func) (slots : List CVar) (next : Numbers) (called answered given : List Stmt) → slots ≡ vars_at (first_temps p f) (sorts_of p f.result) → next ≡ past_all (first_temps p f) (sorts_of p f.result) → called ≡ call_code p f slots → answered ≡ called ++ answer_code p f slots → given ≡ answered ++ give_back f.result slots → Writes (glue_of p f) [] given next
-unfolding glue_of
-glue_written p f slots next called answered given vars behind first second third = record {
-  stmts =
-      third
-      ∙ ap (λ (xs : List Stmt). xs ++ give_back f.result slots) (second ∙ ap (λ (xs : List Stmt). xs ++ answer_code p f slots) first)
-      ∙ ap (λ (vs : List CVar). call_code p f vs ++ answer_code p f vs ++ give_back f.result vs) vars;
-  most = behind;
-}
-
 pub glues_are : glue_of ≡ glue_code
 glues_are = λ i p f. glue_is p f i
+
+-- what is written in three steps
+pub all_written : (p : Program) (f : Func) (slots : List CVar) (called answered given : List Stmt) → called ≡ call_code p f slots → answered ≡ called ++ answer_code p f slots → given ≡ answered ++ give_back f.result slots → given ≡ written p f slots
+unfolding written
+all_written p f slots called answered given first second third =
+    third ∙ ap (λ (xs : List Stmt). xs ++ give_back f.result slots) (second ∙ ap (λ (xs : List Stmt). xs ++ answer_code p f slots) first)
+
+pub glue_written : (p : Program) (f : Func) (slots : List CVar) (next : Numbers) (stmts : List Stmt) → slots ≡ vars_at (first_temps p f) (sorts_of p f.result) → next ≡ past_all (first_temps p f) (sorts_of p f.result) → stmts ≡ written p f slots → Writes (glue_of p f) [] stmts next
+unfolding glue_of
+glue_written p f slots next stmts vars behind all = record { stmts = all ∙ ap (written p f) vars; most = behind }

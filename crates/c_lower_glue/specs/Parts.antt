@@ -124,12 +124,14 @@ answer_code p f slots =
 
 -- ---- the whole
 
+unfoldable pub written : Program → Func → List CVar → List Stmt
+written p f slots = call_code p f slots ++ answer_code p f slots ++ give_back f.result slots
+
 unfoldable pub glue_of : Program → Func → StmtCode
 glue_of p f =
     let t = first_temps p f in
     let sorts = sorts_of p f.result in
-    let slots = vars_at t sorts in
-    stmt_code (call_code p f slots ++ answer_code p f slots ++ give_back f.result slots) (past_all t sorts)
+    stmt_code (written p f (vars_at t sorts)) (past_all t sorts)
 
 -- the functions that stand for externals, of which the first has this number
 abbrev pub externals_from : Program → (number : ℕ) → List Func → List c.Func

@@ -7,7 +7,7 @@ ghost use Rattle.c_lower.specs.Lowering.{func_with, lowered};
 ghost use Rattle.c_lower_exprs.specs.Tables.{numbers_of};
 ghost use Rattle.c_lower_exprs.specs.Scopes.{AreTables, IsScope, func_in, program_in};
 ghost use Rattle.c_lower_stmts.specs.Written.{Writes};
-ghost use Rattle.c_lower_glue.specs.Parts.{answer_code, call_code, glue_of};
+ghost use Rattle.c_lower_glue.specs.Parts.{answer_code, call_code, glue_of, written};
 ghost use Rattle.c_lower_glue.specs.ManyCases.{gives_many_cases, has_many_cases, result_cases};
 
 use crate::calls::question;
@@ -60,7 +60,21 @@ fn push_answer(
     push_result(alloc, scope, out, Part::Objects, slots)
 }
 
-/// The statements of an external's function.
+/// The statements of an external's function, whose result has these slots.
+fn glue_stmts(alloc: Global, scope: &Scope<'_>, slots: &[CVar]) -> Result<Items<CStmt>, Memory>
+    requires scope { IsScope scope.now }
+    requires few { length (result_cases (program_in scope.now) (func_in scope.now).result) ≤ 63 }
+    ensures { IfOk result (λ xs. map stmt_of xs
+        ≡ written (program_in scope.now) (func_in scope.now) slots.now) }
+{
+    let mut stmts = Items::new(alloc);
+    push_call(alloc, scope, &mut stmts, slots)?;
+    push_answer(alloc, scope, &mut stmts, slots)?;
+    give_back(alloc, scope, &mut stmts, slots)?;
+    Ok(stmts)
+}
+
+/// The statements of an external's function, and the numbers after its temps.
 fn glue_body(alloc: Global, scope: &Scope<'_>) -> Result<Body, Memory>
     requires scope { IsScope scope.now }
     requires few { length (result_cases (program_in scope.now) (func_in scope.now).result) ≤ 63 }
@@ -68,10 +82,7 @@ fn glue_body(alloc: Global, scope: &Scope<'_>) -> Result<Body, Memory>
         [] (map stmt_of x.stmts) (numbers_of x.most)) }
 {
     let slots = result_slots(alloc, scope)?;
-    let mut stmts = Items::new(alloc);
-    push_call(alloc, scope, &mut stmts, slots.vars.as_slice())?;
-    push_answer(alloc, scope, &mut stmts, slots.vars.as_slice())?;
-    give_back(alloc, scope, &mut stmts, slots.vars.as_slice())?;
+    let stmts = glue_stmts(alloc, scope, slots.vars.as_slice())?;
     Ok(Body {
         stmts,
         most: slots.next,

@@ -1,6 +1,6 @@
 //! Externals of a core program in; the functions of C that stand for them, out.
 //! Read `c_lower/specs/Glue.antt` first, then `specs/Picks.antt` and `specs/Parts.antt`.
-//! Used by: the lowering of whole programs.
+//! Used by: `c_lower_program::lower`.
 #![tactic(auto)]
 
 mod calls;
