@@ -1,0 +1,13 @@
+//! A core program in; the C program that stands for it, out.
+//! Read `c_lower/specs/Lowering.antt` first, then `specs/Refusals.antt`.
+//! Used by: whatever writes the C program of a source.
+#![tactic(auto)]
+
+mod error;
+mod exprs;
+mod functions;
+mod program;
+mod stmts;
+
+pub use error::LowerError;
+pub use program::lower;
