@@ -40,7 +40,7 @@ pub fn programs_are_fit()
 }
 
 /// Where a fit program of the code is unfit for the check, one of its bodies is: a row of it names states of which there is
-/// no set, or it has 2^62 statements or more.
+/// no set, it has 2^62 statements or more, or it is refused and something in it has no number.
 pub fn only_bodies_are_unfit()
     ensures { OnlyBodiesAreUnfit }
 {}

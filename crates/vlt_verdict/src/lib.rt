@@ -45,8 +45,8 @@ pub enum Verdict {
 /// Why a tree has no verdict.
 #[derive(Clone, Copy, Debug, PartialEq, Eq, Error)]
 pub enum JudgeError {
-    /// A body of its program is unfit for the check: a row of it names states of which there is no set, or it has 2^62
-    /// statements or more.
+    /// A body of its program is unfit for the check: a row of it names states of which there is no set, it has 2^62
+    /// statements or more, or it is refused and something in it has no number.
     #[error("a body of the program is unfit for the check")]
     Unfit,
     #[error("there was no memory")]

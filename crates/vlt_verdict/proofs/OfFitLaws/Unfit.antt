@@ -19,9 +19,10 @@ use Rattle.vlt_core_laws.proofs.Headed.{head_empty, entries_fit, each_at}
 use Rattle.vlt_core_laws.proofs.Unbroken.{filled_not_empty, some_same}
 use Rattle.vlt_flow.specs.Unfit as walk
 use Rattle.vlt_flow.specs.Unfit.{IsUnfitEntry, wide_entry, stray_entry, HasNoStart, many_keys, many_vars, unfit_entry}
+use Rattle.vlt_check.specs.Unfit as unfit
 use Rattle.vlt_check.specs.Unfit.{IsUnfitBody, no_walk, no_fault, IsUnfit, many_functions, unfit_body}
 use Rattle.vlt_verdict.specs.FitLaws.Fit.{IsFitProgram}
-use Rattle.vlt_verdict.specs.FitLaws.Unfit.{IsStillUnfit, wide_row, many_statements, HasUnfitBody, OnlyBodiesAreUnfit}
+use Rattle.vlt_verdict.specs.FitLaws.Unfit.{IsStillUnfit, wide_row, many_statements, no_number, HasUnfitBody, OnlyBodiesAreUnfit}
 
 -- ---- sets of states
 
@@ -110,6 +111,7 @@ module _ (c : CodeProgram) (fit : IsFitProgram (program_of c)) where
   body_fits n f there body (no_fault never) =
       let q = formed_body p n f fit.well_formed there body in
       absurd (never (record { fit = q.fit; start = q.start }))
+  body_fits n f there body (unfit.no_number u) = no_number u
 
   by_bodies : IsUnfit p → HasUnfitBody p
   by_bodies (many_functions q) = let few = fit.few.functions in absurd (omega (arith, q, few))

@@ -1,4 +1,4 @@
--- What a fit program of the code may still be unfit for the check by: no law excludes these two.
+-- What a fit program of the code may still be unfit for the check by: no law excludes these.
 use Rattle.std.specs.Prelude.{◌≡◌, ◌≤◌, ◌^◌, ℕ, false, Some, slice_get}
 use Rattle.vlt_core.specs.Core.{Func, Program}
 use Rattle.vlt_core.specs.Flow.{size_block}
@@ -6,13 +6,15 @@ use Rattle.vlt_core.specs.Bodies.{body_flow}
 use Rattle.vlt_core.specs.View.{program_of}
 use Rattle.vlt_core.specs.declared.program.Program.{Program as CodeProgram}
 use Rattle.vlt_rows.specs.Unfit.{HasWideRow}
-use Rattle.vlt_check.specs.Unfit.{IsUnfit}
+use Rattle.vlt_check.specs.Unfit.{IsUnfit, HasNoNumber}
 use Rattle.vlt_verdict.specs.FitLaws.Fit.{IsFitProgram}
 
 pub data IsStillUnfit (p : Program) (f : Func) : Type 0 where
   -- no set of the code has just the states that a row names
   wide_row : HasWideRow (body_flow p f) → IsStillUnfit p f
   many_statements : 2 ^ 62 ≤ size_block (body_flow p f) → IsStillUnfit p f
+  -- in a body that is refused
+  no_number : HasNoNumber (body_flow p f) → IsStillUnfit p f
 
 -- some function has such a body
 pub record HasUnfitBody (p : Program) : Type 0 where
