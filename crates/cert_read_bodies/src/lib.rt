@@ -1,4 +1,4 @@
-//! Rows of JSON in; the statements that they say out, as far as the rows go; and of those a body of the core with its maps.
+//! Rows of JSON in; the statements that they say out, as far as they go, and of those a body of the core with its maps.
 //! Read `specs/Reads.antt` first, then `specs/Bodies.antt` and `specs/Notes.antt`.
 //! Used by: `cert_read`, which reads a whole certificate.
 #![tactic(auto)]
@@ -13,7 +13,7 @@ mod tree;
 
 pub use forms::stmts;
 pub use notes::{MapsNote, Notes};
-pub use read::{ReadArms, ReadBlock, ReadDraft, read_block};
+pub use read::{ReadBlock, read_block};
 pub use tree::{Arm, Block, Draft, Ending};
 
 /// A value is read as a statement's row where it is read as a row and that is a statement's.

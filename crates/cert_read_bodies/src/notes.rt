@@ -14,12 +14,14 @@ use vlt_core::TokMap;
 pub enum MapsNote {
     /// At a loop's head, and after it.
     Loop {
+        /// The statement's number, counted from 0 in the function.
         stmt: usize,
         around: Items<TokMap>,
         exit: Items<TokMap>,
     },
     /// After an `if` or a `switch`.
     Join {
+        /// The statement's number, counted from 0 in the function.
         stmt: usize,
         maps: Items<TokMap>,
     },

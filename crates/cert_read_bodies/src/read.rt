@@ -1,12 +1,14 @@
 //! Statements of rows, as far as the rows go.
 
-ghost use Rattle.std.specs.Prelude.{◌≡◌, ◌≤◌, ◌<◌, ◌==◌, length, map, drop, option_map, IfOk, if◌then◌else◌, Some, None};
+ghost use Rattle.std.specs.Prelude.{◌≡◌, ◌≤◌, ◌<◌, ◌==◌, length, map, drop, option_map, IfOk, if◌then◌else◌, Some, None, false};
 ghost use Rattle.serde_json.specs.View.{view};
+ghost use Rattle.vlt_core.specs.HeldView.{toks_of};
+ghost use Rattle.cert_format.specs.Drafts as s;
 ghost use Rattle.cert_format.specs.Endings.{unsure, both, agrees, or_else, row_ending};
 ghost use Rattle.cert_read_rows.specs.Heads.{head_of, arm_of};
 ghost use Rattle.cert_read_rows.specs.Maps.{maps_of};
 ghost use Rattle.cert_read_rows.specs.Statements.{plain_of, block_of as block_row_of, stmt_of, stmt_of_data};
-ghost use Rattle.cert_read_bodies.specs.Tree.{ending_of};
+ghost use Rattle.cert_read_bodies.specs.Tree.{block_of, drafts_of, ending_of};
 ghost use Rattle.cert_read_bodies.specs.Reads.{ReadsDraft, ReadsBlock, ReadsSecond, ReadsArms, HasArmsDepth, IsPlainDraft, Stands, rest_at, first_at};
 
 use crate::tree::{Arm, Block, Draft, Ending};
@@ -16,7 +18,7 @@ use cert_read_rows::{
 use serde_json::Value;
 use std::alloc::{AllocError, Global};
 use vlt_base::{Boxed, Items};
-use vlt_core::TokMap;
+use vlt_core::{Tok, TokMap};
 
 /// A statement, the row after it, whether all its blocks are there, whether it ends, and the first row that has 0 or maps
 /// against that.
@@ -29,6 +31,7 @@ pub struct ReadDraft {
     pub wrong: Option<usize>,
 }
 
+/// The same of a block.
 #[derive(Drop)]
 pub struct ReadBlock {
     pub block: Block,
@@ -38,6 +41,7 @@ pub struct ReadBlock {
     pub wrong: Option<usize>,
 }
 
+/// The same of the arms of a switch.
 #[derive(Drop)]
 pub struct ReadArms {
     pub arms: Items<Arm>,
@@ -375,6 +379,35 @@ fn read_second(
     })
 }
 
+/// A block that breaks off after these statements.
+#[tactic(auto, using(crate::proofs::Views::block_parts))]
+fn part_of_block(
+    count: u32,
+    bound: Items<Tok>,
+    stmts: Items<Draft>,
+    at: usize,
+    ends: Ending,
+    wrong: Option<usize>,
+) -> ReadBlock
+    ensures block { block_of result.block ≡ s.block count (toks_of bound) (drafts_of stmts) }
+    ensures at { result.at ≡ at }
+    ensures part { result.whole ≡ false }
+    ensures ends { result.ends ≡ ends }
+    ensures wrong { result.wrong ≡ wrong }
+{
+    ReadBlock {
+        block: Block {
+            count,
+            bound,
+            stmts,
+        },
+        at,
+        whole: false,
+        ends,
+        wrong,
+    }
+}
+
 /// The statements of a block, as far as their rows go.
 #[cycle(read)]
 pub fn read_block(
@@ -403,33 +436,11 @@ pub fn read_block(
                 wrong = or_else(wrong, read.wrong);
                 if !read.whole {
                     let ends = cut_ending(i + 1 == count, ends);
-                    let block = Block {
-                        count,
-                        bound,
-                        stmts,
-                    };
-                    return Ok(ReadBlock {
-                        block,
-                        at,
-                        whole: false,
-                        ends,
-                        wrong,
-                    });
+                    return Ok(part_of_block(count, bound, stmts, at, ends, wrong));
                 }
             }
             None => {
-                let block = Block {
-                    count,
-                    bound,
-                    stmts,
-                };
-                return Ok(ReadBlock {
-                    block,
-                    at,
-                    whole: false,
-                    ends: Ending::Unsure,
-                    wrong,
-                });
+                return Ok(part_of_block(count, bound, stmts, at, Ending::Unsure, wrong));
             }
         }
     }

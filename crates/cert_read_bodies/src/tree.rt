@@ -4,6 +4,7 @@ use cert_read_rows::PlainRow;
 use vlt_base::{Boxed, Items, VarId};
 use vlt_core::{Expr, Tok, TokMap};
 
+/// A statement as its rows give it.
 #[cycle(drafts)]
 #[derive(Drop)]
 pub enum Draft {
@@ -17,6 +18,7 @@ pub enum Draft {
     Scope(Block),
 }
 
+/// An arm of a switch.
 #[cycle(drafts)]
 #[derive(Drop)]
 pub struct Arm {
@@ -25,6 +27,7 @@ pub struct Arm {
     pub body: Block,
 }
 
+/// A block: how many statements it is to have, the tokens bound in it, and the statements that are there.
 #[cycle(drafts)]
 #[derive(Drop)]
 pub struct Block {
@@ -34,7 +37,7 @@ pub struct Block {
 }
 
 /// Whether a statement ends, as far as its rows tell.
-#[derive(Clone, Copy, Debug, PartialEq, Eq)]
+#[derive(Clone, Copy)]
 pub enum Ending {
     Sure,
     Never,

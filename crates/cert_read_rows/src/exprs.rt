@@ -73,10 +73,8 @@ fn with_prefix(
         return Ok(None);
     }
     let depth = a.depth + 1;
-    stack.push(Ready {
-        e: Expr::Un(op, Boxed::new(alloc, a.e)?),
-        depth,
-    })?;
+    let e = Boxed::new(alloc, Expr::Un(op, a.e))?;
+    stack.push(Ready { e, depth })?;
     Ok(Some(stack))
 }
 
@@ -102,10 +100,8 @@ fn with_infix(
     } else {
         a.depth + 1
     };
-    stack.push(Ready {
-        e: Expr::Bin(op, Boxed::new(alloc, a.e)?, Boxed::new(alloc, b.e)?),
-        depth,
-    })?;
+    let e = Boxed::new(alloc, Expr::Bin(op, a.e, b.e))?;
+    stack.push(Ready { e, depth })?;
     Ok(Some(stack))
 }
 
@@ -124,7 +120,11 @@ fn with_operator(
 }
 
 /// An expression without operands, if there is one, goes on the stack.
-fn with_leaf(leaf: Option<Expr>, stack: Items<Ready>) -> Result<Option<Items<Ready>>, AllocError>
+fn with_leaf(
+    alloc: Global,
+    leaf: Option<Expr>,
+    stack: Items<Ready>,
+) -> Result<Option<Items<Ready>>, AllocError>
     requires { IfSome leaf (λ e. depth (expr_of e) ≡ 1) }
     ensures { IfOk result (λ r. option_map stack_of r
         ≡ option_map (λ e. expr_of e ∷ stack_of stack) leaf) }
@@ -133,6 +133,7 @@ fn with_leaf(leaf: Option<Expr>, stack: Items<Ready>) -> Result<Option<Items<Rea
         return Ok(None);
     };
     let mut stack = stack;
+    let e = Boxed::new(alloc, e)?;
     stack.push(Ready { e, depth: 1 })?;
     Ok(Some(stack))
 }
@@ -181,7 +182,6 @@ fn operator(items: &[Value]) -> Option<Op>
     op(one(items)?)
 }
 
-#[tactic(auto, using(crate::proofs::Lists::mapped_twice))]
 fn stack_of_tag(
     alloc: Global,
     tag: &str,
@@ -192,16 +192,16 @@ fn stack_of_tag(
         ≡ s.stack_of_tag (stack_of stack) tag.now (map view items.now)) }
 {
     if tag == "n" {
-        return with_leaf(number_leaf(items), stack);
+        return with_leaf(alloc, number_leaf(items), stack);
     }
     if tag == "b" {
-        return with_leaf(bool_leaf(items), stack);
+        return with_leaf(alloc, bool_leaf(items), stack);
     }
     if tag == "v" {
-        return with_leaf(var_leaf(items), stack);
+        return with_leaf(alloc, var_leaf(items), stack);
     }
     if tag == "f" {
-        return with_leaf(field_leaf(items), stack);
+        return with_leaf(alloc, field_leaf(items), stack);
     }
     if tag == "o" {
         return match operator(items) {
@@ -259,7 +259,7 @@ pub(crate) fn expr(alloc: Global, v: &Value) -> Result<Option<Expr>, AllocError>
         return Ok(None);
     };
     if stack.is_empty() {
-        Ok(Some(ready.e))
+        Ok(Some(ready.e.into_inner()))
     } else {
         Ok(None)
     }

@@ -10,7 +10,7 @@ ghost use Rattle.cert_rows.specs.Rows as row;
 ghost use Rattle.cert_rows.specs.Rows.{head, arm};
 ghost use Rattle.cert_values.specs.Heads.{head_of, heads_of, arm_head, plain_data};
 
-use crate::arrays::{pair, quadruple, tagged, tagged_four, tagged_three};
+use crate::arrays::{array_of, pair, quadruple, tagged, tagged_four, tagged_three};
 use crate::exprs::expr_value;
 use crate::parts::{toks_value, vars_value};
 use serde_json::Value;
@@ -107,7 +107,7 @@ fn arm_list(alloc: Global, arms: &[Arm]) -> Result<Value, AllocError>
     for item in arms {
         out.push(arm_value(alloc, item)?)?;
     }
-    Ok(Value::Array(out))
+    Ok(array_of(out))
 }
 
 /// The heads of the arms.

@@ -9,7 +9,7 @@ ghost use Rattle.cert_rows.specs.Parts.{nat};
 ghost use Rattle.cert_rows.specs.Values.{token, kind_number, status_mask, token_status, map_part};
 ghost use Rattle.cert_values.specs.Heads.{token_status_of, listed_map};
 
-use crate::arrays::triple;
+use crate::arrays::{array_of, triple};
 use crate::parts::{mask_value, tok_value};
 use serde_json::Value;
 use std::alloc::{AllocError, Global};
@@ -57,5 +57,5 @@ pub fn map_value(alloc: Global, held: &TokMap) -> Result<Value, AllocError>
     for pair in held.pairs.as_slice() {
         out.push(token_status_value(alloc, pair.0, pair.1)?)?;
     }
-    Ok(Value::Array(out))
+    Ok(array_of(out))
 }

@@ -7,6 +7,7 @@ ghost use Rattle.cert_rows.specs.Values.{flag as flag_part, mask, token, ids};
 ghost use Rattle.vlt_base.specs.States.{has_state};
 ghost use Rattle.vlt_core.specs.View.{tok_of, keys_of, vars_of};
 
+use crate::arrays::array_of;
 use serde_json::Value;
 use std::alloc::{AllocError, Global};
 use vlt_base::{KeyId, StateSet, VarId};
@@ -58,7 +59,7 @@ pub fn ids_value(alloc: Global, keys: &[KeyId]) -> Result<Value, AllocError>
     for key in keys {
         out.push(Value::from(key.0))?;
     }
-    Ok(Value::Array(out))
+    Ok(array_of(out))
 }
 
 /// The numbers of variables.
@@ -69,7 +70,7 @@ pub fn vars_value(alloc: Global, vars: &[VarId]) -> Result<Value, AllocError>
     for var in vars {
         out.push(Value::from(var.0))?;
     }
-    Ok(Value::Array(out))
+    Ok(array_of(out))
 }
 
 /// The tokens that a block binds.
@@ -80,5 +81,5 @@ pub fn toks_value(alloc: Global, toks: &[Tok]) -> Result<Value, AllocError>
     for tok in toks {
         out.push(tok_value(*tok))?;
     }
-    Ok(Value::Array(out))
+    Ok(array_of(out))
 }

@@ -7,7 +7,7 @@ use Rattle.cert_read_rows.specs.Maps.{maps_of}
 use Rattle.cert_read_rows.specs.Heads.{head_of, arm_of}
 use Rattle.cert_read_rows.specs.Statements.{plain_of, stmt_of}
 use Rattle.vlt_core.specs.HeldView.{toks_of}
-use Rattle.cert_read_bodies.specs.Tree.{block_of, arms_of, drafts_of}
+use Rattle.cert_read_bodies.specs.Tree.{block_of, arms_of, drafts_of, ending_of}
 use Rattle.cert_read_bodies.specs.Reads.{ReadsDraft}
 use Rattle.cert_read_bodies.proofs.Rowed.{simple, blocked, chosen, switched, is_plain_row, deep_so}
 use Rattle.cert_read_bodies.proofs.Turned.{began, turned, finished, broken_off, cut, is_last, not_last, not_whole, is_whole}
@@ -89,20 +89,23 @@ read_block-loop-i-preserved t c = (
 )
 
 pub read_block-returns-then-not-read : goal.read_block-returns-then-not-read
-read_block-returns-then-not-read t c = (
-  ap head (block_parts _) ∙ ap (λ b. (c.args.head.count, toks_of b)) c.loop-i.invariant.0,
-  cut c.args.instances c.args.at c.args.deep c.args.head.count c.args.rows.now c.loop-i.i c.loop-i.stmts c.loop-i.at c.loop-i.ends c.loop-i.wrong c.loop-i.invariant.1 (toks_of c.loop-i.bound) c.in-Some.read.draft c.in-Some.read _ _
-      (c.loop-i.i + 1 == c.args.head.count) c.loop-i-test.true (subst (ReadsDraft c.args.instances c.loop-i.at c.args.deep c.args.rows.now) c.in-Some.is c.in_ok-read.ensures) (not_whole c.in-Some.read.whole c.if-not-read.true)
-      (is_last (c.loop-i.i + 1) c.args.head.count) (not_last (c.loop-i.i + 1) c.args.head.count (omega (arith, c.loop-i-test.true)))
-      (block_parts _ ∙ ap (λ xs. s.block c.args.head.count (toks_of c.loop-i.bound) (drafts_of xs)) c.in_ok-push-in-Some.ensures.ok) refl refl c.cut_ending-ends.ensures c.or_else-wrong.ensures,
-)
+read_block-returns-then-not-read t c =
+    let p = c.part_of_block.ensures in (
+      ap head p.block ∙ ap (λ b. (c.args.head.count, toks_of b)) c.loop-i.invariant.0,
+      cut c.args.instances c.args.at c.args.deep c.args.head.count c.args.rows.now c.loop-i.i c.loop-i.stmts c.loop-i.at c.loop-i.ends c.loop-i.wrong c.loop-i.invariant.1 (toks_of c.loop-i.bound) c.in-Some.read.draft c.in-Some.read _ _
+          (c.loop-i.i + 1 == c.args.head.count) c.loop-i-test.true (subst (ReadsDraft c.args.instances c.loop-i.at c.args.deep c.args.rows.now) c.in-Some.is c.in_ok-read.ensures) (not_whole c.in-Some.read.whole c.if-not-read.true)
+          (is_last (c.loop-i.i + 1) c.args.head.count) (not_last (c.loop-i.i + 1) c.args.head.count (omega (arith, c.loop-i-test.true)))
+          (p.block ∙ ap (λ xs. s.block c.args.head.count (toks_of c.loop-i.bound) (drafts_of xs)) c.in_ok-push-in-Some.ensures.ok) p.at p.part
+          (ap ending_of p.ends ∙ c.cut_ending-ends.ensures) (p.wrong ∙ c.or_else-wrong.ensures),
+    )
 
 pub read_block-returns-in-None : goal.read_block-returns-in-None
-read_block-returns-in-None t c = (
-  ap head (block_parts _) ∙ ap (λ b. (c.args.head.count, toks_of b)) c.loop-i.invariant.0,
-  broken_off c.args.instances c.args.at c.args.deep c.args.head.count c.args.rows.now c.loop-i.i c.loop-i.stmts c.loop-i.at c.loop-i.ends c.loop-i.wrong c.loop-i.invariant.1 (toks_of c.loop-i.bound) _ _ c.loop-i-test.true
-      (subst (ReadsDraft c.args.instances c.loop-i.at c.args.deep c.args.rows.now) c.in-None.is c.in_ok-read.ensures) (block_parts _) refl refl refl refl,
-)
+read_block-returns-in-None t c =
+    let p = c.part_of_block-in-None.ensures in (
+      ap head p.block ∙ ap (λ b. (c.args.head.count, toks_of b)) c.loop-i.invariant.0,
+      broken_off c.args.instances c.args.at c.args.deep c.args.head.count c.args.rows.now c.loop-i.i c.loop-i.stmts c.loop-i.at c.loop-i.ends c.loop-i.wrong c.loop-i.invariant.1 (toks_of c.loop-i.bound) _ _ c.loop-i-test.true
+          (subst (ReadsDraft c.args.instances c.loop-i.at c.args.deep c.args.rows.now) c.in-None.is c.in_ok-read.ensures) p.block p.at p.part (ap ending_of p.ends) p.wrong,
+    )
 
 pub read_block-returns : goal.read_block-returns
 read_block-returns t c = (

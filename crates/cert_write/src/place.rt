@@ -1,8 +1,0 @@
-//! How far a walk over a body has come.
-
-/// The number of the next statement, and the position of the note that is looked at first for it.
-#[derive(Clone, Copy, Debug, PartialEq, Eq)]
-pub struct Place {
-    pub next: usize,
-    pub at: usize,
-}
