@@ -52,7 +52,7 @@ module _ (fits : ProgramsAreFit) (t : Tree) (p : Program) (tree : IsTextTree t) 
   of_tree (Err r) is_told gives = absurd (ok_or_err (broken r.rule r.at) p gives)
 
 module _ (fits : ProgramsAreFit) (trees : TextsHaveTextTrees) where
-  of_text : (bytes : List ℕ) (p : Program) → IsAcceptedText bytes p → IsAcceptedProgram p
+  pub of_text : (bytes : List ℕ) (p : Program) → IsAcceptedText bytes p → IsAcceptedProgram p
   of_text bytes p h = of_tree fits h.tree p (trees bytes h.lexemes h.tree h.tokens h.spells) h.accepted (kinds_told h.tree) refl h.elaborates
 
   pub texts_alike : TextsRunAlike
