@@ -1,0 +1,4 @@
+pub mod Blocks
+pub mod Expressions
+pub mod Names
+pub mod Whole
