@@ -47,7 +47,7 @@ module _ (fits : ProgramsAreFit) (t : Tree) (p : Program) (tree : IsTextTree t) 
         };
       }
 
-  of_tree : (r : Result Kinds Refusal) → kinds_told t ≡ r → with_kinds t r ≡ Ok p → IsAcceptedProgram p
+  pub of_tree : (r : Result Kinds Refusal) → kinds_told t ≡ r → with_kinds t r ≡ Ok p → IsAcceptedProgram p
   of_tree (Ok kinds) is_told gives = of_kinds kinds is_told gives
   of_tree (Err r) is_told gives = absurd (ok_or_err (broken r.rule r.at) p gives)
 

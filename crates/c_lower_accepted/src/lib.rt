@@ -1,6 +1,6 @@
 //! Laws on the C programs of accepted programs, and of those of texts: nothing goes in and nothing comes out.
 //! Read `specs/Accepted.antt` first, then `specs/Texts.antt`.
-//! Used by: nothing yet. A compiler of accepted programs is going to promise them.
+//! Used by: the command `emit`, which promises them.
 #![tactic(auto)]
 
 ghost use Rattle.c_lower_accepted.specs.Accepted.{AcceptedRunAlike, AcceptedAreDefined};

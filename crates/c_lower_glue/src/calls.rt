@@ -29,7 +29,8 @@ fn call_named(alloc: Global, out: &mut Items<CStmt>, name: &[u8]) -> Result<(), 
 
 /// An argument.
 fn push_argument(alloc: Global, out: &mut Items<CStmt>, slot: CVar) -> Result<(), Memory>
-    ensures { OnOk result (map stmt_of out.new ≡ map stmt_of out.old ++ argument_call slot ∷ []) }
+    ensures { OnOk result (map stmt_of out.new
+        ≡ map stmt_of out.old ++ argument_call slot ∷ []) }
 {
     if slot.reference {
         call_one(alloc, out, CPrim::ArgP, Atom::Var(slot))

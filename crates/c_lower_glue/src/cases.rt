@@ -147,8 +147,8 @@ fn case_part(
 ) -> Result<Items<CStmt>, Memory>
     requires { IsScope scope.now }
     ensures { IfOk result (λ xs. map stmt_of xs ≡ case_code part (program_in scope.now)
-        (func_in scope.now) variant.now.type_id.0 (keys_of variant.now.args.now) variant.now.slots.now
-        (number, case_of case.now)) }
+        (func_in scope.now) variant.now.type_id.0 (keys_of variant.now.args.now)
+        variant.now.slots.now (number, case_of case.now)) }
 {
     let positions = scope.case_positions(alloc, variant.type_id, number)?;
     let mut body = Items::new(alloc);

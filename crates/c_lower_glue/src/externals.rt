@@ -116,7 +116,8 @@ fn lower_external(
 
 /// Whether a result is a variant of more than 63 cases.
 fn has_many_cases(program: &Program, ty: &Option<Ty>) -> bool
-    ensures { result ≡ has_many_cases (view.program_of program.now) (option_map view.ty_of ty.now) }
+    ensures { result
+        ≡ has_many_cases (view.program_of program.now) (option_map view.ty_of ty.now) }
 {
     match ty {
         Some(Ty::Var(t, _)) => cases_of(program, *t).len() >= 64,

@@ -62,7 +62,8 @@ fn is_tracked_by(func: &Func, v: VarId, key: KeyId) -> bool
 /// The first parameter that refers to the key's object, or variable 0.
 fn key_param(func: &Func, key: KeyId) -> VarId
     ensures { result.0 ≡ first_or_0 (filter
-        (λ v. is_tracked_by key.0 (var_type (func_of func.now) v)) (params_of (func_of func.now))) }
+        (λ v. is_tracked_by key.0 (var_type (func_of func.now) v))
+        (params_of (func_of func.now))) }
 {
     for v in 0..func.params {
         if is_tracked_by(func, VarId(v), key) {

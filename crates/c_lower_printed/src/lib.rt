@@ -1,6 +1,6 @@
 //! Laws on the C texts of accepted texts' programs: nothing goes in and nothing comes out.
 //! Read `specs/Laws.antt` first, then `c_lower_texts/specs/Printable.antt`, the conditions that hold of them.
-//! Used by: nothing yet. Writing the C program of an accepted text is going to promise them.
+//! Used by: the command `emit`, which promises them.
 #![tactic(auto)]
 
 ghost use Rattle.c_lower_printed.specs.Laws.{TextsArePrintable, AcceptedTextsAreReadAgain};

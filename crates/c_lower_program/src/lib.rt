@@ -1,6 +1,6 @@
 //! A core program in; the C program that stands for it, out.
 //! Read `c_lower/specs/Lowering.antt` first, then `specs/Refusals.antt`.
-//! Used by: whatever writes the C program of a source.
+//! Used by: the command `emit`.
 #![tactic(auto)]
 
 mod error;

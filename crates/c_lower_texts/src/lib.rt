@@ -1,6 +1,6 @@
 //! A law on the C program of a core program: nothing goes in and nothing comes out.
 //! Read `specs/Laws.antt` first, then `specs/Printable.antt`, the conditions, and `c_syntax/specs/Canonical.antt`, what a C program is.
-//! Used by: nothing yet.
+//! Used by: `c_lower_printed`, for programs of accepted texts.
 #![tactic(auto)]
 
 ghost use Rattle.c_lower_texts.specs.Laws.{AreCPrograms};

@@ -15,7 +15,8 @@ use vlt_keyset::Held;
 
 /// Passes one row of the statement.
 fn pass_row(held: &mut Held, statement: usize, row: Row) -> Result<(), Stop>
-    ensures { AreTested result (row_test statement (tok_of row.tok) (map_of held.old (tok_of row.tok))
+    ensures { AreTested result
+        (row_test statement (tok_of row.tok) (map_of held.old (tok_of row.tok))
         (wanted_of row.wanted) ∷ [])
         (λ u. map_of held.new ≡ row_passed (row_of row) (map_of held.old)) }
 {
@@ -43,7 +44,8 @@ pub fn pass_rows(held: &mut Held, statement: usize, rows: &[Row]) -> Result<(), 
 
 /// The tokens of a scope that is left are to be away.
 pub fn pass_gone(held: &mut Held, statement: usize, toks: &[Tok]) -> Result<(), Stop>
-    ensures { AreTested result (row_tests statement (map away_row (toks_of toks.now)) (map_of held.old))
+    ensures { AreTested result
+        (row_tests statement (map away_row (toks_of toks.now)) (map_of held.old))
         (λ u. map_of held.new ≡ map_after (map away_row (toks_of toks.now)) (map_of held.old)) }
 {
     for tok in toks {

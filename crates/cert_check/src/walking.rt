@@ -138,7 +138,8 @@ fn test_end(given: &Given<'_>, side: Side, k: usize, walked: Walked) -> Result<W
 /// The map at the head of the loop n, below which the map is to lie.
 fn enter(given: &Given<'_>, n: usize, held: Held) -> Result<Held, Stop>
     requires { AreOrdered given.now.notes.now }
-    ensures { AreTested result (below_test n (map_of held) (map_at side.Around (given_by given.now.notes.now) n) ∷ [])
+    ensures { AreTested result
+        (below_test n (map_of held) (map_at side.Around (given_by given.now.notes.now) n) ∷ [])
         (λ h. map_of h ≡ map_at side.Around (given_by given.now.notes.now) n) }
 {
     test_below(given, Side::Around, n, n, &held)?;
@@ -167,7 +168,8 @@ fn jump(
 ) -> Result<(), Stop>
     requires { AreOrdered given.now.notes.now }
     ensures { AreTested result
-        (tests (given_by given.now.notes.now) l n (map_of held) (flows.jump continues (toks_of left.now)))
+        (tests (given_by given.now.notes.now) l n (map_of held)
+        (flows.jump continues (toks_of left.now)))
         (λ u. Unit {0}) }
 {
     let mut held = held;
@@ -241,7 +243,8 @@ fn test_turn(
     requires order { AreOrdered given.now.notes.now }
     requires few { n + 1 + size_block (block_view body.now) < 2 ^ 62 }
     ensures { AreTested result
-        (turn_tests (given_by given.now.notes.now) n (map_of head) (rows_view rows.now) (block_view body.now))
+        (turn_tests (given_by given.now.notes.now) n (map_of head) (rows_view rows.now)
+        (block_view body.now))
         (λ m. m ≡ n + 1 + size_block (block_view body.now)) }
 {
     let inside = pass(head, n, rows)?;
@@ -309,7 +312,8 @@ fn test_arms(
 ) -> Result<Way, Stop>
     requires order { AreOrdered given.now.notes.now }
     requires few { n + 1 + size_arms (arms_view arms.now) < 2 ^ 62 }
-    ensures { AreTested result (arms_tests (given_by given.now.notes.now) l n (n + 1) (map_of held.now)
+    ensures { AreTested result
+        (arms_tests (given_by given.now.notes.now) l n (n + 1) (map_of held.now)
         (arms_view arms.now) (map_at side.Behind (given_by given.now.notes.now) n))
         (IsWay (passes_arms (arms_view arms.now)) (n + 1 + size_arms (arms_view arms.now))) }
 {
@@ -334,7 +338,8 @@ fn test_form(
 ) -> Result<Walked, Stop>
     requires order { AreOrdered given.now.notes.now }
     requires few { n + size (flow_view form.now) < 2 ^ 62 }
-    ensures { AreTested result (tests (given_by given.now.notes.now) l n (map_of held) (flow_view form.now))
+    ensures { AreTested result
+        (tests (given_by given.now.notes.now) l n (map_of held) (flow_view form.now))
         (IsLed (leads (given_by given.now.notes.now) n (map_of held) (flow_view form.now))
         (n + size (flow_view form.now))) }
 {
@@ -426,7 +431,8 @@ fn test_list(
 ) -> Result<Walked, Stop>
     requires order { AreOrdered given.now.notes.now }
     requires few { n + size_stmts (stmts_view stmts.now) < 2 ^ 62 }
-    ensures { AreTested result (list_tests (given_by given.now.notes.now) l n (map_of held) (stmts_view stmts.now))
+    ensures { AreTested result
+        (list_tests (given_by given.now.notes.now) l n (map_of held) (stmts_view stmts.now))
         (IsLed (leads_stmts (given_by given.now.notes.now) n (map_of held) (stmts_view stmts.now))
         (n + size_stmts (stmts_view stmts.now))) }
 {

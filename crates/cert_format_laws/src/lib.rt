@@ -1,6 +1,6 @@
 //! Laws on certificates: nothing goes in and nothing comes out.
 //! Read `specs/Readings.antt` first, then `Texts`, `Versions`, `Bodies` and `Places`.
-//! Used by: Used by: nothing yet; reading and writing certificates will.
+//! Used by: `cert_write`, `cert_read` and `cert_fit_laws`.
 #![tactic(auto)]
 
 ghost use Rattle.vlt_core.specs.Core.{Program};

@@ -1,0 +1,10 @@
+use Rattle.std.proofs.Common.{rules, ◌≡◌, ◌∙◌, map}
+use Rattle.vlt_core.specs.View.{var_of}
+use Rattle.cert_kinds_heads.specs.Summaries.{summary_of}
+use Rattle.cert_kinds_heads.proofs.Summaries.{summary_next_of}
+use Rattle.cert_kinds_heads.proofs.given.parameters_give.Goals as goal
+
+pub loop-d-preserved : goal.loop-d-preserved
+loop-d-preserved c =
+    rw (c.both-found.ensures, c.type_gives.ensures)
+    (c.loop-d.invariant ∙ summary_next_of c.args.k _ (λ d. d.ty) var_of (summary_of c.loop-d.found) c.args.vars.now c.loop-d.d-index c.d-item.result c.d-item.is c.loop-d-test.true)

@@ -1,0 +1,9 @@
+use Rattle.std.proofs.Common.{rules, ◌≡◌, ◌∙◌}
+use Rattle.cert_kinds_types.proofs.Smallest.{each_item}
+use Rattle.vlt_core.specs.View.{program_of, func_of, var_of}
+use Rattle.cert_kinds_heads.proofs.heads.vars_broken.Goals as goal
+
+pub loop-d-preserved : goal.loop-d-preserved
+loop-d-preserved c =
+    rw (c.lesser-found.ensures, c.type_broken.ensures)
+    (c.loop-d.invariant ∙ each_item _ var_of c.loop-d.found c.args.vars.now c.loop-d.d-index c.d-item.result c.d-item.is c.loop-d-test.true)

@@ -1,0 +1,3 @@
+pub mod Counts
+pub mod Returned
+pub mod Owned

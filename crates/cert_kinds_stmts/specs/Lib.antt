@@ -1,0 +1,4 @@
+pub mod Objects
+pub mod Returned
+pub mod Statements
+pub mod Opened

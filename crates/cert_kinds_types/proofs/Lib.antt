@@ -1,0 +1,4 @@
+pub mod Smallest
+pub mod Rounds
+pub mod Zips
+pub mod Marked
