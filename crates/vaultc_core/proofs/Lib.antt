@@ -18,3 +18,4 @@ pub mod Some
 pub mod Told
 pub mod Replied
 pub mod Promises
+pub mod Compiles

@@ -1,6 +1,8 @@
 -- Which statuses a command's replies to the bytes of its files have.
-use Rattle.std.proofs.Common.{◌≡◌, inl, inr, ℕ, ℤ, ◌≤◌, List, Some, None, sym, subst, arith}
-use Rattle.std.specs.Prelude.{◌≢◌}
+use Rattle.std.proofs.Common.{◌≡◌, inl, inr, ℕ, ℤ, ◌≤◌, Bool, true, false, if◌then◌else◌, List, length, Some, None, sym, subst, arith}
+use Rattle.std.specs.Prelude.{◌≢◌, nat_lt}
+use Rattle.vlt_base.specs.Limits.{limit_of}
+use Rattle.vlt_base.specs.declared.limits.TheConstants.{C_BYTES}
 use Rattle.vlt_base.specs.declared.Budgets.{Budgets}
 use Rattle.vlt_core.specs.Core.{Program}
 use Rattle.vlt_meaning.specs.World.{Outcome, done, trap, fuel_end, heap_end, depth_end, input_end, answers_end, bad_answer, fault}
@@ -19,14 +21,15 @@ use Rattle.c_reader.specs.declared.error.CError.{CError}
 use Rattle.c_reader.specs.declared.error.CError.TheVariants as error
 use Rattle.c_interp.specs.declared.runs.end.CEnd.{CEnd}
 use Rattle.c_interp.specs.declared.runs.end.CEnd.TheVariants.{Unread, Ended}
-use Rattle.vaultc_core.specs.declared.status.TheConstants.{NO_COMMAND, UNREAD}
+use Rattle.vaultc_core.specs.declared.status.TheConstants.{DONE, NO_COMMAND, UNREAD}
 use Rattle.vaultc_core.specs.CRuns.{IsReplyToC, c_refusal, stop_reply, end_reply}
-use Rattle.vaultc_core.specs.Commands.{Command, check, explain, run, fmt, crun}
-use Rattle.vaultc_core.specs.Lines.{Reply}
+use Rattle.vaultc_core.specs.Commands.{Command, check, explain, run, fmt, emit, crun}
+use Rattle.vaultc_core.specs.Lines.{Reply, reply, over_reply}
 use Rattle.vaultc_core.specs.Replies.{IsReplyToVerdict, IsReplyToTree, IsReplyToText, IsReplyToRunText, IsReplyToContents, bytes_at}
 use Rattle.vaultc_core.specs.Runs.{last_of, IsReplyOverNumbers, IsReplyToProgram}
 use Rattle.vaultc_core.specs.Texts.{Refusal, unlexed, unparsed, refusal_reply}
 use Rattle.vaultc_core.specs.Verdicts.{check_reply, IsExplained}
+use Rattle.vaultc_core.specs.Emitted.{c_text, emit_reply}
 
 -- neither that of words that are no command nor that of a file that wasn't read
 abbrev pub IsOwn : ℕ → Type 0
@@ -59,6 +62,15 @@ own_verdict text (verdict.refused (broken rule at)) = own 7 (omega arith)
 own_verdict text (verdict.refused (exceeded n)) = own 5 (omega arith)
 own_verdict text (verdict.faulty p f x) = own 8 (omega arith)
 own_verdict text (verdict.accepted p) = own_zero
+
+own_text_or_limit : (b : Bool) (text : List ℕ) → IsOwn (if b then over_reply C_BYTES else reply DONE text).status
+own_text_or_limit true text = own 5 (omega arith)
+own_text_or_limit false text = own_zero
+
+own_emitted : (text : List ℕ) (v : Verdict) → IsOwn (emit_reply text v).status
+own_emitted text (verdict.refused x) = own_verdict text (verdict.refused x)
+own_emitted text (verdict.faulty p f x) = own_verdict text (verdict.faulty p f x)
+own_emitted text (verdict.accepted p) = own_text_or_limit (nat_lt (limit_of C_BYTES) (length (c_text p))) (c_text p)
 
 some_some : (r q : Reply) → Some r ≡ Some q → r ≡ q
 some_some r q e = cc
@@ -104,6 +116,7 @@ own_tree (check file) text t r (v, judged, is) = own_as r _ is (own_verdict text
 own_tree (explain file) text t r (v, judged, is) = own_explained text v r is
 own_tree (run file taken) text t r is = absurd is
 own_tree (fmt file) text t r is = own_as r _ is own_zero
+own_tree (emit file) text t r (v, judged, is) = own_as r _ is (own_emitted text v)
 own_tree (crun file taken) text t r is = absurd is
 
 own_text : (command : Command) (text : List ℕ) (r : Reply) → IsReplyToText command text r → IsOwn r.status
@@ -154,4 +167,5 @@ own_reply (explain file) contents r is = own_text (explain file) (bytes_at conte
 own_reply (run file taken) contents r is =
     own_run (bytes_at contents 0) (given_by (bytes_at contents 1) (bytes_at contents 2)) taken.budgets r is
 own_reply (fmt file) contents r is = own_text (fmt file) (bytes_at contents 0) r is
+own_reply (emit file) contents r is = own_text (emit file) (bytes_at contents 0) r is
 own_reply (crun file taken) contents r is = own_c (bytes_at contents 0) (bytes_at contents 1) (bytes_at contents 2) taken.budgets r is

@@ -35,13 +35,13 @@ use Rattle.vaultc_core.proofs.Single.{Laws}
 use Rattle.vaultc_core.proofs.Reading.{one_read, read_there, short_before}
 use Rattle.vaultc_core.proofs.Told.{complete}
 
-not_zero : (n : ℕ) → 0 ≡ suc n → ⊥
+pub not_zero : (n : ℕ) → 0 ≡ suc n → ⊥
 not_zero n e = omega arith
 
-status_of : (text : List ℕ) (r : Reply) → reply DONE text ≡ r → DONE ≡ r.status
+pub status_of : (text : List ℕ) (r : Reply) → reply DONE text ≡ r → DONE ≡ r.status
 status_of text r e = ap (λ x. x.status) e
 
-no_refusal : (bytes text : List ℕ) (e : Refusal) → reply DONE text ≡ refusal_reply bytes e → ⊥
+pub no_refusal : (bytes text : List ℕ) (e : Refusal) → reply DONE text ≡ refusal_reply bytes e → ⊥
 no_refusal bytes text (unlexed (lex.NotUtf8 at)) e = not_zero 5 (status_of text _ e)
 no_refusal bytes text (unlexed (lex.BadByte at)) e = not_zero 5 (status_of text _ e)
 no_refusal bytes text (unlexed (lex.NumberTooLarge at)) e = not_zero 5 (status_of text _ e)

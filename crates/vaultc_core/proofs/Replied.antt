@@ -13,7 +13,7 @@ use Rattle.vaultc_core.specs.View.{seen_text}
 use Rattle.vaultc_core.specs.declared.files.FileError.{FileError}
 use Rattle.vaultc_core.specs.declared.files.FileError.TheVariants.{Unread, TooLong, Memory}
 use Rattle.vaultc_core.specs.declared.words.TextCommand.{TextCommand}
-use Rattle.vaultc_core.specs.declared.words.TextCommand.TheVariants.{Check, Explain, Fmt}
+use Rattle.vaultc_core.specs.declared.words.TextCommand.TheVariants.{Check, Explain, Fmt, Emit}
 use Rattle.vaultc_core.proofs.Reading.{cut_first, read_then}
 
 -- ---- one file
@@ -51,6 +51,7 @@ pub text_reply : {S : Type 0} (g : Ghosts S) (old new : S) (k : TextCommand) (fi
 text_reply g old new Check file bytes slice r same may is = (had (bytes ∷ []), may, subst (λ b. IsReplyToText (seen_text Check file) b r) same is)
 text_reply g old new Explain file bytes slice r same may is = (had (bytes ∷ []), may, subst (λ b. IsReplyToText (seen_text Explain file) b r) same is)
 text_reply g old new Fmt file bytes slice r same may is = (had (bytes ∷ []), may, subst (λ b. IsReplyToText (seen_text Fmt file) b r) same is)
+text_reply g old new Emit file bytes slice r same may is = (had (bytes ∷ []), may, subst (λ b. IsReplyToText (seen_text Emit file) b r) same is)
 
 -- each command on a text reads this one file
 pub text_sources : {S : Type 0} (g : Ghosts S) (old new : S) (k : TextCommand) (file : List ℕ) (e : FileError) → IfSome (error_seen e) (MayRead g old new (Some (text_in file) ∷ []))
@@ -58,6 +59,7 @@ pub text_sources : {S : Type 0} (g : Ghosts S) (old new : S) (k : TextCommand) (
 text_sources g old new Check file e may = may
 text_sources g old new Explain file e may = may
 text_sources g old new Fmt file e may = may
+text_sources g old new Emit file e may = may
 
 pub error_reply : {S : Type 0} (g : Ghosts S) (old new : S) (command : Command) (e : FileError) (r : Reply) → IfSome (error_seen e) (MayRead g old new (sources_of command))
     → MatchOption (error_seen e) ⊥ (λ x. IsReplyOver (λ _ _. ⊥) x r) → MayReply g old new (Some command) r

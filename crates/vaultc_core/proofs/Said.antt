@@ -1,5 +1,5 @@
 -- What a command replies for the parts of its file.
-use Rattle.std.proofs.Common.{◌≡◌, inl, inr, ℕ, false, List, Option, Some, None, sym, subst}
+use Rattle.std.proofs.Common.{◌≡◌, inl, inr, ℕ, false, List, Option, Some, None, sym, subst, ap, ◌∙◌}
 use Rattle.std.specs.Prelude.{Result, Ok, Err, IfOk, IfSome, option_map}
 use Rattle.std.specs.declared.alloc.AllocError.{AllocError}
 use Rattle.vlt_base.specs.declared.Budgets.{Budgets}
@@ -12,13 +12,14 @@ use Rattle.vlt_verdict.specs.declared.Verdict as shown
 use Rattle.vlt_verdict.specs.declared.Verdict.TheVariants.{Broken, Exceeded, Faulty, Accepted}
 use Rattle.vlt_verdict.specs.Verdicts.{Verdict, refused, faulty, accepted, IsVerdictOf}
 use Rattle.vlt_verdict.specs.Seen.{IsSeenAs}
-use Rattle.vaultc_core.specs.Commands.{Command, check, explain, fmt}
+use Rattle.vaultc_core.specs.Commands.{Command, check, explain, fmt, emit}
 use Rattle.vaultc_core.specs.Lines as lines
 use Rattle.vaultc_core.specs.Texts.{Refusal, AreRefused, IsTextOf, refusal_reply}
 use Rattle.vaultc_core.specs.Verdicts.{check_reply, IsExplained}
 use Rattle.vlt_core.specs.Core.{Program}
 use Rattle.vlt_core.specs.declared.program.Program as code
 use Rattle.vlt_numbers.specs.Given.Given.{Given}
+use Rattle.vaultc_core.specs.Emitted.{emitted_reply, emit_reply}
 use Rattle.vaultc_core.specs.Runs.{IsReplyToProgram}
 use Rattle.vaultc_core.specs.Replies.{IsReplyToVerdict, IsReplyToRun, IsReplyToTree, IsReplyByTree, IsReplyToText, IsReplyToRunText}
 use Rattle.vaultc_core.specs.Shown.{shown_reply, is_accepted, IsJudged}
@@ -55,6 +56,12 @@ pub explained_said : (bytes : List ℕ) (t : Tree) (v : shown.Verdict) (r : Resu
     IfOk r (λ x. (file : List ℕ) → IsReplyToText (explain file) bytes (shown_reply x))
 explained_said bytes t v (Ok x) reads (s, is, seen) said = λ file. inr (t, reads, (s, is, said s seen))
 explained_said bytes t v (Err e) reads is said = tt
+
+pub compiled_said : (bytes : List ℕ) (t : Tree) (v : shown.Verdict) (r : Result Reply AllocError) → IsTextOf t bytes →
+    (s : Verdict) × IsVerdictOf t s × IsSeenAs v s → IfOk r (λ x. (s : Verdict) → IsSeenAs v s → shown_reply x ≡ emit_reply bytes s) →
+    IfOk r (λ x. (file : List ℕ) → IsReplyToText (emit file) bytes (shown_reply x))
+compiled_said bytes t v (Ok x) reads (s, is, seen) said = λ file. inr (t, reads, (s, is, said s seen))
+compiled_said bytes t v (Err e) reads is said = tt
 
 pub laid_said : (bytes : List ℕ) (t : Tree) (r : Result Reply AllocError) → IsTextOf t bytes → IfOk r (λ x. shown_reply x ≡ lines.reply DONE (layout t))
     → IfOk r (λ x. (file : List ℕ) → IsReplyToText (fmt file) bytes (shown_reply x))
@@ -97,3 +104,28 @@ accepted_program t v q so (s, is, seen) = accepted_seen t q s is (subst (λ x. I
 pub accepted_run : (text : List ℕ) (given : Given) (b : Budgets) (t : Tree) (p : Program) → IsTextOf t text → IsVerdictOf t (accepted p) →
     (r : lines.Reply) → IsReplyToProgram p given b r → IsReplyToRunText text given b r
 accepted_run text given b t p reads is r replies = inr (t, reads, (accepted p, is, replies))
+
+-- ---- C texts
+
+-- `emit` says of a verdict that isn't accepted what `check` says of it
+emit_as_check : (text : List ℕ) (v : shown.Verdict) (s : Verdict) (r : lines.Reply) → is_accepted v ≡ false → IsSeenAs v s → r ≡ check_reply text s → r ≡ emit_reply text s
+emit_as_check text v (refused x) r other seen e = e
+emit_as_check text v (faulty p f x) r other seen e = e
+emit_as_check text (Accepted q) (accepted p) r other seen e = absurd cc
+emit_as_check text (Broken rule at) (accepted p) r other seen e = absurd cc
+emit_as_check text (Exceeded n) (accepted p) r other seen e = absurd cc
+emit_as_check text (Faulty q x) (accepted p) r other (f, there, same) e = absurd cc
+
+pub checked_emit : (text : List ℕ) (v : shown.Verdict) (r : Result Reply AllocError) → is_accepted v ≡ false →
+    IfOk r (λ x. (s : Verdict) → IsSeenAs v s → shown_reply x ≡ check_reply text s) → IfOk r (λ x. (s : Verdict) → IsSeenAs v s → shown_reply x ≡ emit_reply text s)
+checked_emit text v (Ok x) other said = λ s seen. emit_as_check text v s (shown_reply x) other seen (said s seen)
+checked_emit text v (Err e) other said = tt
+
+-- the C text of an accepted program is what `emit` says of its verdict
+pub accepted_emit : (text : List ℕ) (v : shown.Verdict) (q : code.Program) (r : Result Reply AllocError) → v ≡ Accepted q →
+    IfOk r (λ x. shown_reply x ≡ emitted_reply (program_of q)) → IfOk r (λ x. (s : Verdict) → IsSeenAs v s → shown_reply x ≡ emit_reply text s)
+accepted_emit text v q (Ok x) so said = λ s seen. by s (subst (λ v. IsSeenAs v s) so seen)
+  where
+    by : (s : Verdict) → IsSeenAs (Accepted q) s → shown_reply x ≡ emit_reply text s
+    by s seen = said ∙ sym (ap (emit_reply text) seen)
+accepted_emit text v q (Err e) so said = tt

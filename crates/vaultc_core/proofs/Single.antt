@@ -12,12 +12,13 @@ use Rattle.vlt_numbers.specs.Given.Given.{Given, numbers, bad_input, bad_answers
 use Rattle.vlt_verdict.specs.Verdicts.{Verdict, IsVerdictOf}
 use Rattle.vlt_verdict.specs.Laws.{HasOneVerdict}
 use Rattle.vlt_verdict.specs.Verdicts as verdict
-use Rattle.vaultc_core.specs.Commands.{Command, check, explain, run, fmt, crun}
+use Rattle.vaultc_core.specs.Commands.{Command, check, explain, run, fmt, emit, crun}
 use Rattle.vaultc_core.specs.Sources.{Read, had, unread, too_long, sources_of, read_in}
 use Rattle.vaultc_core.specs.Lines.{Reply, reply, behind}
 use Rattle.vaultc_core.specs.Texts.{IsTextOf, refusal_reply}
 use Rattle.vaultc_core.specs.declared.status.TheConstants.{NOT_ACCEPTED}
 use Rattle.vaultc_core.specs.Verdicts.{check_reply, IsExplained}
+use Rattle.vaultc_core.specs.Emitted.{emit_reply}
 use Rattle.vaultc_core.specs.Runs.{IsReplyToRan, IsReplyOverNumbers, IsReplyToProgram}
 use Rattle.vaultc_core.specs.Replies.{IsReplyToVerdict, IsReplyToRun, IsReplyToTree, IsReplyToText, IsReplyToRunText, bytes_at, IsReplyToContents, IsReplyToRead, IsReplyToCommand, GoesOn, AreAlike}
 use Rattle.c_reader_laws.specs.Laws.{IsReadInOneWay}
@@ -58,6 +59,7 @@ same_alike (check file) x r q e = e
 same_alike (explain file) x r q e = inl e
 same_alike (run file b) x r q e = e
 same_alike (fmt file) x r q e = e
+same_alike (emit file) x r q e = e
 same_alike (crun file taken) x r q e = e
 
 alike_status : (command : Command) (x : Read) (r q : Reply) → AreAlike command x r q → r.status ≡ q.status
@@ -66,6 +68,7 @@ alike_status (explain file) x r q (inl e) = ap (λ z. z.status) e
 alike_status (explain file) x r q (inr (line, is, status, a, b)) = a.0 ∙ sym b.0
 alike_status (run file b) x r q e = ap (λ z. z.status) e
 alike_status (fmt file) x r q e = ap (λ z. z.status) e
+alike_status (emit file) x r q e = ap (λ z. z.status) e
 alike_status (crun file taken) x r q e = ap (λ z. z.status) e
 
 goes_on : (line more : List ℕ) (r : Reply) → r ≡ reply NOT_ACCEPTED (line ++ more) → GoesOn (reply NOT_ACCEPTED line) r
@@ -96,6 +99,8 @@ module _ (laws : Laws) where
       is_r ∙ ap (check_reply (bytes_at contents 0)) (laws.one t a b tree of_a of_b) ∙ sym is_q
   one_of_tree (run file taken) contents t r q reads tree is_r is_q = absurd is_r
   one_of_tree (fmt file) contents t r q reads tree is_r is_q = is_r ∙ sym is_q
+  one_of_tree (emit file) contents t r q reads tree (a, of_a, is_r) (b, of_b, is_q) =
+      is_r ∙ ap (emit_reply (bytes_at contents 0)) (laws.one t a b tree of_a of_b) ∙ sym is_q
   one_of_tree (crun file taken) contents t r q reads tree is_r is_q = absurd is_r
 
   -- ---- commands
@@ -127,6 +132,7 @@ module _ (laws : Laws) where
   one_of_contents (run file taken) contents r q is_r is_q =
       one_of_run (bytes_at contents 0) (given_by (bytes_at contents 1) (bytes_at contents 2)) taken.budgets r q is_r is_q
   one_of_contents (fmt file) contents r q is_r is_q = one_of_text (fmt file) contents r q is_r is_q
+  one_of_contents (emit file) contents r q is_r is_q = one_of_text (emit file) contents r q is_r is_q
   one_of_contents (crun file taken) contents r q is_r is_q =
       one_c_reply (laws.c_texts (bytes_at contents 0)) (bytes_at contents 1) (bytes_at contents 2) taken.budgets r q is_r is_q
 

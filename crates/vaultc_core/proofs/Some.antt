@@ -26,13 +26,14 @@ use Rattle.vlt_verdict.specs.Verdicts.{Verdict, refused, faulty, accepted, IsVer
 use Rattle.vlt_verdict.specs.Laws.{HasSomeVerdict}
 use Rattle.vlt_check_laws.specs.Shown.{HasWitness}
 use Rattle.vaultc_core.specs.declared.status.TheConstants.{DONE, NOT_ACCEPTED}
-use Rattle.vaultc_core.specs.Commands.{Command, check, explain, run, fmt, crun}
+use Rattle.vaultc_core.specs.Commands.{Command, check, explain, run, fmt, emit, crun}
 use Rattle.vaultc_core.specs.Lines.{Reply, reply, over_reply, unread_reply, numbers_reply, behind}
 use Rattle.vaultc_core.specs.Runs.{IsReplyToRan, IsReplyOverNumbers, IsReplyToProgram}
 use Rattle.vaultc_core.specs.Sources.{had, unread, too_long}
 use Rattle.vaultc_core.specs.Texts.{refusal_reply}
 use Rattle.vaultc_core.specs.Verdicts.{check_reply, IsExplained}
-use Rattle.vaultc_core.specs.Replies.{IsReplyToCheck, IsReplyToExplain, IsReplyToVerdict, IsReplyToRun, IsReplyByTree, bytes_at, IsReplyToContents, HasSomeReply}
+use Rattle.vaultc_core.specs.Emitted.{emit_reply}
+use Rattle.vaultc_core.specs.Replies.{IsReplyToCheck, IsReplyToExplain, IsReplyToEmit, IsReplyToVerdict, IsReplyToRun, IsReplyByTree, bytes_at, IsReplyToContents, HasSomeReply}
 use Rattle.c_reader_laws.specs.Laws.{IsReadInOneWay}
 use Rattle.vaultc_core.proofs.CReplies.{over_or_not, some_c_reply}
 use Rattle.vaultc_core.proofs.Read.{text_tree, read_in_one_way}
@@ -91,6 +92,9 @@ module _ (laws : Laws) where
   some_of_explain : (text : List ℕ) (t : Tree) → IsTextTree t → Surely ((r : Reply) × IsReplyToExplain text t r)
   some_of_explain text t tree = so (laws.verdicts t tree) (λ v. let r = explained text t tree v.0 v.1 in (r.0, (v.0, v.1, r.1)))
 
+  some_of_emit : (text : List ℕ) (t : Tree) → IsTextTree t → Surely ((r : Reply) × IsReplyToEmit text t r)
+  some_of_emit text t tree = so (laws.verdicts t tree) (λ v. (emit_reply text v.0, (v.0, v.1, refl)))
+
   some_of_run : (text : List ℕ) (given : Given) (b : Budgets) (t : Tree) → IsTextTree t → Surely ((r : Reply) × IsReplyToRun text given b t r)
   some_of_run text given b t tree = so (laws.verdicts t tree) (λ v. let r = of_verdict text given b t tree v.0 v.1 in (r.0, (v.0, v.1, r.1)))
 
@@ -107,6 +111,7 @@ module _ (laws : Laws) where
   some_of_contents (explain file) contents = let bytes = bytes_at contents 0 in by_tree (IsReplyToExplain bytes) bytes (some_of_explain bytes)
   some_of_contents (fmt file) contents =
       by_tree (λ t r. r ≡ reply DONE (layout t)) (bytes_at contents 0) (λ t tree. sure (reply DONE (layout t), refl))
+  some_of_contents (emit file) contents = let bytes = bytes_at contents 0 in by_tree (IsReplyToEmit bytes) bytes (some_of_emit bytes)
   some_of_contents (run file taken) contents =
       let bytes = bytes_at contents 0 in
       let given = given_by (bytes_at contents 1) (bytes_at contents 2) in

@@ -4,10 +4,12 @@ pub mod Lines
 pub mod Texts
 pub mod Programs
 pub mod Verdicts
+pub mod Emitted
 pub mod Runs
 pub mod CRuns
 pub mod Replies
 pub mod Promised
+pub mod Compiled
 pub mod Finishes
 pub mod View
 pub mod Shown

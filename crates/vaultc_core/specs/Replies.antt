@@ -6,13 +6,14 @@ use Rattle.vlt_io.specs.declared.store.Store.{Ghosts}
 use Rattle.vlt_syntax.specs.Tree.{Tree}
 use Rattle.vlt_printer.specs.Layout.{layout}
 use Rattle.vaultc_core.specs.declared.status.TheConstants.{DONE, UNREAD, SINK_FAILED, NO_MEMORY, NOT_ACCEPTED}
-use Rattle.vaultc_core.specs.Commands.{Command, check, explain, run, fmt, crun, command_of}
+use Rattle.vaultc_core.specs.Commands.{Command, check, explain, run, fmt, emit, crun, command_of}
 use Rattle.vaultc_core.specs.Sources.{Read, had, unread, too_long, sources_of, read_in, MayRead}
 use Rattle.vaultc_core.specs.Lines.{Reply, reply, usage_reply, unread_reply, over_reply}
 use Rattle.vaultc_core.specs.Texts.{Refusal, AreRefused, IsTextOf, refusal_reply}
 use Rattle.vlt_base.specs.Sure.{Surely}
 use Rattle.vlt_verdict.specs.Verdicts.{Verdict, accepted, IsVerdictOf}
 use Rattle.vaultc_core.specs.Verdicts.{check_reply, IsExplained}
+use Rattle.vaultc_core.specs.Emitted.{emit_reply}
 use Rattle.vlt_numbers.specs.Given.Given.{Given, given_by}
 use Rattle.vaultc_core.specs.Runs.{IsReplyToProgram}
 use Rattle.vaultc_core.specs.CRuns.{IsReplyToC}
@@ -24,6 +25,9 @@ IsReplyToCheck text t r = (v : Verdict) × IsVerdictOf t v × (r ≡ check_reply
 
 abbrev pub IsReplyToExplain : (text : List ℕ) → Tree → Reply → Type 0
 IsReplyToExplain text t r = (v : Verdict) × IsVerdictOf t v × IsExplained text v r
+
+abbrev pub IsReplyToEmit : (text : List ℕ) → Tree → Reply → Type 0
+IsReplyToEmit text t r = (v : Verdict) × IsVerdictOf t v × (r ≡ emit_reply text v)
 
 -- `run` replies as `check` does where that doesn't accept
 abbrev pub IsReplyToVerdict : (text : List ℕ) → Given → Budgets → Verdict → Reply → Type 0
@@ -38,6 +42,7 @@ abbrev pub IsReplyToTree : Command → (text : List ℕ) → Tree → Reply → 
 IsReplyToTree (check file) text t r = IsReplyToCheck text t r
 IsReplyToTree (explain file) text t r = IsReplyToExplain text t r
 IsReplyToTree (fmt file) text t r = r ≡ reply DONE (layout t)
+IsReplyToTree (emit file) text t r = IsReplyToEmit text t r
 IsReplyToTree (run file taken) text t r = ⊥
 IsReplyToTree (crun file taken) text t r = ⊥
 

@@ -5,7 +5,7 @@ use Rattle.vaultc_core.specs.Commands as commands
 use Rattle.vaultc_core.specs.declared.words.Command.{Command}
 use Rattle.vaultc_core.specs.declared.words.Command.TheVariants.{Text, Run, C}
 use Rattle.vaultc_core.specs.declared.words.TextCommand.{TextCommand}
-use Rattle.vaultc_core.specs.declared.words.TextCommand.TheVariants.{Check, Explain, Fmt}
+use Rattle.vaultc_core.specs.declared.words.TextCommand.TheVariants.{Check, Explain, Fmt, Emit}
 use Rattle.vaultc_core.specs.declared.words.Setting.{Setting}
 use Rattle.vaultc_core.specs.declared.words.Setting.TheVariants.{Fuel, Heap, Depth, Input, Answers}
 use Rattle.vaultc_core.specs.declared.words.Settings.{Settings}
@@ -38,6 +38,7 @@ abbrev pub seen_text : TextCommand → (file : List ℕ) → commands.Command
 seen_text Check file = commands.check file
 seen_text Explain file = commands.explain file
 seen_text Fmt file = commands.fmt file
+seen_text Emit file = commands.emit file
 
 abbrev pub seen_command : Command → commands.Command
 seen_command (Text command file) = seen_text command file.now

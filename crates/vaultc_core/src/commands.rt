@@ -16,6 +16,7 @@ ghost use Rattle.vaultc_core.specs.View.{seen_command, seen_taken, seen_text};
 ghost use Rattle.vaultc_core.specs.Shown.{AreShort, IsJudged, is_accepted, shown_reply};
 
 use crate::c_runs::run_c;
+use crate::emit::{accepted, compiled};
 use crate::explain::explained;
 use crate::files::{RunFiles, read_file, read_run_files};
 use crate::lines::{USAGE, laid_out, not_had, refusal, verdict};
@@ -77,14 +78,18 @@ fn reply_to_fmt(alloc: Global, bytes: &[u8]) -> Result<Reply, AllocError>
     }
 }
 
-/// The program, where the verdict is that it follows all rules.
-fn accepted(judged: &Verdict) -> Option<&Program>
-    ensures some { IfSome result (λ p. judged.now ≡ Accepted p.now) }
-    ensures none { IfNone result (is_accepted judged.now ≡ false) }
+/// What `emit` says of a text.
+fn reply_to_emit(alloc: Global, bytes: &[u8]) -> Result<Reply, AllocError>
+    requires { ¬ (IsTooLong bytes.now) }
+    ensures { IfOk result (λ r. (file : List ℕ) →
+        IsReplyToText (c.emit file) bytes.now (shown_reply r)) }
 {
-    match judged {
-        Verdict::Accepted(program) => Some(program),
-        _ => None,
+    match read_tree(alloc, bytes) {
+        Ok(tree) => {
+            let judged = judge(alloc, &tree)?;
+            compiled(alloc, bytes, &tree, &judged)
+        }
+        Err(error) => refusal(alloc, bytes, error),
     }
 }
 
@@ -145,6 +150,7 @@ fn reply_to_text<K: Sink>(alloc: Global, command: TextCommand, bytes: &[u8], out
         TextCommand::Check => finish_reply(out, reply_to_check(alloc, bytes)),
         TextCommand::Explain => finish_reply(out, reply_to_explain(alloc, bytes)),
         TextCommand::Fmt => finish_reply(out, reply_to_fmt(alloc, bytes)),
+        TextCommand::Emit => finish_reply(out, reply_to_emit(alloc, bytes)),
     }
 }
 

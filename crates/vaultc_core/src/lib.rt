@@ -17,9 +17,11 @@ ghost use Rattle.vaultc_core.specs.Replies.{HasOneReply, HasSomeReply, IsReplyTo
 ghost use Rattle.vaultc_core.specs.Sources.{IsOneRead, text_in};
 ghost use Rattle.vaultc_core.specs.Finishes.{Finishes, WrotePart, WroteReply};
 ghost use Rattle.vaultc_core.specs.Promised.{IsPromised};
+ghost use Rattle.vaultc_core.specs.Compiled.{IsCompiled};
 
 mod c_runs;
 mod commands;
+mod emit;
 mod explain;
 mod files;
 mod lines;
@@ -30,6 +32,8 @@ pub mod status;
 mod words;
 mod write;
 
+use c_lower_accepted::texts_are_lowered_rightly;
+use c_lower_printed::accepted_texts_are_read_again;
 use c_reader_laws::texts_are_read_in_one_way;
 use std::alloc::Global;
 use vlt_check_laws::first_fault_has_witness;
@@ -55,6 +59,11 @@ pub fn vaultc<S: Store, K: Sink>(alloc: Global, words: &[String], store: &mut S,
         command_of (map string_bytes words.now) ≡ Some (commands.check file) → result ≡ DONE →
         (bytes : List ℕ) × IsOneRead S.Store store.old store.new (text_in file) bytes
         × IsPromised (S.files store.old) file bytes (K.written out.old) (K.written out.new) }
+    // `emit` gives 0 only for bytes of such a program, and the C text that it writes stands for a program that does the same.
+    ensures compiled { (file : List ℕ) →
+        command_of (map string_bytes words.now) ≡ Some (commands.emit file) → result ≡ DONE →
+        (bytes : List ℕ) × IsOneRead S.Store store.old store.new (text_in file) bytes
+        × IsCompiled (S.files store.old) file bytes (K.written out.old) (K.written out.new) }
     // With the file there, its bytes those of an accepted program, and no fault, `check` gives 0 unless memory is wanting.
     ensures accepts { (files : Files) (file bytes : List ℕ) (p : Program) →
         S.files store.old ≡ Some files →
@@ -99,6 +108,8 @@ pub fn vaultc<S: Store, K: Sink>(alloc: Global, words: &[String], store: &mut S,
     a_tree_has_one_verdict();
     texts_have_text_trees();
     texts_are_read_in_one_way();
+    texts_are_lowered_rightly();
+    accepted_texts_are_read_again();
     commands::carry_out(alloc, words, store, out)
 }
 

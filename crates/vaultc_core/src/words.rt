@@ -33,6 +33,7 @@ pub enum TextCommand {
     Check,
     Explain,
     Fmt,
+    Emit,
 }
 
 /// A command with its file.
@@ -242,6 +243,7 @@ pub fn read_command(words: &[String]) -> Option<Command<'_>>
         "check" => without_options(TextCommand::Check, file.as_str(), options),
         "explain" => without_options(TextCommand::Explain, file.as_str(), options),
         "fmt" => without_options(TextCommand::Fmt, file.as_str(), options),
+        "emit" => without_options(TextCommand::Emit, file.as_str(), options),
         "run" => {
             let settings = read_settings(options)?;
             Some(Command::Run(file.as_str(), settings.taken()))

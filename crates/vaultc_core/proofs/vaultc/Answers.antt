@@ -2,6 +2,7 @@ use Rattle.std.proofs.Common.{map}
 use Rattle.std.specs.Prelude.{string_bytes}
 use Rattle.vaultc_core.specs.Commands.{command_of}
 use Rattle.vaultc_core.proofs.Promises.{GoRight, promised, accepts}
+use Rattle.vaultc_core.proofs.Compiles.{compiled}
 use Rattle.vaultc_core.proofs.Told.{told, memory, complete, no_fault, usage, unread_told}
 use Rattle.vaultc_core.proofs.vaultc.Goals as goal
 
@@ -24,6 +25,11 @@ returns-clause-promised g c =
       leaves = c.accepted_programs_go_right.ensures.leaves;
     } in
     promised c.programs_are_fit.ensures c.texts_have_text_trees.ensures right g.S.Store g.K.Sink c.args.store.now c.carry_out.new.store c.args.out.now c.carry_out.new.out
+    (command_of (map string_bytes c.args.words.now)) c.carry_out.result c.carry_out.ensures.finishes
+
+pub returns-clause-compiled : goal.returns-clause-compiled
+returns-clause-compiled g c =
+    compiled c.texts_are_lowered_rightly.ensures.alike c.texts_are_lowered_rightly.ensures.defined c.accepted_texts_are_read_again.ensures g.S.Store g.K.Sink c.args.store.now c.carry_out.new.store c.args.out.now c.carry_out.new.out
     (command_of (map string_bytes c.args.words.now)) c.carry_out.result c.carry_out.ensures.finishes
 
 pub returns-clause-accepts : goal.returns-clause-accepts

@@ -1,5 +1,5 @@
 use Rattle.std.proofs.Common.{ℕ, List, sym, subst}
-use Rattle.vaultc_core.specs.Commands.{check, explain, fmt}
+use Rattle.vaultc_core.specs.Commands.{check, explain, fmt, emit}
 use Rattle.vaultc_core.specs.Finishes.{Finishes}
 use Rattle.vaultc_core.specs.Replies.{IsReplyToText}
 use Rattle.vaultc_core.specs.Shown.{IsReplyOf}
@@ -27,3 +27,10 @@ returns-in-Fmt g c = λ file.
     subst (λ k. Finishes g.K.Sink (IsReplyToText (seen_text k file) bytes) c.args.out.now c.finish_reply-in-Fmt.new.out c.finish_reply-in-Fmt.result) (sym c.in-Fmt.is)
     (finishes_as g.K.Sink (IsReplyOf c.reply_to_fmt.result) (IsReplyToText (fmt file) bytes) c.args.out.now c.finish_reply-in-Fmt.new.out c.finish_reply-in-Fmt.result
     (λ r is. reply_is (λ q. (name : List ℕ) → IsReplyToText (fmt name) bytes q) c.reply_to_fmt.result r c.reply_to_fmt.ensures is file) c.finish_reply-in-Fmt.ensures)
+
+pub returns-in-Emit : goal.returns-in-Emit
+returns-in-Emit g c = λ file.
+    let bytes = c.args.bytes.now in
+    subst (λ k. Finishes g.K.Sink (IsReplyToText (seen_text k file) bytes) c.args.out.now c.finish_reply-in-Emit.new.out c.finish_reply-in-Emit.result) (sym c.in-Emit.is)
+    (finishes_as g.K.Sink (IsReplyOf c.reply_to_emit.result) (IsReplyToText (emit file) bytes) c.args.out.now c.finish_reply-in-Emit.new.out c.finish_reply-in-Emit.result
+    (λ r is. reply_is (λ q. (name : List ℕ) → IsReplyToText (emit name) bytes q) c.reply_to_emit.result r c.reply_to_emit.ensures is file) c.finish_reply-in-Emit.ensures)

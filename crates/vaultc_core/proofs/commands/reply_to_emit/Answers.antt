@@ -1,0 +1,12 @@
+use Rattle.vlt_syntax.specs.View.{tree_of}
+use Rattle.vaultc_core.specs.Commands.{emit}
+use Rattle.vaultc_core.specs.Shown.{refusal_of}
+use Rattle.vaultc_core.proofs.Said.{refused_each, compiled_said}
+use Rattle.vaultc_core.proofs.commands.reply_to_emit.Goals as goal
+
+pub returns-in_ok-judged-in-Ok : goal.returns-in_ok-judged-in-Ok
+returns-in_ok-judged-in-Ok c =
+    compiled_said c.args.bytes.now (tree_of c.in-Ok.tree) c.in_ok-judged-in-Ok.judged c.compiled.result c.in-Ok.ensures.ok c.in_ok-judged-in-Ok.ensures.is c.compiled.ensures
+
+pub returns-in-Err : goal.returns-in-Err
+returns-in-Err c = refused_each (λ file. emit file) c.args.bytes.now (refusal_of c.in-Err.error) c.refusal.result c.in-Err.ensures.refused c.refusal.ensures
