@@ -2,10 +2,11 @@
 use Rattle.std.proofs.Common.{◌≡◌, ◌≤◌, ℕ, Bool, true, false, if◌then◌else◌, List, [], ◌∷◌, map, None, refl, sym, ap, ◌∙◌, subst, arith}
 use Rattle.std.specs.List.{list_any, flat_map}
 use Rattle.serde_json.specs.Data.{Data}
+use Rattle.serde_json.specs.Written.{compact_text}
 use Rattle.vlt_core.specs.Core.{SetDecl, Mode, kept, taken, given, fresh, up_to, Entry, Func, Program}
 use Rattle.vlt_core.specs.KindedHeads.{is_bounded, is_bound_entry}
 use Rattle.vlt_core.specs.declared.notes.Annotation.{Annotation}
-use Rattle.cert_rows.specs.Parts.{All}
+use Rattle.cert_rows.specs.Parts.{All, list}
 use Rattle.cert_rows.specs.Values.{mode_number, entry}
 use Rattle.cert_rows.specs.Rows.{states, external, function, FitsRow}
 use Rattle.cert_format.specs.Notes.{Note}
@@ -15,7 +16,7 @@ use Rattle.cert_format_laws.specs.Texts.{CertificatesAreWritten}
 use Rattle.cert_format_laws.specs.Versions.{is_linked, is_ordered, HasWrittenVersion}
 use Rattle.cert_format_laws.proofs.Decoding.{all_left}
 use Rattle.cert_write.specs.Notes.{notes_in}
-use Rattle.cert_write.specs.Texts.{IsTextOf}
+use Rattle.cert_write.specs.Texts.{IsTextOfRows}
 use Rattle.cert_write.specs.Rows.{rows_data}
 use Rattle.cert_write.proofs.Functions.{program_same}
 use Rattle.cert_write.proofs.Placing.{ordered_same}
@@ -65,7 +66,7 @@ written_version law false p all h = subst (λ o. FitsCertificate o p all) (sym (
 -- ---- the certificate
 
 pub certified : CertificatesAreWritten → HasWrittenVersion → (p : Program) (all : List (List Note)) (text : List ℕ) →
-    IsTextOf (program_data (is_ordered p) p all) text → (o : Bool) → FitsCertificate o p all → IsCertificateOf text p all
+    IsTextOfRows (program_data (is_ordered p) p all) text → (o : Bool) → FitsCertificate o p all → IsCertificateOf text p all
 certified written version p all text t o fits =
-    subst (λ s. IsCertificateOf s p all) (sym t.marks)
-    ((written (is_ordered p) p all (written_version version o p all fits)).certificate t.body t.written)
+    subst (λ s. IsCertificateOf s p all) (sym t.compact)
+    ((written (is_ordered p) p all (written_version version o p all fits)).certificate (compact_text (list (program_data (is_ordered p) p all))) t.written)

@@ -5,7 +5,7 @@ pub mod Inside
 pub mod Keeping
 pub mod Placing
 pub mod Written
-pub mod Shallow
+pub mod ExactRows
 pub mod Functions
 pub mod Tables
 pub mod Certified

@@ -2,7 +2,7 @@
 -- contracts alone cite these: that the rows are those of the format is a lemma.
 use Rattle.std.specs.Prelude.{◌≡◌, ◌<◌, ◌≤◌, ◌+◌, ℕ, Bool, true, false, if◌then◌else◌, List, [], ◌∷◌, ◌++◌, map, take, drop, length, codes, None, is_some}
 use Rattle.std.specs.List.{flat_map}
-use Rattle.serde_json.specs.Data.{Data, depth}
+use Rattle.serde_json.specs.Data.{Data}
 use Rattle.serde_json.specs.View.{view}
 use Rattle.serde_json.specs.declared.value.Value.{Value}
 use Rattle.vlt_core.specs.Core as core
@@ -15,6 +15,7 @@ use Rattle.cert_rows.specs.Values.{ListedMap, map_part, first_map, tagged_list}
 use Rattle.cert_rows.specs.Expressions.{expr}
 use Rattle.cert_rows.specs.Rows.{head, arm, row_data}
 use Rattle.cert_rows.specs.Rows as row
+use Rattle.cert_rows.specs.Laws.{IsExact}
 use Rattle.cert_format.specs.Notes.{MapNotes, join_of}
 use Rattle.cert_format.specs.Bodies.{count, count_block}
 use Rattle.cert_format.specs.Certificate.{shape, type_rows, fn_row}
@@ -97,9 +98,9 @@ pub record IsPut (annotations : List Annotation) (n size : ℕ) (rows : List Dat
   pub next : to.next ≡ n + size
   pub ready : IsReady annotations (length new) to
 
--- the values nest at most 5 deep
-abbrev pub AreShallow : List Data → Type 0
-AreShallow rows = All (λ d. depth d ≤ 5) rows
+-- the values nest at most 5 deep, and their numbers are whole
+abbrev pub AreExact : List Data → Type 0
+AreExact rows = All (λ d. IsExact 5 d) rows
 
 -- ---- functions and programs
 

@@ -12,7 +12,7 @@ ghost use Rattle.cert_format.specs.Certificate.{shape, program_data, FitsCertifi
 ghost use Rattle.cert_format_laws.specs.Versions.{is_ordered as is_ordered_program};
 ghost use Rattle.cert_decl_values.specs.Names.{HasTextSet, HasTextType, HasTextFunc, HasTextNames, IsNamed, IfNameless};
 ghost use Rattle.cert_write.specs.Notes.{notes_in};
-ghost use Rattle.cert_write.specs.Texts.{IsTextOf};
+ghost use Rattle.cert_write.specs.Texts.{IsTextOfRows};
 ghost use Rattle.cert_write.specs.Rows.{head_data, body_data, fn_data, first_annotations as first_of, fns_data, sets_data, types_data, rows_data};
 
 use crate::cursor::Cursor;
@@ -178,7 +178,7 @@ pub fn to_text(
         (unplaced_program (program_of p.now)) (notes_in (program_of p.now).fns notes.now)
         → IsCertificateOf text.items (unplaced_program (program_of p.now))
         (notes_in (program_of p.now).fns notes.now)) }
-    ensures text { IfOk result (λ text. IsTextOf
+    ensures text { IfOk result (λ text. IsTextOfRows
         (program_data (is_ordered_program (unplaced_program (program_of p.now)))
         (unplaced_program (program_of p.now)) (notes_in (program_of p.now).fns notes.now))
         text.items) }

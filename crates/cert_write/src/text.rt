@@ -3,8 +3,8 @@
 ghost use Rattle.std.specs.Prelude.{◌≡◌, map, IfOk};
 ghost use Rattle.serde_json.specs.View.{view};
 ghost use Rattle.cert_rows.specs.Parts.{list};
-ghost use Rattle.cert_write.specs.Texts.{IsTextOf};
-ghost use Rattle.cert_write.specs.Rows.{AreShallow};
+ghost use Rattle.cert_write.specs.Texts.{IsTextOfRows};
+ghost use Rattle.cert_write.specs.Rows.{AreExact};
 
 use serde_json::Value;
 use std::alloc::{AllocError, Global};
@@ -17,8 +17,8 @@ fn array_of(rows: Vec<Value>) -> Value
 
 /// The rows, as an array between the marks.
 pub fn text_of(alloc: Global, rows: Vec<Value>) -> Result<Vec<u8>, AllocError>
-    requires { AreShallow (map view rows.items) }
-    ensures { IfOk result (λ text. IsTextOf (map view rows.items) text.items) }
+    requires { AreExact (map view rows.items) }
+    ensures { IfOk result (λ text. IsTextOfRows (map view rows.items) text.items) }
 {
     let value = array_of(rows);
     let body = value.to_string(alloc)?;

@@ -4,9 +4,9 @@ use Rattle.vlt_core.specs.View.{program_of}
 use Rattle.cert_format.specs.Places.{unplaced_program}
 use Rattle.cert_format_laws.specs.Versions.{is_ordered}
 use Rattle.cert_write.specs.Notes.{notes_in}
-use Rattle.cert_write.specs.Texts.{IsTextOf}
-use Rattle.cert_write.specs.Rows.{AreShallow}
-use Rattle.cert_write.proofs.Shallow.{program_shallow}
+use Rattle.cert_write.specs.Texts.{IsTextOfRows}
+use Rattle.cert_write.specs.Rows.{AreExact}
+use Rattle.cert_write.proofs.ExactRows.{program_exact}
 use Rattle.cert_write.proofs.Certified.{written_data, certified}
 use Rattle.cert_write.proofs.program.to_text.Goals as goal
 
@@ -14,14 +14,14 @@ pub text_of-requires : goal.text_of-requires
 text_of-requires c =
     let p = program_of c.args.p.now in
     let rows = written_data p c.args.notes.now c.is_ordered.result (map view c.in_ok-rows.rows.items) c.is_ordered.ensures c.in_ok-rows.ensures.rows in
-    subst AreShallow (sym rows)
-    (program_shallow c.rows_are_exact.ensures (is_ordered (unplaced_program p)) (unplaced_program p) (notes_in p.fns c.args.notes.now))
+    subst AreExact (sym rows)
+    (program_exact c.rows_are_exact.ensures (is_ordered (unplaced_program p)) (unplaced_program p) (notes_in p.fns c.args.notes.now))
 
 pub returns-clause-text : goal.returns-clause-text
 returns-clause-text c =
     let p = program_of c.args.p.now in
     let rows = written_data p c.args.notes.now c.is_ordered.result (map view c.in_ok-rows.rows.items) c.is_ordered.ensures c.in_ok-rows.ensures.rows in
-    subst (λ l. IsTextOf l c.in_ok-text_of.field-0.items) rows c.in_ok-text_of.ensures
+    subst (λ l. IsTextOfRows l c.in_ok-text_of.field-0.items) rows c.in_ok-text_of.ensures
 
 pub returns-clause-certificate : goal.returns-clause-certificate
 returns-clause-certificate c =
