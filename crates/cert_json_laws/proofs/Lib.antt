@@ -1,0 +1,4 @@
+pub mod Readable
+pub mod Parts
+pub mod Rows
+pub mod Programs
