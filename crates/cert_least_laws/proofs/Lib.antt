@@ -1,0 +1,9 @@
+pub mod Below
+pub mod Climbing
+pub mod OneList
+pub mod Listing
+pub mod Origins
+pub mod OneCertificate
+pub mod Holding
+pub mod Completing
+pub mod Unplaced

@@ -1,0 +1,2 @@
+pub mod LeastNotes
+pub mod Laws
