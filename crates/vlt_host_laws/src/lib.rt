@@ -19,8 +19,8 @@ pub fn hosts_of_accepted_programs_go_right()
         HasNarrowHeads p → NeverGoesWrongForHosts p }
     ensures keeps { (p : Program) → IsKinded p → IsAccepted p → HasSizes p → HasStates p →
         HasNarrowHeads p → KeepsClauses p }
-    ensures leaves { (p : Program) → IsKinded p → IsAccepted p → HasSizes p → HasStates p →
-        HasNarrowHeads p → LeavesOnlyTheHosts p }
+    ensures leaves { (p : Program) → IsKinded p → IsAccepted p → HasSizes p →
+        HasStates p → HasNarrowHeads p → LeavesOnlyTheHosts p }
 {}
 
 /// The same of one call, wherever calls came to: what a machine may count on that a host calls.
