@@ -1,0 +1,2 @@
+pub mod CallsFile
+pub mod Pushed

@@ -1,0 +1,11 @@
+pub mod Ranges
+pub mod Unbound
+pub mod HostAsCaller
+pub mod HostAgrees
+pub mod Arguments
+pub mod CallFromHost
+pub mod CallBack
+pub mod OfInstances
+pub mod Cleanness
+pub mod Whole
+pub mod PastCallsLaws

@@ -1,0 +1,12 @@
+pub mod Calls
+pub mod Parts
+pub mod Tables
+pub mod EntryFunctions
+pub mod HostFrame
+pub mod Permitted
+pub mod Lines
+pub mod OneCall
+pub mod HostRun
+pub mod HostClean
+pub mod PastCalls
+pub mod Samples

@@ -1,0 +1,3 @@
+pub mod Told
+pub mod Driver
+pub mod Levels
