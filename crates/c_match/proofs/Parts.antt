@@ -1,5 +1,5 @@
 -- When lists of statements end together, and when functions are the same.
-use Rattle.std.proofs.Common.{◌≡◌, ◌↔◌, ◌≤◌, ℕ, suc, ◌==◌, refl, sym, ap, ◌∙◌, subst, Bool, true, false, List, [], ◌∷◌, length, drop, Decides, arith}
+use Rattle.std.proofs.Common.{◌≡◌, ◌↔◌, ◌≤◌, ℕ, suc, ◌==◌, refl, sym, ap, ◌∙◌, subst, Bool, true, List, [], ◌∷◌, length, drop, Decides, arith}
 use Rattle.std.proofs.lemmas.Bool.{eqb-true}
 use Rattle.std.proofs.lemmas.List.{drop_all}
 use Rattle.c_syntax.specs.C as c
