@@ -10,9 +10,11 @@ use Rattle.vlt_core.specs.Lookups.{set_in, state_count, all_states}
 use Rattle.vlt_core.specs.Types.{decl_of, state_numbers, lies_within}
 use Rattle.vlt_core.specs.KindedHeads.{unless, has_set, states_broken}
 use Rattle.vlt_core.specs.declared.rules.TheConstants as rule
+use Rattle.vlt_kinds_types.specs.declared.shapes.Shape.{Shape}
 use Rattle.vlt_kinds_types.specs.Files.{File, then_with, states_in, state_names, state_number}
 use Rattle.vlt_kinds_types.specs.Types.{is_listed, with_listed, names_in_states, known_states, state_count_in, listed_numbers, set_of_numbers, states_listed}
 use Rattle.vlt_resolve_laws.specs.KindsLaws.Shapes.{core_shape, Describes}
+use Rattle.vlt_resolve_laws.specs.KindsLaws.Declared.{IsFilled}
 use Rattle.vlt_resolve_laws.proofs.OfKindsLaws.Empty.{holds}
 
 pub passes_all : {A : Type 0} (test : A → Bool) (xs : List A) → ((x : A) → test x ≡ true) → list_all test xs ≡ true
@@ -70,6 +72,13 @@ a_state known (Some ss) some = by (listed_numbers (known_states known) [] (names
     by : (ns : List ℕ) → (i : ℕ) × (set_of_numbers ns i ≡ true)
     by [] = (0, refl)
     by (n ∷ ns) = (n, or_left (n == n) (is_listed ns n) (eq-eqb n n refl))
+
+-- States that are listed have the property: of a type of the file, or where no set is known.
+abbrev pub ListedAre : (file : File) → (P : States → Type 0) → Type 0
+ListedAre file P = (shape : Option Shape) (ss : Option s.States) → 1 ≤ state_count_in (state_names file shape) → P (states_listed (state_names file shape) ss)
+
+pub listed_filled : (file : File) → ListedAre file IsFilled
+listed_filled file shape ss some = a_state (state_names file shape) ss some
 
 -- ---- the states of a declared type
 

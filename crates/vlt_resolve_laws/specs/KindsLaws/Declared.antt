@@ -1,17 +1,16 @@
 -- The rows of declared types, and the states that they say.
-use Rattle.std.specs.Prelude.{◌≡◌, ℕ, true, List, [], Some}
+use Rattle.std.specs.Prelude.{◌≡◌, ℕ, true, List, []}
 use Rattle.std.specs.List.{flat_map, enumerate_from}
 use Rattle.vlt_syntax.specs.Tree.{Decl}
 use Rattle.vlt_syntax.specs.Lists.{Each}
 use Rattle.vlt_syntax.specs.Grammar.{IsDecl, language}
-use Rattle.vlt_core.specs.Core.{States, TypeDecl, an_abstract, a_struct, a_variant, Program}
-use Rattle.vlt_core.specs.Lookups.{all_states}
-use Rattle.vlt_core.specs.Types.{decl_of}
+use Rattle.vlt_core.specs.Core.{States, Program}
 use Rattle.vlt_core.specs.KindedHeads.{Rules, type_rows}
 use Rattle.vlt_kinds_types.specs.Names.Names.{names_again}
 use Rattle.vlt_kinds_types.specs.Files.{file_of}
 use Rattle.vlt_kinds_decls.specs.Decls.{types_refused}
 use Rattle.vlt_resolve_laws.specs.KindsLaws.Shapes.{Describes, HasHeaders}
+use Rattle.vlt_resolve_laws.specs.KindsLaws.Said.{DeclsSay}
 use Rattle.vlt_kinds_decls.specs.Made.{core_types}
 
 -- each row breaks nothing
@@ -37,16 +36,9 @@ DeclarationsAreKinded = (ds : List Decl) (p : Program) → IsPassed ds → HasDe
 abbrev pub IsFilled : States → Type 0
 IsFilled states = (i : ℕ) × (states i ≡ true)
 
--- the states in which an object may be released, and those that a case says of a key
-abbrev pub HasFilled : TypeDecl → Type 0
-HasFilled (a_struct d) = IsFilled d.release
-HasFilled (a_variant d) = Each (λ c. Each (λ k. IsFilled k.states) c.keys) d.cases
-HasFilled (an_abstract name set) = Unit {0}
-
 -- each set of states that a declared type says has one
-pub record HasStates (p : Program) : Type 0 where
-  pub all : (t : ℕ) → IsFilled (all_states p t)
-  pub said : (t : ℕ) (d : TypeDecl) → decl_of p t ≡ Some d → HasFilled d
+abbrev pub HasStates : Program → Type 0
+HasStates = DeclsSay IsFilled
 
 abbrev pub DeclarationsHaveStates : Type 0
 DeclarationsHaveStates = (ds : List Decl) (p : Program) → IsPassed ds → HasDeclared ds p → HasStates p
