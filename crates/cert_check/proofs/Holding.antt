@@ -10,15 +10,15 @@ use Rattle.cert_check.specs.Tests.{Test, Hold, row_tests, below_tests, when_some
 
 -- ---- lists of tests
 
-left : (xs ys : List Test) → Hold (xs ++ ys) → Hold xs
+pub left : (xs ys : List Test) → Hold (xs ++ ys) → Hold xs
 left [] ys h = tt
 left (x ∷ xs) ys h = (h.0, left xs ys h.1)
 
-right : (xs ys : List Test) → Hold (xs ++ ys) → Hold ys
+pub right : (xs ys : List Test) → Hold (xs ++ ys) → Hold ys
 right [] ys h = h
 right (x ∷ xs) ys h = right xs ys h.1
 
-both : (xs ys : List Test) → Hold xs → Hold ys → Hold (xs ++ ys)
+pub both : (xs ys : List Test) → Hold xs → Hold ys → Hold (xs ++ ys)
 both [] ys h k = k
 both (x ∷ xs) ys h k = (h.0, both xs ys h.1 k)
 

@@ -1,5 +1,5 @@
 -- The tests of parts, put together.
-use Rattle.std.proofs.Common.{◌≡◌, ◌+◌, ◌||◌, ℕ, Bool, true, false, MatchBool, List, [], ◌∷◌, ◌++◌, map, Option, Some, None, Result, refl, sym, ap, ◌∙◌, subst, arith, rules}
+use Rattle.std.proofs.Common.{◌≡◌, inl, ◌+◌, ◌||◌, ℕ, Bool, true, false, MatchBool, List, [], ◌∷◌, ◌++◌, map, Option, Some, None, Result, refl, sym, ap, ◌∙◌, subst, arith, rules}
 use Rattle.std.specs.Prelude.{IsSome}
 use Rattle.vlt_core.specs.Core.{Tok}
 use Rattle.vlt_core.specs.Maps.{HeldMap, Row, map_after, away_row}
@@ -8,7 +8,7 @@ use Rattle.vlt_core.specs.Local.{Notes, Then, only_if, rows_passed, leads, leads
 use Rattle.vlt_core_laws.proofs.Changes.{leads_block_some}
 use Rattle.vlt_keyset.specs.Held.{Statuses, map_of}
 use Rattle.vlt_flow.specs.Walks.{maybe_map}
-use Rattle.cert_check.specs.Tests.{Test, Refusal, Hold, FirstRefuses, below_test, row_tests, below_tests, jump_tests, when_some, tests, block_tests, list_tests, arms_tests}
+use Rattle.cert_check.specs.Tests.{Test, Failure, lost, Hold, FirstFails, below_test, row_tests, below_tests, jump_tests, when_some, tests, block_tests, list_tests, arms_tests}
 use Rattle.cert_check.specs.Notes.{map_at}
 use Rattle.cert_check.specs.declared.side.Side.{Side}
 use Rattle.cert_check.specs.declared.side.Side.TheVariants as side
@@ -42,6 +42,10 @@ jumped r a o l c n rs h k s is side after held told =
     let tests = ap (λ s. below_test n k (map_at s a l) ∷ []) side ∙ jump_is a l c n k ∙ ap (jump_tests a (Some l) c n) after ∙ ap (λ o. jump_tests a o c n (map_after rs h)) (sym is) in
     onward r _ _ (subst (λ ts. AreTested r ts (λ u. Unit {0})) tests told) (rest_behind (row_tests n rs h) _ held) (λ x p. p)
 
+-- one that no loop is around
+pub jump_lost : (a : Notes) (o : Option ℕ) (c : Bool) (n : ℕ) (rs : List Row) (h : HeldMap) → o ≡ None → Hold (row_tests n rs h) → FirstFails (row_tests n rs h ++ jump_tests a o c n (map_after rs h)) lost
+jump_lost a o c n rs h is held = first_behind (row_tests n rs h) _ lost held (subst (λ o. FirstFails (jump_tests a o c n (map_after rs h)) lost) (sym is) (inl tt))
+
 -- ---- ways
 
 no_some : (let o : Option HeldMap = None in IsSome o) → ⊥
@@ -67,15 +71,15 @@ module _ (a : Notes) (l : Option ℕ) (n : ℕ) (h : HeldMap) (rs : List Row) (s
   choose_is : row_tests n rs h ++ (way_tests a l side.Behind n (n + 1) (map_after rs h) s ++ way_tests a l side.Behind n (n + 1 + size_block s) (map_after rs h) t) ≡ tests a l n h (choose rs s t)
   choose_is = ap (λ l. row_tests n rs h ++ l) (assoc (block_tests a l n (n + 1) (map_after rs h) s) (below_tests n (leads_block a (n + 1) (map_after rs h) s) (a.behind n)) (way_tests a l side.Behind n (n + 1 + size_block s) (map_after rs h) t))
 
-  pub choose_first : (k : HeldMap) → Hold (row_tests n rs h) → k ≡ map_after rs h → (z : Refusal) → FirstRefuses (way_tests a l side.Behind n (n + 1) k s) z → FirstRefuses (tests a l n h (choose rs s t)) z
+  pub choose_first : (k : HeldMap) → Hold (row_tests n rs h) → k ≡ map_after rs h → (z : Failure) → FirstFails (way_tests a l side.Behind n (n + 1) k s) z → FirstFails (tests a l n h (choose rs s t)) z
   choose_first k held is z f =
-      subst (λ ts. FirstRefuses ts z) choose_is (first_behind (row_tests n rs h) _ z held (first_here _ _ z (subst (λ k. FirstRefuses (way_tests a l side.Behind n (n + 1) k s) z) is f)))
+      subst (λ ts. FirstFails ts z) choose_is (first_behind (row_tests n rs h) _ z held (first_here _ _ z (subst (λ k. FirstFails (way_tests a l side.Behind n (n + 1) k s) z) is f)))
 
-  pub choose_second : (k j : HeldMap) (m : ℕ) → Hold (row_tests n rs h) → k ≡ map_after rs h → j ≡ map_after rs h → m ≡ n + 1 + size_block s → Hold (way_tests a l side.Behind n (n + 1) k s) → (z : Refusal) → FirstRefuses (way_tests a l side.Behind n m j t) z → FirstRefuses (tests a l n h (choose rs s t)) z
+  pub choose_second : (k j : HeldMap) (m : ℕ) → Hold (row_tests n rs h) → k ≡ map_after rs h → j ≡ map_after rs h → m ≡ n + 1 + size_block s → Hold (way_tests a l side.Behind n (n + 1) k s) → (z : Failure) → FirstFails (way_tests a l side.Behind n m j t) z → FirstFails (tests a l n h (choose rs s t)) z
   choose_second k j m held is same at first z f =
-      subst (λ ts. FirstRefuses ts z) choose_is (first_behind (row_tests n rs h) _ z held
+      subst (λ ts. FirstFails ts z) choose_is (first_behind (row_tests n rs h) _ z held
       (first_behind (way_tests a l side.Behind n (n + 1) (map_after rs h) s) _ z (subst (λ k. Hold (way_tests a l side.Behind n (n + 1) k s)) is first)
-      (subst (λ m. FirstRefuses (way_tests a l side.Behind n m (map_after rs h) t) z) at (subst (λ j. FirstRefuses (way_tests a l side.Behind n m j t) z) same f))))
+      (subst (λ m. FirstFails (way_tests a l side.Behind n m (map_after rs h) t) z) at (subst (λ j. FirstFails (way_tests a l side.Behind n m j t) z) same f))))
 
   pub choose_tested : (r : Result Walked Stop) (k j : HeldMap) (m e : ℕ) (p : Bool) → Hold (row_tests n rs h) → k ≡ map_after rs h → j ≡ map_after rs h → m ≡ n + 1 + size_block s → Hold (way_tests a l side.Behind n (n + 1) k s) → Hold (way_tests a l side.Behind n m j t) →
       p ≡ (passes_block s || passes_block t) → e ≡ m + size_block t → AreTested r [] (IsLed (only_if p (a.behind n)) e) → AreTested r (tests a l n h (choose rs s t)) (IsLed (leads a n h (choose rs s t)) (n + size (choose rs s t)))
@@ -89,22 +93,22 @@ module _ (a : Notes) (l : Option ℕ) (n : ℕ) (h : HeldMap) (rs : List Row) (s
 -- ---- loops
 
 module _ (a : Notes) (n : ℕ) (h : HeldMap) (rs : List Row) (s : Block) (k : HeldMap) (held : Hold (row_tests n rs h)) (is : k ≡ map_after rs h) where
-  pub turn_exit : (z : Refusal) → FirstRefuses (below_test n k (a.behind n) ∷ []) z → FirstRefuses (turn_tests a n h rs s) z
+  pub turn_exit : (z : Failure) → FirstFails (below_test n k (a.behind n) ∷ []) z → FirstFails (turn_tests a n h rs s) z
   turn_exit z f = first_behind (row_tests n rs h) _ z held
-      (first_here (below_test n (map_after rs h) (a.behind n) ∷ []) (way_tests a (Some n) side.Around n (n + 1) (map_after rs h) s) z (subst (λ k. FirstRefuses (below_test n k (a.behind n) ∷ []) z) is f))
+      (first_here (below_test n (map_after rs h) (a.behind n) ∷ []) (way_tests a (Some n) side.Around n (n + 1) (map_after rs h) s) z (subst (λ k. FirstFails (below_test n k (a.behind n) ∷ []) z) is f))
 
-  pub turn_body : Hold (below_test n k (a.behind n) ∷ []) → (z : Refusal) → FirstRefuses (way_tests a (Some n) side.Around n (n + 1) k s) z → FirstRefuses (turn_tests a n h rs s) z
+  pub turn_body : Hold (below_test n k (a.behind n) ∷ []) → (z : Failure) → FirstFails (way_tests a (Some n) side.Around n (n + 1) k s) z → FirstFails (turn_tests a n h rs s) z
   turn_body exit z f = first_behind (row_tests n rs h) _ z held
       (first_behind (below_test n (map_after rs h) (a.behind n) ∷ []) (way_tests a (Some n) side.Around n (n + 1) (map_after rs h) s) z (subst (λ k. Hold (below_test n k (a.behind n) ∷ [])) is exit)
-      (subst (λ k. FirstRefuses (way_tests a (Some n) side.Around n (n + 1) k s) z) is f))
+      (subst (λ k. FirstFails (way_tests a (Some n) side.Around n (n + 1) k s) z) is f))
 
   pub turn_held : Hold (below_test n k (a.behind n) ∷ []) → Hold (way_tests a (Some n) side.Around n (n + 1) k s) → Hold (turn_tests a n h rs s)
   turn_held exit way = hold_both (row_tests n rs h) _ held
       (hold_both (below_test n (map_after rs h) (a.behind n) ∷ []) (way_tests a (Some n) side.Around n (n + 1) (map_after rs h) s) (subst (λ k. Hold (below_test n k (a.behind n) ∷ [])) is exit)
       (subst (λ k. Hold (way_tests a (Some n) side.Around n (n + 1) k s)) is way))
 
-pub loop_turn : (a : Notes) (l : Option ℕ) (n : ℕ) (h : HeldMap) (rs : List Row) (s : Block) (k : HeldMap) → Hold (below_test n h (a.around n) ∷ []) → k ≡ a.around n → (z : Refusal) → FirstRefuses (turn_tests a n k rs s) z → FirstRefuses (tests a l n h (loop rs s)) z
-loop_turn a l n h rs s k entry is z f = first_behind (below_test n h (a.around n) ∷ []) (turn_tests a n (a.around n) rs s) z entry (subst (λ k. FirstRefuses (turn_tests a n k rs s) z) is f)
+pub loop_turn : (a : Notes) (l : Option ℕ) (n : ℕ) (h : HeldMap) (rs : List Row) (s : Block) (k : HeldMap) → Hold (below_test n h (a.around n) ∷ []) → k ≡ a.around n → (z : Failure) → FirstFails (turn_tests a n k rs s) z → FirstFails (tests a l n h (loop rs s)) z
+loop_turn a l n h rs s k entry is z f = first_behind (below_test n h (a.around n) ∷ []) (turn_tests a n (a.around n) rs s) z entry (subst (λ k. FirstFails (turn_tests a n k rs s) z) is f)
 
 pub loop_held : (a : Notes) (l : Option ℕ) (n : ℕ) (h : HeldMap) (rs : List Row) (s : Block) (k : HeldMap) → Hold (below_test n h (a.around n) ∷ []) → k ≡ a.around n → Hold (turn_tests a n k rs s) → Hold (tests a l n h (loop rs s))
 loop_held a l n h rs s k entry is t = hold_both (below_test n h (a.around n) ∷ []) (turn_tests a n (a.around n) rs s) entry (subst (λ k. Hold (turn_tests a n k rs s)) is t)
@@ -112,8 +116,8 @@ loop_held a l n h rs s k entry is t = hold_both (below_test n h (a.around n) ∷
 -- ---- arms
 
 module _ (a : Notes) (l : Option ℕ) (e n : ℕ) (h : HeldMap) (rs : List Row) (s : Block) (k : HeldMap) (held : Hold (row_tests e rs h)) (is : k ≡ map_after rs h) where
-  pub arm_way : (z : Refusal) → FirstRefuses (way_tests a l side.Behind e n k s) z → FirstRefuses (arm_tests a l e n h (rs, s)) z
-  arm_way z f = first_behind (row_tests e rs h) _ z held (subst (λ k. FirstRefuses (way_tests a l side.Behind e n k s) z) is f)
+  pub arm_way : (z : Failure) → FirstFails (way_tests a l side.Behind e n k s) z → FirstFails (arm_tests a l e n h (rs, s)) z
+  arm_way z f = first_behind (row_tests e rs h) _ z held (subst (λ k. FirstFails (way_tests a l side.Behind e n k s) z) is f)
 
   pub arm_held : Hold (way_tests a l side.Behind e n k s) → Hold (arm_tests a l e n h (rs, s))
   arm_held w = hold_both (row_tests e rs h) _ held (subst (λ k. Hold (way_tests a l side.Behind e n k s)) is w)
@@ -135,8 +139,8 @@ pub loop_tested : (r : Result Walked Stop) (a : Notes) (l : Option ℕ) (n : ℕ
 loop_tested r a l n h rs s told = onward r _ _ told (rest_all (tests a l n h (loop rs s))) (λ x p. record { leads = p.leads; at = omega (arith, p.at) })
 
 module _ (a : Notes) (l : Option ℕ) (n : ℕ) (h : HeldMap) (rs : List Row) (s : Block) (es : List Row) (k : HeldMap) (held : Hold (row_tests n rs h)) (is : k ≡ map_after rs h) where
-  pub focus_body : (z : Refusal) → FirstRefuses (block_tests a l n (n + 1) k s) z → FirstRefuses (tests a l n h (focus rs s es)) z
-  focus_body z f = first_behind (row_tests n rs h) _ z held (first_here (block_tests a l n (n + 1) (map_after rs h) s) _ z (subst (λ k. FirstRefuses (block_tests a l n (n + 1) k s) z) is f))
+  pub focus_body : (z : Failure) → FirstFails (block_tests a l n (n + 1) k s) z → FirstFails (tests a l n h (focus rs s es)) z
+  focus_body z f = first_behind (row_tests n rs h) _ z held (first_here (block_tests a l n (n + 1) (map_after rs h) s) _ z (subst (λ k. FirstFails (block_tests a l n (n + 1) k s) z) is f))
 
   pub focus_tested : (r : Result Walked Stop) (w : Walked) → Hold (block_tests a l n (n + 1) k s) → IsLed (leads_block a (n + 1) k s) (n + 1 + size_block s) w →
       AreTested r (when_some (maybe_map w.held) (row_tests n es)) (IsLed (rows_passed es (maybe_map w.held)) w.at) → AreTested r (tests a l n h (focus rs s es)) (IsLed (leads a n h (focus rs s es)) (n + size (focus rs s es)))
@@ -148,8 +152,8 @@ module _ (a : Notes) (l : Option ℕ) (n : ℕ) (h : HeldMap) (rs : List Row) (s
       (λ x p. record { leads = p.leads; at = omega (arith, p.at, led.at) })
 
 module _ (a : Notes) (l : Option ℕ) (n : ℕ) (h : HeldMap) (rs : List Row) (arms : Arms) (end : ℕ) (k : HeldMap) (held : Hold (row_tests n rs h)) (is : k ≡ map_after rs h) where
-  pub switch_arms : (z : Refusal) → FirstRefuses (arms_tests a l n (n + 1) k arms (a.behind n)) z → FirstRefuses (tests a l n h (switch rs arms end)) z
-  switch_arms z f = first_behind (row_tests n rs h) _ z held (subst (λ k. FirstRefuses (arms_tests a l n (n + 1) k arms (a.behind n)) z) is f)
+  pub switch_arms : (z : Failure) → FirstFails (arms_tests a l n (n + 1) k arms (a.behind n)) z → FirstFails (tests a l n h (switch rs arms end)) z
+  switch_arms z f = first_behind (row_tests n rs h) _ z held (subst (λ k. FirstFails (arms_tests a l n (n + 1) k arms (a.behind n)) z) is f)
 
   pub switch_tested : (r : Result Walked Stop) (w : Way) → Hold (arms_tests a l n (n + 1) k arms (a.behind n)) → IsWay (passes_arms arms) (n + 1 + size_arms arms) w →
       AreTested r [] (IsLed (only_if w.passes (a.behind n)) w.at) → AreTested r (tests a l n h (switch rs arms end)) (IsLed (leads a n h (switch rs arms end)) (n + size (switch rs arms end)))

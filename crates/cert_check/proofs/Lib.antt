@@ -1,10 +1,16 @@
+pub mod Causes
 pub mod Deciding
+pub mod Counting
 pub mod Ends
+pub mod Filling
+pub mod Functions
 pub mod Holding
 pub mod Leading
 pub mod Listing
 pub mod Lookups
 pub mod OneRefusal
+pub mod Plain
 pub mod Pointing
 pub mod Rowing
 pub mod Sequences
+pub mod Telling

@@ -9,7 +9,7 @@ use Rattle.vlt_rows.specs.declared.tree.FlowArm.{FlowArm}
 use Rattle.vlt_rows.specs.FlowView.{flow_view, arm_view, stmts_view, arms_view}
 use Rattle.vlt_rows.proofs.Views.{stmt_parts}
 use Rattle.vlt_flow.specs.Walks.{maybe_map}
-use Rattle.cert_check.specs.Tests.{Refusal, Hold, FirstRefuses, row_tests, below_tests, when_some, tests, block_tests, list_tests, arms_tests}
+use Rattle.cert_check.specs.Tests.{Failure, Hold, FirstFails, row_tests, below_tests, when_some, tests, block_tests, list_tests, arms_tests}
 use Rattle.cert_check.specs.declared.walking.Walked.{Walked}
 use Rattle.cert_check.specs.declared.walking.Way.{Way}
 use Rattle.cert_check.specs.Walks.{IsLed, IsWay, arm_tests}
@@ -60,12 +60,12 @@ pub listing_more : (a : Notes) (l : Option ℕ) (n : ℕ) (stmts : List FlowStmt
 listing_more a l n stmts h i at o s w e g held led =
     subst (λ x. Listing a l n stmts h (i + 1) x (maybe_map w.held)) (sym led.at) (subst (λ x. Listing a l n stmts h (i + 1) (at + size (flow_view s.flow)) x) (sym led.leads) (more_one a l n stmts h i at o s e g held))
 
-some_first : (a : Notes) (l : Option ℕ) (at : ℕ) (o : Option HeldMap) (f : Flow) (place : ℕ) (rest : Stmts) (z : Refusal) → FirstRefuses (when_some o (λ m. tests a l at m f)) z → FirstRefuses (when_some o (λ m. list_tests a l at m (next place f rest))) z
+some_first : (a : Notes) (l : Option ℕ) (at : ℕ) (o : Option HeldMap) (f : Flow) (place : ℕ) (rest : Stmts) (z : Failure) → FirstFails (when_some o (λ m. tests a l at m f)) z → FirstFails (when_some o (λ m. list_tests a l at m (next place f rest))) z
 some_first a l at None f place rest z t = absurd t
 some_first a l at (Some m) f place rest z t = first_here (tests a l at m f) _ z t
 
 pub listing_stops : (a : Notes) (l : Option ℕ) (n : ℕ) (stmts : List FlowStmt) (h : HeldMap) (i at : ℕ) (o : Option HeldMap) (s : FlowStmt) → drop i stmts ≡ s ∷ drop (i + 1) stmts → Listing a l n stmts h i at o →
-    (z : Refusal) → FirstRefuses (when_some o (λ m. tests a l at m (flow_view s.flow))) z → FirstRefuses (list_tests a l n h (stmts_view stmts)) z
+    (z : Failure) → FirstFails (when_some o (λ m. tests a l at m (flow_view s.flow))) z → FirstFails (list_tests a l n h (stmts_view stmts)) z
 listing_stops a l n stmts h i at o s e g z t =
     let rest = subst (λ ss. IsRest (when_some o (λ m. list_tests a l at m ss)) (list_tests a l n h (stmts_view stmts))) (stmts_split stmts i s e) g.rest in
     rest.first z (some_first a l at o (flow_view s.flow) s.at (stmts_view (drop (i + 1) stmts)) z t)
@@ -139,12 +139,12 @@ arming_more a l n arms h i at p x w e g held way =
     }))
 
 pub arming_stops : (a : Notes) (l : Option ℕ) (n : ℕ) (arms : List FlowArm) (h : HeldMap) (i at : ℕ) (p : Bool) (x : FlowArm) → drop i arms ≡ x ∷ drop (i + 1) arms → Arming a l n arms h i at p →
-    (z : Refusal) → FirstRefuses (arm_tests a l n at h (arm_view x)) z → FirstRefuses (arms_tests a l n (n + 1) h (arms_view arms) (a.behind n)) z
+    (z : Failure) → FirstFails (arm_tests a l n at h (arm_view x)) z → FirstFails (arms_tests a l n (n + 1) h (arms_view arms) (a.behind n)) z
 arming_stops a l n arms h i at p x e g z t =
     let split = arms_split arms i x e in
     let rest = arms_view (drop (i + 1) arms) in
     let all = subst (λ t. IsRest (arms_tests a l n at h t (a.behind n)) (arms_tests a l n (n + 1) h (arms_view arms) (a.behind n))) split g.rest in
-    all.first z (subst (λ ts. FirstRefuses ts z) (arm_rest a l n at h (arm_view x).0 (arm_view x).1 rest) (first_here (arm_tests a l n at h (arm_view x)) (arms_tests a l n (at + size_block (arm_view x).1) h rest (a.behind n)) z t))
+    all.first z (subst (λ ts. FirstFails ts z) (arm_rest a l n at h (arm_view x).0 (arm_view x).1 rest) (first_here (arm_tests a l n at h (arm_view x)) (arms_tests a l n (at + size_block (arm_view x).1) h rest (a.behind n)) z t))
 
 pub arming_ends : (a : Notes) (l : Option ℕ) (n : ℕ) (arms : List FlowArm) (h : HeldMap) (i : ℕ) (w : Way) → length arms ≤ i → Arming a l n arms h i w.at w.passes →
     Hold (arms_tests a l n (n + 1) h (arms_view arms) (a.behind n)) × IsWay (passes_arms (arms_view arms)) (n + 1 + size_arms (arms_view arms)) w

@@ -3,10 +3,9 @@ use Rattle.std.proofs.Common.{◌≡◌, ◌<◌, ◌≤◌, ◌+◌, ◌-◌, �
 use Rattle.std.proofs.lemmas.List.{drop_all}
 use Rattle.std.proofs.lemmas.Bool.Decides.{nat_tests}
 use Rattle.vlt_core.specs.declared.notes.TokMap.{TokMap}
-use Rattle.vlt_base.specs.declared.ids.StmtId.{StmtId}
-use Rattle.vlt_core.specs.declared.notes.Note as code_note
-use Rattle.vlt_core.specs.declared.notes.Note.TheVariants as note
-use Rattle.cert_check.specs.Notes.{around_of, behind_of, number_of, IsOrdered, IsBelowAll, AreOrdered}
+use Rattle.cert_read_bodies.specs.declared.notes.MapsNote.{MapsNote}
+use Rattle.cert_read_bodies.specs.declared.notes.MapsNote.TheVariants as note
+use Rattle.cert_check.specs.Notes.{pairs_at, around_of, behind_of, number_of, IsOrderedNote, IsBelowAll, AreOrdered}
 use Rattle.cert_check.specs.Finding.{IsFound, HasNoNote}
 
 pub split_at : {X : Type 0} (xs : List X) (i : ℕ) (x : X) → i < length xs → x ≡ get_or xs i x → drop i xs ≡ x ∷ drop (i + 1) xs
@@ -18,19 +17,19 @@ same_number k n e = grind (arith, nat_tests)
 other_number : (k n : ℕ) → k < n → (k == n) ≡ false
 other_number k n e = grind (arith, nat_tests)
 
-heads : (y x : code_note.Note) (rest more : List code_note.Note) → y ∷ rest ≡ x ∷ more → y ≡ x
+heads : (y x : MapsNote) (rest more : List MapsNote) → y ∷ rest ≡ x ∷ more → y ≡ x
 heads y x rest more e = cc
 
-none_is : (x : code_note.Note) (rest : List code_note.Note) → [] ≡ x ∷ rest → ⊥
+none_is : (x : MapsNote) (rest : List MapsNote) → [] ≡ x ∷ rest → ⊥
 none_is x rest e = cc
 
-pub found : (notes : List code_note.Note) (i n : ℕ) (x : code_note.Note) → i < length notes → x ≡ get_or notes i x → number_of x ≡ n → IsFound notes i n
+pub found : (notes : List MapsNote) (i n : ℕ) (x : MapsNote) → i < length notes → x ≡ get_or notes i x → number_of x ≡ n → IsFound notes i n
 found notes i n x lt read same = record {
   within = lt;
   number = λ y rest e. ap number_of (heads y x rest (drop (i + 1) notes) (sym e ∙ split_at notes i x lt read)) ∙ same;
 }
 
-below_at : (i k : ℕ) (notes : List code_note.Note) (x : code_note.Note) (rest : List code_note.Note) → IsBelowAll k notes → drop i notes ≡ x ∷ rest → k < number_of x
+below_at : (i k : ℕ) (notes : List MapsNote) (x : MapsNote) (rest : List MapsNote) → IsBelowAll k notes → drop i notes ≡ x ∷ rest → k < number_of x
 below_at i k [] x rest b e = absurd (nothing i e)
   where
     nothing : (i : ℕ) → drop i [] ≡ x ∷ rest → ⊥
@@ -39,148 +38,158 @@ below_at i k [] x rest b e = absurd (nothing i e)
 below_at zero k (y ∷ ys) x rest b e = subst (λ z. k < number_of z) (heads y x ys rest e) b.0
 below_at (suc i) k (y ∷ ys) x rest b e = below_at i k ys x rest b.1 e
 
-around_skip : (y : code_note.Note) (ys : List code_note.Note) (n : ℕ) → number_of y < n → around_of (y ∷ ys) n ≡ around_of ys n
-around_skip (note.Loop s a x) ys n lt = ap (λ b. if b then a.pairs else around_of ys n) (other_number s.0 n lt)
-around_skip (note.Join s m) ys n lt = refl
+module _ (instance : ℕ) where
+  around_skip : (y : MapsNote) (ys : List MapsNote) (n : ℕ) → number_of y < n → around_of instance (y ∷ ys) n ≡ around_of instance ys n
+  around_skip (note.Loop s a x) ys n lt = ap (λ b. if b then pairs_at a instance else around_of instance ys n) (other_number s n lt)
+  around_skip (note.Join s m) ys n lt = refl
 
-behind_skip : (y : code_note.Note) (ys : List code_note.Note) (n : ℕ) → number_of y < n → behind_of (y ∷ ys) n ≡ behind_of ys n
-behind_skip (note.Loop s a x) ys n lt = ap (λ b. if b then x.pairs else behind_of ys n) (other_number s.0 n lt)
-behind_skip (note.Join s m) ys n lt = ap (λ b. if b then m.pairs else behind_of ys n) (other_number s.0 n lt)
+  behind_skip : (y : MapsNote) (ys : List MapsNote) (n : ℕ) → number_of y < n → behind_of instance (y ∷ ys) n ≡ behind_of instance ys n
+  behind_skip (note.Loop s a x) ys n lt = ap (λ b. if b then pairs_at x instance else behind_of instance ys n) (other_number s n lt)
+  behind_skip (note.Join s m) ys n lt = ap (λ b. if b then pairs_at m instance else behind_of instance ys n) (other_number s n lt)
 
-around_at : (i n : ℕ) (notes : List code_note.Note) (x : code_note.Note) (rest : List code_note.Note) → AreOrdered notes → drop i notes ≡ x ∷ rest → number_of x ≡ n → around_of notes n ≡ around_of (x ∷ rest) n
-around_at zero n notes x rest o e same = ap (λ l. around_of l n) e
-around_at (suc i) n [] x rest o e same = absurd (none_is x rest e)
-around_at (suc i) n (y ∷ ys) x rest o e same =
-    around_skip y ys n (subst (λ k. number_of y < k) same (below_at i (number_of y) ys x rest o.1 e)) ∙ around_at i n ys x rest o.2 e same
+  around_at : (i n : ℕ) (notes : List MapsNote) (x : MapsNote) (rest : List MapsNote) → AreOrdered instance notes → drop i notes ≡ x ∷ rest → number_of x ≡ n → around_of instance notes n ≡ around_of instance (x ∷ rest) n
+  around_at zero n notes x rest o e same = ap (λ l. around_of instance l n) e
+  around_at (suc i) n [] x rest o e same = absurd (none_is x rest e)
+  around_at (suc i) n (y ∷ ys) x rest o e same =
+      around_skip y ys n (subst (λ k. number_of y < k) same (below_at i (number_of y) ys x rest o.1 e)) ∙ around_at i n ys x rest o.2 e same
 
-behind_at : (i n : ℕ) (notes : List code_note.Note) (x : code_note.Note) (rest : List code_note.Note) → AreOrdered notes → drop i notes ≡ x ∷ rest → number_of x ≡ n → behind_of notes n ≡ behind_of (x ∷ rest) n
-behind_at zero n notes x rest o e same = ap (λ l. behind_of l n) e
-behind_at (suc i) n [] x rest o e same = absurd (none_is x rest e)
-behind_at (suc i) n (y ∷ ys) x rest o e same =
-    behind_skip y ys n (subst (λ k. number_of y < k) same (below_at i (number_of y) ys x rest o.1 e)) ∙ behind_at i n ys x rest o.2 e same
+  behind_at : (i n : ℕ) (notes : List MapsNote) (x : MapsNote) (rest : List MapsNote) → AreOrdered instance notes → drop i notes ≡ x ∷ rest → number_of x ≡ n → behind_of instance notes n ≡ behind_of instance (x ∷ rest) n
+  behind_at zero n notes x rest o e same = ap (λ l. behind_of instance l n) e
+  behind_at (suc i) n [] x rest o e same = absurd (none_is x rest e)
+  behind_at (suc i) n (y ∷ ys) x rest o e same =
+      behind_skip y ys n (subst (λ k. number_of y < k) same (below_at i (number_of y) ys x rest o.1 e)) ∙ behind_at i n ys x rest o.2 e same
 
--- ---- notes past a statement's
+  -- ---- notes past a statement's
 
-pub below_trans : (m n : ℕ) (zs : List code_note.Note) → m < n → IsBelowAll n zs → IsBelowAll m zs
-below_trans m n [] lt b = tt
-below_trans m n (z ∷ zs) lt b = (omega (arith, lt, b.0), below_trans m n zs lt b.1)
+  pub below_trans : (m n : ℕ) (zs : List MapsNote) → m < n → IsBelowAll n zs → IsBelowAll m zs
+  below_trans m n [] lt b = tt
+  below_trans m n (z ∷ zs) lt b = (omega (arith, lt, b.0), below_trans m n zs lt b.1)
 
-pub order_drop : (i : ℕ) (notes : List code_note.Note) → AreOrdered notes → AreOrdered (drop i notes)
-order_drop zero notes o = o
-order_drop (suc i) [] o = tt
-order_drop (suc i) (y ∷ ys) o = order_drop i ys o.2
+  pub order_drop : (i : ℕ) (notes : List MapsNote) → AreOrdered instance notes → AreOrdered instance (drop i notes)
+  order_drop zero notes o = o
+  order_drop (suc i) [] o = tt
+  order_drop (suc i) (y ∷ ys) o = order_drop i ys o.2
 
-larger_number : (k n : ℕ) → n < k → (k == n) ≡ false
-larger_number k n e = grind (arith, nat_tests)
+  larger_number : (k n : ℕ) → n < k → (k == n) ≡ false
+  larger_number k n e = grind (arith, nat_tests)
 
-none_around : (n : ℕ) (ys : List code_note.Note) → IsBelowAll n ys → around_of ys n ≡ []
-none_around n [] b = refl
-none_around n (note.Loop s a x ∷ ys) b = ap (λ t. if t then a.pairs else around_of ys n) (larger_number s.0 n b.0) ∙ none_around n ys b.1
-none_around n (note.Join s m ∷ ys) b = none_around n ys b.1
+  none_around : (n : ℕ) (ys : List MapsNote) → IsBelowAll n ys → around_of instance ys n ≡ []
+  none_around n [] b = refl
+  none_around n (note.Loop s a x ∷ ys) b = ap (λ t. if t then pairs_at a instance else around_of instance ys n) (larger_number s n b.0) ∙ none_around n ys b.1
+  none_around n (note.Join s m ∷ ys) b = none_around n ys b.1
 
-none_behind : (n : ℕ) (ys : List code_note.Note) → IsBelowAll n ys → behind_of ys n ≡ []
-none_behind n [] b = refl
-none_behind n (note.Loop s a x ∷ ys) b = ap (λ t. if t then x.pairs else behind_of ys n) (larger_number s.0 n b.0) ∙ none_behind n ys b.1
-none_behind n (note.Join s m ∷ ys) b = ap (λ t. if t then m.pairs else behind_of ys n) (larger_number s.0 n b.0) ∙ none_behind n ys b.1
+  none_behind : (n : ℕ) (ys : List MapsNote) → IsBelowAll n ys → behind_of instance ys n ≡ []
+  none_behind n [] b = refl
+  none_behind n (note.Loop s a x ∷ ys) b = ap (λ t. if t then pairs_at x instance else behind_of instance ys n) (larger_number s n b.0) ∙ none_behind n ys b.1
+  none_behind n (note.Join s m ∷ ys) b = ap (λ t. if t then pairs_at m instance else behind_of instance ys n) (larger_number s n b.0) ∙ none_behind n ys b.1
 
-around_past : (i n : ℕ) (notes : List code_note.Note) (x : code_note.Note) (rest : List code_note.Note) → AreOrdered notes → drop i notes ≡ x ∷ rest → number_of x < n → around_of notes n ≡ around_of rest n
-around_past zero n notes x rest o e lt = ap (λ l. around_of l n) e ∙ around_skip x rest n lt
-around_past (suc i) n [] x rest o e lt = absurd (none_is x rest e)
-around_past (suc i) n (y ∷ ys) x rest o e lt = around_skip y ys n (omega (arith, lt, below_at i (number_of y) ys x rest o.1 e)) ∙ around_past i n ys x rest o.2 e lt
+  around_past : (i n : ℕ) (notes : List MapsNote) (x : MapsNote) (rest : List MapsNote) → AreOrdered instance notes → drop i notes ≡ x ∷ rest → number_of x < n → around_of instance notes n ≡ around_of instance rest n
+  around_past zero n notes x rest o e lt = ap (λ l. around_of instance l n) e ∙ around_skip x rest n lt
+  around_past (suc i) n [] x rest o e lt = absurd (none_is x rest e)
+  around_past (suc i) n (y ∷ ys) x rest o e lt = around_skip y ys n (omega (arith, lt, below_at i (number_of y) ys x rest o.1 e)) ∙ around_past i n ys x rest o.2 e lt
 
-behind_past : (i n : ℕ) (notes : List code_note.Note) (x : code_note.Note) (rest : List code_note.Note) → AreOrdered notes → drop i notes ≡ x ∷ rest → number_of x < n → behind_of notes n ≡ behind_of rest n
-behind_past zero n notes x rest o e lt = ap (λ l. behind_of l n) e ∙ behind_skip x rest n lt
-behind_past (suc i) n [] x rest o e lt = absurd (none_is x rest e)
-behind_past (suc i) n (y ∷ ys) x rest o e lt = behind_skip y ys n (omega (arith, lt, below_at i (number_of y) ys x rest o.1 e)) ∙ behind_past i n ys x rest o.2 e lt
+  behind_past : (i n : ℕ) (notes : List MapsNote) (x : MapsNote) (rest : List MapsNote) → AreOrdered instance notes → drop i notes ≡ x ∷ rest → number_of x < n → behind_of instance notes n ≡ behind_of instance rest n
+  behind_past zero n notes x rest o e lt = ap (λ l. behind_of instance l n) e ∙ behind_skip x rest n lt
+  behind_past (suc i) n [] x rest o e lt = absurd (none_is x rest e)
+  behind_past (suc i) n (y ∷ ys) x rest o e lt = behind_skip y ys n (omega (arith, lt, below_at i (number_of y) ys x rest o.1 e)) ∙ behind_past i n ys x rest o.2 e lt
 
-module _ (notes : List code_note.Note) (i n : ℕ) (x : code_note.Note) (o : AreOrdered notes) (f : IsFound notes i n) (read : x ≡ get_or notes i x) where
-  split : drop i notes ≡ x ∷ drop (i + 1) notes
-  split = split_at notes i x f.within read
+  module _ (notes : List MapsNote) (i n : ℕ) (x : MapsNote) (o : AreOrdered instance notes) (f : IsFound notes i n) (read : x ≡ get_or notes i x) where
+    split : drop i notes ≡ x ∷ drop (i + 1) notes
+    split = split_at notes i x f.within read
 
-  number : number_of x ≡ n
-  number = f.number x (drop (i + 1) notes) split
+    number : number_of x ≡ n
+    number = f.number x (drop (i + 1) notes) split
 
-  pub loop_around : (s : StmtId) (a e : TokMap) → x ≡ note.Loop s a e → a.pairs ≡ around_of notes n
-  loop_around s a e is = sym (around_at i n notes x (drop (i + 1) notes) o split number ∙ ap (λ y. around_of (y ∷ drop (i + 1) notes) n) is ∙ ap (λ b. if b then a.pairs else around_of (drop (i + 1) notes) n) (same_number s.0 n (sym (ap number_of is) ∙ number)))
+    pub loop_around : (s : ℕ) (a e : List TokMap) → x ≡ note.Loop s a e → pairs_at a instance ≡ around_of instance notes n
+    loop_around s a e is = sym (around_at i n notes x (drop (i + 1) notes) o split number ∙ ap (λ y. around_of instance (y ∷ drop (i + 1) notes) n) is ∙ ap (λ b. if b then pairs_at a instance else around_of instance (drop (i + 1) notes) n) (same_number s n (sym (ap number_of is) ∙ number)))
 
-  pub loop_behind : (s : StmtId) (a e : TokMap) → x ≡ note.Loop s a e → e.pairs ≡ behind_of notes n
-  loop_behind s a e is = sym (behind_at i n notes x (drop (i + 1) notes) o split number ∙ ap (λ y. behind_of (y ∷ drop (i + 1) notes) n) is ∙ ap (λ b. if b then e.pairs else behind_of (drop (i + 1) notes) n) (same_number s.0 n (sym (ap number_of is) ∙ number)))
+    pub loop_behind : (s : ℕ) (a e : List TokMap) → x ≡ note.Loop s a e → pairs_at e instance ≡ behind_of instance notes n
+    loop_behind s a e is = sym (behind_at i n notes x (drop (i + 1) notes) o split number ∙ ap (λ y. behind_of instance (y ∷ drop (i + 1) notes) n) is ∙ ap (λ b. if b then pairs_at e instance else behind_of instance (drop (i + 1) notes) n) (same_number s n (sym (ap number_of is) ∙ number)))
 
-  pub join_behind : (s : StmtId) (m : TokMap) → x ≡ note.Join s m → m.pairs ≡ behind_of notes n
-  join_behind s m is = sym (behind_at i n notes x (drop (i + 1) notes) o split number ∙ ap (λ y. behind_of (y ∷ drop (i + 1) notes) n) is ∙ ap (λ b. if b then m.pairs else behind_of (drop (i + 1) notes) n) (same_number s.0 n (sym (ap number_of is) ∙ number)))
+    pub join_behind : (s : ℕ) (m : List TokMap) → x ≡ note.Join s m → pairs_at m instance ≡ behind_of instance notes n
+    join_behind s m is = sym (behind_at i n notes x (drop (i + 1) notes) o split number ∙ ap (λ y. behind_of instance (y ∷ drop (i + 1) notes) n) is ∙ ap (λ b. if b then pairs_at m instance else behind_of instance (drop (i + 1) notes) n) (same_number s n (sym (ap number_of is) ∙ number)))
 
-  pub join_around : (s : StmtId) (m : TokMap) → x ≡ note.Join s m → [] ≡ around_of notes n
-  join_around s m is = sym (around_at i n notes x (drop (i + 1) notes) o split number ∙ ap (λ y. around_of (y ∷ drop (i + 1) notes) n) is ∙ none_around n (drop (i + 1) notes) later)
+    pub join_around : (s : ℕ) (m : List TokMap) → x ≡ note.Join s m → [] ≡ around_of instance notes n
+    join_around s m is = sym (around_at i n notes x (drop (i + 1) notes) o split number ∙ ap (λ y. around_of instance (y ∷ drop (i + 1) notes) n) is ∙ none_around n (drop (i + 1) notes) later)
+      where
+        later : IsBelowAll n (drop (i + 1) notes)
+        later = subst (λ k. IsBelowAll k (drop (i + 1) notes)) number (subst (AreOrdered instance) split (order_drop i notes o)).1
+
+  -- ---- halving
+
+  -- a note of the statement is neither before the place low nor from the place high on
+  pub record Searching (notes : List MapsNote) (n low high : ℕ) : Type 0 where
+    pub order : low ≤ high
+    pub few : high ≤ length notes
+    pub around : around_of instance notes n ≡ around_of instance (drop low notes) n
+    pub behind : behind_of instance notes n ≡ behind_of instance (drop low notes) n
+    pub past : IsBelowAll n (drop high notes)
+
+  pub search_first : (notes : List MapsNote) (n : ℕ) → Searching notes n 0 (length notes)
+  search_first notes n = record {
+    order = omega arith;
+    few = omega arith;
+    around = refl;
+    behind = refl;
+    past = subst (IsBelowAll n) (sym (drop_all (length notes) notes (omega arith))) tt;
+  }
+
+  pub search_up : (notes : List MapsNote) (n low high i : ℕ) (x : MapsNote) → AreOrdered instance notes → Searching notes n low high → i < high → x ≡ get_or notes i x → number_of x < n → Searching notes n (i + 1) high
+  search_up notes n low high i x o g lt read less =
+      let split = split_at notes i x (omega (arith, lt, g.few)) read in
+      record {
+        order = omega (arith, lt);
+        few = g.few;
+        around = around_past i n notes x (drop (i + 1) notes) o split less;
+        behind = behind_past i n notes x (drop (i + 1) notes) o split less;
+        past = g.past;
+      }
+
+  pub search_down : (notes : List MapsNote) (n low high i : ℕ) (x : MapsNote) → AreOrdered instance notes → Searching notes n low high → low ≤ i → i < high → x ≡ get_or notes i x → n < number_of x → Searching notes n low i
+  search_down notes n low high i x o g from lt read more =
+      let split = split_at notes i x (omega (arith, lt, g.few)) read in
+      record {
+        order = from;
+        few = omega (arith, lt, g.few);
+        around = g.around;
+        behind = g.behind;
+        past = subst (IsBelowAll n) (sym split) (more, below_trans n (number_of x) (drop (i + 1) notes) more (subst (AreOrdered instance) split (order_drop i notes o)).1);
+      }
+
+  pub search_ended : (notes : List MapsNote) (n low high : ℕ) → high ≤ low → Searching notes n low high → HasNoNote instance notes n
+  search_ended notes n low high past g =
+      let past = subst (λ i. IsBelowAll n (drop i notes)) (let e : high ≡ low = omega (arith, past, g.order) in e) g.past in
+      record {
+        around = g.around ∙ none_around n (drop low notes) past;
+        behind = g.behind ∙ none_behind n (drop low notes) past;
+      }
+
+  -- ---- notes in order, from the last on
+
+  pub order_back : (notes : List MapsNote) (j : ℕ) (x : MapsNote) → j < length notes → x ≡ get_or notes (length notes - 1 - j) x → IsOrderedNote instance x → ((y : MapsNote) (rest : List MapsNote) → drop (length notes - 1 - j + 1) notes ≡ y ∷ rest → number_of x < number_of y) → AreOrdered instance (drop (length notes - j) notes) → AreOrdered instance (drop (length notes - (j + 1)) notes)
+  order_back notes j x lt read own next o =
+      let here : length notes - 1 - j ≡ length notes - (j + 1) = omega arith in
+      let behind : length notes - j ≡ length notes - 1 - j + 1 = omega arith in
+      let i = length notes - 1 - j in
+      let rest = subst (λ i. AreOrdered instance (drop i notes)) behind o in
+      subst (λ i. AreOrdered instance (drop i notes)) here
+      (subst (AreOrdered instance) (sym (split_at notes i x (omega arith) read)) (own, firsts (drop (i + 1) notes) next rest, rest))
     where
-      later : IsBelowAll n (drop (i + 1) notes)
-      later = subst (λ k. IsBelowAll k (drop (i + 1) notes)) number (subst AreOrdered split (order_drop i notes o)).1
+      firsts : (ys : List MapsNote) → ((y : MapsNote) (rest : List MapsNote) → ys ≡ y ∷ rest → number_of x < number_of y) → AreOrdered instance ys → IsBelowAll (number_of x) ys
+      firsts [] b o = tt
+      firsts (y ∷ ys) b o = (b y ys refl, below_trans (number_of x) (number_of y) ys (b y ys refl) o.1)
 
--- ---- halving
+  pub next_is : (notes : List MapsNote) (i : ℕ) (x z : MapsNote) → drop i notes ≡ z ∷ drop (i + 1) notes → number_of x < number_of z → (y : MapsNote) (rest : List MapsNote) → drop i notes ≡ y ∷ rest → number_of x < number_of y
+  next_is notes i x z split b y rest e = subst (λ p. number_of x < number_of p) (heads z y (drop (i + 1) notes) rest (sym split ∙ e)) b
 
--- a note of the statement is neither before the place low nor from the place high on
-pub record Searching (notes : List code_note.Note) (n low high : ℕ) : Type 0 where
-  pub order : low ≤ high
-  pub few : high ≤ length notes
-  pub around : around_of notes n ≡ around_of (drop low notes) n
-  pub behind : behind_of notes n ≡ behind_of (drop low notes) n
-  pub past : IsBelowAll n (drop high notes)
+  pub next_none : (notes : List MapsNote) (i : ℕ) (x : MapsNote) → length notes ≤ i → (y : MapsNote) (rest : List MapsNote) → drop i notes ≡ y ∷ rest → number_of x < number_of y
+  next_none notes i x past y rest e = absurd (none_is y rest (sym (drop_all i notes past) ∙ e))
 
-pub search_first : (notes : List code_note.Note) (n : ℕ) → Searching notes n 0 (length notes)
-search_first notes n = record {
-  order = omega arith;
-  few = omega arith;
-  around = refl;
-  behind = refl;
-  past = subst (IsBelowAll n) (sym (drop_all (length notes) notes (omega arith))) tt;
-}
+  -- ---- notes that aren't in order
 
-pub search_up : (notes : List code_note.Note) (n low high i : ℕ) (x : code_note.Note) → AreOrdered notes → Searching notes n low high → i < high → x ≡ get_or notes i x → number_of x < n → Searching notes n (i + 1) high
-search_up notes n low high i x o g lt read less =
-    let split = split_at notes i x (omega (arith, lt, g.few)) read in
-    record {
-      order = omega (arith, lt);
-      few = g.few;
-      around = around_past i n notes x (drop (i + 1) notes) o split less;
-      behind = behind_past i n notes x (drop (i + 1) notes) o split less;
-      past = g.past;
-    }
+  pub order_here : (notes : List MapsNote) (i : ℕ) (x : MapsNote) → i < length notes → x ≡ get_or notes i x → AreOrdered instance notes → IsOrderedNote instance x × IsBelowAll (number_of x) (drop (i + 1) notes)
+  order_here notes i x lt read o = let here = subst (AreOrdered instance) (split_at notes i x lt read) (order_drop i notes o) in (here.0, here.1)
 
-pub search_down : (notes : List code_note.Note) (n low high i : ℕ) (x : code_note.Note) → AreOrdered notes → Searching notes n low high → low ≤ i → i < high → x ≡ get_or notes i x → n < number_of x → Searching notes n low i
-search_down notes n low high i x o g from lt read more =
-    let split = split_at notes i x (omega (arith, lt, g.few)) read in
-    record {
-      order = from;
-      few = omega (arith, lt, g.few);
-      around = g.around;
-      behind = g.behind;
-      past = subst (IsBelowAll n) (sym split) (more, below_trans n (number_of x) (drop (i + 1) notes) more (subst AreOrdered split (order_drop i notes o)).1);
-    }
-
-pub search_ended : (notes : List code_note.Note) (n low high : ℕ) → high ≤ low → Searching notes n low high → HasNoNote notes n
-search_ended notes n low high past g =
-    let past = subst (λ i. IsBelowAll n (drop i notes)) (let e : high ≡ low = omega (arith, past, g.order) in e) g.past in
-    record {
-      around = g.around ∙ none_around n (drop low notes) past;
-      behind = g.behind ∙ none_behind n (drop low notes) past;
-    }
-
--- ---- notes in order, from the last on
-
-pub order_back : (notes : List code_note.Note) (j : ℕ) (x : code_note.Note) → j < length notes → x ≡ get_or notes (length notes - 1 - j) x → IsOrdered x → ((y : code_note.Note) (rest : List code_note.Note) → drop (length notes - 1 - j + 1) notes ≡ y ∷ rest → number_of x < number_of y) → AreOrdered (drop (length notes - j) notes) → AreOrdered (drop (length notes - (j + 1)) notes)
-order_back notes j x lt read own next o =
-    let here : length notes - 1 - j ≡ length notes - (j + 1) = omega arith in
-    let behind : length notes - j ≡ length notes - 1 - j + 1 = omega arith in
-    let i = length notes - 1 - j in
-    let rest = subst (λ i. AreOrdered (drop i notes)) behind o in
-    subst (λ i. AreOrdered (drop i notes)) here
-    (subst AreOrdered (sym (split_at notes i x (omega arith) read)) (own, firsts (drop (i + 1) notes) next rest, rest))
-  where
-    firsts : (ys : List code_note.Note) → ((y : code_note.Note) (rest : List code_note.Note) → ys ≡ y ∷ rest → number_of x < number_of y) → AreOrdered ys → IsBelowAll (number_of x) ys
-    firsts [] b o = tt
-    firsts (y ∷ ys) b o = (b y ys refl, below_trans (number_of x) (number_of y) ys (b y ys refl) o.1)
-
-pub next_is : (notes : List code_note.Note) (i : ℕ) (x z : code_note.Note) → drop i notes ≡ z ∷ drop (i + 1) notes → number_of x < number_of z → (y : code_note.Note) (rest : List code_note.Note) → drop i notes ≡ y ∷ rest → number_of x < number_of y
-next_is notes i x z split b y rest e = subst (λ p. number_of x < number_of p) (heads z y (drop (i + 1) notes) rest (sym split ∙ e)) b
-
-pub next_none : (notes : List code_note.Note) (i : ℕ) (x : code_note.Note) → length notes ≤ i → (y : code_note.Note) (rest : List code_note.Note) → drop i notes ≡ y ∷ rest → number_of x < number_of y
-next_none notes i x past y rest e = absurd (none_is y rest (sym (drop_all i notes past) ∙ e))
+  pub order_next : (notes : List MapsNote) (i : ℕ) (x y : MapsNote) → i + 1 < length notes → x ≡ get_or notes i x → y ≡ get_or notes (i + 1) y → AreOrdered instance notes → number_of x < number_of y
+  order_next notes i x y lt read next o =
+      (subst (IsBelowAll (number_of x)) (split_at notes (i + 1) y lt next) (order_here notes i x (omega (arith, lt)) read o).1).0

@@ -2,7 +2,7 @@
 use Rattle.std.proofs.Common.{◌≡◌, ◌<◌, ◌≤◌, ◌+◌, ℕ, suc, List, [], ◌∷◌, map, length, drop, drop-cons, add-one, get_or, refl, sym, ap, ◌∙◌, subst}
 use Rattle.std.proofs.lemmas.List.{drop_all}
 use Rattle.vlt_core.specs.Maps.{Row, HeldMap, row_passed, map_after}
-use Rattle.cert_check.specs.Tests.{row_test, row_tests, Refusal, Hold, FirstRefuses}
+use Rattle.cert_check.specs.Tests.{row_test, row_tests, Failure, Hold, FirstFails}
 use Rattle.cert_check.proofs.Sequences.{IsRest, rest_all, rest_trans, rest_behind, first_here}
 
 pub split_at : {X : Type 0} (xs : List X) (i : ℕ) (x : X) → i < length xs → x ≡ get_or xs i x → drop i xs ≡ x ∷ drop (i + 1) xs
@@ -28,7 +28,7 @@ rowing_more f n xs h i cur new x split g held passed =
     }
 
 pub rowing_stops : {X : Type 0} (f : X → Row) (n : ℕ) (xs : List X) (h : HeldMap) (i : ℕ) (cur : HeldMap) (x : X) → drop i xs ≡ x ∷ drop (i + 1) xs → Rowing f n xs h i cur →
-    (z : Refusal) → FirstRefuses (row_test n (f x).tok (cur (f x).tok) (f x).wanted ∷ []) z → FirstRefuses (row_tests n (map f xs) h) z
+    (z : Failure) → FirstFails (row_test n (f x).tok (cur (f x).tok) (f x).wanted ∷ []) z → FirstFails (row_tests n (map f xs) h) z
 rowing_stops f n xs h i cur x split g z t =
     let rest = subst (λ l. IsRest (row_tests n (map f l) cur) (row_tests n (map f xs) h)) split g.rest in
     rest.first z (first_here (row_test n (f x).tok (cur (f x).tok) (f x).wanted ∷ []) (row_tests n (map f (drop (i + 1) xs)) (row_passed (f x) cur)) z t)

@@ -1,8 +1,11 @@
 pub mod Tests
+pub mod Whole
+pub mod Unfit
 pub mod Laws
 pub mod Notes
-pub mod Finding
 pub mod Outcomes
+pub mod Finding
+pub mod Dense
 pub mod Walks
 pub mod Bodies
-pub mod Whole
+pub mod Answers

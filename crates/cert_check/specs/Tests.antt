@@ -1,12 +1,16 @@
 -- The tests of an annotation, in order: each belongs to a statement, and none depends on how another ended.
 use Rattle.std.specs.Prelude.{◌≡◌, ◌⊎◌, ℕ, ◌+◌, Bool, true, false, List, [], ◌∷◌, ◌++◌, map, Option, Some, None}
+use Rattle.std.specs.List.{flat_map, enumerate_from}
 use Rattle.vlt_core.specs.Core.{Tok, Func, Program}
 use Rattle.vlt_core.specs.Maps.{Status, absent, held, lent, full, HeldMap, IsStatusBelow, IsBelow, Wanted, wants_absent, wants_in, wants_lent, wants_full, IsWanted, Row, row_passed, map_after, away_row}
 use Rattle.vlt_core.specs.Flow.{Flow, step, choose, loop, switch, scope, focus, return, jump, Block, block, Stmts, done, next, Arms, no_arms, arm, size, size_block}
 use Rattle.vlt_core.specs.Bodies.{body_flow}
 use Rattle.vlt_core.specs.Derives.{start_map}
 use Rattle.vlt_core.specs.Local.{Notes, leads, leads_block, leads_stmts}
+use Rattle.vlt_core.specs.Instances.{instance, origins}
 use Rattle.vlt_keyset.specs.Pairs.{IsBefore}
+use Rattle.cert_format.specs.Notes.{Note}
+use Rattle.cert_fit_laws.specs.Annotation.{annotation}
 
 -- A row that wants a status of its token; a map that is to lie below another; a jump that no loop is around. Each belongs to
 -- the statement of its number.
@@ -113,12 +117,27 @@ pub record IsFirstApart (h k : HeldMap) (t : Tok) : Type 0 where
 abbrev pub refusal : ℕ → Tok → Status → Wanted → Refusal
 refusal n t s w = record { statement = n; tok = t; found = s; wanted = w }
 
-abbrev pub Refuses : Test → Refusal → Type 0
-Refuses (row_test n t s w) x = (IsWanted w s → ⊥) × (x ≡ refusal n t s w)
-Refuses (below_test n h k) x = (t : Tok) × IsFirstApart h k t × (x ≡ refusal n t (h t) (as_wanted (k t)))
-Refuses (lost_test n) x = ⊥
+-- How a test fails: a token is refused; or a jump is in no loop.
+pub data Failure : Type 0 where
+  refused : Refusal → Failure
+  lost : Failure
 
--- the first test that doesn't hold refuses so
-abbrev pub FirstRefuses : List Test → Refusal → Type 0
-FirstRefuses [] x = ⊥
-FirstRefuses (t ∷ ts) x = Refuses t x ⊎ (Holds t × FirstRefuses ts x)
+abbrev pub Fails : Test → Failure → Type 0
+Fails (row_test n t s w) (refused x) = (IsWanted w s → ⊥) × (x ≡ refusal n t s w)
+Fails (below_test n h k) (refused x) =
+    (t : Tok) × IsFirstApart h k t × (x ≡ refusal n t (h t) (as_wanted (k t)))
+Fails (lost_test n) lost = Unit {0}
+Fails t x = ⊥
+
+-- the first test that doesn't hold fails so
+abbrev pub FirstFails : List Test → Failure → Type 0
+FirstFails [] x = ⊥
+FirstFails (t ∷ ts) x = Fails t x ⊎ (Holds t × FirstFails ts x)
+
+-- ---- the tests of a function: of each of its instances, by ascending origin
+
+abbrev pub instance_tests : Program → Func → List Note → ℕ × Option ℕ → List Test
+instance_tests p f notes x = body_tests p (instance p f x.1) (annotation notes x.0)
+
+abbrev pub function_tests : Program → Func → List Note → List Test
+function_tests p f notes = flat_map (instance_tests p f notes) (enumerate_from 0 (origins p f))

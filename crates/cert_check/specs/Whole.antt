@@ -1,44 +1,60 @@
--- What the answer for all annotations of a program means.
-use Rattle.std.specs.Prelude.{◌≡◌, ◌<◌, ℕ, List, [], Option, Some, None, Result, Err, OnOk, length, slice_get, slice_index_or, false}
-use Rattle.vlt_core.specs.Local.{IsLocalIn}
-use Rattle.vlt_core.specs.View.{program_of, func_of}
-use Rattle.vlt_core.specs.declared.notes.Annotation.{Annotation}
-use Rattle.vlt_core.specs.declared.notes.Note as code_note
-use Rattle.vlt_core.specs.declared.program.Func.{Func}
-use Rattle.vlt_core.specs.declared.program.Program.{Program}
-use Rattle.cert_check.specs.Tests.{FirstRefuses, body_tests}
-use Rattle.cert_check.specs.Notes.{given_by}
-use Rattle.cert_check.specs.Outcomes.{refusal_of}
-use Rattle.cert_check.specs.declared.whole.BodyRefusal.{BodyRefusal}
-use Rattle.cert_check.specs.declared.whole.ProgramStop.{ProgramStop}
-use Rattle.cert_check.specs.declared.whole.ProgramStop.TheVariants.{Refused}
+-- What the answer for the notes of a whole program means.
+use Rattle.std.specs.Prelude.{◌≡◌, ◌<◌, ◌+◌, ℕ, false, List, Some, Result, Err, slice_get}
+use Rattle.vlt_core.specs.Core.{Tok, Func, Program}
+use Rattle.vlt_core.specs.Maps.{Status, Wanted}
+use Rattle.vlt_core.specs.Least.{first_number}
+use Rattle.vlt_core.specs.View.{tok_of}
+use Rattle.vlt_core.specs.HeldView.{status_of, wanted_of}
+use Rattle.cert_format.specs.Notes.{Note}
+use Rattle.cert_check.specs.Tests as test
+use Rattle.cert_check.specs.Tests.{Hold, FirstFails, refused, refusal, function_tests}
+use Rattle.cert_check.specs.declared.whole.LocalRefusal.{LocalRefusal}
+use Rattle.cert_check.specs.declared.whole.LocalError.{LocalError}
+use Rattle.cert_check.specs.declared.whole.LocalError.TheVariants.{Refused, Unfit}
 
-abbrev pub notes_in : Option Annotation → List code_note.Note
-notes_in None = []
-notes_in (Some a) = a.maps
+-- A token that is refused, with the function's number and the statement's, which is counted over the whole program.
+pub record ProgramRefusal : Type 0 where
+  pub func : ℕ
+  pub statement : ℕ
+  pub tok : Tok
+  pub found : Status
+  pub wanted : Wanted
 
--- the notes of the function g
-abbrev pub notes_of : List (Option Annotation) → ℕ → List code_note.Note
-notes_of all g = notes_in (slice_index_or all g None)
+abbrev pub refusal_in : LocalRefusal → ProgramRefusal
+refusal_in x = record {
+  func = x.func;
+  statement = x.statement;
+  tok = tok_of x.tok;
+  found = status_of x.found;
+  wanted = wanted_of x.wanted;
+}
 
--- the function has a body, and its notes hold in it
-abbrev pub HoldsAt : Program → List (Option Annotation) → ℕ → Type 0
-HoldsAt p all g = (f : Func) → slice_get p.fns g ≡ Some f → f.external ≡ false → IsLocalIn (program_of p) (func_of f) (given_by (notes_of all g))
+-- if the function of this number has a body, all tests of its notes hold
+abbrev pub HoldAt : Program → List (List Note) → (g : ℕ) → Type 0
+HoldAt p all g = (f : Func) (notes : List Note) → slice_get p.fns g ≡ Some f → slice_get all g ≡ Some notes →
+    f.external ≡ false → Hold (function_tests p f notes)
 
--- the first test that the notes of the function fail
-pub record IsFailed (p : Program) (all : List (Option Annotation)) (x : BodyRefusal) : Type 0 where
+-- The function of this number has a body, and the first test that its notes fail refuses so.
+pub record IsRefusedAt (p : Program) (all : List (List Note)) (x : ProgramRefusal) : Type 0 where
   pub f : Func
-  pub is : slice_get p.fns x.func ≡ Some f
+  pub notes : List Note
+  pub there : slice_get p.fns x.func ≡ Some f
+  pub noted : slice_get all x.func ≡ Some notes
   pub own : f.external ≡ false
-  pub first : FirstRefuses (body_tests (program_of p) (func_of f) (given_by (notes_of all x.func))) (refusal_of x.refusal)
+  -- the statement's number in the function
+  pub number : ℕ
+  pub counted : x.statement ≡ first_number p x.func + number
+  pub first : FirstFails (function_tests p f notes) (refused (refusal number x.tok x.found x.wanted))
 
-pub record IsRefusedAt (p : Program) (all : List (Option Annotation)) (g : ℕ) (r : Result (Unit {0}) ProgramStop) : Type 0 where
-  pub failed : (x : BodyRefusal) → r ≡ Err (Refused x) → IsFailed p all x
-  pub at : (x : BodyRefusal) → r ≡ Err (Refused x) → x.func ≡ g
+-- The first test that the notes of a program fail, function by function, refuses so.
+pub record IsFirstRefusal (p : Program) (all : List (List Note)) (x : ProgramRefusal) : Type 0 where
+  pub at : IsRefusedAt p all x
+  pub before : (g : ℕ) → g < x.func → HoldAt p all g
 
--- The annotations of all functions with a body hold; or a test is failed in one, and those of the functions before it
--- hold. Nothing is said where there was no memory.
-pub record IsProgramTested (p : Program) (all : List (Option Annotation)) (r : Result (Unit {0}) ProgramStop) : Type 0 where
-  pub local : OnOk r ((g : ℕ) → g < length p.fns → HoldsAt p all g)
-  pub failed : (x : BodyRefusal) → r ≡ Err (Refused x) → IsFailed p all x
-  pub before : (x : BodyRefusal) → r ≡ Err (Refused x) → (g : ℕ) → g < x.func → HoldsAt p all g
+-- ---- facts for errors
+
+pub record IfRefused {A : Type 0} (r : Result A LocalError) (P : ProgramRefusal → Type 0) : Type 0 where
+  pub holds : (x : LocalRefusal) → r ≡ Err (Refused x) → P (refusal_in x)
+
+pub record IfUnfit {A : Type 0} (r : Result A LocalError) (P : Type 0) : Type 0 where
+  pub holds : r ≡ Err Unfit → P

@@ -6,7 +6,6 @@ ghost use Rattle.cert_check.specs.declared.errors.Stop.TheVariants.{Memory};
 use std::alloc::{AllocError, AllocFailed};
 use thiserror::Error;
 use vlt_core::{Status, Tok, Wanted};
-use vlt_rows::RowError;
 
 /// The first test that an annotation fails: a token isn't as a row or a map wants it. Statements are counted from 0 in
 /// their function.
@@ -18,12 +17,12 @@ pub struct Refusal {
     pub wanted: Wanted,
 }
 
-/// Why a test of an annotation ends early. `Unfit` comes where notes aren't in order, a note has a token that isn't the
-/// function's, a jump is in no loop, or the body has no rows or more statements than can be counted.
+/// Why a test of an annotation ends early.
 #[derive(Clone, Copy, Debug, Error)]
 pub enum Stop {
     #[error("a token isn't as it is wanted")]
     Refused(Refusal),
+    /// A jump is in no loop; or the body or its notes are as no certificate has them.
     #[error("the annotation isn't one of the body's")]
     Unfit,
     #[error("out of memory")]
@@ -51,18 +50,5 @@ impl From<vlt_base::Memory> for Stop {
 
     fn from(_: vlt_base::Memory) -> Stop {
         Stop::Memory
-    }
-}
-
-impl From<RowError> for Stop {
-    ghost use Rattle.cert_check.specs.Outcomes.{IsNoRefusal};
-
-    ghost from_gives = { λ _ e. IsNoRefusal e };
-
-    fn from(e: RowError) -> Stop {
-        match e {
-            RowError::Memory => Stop::Memory,
-            _ => Stop::Unfit,
-        }
     }
 }

@@ -1,28 +1,41 @@
 //! The note of a statement.
 
 ghost use Rattle.std.specs.Prelude.{◌≡◌, ◌<◌, length, IfSome, IfNone};
-ghost use Rattle.cert_check.specs.Notes.{pairs_of, number_of, AreOrdered};
+ghost use Rattle.cert_check.specs.Notes.{pairs_at, pairs_of, number_of, AreOrdered, IsOrdered};
 ghost use Rattle.cert_check.specs.Finding.{IsFound, HasNoNote};
 
+use crate::given::Given;
 use crate::side::Side;
-use vlt_core::{Note, Status, Tok};
+use cert_read_bodies::MapsNote;
+use vlt_core::{Status, Tok, TokMap};
 
 /// The number of the note's statement.
-pub fn number(note: &Note) -> usize
+pub fn number(note: &MapsNote) -> usize
     ensures { result ≡ number_of note.now }
 {
     match note {
-        Note::Loop { stmt, around, exit } => stmt.0 as usize,
-        Note::Join { stmt, map } => stmt.0 as usize,
+        MapsNote::Loop { stmt, around, exit } => *stmt,
+        MapsNote::Join { stmt, maps } => *stmt,
+    }
+}
+
+/// The pairs of the instance's map; none where there are fewer maps.
+pub fn pairs_at<'n>(maps: &'n [TokMap], instance: usize) -> &'n [(Tok, Status)]
+    ensures { result.now ≡ pairs_at maps.now instance }
+{
+    match maps.get(instance) {
+        Some(map) => map.pairs.as_slice(),
+        None => &[],
     }
 }
 
 /// The place of the statement's note, by halving.
-fn find(notes: &[Note], n: usize) -> Option<usize>
-    requires { AreOrdered notes.now }
-    ensures some { IfSome result (λ i. IsFound notes.now i n) }
-    ensures none { IfNone result (HasNoNote notes.now n) }
+fn find(given: &Given<'_>, n: usize) -> Option<usize>
+    requires { IsOrdered given.now }
+    ensures some { IfSome result (λ i. IsFound given.now.notes.now i n) }
+    ensures none { IfNone result (HasNoNote given.now.instance given.now.notes.now n) }
 {
+    let notes = given.notes;
     let mut low = 0;
     let mut high = notes.len();
     while low < high {
@@ -41,17 +54,24 @@ fn find(notes: &[Note], n: usize) -> Option<usize>
 }
 
 /// The pairs of the statement's map; none where no note has it.
-pub fn pairs_at<'n>(notes: &'n [Note], side: Side, n: usize) -> &'n [(Tok, Status)]
-    requires { AreOrdered notes.now }
-    ensures { result.now ≡ pairs_of side notes.now n }
+pub fn pairs_of<'n>(given: &Given<'n>, side: Side, n: usize) -> &'n [(Tok, Status)]
+    requires { IsOrdered given.now }
+    ensures { result.now ≡ pairs_of side given.now.instance given.now.notes.now n }
 {
-    match find(notes, n) {
+    let notes = given.notes;
+    match find(given, n) {
         None => &[],
         Some(i) => match (&notes[i], side) {
-            (Note::Loop { stmt, around, exit }, Side::Around) => around.pairs.as_slice(),
-            (Note::Loop { stmt, around, exit }, Side::Behind) => exit.pairs.as_slice(),
-            (Note::Join { stmt, map }, Side::Around) => &[],
-            (Note::Join { stmt, map }, Side::Behind) => map.pairs.as_slice(),
+            (MapsNote::Loop { stmt, around, exit }, Side::Around) => {
+                pairs_at(around.as_slice(), given.instance)
+            }
+            (MapsNote::Loop { stmt, around, exit }, Side::Behind) => {
+                pairs_at(exit.as_slice(), given.instance)
+            }
+            (MapsNote::Join { stmt, maps }, Side::Around) => &[],
+            (MapsNote::Join { stmt, maps }, Side::Behind) => {
+                pairs_at(maps.as_slice(), given.instance)
+            }
         },
     }
 }

@@ -1,13 +1,13 @@
 //! What a test of one body has at hand.
 
+use cert_read_bodies::MapsNote;
 use std::alloc::Global;
-use vlt_core::Note;
-use vlt_keyset::TokenCounts;
 
-/// The annotation that is tested, and how many tokens its function has.
+/// The annotation that is tested: of each note the map of one instance of the function.
 #[derive(Clone, Copy)]
 pub struct Given<'n> {
     pub alloc: Global,
-    pub notes: &'n [Note],
-    pub counts: TokenCounts,
+    pub notes: &'n [MapsNote],
+    /// The instance's number, by which each note has its map.
+    pub instance: usize,
 }

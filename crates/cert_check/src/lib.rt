@@ -1,11 +1,12 @@
-//! Whether an annotation that is given holds in a program's bodies, or the first test that it fails; nothing is searched for.
-//! Read `specs/Tests.antt` first, then `specs/Outcomes.antt` and `specs/Whole.antt`.
-//! Used by: nothing yet; the check of certificates, which is to come, asks it of the maps that a certificate has.
+//! Whether the notes of a certificate hold in the bodies of its program, or the first test that they fail; nothing is searched for.
+//! Read `specs/Tests.antt` first, then `specs/Whole.antt` and `specs/Unfit.antt`.
+//! Used by: nothing yet; the check of certificates, which is to come, asks it of the program and the notes that a certificate has.
 #![tactic(auto)]
 
-ghost use Rattle.cert_check.specs.Laws.{TestsSayLocal, NoneRefuses, RefusedInOneWay, EndsDontPass};
+ghost use Rattle.cert_check.specs.Laws.{TestsSayLocal, TestsSayLocalCertificate, NoneFails, FailsInOneWay, NoneIsRefused, RefusedInOneWay, EndsDontPass};
 
 mod bodies;
+mod dense;
 mod errors;
 mod finding;
 mod given;
@@ -16,19 +17,21 @@ mod side;
 mod walking;
 mod whole;
 
-pub use bodies::test_body;
-pub use errors::{Refusal, Stop};
-pub use whole::{BodyRefusal, ProgramStop, test_bodies};
+pub use whole::{LocalError, LocalRefusal, local};
 
-/// An annotation holds exactly where its tests do.
+/// Notes hold exactly where their tests do: those of a body, and those of a program.
 pub fn tests_say_local()
-    ensures { TestsSayLocal }
+    ensures body { TestsSayLocal }
+    ensures program { TestsSayLocalCertificate }
 {}
 
-/// A list of tests that hold refuses nothing, and there is one first refusal at most.
+/// Tests that hold fail in no way, and others first fail in one way at most; so a program has one first refusal at most, and
+/// none where its notes hold.
 pub fn refused_in_one_way()
-    ensures none { NoneRefuses }
-    ensures one { RefusedInOneWay }
+    ensures none { NoneFails }
+    ensures one { FailsInOneWay }
+    ensures none_of_program { NoneIsRefused }
+    ensures one_of_program { RefusedInOneWay }
 {}
 
 /// A statement that ends, as the rules on the core's form have it, has no way on.

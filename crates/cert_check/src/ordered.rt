@@ -1,38 +1,39 @@
 //! Whether notes are in order.
 
 ghost use Rattle.std.specs.Prelude.{◌<◌, ◌↔◌, IsTrue};
-ghost use Rattle.cert_check.specs.Notes.{number_of, IsOrdered, AreOrdered};
+ghost use Rattle.cert_check.specs.Notes.{number_of, IsOrderedNote, AreOrdered};
 
-use crate::finding::number;
-use vlt_core::Note;
+use crate::finding::{number, pairs_at};
+use cert_read_bodies::MapsNote;
 use vlt_keyset::in_order;
 
-fn is_ordered(note: &Note) -> bool
-    ensures { IsTrue result → IsOrdered note.now }
+fn is_ordered(note: &MapsNote, instance: usize) -> bool
+    ensures { IsTrue result ↔ IsOrderedNote instance note.now }
 {
     match note {
-        Note::Loop { stmt, around, exit } => {
-            in_order(around.pairs.as_slice()) && in_order(exit.pairs.as_slice())
+        MapsNote::Loop { stmt, around, exit } => {
+            in_order(pairs_at(around.as_slice(), instance))
+                && in_order(pairs_at(exit.as_slice(), instance))
         }
-        Note::Join { stmt, map } => in_order(map.pairs.as_slice()),
+        MapsNote::Join { stmt, maps } => in_order(pairs_at(maps.as_slice(), instance)),
     }
 }
 
-fn is_before(x: &Note, y: &Note) -> bool
+fn is_before(x: &MapsNote, y: &MapsNote) -> bool
     ensures { IsTrue result ↔ number_of x.now < number_of y.now }
 {
     number(x) < number(y)
 }
 
-/// Whether the numbers of statements ascend, and each map is in order.
-pub fn are_ordered(notes: &[Note]) -> bool
-    ensures { IsTrue result → AreOrdered notes.now }
+/// Whether the numbers of statements ascend, and each map of the instance is in order.
+pub fn are_ordered(notes: &[MapsNote], instance: usize) -> bool
+    ensures { IsTrue result ↔ AreOrdered instance notes.now }
 {
     let count = notes.len();
     for j in 0..count {
         let i = count - 1 - j;
         let note = &notes[i];
-        if !is_ordered(note) {
+        if !is_ordered(note, instance) {
             return false;
         }
         if j > 0 {

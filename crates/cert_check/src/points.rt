@@ -4,11 +4,12 @@ ghost use Rattle.std.specs.Prelude.{◌≡◌, ◌∷◌, []};
 ghost use Rattle.vlt_core.specs.HeldView.{status_of, wanted_of};
 ghost use Rattle.vlt_keyset.specs.Held.{map_of};
 ghost use Rattle.cert_check.specs.Tests.{below_test, as_wanted};
-ghost use Rattle.cert_check.specs.Notes.{AreOrdered, given_by, map_at};
+ghost use Rattle.cert_check.specs.Notes.{IsOrdered, annotation_of, map_at};
 ghost use Rattle.cert_check.specs.Outcomes.{AreTested};
 
+use crate::dense::dense;
 use crate::errors::{Refusal, Stop};
-use crate::finding::pairs_at;
+use crate::finding::pairs_of;
 use crate::given::Given;
 use crate::side::Side;
 use vlt_core::{Status, Wanted};
@@ -34,12 +35,12 @@ pub fn test_below(
     of: usize,
     held: &Held,
 ) -> Result<(), Stop>
-    requires { AreOrdered given.now.notes.now }
+    requires { IsOrdered given.now }
     ensures { AreTested result
-        (below_test of (map_of held.now) (map_at side (given_by given.now.notes.now) n) ∷ [])
+        (below_test of (map_of held.now) (map_at side (annotation_of given.now) n) ∷ [])
         (λ u. Unit {0}) }
 {
-    match held.first_apart(pairs_at(given.notes, side, n)) {
+    match held.first_apart(pairs_of(given, side, n)) {
         None => Ok(()),
         Some(apart) => Err(Stop::Refused(Refusal {
             statement: of,
@@ -50,14 +51,11 @@ pub fn test_below(
     }
 }
 
-/// The dense map of the statement n.
+/// The map of the statement n, dense. It is made only where another was found below it, so it has no more tokens than that one.
 pub fn map_of_note(given: &Given<'_>, side: Side, n: usize) -> Result<Held, Stop>
-    requires { AreOrdered given.now.notes.now }
-    ensures { AreTested result []
-        (λ h. map_of h ≡ map_at side (given_by given.now.notes.now) n) }
+    requires { IsOrdered given.now }
+    ensures { AreTested result [] (λ h. map_of h ≡ map_at side (annotation_of given.now) n) }
 {
-    match Held::of_pairs(given.alloc, given.counts, pairs_at(given.notes, side, n))? {
-        Some(held) => Ok(held),
-        None => Err(Stop::Unfit),
-    }
+    let held = dense(given.alloc, pairs_of(given, side, n))?;
+    Ok(held)
 }

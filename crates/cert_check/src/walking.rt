@@ -10,7 +10,7 @@ ghost use Rattle.vlt_rows.specs.FlowView.{flow_view, arm_view, block_view, stmts
 ghost use Rattle.vlt_keyset.specs.Held.{map_of};
 ghost use Rattle.vlt_flow.specs.Walks.{maybe_map, choice_of};
 ghost use Rattle.cert_check.specs.Tests.{below_test, row_tests, below_tests, when_some, tests, block_tests, list_tests, arms_tests};
-ghost use Rattle.cert_check.specs.Notes.{AreOrdered, given_by, map_at};
+ghost use Rattle.cert_check.specs.Notes.{IsOrdered, annotation_of, map_at};
 ghost use Rattle.cert_check.specs.Outcomes.{AreTested};
 ghost use Rattle.cert_check.specs.declared.side.Side.TheVariants as side;
 ghost use Rattle.cert_check.specs.Walks.{IsLed, IsWay, IsWayOf, way_tests, turn_tests, arm_tests, jump_side};
@@ -75,9 +75,9 @@ fn pass(held: Held, statement: usize, rows: &[Row]) -> Result<Held, Stop>
 
 /// The map after a choice, if one of its ways can be passed.
 fn behind(given: &Given<'_>, n: usize, way: Way) -> Result<Walked, Stop>
-    requires { AreOrdered given.now.notes.now }
+    requires { IsOrdered given.now }
     ensures { AreTested result []
-        (IsLed (only_if way.passes (map_at side.Behind (given_by given.now.notes.now) n)) way.at) }
+        (IsLed (only_if way.passes (map_at side.Behind (annotation_of given.now) n)) way.at) }
 {
     if way.passes {
         let exit = map_of_note(given, Side::Behind, n)?;
@@ -120,9 +120,9 @@ fn leave_gone(walked: Walked, statement: usize, toks: &[Tok]) -> Result<Walked, 
 
 /// The map at the end of a way, if it is reached, is to lie below that of the statement k.
 fn test_end(given: &Given<'_>, side: Side, k: usize, walked: Walked) -> Result<Way, Stop>
-    requires { AreOrdered given.now.notes.now }
+    requires { IsOrdered given.now }
     ensures { AreTested result
-        (below_tests k (maybe_map walked.held) (map_at side (given_by given.now.notes.now) k))
+        (below_tests k (maybe_map walked.held) (map_at side (annotation_of given.now) k))
         (IsWayOf (maybe_map walked.held) walked.at) }
 {
     let Walked { held, at } = walked;
@@ -137,10 +137,10 @@ fn test_end(given: &Given<'_>, side: Side, k: usize, walked: Walked) -> Result<W
 
 /// The map at the head of the loop n, below which the map is to lie.
 fn enter(given: &Given<'_>, n: usize, held: Held) -> Result<Held, Stop>
-    requires { AreOrdered given.now.notes.now }
+    requires { IsOrdered given.now }
     ensures { AreTested result
-        (below_test n (map_of held) (map_at side.Around (given_by given.now.notes.now) n) ∷ [])
-        (λ h. map_of h ≡ map_at side.Around (given_by given.now.notes.now) n) }
+        (below_test n (map_of held) (map_at side.Around (annotation_of given.now) n) ∷ [])
+        (λ h. map_of h ≡ map_at side.Around (annotation_of given.now) n) }
 {
     test_below(given, Side::Around, n, n, &held)?;
     map_of_note(given, Side::Around, n)
@@ -166,9 +166,9 @@ fn jump(
     n: usize,
     held: Held,
 ) -> Result<(), Stop>
-    requires { AreOrdered given.now.notes.now }
+    requires { IsOrdered given.now }
     ensures { AreTested result
-        (tests (given_by given.now.notes.now) l n (map_of held)
+        (tests (annotation_of given.now) l n (map_of held)
         (flows.jump continues (toks_of left.now)))
         (λ u. Unit {0}) }
 {
@@ -191,10 +191,10 @@ fn test_way(
     n: usize,
     held: Held,
 ) -> Result<Way, Stop>
-    requires order { AreOrdered given.now.notes.now }
+    requires order { IsOrdered given.now }
     requires few { n + size_block (block_view body.now) < 2 ^ 62 }
     ensures { AreTested result
-        (way_tests (given_by given.now.notes.now) l side k n (map_of held) (block_view body.now))
+        (way_tests (annotation_of given.now) l side k n (map_of held) (block_view body.now))
         (IsWay (passes_block (block_view body.now)) (n + size_block (block_view body.now))) }
 {
     let walked = test_block(given, body, l, k, n, held)?;
@@ -212,11 +212,11 @@ fn test_if(
     n: usize,
     held: Held,
 ) -> Result<Walked, Stop>
-    requires order { AreOrdered given.now.notes.now }
+    requires order { IsOrdered given.now }
     requires few { n + size (choice_of rows.now then_block.now else_block.now) < 2 ^ 62 }
-    ensures { AreTested result (tests (given_by given.now.notes.now) l n (map_of held)
+    ensures { AreTested result (tests (annotation_of given.now) l n (map_of held)
         (choice_of rows.now then_block.now else_block.now))
-        (IsLed (leads (given_by given.now.notes.now) n (map_of held)
+        (IsLed (leads (annotation_of given.now) n (map_of held)
         (choice_of rows.now then_block.now else_block.now))
         (n + size (choice_of rows.now then_block.now else_block.now))) }
 {
@@ -240,10 +240,10 @@ fn test_turn(
     n: usize,
     head: Held,
 ) -> Result<usize, Stop>
-    requires order { AreOrdered given.now.notes.now }
+    requires order { IsOrdered given.now }
     requires few { n + 1 + size_block (block_view body.now) < 2 ^ 62 }
     ensures { AreTested result
-        (turn_tests (given_by given.now.notes.now) n (map_of head) (rows_view rows.now)
+        (turn_tests (annotation_of given.now) n (map_of head) (rows_view rows.now)
         (block_view body.now))
         (λ m. m ≡ n + 1 + size_block (block_view body.now)) }
 {
@@ -262,11 +262,11 @@ fn test_loop(
     n: usize,
     held: Held,
 ) -> Result<Walked, Stop>
-    requires order { AreOrdered given.now.notes.now }
+    requires order { IsOrdered given.now }
     requires few { n + 1 + size_block (block_view body.now) < 2 ^ 62 }
-    ensures { AreTested result (tests (given_by given.now.notes.now) l n (map_of held)
+    ensures { AreTested result (tests (annotation_of given.now) l n (map_of held)
         (flows.loop (rows_view rows.now) (block_view body.now)))
-        (IsLed (Some (map_at side.Behind (given_by given.now.notes.now) n))
+        (IsLed (Some (map_at side.Behind (annotation_of given.now) n))
         (n + 1 + size_block (block_view body.now))) }
 {
     let head = enter(given, n, held)?;
@@ -285,10 +285,10 @@ fn test_arm(
     way: Way,
     held: &Held,
 ) -> Result<Way, Stop>
-    requires order { AreOrdered given.now.notes.now }
+    requires order { IsOrdered given.now }
     requires few { way.at + size_block (arm_view arm.now).1 < 2 ^ 62 }
     ensures { AreTested result
-        (arm_tests (given_by given.now.notes.now) l n way.at (map_of held.now) (arm_view arm.now))
+        (arm_tests (annotation_of given.now) l n way.at (map_of held.now) (arm_view arm.now))
         (IsWay (way.passes || passes_block (arm_view arm.now).1)
         (way.at + size_block (arm_view arm.now).1)) }
 {
@@ -310,11 +310,11 @@ fn test_arms(
     n: usize,
     held: &Held,
 ) -> Result<Way, Stop>
-    requires order { AreOrdered given.now.notes.now }
+    requires order { IsOrdered given.now }
     requires few { n + 1 + size_arms (arms_view arms.now) < 2 ^ 62 }
     ensures { AreTested result
-        (arms_tests (given_by given.now.notes.now) l n (n + 1) (map_of held.now)
-        (arms_view arms.now) (map_at side.Behind (given_by given.now.notes.now) n))
+        (arms_tests (annotation_of given.now) l n (n + 1) (map_of held.now)
+        (arms_view arms.now) (map_at side.Behind (annotation_of given.now) n))
         (IsWay (passes_arms (arms_view arms.now)) (n + 1 + size_arms (arms_view arms.now))) }
 {
     let mut way = Way {
@@ -336,11 +336,11 @@ fn test_form(
     n: usize,
     held: Held,
 ) -> Result<Walked, Stop>
-    requires order { AreOrdered given.now.notes.now }
+    requires order { IsOrdered given.now }
     requires few { n + size (flow_view form.now) < 2 ^ 62 }
     ensures { AreTested result
-        (tests (given_by given.now.notes.now) l n (map_of held) (flow_view form.now))
-        (IsLed (leads (given_by given.now.notes.now) n (map_of held) (flow_view form.now))
+        (tests (annotation_of given.now) l n (map_of held) (flow_view form.now))
+        (IsLed (leads (annotation_of given.now) n (map_of held) (flow_view form.now))
         (n + size (flow_view form.now))) }
 {
     match form {
@@ -389,11 +389,11 @@ pub fn test_block(
     n: usize,
     held: Held,
 ) -> Result<Walked, Stop>
-    requires order { AreOrdered given.now.notes.now }
+    requires order { IsOrdered given.now }
     requires few { n + size_block (block_view block.now) < 2 ^ 62 }
     ensures { AreTested result
-        (block_tests (given_by given.now.notes.now) l of n (map_of held) (block_view block.now))
-        (IsLed (leads_block (given_by given.now.notes.now) n (map_of held) (block_view block.now))
+        (block_tests (annotation_of given.now) l of n (map_of held) (block_view block.now))
+        (IsLed (leads_block (annotation_of given.now) n (map_of held) (block_view block.now))
         (n + size_block (block_view block.now))) }
 {
     let walked = test_list(given, block.stmts.as_slice(), l, n, held)?;
@@ -403,12 +403,12 @@ pub fn test_block(
 /// One statement after what was tested before it.
 #[cycle(testing)]
 fn test_on(given: &Given<'_>, form: &Flow, l: Option<usize>, flow: Walked) -> Result<Walked, Stop>
-    requires order { AreOrdered given.now.notes.now }
+    requires order { IsOrdered given.now }
     requires few { flow.at + size (flow_view form.now) < 2 ^ 62 }
     ensures { AreTested result (when_some (maybe_map flow.held)
-        (λ m. tests (given_by given.now.notes.now) l flow.at m (flow_view form.now)))
+        (λ m. tests (annotation_of given.now) l flow.at m (flow_view form.now)))
         (IsLed (Then (maybe_map flow.held)
-        (λ m. leads (given_by given.now.notes.now) flow.at m (flow_view form.now)))
+        (λ m. leads (annotation_of given.now) flow.at m (flow_view form.now)))
         (flow.at + size (flow_view form.now))) }
 {
     let Walked { held, at } = flow;
@@ -429,11 +429,11 @@ fn test_list(
     n: usize,
     held: Held,
 ) -> Result<Walked, Stop>
-    requires order { AreOrdered given.now.notes.now }
+    requires order { IsOrdered given.now }
     requires few { n + size_stmts (stmts_view stmts.now) < 2 ^ 62 }
     ensures { AreTested result
-        (list_tests (given_by given.now.notes.now) l n (map_of held) (stmts_view stmts.now))
-        (IsLed (leads_stmts (given_by given.now.notes.now) n (map_of held) (stmts_view stmts.now))
+        (list_tests (annotation_of given.now) l n (map_of held) (stmts_view stmts.now))
+        (IsLed (leads_stmts (annotation_of given.now) n (map_of held) (stmts_view stmts.now))
         (n + size_stmts (stmts_view stmts.now))) }
 {
     let mut flow = comes(held, n);

@@ -1,6 +1,6 @@
 //! Laws on the least certificate of a program: nothing goes in and nothing comes out.
 //! Read `specs/LeastNotes.antt` first, then `Laws`.
-//! Used by: nothing yet; writing a certificate after a C text, which is to come, will.
+//! Used by: `cert_least_texts`, whose laws are on texts.
 #![tactic(auto)]
 
 mod notes;

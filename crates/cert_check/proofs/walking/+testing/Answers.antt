@@ -6,7 +6,7 @@ use Rattle.vlt_rows.specs.declared.tree.FlowArm.{out-FlowArm}
 use Rattle.vlt_rows.specs.FlowView.{rows_view, block_view, flow_view, stmts_view, arms_view}
 use Rattle.vlt_rows.proofs.Views.{arm_parts, block_parts, step_form, if_form, while_form, switch_form, scope_form, focus_form, return_form, jump_form}
 use Rattle.vlt_keyset.specs.Held.{map_of}
-use Rattle.cert_check.specs.Notes.{given_by}
+use Rattle.cert_check.specs.Notes.{annotation_of}
 use Rattle.vlt_flow.specs.Walks.{maybe_map}
 use Rattle.cert_check.specs.Tests.{below_test}
 use Rattle.cert_check.specs.Walks.{turn_tests}
@@ -41,13 +41,13 @@ test_if-returns-in_err-inside t c = stopped _ _ _ _ _ c.from_residual.ensures.1 
 pub test_if-returns-in_err-first : goal.test_if-returns-in_err-first
 test_if-returns-in_err-first t c =
     let p = c.in_ok-inside.ensures.outcome in
-    stopped _ _ _ _ _ c.from_residual-in_err-first.ensures.1 c.in_err-first.was c.test_way.ensures (choose_first (given_by c.args.given.now.notes.now) c.args.l c.args.n (map_of c.args.held) (rows_view c.args.rows.now) (block_view c.args.then_block.now) (block_view c.args.else_block.now) _ p.0 p.1)
+    stopped _ _ _ _ _ c.from_residual-in_err-first.ensures.1 c.in_err-first.was c.test_way.ensures (choose_first (annotation_of c.args.given.now) c.args.l c.args.n (map_of c.args.held) (rows_view c.args.rows.now) (block_view c.args.then_block.now) (block_view c.args.else_block.now) _ p.0 p.1)
 
 pub test_if-returns-in_err-second : goal.test_if-returns-in_err-second
 test_if-returns-in_err-second t c =
     let p = c.in_ok-inside.ensures.outcome in
     let w = c.in_ok-first.ensures.outcome in
-    stopped _ _ _ _ _ c.from_residual-in_err-second.ensures.1 c.in_err-second.was c.test_way-2.ensures (choose_second (given_by c.args.given.now.notes.now) c.args.l c.args.n (map_of c.args.held) (rows_view c.args.rows.now) (block_view c.args.then_block.now) (block_view c.args.else_block.now) _ _ _ p.0 p.1 (ap map_of c.in_ok-other.ensures ∙ p.1) w.1.at w.0)
+    stopped _ _ _ _ _ c.from_residual-in_err-second.ensures.1 c.in_err-second.was c.test_way-2.ensures (choose_second (annotation_of c.args.given.now) c.args.l c.args.n (map_of c.args.held) (rows_view c.args.rows.now) (block_view c.args.then_block.now) (block_view c.args.else_block.now) _ _ _ p.0 p.1 (ap map_of c.in_ok-other.ensures ∙ p.1) w.1.at w.0)
 
 pub test_if-returns : goal.test_if-returns
 test_if-returns t c =
@@ -67,29 +67,29 @@ test_turn-returns-in_err-inside t c = stopped _ _ _ _ _ c.from_residual.ensures.
 pub test_turn-returns-in_err-test_below : goal.test_turn-returns-in_err-test_below
 test_turn-returns-in_err-test_below t c =
     let p = c.in_ok-inside.ensures.outcome in
-    stopped _ _ _ _ _ c.from_residual-in_err-test_below.ensures.1 c.in_err-test_below.was c.test_below.ensures (turn_exit (given_by c.args.given.now.notes.now) c.args.n (map_of c.args.head) (rows_view c.args.rows.now) (block_view c.args.body.now) _ p.0 p.1)
+    stopped _ _ _ _ _ c.from_residual-in_err-test_below.ensures.1 c.in_err-test_below.was c.test_below.ensures (turn_exit (annotation_of c.args.given.now) c.args.n (map_of c.args.head) (rows_view c.args.rows.now) (block_view c.args.body.now) _ p.0 p.1)
 
 pub test_turn-returns-in_err-way : goal.test_turn-returns-in_err-way
 test_turn-returns-in_err-way t c =
     let p = c.in_ok-inside.ensures.outcome in
-    stopped _ _ _ _ _ c.from_residual-in_err-way.ensures.1 c.in_err-way.was c.test_way.ensures (turn_body (given_by c.args.given.now.notes.now) c.args.n (map_of c.args.head) (rows_view c.args.rows.now) (block_view c.args.body.now) _ p.0 p.1 c.in_ok-test_below.ensures.outcome.0)
+    stopped _ _ _ _ _ c.from_residual-in_err-way.ensures.1 c.in_err-way.was c.test_way.ensures (turn_body (annotation_of c.args.given.now) c.args.n (map_of c.args.head) (rows_view c.args.rows.now) (block_view c.args.body.now) _ p.0 p.1 c.in_ok-test_below.ensures.outcome.0)
 
 pub test_turn-returns : goal.test_turn-returns
 test_turn-returns t c =
     let p = c.in_ok-inside.ensures.outcome in
     let w = c.in_ok-way.ensures.outcome in
-    record { outcome = (turn_held (given_by c.args.given.now.notes.now) c.args.n (map_of c.args.head) (rows_view c.args.rows.now) (block_view c.args.body.now) _ p.0 p.1 c.in_ok-test_below.ensures.outcome.0 w.0, w.1.at) }
+    record { outcome = (turn_held (annotation_of c.args.given.now) c.args.n (map_of c.args.head) (rows_view c.args.rows.now) (block_view c.args.body.now) _ p.0 p.1 c.in_ok-test_below.ensures.outcome.0 w.0, w.1.at) }
 
 pub test_loop-test_turn-requires : goal.test_loop-test_turn-requires
 test_loop-test_turn-requires t c = (omega (arith, c.decreases), (c.requires.order, c.requires.few))
 
 pub test_loop-returns-in_err-head : goal.test_loop-returns-in_err-head
-test_loop-returns-in_err-head t c = stopped _ _ _ _ _ c.from_residual.ensures.1 c.in_err-head.was c.enter.ensures (first_here (below_test c.args.n (map_of c.args.held) ((given_by c.args.given.now.notes.now).around c.args.n) ∷ []) (turn_tests (given_by c.args.given.now.notes.now) c.args.n ((given_by c.args.given.now.notes.now).around c.args.n) (rows_view c.args.rows.now) (block_view c.args.body.now)))
+test_loop-returns-in_err-head t c = stopped _ _ _ _ _ c.from_residual.ensures.1 c.in_err-head.was c.enter.ensures (first_here (below_test c.args.n (map_of c.args.held) ((annotation_of c.args.given.now).around c.args.n) ∷ []) (turn_tests (annotation_of c.args.given.now) c.args.n ((annotation_of c.args.given.now).around c.args.n) (rows_view c.args.rows.now) (block_view c.args.body.now)))
 
 pub test_loop-returns-in_err-at : goal.test_loop-returns-in_err-at
 test_loop-returns-in_err-at t c =
     let p = c.in_ok-head.ensures.outcome in
-    stopped _ _ _ _ _ c.from_residual-in_err-at.ensures.1 c.in_err-at.was c.test_turn.ensures (loop_turn (given_by c.args.given.now.notes.now) c.args.l c.args.n (map_of c.args.held) (rows_view c.args.rows.now) (block_view c.args.body.now) _ p.0 p.1)
+    stopped _ _ _ _ _ c.from_residual-in_err-at.ensures.1 c.in_err-at.was c.test_turn.ensures (loop_turn (annotation_of c.args.given.now) c.args.l c.args.n (map_of c.args.held) (rows_view c.args.rows.now) (block_view c.args.body.now) _ p.0 p.1)
 
 pub test_loop-returns-in_err-exit : goal.test_loop-returns-in_err-exit
 test_loop-returns-in_err-exit t c = stopped _ _ _ _ _ c.from_residual-in_err-exit.ensures.1 c.in_err-exit.was c.map_of_note.ensures (λ z f. absurd f)
@@ -98,7 +98,7 @@ pub test_loop-returns : goal.test_loop-returns
 test_loop-returns t c =
     let p = c.in_ok-head.ensures.outcome in
     let w = c.in_ok-at.ensures.outcome in
-    record { outcome = (loop_held (given_by c.args.given.now.notes.now) c.args.l c.args.n (map_of c.args.held) (rows_view c.args.rows.now) (block_view c.args.body.now) _ p.0 p.1 w.0, led_comes _ _ _ _ c.comes.ensures.held (c.comes.ensures.at ∙ w.1) (ap Some c.in_ok-exit.ensures.outcome.1)) }
+    record { outcome = (loop_held (annotation_of c.args.given.now) c.args.l c.args.n (map_of c.args.held) (rows_view c.args.rows.now) (block_view c.args.body.now) _ p.0 p.1 w.0, led_comes _ _ _ _ c.comes.ensures.held (c.comes.ensures.at ∙ w.1) (ap Some c.in_ok-exit.ensures.outcome.1)) }
 
 -- ---- arms
 
@@ -115,13 +115,13 @@ test_arm-returns-in_err-inside t c =
 pub test_arm-returns-in_err-next : goal.test_arm-returns-in_err-next
 test_arm-returns-in_err-next t c =
     let p = rw (c.as_slice.ensures, c.in_ok-own.ensures) at c.in_ok-inside.ensures.outcome in
-    rw (arm_parts c.args.arm.now) (stopped _ _ _ _ _ c.from_residual-in_err-next.ensures.1 c.in_err-next.was c.test_way.ensures (arm_way (given_by c.args.given.now.notes.now) c.args.l c.args.n c.args.way.at (map_of c.args.held.now) (rows_view (out-FlowArm c.args.arm.now).rows) (block_view (out-FlowArm c.args.arm.now).body) _ p.0 p.1))
+    rw (arm_parts c.args.arm.now) (stopped _ _ _ _ _ c.from_residual-in_err-next.ensures.1 c.in_err-next.was c.test_way.ensures (arm_way (annotation_of c.args.given.now) c.args.l c.args.n c.args.way.at (map_of c.args.held.now) (rows_view (out-FlowArm c.args.arm.now).rows) (block_view (out-FlowArm c.args.arm.now).body) _ p.0 p.1))
 
 pub test_arm-returns : goal.test_arm-returns
 test_arm-returns t c =
     let p = rw (c.as_slice.ensures, c.in_ok-own.ensures) at c.in_ok-inside.ensures.outcome in
     let w = c.in_ok-next.ensures.outcome in
-    rw (arm_parts c.args.arm.now) (record { outcome = (arm_held (given_by c.args.given.now.notes.now) c.args.l c.args.n c.args.way.at (map_of c.args.held.now) (rows_view (out-FlowArm c.args.arm.now).rows) (block_view (out-FlowArm c.args.arm.now).body) _ p.0 p.1 w.0, record { passes = rw w.1.passes at c.either.ensures; at = w.1.at }) })
+    rw (arm_parts c.args.arm.now) (record { outcome = (arm_held (annotation_of c.args.given.now) c.args.l c.args.n c.args.way.at (map_of c.args.held.now) (rows_view (out-FlowArm c.args.arm.now).rows) (block_view (out-FlowArm c.args.arm.now).body) _ p.0 p.1 w.0, record { passes = rw w.1.passes at c.either.ensures; at = w.1.at }) })
 
 pub test_arms-loop-arm-init : goal.test_arms-loop-arm-init
 test_arms-loop-arm-init t c = arming_first _ _ _ _ _
@@ -188,10 +188,10 @@ test_block-returns t c =
 -- ---- statements
 
 pub test_on-returns-in-Some : goal.test_on-returns-in-Some
-test_on-returns-in-Some t c = on_some _ (given_by c.args.given.now.notes.now) c.args.l c.args.flow.at _ (flow_view c.args.form.now) _ _ (ap maybe_map c.in-Some.is) c.test_form.ensures
+test_on-returns-in-Some t c = on_some _ (annotation_of c.args.given.now) c.args.l c.args.flow.at _ (flow_view c.args.form.now) _ _ (ap maybe_map c.in-Some.is) c.test_form.ensures
 
 pub test_on-returns-in-Ok : goal.test_on-returns-in-Ok
-test_on-returns-in-Ok t c = on_none _ (given_by c.args.given.now.notes.now) c.args.l c.args.flow.at _ (flow_view c.args.form.now) _ (ap maybe_map c.in-None.is) (record { outcome = (tt, led_stops _ _ c.stops.ensures.held (c.stops.ensures.at ∙ ap (λ m. c.args.flow.at + m) c.in-Ok.ensures.count)) })
+test_on-returns-in-Ok t c = on_none _ (annotation_of c.args.given.now) c.args.l c.args.flow.at _ (flow_view c.args.form.now) _ (ap maybe_map c.in-None.is) (record { outcome = (tt, led_stops _ _ c.stops.ensures.held (c.stops.ensures.at ∙ ap (λ m. c.args.flow.at + m) c.in-Ok.ensures.count)) })
 
 pub test_form-returns-in_err-held-in-Step : goal.test_form-returns-in_err-held-in-Step
 test_form-returns-in_err-held-in-Step t c =
@@ -211,7 +211,7 @@ test_form-test_loop-requires t c =
 pub test_form-returns-in-While : goal.test_form-returns-in-While
 test_form-returns-in-While t c =
     let told = rw c.as_slice-in-While.ensures at c.test_loop.ensures in
-    rw (while_form _ _ _ c.in-While.is) (loop_tested _ (given_by c.args.given.now.notes.now) c.args.l c.args.n (map_of c.args.held) (rows_view c.in-While.rows) (block_view c.in-While.body) told)
+    rw (while_form _ _ _ c.in-While.is) (loop_tested _ (annotation_of c.args.given.now) c.args.l c.args.n (map_of c.args.held) (rows_view c.in-While.rows) (block_view c.in-While.body) told)
 
 pub test_form-test_arms-requires : goal.test_form-test_arms-requires
 test_form-test_arms-requires t c =
@@ -228,13 +228,13 @@ pub test_form-returns-in_err-way-in-Switch : goal.test_form-returns-in_err-way-i
 test_form-returns-in_err-way-in-Switch t c =
     let p = rw c.as_slice-in-Switch.ensures at c.in_ok-inside-in-Switch.ensures.outcome in
     let told = rw c.as_slice-in-Switch-2.ensures at c.test_arms.ensures in
-    rw (switch_form _ _ _ _ c.in-Switch.is) (stopped _ _ _ _ _ c.from_residual-in_err-way-in-Switch.ensures.1 c.in_err-way-in-Switch.was told (switch_arms (given_by c.args.given.now.notes.now) c.args.l c.args.n (map_of c.args.held) (rows_view c.in-Switch.rows) (arms_view c.in-Switch.arms) c.in-Switch.end _ p.0 p.1))
+    rw (switch_form _ _ _ _ c.in-Switch.is) (stopped _ _ _ _ _ c.from_residual-in_err-way-in-Switch.ensures.1 c.in_err-way-in-Switch.was told (switch_arms (annotation_of c.args.given.now) c.args.l c.args.n (map_of c.args.held) (rows_view c.in-Switch.rows) (arms_view c.in-Switch.arms) c.in-Switch.end _ p.0 p.1))
 
 pub test_form-returns-in_ok-way-in-Switch : goal.test_form-returns-in_ok-way-in-Switch
 test_form-returns-in_ok-way-in-Switch t c =
     let p = rw c.as_slice-in-Switch.ensures at c.in_ok-inside-in-Switch.ensures.outcome in
     let w = rw c.as_slice-in-Switch-2.ensures at c.in_ok-way-in-Switch.ensures.outcome in
-    rw (switch_form _ _ _ _ c.in-Switch.is) (switch_tested (given_by c.args.given.now.notes.now) c.args.l c.args.n (map_of c.args.held) (rows_view c.in-Switch.rows) (arms_view c.in-Switch.arms) c.in-Switch.end _ p.0 p.1 _ _ w.0 w.1 c.behind.ensures)
+    rw (switch_form _ _ _ _ c.in-Switch.is) (switch_tested (annotation_of c.args.given.now) c.args.l c.args.n (map_of c.args.held) (rows_view c.in-Switch.rows) (arms_view c.in-Switch.arms) c.in-Switch.end _ p.0 p.1 _ _ w.0 w.1 c.behind.ensures)
 
 pub test_form-test_block-requires : goal.test_form-test_block-requires
 test_form-test_block-requires t c =
@@ -242,7 +242,7 @@ test_form-test_block-requires t c =
     (omega (arith, c.decreases, e), (c.requires.order, omega (arith, c.requires.few, e)))
 
 pub test_form-returns-in-Scope : goal.test_form-returns-in-Scope
-test_form-returns-in-Scope t c = rw (scope_form _ _ c.in-Scope.is) (scope_tested _ (given_by c.args.given.now.notes.now) c.args.l c.args.n (map_of c.args.held) (block_view c.in-Scope.body) c.test_block.ensures)
+test_form-returns-in-Scope t c = rw (scope_form _ _ c.in-Scope.is) (scope_tested _ (annotation_of c.args.given.now) c.args.l c.args.n (map_of c.args.held) (block_view c.in-Scope.body) c.test_block.ensures)
 
 pub test_form-test_block-requires-in-Focus : goal.test_form-test_block-requires-in-Focus
 test_form-test_block-requires-in-Focus t c =
@@ -257,14 +257,14 @@ test_form-returns-in_err-inside-in-Focus t c =
 pub test_form-returns-in_err-walked-in-Focus : goal.test_form-returns-in_err-walked-in-Focus
 test_form-returns-in_err-walked-in-Focus t c =
     let p = rw c.as_slice-in-Focus.ensures at c.in_ok-inside-in-Focus.ensures.outcome in
-    rw (focus_form _ _ _ _ c.in-Focus.is) (stopped _ _ _ _ _ c.from_residual-in_err-walked-in-Focus.ensures.1 c.in_err-walked-in-Focus.was c.test_block-in-Focus.ensures (focus_body (given_by c.args.given.now.notes.now) c.args.l c.args.n (map_of c.args.held) (rows_view c.in-Focus.rows) (block_view c.in-Focus.body) (rows_view c.in-Focus.after) _ p.0 p.1))
+    rw (focus_form _ _ _ _ c.in-Focus.is) (stopped _ _ _ _ _ c.from_residual-in_err-walked-in-Focus.ensures.1 c.in_err-walked-in-Focus.was c.test_block-in-Focus.ensures (focus_body (annotation_of c.args.given.now) c.args.l c.args.n (map_of c.args.held) (rows_view c.in-Focus.rows) (block_view c.in-Focus.body) (rows_view c.in-Focus.after) _ p.0 p.1))
 
 pub test_form-returns-in_ok-walked-in-Focus : goal.test_form-returns-in_ok-walked-in-Focus
 test_form-returns-in_ok-walked-in-Focus t c =
     let p = rw c.as_slice-in-Focus.ensures at c.in_ok-inside-in-Focus.ensures.outcome in
     let w = c.in_ok-walked-in-Focus.ensures.outcome in
     let q = rw c.as_slice-in-Focus-2.ensures at c.leave_rows.ensures in
-    rw (focus_form _ _ _ _ c.in-Focus.is) (focus_tested (given_by c.args.given.now.notes.now) c.args.l c.args.n (map_of c.args.held) (rows_view c.in-Focus.rows) (block_view c.in-Focus.body) (rows_view c.in-Focus.after) _ p.0 p.1 _ _ w.0 w.1 q)
+    rw (focus_form _ _ _ _ c.in-Focus.is) (focus_tested (annotation_of c.args.given.now) c.args.l c.args.n (map_of c.args.held) (rows_view c.in-Focus.rows) (block_view c.in-Focus.body) (rows_view c.in-Focus.after) _ p.0 p.1 _ _ w.0 w.1 q)
 
 pub test_form-returns-in_err-_end-in-Return : goal.test_form-returns-in_err-_end-in-Return
 test_form-returns-in_err-_end-in-Return t c =

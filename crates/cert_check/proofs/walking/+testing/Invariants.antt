@@ -3,15 +3,15 @@ use Rattle.vlt_core.specs.Flow.{size, size_block, size_stmts, size_arms}
 use Rattle.vlt_rows.specs.FlowView.{arm_view, block_view, flow_view, stmts_view, arms_view}
 use Rattle.vlt_keyset.specs.Held.{map_of}
 use Rattle.vlt_flow.specs.Walks.{choice_of, maybe_map}
-use Rattle.cert_check.specs.Notes.{given_by}
+use Rattle.cert_check.specs.Notes.{annotation_of}
 use Rattle.cert_check.proofs.Listing.{Listing, Arming}
 use Rattle.cert_check.proofs.walking.+testing.Given as goal
 
 abbrev pub invariant-test_list-loop-s : goal.invariant-test_list-loop-s
-invariant-test_list-loop-s l = Listing (given_by l.given.notes.now) l.l l.n l.stmts (map_of l.fn.held) l.s-index l.flow.at (maybe_map l.flow.held)
+invariant-test_list-loop-s l = Listing (annotation_of l.given) l.l l.n l.stmts (map_of l.fn.held) l.s-index l.flow.at (maybe_map l.flow.held)
 
 abbrev pub invariant-test_arms-loop-arm : goal.invariant-test_arms-loop-arm
-invariant-test_arms-loop-arm l = Arming (given_by l.given.notes.now) l.l l.n l.arms (map_of l.held) l.arm-index l.way.at l.way.passes
+invariant-test_arms-loop-arm l = Arming (annotation_of l.given) l.l l.n l.arms (map_of l.held) l.arm-index l.way.at l.way.passes
 
 -- ---- measures: the size, and then the order of the calls
 

@@ -1,0 +1,6 @@
+use Rattle.std.proofs.Common.{Err, ap, ◌∙◌}
+use Rattle.cert_check.proofs.Causes.{unfit_cause}
+use Rattle.cert_check.proofs.bodies.start_of.Goals as goal
+
+pub returns-in-Err-Unfit : goal.returns-in-Err-Unfit
+returns-in-Err-Unfit c = unfit_cause _ c.start_map_of.result c.start_map_of.ensures.map (c.in-Err-Unfit.is ∙ ap (λ x. Err x) c.in-Err-Unfit.field-0-is)

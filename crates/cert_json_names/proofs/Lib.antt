@@ -1,0 +1,4 @@
+pub mod Characters
+pub mod Uses
+pub mod Scopes
+pub mod Programs

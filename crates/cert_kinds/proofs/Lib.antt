@@ -1,0 +1,4 @@
+pub mod Tallying
+pub mod Declared
+pub mod Walks
+pub mod Answered

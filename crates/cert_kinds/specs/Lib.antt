@@ -1,0 +1,4 @@
+pub mod Outcomes
+pub mod Tallies
+pub mod Starts
+pub mod Whole

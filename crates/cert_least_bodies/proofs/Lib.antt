@@ -1,0 +1,13 @@
+pub mod Within
+pub mod Reached
+pub mod Kept
+pub mod Tidy
+pub mod TidyBodies
+pub mod Agreeing
+pub mod Found
+pub mod Tables
+pub mod Masking
+pub mod Listed
+pub mod Making
+pub mod Typed
+pub mod Programs

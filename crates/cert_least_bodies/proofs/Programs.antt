@@ -1,0 +1,110 @@
+-- An accepted program within the limits surely has a least certificate.
+use Rattle.std.proofs.Common.{◌≡◌, ◌<◌, ◌≤◌, ◌+◌, ℕ, suc, nat_lt, Bool, true, false, true≢false, if◌then◌else◌, List, [], ◌∷◌, map, length, Option, Some, None, slice_get, option_map, refl, sym, ap, subst, ◌∙◌, arith}
+use Rattle.std.specs.List.{flat_map}
+use Rattle.vlt_base.specs.Sure.{Surely}
+use Rattle.vlt_base.proofs.Surely.{sure, surely, so}
+use Rattle.vlt_core.specs.Core.{SetDecl, TypeDecl, an_abstract, a_struct, a_variant, VarDecl, Func, Program}
+use Rattle.vlt_core.specs.Derives.{IsAccepted, IsAcceptedFunc}
+use Rattle.vlt_core.specs.Instances.{bound_in}
+use Rattle.vlt_core.specs.Kinded.{IsKinded, HasKindedParts}
+use Rattle.vlt_core.specs.KindedHeads.{type_broken, head_broken}
+use Rattle.vlt_core.specs.KindedBodies.{first_ids, stmts_rows}
+use Rattle.vlt_core.specs.Lookups.{set_in, count_in, fields_in, fields_of, cases_in, cases_of}
+use Rattle.vlt_core_laws.specs.Fit.{IsWellFormed}
+use Rattle.vlt_core_laws.proofs.Formed.{formed_body, own_instance}
+use Rattle.vlt_core_laws.proofs.Headed.{kinded_parts, function_empty, head_empty, each_at, ranged_keys, entries_fit}
+use Rattle.vlt_core_laws.proofs.Unbroken.{EachEmpty, some_not_none}
+use Rattle.cert_rows.specs.Parts.{All}
+use Rattle.cert_format.specs.Notes.{Note}
+use Rattle.cert_fit_laws.specs.Limits.{IsLimitedSet, IsLimitedType, IsLimitedFunc, IsLimitedProgram}
+use Rattle.cert_fit_laws.proofs.Listed.{all_at}
+use Rattle.cert_fit_laws.proofs.NarrowNumbers.{Bounds}
+use Rattle.cert_fit_laws.proofs.Tables.{count_from, sets_there}
+use Rattle.cert_least_laws.specs.LeastNotes.{HasLeastNotes, HaveLeastNotes, IsLeastCertificate}
+use Rattle.cert_least_bodies.specs.Programs.{AcceptedProgramsHaveOne}
+use Rattle.cert_least_bodies.proofs.Making.{body_notes, made_least}
+use Rattle.cert_least_bodies.proofs.Tables.{surely_shown}
+use Rattle.cert_least_bodies.specs.Narrow.{HasNarrow}
+use Rattle.cert_least_bodies.proofs.Typed.{types_of_vars}
+
+module _ (p : Program) (is : IsLimitedProgram p) where
+  few_states : (o : Option ℕ) → count_from p o ≤ 32
+  few_states None = omega arith
+  few_states (Some i) = by (slice_get p.sets i) refl
+    where
+      by : (o : Option SetDecl) → slice_get p.sets i ≡ o → count_in o ≤ 32
+      by None at = omega arith
+      by (Some d) at = (all_at IsLimitedSet p.sets i d is.sets at).few
+
+  few_fields : (t : ℕ) → length (fields_of p t) ≤ 32
+  few_fields t = by (slice_get p.types t) refl
+    where
+      by : (o : Option TypeDecl) → slice_get p.types t ≡ o → length (fields_in o) ≤ 32
+      by None at = omega arith
+      by (Some (an_abstract name set)) at = omega arith
+      by (Some (a_struct d)) at = (all_at IsLimitedType p.types t (a_struct d) is.types at).1
+      by (Some (a_variant d)) at = omega arith
+
+  few_cases : (t : ℕ) → length (cases_of p t) ≤ 32
+  few_cases t = by (slice_get p.types t) refl
+    where
+      by : (o : Option TypeDecl) → slice_get p.types t ≡ o → length (cases_in o) ≤ 32
+      by None at = omega arith
+      by (Some (an_abstract name set)) at = omega arith
+      by (Some (a_struct d)) at = omega arith
+      by (Some (a_variant d)) at = (all_at IsLimitedType p.types t (a_variant d) is.types at).2
+
+  few_functions : length p.fns ≤ 4096
+  few_functions = low (length p.sets) (length p.types) (length p.fns) is.few
+    where
+      low : (a b c : ℕ) → a + b + c ≤ 4096 → c ≤ 4096
+      low a b c few = omega (arith, few)
+
+  bounds : (m : ℕ) (f : Func) → HasKindedParts p → head_broken p m f ≡ [] → IsLimitedFunc f → Bounds p f
+  bounds m f kinded head limits = record {
+    vars = limits.vars;
+    keys = limits.keys;
+    fns = few_functions;
+    fields = few_fields;
+    cases = few_cases;
+    states = λ t. few_states (set_in (slice_get p.types t));
+    sets = sets_there p kinded;
+    typed = λ v d at. each_at (λ (d : VarDecl). type_broken p f d.ty) f.vars v d (types_of_vars p m f head) at;
+  }
+
+-- ---- functions
+
+module _ (p : Program) (kinded : IsKinded p) (is : IsLimitedProgram p) (well : IsWellFormed p) (sets : HasNarrow p) (accepted : IsAccepted p) where
+  parts : HasKindedParts p
+  parts = kinded_parts p kinded
+
+  body_sure : (g : ℕ) (f : Func) → slice_get p.fns g ≡ Some f → f.external ≡ false → Surely ((notes : List Note) × HasLeastNotes p f notes)
+  body_sure g f there own =
+      let head = head_empty p g f parts there in
+      let fit = formed_body p g f well there own in
+      let plain = well.plain g f there in
+      let b = bounds p is head.0 f parts head.1 (all_at IsLimitedFunc p.fns g f is.fns there) in
+      let rows = subst (λ x. EachEmpty (if x then [] else stmts_rows p f (record { jumps = false; returns = true }) (first_ids p f) false f.body)) own (function_empty p g f parts there).1.1 in
+      so (surely_shown p f fit (accepted g f None there own (own_instance p f plain))) (λ shown. (
+        body_notes p g f there b sets (ranged_keys p head.0 f head.1) (entries_fit p head.0 f head.1) rows fit shown,
+        record {
+          none = λ e. absurd (true≢false (sym e ∙ own));
+          body = λ e. made_least p g f there b sets (ranged_keys p head.0 f head.1) (entries_fit p head.0 f head.1) rows fit shown plain;
+        },
+      ))
+
+  function_sure : (g : ℕ) (f : Func) → slice_get p.fns g ≡ Some f → Surely ((notes : List Note) × HasLeastNotes p f notes)
+  function_sure g f there = by f.external refl
+    where
+      by : (b : Bool) → f.external ≡ b → Surely ((notes : List Note) × HasLeastNotes p f notes)
+      by true e = sure ([], record { none = λ x. refl; body = λ x. absurd (true≢false (sym e ∙ x)) })
+      by false e = body_sure g f there e
+
+  all_sure : (fs : List Func) → ((i : ℕ) (f : Func) → slice_get fs i ≡ Some f → (g : ℕ) × (slice_get p.fns g ≡ Some f)) → Surely ((all : List (List Note)) × HaveLeastNotes p fs all)
+  all_sure [] there = sure ([], tt)
+  all_sure (f ∷ fs) there =
+      let own = there 0 f refl in
+      surely (function_sure own.0 f own.1) (λ x. so (all_sure fs (λ i h at. there (suc i) h at)) (λ y. (x.0 ∷ y.0, (x.1, y.1))))
+
+pub have_one : AcceptedProgramsHaveOne
+have_one p kinded is well sets accepted = all_sure p kinded is well sets accepted p.fns (λ i f at. (i, at))

@@ -1,0 +1,2 @@
+pub mod Annotating
+pub mod Narrow

@@ -1,0 +1,69 @@
+-- An accepted program of a text surely has a least certificate, which fits, verifies and is read back.
+use Rattle.std.specs.Prelude.{◌≡◌, ℕ, false, List}
+use Rattle.vlt_base.specs.Sure.{Surely}
+use Rattle.vlt_core.specs.Core.{Program}
+use Rattle.vlt_core.specs.Derives.{IsAccepted}
+use Rattle.vlt_core.specs.View.{program_of}
+use Rattle.vlt_core.specs.declared.notes.Annotation.{Annotation}
+use Rattle.vlt_core.specs.declared.program.Program.{Program as CodeProgram}
+use Rattle.c_lower.specs.Lowering.{lowered}
+use Rattle.cert_rows.specs.Parts.{list}
+use Rattle.cert_format.specs.Places.{unplaced_program}
+use Rattle.cert_format.specs.Text.{marked}
+use Rattle.cert_format.specs.Notes.{Note}
+use Rattle.cert_format.specs.Certificate.{program_data, FitsCertificate, IsCertificateOf}
+use Rattle.cert_format_laws.specs.Texts.{IsWrittenText}
+use Rattle.cert_format_laws.specs.Versions.{is_ordered}
+use Rattle.cert_write.specs.Notes.{notes_in}
+use Rattle.cert_fit_laws.specs.Annotation.{IsVerified}
+use Rattle.cert_least_laws.specs.LeastNotes.{IsLeastCertificate}
+use Rattle.cert_text_laws.specs.Texts.{IsProgramOfText}
+use Rattle.cert_least_texts.specs.Annotated.{AreAnnotatedBy}
+
+-- It can't be that there is none.
+abbrev pub AcceptedTextsHaveOne : Type 0
+AcceptedTextsHaveOne =
+    (bytes : List ℕ) (p : Program) → IsProgramOfText bytes p → IsAccepted p →
+    Surely ((all : List (List Note)) × IsLeastCertificate p all)
+
+-- Without its places the program has a certificate of version 1 with these notes. The program breaks
+-- no rule on names and types, the notes hold in its bodies, and it has the same C program as with
+-- its places.
+pub record IsCertified (p : Program) (all : List (List Note)) : Type 0 where
+  pub version : is_ordered (unplaced_program p) ≡ false
+  pub fits : FitsCertificate false (unplaced_program p) all
+  pub verified : IsVerified (unplaced_program p) all
+  pub same_c : lowered (unplaced_program p) ≡ lowered p
+
+-- The least certificate of the program that the code makes of a text.
+abbrev pub LeastCertificatesVerify : Type 0
+LeastCertificatesVerify =
+    (bytes : List ℕ) (p : CodeProgram) (all : List (List Note)) →
+    IsProgramOfText bytes (program_of p) → IsLeastCertificate (program_of p) all →
+    IsCertified (program_of p) all
+
+-- ---- what is read of it
+
+-- the text is the certificate of the program without its places, and of these notes, and of no
+-- other ones
+pub record IsReadBack (p : Program) (all : List (List Note)) (text : List ℕ) : Type 0 where
+  pub certificate : IsCertificateOf text (unplaced_program p) all
+  pub only : (q : Program) (notes : List (List Note)) → IsCertificateOf text q notes →
+      (q ≡ unplaced_program p) × (notes ≡ all)
+
+abbrev pub LeastCertificatesAreReadBack : Type 0
+LeastCertificatesAreReadBack =
+    (bytes : List ℕ) (p : CodeProgram) (all : List (List Note)) (body : List ℕ) →
+    IsProgramOfText bytes (program_of p) → IsLeastCertificate (program_of p) all →
+    (let q = unplaced_program (program_of p) in
+    IsWrittenText body (list (program_data (is_ordered q) q all))) →
+    IsReadBack (program_of p) all (marked body)
+
+-- ---- annotations of the code
+
+-- The notes that are written of them are the least certificate of the text's program.
+abbrev pub AnnotationsAreLeast : Type 0
+AnnotationsAreLeast =
+    (bytes : List ℕ) (p : CodeProgram) (all : List (List Annotation)) →
+    IsProgramOfText bytes (program_of p) → AreAnnotatedBy p p.fns all →
+    IsLeastCertificate (program_of p) (notes_in (program_of p).fns all)

@@ -1,0 +1,53 @@
+//! The least certificates of texts' programs.
+
+ghost use Rattle.cert_least_texts.specs.Texts.{AcceptedTextsHaveOne, LeastCertificatesVerify, LeastCertificatesAreReadBack};
+
+use cert_fit_laws::limited_programs_fit;
+use cert_format_laws::{certificates_are_written, places_dont_count, texts_have_one_reading};
+use cert_least_bodies::accepted_programs_have_one;
+use cert_least_laws::{
+    least_certificates_are_complete, least_certificates_are_local, least_certificates_have_no_places,
+};
+use cert_text_laws::{texts_are_limited, texts_are_unordered};
+use vlt_resolve_laws::{
+    elaborated_programs_are_kinded, elaborated_programs_have_arms,
+    elaborated_programs_have_narrow_states, elaborated_programs_have_no_bounds,
+    elaborated_programs_have_states,
+};
+
+/// It can't be that an accepted program of a text has no least certificate.
+pub fn accepted_texts_have_one()
+    ensures { AcceptedTextsHaveOne }
+{
+    texts_are_limited();
+    elaborated_programs_are_kinded();
+    elaborated_programs_have_arms();
+    elaborated_programs_have_states();
+    elaborated_programs_have_narrow_states();
+    elaborated_programs_have_no_bounds();
+    accepted_programs_have_one();
+}
+
+/// The least certificate of a text's program fits the format and verifies.
+pub fn least_certificates_verify()
+    ensures { LeastCertificatesVerify }
+{
+    texts_are_limited();
+    texts_are_unordered();
+    elaborated_programs_are_kinded();
+    elaborated_programs_have_no_bounds();
+    least_certificates_are_complete();
+    least_certificates_are_local();
+    least_certificates_have_no_places();
+    limited_programs_fit();
+    places_dont_count();
+}
+
+/// What is written of it is read as this program, without its places, and these notes.
+pub fn least_certificates_are_read_back()
+    ensures { LeastCertificatesAreReadBack }
+{
+    least_certificates_verify();
+    certificates_are_written();
+    texts_have_one_reading();
+}
