@@ -17,7 +17,7 @@ use Rattle.cert_check.specs.Outcomes.{refusal_of, HasOutcomeUnless, AreTestedUnl
 use Rattle.cert_check.specs.Unfit.{IsUnfitBody, IsUnfitFunc, body, IsUnfit}
 use Rattle.cert_check.specs.Unfit as why
 use Rattle.cert_check.specs.Whole.{ProgramRefusal, refusal_in, HoldAt, IsRefusedAt, IsFirstRefusal, IfRefused, IfUnfit}
-use Rattle.cert_check.specs.Answers.{IsOutcomeAt, IsTestedAt, IsOutcome, IsTested}
+use Rattle.cert_check.specs.Results.{IsOutcomeAt, IsTestedAt, IsOutcome, IsTested}
 use Rattle.cert_check.specs.declared.errors.Refusal.{Refusal}
 use Rattle.cert_check.specs.declared.errors.Stop.{Stop}
 use Rattle.cert_check.specs.declared.errors.Stop.TheVariants as stop

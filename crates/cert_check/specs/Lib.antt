@@ -8,4 +8,4 @@ pub mod Finding
 pub mod Dense
 pub mod Walks
 pub mod Bodies
-pub mod Answers
+pub mod Results

@@ -13,7 +13,7 @@ ghost use Rattle.cert_check.specs.Notes.{plain_notes, notes_of_all};
 ghost use Rattle.cert_check.specs.Outcomes.{AreTestedUnless};
 ghost use Rattle.cert_check.specs.Unfit.{IsUnfitFunc, IsUnfit};
 ghost use Rattle.cert_check.specs.Whole.{ProgramRefusal, IsFirstRefusal, IfRefused, IfUnfit};
-ghost use Rattle.cert_check.specs.Answers.{IsTestedAt, IsTested};
+ghost use Rattle.cert_check.specs.Results.{IsTestedAt, IsTested};
 
 use crate::bodies::test_body;
 use crate::errors::{Refusal, Stop};
