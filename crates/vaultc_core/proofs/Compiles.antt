@@ -1,6 +1,6 @@
 -- What status 0 of `emit` stands for.
-use Rattle.std.proofs.Common.{◌≡◌, ◌<◌, ◌≤◌, inl, inr, ℕ, Bool, true, false, true≢false, ◌&&◌, ◌||◌, if◌then◌else◌, List, [], ◌∷◌, length, Option, Some, None, Result, Ok, Err, refl, sym, ap, ◌∙◌, subst, arith}
-use Rattle.std.specs.Prelude.{nat_lt, nat_le, IfOk}
+use Rattle.std.proofs.Common.{◌≡◌, ◌<◌, ◌≤◌, inl, inr, ℕ, Bool, true, false, true≢false, ◌&&◌, ◌||◌, if◌then◌else◌, List, [], ◌∷◌, ◌++◌, ◌+◌, length, length-append, Option, Some, None, Result, Ok, Err, refl, sym, ap, ◌∙◌, subst, arith}
+use Rattle.std.specs.Prelude.{nat_lt, nat_le, IfOk, OnOk}
 use Rattle.std.specs.List.{list_any}
 use Rattle.std.specs.declared.alloc.AllocError.{AllocError}
 use Rattle.std.proofs.lemmas.Bool.Decides.{nat_tests}
@@ -8,6 +8,10 @@ use Rattle.vlt_base.specs.Limits.{limit_of}
 use Rattle.vlt_base.specs.declared.limits.TheConstants.{SOURCE_BYTES, C_BYTES}
 use Rattle.vlt_core.specs.Core.{Ty, int, bool, tracked, owning, guarded, variant, owning_variant, Func, Program}
 use Rattle.vlt_core.specs.Lookups.{cases_of}
+use Rattle.vlt_core.specs.Bodies.{body_flow}
+use Rattle.vlt_core.specs.Derives.{start_map}
+use Rattle.vlt_core_laws.proofs.Formed.{own_instance, formed_body}
+use Rattle.vlt_core_laws.proofs.Deriving.{annotated}
 use Rattle.vlt_io.specs.Outside.{Files, IsRead, Grew}
 use Rattle.vlt_io.specs.declared.sink.Sink as sink
 use Rattle.vlt_io.specs.declared.store.Store.{Ghosts}
@@ -26,19 +30,36 @@ use Rattle.c_lower_program.specs.declared.error.LowerError.{LowerError}
 use Rattle.c_lower_program.specs.declared.error.LowerError.TheVariants as error
 use Rattle.c_lower_accepted.specs.Texts.{IsAcceptedText, TextsRunAlike, TextsAreDefined}
 use Rattle.c_lower_accepted.proofs.Texts as accepted_texts
+use Rattle.c_reader_laws.specs.PrinterLaws.ReadAgain.{ReadsAs}
+use Rattle.std.proofs.lemmas.List.{append_assoc}
+use Rattle.c_syntax.specs.Text.{mark}
+use Rattle.c_syntax.specs.Reading.{IsCProgramOf}
 use Rattle.c_lower_printed.specs.Laws.{AcceptedTextsAreReadAgain}
+use Rattle.serde_json.specs.Written.{compact_text}
+use Rattle.cert_rows.specs.Parts.{list}
+use Rattle.cert_format.specs.Places.{unplaced_program}
+use Rattle.cert_format.specs.Text.{closing}
+use Rattle.cert_format.specs.Notes.{Note}
+use Rattle.cert_format.specs.Certificate.{program_data}
+use Rattle.cert_format_laws.specs.Versions.{is_ordered}
+use Rattle.cert_emit.specs.Verified.{LeastCertificatesVerify}
+use Rattle.vlt_verdict.proofs.Single.{fit_program}
+use Rattle.cert_emit.specs.Causes.{HasRefused}
+use Rattle.cert_emit.specs.Certificates.{certificate_of, IsLeastText}
 use Rattle.vaultc_core.specs.declared.status.TheConstants.{DONE}
 use Rattle.vaultc_core.specs.Commands.{Command, emit}
 use Rattle.vaultc_core.specs.Finishes.{Finishes}
 use Rattle.vaultc_core.specs.Lines.{Reply, reply, over_reply}
 use Rattle.vaultc_core.specs.Texts.{IsTooLong, IsTextOf}
-use Rattle.vaultc_core.specs.Emitted.{c_text, emitted_reply, emit_reply}
+use Rattle.vaultc_core.specs.Emitted.{c_text, c_file, file_reply, IsEmitted, IsReplyToCompiled}
+use Rattle.vaultc_core.specs.Compilable.{IsCompilable}
 use Rattle.vaultc_core.specs.Compiled.{IsCompiled}
 use Rattle.vaultc_core.specs.Shown.{shown_reply}
 use Rattle.vaultc_core.specs.declared.reply.Reply.{Reply as CodeReply}
 use Rattle.vaultc_core.specs.Sources.{had, unread, too_long, text_in, IsOneRead}
 use Rattle.vaultc_core.specs.Replies.{IsReplyToText, bytes_at, MayReply}
 use Rattle.vaultc_core.proofs.Promises.{not_zero, status_of, no_refusal}
+use Rattle.vaultc_core.proofs.Read.{text_tree}
 use Rattle.vaultc_core.proofs.Reading.{one_read, read_there}
 
 -- the bytes are a text of an accepted program
@@ -81,23 +102,53 @@ few_cases law trees bytes t p reads is = none_gives p (accepted_texts.of_text la
 
 -- ---- replies
 
--- a text that isn't over the limit
-pub text_emitted : (p : Program) (x : c.Program) (r : Result CodeReply AllocError) → x ≡ lowered p → length (c_text p) ≤ limit_of C_BYTES →
-    IfOk r (λ q. shown_reply q ≡ reply DONE (canonical_text x)) → IfOk r (λ q. shown_reply q ≡ emitted_reply p)
-text_emitted p x (Ok q) is within said = said ∙ ap (λ y. reply DONE (canonical_text y)) is ∙ sym (ap (λ b. if b then over_reply C_BYTES else reply DONE (c_text p)) (not_over (limit_of C_BYTES) (length (c_text p)) within))
-  where
-    not_over : (m n : ℕ) → n ≤ m → nat_lt m n ≡ false
-    not_over m n le = grind (arith, nat_tests, le)
-text_emitted p x (Err e) is within said = tt
+is_over : (m n : ℕ) → m < n → nat_lt m n ≡ true
+is_over m n lt = grind (arith, nat_tests, lt)
 
--- one that is
-pub limit_emitted : (p : Program) (r : Result CodeReply AllocError) → limit_of C_BYTES < length (c_text p) → IfOk r (λ q. shown_reply q ≡ over_reply C_BYTES) →
-    IfOk r (λ q. shown_reply q ≡ emitted_reply p)
-limit_emitted p (Ok q) over said = said ∙ sym (ap (λ b. if b then over_reply C_BYTES else reply DONE (c_text p)) (is_over (limit_of C_BYTES) (length (c_text p)) over))
-  where
-    is_over : (m n : ℕ) → m < n → nat_lt m n ≡ true
-    is_over m n lt = grind (arith, nat_tests, lt)
-limit_emitted p (Err e) over said = tt
+not_over : (m n : ℕ) → n ≤ m → nat_lt m n ≡ false
+not_over m n le = grind (arith, nat_tests, le)
+
+-- a text that is over the limit, and one that isn't
+pub long_file : (text : List ℕ) → limit_of C_BYTES < length text → file_reply text ≡ over_reply C_BYTES
+long_file text over = ap (λ b. if b then over_reply C_BYTES else reply DONE text) (is_over (limit_of C_BYTES) (length text) over)
+
+pub short_file : (text : List ℕ) → length text ≤ limit_of C_BYTES → file_reply text ≡ reply DONE text
+short_file text within = ap (λ b. if b then over_reply C_BYTES else reply DONE text) (not_over (limit_of C_BYTES) (length text) within)
+
+-- where the C text alone is over it, the file is
+pub long_text : (text more : List ℕ) → limit_of C_BYTES < length text → file_reply (text ++ more) ≡ over_reply C_BYTES
+long_text text more over =
+    let long : length (text ++ more) ≡ length text + length more = length-append text more in
+    long_file (text ++ more) (omega (arith, over, long))
+
+-- the file of a program that has a C program, and of one that has none for its length
+pub lowered_file : (p : Program) (x : c.Program) (more : List ℕ) (r : Result CodeReply AllocError) → x ≡ lowered p →
+    IfOk r (λ q. shown_reply q ≡ file_reply (canonical_text x ++ more)) → IfOk r (λ q. shown_reply q ≡ file_reply (c_text p ++ more))
+lowered_file p x more (Ok q) is said = said ∙ ap (λ y. file_reply (canonical_text y ++ more)) is
+lowered_file p x more (Err e) is said = tt
+
+pub unlowered_file : (p : Program) (more : List ℕ) (r : Result CodeReply AllocError) → IfOk r (λ q. shown_reply q ≡ over_reply C_BYTES) →
+    OnOk r (limit_of C_BYTES < length (c_text p)) → IfOk r (λ q. shown_reply q ≡ file_reply (c_text p ++ more))
+unlowered_file p more (Ok q) over long = over ∙ sym (long_text (c_text p) more long)
+unlowered_file p more (Err e) over long = tt
+
+pub on_ok_of : {A : Type 0} {P : Type 0} (r : Result A AllocError) → P → OnOk r P
+on_ok_of (Ok x) p = p
+on_ok_of (Err e) p = tt
+
+-- with the certificate of its least annotations
+pub with_certificate : (p : Program) (text : List ℕ) (r : Result CodeReply AllocError) → IsLeastText p text →
+    IfOk r (λ q. shown_reply q ≡ file_reply (c_text p ++ text)) → IfOk r (λ q. IsEmitted p (shown_reply q))
+with_certificate p text (Ok q) least said = (least.notes, least.least, said ∙ ap (λ t. file_reply (c_text p ++ t)) least.is)
+with_certificate p text (Err e) least said = tt
+
+-- of an accepted program no body is refused
+pub not_refused : (p : Program) → IsCompilable p → HasRefused p → ⊥
+not_refused p h r =
+    let fit = formed_body p r.number r.func h.well_formed r.there r.with_body in
+    let own = own_instance p r.func (h.well_formed.plain r.number r.func r.there) in
+    let some = annotated (body_flow p r.func) (start_map p r.func) fit.fit.jumping (h.accepted r.number r.func None r.there r.with_body own) in
+    r.holds some.0 some.1
 
 -- a program without a variant of many cases isn't refused for one
 pub not_cases : (p : Program) (e : LowerError) → e ≡ error.Cases → Refuses p e → gives_many_cases p ≡ false → ⊥
@@ -105,7 +156,7 @@ not_cases p e is cause few = true≢false (sym (subst (Refuses p) is cause) ∙ 
 
 -- ---- status 0
 
--- a reply of status 0 that is a text or a limit is the text
+-- a reply of status 0 that is a file or a limit is the file
 text_there : (b : Bool) (text of : List ℕ) → nat_lt (limit_of C_BYTES) (length of) ≡ b → reply DONE text ≡ (if b then over_reply C_BYTES else reply DONE of) →
     (text ≡ of) × (length of ≤ limit_of C_BYTES)
 text_there true text of is e = absurd (not_zero 4 (status_of text _ e))
@@ -114,23 +165,45 @@ text_there false text of is e = (ap (λ r. r.text) e, not_less (limit_of C_BYTES
     not_less : (m n : ℕ) → nat_lt m n ≡ false → n ≤ m
     not_less m n is = grind (arith, nat_tests, is)
 
-module _ (alike : TextsRunAlike) (defined : TextsAreDefined) (again : AcceptedTextsAreReadAgain) where
+-- what is known of programs, of the C programs of texts, and of certificates
+pub record Laws : Type 0 where
+  pub fit : ProgramsAreFit
+  pub trees : TextsHaveTextTrees
+  pub alike : TextsRunAlike
+  pub defined : TextsAreDefined
+  pub again : AcceptedTextsAreReadAgain
+  pub verify : LeastCertificatesVerify
+
+-- the certificate comes after the C text, so both are read
+certified : (p : Program) (notes : List (List Note)) → ReadsAs (c_text p) (lowered p) → IsCProgramOf (c_file p notes) (lowered p)
+    (Some (record { from = length (c_text p); to = length (c_file p notes) }))
+certified p notes again =
+    let q = unplaced_program p in
+    let more = compact_text (list (program_data (is_ordered q) q notes)) ++ closing in
+    subst (λ l. IsCProgramOf l (lowered p) (Some (record { from = length (c_text p); to = length l }))) (append_assoc (c_text p) mark more) (again.certified more)
+
+module _ (laws : Laws) where
   of_verdict : (store : Option Files) (name bytes text : List ℕ) (t : Tree) (v : Verdict) (old new : Option (List ℕ)) →
       IsRead store name (limit_of SOURCE_BYTES) bytes → (IsTooLong bytes → ⊥) → IsTextOf t bytes → IsVerdictOf t v →
-      reply DONE text ≡ emit_reply bytes v → Grew old new text → IsCompiled store name bytes old new
+      IsReplyToCompiled bytes v (reply DONE text) → Grew old new text → IsCompiled store name bytes old new
   of_verdict store name bytes text t (refused (broken rule at)) old new read short reads is e grew = absurd (not_zero 6 (status_of text _ e))
   of_verdict store name bytes text t (refused (exceeded n)) old new read short reads is e grew = absurd (not_zero 4 (status_of text _ e))
   of_verdict store name bytes text t (faulty p f x) old new read short reads is e grew = absurd (not_zero 7 (status_of text _ e))
-  of_verdict store name bytes text t (accepted p) old new read short reads is e grew =
+  of_verdict store name bytes text t (accepted p) old new read short reads is (notes, least, e) grew =
       let follows = accepted_text bytes t p reads is in
-      let there = text_there (nat_lt (limit_of C_BYTES) (length (c_text p))) text (c_text p) refl e in
+      let there = text_there (nat_lt (limit_of C_BYTES) (length (c_file p notes))) text (c_file p notes) refl e in
+      let longer : length (c_file p notes) ≡ length (c_text p) + length (certificate_of p notes) = length-append (c_text p) (certificate_of p notes) in
+      let within = there.1 in
       record {
         program = p;
         reads = record { short = short; tree = t; reads = reads; elaborates = is.0 };
         accepted = is.1;
-        reads_as = again bytes p follows there.1;
-        runs_alike = alike bytes p follows;
-        is_defined = defined bytes p follows;
+        notes = notes;
+        least = least;
+        verifies = laws.verify p notes (fit_program laws.fit t p (text_tree laws.trees bytes t reads) is.0).kinded least;
+        reads_as = certified p notes (laws.again bytes p follows (omega (arith, within, longer)));
+        runs_alike = laws.alike bytes p follows;
+        is_defined = laws.defined bytes p follows;
         there = λ told tells. read_there store told (text_in name) bytes read short tells;
         written = subst (λ x. Grew old new x) there.0 grew;
       }

@@ -19,3 +19,4 @@ pub mod Told
 pub mod Replied
 pub mod Promises
 pub mod Compiles
+pub mod Compilable

@@ -29,7 +29,7 @@ use Rattle.vaultc_core.specs.Replies.{IsReplyToVerdict, IsReplyToTree, IsReplyTo
 use Rattle.vaultc_core.specs.Runs.{last_of, IsReplyOverNumbers, IsReplyToProgram}
 use Rattle.vaultc_core.specs.Texts.{Refusal, unlexed, unparsed, refusal_reply}
 use Rattle.vaultc_core.specs.Verdicts.{check_reply, IsExplained}
-use Rattle.vaultc_core.specs.Emitted.{c_text, emit_reply}
+use Rattle.vaultc_core.specs.Emitted.{c_file, IsReplyToCompiled}
 
 -- neither that of words that are no command nor that of a file that wasn't read
 abbrev pub IsOwn : ℕ → Type 0
@@ -67,10 +67,10 @@ own_text_or_limit : (b : Bool) (text : List ℕ) → IsOwn (if b then over_reply
 own_text_or_limit true text = own 5 (omega arith)
 own_text_or_limit false text = own_zero
 
-own_emitted : (text : List ℕ) (v : Verdict) → IsOwn (emit_reply text v).status
-own_emitted text (verdict.refused x) = own_verdict text (verdict.refused x)
-own_emitted text (verdict.faulty p f x) = own_verdict text (verdict.faulty p f x)
-own_emitted text (verdict.accepted p) = own_text_or_limit (nat_lt (limit_of C_BYTES) (length (c_text p))) (c_text p)
+own_emitted : (text : List ℕ) (v : Verdict) (r : Reply) → IsReplyToCompiled text v r → IsOwn r.status
+own_emitted text (verdict.refused x) r is = own_as r _ is (own_verdict text (verdict.refused x))
+own_emitted text (verdict.faulty p f x) r is = own_as r _ is (own_verdict text (verdict.faulty p f x))
+own_emitted text (verdict.accepted p) r (notes, least, is) = own_as r _ is (own_text_or_limit (nat_lt (limit_of C_BYTES) (length (c_file p notes))) (c_file p notes))
 
 some_some : (r q : Reply) → Some r ≡ Some q → r ≡ q
 some_some r q e = cc
@@ -116,7 +116,7 @@ own_tree (check file) text t r (v, judged, is) = own_as r _ is (own_verdict text
 own_tree (explain file) text t r (v, judged, is) = own_explained text v r is
 own_tree (run file taken) text t r is = absurd is
 own_tree (fmt file) text t r is = own_as r _ is own_zero
-own_tree (emit file) text t r (v, judged, is) = own_as r _ is (own_emitted text v)
+own_tree (emit file) text t r (v, judged, is) = own_emitted text v r is
 own_tree (crun file taken) text t r is = absurd is
 
 own_text : (command : Command) (text : List ℕ) (r : Reply) → IsReplyToText command text r → IsOwn r.status

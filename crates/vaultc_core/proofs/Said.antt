@@ -19,7 +19,7 @@ use Rattle.vaultc_core.specs.Verdicts.{check_reply, IsExplained}
 use Rattle.vlt_core.specs.Core.{Program}
 use Rattle.vlt_core.specs.declared.program.Program as code
 use Rattle.vlt_numbers.specs.Given.Given.{Given}
-use Rattle.vaultc_core.specs.Emitted.{emitted_reply, emit_reply}
+use Rattle.vaultc_core.specs.Emitted.{IsEmitted, IsReplyToCompiled}
 use Rattle.vaultc_core.specs.Runs.{IsReplyToProgram}
 use Rattle.vaultc_core.specs.Replies.{IsReplyToVerdict, IsReplyToRun, IsReplyToTree, IsReplyByTree, IsReplyToText, IsReplyToRunText}
 use Rattle.vaultc_core.specs.Shown.{shown_reply, is_accepted, IsJudged}
@@ -58,7 +58,7 @@ explained_said bytes t v (Ok x) reads (s, is, seen) said = λ file. inr (t, read
 explained_said bytes t v (Err e) reads is said = tt
 
 pub compiled_said : (bytes : List ℕ) (t : Tree) (v : shown.Verdict) (r : Result Reply AllocError) → IsTextOf t bytes →
-    (s : Verdict) × IsVerdictOf t s × IsSeenAs v s → IfOk r (λ x. (s : Verdict) → IsSeenAs v s → shown_reply x ≡ emit_reply bytes s) →
+    (s : Verdict) × IsVerdictOf t s × IsSeenAs v s → IfOk r (λ x. (s : Verdict) → IsSeenAs v s → IsReplyToCompiled bytes s (shown_reply x)) →
     IfOk r (λ x. (file : List ℕ) → IsReplyToText (emit file) bytes (shown_reply x))
 compiled_said bytes t v (Ok x) reads (s, is, seen) said = λ file. inr (t, reads, (s, is, said s seen))
 compiled_said bytes t v (Err e) reads is said = tt
@@ -108,7 +108,7 @@ accepted_run text given b t p reads is r replies = inr (t, reads, (accepted p, i
 -- ---- C texts
 
 -- `emit` says of a verdict that isn't accepted what `check` says of it
-emit_as_check : (text : List ℕ) (v : shown.Verdict) (s : Verdict) (r : lines.Reply) → is_accepted v ≡ false → IsSeenAs v s → r ≡ check_reply text s → r ≡ emit_reply text s
+emit_as_check : (text : List ℕ) (v : shown.Verdict) (s : Verdict) (r : lines.Reply) → is_accepted v ≡ false → IsSeenAs v s → r ≡ check_reply text s → IsReplyToCompiled text s r
 emit_as_check text v (refused x) r other seen e = e
 emit_as_check text v (faulty p f x) r other seen e = e
 emit_as_check text (Accepted q) (accepted p) r other seen e = absurd cc
@@ -117,15 +117,15 @@ emit_as_check text (Exceeded n) (accepted p) r other seen e = absurd cc
 emit_as_check text (Faulty q x) (accepted p) r other (f, there, same) e = absurd cc
 
 pub checked_emit : (text : List ℕ) (v : shown.Verdict) (r : Result Reply AllocError) → is_accepted v ≡ false →
-    IfOk r (λ x. (s : Verdict) → IsSeenAs v s → shown_reply x ≡ check_reply text s) → IfOk r (λ x. (s : Verdict) → IsSeenAs v s → shown_reply x ≡ emit_reply text s)
+    IfOk r (λ x. (s : Verdict) → IsSeenAs v s → shown_reply x ≡ check_reply text s) → IfOk r (λ x. (s : Verdict) → IsSeenAs v s → IsReplyToCompiled text s (shown_reply x))
 checked_emit text v (Ok x) other said = λ s seen. emit_as_check text v s (shown_reply x) other seen (said s seen)
 checked_emit text v (Err e) other said = tt
 
--- the C text of an accepted program is what `emit` says of its verdict
+-- the C file of an accepted program is what `emit` says of its verdict
 pub accepted_emit : (text : List ℕ) (v : shown.Verdict) (q : code.Program) (r : Result Reply AllocError) → v ≡ Accepted q →
-    IfOk r (λ x. shown_reply x ≡ emitted_reply (program_of q)) → IfOk r (λ x. (s : Verdict) → IsSeenAs v s → shown_reply x ≡ emit_reply text s)
+    IfOk r (λ x. IsEmitted (program_of q) (shown_reply x)) → IfOk r (λ x. (s : Verdict) → IsSeenAs v s → IsReplyToCompiled text s (shown_reply x))
 accepted_emit text v q (Ok x) so said = λ s seen. by s (subst (λ v. IsSeenAs v s) so seen)
   where
-    by : (s : Verdict) → IsSeenAs (Accepted q) s → shown_reply x ≡ emit_reply text s
-    by s seen = said ∙ sym (ap (emit_reply text) seen)
+    by : (s : Verdict) → IsSeenAs (Accepted q) s → IsReplyToCompiled text s (shown_reply x)
+    by s seen = subst (λ s. IsReplyToCompiled text s (shown_reply x)) (sym seen) said
 accepted_emit text v q (Err e) so said = tt

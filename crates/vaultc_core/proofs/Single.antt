@@ -18,7 +18,8 @@ use Rattle.vaultc_core.specs.Lines.{Reply, reply, behind}
 use Rattle.vaultc_core.specs.Texts.{IsTextOf, refusal_reply}
 use Rattle.vaultc_core.specs.declared.status.TheConstants.{NOT_ACCEPTED}
 use Rattle.vaultc_core.specs.Verdicts.{check_reply, IsExplained}
-use Rattle.vaultc_core.specs.Emitted.{emit_reply}
+use Rattle.vaultc_core.specs.Emitted.{c_file, file_reply, IsReplyToCompiled}
+use Rattle.cert_least_laws.specs.Laws.{LeastCertificatesAreOne}
 use Rattle.vaultc_core.specs.Runs.{IsReplyToRan, IsReplyOverNumbers, IsReplyToProgram}
 use Rattle.vaultc_core.specs.Replies.{IsReplyToVerdict, IsReplyToRun, IsReplyToTree, IsReplyToText, IsReplyToRunText, bytes_at, IsReplyToContents, IsReplyToRead, IsReplyToCommand, GoesOn, AreAlike}
 use Rattle.c_reader_laws.specs.Laws.{IsReadInOneWay}
@@ -52,6 +53,12 @@ one_of_verdict text given b (verdict.refused x) r q p n = p ∙ sym n
 one_of_verdict text given b (verdict.faulty p f x) r q a n = a ∙ sym n
 one_of_verdict text given b (verdict.accepted p) r q a n = one_of_program p given b r q a n
 
+one_of_compiled : LeastCertificatesAreOne → (text : List ℕ) (v : Verdict) (r q : Reply) → IsReplyToCompiled text v r → IsReplyToCompiled text v q → r ≡ q
+one_of_compiled one text (verdict.refused x) r q p n = p ∙ sym n
+one_of_compiled one text (verdict.faulty p f x) r q a n = a ∙ sym n
+one_of_compiled one text (verdict.accepted p) r q (notes, least, is_r) (others, same, is_q) =
+    is_r ∙ ap (λ notes. file_reply (c_file p notes)) (one p notes others least same) ∙ sym is_q
+
 -- ---- replies that are alike
 
 same_alike : (command : Command) (x : Read) (r q : Reply) → r ≡ q → AreAlike command x r q
@@ -83,11 +90,12 @@ explained_alike file contents t (verdict.faulty p f x) r q reads is (first, seco
     let line = check_reply (bytes_at contents 0) (verdict.faulty p f x) in
     inr (line, inr (t, reads, (verdict.faulty p f x, is, refl)), refl, goes_on line.text _ r a, goes_on line.text _ q b)
 
--- what is known of trees, of texts and by the verdicts on them, and of C texts
+-- what is known of trees, of texts and by the verdicts on them, of C texts, and of certificates
 pub record Laws : Type 0 where
   pub one : HasOneVerdict
   pub trees : TextsHaveTextTrees
   pub c_texts : (text : List ℕ) → IsReadInOneWay text
+  pub certificates : LeastCertificatesAreOne
 
 module _ (laws : Laws) where
   one_of_tree : (command : Command) (contents : List (List ℕ)) (t : Tree) (r q : Reply) → IsTextOf t (bytes_at contents 0) → IsTextTree t →
@@ -100,7 +108,8 @@ module _ (laws : Laws) where
   one_of_tree (run file taken) contents t r q reads tree is_r is_q = absurd is_r
   one_of_tree (fmt file) contents t r q reads tree is_r is_q = is_r ∙ sym is_q
   one_of_tree (emit file) contents t r q reads tree (a, of_a, is_r) (b, of_b, is_q) =
-      is_r ∙ ap (emit_reply (bytes_at contents 0)) (laws.one t a b tree of_a of_b) ∙ sym is_q
+      let text = bytes_at contents 0 in
+      one_of_compiled laws.certificates text b r q (subst (λ v. IsReplyToCompiled text v r) (laws.one t a b tree of_a of_b) is_r) is_q
   one_of_tree (crun file taken) contents t r q reads tree is_r is_q = absurd is_r
 
   -- ---- commands

@@ -20,7 +20,7 @@ use Rattle.vlt_reports.specs.Reports.{fault_line, paths_text}
 use Rattle.vlt_interp.specs.Runs.Ends.{IsTooWide}
 use Rattle.vlt_sound.specs.Promise.{NeverGoesWrong}
 use Rattle.vlt_base.specs.Sure.{Surely}
-use Rattle.vlt_base.proofs.Surely.{sure, so}
+use Rattle.vlt_base.proofs.Surely.{sure, so, surely}
 use Rattle.vlt_verdict.proofs.Single.{fit_program}
 use Rattle.vlt_verdict.specs.Verdicts.{Verdict, refused, faulty, accepted, IsVerdictOf}
 use Rattle.vlt_verdict.specs.Laws.{HasSomeVerdict}
@@ -30,17 +30,19 @@ use Rattle.vaultc_core.specs.Commands.{Command, check, explain, run, fmt, emit, 
 use Rattle.vaultc_core.specs.Lines.{Reply, reply, over_reply, unread_reply, numbers_reply, behind}
 use Rattle.vaultc_core.specs.Runs.{IsReplyToRan, IsReplyOverNumbers, IsReplyToProgram}
 use Rattle.vaultc_core.specs.Sources.{had, unread, too_long}
-use Rattle.vaultc_core.specs.Texts.{refusal_reply}
+use Rattle.vaultc_core.specs.Texts.{IsTextOf, refusal_reply}
+use Rattle.cert_least_texts.specs.Texts.{AcceptedTextsHaveOne}
 use Rattle.vaultc_core.specs.Verdicts.{check_reply, IsExplained}
-use Rattle.vaultc_core.specs.Emitted.{emit_reply}
+use Rattle.vaultc_core.specs.Emitted.{c_file, file_reply, IsReplyToCompiled}
 use Rattle.vaultc_core.specs.Replies.{IsReplyToCheck, IsReplyToExplain, IsReplyToEmit, IsReplyToVerdict, IsReplyToRun, IsReplyByTree, bytes_at, IsReplyToContents, HasSomeReply}
 use Rattle.c_reader_laws.specs.Laws.{IsReadInOneWay}
+use Rattle.vaultc_core.proofs.Compilable.{program_of_text}
 use Rattle.vaultc_core.proofs.CReplies.{over_or_not, some_c_reply}
 use Rattle.vaultc_core.proofs.Read.{text_tree, read_in_one_way}
 use Rattle.vaultc_core.proofs.RunEnded.{last_there}
 use Rattle.vaultc_core.proofs.Runnable.{OfAccepted}
 
--- what is known of the trees of texts, and of C texts
+-- what is known of the trees of texts, of C texts, and of certificates
 pub record Laws : Type 0 where
   pub trees : TextsHaveTextTrees
   pub fit : ProgramsAreFit
@@ -48,6 +50,7 @@ pub record Laws : Type 0 where
   pub witnesses : (p : Program) (x : FlowFault) → IsWellFormed p → IsFirstFault p x → HasWitness p x
   pub never : OfAccepted NeverGoesWrong
   pub c_texts : (text : List ℕ) → IsReadInOneWay text
+  pub certificates : AcceptedTextsHaveOne
 
 -- ---- runs of programs that never go wrong
 
@@ -84,6 +87,13 @@ module _ (laws : Laws) where
       let x = fit_program laws.fit t p tree is.0 in
       of_program p given b (laws.never p x.kinded is.1 x.sizes x.well_formed.states x.narrow)
 
+  -- an accepted program surely has a least certificate
+  compiled : (text : List ℕ) (t : Tree) → IsTextOf t text → IsTextTree t → (v : Verdict) → IsVerdictOf t v → Surely ((r : Reply) × IsReplyToCompiled text v r)
+  compiled text t reads tree (refused e) is = sure (check_reply text (refused e), refl)
+  compiled text t reads tree (faulty p f x) is = sure (check_reply text (faulty p f x), refl)
+  compiled text t reads tree (accepted p) is =
+      so (laws.certificates text p (program_of_text text t p reads tree is.0) is.1) (λ n. (file_reply (c_file p n.0), (n.0, n.1, refl)))
+
   -- ---- texts
 
   some_of_check : (text : List ℕ) (t : Tree) → IsTextTree t → Surely ((r : Reply) × IsReplyToCheck text t r)
@@ -92,30 +102,30 @@ module _ (laws : Laws) where
   some_of_explain : (text : List ℕ) (t : Tree) → IsTextTree t → Surely ((r : Reply) × IsReplyToExplain text t r)
   some_of_explain text t tree = so (laws.verdicts t tree) (λ v. let r = explained text t tree v.0 v.1 in (r.0, (v.0, v.1, r.1)))
 
-  some_of_emit : (text : List ℕ) (t : Tree) → IsTextTree t → Surely ((r : Reply) × IsReplyToEmit text t r)
-  some_of_emit text t tree = so (laws.verdicts t tree) (λ v. (emit_reply text v.0, (v.0, v.1, refl)))
+  some_of_emit : (text : List ℕ) (t : Tree) → IsTextOf t text → IsTextTree t → Surely ((r : Reply) × IsReplyToEmit text t r)
+  some_of_emit text t reads tree = surely (laws.verdicts t tree) (λ v. so (compiled text t reads tree v.0 v.1) (λ r. (r.0, (v.0, v.1, r.1))))
 
   some_of_run : (text : List ℕ) (given : Given) (b : Budgets) (t : Tree) → IsTextTree t → Surely ((r : Reply) × IsReplyToRun text given b t r)
   some_of_run text given b t tree = so (laws.verdicts t tree) (λ v. let r = of_verdict text given b t tree v.0 v.1 in (r.0, (v.0, v.1, r.1)))
 
-  by_tree : (P : Tree → Reply → Type 0) (bytes : List ℕ) → ((t : Tree) → IsTextTree t → Surely ((r : Reply) × P t r)) → Surely ((r : Reply) × IsReplyByTree P bytes r)
+  by_tree : (P : Tree → Reply → Type 0) (bytes : List ℕ) → ((t : Tree) → IsTextOf t bytes → IsTextTree t → Surely ((r : Reply) × P t r)) → Surely ((r : Reply) × IsReplyByTree P bytes r)
   by_tree P bytes some = ⊎_elim
-      (λ x. so (some x.0 (text_tree laws.trees bytes x.0 x.1)) (λ r. (r.0, inr (x.0, x.1, r.1))))
+      (λ x. so (some x.0 x.1 (text_tree laws.trees bytes x.0 x.1)) (λ r. (r.0, inr (x.0, x.1, r.1))))
       (λ x. sure (refusal_reply bytes x.0, inl (x.0, x.1, refl)))
       (read_in_one_way bytes).either
 
   -- ---- files
 
   some_of_contents : (command : Command) (contents : List (List ℕ)) → Surely ((r : Reply) × IsReplyToContents command contents r)
-  some_of_contents (check file) contents = let bytes = bytes_at contents 0 in by_tree (IsReplyToCheck bytes) bytes (some_of_check bytes)
-  some_of_contents (explain file) contents = let bytes = bytes_at contents 0 in by_tree (IsReplyToExplain bytes) bytes (some_of_explain bytes)
+  some_of_contents (check file) contents = let bytes = bytes_at contents 0 in by_tree (IsReplyToCheck bytes) bytes (λ t reads. some_of_check bytes t)
+  some_of_contents (explain file) contents = let bytes = bytes_at contents 0 in by_tree (IsReplyToExplain bytes) bytes (λ t reads. some_of_explain bytes t)
   some_of_contents (fmt file) contents =
-      by_tree (λ t r. r ≡ reply DONE (layout t)) (bytes_at contents 0) (λ t tree. sure (reply DONE (layout t), refl))
+      by_tree (λ t r. r ≡ reply DONE (layout t)) (bytes_at contents 0) (λ t reads tree. sure (reply DONE (layout t), refl))
   some_of_contents (emit file) contents = let bytes = bytes_at contents 0 in by_tree (IsReplyToEmit bytes) bytes (some_of_emit bytes)
   some_of_contents (run file taken) contents =
       let bytes = bytes_at contents 0 in
       let given = given_by (bytes_at contents 1) (bytes_at contents 2) in
-      by_tree (IsReplyToRun bytes given taken.budgets) bytes (some_of_run bytes given taken.budgets)
+      by_tree (IsReplyToRun bytes given taken.budgets) bytes (λ t reads. some_of_run bytes given taken.budgets t)
   some_of_contents (crun file taken) contents =
       sure (some_c_reply (laws.c_texts (bytes_at contents 0)) (bytes_at contents 1) (bytes_at contents 2) taken.budgets)
 

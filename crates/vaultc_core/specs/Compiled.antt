@@ -1,22 +1,30 @@
 -- What status 0 of `emit` promises of the bytes that were read.
-use Rattle.std.specs.Prelude.{◌≡◌, ℕ, List, Option, Some}
+use Rattle.std.specs.Prelude.{◌≡◌, ℕ, List, length, Option, Some}
 use Rattle.vlt_core.specs.Core.{Program}
 use Rattle.vlt_core.specs.Derives.{IsAccepted}
 use Rattle.vlt_io.specs.Outside.{Files, Grew}
-use Rattle.c_reader_laws.specs.PrinterLaws.ReadAgain.{ReadsAs}
+use Rattle.c_syntax.specs.Reading.{IsCProgramOf}
 use Rattle.c_lower.specs.Lowering.{lowered}
 use Rattle.c_lower_accepted.specs.Accepted.{RunsAlike, IsDefined}
+use Rattle.cert_format.specs.Notes.{Note}
+use Rattle.cert_least_laws.specs.LeastNotes.{IsLeastCertificate}
+use Rattle.cert_emit.specs.Verified.{Verifies}
 use Rattle.vaultc_core.specs.Programs.{IsProgramOf}
-use Rattle.vaultc_core.specs.Emitted.{c_text}
+use Rattle.vaultc_core.specs.Emitted.{c_text, c_file}
 
--- The bytes are the text of a program that follows the rules; where files are told, they are all of the file's. Its C text was
--- written, and reads as its C program. A run of that one does what a run of the program does, and breaks no rule of C.
+-- The bytes are the text of a program that follows the rules; where files are told, they are all of the file's. Its C file was
+-- written, and reads as its C program, with the certificate after it. A run of that one does what a run of the program does, and
+-- breaks no rule of C. The certificate says the least annotation of each body, which verifies.
 pub record IsCompiled (files : Option Files) (name bytes : List ℕ) (old new : Option (List ℕ)) : Type 0 where
   pub program : Program
   pub reads : IsProgramOf bytes program
   pub accepted : IsAccepted program
-  pub reads_as : ReadsAs (c_text program) (lowered program)
+  pub notes : List (List Note)
+  pub least : IsLeastCertificate program notes
+  pub verifies : Verifies program notes
+  pub reads_as : IsCProgramOf (c_file program notes) (lowered program)
+      (Some (record { from = length (c_text program); to = length (c_file program notes) }))
   pub runs_alike : RunsAlike program
   pub is_defined : IsDefined program
   pub there : (told : Files) → files ≡ Some told → told name ≡ Some bytes
-  pub written : Grew old new (c_text program)
+  pub written : Grew old new (c_file program notes)

@@ -13,3 +13,4 @@ pub mod Compiled
 pub mod Finishes
 pub mod View
 pub mod Shown
+pub mod Compilable

@@ -13,7 +13,7 @@ use Rattle.vaultc_core.specs.Texts.{Refusal, AreRefused, IsTextOf, refusal_reply
 use Rattle.vlt_base.specs.Sure.{Surely}
 use Rattle.vlt_verdict.specs.Verdicts.{Verdict, accepted, IsVerdictOf}
 use Rattle.vaultc_core.specs.Verdicts.{check_reply, IsExplained}
-use Rattle.vaultc_core.specs.Emitted.{emit_reply}
+use Rattle.vaultc_core.specs.Emitted.{IsReplyToCompiled}
 use Rattle.vlt_numbers.specs.Given.Given.{Given, given_by}
 use Rattle.vaultc_core.specs.Runs.{IsReplyToProgram}
 use Rattle.vaultc_core.specs.CRuns.{IsReplyToC}
@@ -27,7 +27,7 @@ abbrev pub IsReplyToExplain : (text : List ℕ) → Tree → Reply → Type 0
 IsReplyToExplain text t r = (v : Verdict) × IsVerdictOf t v × IsExplained text v r
 
 abbrev pub IsReplyToEmit : (text : List ℕ) → Tree → Reply → Type 0
-IsReplyToEmit text t r = (v : Verdict) × IsVerdictOf t v × (r ≡ emit_reply text v)
+IsReplyToEmit text t r = (v : Verdict) × IsVerdictOf t v × IsReplyToCompiled text v r
 
 -- `run` replies as `check` does where that doesn't accept
 abbrev pub IsReplyToVerdict : (text : List ℕ) → Given → Budgets → Verdict → Reply → Type 0

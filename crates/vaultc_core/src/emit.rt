@@ -1,6 +1,8 @@
 //! From an accepted program to its C text.
 
-ghost use Rattle.std.specs.Prelude.{◌≡◌, ◌<◌, ◌^◌, ◌-◌, length, IfOk, IfSome, IfNone, false};
+ghost use Rattle.std.specs.Prelude.{◌≡◌, ◌<◌, ◌^◌, ◌-◌, ◌++◌, length, IfOk, OnOk, IfSome, IfNone, false};
+ghost use Rattle.vlt_base.specs.Limits.{limit_of};
+ghost use Rattle.vlt_base.specs.declared.limits.TheConstants.{C_BYTES};
 ghost use Rattle.vlt_core.specs.View.{program_of};
 ghost use Rattle.vlt_syntax.specs.View.{tree_of};
 ghost use Rattle.vlt_verdict.specs.Verdicts as v;
@@ -13,7 +15,9 @@ ghost use Rattle.c_lower_program.specs.Refusals.{Refuses};
 ghost use Rattle.vaultc_core.specs.declared.status.TheConstants.{DONE};
 ghost use Rattle.vaultc_core.specs.Lines as l;
 ghost use Rattle.vaultc_core.specs.Texts.{IsTextOf};
-ghost use Rattle.vaultc_core.specs.Emitted.{emitted_reply, emit_reply};
+ghost use Rattle.vaultc_core.specs.Emitted as e;
+ghost use Rattle.vaultc_core.specs.Compilable.{IsCompilable};
+ghost use Rattle.cert_emit.specs.Certificates.{IsLeastText};
 ghost use Rattle.vaultc_core.specs.Shown.{IsJudged, is_accepted, shown_reply};
 
 use crate::lines::{over_limit, verdict};
@@ -22,8 +26,9 @@ use crate::status::DONE;
 use c_lower_program::{LowerError, lower};
 use c_printer::print_c;
 use c_syntax::CProgram;
+use cert_emit::{CertificateError, certificate_text};
 use std::alloc::{AllocError, Global};
-use vlt_base::{C_BYTES, Memory};
+use vlt_base::{C_BYTES, Memory, limit};
 use vlt_core::Program;
 use vlt_syntax::Tree;
 use vlt_verdict::{Verdict, programs_are_fit, texts_have_text_trees};
@@ -39,22 +44,32 @@ pub fn accepted(judged: &Verdict) -> Option<&Program>
     }
 }
 
-/// The text of a C program.
-fn c_reply(alloc: Global, program: &CProgram) -> Result<Reply, AllocError>
-    ensures { IfOk result (λ r.
-        shown_reply r ≡ l.reply DONE (canonical_text (c.program_of program.now))) }
+/// A C file: the text of a C program, and a certificate after it.
+fn file_reply(
+    alloc: Global,
+    program: &CProgram,
+    certificate: &[u8],
+) -> Result<Reply, AllocError>
+    ensures { IfOk result (λ r. shown_reply r
+        ≡ e.file_reply (canonical_text (c.program_of program.now) ++ certificate.now)) }
 {
-    match print_c(alloc, program) {
-        Ok(text) => Ok(Reply { status: DONE, text }),
-        Err(Memory) => Err(AllocError),
+    let mut text = match print_c(alloc, program) {
+        Ok(text) => text,
+        Err(Memory) => return Err(AllocError),
+    };
+    text.extend_from_slice(certificate)?;
+    if text.len() as u64 > limit(C_BYTES) {
+        return over_limit(alloc, C_BYTES);
     }
+    Ok(Reply { status: DONE, text })
 }
 
 /// What is said where there is no C program, for this reason.
 fn unlowered(alloc: Global, program: &Program, error: LowerError) -> Result<Reply, AllocError>
     requires few { gives_many_cases (program_of program.now) ≡ false }
     requires refused { Refuses (program_of program.now) error }
-    ensures { IfOk result (λ r. shown_reply r ≡ emitted_reply (program_of program.now)) }
+    ensures over { IfOk result (λ r. shown_reply r ≡ l.over_reply C_BYTES) }
+    ensures long { OnOk result (limit_of C_BYTES < length (e.c_text (program_of program.now))) }
 {
     match error {
         LowerError::Limit => over_limit(alloc, C_BYTES),
@@ -63,15 +78,38 @@ fn unlowered(alloc: Global, program: &Program, error: LowerError) -> Result<Repl
     }
 }
 
-/// The C text of a program that has one: no external gives a variant of too many cases.
-fn c_text(alloc: Global, program: &Program) -> Result<Reply, AllocError>
+/// The C file of a program with this certificate.
+fn c_file(alloc: Global, program: &Program, certificate: &[u8]) -> Result<Reply, AllocError>
     requires { gives_many_cases (program_of program.now) ≡ false }
-    ensures { IfOk result (λ r. shown_reply r ≡ emitted_reply (program_of program.now)) }
+    ensures { IfOk result (λ r. shown_reply r
+        ≡ e.file_reply (e.c_text (program_of program.now) ++ certificate.now)) }
 {
     match lower(alloc, program) {
-        Ok(lowered) => c_reply(alloc, &lowered),
+        Ok(lowered) => file_reply(alloc, &lowered, certificate),
         Err(error) => unlowered(alloc, program, error),
     }
+}
+
+/// The certificate of the program of a text. Where a function of it has no notes, or a name isn't UTF-8, that counts as out of
+/// memory.
+fn certificate(alloc: Global, program: &Program) -> Result<Vec<u8>, AllocError>
+    requires { IsCompilable (program_of program.now) }
+    ensures { IfOk result (λ text. IsLeastText (program_of program.now) text.items) }
+{
+    match certificate_text(alloc, program) {
+        Ok(text) => Ok(text),
+        Err(CertificateError::Refused) => unreachable!(),
+        Err(_) => Err(AllocError),
+    }
+}
+
+/// The C file of the program of a text.
+fn emitted(alloc: Global, program: &Program) -> Result<Reply, AllocError>
+    requires { IsCompilable (program_of program.now) }
+    ensures { IfOk result (λ r. e.IsEmitted (program_of program.now) (shown_reply r)) }
+{
+    let text = certificate(alloc, program)?;
+    c_file(alloc, program, text.as_slice())
 }
 
 /// What `emit` says of a verdict on a text.
@@ -86,12 +124,12 @@ pub fn compiled(
     requires is { IsJudged (tree_of tree.now) judged.now }
     requires tellable { IsTellable judged.now }
     ensures { IfOk result (λ r. (t : v.Verdict) →
-        IsSeenAs judged.now t → shown_reply r ≡ emit_reply text.now t) }
+        IsSeenAs judged.now t → e.IsReplyToCompiled text.now t (shown_reply r)) }
 {
     programs_are_fit();
     texts_have_text_trees();
     match accepted(judged) {
-        Some(program) => c_text(alloc, program),
+        Some(program) => emitted(alloc, program),
         None => verdict(alloc, text, judged),
     }
 }

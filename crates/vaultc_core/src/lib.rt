@@ -35,6 +35,9 @@ mod write;
 use c_lower_accepted::texts_are_lowered_rightly;
 use c_lower_printed::accepted_texts_are_read_again;
 use c_reader_laws::texts_are_read_in_one_way;
+use cert_emit::least_certificates_verify;
+use cert_least_laws::least_certificates_are_one;
+use cert_least_texts::accepted_texts_have_one;
 use std::alloc::Global;
 use vlt_check_laws::first_fault_has_witness;
 use vlt_io::{Sink, Store};
@@ -110,6 +113,8 @@ pub fn vaultc<S: Store, K: Sink>(alloc: Global, words: &[String], store: &mut S,
     texts_are_read_in_one_way();
     texts_are_lowered_rightly();
     accepted_texts_are_read_again();
+    least_certificates_are_one();
+    least_certificates_verify();
     commands::carry_out(alloc, words, store, out)
 }
 
@@ -120,6 +125,7 @@ pub fn a_command_has_one_reply()
     a_tree_has_one_verdict();
     texts_have_text_trees();
     texts_are_read_in_one_way();
+    least_certificates_are_one();
 }
 
 /// It can't be that a command has no reply to what it read.
@@ -132,6 +138,7 @@ pub fn a_command_has_some_reply()
     first_fault_has_witness();
     texts_have_text_trees();
     texts_are_read_in_one_way();
+    accepted_texts_have_one();
 }
 
 /// All bytes are a text of one tree, or they are refused for one reason.

@@ -9,4 +9,5 @@ returns c = some_of_read (record {
   witnesses = c.first_fault_has_witness.ensures;
   never = c.accepted_programs_go_right.ensures.never;
   c_texts = c.texts_are_read_in_one_way.ensures;
+  certificates = c.accepted_texts_have_one.ensures;
 })
