@@ -45,11 +45,7 @@ pub fn accepted(judged: &Verdict) -> Option<&Program>
 }
 
 /// A C file: the text of a C program, and a certificate after it.
-fn file_reply(
-    alloc: Global,
-    program: &CProgram,
-    certificate: &[u8],
-) -> Result<Reply, AllocError>
+fn file_reply(alloc: Global, program: &CProgram, certificate: &[u8]) -> Result<Reply, AllocError>
     ensures { IfOk result (λ r. shown_reply r
         ≡ e.file_reply (canonical_text (c.program_of program.now) ++ certificate.now)) }
 {
