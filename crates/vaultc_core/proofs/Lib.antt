@@ -8,6 +8,7 @@ pub mod Own
 pub mod RunEnded
 pub mod CEnded
 pub mod CReplies
+pub mod Verifies
 pub mod Said
 pub mod Runnable
 pub mod Explained

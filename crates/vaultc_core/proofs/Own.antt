@@ -23,13 +23,15 @@ use Rattle.c_interp.specs.declared.runs.end.CEnd.{CEnd}
 use Rattle.c_interp.specs.declared.runs.end.CEnd.TheVariants.{Unread, Ended}
 use Rattle.vaultc_core.specs.declared.status.TheConstants.{DONE, NO_COMMAND, UNREAD}
 use Rattle.vaultc_core.specs.CRuns.{IsReplyToC, c_refusal, stop_reply, end_reply}
-use Rattle.vaultc_core.specs.Commands.{Command, check, explain, run, fmt, emit, crun}
+use Rattle.vaultc_core.specs.Commands.{Command, check, explain, run, fmt, emit, verify, crun}
 use Rattle.vaultc_core.specs.Lines.{Reply, reply, over_reply}
 use Rattle.vaultc_core.specs.Replies.{IsReplyToVerdict, IsReplyToTree, IsReplyToText, IsReplyToRunText, IsReplyToContents, bytes_at}
 use Rattle.vaultc_core.specs.Runs.{last_of, IsReplyOverNumbers, IsReplyToProgram}
 use Rattle.vaultc_core.specs.Texts.{Refusal, unlexed, unparsed, refusal_reply}
 use Rattle.vaultc_core.specs.Verdicts.{check_reply, IsExplained}
 use Rattle.vaultc_core.specs.Emitted.{c_file, IsReplyToCompiled}
+use Rattle.vaultc_core.specs.Verifying.{unread_reply, unverified_reply, IsReplyToVerify}
+use Rattle.cert_verify.specs.Refusals as unverified
 
 -- neither that of words that are no command nor that of a file that wasn't read
 abbrev pub IsOwn : ℕ → Type 0
@@ -114,6 +116,7 @@ own_explained text (verdict.accepted p) r is = own_as r _ is own_zero
 own_tree : (command : Command) (text : List ℕ) (t : Tree) (r : Reply) → IsReplyToTree command text t r → IsOwn r.status
 own_tree (check file) text t r (v, judged, is) = own_as r _ is (own_verdict text v)
 own_tree (explain file) text t r (v, judged, is) = own_explained text v r is
+own_tree (verify file) text t r is = absurd is
 own_tree (run file taken) text t r is = absurd is
 own_tree (fmt file) text t r is = own_as r _ is own_zero
 own_tree (emit file) text t r (v, judged, is) = own_emitted text v r is
@@ -159,11 +162,32 @@ own_c_end text (Ended end.Memory) r e = absurd (no_last r e)
 own_c : (text input answers : List ℕ) (b : Budgets) (r : Reply) → IsReplyToC text input answers b r → IsOwn r.status
 own_c text input answers b r is = own_as r _ is.whole (own_c_end text is.end is.last is.last_is)
 
+-- ---- C files
+
+own_unread : (e : CError) → IsOwn (unread_reply e).status
+own_unread (error.Unexpected at) = own 12 (omega arith)
+own_unread error.EndOfText = own 12 (omega arith)
+own_unread (error.Kind rule at) = own 12 (omega arith)
+own_unread (error.Limit n) = own 5 (omega arith)
+own_unread error.Memory = own 12 (omega arith)
+
+own_unverified : (x : unverified.Refusal) → IsOwn (unverified_reply x).status
+own_unverified (unverified.unread e) = own_unread e
+own_unverified unverified.no_certificate = own 12 (omega arith)
+own_unverified (unverified.kind rule) = own 12 (omega arith)
+own_unverified (unverified.local first) = own 12 (omega arith)
+own_unverified (unverified.not_lowered n) = own 12 (omega arith)
+
+own_verify : (text : List ℕ) (r : Reply) → IsReplyToVerify text r → IsOwn r.status
+own_verify text r (inl (p, notes, is, same)) = own_as r _ same own_zero
+own_verify text r (inr (x, is, same)) = own_as r _ same (own_unverified x)
+
 -- ---- commands
 
 pub own_reply : (command : Command) (contents : List (List ℕ)) (r : Reply) → IsReplyToContents command contents r → IsOwn r.status
 own_reply (check file) contents r is = own_text (check file) (bytes_at contents 0) r is
 own_reply (explain file) contents r is = own_text (explain file) (bytes_at contents 0) r is
+own_reply (verify file) contents r is = own_verify (bytes_at contents 0) r is
 own_reply (run file taken) contents r is =
     own_run (bytes_at contents 0) (given_by (bytes_at contents 1) (bytes_at contents 2)) taken.budgets r is
 own_reply (fmt file) contents r is = own_text (fmt file) (bytes_at contents 0) r is

@@ -12,7 +12,7 @@ use Rattle.vlt_numbers.specs.Given.Given.{Given, numbers, bad_input, bad_answers
 use Rattle.vlt_verdict.specs.Verdicts.{Verdict, IsVerdictOf}
 use Rattle.vlt_verdict.specs.Laws.{HasOneVerdict}
 use Rattle.vlt_verdict.specs.Verdicts as verdict
-use Rattle.vaultc_core.specs.Commands.{Command, check, explain, run, fmt, emit, crun}
+use Rattle.vaultc_core.specs.Commands.{Command, check, explain, run, fmt, emit, verify, crun}
 use Rattle.vaultc_core.specs.Sources.{Read, had, unread, too_long, sources_of, read_in}
 use Rattle.vaultc_core.specs.Lines.{Reply, reply, behind}
 use Rattle.vaultc_core.specs.Texts.{IsTextOf, refusal_reply}
@@ -23,7 +23,9 @@ use Rattle.cert_least_laws.specs.Laws.{LeastCertificatesAreOne}
 use Rattle.vaultc_core.specs.Runs.{IsReplyToRan, IsReplyOverNumbers, IsReplyToProgram}
 use Rattle.vaultc_core.specs.Replies.{IsReplyToVerdict, IsReplyToRun, IsReplyToTree, IsReplyToText, IsReplyToRunText, bytes_at, IsReplyToContents, IsReplyToRead, IsReplyToCommand, GoesOn, AreAlike}
 use Rattle.c_reader_laws.specs.Laws.{IsReadInOneWay}
+use Rattle.cert_verify.specs.Laws.{VerifiedInOneWay}
 use Rattle.vaultc_core.proofs.CReplies.{one_c_reply}
+use Rattle.vaultc_core.proofs.Verifies.{one_verify_reply}
 use Rattle.vaultc_core.proofs.Read.{text_tree, one_text, refusals_alike, text_not_refused}
 
 -- ---- replies to a tree
@@ -67,6 +69,7 @@ same_alike (explain file) x r q e = inl e
 same_alike (run file b) x r q e = e
 same_alike (fmt file) x r q e = e
 same_alike (emit file) x r q e = e
+same_alike (verify file) x r q e = e
 same_alike (crun file taken) x r q e = e
 
 alike_status : (command : Command) (x : Read) (r q : Reply) → AreAlike command x r q → r.status ≡ q.status
@@ -76,6 +79,7 @@ alike_status (explain file) x r q (inr (line, is, status, a, b)) = a.0 ∙ sym b
 alike_status (run file b) x r q e = ap (λ z. z.status) e
 alike_status (fmt file) x r q e = ap (λ z. z.status) e
 alike_status (emit file) x r q e = ap (λ z. z.status) e
+alike_status (verify file) x r q e = ap (λ z. z.status) e
 alike_status (crun file taken) x r q e = ap (λ z. z.status) e
 
 goes_on : (line more : List ℕ) (r : Reply) → r ≡ reply NOT_ACCEPTED (line ++ more) → GoesOn (reply NOT_ACCEPTED line) r
@@ -90,12 +94,13 @@ explained_alike file contents t (verdict.faulty p f x) r q reads is (first, seco
     let line = check_reply (bytes_at contents 0) (verdict.faulty p f x) in
     inr (line, inr (t, reads, (verdict.faulty p f x, is, refl)), refl, goes_on line.text _ r a, goes_on line.text _ q b)
 
--- what is known of trees, of texts and by the verdicts on them, of C texts, and of certificates
+-- what is known of trees, of texts and by the verdicts on them, of C texts, of certificates, and of C files that have one
 pub record Laws : Type 0 where
   pub one : HasOneVerdict
   pub trees : TextsHaveTextTrees
   pub c_texts : (text : List ℕ) → IsReadInOneWay text
   pub certificates : LeastCertificatesAreOne
+  pub verified : VerifiedInOneWay
 
 module _ (laws : Laws) where
   one_of_tree : (command : Command) (contents : List (List ℕ)) (t : Tree) (r q : Reply) → IsTextOf t (bytes_at contents 0) → IsTextTree t →
@@ -110,6 +115,7 @@ module _ (laws : Laws) where
   one_of_tree (emit file) contents t r q reads tree (a, of_a, is_r) (b, of_b, is_q) =
       let text = bytes_at contents 0 in
       one_of_compiled laws.certificates text b r q (subst (λ v. IsReplyToCompiled text v r) (laws.one t a b tree of_a of_b) is_r) is_q
+  one_of_tree (verify file) contents t r q reads tree is_r is_q = absurd is_r
   one_of_tree (crun file taken) contents t r q reads tree is_r is_q = absurd is_r
 
   -- ---- commands
@@ -142,6 +148,7 @@ module _ (laws : Laws) where
       one_of_run (bytes_at contents 0) (given_by (bytes_at contents 1) (bytes_at contents 2)) taken.budgets r q is_r is_q
   one_of_contents (fmt file) contents r q is_r is_q = one_of_text (fmt file) contents r q is_r is_q
   one_of_contents (emit file) contents r q is_r is_q = one_of_text (emit file) contents r q is_r is_q
+  one_of_contents (verify file) contents r q is_r is_q = one_verify_reply laws.verified (bytes_at contents 0) r q is_r is_q
   one_of_contents (crun file taken) contents r q is_r is_q =
       one_c_reply (laws.c_texts (bytes_at contents 0)) (bytes_at contents 1) (bytes_at contents 2) taken.budgets r q is_r is_q
 

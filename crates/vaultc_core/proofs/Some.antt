@@ -26,7 +26,7 @@ use Rattle.vlt_verdict.specs.Verdicts.{Verdict, refused, faulty, accepted, IsVer
 use Rattle.vlt_verdict.specs.Laws.{HasSomeVerdict}
 use Rattle.vlt_check_laws.specs.Shown.{HasWitness}
 use Rattle.vaultc_core.specs.declared.status.TheConstants.{DONE, NOT_ACCEPTED}
-use Rattle.vaultc_core.specs.Commands.{Command, check, explain, run, fmt, emit, crun}
+use Rattle.vaultc_core.specs.Commands.{Command, check, explain, run, fmt, emit, verify, crun}
 use Rattle.vaultc_core.specs.Lines.{Reply, reply, over_reply, unread_reply, numbers_reply, behind}
 use Rattle.vaultc_core.specs.Runs.{IsReplyToRan, IsReplyOverNumbers, IsReplyToProgram}
 use Rattle.vaultc_core.specs.Sources.{had, unread, too_long}
@@ -37,12 +37,14 @@ use Rattle.vaultc_core.specs.Emitted.{c_file, file_reply, IsReplyToCompiled}
 use Rattle.vaultc_core.specs.Replies.{IsReplyToCheck, IsReplyToExplain, IsReplyToEmit, IsReplyToVerdict, IsReplyToRun, IsReplyByTree, bytes_at, IsReplyToContents, HasSomeReply}
 use Rattle.c_reader_laws.specs.Laws.{IsReadInOneWay}
 use Rattle.vaultc_core.proofs.Compilable.{program_of_text}
+use Rattle.cert_verify.specs.Laws.{VerifiedInSomeWay}
 use Rattle.vaultc_core.proofs.CReplies.{over_or_not, some_c_reply}
+use Rattle.vaultc_core.proofs.Verifies.{some_verify_reply}
 use Rattle.vaultc_core.proofs.Read.{text_tree, read_in_one_way}
 use Rattle.vaultc_core.proofs.RunEnded.{last_there}
 use Rattle.vaultc_core.proofs.Runnable.{OfAccepted}
 
--- what is known of the trees of texts, of C texts, and of certificates
+-- what is known of the trees of texts, of C texts, of certificates, and of C files that have one
 pub record Laws : Type 0 where
   pub trees : TextsHaveTextTrees
   pub fit : ProgramsAreFit
@@ -51,6 +53,7 @@ pub record Laws : Type 0 where
   pub never : OfAccepted NeverGoesWrong
   pub c_texts : (text : List ℕ) → IsReadInOneWay text
   pub certificates : AcceptedTextsHaveOne
+  pub verified : VerifiedInSomeWay
 
 -- ---- runs of programs that never go wrong
 
@@ -126,6 +129,7 @@ module _ (laws : Laws) where
       let bytes = bytes_at contents 0 in
       let given = given_by (bytes_at contents 1) (bytes_at contents 2) in
       by_tree (IsReplyToRun bytes given taken.budgets) bytes (λ t reads. some_of_run bytes given taken.budgets t)
+  some_of_contents (verify file) contents = some_verify_reply laws.verified (bytes_at contents 0)
   some_of_contents (crun file taken) contents =
       sure (some_c_reply (laws.c_texts (bytes_at contents 0)) (bytes_at contents 1) (bytes_at contents 2) taken.budgets)
 

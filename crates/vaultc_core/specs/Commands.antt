@@ -20,6 +20,7 @@ pub data Command : Type 0 where
   run : (file : List ℕ) → Taken → Command
   fmt : (file : List ℕ) → Command
   emit : (file : List ℕ) → Command
+  verify : (file : List ℕ) → Command
   crun : (file : List ℕ) → Taken → Command
 
 -- a file word is not empty and doesn't begin with `-`
@@ -113,6 +114,7 @@ command_of (word ∷ file ∷ options) =
     else if bytes_eq word (codes "explain") then without_options (explain file) options
     else if bytes_eq word (codes "fmt") then without_options (fmt file) options
     else if bytes_eq word (codes "emit") then without_options (emit file) options
+    else if bytes_eq word (codes "verify") then without_options (verify file) options
     else if bytes_eq word (codes "run") then option_map (λ s. run file (taken_by s)) (settings_of options nothing_set)
     else if bytes_eq word (codes "crun") then option_map (λ s. crun file (taken_by s)) (settings_of options nothing_set)
     else None

@@ -7,9 +7,11 @@ pub mod Verdicts
 pub mod Emitted
 pub mod Runs
 pub mod CRuns
+pub mod Verifying
 pub mod Replies
 pub mod Promised
 pub mod Compiled
+pub mod Verified
 pub mod Finishes
 pub mod View
 pub mod Shown

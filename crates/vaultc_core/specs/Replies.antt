@@ -6,7 +6,7 @@ use Rattle.vlt_io.specs.declared.store.Store.{Ghosts}
 use Rattle.vlt_syntax.specs.Tree.{Tree}
 use Rattle.vlt_printer.specs.Layout.{layout}
 use Rattle.vaultc_core.specs.declared.status.TheConstants.{DONE, UNREAD, SINK_FAILED, NO_MEMORY, NOT_ACCEPTED}
-use Rattle.vaultc_core.specs.Commands.{Command, check, explain, run, fmt, emit, crun, command_of}
+use Rattle.vaultc_core.specs.Commands.{Command, check, explain, run, fmt, emit, verify, crun, command_of}
 use Rattle.vaultc_core.specs.Sources.{Read, had, unread, too_long, sources_of, read_in, MayRead}
 use Rattle.vaultc_core.specs.Lines.{Reply, reply, usage_reply, unread_reply, over_reply}
 use Rattle.vaultc_core.specs.Texts.{Refusal, AreRefused, IsTextOf, refusal_reply}
@@ -17,6 +17,7 @@ use Rattle.vaultc_core.specs.Emitted.{IsReplyToCompiled}
 use Rattle.vlt_numbers.specs.Given.Given.{Given, given_by}
 use Rattle.vaultc_core.specs.Runs.{IsReplyToProgram}
 use Rattle.vaultc_core.specs.CRuns.{IsReplyToC}
+use Rattle.vaultc_core.specs.Verifying.{IsReplyToVerify}
 
 -- ---- a tree, with the text that it stands in
 
@@ -43,12 +44,13 @@ IsReplyToTree (check file) text t r = IsReplyToCheck text t r
 IsReplyToTree (explain file) text t r = IsReplyToExplain text t r
 IsReplyToTree (fmt file) text t r = r ≡ reply DONE (layout t)
 IsReplyToTree (emit file) text t r = IsReplyToEmit text t r
+IsReplyToTree (verify file) text t r = ⊥
 IsReplyToTree (run file taken) text t r = ⊥
 IsReplyToTree (crun file taken) text t r = ⊥
 
 -- ---- bytes
 
--- every command but `crun` says the same of bytes that are refused; P has the replies to their tree
+-- every command on a text of the language says the same of bytes that are refused; P has the replies to their tree
 abbrev pub IsReplyByTree : (P : Tree → Reply → Type 0) → List ℕ → Reply → Type 0
 IsReplyByTree P bytes r =
     ((e : Refusal) × AreRefused bytes e × (r ≡ refusal_reply bytes e)) ⊎ ((t : Tree) × IsTextOf t bytes × P t r)
@@ -65,6 +67,7 @@ bytes_at contents n = slice_index_or contents n []
 
 -- what a command replies to the bytes of its files
 abbrev pub IsReplyToContents : Command → List (List ℕ) → Reply → Type 0
+IsReplyToContents (verify file) contents r = IsReplyToVerify (bytes_at contents 0) r
 IsReplyToContents (run file taken) contents r =
     IsReplyToRunText (bytes_at contents 0) (given_by (bytes_at contents 1) (bytes_at contents 2)) taken.budgets r
 IsReplyToContents (crun file taken) contents r =

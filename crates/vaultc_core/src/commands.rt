@@ -24,6 +24,7 @@ use crate::reply::Reply;
 use crate::runs::run_program;
 use crate::source::read_tree;
 use crate::status::{NO_COMMAND, NO_MEMORY};
+use crate::verify::verified;
 use crate::words::{Command, Taken, TextCommand, read_command};
 use crate::write::{finish, finish_reply};
 use std::alloc::{AllocError, Global};
@@ -172,6 +173,23 @@ fn reply_to_file<S: Store, K: Sink>(
     }
 }
 
+/// Reads a C file, and verifies it.
+fn reply_to_verify<S: Store, K: Sink>(
+    alloc: Global,
+    name: &str,
+    store: &mut S,
+    out: &mut K,
+) -> u8
+    ensures { Finishes K.Sink
+        (MayReply S.Store store.old store.new (Some (c.verify name.now)))
+        out.old out.new result }
+{
+    match read_file(alloc, store, name, C_BYTES) {
+        Ok(bytes) => finish_reply(out, verified(alloc, bytes.as_slice())),
+        Err(error) => finish_reply(out, not_had(alloc, error)),
+    }
+}
+
 /// Reads the files of a run, and runs the program of the text.
 fn reply_to_run<S: Store, K: Sink>(
     alloc: Global,
@@ -221,6 +239,7 @@ fn reply_to_command<S: Store, K: Sink>(
 {
     match command {
         Command::Text(command, name) => reply_to_file(alloc, command, name, store, out),
+        Command::Verify(name) => reply_to_verify(alloc, name, store, out),
         Command::Run(name, taken) => reply_to_run(alloc, name, taken, store, out),
         Command::C(name, taken) => reply_to_c(alloc, name, taken, store, out),
     }

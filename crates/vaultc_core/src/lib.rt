@@ -14,10 +14,11 @@ ghost use Rattle.vaultc_core.specs.declared.status.TheConstants.{DONE, NO_COMMAN
 ghost use Rattle.vaultc_core.specs.Texts.{AreReadInOneWay};
 ghost use Rattle.vaultc_core.specs.Programs.{IsProgramOf};
 ghost use Rattle.vaultc_core.specs.Replies.{HasOneReply, HasSomeReply, IsReplyTo, IsInside, IsUnread, MayReply};
-ghost use Rattle.vaultc_core.specs.Sources.{IsOneRead, text_in};
+ghost use Rattle.vaultc_core.specs.Sources.{IsOneRead, c_text_in, text_in};
 ghost use Rattle.vaultc_core.specs.Finishes.{Finishes, WrotePart, WroteReply};
 ghost use Rattle.vaultc_core.specs.Promised.{IsPromised};
 ghost use Rattle.vaultc_core.specs.Compiled.{IsCompiled};
+ghost use Rattle.vaultc_core.specs.Verified.{IsVerified};
 
 mod c_runs;
 mod commands;
@@ -29,6 +30,7 @@ mod reply;
 mod runs;
 mod source;
 pub mod status;
+mod verify;
 mod words;
 mod write;
 
@@ -38,6 +40,8 @@ use c_reader_laws::texts_are_read_in_one_way;
 use cert_emit::least_certificates_verify;
 use cert_least_laws::least_certificates_are_one;
 use cert_least_texts::accepted_texts_have_one;
+use cert_verify::{files_verify_in_one_way, files_verify_in_some_way};
+use cert_verify_laws::verified_files_keep_promises;
 use std::alloc::Global;
 use vlt_check_laws::first_fault_has_witness;
 use vlt_io::{Sink, Store};
@@ -67,6 +71,11 @@ pub fn vaultc<S: Store, K: Sink>(alloc: Global, words: &[String], store: &mut S,
         command_of (map string_bytes words.now) ≡ Some (commands.emit file) → result ≡ DONE →
         (bytes : List ℕ) × IsOneRead S.Store store.old store.new (text_in file) bytes
         × IsCompiled (S.files store.old) file bytes (K.written out.old) (K.written out.new) }
+    // `verify` gives 0 only for bytes of a C file whose certificate says such a program, of which its C text is the lowering.
+    ensures verified { (file : List ℕ) →
+        command_of (map string_bytes words.now) ≡ Some (commands.verify file) → result ≡ DONE →
+        (bytes : List ℕ) × IsOneRead S.Store store.old store.new (c_text_in file) bytes
+        × IsVerified (S.files store.old) file bytes (K.written out.old) (K.written out.new) }
     // With the file there, its bytes those of an accepted program, and no fault, `check` gives 0 unless memory is wanting.
     ensures accepts { (files : Files) (file bytes : List ℕ) (p : Program) →
         S.files store.old ≡ Some files →
@@ -115,6 +124,8 @@ pub fn vaultc<S: Store, K: Sink>(alloc: Global, words: &[String], store: &mut S,
     accepted_texts_are_read_again();
     least_certificates_are_one();
     least_certificates_verify();
+    files_verify_in_one_way();
+    verified_files_keep_promises();
     commands::carry_out(alloc, words, store, out)
 }
 
@@ -126,6 +137,7 @@ pub fn a_command_has_one_reply()
     texts_have_text_trees();
     texts_are_read_in_one_way();
     least_certificates_are_one();
+    files_verify_in_one_way();
 }
 
 /// It can't be that a command has no reply to what it read.
@@ -139,6 +151,7 @@ pub fn a_command_has_some_reply()
     texts_have_text_trees();
     texts_are_read_in_one_way();
     accepted_texts_have_one();
+    files_verify_in_some_way();
 }
 
 /// All bytes are a text of one tree, or they are refused for one reason.

@@ -36,5 +36,8 @@ pub const OUT_OF_BUDGET: u8 = 10;
 /// The run wanted a number or an answer that there was none of, or an answer was none that may be.
 pub const OUT_OF_NUMBERS: u8 = 11;
 
+/// A part of the verification of a C file fails.
+pub const REFUSED: u8 = 12;
+
 /// The run of a C text has no meaning from some statement on.
 pub const UNDEFINED: u8 = 13;

@@ -40,6 +40,8 @@ pub enum TextCommand {
 #[derive(Clone, Copy, Debug)]
 pub enum Command<'a> {
     Text(TextCommand, &'a str),
+    /// Verifies a C file.
+    Verify(&'a str),
     /// Runs the program of a text.
     Run(&'a str, Taken<'a>),
     /// Runs a C text.
@@ -214,7 +216,19 @@ fn read_settings(words: &[String]) -> Option<Settings<'_>>
 }
 
 /// A command that takes no options.
-fn without_options<'a>(
+fn without_options<'a>(command: Command<'a>, options: &[String]) -> Option<Command<'a>>
+    ensures { option_map seen_command result
+        ≡ without_options (seen_command command.entry) (map string_bytes options.now) }
+{
+    if options.is_empty() {
+        Some(command)
+    } else {
+        None
+    }
+}
+
+/// A command on a text alone, which takes no options.
+fn text_command<'a>(
     command: TextCommand,
     file: &'a str,
     options: &[String],
@@ -222,11 +236,7 @@ fn without_options<'a>(
     ensures { option_map seen_command result
         ≡ without_options (seen_text command file.now) (map string_bytes options.now) }
 {
-    if options.is_empty() {
-        Some(Command::Text(command, file))
-    } else {
-        None
-    }
+    without_options(Command::Text(command, file), options)
 }
 
 /// The command that the words are, if they are one.
@@ -240,10 +250,11 @@ pub fn read_command(words: &[String]) -> Option<Command<'_>>
         return None;
     }
     match command.as_str() {
-        "check" => without_options(TextCommand::Check, file.as_str(), options),
-        "explain" => without_options(TextCommand::Explain, file.as_str(), options),
-        "fmt" => without_options(TextCommand::Fmt, file.as_str(), options),
-        "emit" => without_options(TextCommand::Emit, file.as_str(), options),
+        "check" => text_command(TextCommand::Check, file.as_str(), options),
+        "explain" => text_command(TextCommand::Explain, file.as_str(), options),
+        "fmt" => text_command(TextCommand::Fmt, file.as_str(), options),
+        "emit" => text_command(TextCommand::Emit, file.as_str(), options),
+        "verify" => without_options(Command::Verify(file.as_str()), options),
         "run" => {
             let settings = read_settings(options)?;
             Some(Command::Run(file.as_str(), settings.taken()))

@@ -3,6 +3,7 @@ use Rattle.std.specs.Prelude.{string_bytes}
 use Rattle.vaultc_core.specs.Commands.{command_of}
 use Rattle.vaultc_core.proofs.Promises.{GoRight, promised, accepts}
 use Rattle.vaultc_core.proofs.Compiles.{Laws, compiled}
+use Rattle.vaultc_core.proofs.Verifies.{verified}
 use Rattle.vaultc_core.proofs.Told.{told, memory, complete, no_fault, usage, unread_told}
 use Rattle.vaultc_core.proofs.vaultc.Goals as goal
 
@@ -12,7 +13,7 @@ returns-clause-told g c = λ files.
 
 pub returns-clause-complete : goal.returns-clause-complete
 returns-clause-complete g c = λ files r.
-    complete (record { one = c.a_tree_has_one_verdict.ensures; trees = c.texts_have_text_trees.ensures; c_texts = c.texts_are_read_in_one_way.ensures; certificates = c.least_certificates_are_one.ensures }) g.S.Store g.K.Sink c.args.store.now c.carry_out.new.store c.args.out.now c.carry_out.new.out (command_of (map string_bytes c.args.words.now)) c.carry_out.result files r c.carry_out.ensures.finishes
+    complete (record { one = c.a_tree_has_one_verdict.ensures; trees = c.texts_have_text_trees.ensures; c_texts = c.texts_are_read_in_one_way.ensures; certificates = c.least_certificates_are_one.ensures; verified = c.files_verify_in_one_way.ensures }) g.S.Store g.K.Sink c.args.store.now c.carry_out.new.store c.args.out.now c.carry_out.new.out (command_of (map string_bytes c.args.words.now)) c.carry_out.result files r c.carry_out.ensures.finishes
 
 pub returns-clause-memory : goal.returns-clause-memory
 returns-clause-memory g c = λ files.
@@ -40,9 +41,14 @@ returns-clause-compiled g c =
     compiled laws g.S.Store g.K.Sink c.args.store.now c.carry_out.new.store c.args.out.now c.carry_out.new.out
     (command_of (map string_bytes c.args.words.now)) c.carry_out.result c.carry_out.ensures.finishes
 
+pub returns-clause-verified : goal.returns-clause-verified
+returns-clause-verified g c =
+    verified c.verified_files_keep_promises.ensures g.S.Store g.K.Sink c.args.store.now c.carry_out.new.store c.args.out.now c.carry_out.new.out
+    (command_of (map string_bytes c.args.words.now)) c.carry_out.result c.carry_out.ensures.finishes
+
 pub returns-clause-accepts : goal.returns-clause-accepts
 returns-clause-accepts g c =
-    accepts (record { one = c.a_tree_has_one_verdict.ensures; trees = c.texts_have_text_trees.ensures; c_texts = c.texts_are_read_in_one_way.ensures; certificates = c.least_certificates_are_one.ensures }) g.S.Store g.K.Sink c.args.store.now c.carry_out.new.store c.args.out.now c.carry_out.new.out
+    accepts (record { one = c.a_tree_has_one_verdict.ensures; trees = c.texts_have_text_trees.ensures; c_texts = c.texts_are_read_in_one_way.ensures; certificates = c.least_certificates_are_one.ensures; verified = c.files_verify_in_one_way.ensures }) g.S.Store g.K.Sink c.args.store.now c.carry_out.new.store c.args.out.now c.carry_out.new.out
     (command_of (map string_bytes c.args.words.now)) c.carry_out.result c.carry_out.ensures.finishes
 
 pub returns-clause-no_fault : goal.returns-clause-no_fault

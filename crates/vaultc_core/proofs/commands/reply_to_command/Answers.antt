@@ -9,6 +9,11 @@ returns-in-Text g c =
     subst (λ k. Finishes g.K.Sink (MayReply g.S.Store c.args.store.now c.reply_to_file.new.store (Some (seen_command k))) c.args.out.now c.reply_to_file.new.out c.reply_to_file.result)
     (sym c.in-Text.is) c.reply_to_file.ensures
 
+pub returns-in-Verify : goal.returns-in-Verify
+returns-in-Verify g c =
+    subst (λ k. Finishes g.K.Sink (MayReply g.S.Store c.args.store.now c.reply_to_verify.new.store (Some (seen_command k))) c.args.out.now c.reply_to_verify.new.out c.reply_to_verify.result)
+    (sym c.in-Verify.is) c.reply_to_verify.ensures
+
 pub returns-in-Run : goal.returns-in-Run
 returns-in-Run g c =
     subst (λ k. Finishes g.K.Sink (MayReply g.S.Store c.args.store.now c.reply_to_run.new.store (Some (seen_command k))) c.args.out.now c.reply_to_run.new.out c.reply_to_run.result)

@@ -1,0 +1,26 @@
+use Rattle.std.proofs.Common.{[], ◌∷◌, Some, subst}
+use Rattle.std.specs.Prelude.{MatchOption}
+use Rattle.vaultc_core.specs.Commands.{verify}
+use Rattle.vaultc_core.specs.Replies.{IsReplyOver, MayReply}
+use Rattle.vaultc_core.specs.Shown.{IsReplyOf, error_seen}
+use Rattle.vaultc_core.specs.Sources.{had}
+use Rattle.vaultc_core.specs.Verifying.{IsReplyToVerify}
+use Rattle.vaultc_core.proofs.Finished.{finishes_as, reply_is}
+use Rattle.vaultc_core.proofs.Replied.{error_reply}
+use Rattle.vaultc_core.proofs.commands.reply_to_verify.Goals as goal
+
+pub returns-in-Ok : goal.returns-in-Ok
+returns-in-Ok g c =
+    let bytes = c.in-Ok.bytes.items in
+    let command = verify c.args.name.now in
+    finishes_as g.K.Sink (IsReplyOf c.verified.result) (MayReply g.S.Store c.args.store.now c.read_file.new.store (Some command)) c.args.out.now c.finish_reply.new.out c.finish_reply.result
+    (λ r is. (had (bytes ∷ []), c.in-Ok.ensures.read,
+    subst (λ l. IsReplyToVerify l r) c.as_slice.ensures.value (reply_is (IsReplyToVerify c.as_slice.result.now) c.verified.result r c.verified.ensures is))) c.finish_reply.ensures
+
+pub returns-in-Err : goal.returns-in-Err
+returns-in-Err g c =
+    let command = verify c.args.name.now in
+    let e = c.in-Err.error in
+    finishes_as g.K.Sink (IsReplyOf c.not_had.result) (MayReply g.S.Store c.args.store.now c.read_file.new.store (Some command)) c.args.out.now c.finish_reply-in-Err.new.out c.finish_reply-in-Err.result
+    (λ r is. error_reply g.S.Store c.args.store.now c.read_file.new.store command e r c.in-Err.ensures.read
+    (reply_is (λ q. MatchOption (error_seen e) ⊥ (λ x. IsReplyOver (λ _ _. ⊥) x q)) c.not_had.result r c.not_had.ensures is)) c.finish_reply-in-Err.ensures
