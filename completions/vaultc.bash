@@ -3,7 +3,7 @@ _vaultc() {
     local word=${COMP_WORDS[COMP_CWORD]} before=${COMP_WORDS[COMP_CWORD - 1]} command=${COMP_WORDS[1]}
     COMPREPLY=()
     if [ "$COMP_CWORD" -eq 1 ]; then
-        mapfile -t COMPREPLY < <(compgen -W "check explain fmt run emit crun" -- "$word")
+        mapfile -t COMPREPLY < <(compgen -W "check explain fmt run emit verify crun" -- "$word")
         return
     fi
     case $before in
@@ -17,7 +17,7 @@ _vaultc() {
         return
     fi
     local ending=v
-    [ "$command" = crun ] && ending=c
+    case $command in verify | crun) ending=c ;; esac
     compopt -o filenames
     mapfile -t COMPREPLY < <(compgen -f -X "!*.$ending" -- "$word"; compgen -d -- "$word")
 }
