@@ -10,3 +10,8 @@ pub unreachable-requires : goal.unreachable-requires
 unreachable-requires c =
     not_refused (program_of c.args.program.now) c.requires
     (c.certificate_text.ensures.refused.holds (c.in-Err-Refused.is ∙ ap (λ x. Err x) c.in-Err-Refused.field-0-is))
+
+pub unreachable-requires-in-Err-Name : goal.unreachable-requires-in-Err-Name
+unreachable-requires-in-Err-Name c =
+    c.certificate_text.ensures.name.holds (c.in-Err-Name.is ∙ ap (λ x. Err x) c.in-Err-Name.field-0-is)
+    (c.texts_have_text_names.ensures c.requires.bytes (program_of c.args.program.now) c.requires.text)
