@@ -18,6 +18,9 @@ verified_line p = codes "verified " ++ decimal (body_count p) ++ codes "\n"
 abbrev pub refused_reply : (part : List ℕ) → Reply
 refused_reply part = reply REFUSED (codes "refused " ++ part ++ codes "\n")
 
+abbrev pub refused_at_reply : (part : List ℕ) → (statement : ℕ) → Reply
+refused_at_reply part n = refused_reply (part ++ codes " statement " ++ decimal n)
+
 -- A C text over a limit is refused by that limit, as in a run. Out of memory refuses none.
 abbrev pub unread_reply : CError → Reply
 unread_reply (error.Limit n) = over_reply n
@@ -31,8 +34,8 @@ abbrev pub unverified_reply : Refusal → Reply
 unverified_reply (unread e) = unread_reply e
 unverified_reply no_certificate = refused_reply (codes "2")
 unverified_reply (kind rule) = refused_reply (codes "3 rule " ++ decimal rule)
-unverified_reply (local first) = refused_reply (codes "4 statement " ++ decimal first.statement)
-unverified_reply (not_lowered n) = refused_reply (codes "5 statement " ++ decimal n)
+unverified_reply (local first) = refused_at_reply (codes "4") first.statement
+unverified_reply (not_lowered n) = refused_at_reply (codes "5") n
 
 abbrev pub IsReplyToVerify : (text : List ℕ) → Reply → Type 0
 IsReplyToVerify text r =

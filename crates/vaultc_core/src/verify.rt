@@ -3,7 +3,7 @@
 ghost use Rattle.std.specs.Prelude.{◌≡◌, ◌<◌, ◌-◌, ◌^◌, ◌++◌, Some, length, codes, IfOk, IfSome, option_map};
 ghost use Rattle.cert_verify.specs.Outcomes.{refusal_of};
 ghost use Rattle.cert_verify.specs.Refusals.{IsRefusal};
-ghost use Rattle.vaultc_core.specs.Verifying.{refused_reply, unverified_reply, IsReplyToVerify};
+ghost use Rattle.vaultc_core.specs.Verifying.{refused_reply, refused_at_reply, unverified_reply, IsReplyToVerify};
 ghost use Rattle.vaultc_core.specs.Shown.{shown_reply};
 
 use crate::lines::over_limit;
@@ -24,9 +24,11 @@ fn refused(alloc: Global, part: &str) -> Result<Reply, AllocError>
 }
 
 /// A part fails at the statement of a number.
-fn refused_at(alloc: Global, part: &str, statement: u64) -> Result<Reply, AllocError> {
-    let what = format!(in alloc; "{part} statement {statement}")?;
-    refused(alloc, what.as_str())
+fn refused_at(alloc: Global, part: &str, statement: u64) -> Result<Reply, AllocError>
+    ensures { IfOk result (λ r. shown_reply r ≡ refused_at_reply part.now statement) }
+{
+    let part = format!(in alloc; "{part} statement {statement}")?;
+    refused(alloc, part.as_str())
 }
 
 /// A C file doesn't verify, for this reason.
@@ -43,7 +45,7 @@ fn refusal(alloc: Global, text: &[u8], error: VerifyError) -> Result<Reply, Allo
             let part = format!(in alloc; "3 rule {rule}")?;
             refused(alloc, part.as_str())
         }
-        VerifyError::Local(first) => refused_at(alloc, "4", first.statement),
+        VerifyError::Local(first) => refused_at(alloc, "4", first.statement as u64),
         VerifyError::NotLowered { statement } => refused_at(alloc, "5", statement),
         VerifyError::Memory => Err(AllocError),
     }
