@@ -19,7 +19,7 @@ use Rattle.cert_format_laws.proofs.Deciding.{fault_none, certified}
 use Rattle.cert_format_laws.proofs.Folded as folded
 use Rattle.cert_format_laws.proofs.Folded.{sets_of, types_of, fns_of, all_of, few}
 use Rattle.cert_read.specs.Declarations.{notes_of_all, values_at, AreRead}
-use Rattle.cert_read.specs.Certificates.{IsReadAs, Is, IsParsed, IsPlainJson, IsCertificateWith}
+use Rattle.cert_read.specs.Certificates.{IsOfVersion, IsReadAs, Is, IsParsed, IsPlainJson, IsCertificateWith}
 use Rattle.cert_read.specs.declared.declarations.Declarations.{Declarations}
 use Rattle.cert_read.specs.declared.read.Certificate.{Certificate}
 use Rattle.cert_read.specs.declared.error.ReadError.{ReadError}
@@ -28,7 +28,7 @@ use Rattle.cert_read.specs.declared.error.ReadError.TheVariants.{Memory, NotJson
 -- ---- one reading
 
 pub is_only : (text : List ℕ) (r : Result Certificate ReadError) → IsReadAs text r → (x : Reading) → IsReading text x → Is r x
-is_only text (Ok c) h x i = one_reading text (certificate (program_of c.program) (notes_of_all c.notes)) x h i
+is_only text (Ok c) h x i = one_reading text (certificate (program_of c.program) (notes_of_all c.notes)) x h.0 i
 is_only text (Err NotJson) h x i = one_reading text not_json x h i
 is_only text (Err (Form n)) h x i = one_reading text (not_of_its_form n) x h i
 is_only text (Err Memory) h x i = tt
@@ -58,7 +58,7 @@ module _ (o : Bool) (rows : List Value) (d : Declarations) (fault : Option ℕ) 
         let l = lengths_mapped func_of d.fns in
         omega (arith, h, k, l)
 
-    program_is : (c : Certificate) → IsCertificateWith d c → program_of c.program ≡ folded.program_of r.read
+    program_is : (c : Certificate) → IsCertificateWith o d c → program_of c.program ≡ folded.program_of r.read
     program_is c x =
         ap (λ z. record (program_of c.program) { sets = map set_of z }) x.sets
         ∙ ap (λ z. record (program_of c.program) { sets = map set_of d.tables.sets; types = map type_of z }) x.types
@@ -95,10 +95,13 @@ module _ (o : Bool) (rows : List Value) (d : Declarations) (fault : Option ℕ) 
         })
         (faultless e).1 (faultless e).0
 
-    pub at_none : fault ≡ None → (c : Certificate) → IsCertificateWith d c → IsCertificateOf text (program_of c.program) (notes_of_all c.notes)
+    of_version : (c : Certificate) → IsCertificateWith o d c → IsOfVersion text c.ordered
+    of_version c x = record { rows = map view rows; json = j.json; names = names ∙ ap (λ v. Some v) (sym x.version) }
+
+    pub at_none : fault ≡ None → (c : Certificate) → IsCertificateWith o d c → IsReadAs text (Ok c)
     at_none e c x =
-        subst (λ p. IsCertificateOf text p (notes_of_all c.notes)) (sym (program_is e c x))
-        (subst (IsCertificateOf text (folded.program_of r.read)) (sym (ap notes_of_all x.notes ∙ (r.right e).notes)) (said e))
+        (subst (λ p. IsCertificateOf text p (notes_of_all c.notes)) (sym (program_is e c x))
+        (subst (IsCertificateOf text (folded.program_of r.read)) (sym (ap notes_of_all x.notes ∙ (r.right e).notes)) (said e)), of_version c x)
 
 -- ---- values and texts
 

@@ -28,6 +28,8 @@ use vlt_core::{Func, Program};
 pub struct Certificate {
     pub program: Program,
     pub notes: Items<Items<MapsNote>>,
+    /// Whether its first row names version 2, in which sets may have links and entries be bound.
+    pub ordered: bool,
 }
 
 fn parse(alloc: Global, text: &str) -> Result<Value, ReadError>
@@ -82,9 +84,9 @@ fn main_of(fns: &[Func]) -> u32
     n
 }
 
-fn certificate_of(read: Declarations) -> Certificate
+fn certificate_of(ordered: bool, read: Declarations) -> Certificate
     requires { length read.fns ≤ 4294967295 }
-    ensures { IsCertificateWith read result }
+    ensures { IsCertificateWith ordered read result }
 {
     let main = main_of(read.fns.as_slice());
     let tables = read.tables;
@@ -96,6 +98,7 @@ fn certificate_of(read: Declarations) -> Certificate
             main: FnId(main),
         },
         notes: read.notes,
+        ordered,
     }
 }
 
@@ -109,7 +112,7 @@ fn from_rows(alloc: Global, rows: &[Value]) -> Result<Certificate, ReadError>
     let (read, fault) = read_declarations(alloc, ordered, rows)?;
     match fault {
         Some(row) => Err(ReadError::Form(row)),
-        None => Ok(certificate_of(read)),
+        None => Ok(certificate_of(ordered, read)),
     }
 }
 

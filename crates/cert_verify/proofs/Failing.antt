@@ -1,0 +1,147 @@
+-- What a part gives, and what it refuses where it fails.
+use Rattle.std.proofs.Common.{◌≡◌, ◌≤◌, ◌<◌, ◌+◌, ◌^◌, refl, sym, ap, ◌∙◌, ℕ, nat_le, nat_lt, ◌&&◌, ◌||◌, Bool, true, false, if◌then◌else◌, List, [], ◌∷◌, length, Option, Some, None, Result, Ok, Err, arith}
+use Rattle.std.specs.List.{list_any}
+use Rattle.std.proofs.lemmas.Bool.Decides.{nat_tests}
+use Rattle.vlt_base.specs.declared.places.Span.{Span}
+use Rattle.vlt_core.specs.Core.{Ty, int, bool, tracked, owning, guarded, variant, owning_variant, Func, Program}
+use Rattle.vlt_core.specs.Kinded.{IsKinded}
+use Rattle.vlt_core.specs.Lookups.{cases_of}
+use Rattle.vlt_core.specs.View.{program_of}
+use Rattle.vlt_core_laws.proofs.Unbroken.{some_same, some_not_none}
+use Rattle.c_syntax.specs.C as c
+use Rattle.c_syntax.specs.Text.{before_mark}
+use Rattle.c_syntax.specs.Reading.{cert_of, IsCProgramOf}
+use Rattle.c_reader.specs.Reads as c_reads
+use Rattle.c_reader.specs.declared.error.CError.{CError}
+use Rattle.c_reader.specs.declared.error.CError.TheVariants as c_error
+use Rattle.c_lower_glue.specs.ManyCases.{has_many_cases, gives_many_cases}
+use Rattle.c_match.specs.Refusals as match_refusals
+use Rattle.c_match.specs.declared.error.MatchError.{MatchError}
+use Rattle.c_match.specs.declared.error.MatchError.TheVariants as match_error
+use Rattle.cert_format.specs.Notes.{Note}
+use Rattle.cert_fit_laws.specs.Annotation.{IsLocalCertificate, IsVerified}
+use Rattle.cert_fit_laws.specs.Formed.{IsFormed}
+use Rattle.cert_fit_laws.specs.Programs.{CertificatesAreFormed}
+use Rattle.cert_read.specs.Certificates as read
+use Rattle.cert_read.specs.Declarations.{notes_of_all}
+use Rattle.cert_read.specs.declared.read.Certificate.{Certificate}
+use Rattle.cert_read.specs.declared.error.ReadError.{ReadError}
+use Rattle.cert_read.specs.declared.error.ReadError.TheVariants as read_error
+use Rattle.cert_kinds.specs.Outcomes as kinds
+use Rattle.cert_kinds.specs.declared.whole.KindedError.{KindedError}
+use Rattle.cert_kinds.specs.declared.whole.KindedError.TheVariants as kinded_error
+use Rattle.cert_check.specs.Whole.{IfRefused, IsFirstRefusal}
+use Rattle.cert_check.specs.declared.whole.LocalError.{LocalError}
+use Rattle.cert_check.specs.declared.whole.LocalError.TheVariants as local_error
+use Rattle.cert_verify.specs.Verified.{certificate_text, IsCertified}
+use Rattle.cert_verify.specs.Refusals.{IsNoCertificate, not_json, not_of_its_form, second_version, no_certificate_there}
+use Rattle.cert_verify.specs.Outcomes.{IsRefusedAs}
+use Rattle.cert_verify.specs.Parts.{of_c, of_read, of_kinded, of_local, of_match, IsOfFirstVersion, IsCertificateIn}
+use Rattle.cert_verify.specs.declared.error.VerifyError.{VerifyError}
+use Rattle.cert_verify.specs.declared.error.VerifyError.TheVariants as error
+use Rattle.cert_verify.proofs.Version.{version_is}
+
+-- ---- the C text
+
+pub unread_as : (text : List ℕ) (e : CError) → c_reads.IsReadAs text (Err e) → IsRefusedAs text (of_c e)
+unread_as text c_error.Memory is = tt
+unread_as text (c_error.Unexpected at) is = is
+unread_as text c_error.EndOfText is = is
+unread_as text (c_error.Kind rule at) is = is
+unread_as text (c_error.Limit n) is = is
+
+marked_by : (b : Bool) (m n : ℕ) (cert : Span) → nat_lt m n ≡ b →
+    Some cert ≡ (let o : Option Span = if b then Some (record { from = m; to = n }) else None in o) → cert.from ≤ n
+marked_by true m n cert lt e =
+    let from : cert.from ≡ m = ap (λ s. s.from) (some_same cert (record { from = m; to = n }) e) in
+    grind (arith, nat_tests, lt, from)
+marked_by false m n cert lt e = absurd (some_not_none cert e)
+
+-- the mark is in the text
+pub marked_within : (text : List ℕ) (x : c.Program) (cert : Span) → IsCProgramOf text x (Some cert) → cert.from ≤ length text
+marked_within text x cert is =
+    marked_by (nat_lt (length (before_mark text)) (length text)) (length (before_mark text)) (length text) cert refl is.span
+
+-- ---- the certificate
+
+pub unread_certificate : (text : List ℕ) (e : ReadError) → read.IsReadAs text (Err e) → IsCertificateIn text (Err (of_read e))
+unread_certificate text read_error.Memory is = tt
+unread_certificate text read_error.NotJson is = not_json is
+unread_certificate text (read_error.Form n) is = not_of_its_form n is
+
+module _ (text : List ℕ) (x : Certificate) (is : read.IsReadAs text (Ok x)) where
+  version : is.0.ordered ≡ x.ordered
+  version = version_is text x.ordered (program_of x.program) (notes_of_all x.notes) is.0 is.1
+
+  pub of_second : x.ordered ≡ true → IsNoCertificate text
+  of_second e = second_version (program_of x.program) (notes_of_all x.notes) is.0 (version ∙ e)
+
+  pub of_first : x.ordered ≡ false → IsOfFirstVersion text x
+  of_first e = record { is = is.0; first = version ∙ e }
+
+module _ (text : List ℕ) (x : c.Program) (cert : Span) (reads : IsCProgramOf text x (Some cert)) where
+  pub uncertified_as : (e : VerifyError) → IsCertificateIn (certificate_text text cert) (Err e) → IsRefusedAs text e
+  uncertified_as error.Certificate is = no_certificate_there x cert reads is
+  uncertified_as error.Memory is = tt
+  uncertified_as (error.C e) is = absurd is
+  uncertified_as (error.Kind rule) is = absurd is
+  uncertified_as (error.Local first) is = absurd is
+  uncertified_as error.NotLowered is = absurd is
+
+  pub certified : (y : Certificate) → IsOfFirstVersion (certificate_text text cert) y → IsCertified text x (program_of y.program) (notes_of_all y.notes)
+  certified y is = record { cert = cert; reads = reads; certificate = is.is; first_version = is.first }
+
+-- ---- programs of certificates
+
+not_many : (n : ℕ) → n ≤ 32 → nat_le 64 n ≡ false
+not_many n few = grind (arith, nat_tests, few)
+
+few_given : (p : Program) → ((n : ℕ) → length (cases_of p n) ≤ 32) → (ty : Option Ty) → has_many_cases p ty ≡ false
+few_given p few None = refl
+few_given p few (Some int) = refl
+few_given p few (Some bool) = refl
+few_given p few (Some (tracked k t args)) = refl
+few_given p few (Some (owning states t args)) = refl
+few_given p few (Some (guarded k t args)) = refl
+few_given p few (Some (variant t args)) = not_many (length (cases_of p t)) (few t)
+few_given p few (Some (owning_variant t args)) = not_many (length (cases_of p t)) (few t)
+
+none_gives : (p : Program) → ((n : ℕ) → length (cases_of p n) ≤ 32) → (fs : List Func) →
+    list_any (λ f. f.external && has_many_cases p f.result) fs ≡ false
+none_gives p few [] = refl
+none_gives p few (f ∷ fs) =
+    ap (λ b. (f.external && b) || list_any (λ f. f.external && has_many_cases p f.result) fs) (few_given p few f.result)
+    ∙ neither f.external (none_gives p few fs)
+  where
+    neither : {b : Bool} (a : Bool) → b ≡ false → ((a && false) || b) ≡ false
+    neither true e = e
+    neither false e = e
+
+module _ (text : List ℕ) (x : c.Program) (p : Program) (all : List (List Note)) (is : IsCertified text x p all) where
+  pub few_types : length p.types ≤ 2 ^ 32
+  few_types = let h = is.certificate.fits.few in omega (arith, h)
+
+  pub few_functions : length p.fns ≤ 4294967295
+  few_functions = let h = is.certificate.fits.few in omega (arith, h)
+
+  pub few_cases : CertificatesAreFormed → gives_many_cases p ≡ false
+  few_cases formed = none_gives p (formed is.certificate.ordered p all is.certificate.fits).few_cases p.fns
+
+  -- ---- the other parts
+
+  pub unkinded_as : (e : KindedError) → kinds.IsAnswered p (Err e) → IsRefusedAs text (of_kinded e)
+  unkinded_as (kinded_error.Broken row rule) h =
+      record { x = x; p = p; all = all; certified = is; row = h.number; breaks = h.breaks }
+  unkinded_as kinded_error.Memory h = tt
+
+  module _ (kinded : IsKinded p) where
+    pub not_local_as : (e : LocalError) → (let r : Result (Unit {0}) LocalError = Err e in IfRefused r (IsFirstRefusal p all)) → IsRefusedAs text (of_local e)
+    not_local_as (local_error.Refused first) h =
+        record { x = x; p = p; all = all; certified = is; kinded = kinded; refused = h.holds first refl }
+    not_local_as local_error.Unfit h = tt
+    not_local_as local_error.Memory h = tt
+
+    pub not_lowered_as : IsLocalCertificate p all → (e : MatchError) → match_refusals.Refuses p x e → IsRefusedAs text (of_match e)
+    not_lowered_as local match_error.Differs h =
+        record { x = x; p = p; all = all; certified = is; verified = record { kinded = kinded; local = local }; apart = h }
+    not_lowered_as local match_error.Memory h = tt

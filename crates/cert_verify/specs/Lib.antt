@@ -1,0 +1,5 @@
+pub mod Verified
+pub mod Refusals
+pub mod Outcomes
+pub mod Parts
+pub mod Laws

@@ -1,0 +1,49 @@
+//! A C file: its C program, and the program and the notes of its certificate.
+
+ghost use Rattle.std.specs.Prelude.{◌<◌, ◌-◌, ◌^◌, length};
+ghost use Rattle.cert_verify.specs.Parts.{IsCertificateIn, IsOpened};
+
+use crate::error::VerifyError;
+use c_reader::{CFile, read_c};
+use c_syntax::CProgram;
+use cert_read::{Certificate, from_text};
+use cert_read_bodies::MapsNote;
+use std::alloc::Global;
+use vlt_base::Items;
+use vlt_core::Program;
+
+/// The C program of a file, and what its certificate says.
+#[derive(Drop)]
+pub struct CertifiedFile {
+    pub c: CProgram,
+    pub program: Program,
+    pub notes: Items<Items<MapsNote>>,
+}
+
+/// Reads the text of a certificate of version 1.
+fn first_version(alloc: Global, text: &[u8]) -> Result<Certificate, VerifyError>
+    ensures { IsCertificateIn text.now result }
+{
+    let certificate = from_text(alloc, text)?;
+    if certificate.ordered {
+        return Err(VerifyError::Certificate);
+    }
+    Ok(certificate)
+}
+
+/// Reads a C text and its certificate.
+pub fn certified_file(alloc: Global, text: &[u8]) -> Result<CertifiedFile, VerifyError>
+    requires { length text.now < 2 ^ 32 - 1 }
+    ensures { IsOpened text.now result }
+{
+    let file = read_c(alloc, text)?;
+    let Some(span) = file.cert else {
+        return Err(VerifyError::Certificate);
+    };
+    let certificate = first_version(alloc, &text[span.from as usize..])?;
+    Ok(CertifiedFile {
+        c: file.program,
+        program: certificate.program,
+        notes: certificate.notes,
+    })
+}

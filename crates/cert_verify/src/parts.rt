@@ -1,0 +1,41 @@
+//! The parts of the verification of a C file, in order.
+
+ghost use Rattle.std.specs.Prelude.{◌≡◌, ◌<◌, ◌≤◌, ◌-◌, ◌^◌, not, map, filter, length};
+ghost use Rattle.vlt_core.specs.View.{func_of};
+ghost use Rattle.cert_verify.specs.Outcomes.{IsAnswer};
+
+use crate::error::VerifyError;
+use crate::file::{CertifiedFile, certified_file};
+use c_match::matches;
+use cert_check::local;
+use cert_kinds::kinded;
+use std::alloc::Global;
+use vlt_core::Func;
+
+/// How many functions have a body.
+fn count_bodies(fns: &[Func]) -> u32
+    requires { length fns.now ≤ 4294967295 }
+    ensures { result ≡ length (filter (λ f. not f.external) (map func_of fns.now)) }
+{
+    let mut count = 0;
+    for f in fns {
+        if !f.external {
+            count += 1;
+        }
+    }
+    count
+}
+
+/// Verifies a C file part by part. What a part needs no more is dropped before the next.
+pub fn verify_parts(alloc: Global, text: &[u8]) -> Result<u32, VerifyError>
+    requires { length text.now < 2 ^ 32 - 1 }
+    ensures { IsAnswer text.now result }
+{
+    let file = certified_file(alloc, text)?;
+    let CertifiedFile { c, program, notes } = file;
+    kinded(alloc, &program)?;
+    local(alloc, &program, notes.as_slice())?;
+    drop(notes);
+    matches(alloc, &program, &c)?;
+    Ok(count_bodies(program.fns.as_slice()))
+}
