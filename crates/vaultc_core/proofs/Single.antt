@@ -23,7 +23,7 @@ use Rattle.cert_least_laws.specs.Laws.{LeastCertificatesAreOne}
 use Rattle.vaultc_core.specs.Runs.{IsReplyToRan, IsReplyOverNumbers, IsReplyToProgram}
 use Rattle.vaultc_core.specs.Replies.{IsReplyToVerdict, IsReplyToRun, IsReplyToTree, IsReplyToText, IsReplyToRunText, bytes_at, IsReplyToContents, IsReplyToRead, IsReplyToCommand, GoesOn, AreAlike}
 use Rattle.c_reader_laws.specs.Laws.{IsReadInOneWay}
-use Rattle.cert_verify.specs.Laws.{VerifiedInOneWay}
+use Rattle.cert_verify.specs.Laws.{VerifiesInOneWay}
 use Rattle.vaultc_core.proofs.CReplies.{one_c_reply}
 use Rattle.vaultc_core.proofs.Verifies.{one_verify_reply}
 use Rattle.vaultc_core.proofs.Read.{text_tree, one_text, refusals_alike, text_not_refused}
@@ -100,7 +100,7 @@ pub record Laws : Type 0 where
   pub trees : TextsHaveTextTrees
   pub c_texts : (text : List ℕ) → IsReadInOneWay text
   pub certificates : LeastCertificatesAreOne
-  pub verified : VerifiedInOneWay
+  pub verified : (text : List ℕ) → VerifiesInOneWay text
 
 module _ (laws : Laws) where
   one_of_tree : (command : Command) (contents : List (List ℕ)) (t : Tree) (r q : Reply) → IsTextOf t (bytes_at contents 0) → IsTextTree t →

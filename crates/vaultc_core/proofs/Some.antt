@@ -37,7 +37,7 @@ use Rattle.vaultc_core.specs.Emitted.{c_file, file_reply, IsReplyToCompiled}
 use Rattle.vaultc_core.specs.Replies.{IsReplyToCheck, IsReplyToExplain, IsReplyToEmit, IsReplyToVerdict, IsReplyToRun, IsReplyByTree, bytes_at, IsReplyToContents, HasSomeReply}
 use Rattle.c_reader_laws.specs.Laws.{IsReadInOneWay}
 use Rattle.vaultc_core.proofs.Compilable.{program_of_text}
-use Rattle.cert_verify.specs.Laws.{VerifiedInSomeWay}
+use Rattle.cert_verify.specs.Laws.{VerifiesInSomeWay}
 use Rattle.vaultc_core.proofs.CReplies.{over_or_not, some_c_reply}
 use Rattle.vaultc_core.proofs.Verifies.{some_verify_reply}
 use Rattle.vaultc_core.proofs.Read.{text_tree, read_in_one_way}
@@ -53,7 +53,7 @@ pub record Laws : Type 0 where
   pub never : OfAccepted NeverGoesWrong
   pub c_texts : (text : List ℕ) → IsReadInOneWay text
   pub certificates : AcceptedTextsHaveOne
-  pub verified : VerifiedInSomeWay
+  pub verified : (text : List ℕ) → VerifiesInSomeWay text
 
 -- ---- runs of programs that never go wrong
 

@@ -40,7 +40,7 @@ use c_reader_laws::texts_are_read_in_one_way;
 use cert_emit::least_certificates_verify;
 use cert_least_laws::least_certificates_are_one;
 use cert_least_texts::accepted_texts_have_one;
-use cert_verify::{files_verify_in_one_way, files_verify_in_some_way};
+use cert_verify::{texts_verify_in_one_way, texts_verify_in_some_way};
 use cert_verify_laws::verified_files_keep_promises;
 use std::alloc::Global;
 use vlt_check_laws::first_fault_has_witness;
@@ -124,7 +124,7 @@ pub fn vaultc<S: Store, K: Sink>(alloc: Global, words: &[String], store: &mut S,
     accepted_texts_are_read_again();
     least_certificates_are_one();
     least_certificates_verify();
-    files_verify_in_one_way();
+    texts_verify_in_one_way();
     verified_files_keep_promises();
     commands::carry_out(alloc, words, store, out)
 }
@@ -137,7 +137,7 @@ pub fn a_command_has_one_reply()
     texts_have_text_trees();
     texts_are_read_in_one_way();
     least_certificates_are_one();
-    files_verify_in_one_way();
+    texts_verify_in_one_way();
 }
 
 /// It can't be that a command has no reply to what it read.
@@ -151,7 +151,7 @@ pub fn a_command_has_some_reply()
     texts_have_text_trees();
     texts_are_read_in_one_way();
     accepted_texts_have_one();
-    files_verify_in_some_way();
+    texts_verify_in_some_way();
 }
 
 /// All bytes are a text of one tree, or they are refused for one reason.

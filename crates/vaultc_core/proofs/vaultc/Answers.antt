@@ -13,7 +13,7 @@ returns-clause-told g c = λ files.
 
 pub returns-clause-complete : goal.returns-clause-complete
 returns-clause-complete g c = λ files r.
-    complete (record { one = c.a_tree_has_one_verdict.ensures; trees = c.texts_have_text_trees.ensures; c_texts = c.texts_are_read_in_one_way.ensures; certificates = c.least_certificates_are_one.ensures; verified = c.files_verify_in_one_way.ensures }) g.S.Store g.K.Sink c.args.store.now c.carry_out.new.store c.args.out.now c.carry_out.new.out (command_of (map string_bytes c.args.words.now)) c.carry_out.result files r c.carry_out.ensures.finishes
+    complete (record { one = c.a_tree_has_one_verdict.ensures; trees = c.texts_have_text_trees.ensures; c_texts = c.texts_are_read_in_one_way.ensures; certificates = c.least_certificates_are_one.ensures; verified = c.texts_verify_in_one_way.ensures }) g.S.Store g.K.Sink c.args.store.now c.carry_out.new.store c.args.out.now c.carry_out.new.out (command_of (map string_bytes c.args.words.now)) c.carry_out.result files r c.carry_out.ensures.finishes
 
 pub returns-clause-memory : goal.returns-clause-memory
 returns-clause-memory g c = λ files.
@@ -48,7 +48,7 @@ returns-clause-verified g c =
 
 pub returns-clause-accepts : goal.returns-clause-accepts
 returns-clause-accepts g c =
-    accepts (record { one = c.a_tree_has_one_verdict.ensures; trees = c.texts_have_text_trees.ensures; c_texts = c.texts_are_read_in_one_way.ensures; certificates = c.least_certificates_are_one.ensures; verified = c.files_verify_in_one_way.ensures }) g.S.Store g.K.Sink c.args.store.now c.carry_out.new.store c.args.out.now c.carry_out.new.out
+    accepts (record { one = c.a_tree_has_one_verdict.ensures; trees = c.texts_have_text_trees.ensures; c_texts = c.texts_are_read_in_one_way.ensures; certificates = c.least_certificates_are_one.ensures; verified = c.texts_verify_in_one_way.ensures }) g.S.Store g.K.Sink c.args.store.now c.carry_out.new.store c.args.out.now c.carry_out.new.out
     (command_of (map string_bytes c.args.words.now)) c.carry_out.result c.carry_out.ensures.finishes
 
 pub returns-clause-no_fault : goal.returns-clause-no_fault
