@@ -1,5 +1,5 @@
 //! An accepted program in, the text of its certificate out, with the least annotation of each body.
-//! Read `specs/Certificates.antt` first, then `Causes` and `Verified`.
+//! Read `specs/Certificates.antt` first, then `Causes`.
 //! Used by: `vaultc_core`, for `emit`.
 #![tactic(auto)]
 
@@ -13,13 +13,11 @@ ghost use Rattle.cert_emit.specs.declared.errors.CertificateError.TheVariants.{R
 
 mod annotating;
 mod errors;
-mod laws;
 
 use annotating::annotations;
 use cert_least_texts::annotations_are_least;
 use cert_write::to_text;
 pub use errors::CertificateError;
-pub use laws::least_certificates_verify;
 use std::alloc::Global;
 use vlt_core::Program;
 

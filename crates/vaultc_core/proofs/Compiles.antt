@@ -42,7 +42,8 @@ use Rattle.cert_format.specs.Text.{closing}
 use Rattle.cert_format.specs.Notes.{Note}
 use Rattle.cert_format.specs.Certificate.{program_data}
 use Rattle.cert_format_laws.specs.Versions.{is_ordered}
-use Rattle.cert_emit.specs.Verified.{LeastCertificatesVerify}
+use Rattle.cert_verify_laws.specs.Emitted.{EmittedFilesVerify}
+use Rattle.vaultc_core.proofs.OfTexts.{program_of_text}
 use Rattle.vlt_verdict.proofs.Single.{fit_program}
 use Rattle.cert_emit.specs.Causes.{HasRefused}
 use Rattle.cert_emit.specs.Certificates.{certificate_of, IsLeastText}
@@ -167,12 +168,11 @@ text_there false text of is e = (ap (λ r. r.text) e, not_less (limit_of C_BYTES
 
 -- what is known of programs, of the C programs of texts, and of certificates
 pub record Laws : Type 0 where
-  pub fit : ProgramsAreFit
   pub trees : TextsHaveTextTrees
   pub alike : TextsRunAlike
   pub defined : TextsAreDefined
   pub again : AcceptedTextsAreReadAgain
-  pub verify : LeastCertificatesVerify
+  pub verify : EmittedFilesVerify
 
 -- the certificate comes after the C text, so both are read
 certified : (p : Program) (notes : List (List Note)) → ReadsAs (c_text p) (lowered p) → IsCProgramOf (c_file p notes) (lowered p)
@@ -200,7 +200,7 @@ module _ (laws : Laws) where
         accepted = is.1;
         notes = notes;
         least = least;
-        verifies = laws.verify p notes (fit_program laws.fit t p (text_tree laws.trees bytes t reads) is.0).kinded least;
+        verifies = laws.verify bytes p notes (program_of_text bytes t p reads (text_tree laws.trees bytes t reads) is.0) is.1 least (omega (arith, within, longer));
         reads_as = certified p notes (laws.again bytes p follows (omega (arith, within, longer)));
         runs_alike = laws.alike bytes p follows;
         is_defined = laws.defined bytes p follows;

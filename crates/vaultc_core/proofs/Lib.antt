@@ -19,5 +19,6 @@ pub mod Some
 pub mod Told
 pub mod Replied
 pub mod Promises
+pub mod OfTexts
 pub mod Compiles
 pub mod Compilable

@@ -36,7 +36,7 @@ use Rattle.vaultc_core.specs.Verdicts.{check_reply, IsExplained}
 use Rattle.vaultc_core.specs.Emitted.{c_file, file_reply, IsReplyToCompiled}
 use Rattle.vaultc_core.specs.Replies.{IsReplyToCheck, IsReplyToExplain, IsReplyToEmit, IsReplyToVerdict, IsReplyToRun, IsReplyByTree, bytes_at, IsReplyToContents, HasSomeReply}
 use Rattle.c_reader_laws.specs.Laws.{IsReadInOneWay}
-use Rattle.vaultc_core.proofs.Compilable.{program_of_text}
+use Rattle.vaultc_core.proofs.OfTexts.{program_of_text}
 use Rattle.cert_verify.specs.Laws.{VerifiesInSomeWay}
 use Rattle.vaultc_core.proofs.CReplies.{over_or_not, some_c_reply}
 use Rattle.vaultc_core.proofs.Verifies.{some_verify_reply}

@@ -11,7 +11,7 @@ use Rattle.c_reader.specs.declared.error.CError.{CError}
 use Rattle.c_reader.specs.declared.error.CError.TheVariants as error
 use Rattle.cert_verify.specs.Refusals.{Refusal, unread, no_certificate, kind, local, not_lowered}
 use Rattle.cert_verify.specs.Laws.{VerifiesInOneWay, VerifiesInSomeWay}
-use Rattle.cert_verify_laws.specs.Laws.{VerifiedFilesKeepPromises}
+use Rattle.cert_verify_laws.specs.Promises.{VerifiedFilesKeepTheirPromise}
 use Rattle.vaultc_core.specs.declared.status.TheConstants.{DONE}
 use Rattle.vaultc_core.specs.Commands.{Command, verify}
 use Rattle.vaultc_core.specs.Finishes.{Finishes}
@@ -53,20 +53,16 @@ no_refusal text (kind rule) e = not_zero 11 (status_of text _ e)
 no_refusal text (local first) e = not_zero 11 (status_of text _ e)
 no_refusal text (not_lowered n) e = not_zero 11 (status_of text _ e)
 
-module _ (keep : VerifiedFilesKeepPromises) where
+module _ (keep : VerifiedFilesKeepTheirPromise) where
   of_reply : (store : Option Files) (name bytes text : List ℕ) (old new : Option (List ℕ)) → IsRead store name (limit_of C_BYTES) bytes →
       (IsOver C_BYTES bytes → ⊥) → IsReplyToVerify bytes (reply DONE text) → Grew old new text → IsVerified store name bytes old new
   of_reply store name bytes text old new read short (inr (x, is, e)) grew = absurd (no_refusal text x e)
   of_reply store name bytes text old new read short (inl (p, notes, is, e)) grew =
-      let keeps = keep bytes p notes is in
       record {
         program = p;
         notes = notes;
-        verified = is;
-        accepted = keeps.accepted;
-        never_goes_wrong = keeps.never_goes_wrong;
-        runs_alike = keeps.runs_alike;
-        is_defined = keeps.is_defined;
+        verifies = is;
+        keeps = keep bytes p notes is;
         there = λ told tells. read_there store told (c_text_in name) bytes read short tells;
         written = subst (λ x. Grew old new x) (ap (λ r. r.text) e) grew;
       }

@@ -8,20 +8,22 @@ use Rattle.c_lower.specs.Lowering.{lowered}
 use Rattle.c_lower_accepted.specs.Accepted.{RunsAlike, IsDefined}
 use Rattle.cert_format.specs.Notes.{Note}
 use Rattle.cert_least_laws.specs.LeastNotes.{IsLeastCertificate}
-use Rattle.cert_emit.specs.Verified.{Verifies}
+use Rattle.cert_format.specs.Places.{unplaced_program}
+use Rattle.cert_verify.specs.Verified.{IsVerifiedFile}
 use Rattle.vaultc_core.specs.Programs.{IsProgramOf}
 use Rattle.vaultc_core.specs.Emitted.{c_text, c_file}
 
 -- The bytes are the text of a program that follows the rules; where files are told, they are all of the file's. Its C file was
 -- written, and reads as its C program, with the certificate after it. A run of that one does what a run of the program does, and
--- breaks no rule of C. The certificate says the least annotation of each body, which verifies.
+-- breaks no rule of C. The certificate says the program without its places, and the least annotation of each body; the file
+-- verifies with them.
 pub record IsCompiled (files : Option Files) (name bytes : List ℕ) (old new : Option (List ℕ)) : Type 0 where
   pub program : Program
   pub reads : IsProgramOf bytes program
   pub accepted : IsAccepted program
   pub notes : List (List Note)
   pub least : IsLeastCertificate program notes
-  pub verifies : Verifies program notes
+  pub verifies : IsVerifiedFile (c_file program notes) (unplaced_program program) notes
   pub reads_as : IsCProgramOf (c_file program notes) (lowered program)
       (Some (record { from = length (c_text program); to = length (c_file program notes) }))
   pub runs_alike : RunsAlike program

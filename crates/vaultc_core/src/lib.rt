@@ -37,11 +37,10 @@ mod write;
 use c_lower_accepted::texts_are_lowered_rightly;
 use c_lower_printed::accepted_texts_are_read_again;
 use c_reader_laws::texts_are_read_in_one_way;
-use cert_emit::least_certificates_verify;
 use cert_least_laws::least_certificates_are_one;
 use cert_least_texts::accepted_texts_have_one;
 use cert_verify::{texts_verify_in_one_way, texts_verify_in_some_way};
-use cert_verify_laws::verified_files_keep_promises;
+use cert_verify_laws::{emitted_files_verify, verified_files_keep_their_promise};
 use std::alloc::Global;
 use vlt_check_laws::first_fault_has_witness;
 use vlt_io::{Sink, Store};
@@ -123,9 +122,9 @@ pub fn vaultc<S: Store, K: Sink>(alloc: Global, words: &[String], store: &mut S,
     texts_are_lowered_rightly();
     accepted_texts_are_read_again();
     least_certificates_are_one();
-    least_certificates_verify();
+    emitted_files_verify();
     texts_verify_in_one_way();
-    verified_files_keep_promises();
+    verified_files_keep_their_promise();
     commands::carry_out(alloc, words, store, out)
 }
 

@@ -31,19 +31,18 @@ returns-clause-promised g c =
 pub returns-clause-compiled : goal.returns-clause-compiled
 returns-clause-compiled g c =
     let laws : Laws = record {
-      fit = c.programs_are_fit.ensures;
       trees = c.texts_have_text_trees.ensures;
       alike = c.texts_are_lowered_rightly.ensures.alike;
       defined = c.texts_are_lowered_rightly.ensures.defined;
       again = c.accepted_texts_are_read_again.ensures;
-      verify = c.least_certificates_verify.ensures;
+      verify = c.emitted_files_verify.ensures;
     } in
     compiled laws g.S.Store g.K.Sink c.args.store.now c.carry_out.new.store c.args.out.now c.carry_out.new.out
     (command_of (map string_bytes c.args.words.now)) c.carry_out.result c.carry_out.ensures.finishes
 
 pub returns-clause-verified : goal.returns-clause-verified
 returns-clause-verified g c =
-    verified c.verified_files_keep_promises.ensures g.S.Store g.K.Sink c.args.store.now c.carry_out.new.store c.args.out.now c.carry_out.new.out
+    verified c.verified_files_keep_their_promise.ensures g.S.Store g.K.Sink c.args.store.now c.carry_out.new.store c.args.out.now c.carry_out.new.out
     (command_of (map string_bytes c.args.words.now)) c.carry_out.result c.carry_out.ensures.finishes
 
 pub returns-clause-accepts : goal.returns-clause-accepts
