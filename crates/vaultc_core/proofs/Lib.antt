@@ -11,6 +11,7 @@ pub mod CReplies
 pub mod Said
 pub mod Runnable
 pub mod Explained
+pub mod Loads
 pub mod Lexed
 pub mod Read
 pub mod Single

@@ -7,6 +7,8 @@ pub mod Verdicts
 pub mod Emitted
 pub mod Runs
 pub mod CRuns
+pub mod Loads
+pub mod Loading
 pub mod Replies
 pub mod Promised
 pub mod Compiled
