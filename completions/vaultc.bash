@@ -3,11 +3,12 @@ _vaultc() {
     local word=${COMP_WORDS[COMP_CWORD]} before=${COMP_WORDS[COMP_CWORD - 1]} command=${COMP_WORDS[1]}
     COMPREPLY=()
     if [ "$COMP_CWORD" -eq 1 ]; then
-        mapfile -t COMPREPLY < <(compgen -W "check explain fmt run emit verify crun" -- "$word")
+        mapfile -t COMPREPLY < <(compgen -W "check explain fmt run emit verify crun load" -- "$word")
         return
     fi
     case $before in
         --fuel | --heap | --depth) return ;;
+        load) return ;;
         --input | --answers) compopt -o filenames; mapfile -t COMPREPLY < <(compgen -f -- "$word"); return ;;
     esac
     if [[ $word == -* ]]; then

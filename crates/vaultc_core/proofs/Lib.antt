@@ -12,6 +12,7 @@ pub mod Verifies
 pub mod Said
 pub mod Runnable
 pub mod Explained
+pub mod Loads
 pub mod Lexed
 pub mod Read
 pub mod Single

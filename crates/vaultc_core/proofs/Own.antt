@@ -23,15 +23,17 @@ use Rattle.c_interp.specs.declared.runs.end.CEnd.{CEnd}
 use Rattle.c_interp.specs.declared.runs.end.CEnd.TheVariants.{Unread, Ended}
 use Rattle.vaultc_core.specs.declared.status.TheConstants.{DONE, NO_COMMAND, UNREAD}
 use Rattle.vaultc_core.specs.CRuns.{IsReplyToC, c_refusal, stop_reply, end_reply}
-use Rattle.vaultc_core.specs.Commands.{Command, check, explain, run, fmt, emit, verify, crun}
+use Rattle.vaultc_core.specs.Commands.{Command, check, explain, run, fmt, emit, verify, crun, load}
 use Rattle.vaultc_core.specs.Lines.{Reply, reply, over_reply}
-use Rattle.vaultc_core.specs.Replies.{IsReplyToVerdict, IsReplyToTree, IsReplyToText, IsReplyToRunText, IsReplyToContents, bytes_at}
+use Rattle.vaultc_core.specs.Replies.{IsReplyToVerdict, IsReplyToTree, IsReplyToText, IsReplyToRunText, IsReplyToMade, IsReplyToContents, bytes_at}
 use Rattle.vaultc_core.specs.Runs.{last_of, IsReplyOverNumbers, IsReplyToProgram}
 use Rattle.vaultc_core.specs.Texts.{Refusal, unlexed, unparsed, refusal_reply}
 use Rattle.vaultc_core.specs.Verdicts.{check_reply, IsExplained}
 use Rattle.vaultc_core.specs.Emitted.{c_file, IsReplyToCompiled}
 use Rattle.vaultc_core.specs.Verifying.{unread_reply, unverified_reply, IsReplyToVerify}
 use Rattle.cert_verify.specs.Refusals as unverified
+use Rattle.vaultc_core.specs.Loads.{Then, IsReplyAfterEmit, IsReplyToLoaded}
+use Rattle.vlt_load.specs.Generated.{generated_text}
 
 -- neither that of words that are no command nor that of a file that wasn't read
 abbrev pub IsOwn : ℕ → Type 0
@@ -121,6 +123,7 @@ own_tree (run file taken) text t r is = absurd is
 own_tree (fmt file) text t r is = own_as r _ is own_zero
 own_tree (emit file) text t r (v, judged, is) = own_emitted text v r is
 own_tree (crun file taken) text t r is = absurd is
+own_tree (load n) text t r is = absurd is
 
 own_text : (command : Command) (text : List ℕ) (r : Reply) → IsReplyToText command text r → IsOwn r.status
 own_text command text r (inl (e, refused, is)) = own_as r _ is (own_refusal text e)
@@ -182,6 +185,26 @@ own_verify : (text : List ℕ) (r : Reply) → IsReplyToVerify text r → IsOwn 
 own_verify text r (inl (p, notes, is, same)) = own_as r _ same own_zero
 own_verify text r (inr (x, is, same)) = own_as r _ same (own_unverified x)
 
+-- ---- texts that are loaded
+
+own_then : (step : Reply) (Next : Reply → Type 0) (r : Reply) → IsOwn step.status → ((q : Reply) → Next q → IsOwn q.status) → Then step Next r → IsOwn r.status
+own_then step Next r first next (inl x) = own_as r step x.1 first
+own_then step Next r first next (inr x) = next r x.1
+
+own_after_emit : (n : ℕ) (text : List ℕ) (p : Program) (emitted : ℕ) (r : Reply) → IsReplyAfterEmit n text p emitted r → IsOwn r.status
+own_after_emit n text p emitted r (inl (wide, same)) = own_as r _ same (own 5 (omega arith))
+own_after_emit n text p emitted r (inr (fits, (last, of, after))) = own_then last _ r (own_outcome _ last of) (λ q is. own_as q _ is own_zero) after
+
+own_loaded : (n : ℕ) (text : List ℕ) (v : Verdict) (r : Reply) → IsReplyToLoaded n text v r → IsOwn r.status
+own_loaded n text (verdict.refused x) r is = own_as r _ is (own_verdict text (verdict.refused x))
+own_loaded n text (verdict.faulty p f x) r is = own_as r _ is (own_verdict text (verdict.faulty p f x))
+own_loaded n text (verdict.accepted p) r (file, written, after) =
+    own_then file _ r (own_emitted text (verdict.accepted p) file written) (own_after_emit n text p (length file.text)) after
+
+own_made : (n : ℕ) (text : List ℕ) (r : Reply) → IsReplyToMade n text r → IsOwn r.status
+own_made n text r (inl (e, refused, is)) = own_as r _ is (own_refusal text e)
+own_made n text r (inr (t, reads, (v, judged, is))) = own_loaded n text v r is
+
 -- ---- commands
 
 pub own_reply : (command : Command) (contents : List (List ℕ)) (r : Reply) → IsReplyToContents command contents r → IsOwn r.status
@@ -193,3 +216,4 @@ own_reply (run file taken) contents r is =
 own_reply (fmt file) contents r is = own_text (fmt file) (bytes_at contents 0) r is
 own_reply (emit file) contents r is = own_text (emit file) (bytes_at contents 0) r is
 own_reply (crun file taken) contents r is = own_c (bytes_at contents 0) (bytes_at contents 1) (bytes_at contents 2) taken.budgets r is
+own_reply (load n) contents r is = own_made n (generated_text n) r is

@@ -56,7 +56,7 @@ line_alone g Replies old mid new result last same is inside f =
     came_to_end g Replies (λ r. r ≡ last) [] old mid new result (says_last Replies last is inside)
     (untouched_grew (seen g old) (seen g mid) same) (untouched_counted (seen g old) (seen g mid) same) f
 
-not_sink_fault : Memory ≡ Stopped SinkFault → ⊥
+pub not_sink_fault : Memory ≡ Stopped SinkFault → ⊥
 not_sink_fault e = cc
 
 -- memory was wanting, and nothing was written

@@ -70,11 +70,16 @@ laid_said bytes t (Err e) reads is = tt
 
 -- ---- verdicts
 
+-- what is said of a text that is refused is replied to it, whatever is replied to trees
+pub refused_text : (P : Tree → lines.Reply → Type 0) (bytes : List ℕ) (o : Option Refusal) (r : Result Reply AllocError) → IfSome o (AreRefused bytes)
+    → IfOk r (λ x. option_map (refusal_reply bytes) o ≡ Some (shown_reply x)) → IfOk r (λ x. IsReplyByTree P bytes (shown_reply x))
+refused_text P bytes o (Ok x) is same = refused_by P bytes o (shown_reply x) is same
+refused_text P bytes o (Err e) is same = tt
+
 -- what is said of a text that is refused is what `run` replies to it
 pub refused_run_text : (bytes : List ℕ) (given : Given) (b : Budgets) (o : Option Refusal) (r : Result Reply AllocError) → IfSome o (AreRefused bytes)
     → IfOk r (λ x. option_map (refusal_reply bytes) o ≡ Some (shown_reply x)) → IfOk r (λ x. IsReplyToRunText bytes given b (shown_reply x))
-refused_run_text bytes given b o (Ok x) is same = refused_by (IsReplyToRun bytes given b) bytes o (shown_reply x) is same
-refused_run_text bytes given b o (Err e) is same = tt
+refused_run_text bytes given b o r is same = refused_text (IsReplyToRun bytes given b) bytes o r is same
 
 -- `run` says of a verdict that isn't accepted what `check` says of it
 check_is_run : (text : List ℕ) (given : Given) (b : Budgets) (v : shown.Verdict) (s : Verdict) (r : lines.Reply) → is_accepted v ≡ false →

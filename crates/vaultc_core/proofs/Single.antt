@@ -12,20 +12,23 @@ use Rattle.vlt_numbers.specs.Given.Given.{Given, numbers, bad_input, bad_answers
 use Rattle.vlt_verdict.specs.Verdicts.{Verdict, IsVerdictOf}
 use Rattle.vlt_verdict.specs.Laws.{HasOneVerdict}
 use Rattle.vlt_verdict.specs.Verdicts as verdict
-use Rattle.vaultc_core.specs.Commands.{Command, check, explain, run, fmt, emit, verify, crun}
+use Rattle.vaultc_core.specs.Commands.{Command, check, explain, run, fmt, emit, verify, crun, load}
 use Rattle.vaultc_core.specs.Sources.{Read, had, unread, too_long, sources_of, read_in}
 use Rattle.vaultc_core.specs.Lines.{Reply, reply, behind}
 use Rattle.vaultc_core.specs.Texts.{IsTextOf, refusal_reply}
 use Rattle.vaultc_core.specs.declared.status.TheConstants.{NOT_ACCEPTED}
 use Rattle.vaultc_core.specs.Verdicts.{check_reply, IsExplained}
-use Rattle.vaultc_core.specs.Emitted.{c_file, file_reply, IsReplyToCompiled}
+use Rattle.vaultc_core.specs.Emitted.{IsReplyToCompiled}
+use Rattle.vlt_load.specs.Generated.{generated_text}
+use Rattle.vaultc_core.specs.Loads.{IsReplyToLoaded}
 use Rattle.cert_least_laws.specs.Laws.{LeastCertificatesAreOne}
 use Rattle.vaultc_core.specs.Runs.{IsReplyToRan, IsReplyOverNumbers, IsReplyToProgram}
-use Rattle.vaultc_core.specs.Replies.{IsReplyToVerdict, IsReplyToRun, IsReplyToTree, IsReplyToText, IsReplyToRunText, bytes_at, IsReplyToContents, IsReplyToRead, IsReplyToCommand, GoesOn, AreAlike}
+use Rattle.vaultc_core.specs.Replies.{IsReplyToVerdict, IsReplyToTree, IsReplyByTree, IsReplyToText, IsReplyToRunText, IsReplyToMade, bytes_at, IsReplyToContents, IsReplyToRead, IsReplyToCommand, GoesOn, AreAlike}
 use Rattle.c_reader_laws.specs.Laws.{IsReadInOneWay}
 use Rattle.cert_verify.specs.Laws.{VerifiesInOneWay}
 use Rattle.vaultc_core.proofs.CReplies.{one_c_reply}
 use Rattle.vaultc_core.proofs.Verifies.{one_verify_reply}
+use Rattle.vaultc_core.proofs.Loads.{one_emitted, one_loaded}
 use Rattle.vaultc_core.proofs.Read.{text_tree, one_text, refusals_alike, text_not_refused}
 
 -- ---- replies to a tree
@@ -58,8 +61,7 @@ one_of_verdict text given b (verdict.accepted p) r q a n = one_of_program p give
 one_of_compiled : LeastCertificatesAreOne → (text : List ℕ) (v : Verdict) (r q : Reply) → IsReplyToCompiled text v r → IsReplyToCompiled text v q → r ≡ q
 one_of_compiled one text (verdict.refused x) r q p n = p ∙ sym n
 one_of_compiled one text (verdict.faulty p f x) r q a n = a ∙ sym n
-one_of_compiled one text (verdict.accepted p) r q (notes, least, is_r) (others, same, is_q) =
-    is_r ∙ ap (λ notes. file_reply (c_file p notes)) (one p notes others least same) ∙ sym is_q
+one_of_compiled one text (verdict.accepted p) r q a n = one_emitted one p r q a n
 
 -- ---- replies that are alike
 
@@ -71,6 +73,7 @@ same_alike (fmt file) x r q e = e
 same_alike (emit file) x r q e = e
 same_alike (verify file) x r q e = e
 same_alike (crun file taken) x r q e = e
+same_alike (load n) x r q e = e
 
 alike_status : (command : Command) (x : Read) (r q : Reply) → AreAlike command x r q → r.status ≡ q.status
 alike_status (check file) x r q e = ap (λ z. z.status) e
@@ -81,6 +84,7 @@ alike_status (fmt file) x r q e = ap (λ z. z.status) e
 alike_status (emit file) x r q e = ap (λ z. z.status) e
 alike_status (verify file) x r q e = ap (λ z. z.status) e
 alike_status (crun file taken) x r q e = ap (λ z. z.status) e
+alike_status (load n) x r q e = ap (λ z. z.status) e
 
 goes_on : (line more : List ℕ) (r : Reply) → r ≡ reply NOT_ACCEPTED (line ++ more) → GoesOn (reply NOT_ACCEPTED line) r
 goes_on line more r e = (ap (λ z. z.status) e, (more, ap (λ z. z.text) e))
@@ -117,6 +121,7 @@ module _ (laws : Laws) where
       one_of_compiled laws.certificates text b r q (subst (λ v. IsReplyToCompiled text v r) (laws.one t a b tree of_a of_b) is_r) is_q
   one_of_tree (verify file) contents t r q reads tree is_r is_q = absurd is_r
   one_of_tree (crun file taken) contents t r q reads tree is_r is_q = absurd is_r
+  one_of_tree (load n) contents t r q reads tree is_r is_q = absurd is_r
 
   -- ---- commands
 
@@ -131,14 +136,21 @@ module _ (laws : Laws) where
       let bytes = bytes_at contents 0 in
       one_of_tree command contents u r q n (text_tree laws.trees bytes u n) (subst (λ x. IsReplyToTree command bytes x r) (one_text bytes t u p n) is_r) is_q
 
+  -- where a verdict has one reply, a text has
+  one_by_verdict : (P : Verdict → Reply → Type 0) → ((v : Verdict) (r q : Reply) → P v r → P v q → r ≡ q) → (bytes : List ℕ) (r q : Reply)
+      → IsReplyByTree (λ t a. (v : Verdict) × IsVerdictOf t v × P v a) bytes r → IsReplyByTree (λ t a. (v : Verdict) × IsVerdictOf t v × P v a) bytes q → r ≡ q
+  one_by_verdict P one bytes r q (inl (d, p, is_r)) (inl (e, n, is_q)) = is_r ∙ ap (refusal_reply bytes) (refusals_alike bytes d e p n) ∙ sym is_q
+  one_by_verdict P one bytes r q (inl (d, p, is_r)) (inr (u, n, is_q)) = absurd (text_not_refused bytes u d n p)
+  one_by_verdict P one bytes r q (inr (t, p, is_r)) (inl (e, n, is_q)) = absurd (text_not_refused bytes t e p n)
+  one_by_verdict P one bytes r q (inr (t, p, (v, of_v, is_r))) (inr (u, n, (w, of_w, is_q))) =
+      let here : IsVerdictOf u v = subst (λ x. IsVerdictOf x v) (one_text bytes t u p n) of_v in
+      one w r q (subst (λ x. P x r) (laws.one u v w (text_tree laws.trees bytes u n) here of_w) is_r) is_q
+
   one_of_run : (bytes : List ℕ) (given : Given) (b : Budgets) (r q : Reply) → IsReplyToRunText bytes given b r → IsReplyToRunText bytes given b q → r ≡ q
-  one_of_run bytes given b r q (inl (d, p, is_r)) (inl (e, n, is_q)) = is_r ∙ ap (refusal_reply bytes) (refusals_alike bytes d e p n) ∙ sym is_q
-  one_of_run bytes given b r q (inl (d, p, is_r)) (inr (u, n, is_q)) = absurd (text_not_refused bytes u d n p)
-  one_of_run bytes given b r q (inr (t, p, is_r)) (inl (e, n, is_q)) = absurd (text_not_refused bytes t e p n)
-  one_of_run bytes given b r q (inr (t, p, is_r)) (inr (u, n, is_q)) =
-      let there : IsReplyToRun bytes given b u r = subst (λ x. IsReplyToRun bytes given b x r) (one_text bytes t u p n) is_r in
-      let one = laws.one u there.0 is_q.0 (text_tree laws.trees bytes u n) there.1 is_q.1 in
-      one_of_verdict bytes given b is_q.0 r q (subst (λ v. IsReplyToVerdict bytes given b v r) one there.2) is_q.2
+  one_of_run bytes given b r q is_r is_q = one_by_verdict (IsReplyToVerdict bytes given b) (one_of_verdict bytes given b) bytes r q is_r is_q
+
+  one_of_load : (n : ℕ) (bytes : List ℕ) (r q : Reply) → IsReplyToMade n bytes r → IsReplyToMade n bytes q → r ≡ q
+  one_of_load n bytes r q is_r is_q = one_by_verdict (IsReplyToLoaded n bytes) (one_loaded laws.certificates n bytes) bytes r q is_r is_q
 
   one_of_contents : (command : Command) (contents : List (List ℕ)) (r q : Reply) → IsReplyToContents command contents r → IsReplyToContents command contents q →
       AreAlike command (had contents) r q
@@ -151,6 +163,7 @@ module _ (laws : Laws) where
   one_of_contents (verify file) contents r q is_r is_q = one_verify_reply laws.verified (bytes_at contents 0) r q is_r is_q
   one_of_contents (crun file taken) contents r q is_r is_q =
       one_c_reply (laws.c_texts (bytes_at contents 0)) (bytes_at contents 1) (bytes_at contents 2) taken.budgets r q is_r is_q
+  one_of_contents (load n) contents r q is_r is_q = one_of_load n (generated_text n) r q is_r is_q
 
   -- a command has one reply to what it read
   pub one_of_read : (command : Command) (x : Read) (r q : Reply) → IsReplyToRead command x r → IsReplyToRead command x q → AreAlike command x r q

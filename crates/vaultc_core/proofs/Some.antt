@@ -26,7 +26,7 @@ use Rattle.vlt_verdict.specs.Verdicts.{Verdict, refused, faulty, accepted, IsVer
 use Rattle.vlt_verdict.specs.Laws.{HasSomeVerdict}
 use Rattle.vlt_check_laws.specs.Shown.{HasWitness}
 use Rattle.vaultc_core.specs.declared.status.TheConstants.{DONE, NOT_ACCEPTED}
-use Rattle.vaultc_core.specs.Commands.{Command, check, explain, run, fmt, emit, verify, crun}
+use Rattle.vaultc_core.specs.Commands.{Command, check, explain, run, fmt, emit, verify, crun, load}
 use Rattle.vaultc_core.specs.Lines.{Reply, reply, over_reply, unread_reply, numbers_reply, behind}
 use Rattle.vaultc_core.specs.Runs.{IsReplyToRan, IsReplyOverNumbers, IsReplyToProgram}
 use Rattle.vaultc_core.specs.Sources.{had, unread, too_long}
@@ -34,12 +34,15 @@ use Rattle.vaultc_core.specs.Texts.{IsTextOf, refusal_reply}
 use Rattle.cert_least_texts.specs.Texts.{AcceptedTextsHaveOne}
 use Rattle.vaultc_core.specs.Verdicts.{check_reply, IsExplained}
 use Rattle.vaultc_core.specs.Emitted.{c_file, file_reply, IsReplyToCompiled}
+use Rattle.vlt_load.specs.Generated.{generated_text}
+use Rattle.vaultc_core.specs.Loads.{IsReplyToLoaded, IsReplyToLoad}
 use Rattle.vaultc_core.specs.Replies.{IsReplyToCheck, IsReplyToExplain, IsReplyToEmit, IsReplyToVerdict, IsReplyToRun, IsReplyByTree, bytes_at, IsReplyToContents, HasSomeReply}
 use Rattle.c_reader_laws.specs.Laws.{IsReadInOneWay}
 use Rattle.vaultc_core.proofs.OfTexts.{program_of_text}
 use Rattle.cert_verify.specs.Laws.{VerifiesInSomeWay}
 use Rattle.vaultc_core.proofs.CReplies.{over_or_not, some_c_reply}
 use Rattle.vaultc_core.proofs.Verifies.{some_verify_reply}
+use Rattle.vaultc_core.proofs.Loads.{some_loaded}
 use Rattle.vaultc_core.proofs.Read.{text_tree, read_in_one_way}
 use Rattle.vaultc_core.proofs.RunEnded.{last_there}
 use Rattle.vaultc_core.proofs.Runnable.{OfAccepted}
@@ -97,6 +100,14 @@ module _ (laws : Laws) where
   compiled text t reads tree (accepted p) is =
       so (laws.certificates text p (program_of_text text t p reads tree is.0) is.1) (λ n. (file_reply (c_file p n.0), (n.0, n.1, refl)))
 
+  loaded : (n : ℕ) (text : List ℕ) (t : Tree) → IsTextOf t text → IsTextTree t → (v : Verdict) → IsVerdictOf t v → Surely ((r : Reply) × IsReplyToLoaded n text v r)
+  loaded n text t reads tree (refused e) is = sure (check_reply text (refused e), refl)
+  loaded n text t reads tree (faulty p f x) is = sure (check_reply text (faulty p f x), refl)
+  loaded n text t reads tree (accepted p) is =
+      let x = fit_program laws.fit t p tree is.0 in
+      let never = laws.never p x.kinded is.1 x.sizes x.well_formed.states x.narrow in
+      so (laws.certificates text p (program_of_text text t p reads tree is.0) is.1) (λ notes. some_loaded n text p notes.0 notes.1 never)
+
   -- ---- texts
 
   some_of_check : (text : List ℕ) (t : Tree) → IsTextTree t → Surely ((r : Reply) × IsReplyToCheck text t r)
@@ -110,6 +121,9 @@ module _ (laws : Laws) where
 
   some_of_run : (text : List ℕ) (given : Given) (b : Budgets) (t : Tree) → IsTextTree t → Surely ((r : Reply) × IsReplyToRun text given b t r)
   some_of_run text given b t tree = so (laws.verdicts t tree) (λ v. let r = of_verdict text given b t tree v.0 v.1 in (r.0, (v.0, v.1, r.1)))
+
+  some_of_load : (n : ℕ) (text : List ℕ) (t : Tree) → IsTextOf t text → IsTextTree t → Surely ((r : Reply) × IsReplyToLoad n text t r)
+  some_of_load n text t reads tree = surely (laws.verdicts t tree) (λ v. so (loaded n text t reads tree v.0 v.1) (λ r. (r.0, (v.0, v.1, r.1))))
 
   by_tree : (P : Tree → Reply → Type 0) (bytes : List ℕ) → ((t : Tree) → IsTextOf t bytes → IsTextTree t → Surely ((r : Reply) × P t r)) → Surely ((r : Reply) × IsReplyByTree P bytes r)
   by_tree P bytes some = ⊎_elim
@@ -132,6 +146,7 @@ module _ (laws : Laws) where
   some_of_contents (verify file) contents = some_verify_reply laws.verified (bytes_at contents 0)
   some_of_contents (crun file taken) contents =
       sure (some_c_reply (laws.c_texts (bytes_at contents 0)) (bytes_at contents 1) (bytes_at contents 2) taken.budgets)
+  some_of_contents (load n) contents = let text = generated_text n in by_tree (IsReplyToLoad n text) text (some_of_load n text)
 
   pub some_of_read : HasSomeReply
   some_of_read command (had contents) = some_of_contents command contents

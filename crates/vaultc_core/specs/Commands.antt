@@ -7,6 +7,7 @@ use Rattle.std.specs.Str.{bytes_eq}
 use Rattle.std.specs.Str.Parse.{digits_value}
 use Rattle.vlt_base.specs.declared.Budgets.{Budgets}
 use Rattle.vaultc_core.specs.declared.words.TheConstants.{MOST_HEAP, MOST_DEPTH, DEFAULT_FUEL, DEFAULT_HEAP, DEFAULT_DEPTH}
+use Rattle.vaultc_core.specs.declared.generated.TheConstants.{MOST_FUNCTIONS}
 
 -- what a run takes: budgets, and the names of its files of numbers, where it has them
 pub record Taken : Type 0 where
@@ -22,6 +23,7 @@ pub data Command : Type 0 where
   emit : (file : List ℕ) → Command
   verify : (file : List ℕ) → Command
   crun : (file : List ℕ) → Taken → Command
+  load : (functions : ℕ) → Command
 
 -- a file word is not empty and doesn't begin with `-`
 abbrev pub is_file_word : List ℕ → Bool
@@ -101,7 +103,7 @@ taken_by s = record { budgets = budgets_of s; input = s.input; answers = s.answe
 
 -- ---- commands
 
--- a command that takes no options
+-- a command that takes no options; the second word of `load` is a number, that of the others a file
 abbrev pub without_options : Command → (options : List (List ℕ)) → Option Command
 without_options command [] = Some command
 without_options command (word ∷ words) = None
@@ -117,5 +119,6 @@ command_of (word ∷ file ∷ options) =
     else if bytes_eq word (codes "verify") then without_options (verify file) options
     else if bytes_eq word (codes "run") then option_map (λ s. run file (taken_by s)) (settings_of options nothing_set)
     else if bytes_eq word (codes "crun") then option_map (λ s. crun file (taken_by s)) (settings_of options nothing_set)
+    else if bytes_eq word (codes "load") then option_and_then (λ n. without_options (load n) options) (number_within 1 MOST_FUNCTIONS file)
     else None
 command_of _ = None

@@ -8,6 +8,8 @@ pub mod Emitted
 pub mod Runs
 pub mod CRuns
 pub mod Verifying
+pub mod Loads
+pub mod Loading
 pub mod Replies
 pub mod Promised
 pub mod Compiled

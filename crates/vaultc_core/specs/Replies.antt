@@ -6,7 +6,7 @@ use Rattle.vlt_io.specs.declared.store.Store.{Ghosts}
 use Rattle.vlt_syntax.specs.Tree.{Tree}
 use Rattle.vlt_printer.specs.Layout.{layout}
 use Rattle.vaultc_core.specs.declared.status.TheConstants.{DONE, UNREAD, SINK_FAILED, NO_MEMORY, NOT_ACCEPTED}
-use Rattle.vaultc_core.specs.Commands.{Command, check, explain, run, fmt, emit, verify, crun, command_of}
+use Rattle.vaultc_core.specs.Commands.{Command, check, explain, run, fmt, emit, verify, crun, load, command_of}
 use Rattle.vaultc_core.specs.Sources.{Read, had, unread, too_long, sources_of, read_in, MayRead}
 use Rattle.vaultc_core.specs.Lines.{Reply, reply, usage_reply, unread_reply, over_reply}
 use Rattle.vaultc_core.specs.Texts.{Refusal, AreRefused, IsTextOf, refusal_reply}
@@ -18,6 +18,8 @@ use Rattle.vlt_numbers.specs.Given.Given.{Given, given_by}
 use Rattle.vaultc_core.specs.Runs.{IsReplyToProgram}
 use Rattle.vaultc_core.specs.CRuns.{IsReplyToC}
 use Rattle.vaultc_core.specs.Verifying.{IsReplyToVerify}
+use Rattle.vlt_load.specs.Generated.{generated_text}
+use Rattle.vaultc_core.specs.Loads.{IsReplyToLoad}
 
 -- ---- a tree, with the text that it stands in
 
@@ -47,6 +49,7 @@ IsReplyToTree (emit file) text t r = IsReplyToEmit text t r
 IsReplyToTree (verify file) text t r = ⊥
 IsReplyToTree (run file taken) text t r = ⊥
 IsReplyToTree (crun file taken) text t r = ⊥
+IsReplyToTree (load n) text t r = ⊥
 
 -- ---- bytes
 
@@ -61,17 +64,21 @@ IsReplyToText command bytes r = IsReplyByTree (IsReplyToTree command bytes) byte
 abbrev pub IsReplyToRunText : List ℕ → Given → Budgets → Reply → Type 0
 IsReplyToRunText bytes given b r = IsReplyByTree (IsReplyToRun bytes given b) bytes r
 
+abbrev pub IsReplyToMade : (n : ℕ) → List ℕ → Reply → Type 0
+IsReplyToMade n bytes r = IsReplyByTree (IsReplyToLoad n bytes) bytes r
+
 -- the bytes of the file at a position
 abbrev pub bytes_at : List (List ℕ) → ℕ → List ℕ
 bytes_at contents n = slice_index_or contents n []
 
--- what a command replies to the bytes of its files
+-- what a command replies to the bytes of its files; `load` has none, and makes its text
 abbrev pub IsReplyToContents : Command → List (List ℕ) → Reply → Type 0
 IsReplyToContents (verify file) contents r = IsReplyToVerify (bytes_at contents 0) r
 IsReplyToContents (run file taken) contents r =
     IsReplyToRunText (bytes_at contents 0) (given_by (bytes_at contents 1) (bytes_at contents 2)) taken.budgets r
 IsReplyToContents (crun file taken) contents r =
     IsReplyToC (bytes_at contents 0) (bytes_at contents 1) (bytes_at contents 2) taken.budgets r
+IsReplyToContents (load n) contents r = IsReplyToMade n (generated_text n) r
 IsReplyToContents command contents r = IsReplyToText command (bytes_at contents 0) r
 
 -- what is replied to what reading files came to, where these are the replies to the bytes of all

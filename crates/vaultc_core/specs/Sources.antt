@@ -5,7 +5,7 @@ use Rattle.vlt_base.specs.Limits.{limit_of}
 use Rattle.vlt_base.specs.declared.limits.TheConstants.{SOURCE_BYTES, C_BYTES}
 use Rattle.vlt_io.specs.Outside.{Files, IsRead, MayFail}
 use Rattle.vlt_io.specs.declared.store.Store.{Ghosts}
-use Rattle.vaultc_core.specs.Commands.{Taken, Command, check, explain, run, fmt, emit, verify, crun}
+use Rattle.vaultc_core.specs.Commands.{Taken, Command, check, explain, run, fmt, emit, verify, crun, load}
 
 -- a file: its name, and the number of the limit on its bytes
 pub record Source : Type 0 where
@@ -38,6 +38,7 @@ sources_of (fmt file) = Some (text_in file) ∷ []
 sources_of (emit file) = Some (text_in file) ∷ []
 sources_of (verify file) = Some (c_text_in file) ∷ []
 sources_of (crun file t) = run_sources (c_text_in file) t
+sources_of (load n) = []
 
 -- what reading files comes to: the bytes of each; or the first that isn't had, as it wasn't read or exceeds its limit
 pub data Read : Type 0 where

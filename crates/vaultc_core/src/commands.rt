@@ -20,6 +20,7 @@ use crate::emit::{accepted, compiled};
 use crate::explain::explained;
 use crate::files::{RunFiles, read_file, read_run_files};
 use crate::lines::{USAGE, laid_out, not_had, refusal, verdict};
+use crate::load::load;
 use crate::reply::Reply;
 use crate::runs::run_program;
 use crate::source::read_tree;
@@ -242,6 +243,7 @@ fn reply_to_command<S: Store, K: Sink>(
         Command::Verify(name) => reply_to_verify(alloc, name, store, out),
         Command::Run(name, taken) => reply_to_run(alloc, name, taken, store, out),
         Command::C(name, taken) => reply_to_c(alloc, name, taken, store, out),
+        Command::Load(functions) => load(alloc, functions, out),
     }
 }
 

@@ -102,7 +102,7 @@ fn certificate(alloc: Global, program: &Program) -> Result<Vec<u8>, AllocError>
 }
 
 /// The C file of the program of a text.
-fn emitted(alloc: Global, program: &Program) -> Result<Reply, AllocError>
+pub fn emitted(alloc: Global, program: &Program) -> Result<Reply, AllocError>
     requires { IsCompilable (program_of program.now) }
     ensures { IfOk result (λ r. e.IsEmitted (program_of program.now) (shown_reply r)) }
 {

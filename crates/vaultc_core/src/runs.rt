@@ -40,7 +40,7 @@ pub fn finish_stop<K: Sink>(alloc: Global, out: &mut K, stop: Stop) -> u8
 }
 
 /// Writes the last line of an end, and gives the status.
-fn finish_end<K: Sink>(alloc: Global, end: RunEnd<Stop>, out: &mut K) -> u8
+pub fn finish_end<K: Sink>(alloc: Global, end: RunEnd<Stop>, out: &mut K) -> u8
     ensures { EndsRun K.Sink end out.old out.new result }
 {
     match end {

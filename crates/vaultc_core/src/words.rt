@@ -1,11 +1,14 @@
 //! From words to a command.
 
 ghost use Rattle.std.specs.Prelude.{◌≡◌, ◌≤◌, length, IfSome, None, Some, map, string_bytes, option_map};
+ghost use Rattle.std.specs.Option.{option_and_then};
 ghost use Rattle.std.specs.List.{list_all};
 ghost use Rattle.std.specs.Char.{is_ascii_digit};
-ghost use Rattle.vaultc_core.specs.Commands.{command_of, is_file_word, file_word, number_within, setting_of, with_setting, settings_of, nothing_set, taken_by, without_options};
+ghost use Rattle.vaultc_core.specs.Commands as c;
+ghost use Rattle.vaultc_core.specs.Commands.{command_of, budgets_of, is_file_word, file_word, number_within, setting_of, with_setting, settings_of, nothing_set, taken_by, without_options};
 ghost use Rattle.vaultc_core.specs.View.{seen_command, seen_text, seen_setting, seen_settings, seen_taken};
 
+use crate::generated::{Functions, MOST_FUNCTIONS};
 use vlt_base::Budgets;
 
 /// The most objects that a run's heap may be given room for.
@@ -27,6 +30,17 @@ pub struct Taken<'a> {
     pub answers: Option<&'a str>,
 }
 
+/// The budgets of a run without options.
+pub fn default_budgets() -> Budgets
+    ensures { result ≡ budgets_of nothing_set }
+{
+    Budgets {
+        fuel: DEFAULT_FUEL,
+        heap: DEFAULT_HEAP,
+        depth: DEFAULT_DEPTH,
+    }
+}
+
 /// What is done with a text alone.
 #[derive(Clone, Copy, Debug)]
 pub enum TextCommand {
@@ -36,7 +50,7 @@ pub enum TextCommand {
     Emit,
 }
 
-/// A command with its file.
+/// A command with its file, if it has one.
 #[derive(Clone, Copy, Debug)]
 pub enum Command<'a> {
     Text(TextCommand, &'a str),
@@ -46,6 +60,8 @@ pub enum Command<'a> {
     Run(&'a str, Taken<'a>),
     /// Runs a C text.
     C(&'a str, Taken<'a>),
+    /// Makes a program of so many functions, compiles it and runs it.
+    Load(Functions),
 }
 
 /// An option with its value.
@@ -239,6 +255,19 @@ fn text_command<'a>(
     without_options(Command::Text(command, file), options)
 }
 
+/// `load` with this number, where no word follows.
+fn read_load<'a>(number: &str, options: &[String]) -> Option<Command<'a>>
+    ensures { option_map seen_command result ≡ option_and_then
+        (λ n. c.without_options (c.load n) (map string_bytes options.now))
+        (number_within 1 MOST_FUNCTIONS number.now) }
+{
+    let count = read_number(number, 1, u64::from(MOST_FUNCTIONS))?;
+    let functions = Functions {
+        count: count as u32,
+    };
+    without_options(Command::Load(functions), options)
+}
+
 /// The command that the words are, if they are one.
 pub fn read_command(words: &[String]) -> Option<Command<'_>>
     ensures { option_map seen_command result ≡ command_of (map string_bytes words.now) }
@@ -263,6 +292,7 @@ pub fn read_command(words: &[String]) -> Option<Command<'_>>
             let settings = read_settings(options)?;
             Some(Command::C(file.as_str(), settings.taken()))
         }
+        "load" => read_load(file.as_str(), options),
         _ => None,
     }
 }

@@ -1,6 +1,6 @@
 //! How many functions in, the text of the generated program out.
 //! Read `specs/Generated.antt` first.
-//! Used by: nothing yet; `load` will.
+//! Used by: the command `load`.
 #![tactic(auto)]
 
 ghost use Rattle.std.specs.Prelude.{◌≡◌, ◌≤◌, ◌+◌, ◌++◌, length, codes, IfOk, OnOk, string_bytes};

@@ -5,7 +5,7 @@ ghost use Rattle.vlt_base.specs.Place.{line_of, column_of};
 ghost use Rattle.vlt_core.specs.View.{program_of, func_of, tok_of};
 ghost use Rattle.vlt_core.specs.FaultView.{kind_of};
 ghost use Rattle.vlt_reports.specs.Reports.{place_text, kind_line, fault_text, fault_line};
-ghost use Rattle.vlt_reports.specs.Accepted.{accepted_line};
+ghost use Rattle.vlt_reports.specs.Accepted.{accepted_line, bodies};
 ghost use Rattle.vlt_reports.specs.Seen.{names_known};
 ghost use Rattle.vlt_reports.specs.Writing.{Adds};
 
@@ -80,7 +80,7 @@ pub fn fault(
     Ok(out)
 }
 
-/// How many functions have a body.
+/// How many of the functions have a body.
 fn count_bodies(fns: &[Func]) -> usize
     ensures { result ≡ length (filter (λ f. not f.external) (map func_of fns.now)) }
 {
@@ -93,10 +93,17 @@ fn count_bodies(fns: &[Func]) -> usize
     count
 }
 
+/// How many functions of the program have a body.
+pub fn bodies(p: &Program) -> usize
+    ensures { result ≡ bodies (program_of p.now) }
+{
+    count_bodies(p.fns.as_slice())
+}
+
 /// How many functions with a body were accepted.
 pub fn accepted(alloc: Global, p: &Program) -> Result<Vec<u8>, AllocError>
     ensures { IfOk result (λ v. v.items ≡ accepted_line (program_of p.now)) }
 {
-    let count = count_bodies(p.fns.as_slice());
+    let count = bodies(p);
     Ok(format!(in alloc; "accepted {count}\n")?.into_bytes())
 }

@@ -1,6 +1,10 @@
-use Rattle.std.proofs.Common.{Some, sym, subst}
+use Rattle.std.proofs.Common.{[], Some, refl, sym, subst}
+use Rattle.vlt_load.specs.Generated.{generated_text}
+use Rattle.vaultc_core.specs.Commands.{load}
+use Rattle.vaultc_core.specs.Sources.{had}
 use Rattle.vaultc_core.specs.Finishes.{Finishes}
-use Rattle.vaultc_core.specs.Replies.{MayReply}
+use Rattle.vaultc_core.specs.Replies.{IsReplyToMade, MayReply}
+use Rattle.vaultc_core.proofs.Finished.{finishes_as}
 use Rattle.vaultc_core.specs.View.{seen_command}
 use Rattle.vaultc_core.proofs.commands.reply_to_command.Goals as goal
 
@@ -23,3 +27,11 @@ pub returns-in-C : goal.returns-in-C
 returns-in-C g c =
     subst (λ k. Finishes g.K.Sink (MayReply g.S.Store c.args.store.now c.reply_to_c.new.store (Some (seen_command k))) c.args.out.now c.reply_to_c.new.out c.reply_to_c.result)
     (sym c.in-C.is) c.reply_to_c.ensures
+
+pub returns-in-Load : goal.returns-in-Load
+returns-in-Load g c =
+    let n = c.in-Load.functions.count in
+    let store = c.args.store.now in
+    subst (λ k. Finishes g.K.Sink (MayReply g.S.Store store store (Some (seen_command k))) c.args.out.now c.load.new.out c.load.result) (sym c.in-Load.is)
+    (finishes_as g.K.Sink (IsReplyToMade n (generated_text n)) (MayReply g.S.Store store store (Some (load n))) c.args.out.now c.load.new.out c.load.result
+    (λ r is. (had [], (refl, refl), is)) c.load.ensures)
