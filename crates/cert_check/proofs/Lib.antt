@@ -1,6 +1,7 @@
 pub mod Causes
 pub mod Deciding
 pub mod Counting
+pub mod Ends
 pub mod Filling
 pub mod Functions
 pub mod Holding

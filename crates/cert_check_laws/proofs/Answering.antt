@@ -1,6 +1,5 @@
 -- It can't be that of the notes of a certificate neither all tests hold nor one refuses first.
 use Rattle.std.proofs.Common.{◌≡◌, ◌⊎◌, ◌<◌, ◌≤◌, ◌+◌, inl, inr, ⊎_elim, ℕ, zero, suc, Bool, true, false, true≢false, List, [], length, Option, Some, None, slice_get, refl, sym, ap, ◌∙◌, subst, arith}
-use Rattle.std.proofs.lemmas.Option.{slice_get_within}
 use Rattle.vlt_base.specs.Sure.{Surely}
 use Rattle.vlt_base.proofs.Surely.{sure, surely, so}
 use Rattle.vlt_core.specs.Core.{Func, Program}
@@ -14,8 +13,9 @@ use Rattle.cert_format.specs.Notes.{Note}
 use Rattle.cert_fit_laws.specs.Annotation.{annotation, IsLocalCertificate}
 use Rattle.cert_check.specs.Tests.{Test, Hold, Failure, refused, lost, Refusal, refusal, FirstFails, body_tests, function_tests}
 use Rattle.cert_check.specs.Whole.{ProgramRefusal, HoldAt, IsRefusedAt, IsFirstRefusal}
-use Rattle.cert_check.proofs.Functions.{one_instance, holds_local}
-use Rattle.cert_check_laws.proofs.Failing.{numbers, none_less, answers}
+use Rattle.cert_check.proofs.Functions.{one_instance}
+use Rattle.cert_check.proofs.Telling.{hold_more, all_hold}
+use Rattle.cert_check_laws.proofs.Failing.{none_less, answers}
 use Rattle.cert_check_laws.proofs.Jumps.{body}
 
 abbrev Answer : List Test → Type 0
@@ -73,11 +73,8 @@ module _ (p : Program) (all : List (List Note)) where
     before_answered : (n : ℕ) → Surely (((g : ℕ) → g < n → HoldAt p all g) ⊎ ((x : ProgramRefusal) × IsFirstRefusal p all x))
     before_answered zero = sure (inl (λ g less. absurd (none_less g less)))
     before_answered (suc n) =
-        surely (before_answered n) (λ a. ⊎_elim (λ held. so (at_answered n) (λ b. ⊎_elim (λ here. inl (both held here)) (λ x. inr (x.0, record { at = x.2; before = λ g less. held g (subst (λ m. g < m) x.1 less) })) b)) (λ x. sure (inr x)) a)
-      where
-        both : ((g : ℕ) → g < n → HoldAt p all g) → HoldAt p all n → (g : ℕ) → g < suc n → HoldAt p all g
-        both held here g less = ⊎_elim (λ lower. held g lower) (λ e. subst (λ g. HoldAt p all g) (sym e) here) (numbers g n less)
+        surely (before_answered n) (λ a. ⊎_elim (λ held. so (at_answered n) (λ b. ⊎_elim (λ here. inl (λ g less. hold_more p all n held here g (omega (arith, less)))) (λ x. inr (x.0, record { at = x.2; before = λ g less. held g (subst (λ m. g < m) x.1 less) })) b)) (λ x. sure (inr x)) a)
 
     pub program_answered : Surely (IsLocalCertificate p all ⊎ ((x : ProgramRefusal) × IsFirstRefusal p all x))
     program_answered =
-        so (before_answered (length p.fns)) (λ a. ⊎_elim (λ held. inl (holds_local p all (λ g f notes there noted own. held g (slice_get_within p.fns g f there) f notes there noted own))) (λ x. inr x) a)
+        so (before_answered (length p.fns)) (λ a. ⊎_elim (λ held. inl (all_hold p all (length p.fns) (omega arith) held)) (λ x. inr x) a)

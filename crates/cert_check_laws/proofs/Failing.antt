@@ -42,7 +42,7 @@ below_so a b s = record {
 
 -- ---- a map below another, or the first token that isn't
 
-pub numbers : (m n : ℕ) → m < suc n → (m < n) ⊎ (m ≡ n)
+numbers : (m n : ℕ) → m < suc n → (m < n) ⊎ (m ≡ n)
 numbers m n less = grind (arith, less)
 
 pub none_less : (m : ℕ) → m < 0 → ⊥

@@ -1,4 +1,4 @@
-use Rattle.cert_fit_laws.proofs.Passing.{dont_pass}
+use Rattle.cert_check.proofs.Ends.{dont_pass}
 use Rattle.cert_check.proofs.ends_dont_pass.Goals as goal
 
 pub returns : goal.returns
