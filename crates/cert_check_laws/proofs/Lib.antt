@@ -1,0 +1,11 @@
+pub mod Failing
+pub mod Jumps
+pub mod Order
+pub mod Sets
+pub mod KnownRows
+pub mod KnownBodies
+pub mod Limits
+pub mod Texts
+pub mod Counts
+pub mod Answering
+pub mod Fitness
