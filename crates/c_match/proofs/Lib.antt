@@ -1,2 +1,9 @@
 pub mod Parts
 pub mod Wholes
+pub mod Apartness
+pub mod Forgetting
+pub mod Saying
+pub mod Counting
+pub mod Places
+pub mod Laying
+pub mod Owning

@@ -5,6 +5,7 @@ use Rattle.std.proofs.lemmas.List.{drop_all}
 use Rattle.c_syntax.specs.C as c
 use Rattle.c_syntax.specs.declared.program.CStmt.{CStmt}
 use Rattle.c_syntax.specs.View.{stmts_of}
+use Rattle.c_match.specs.Pieces.{head_of}
 
 abbrev IsDone : c.Stmts → Type 0
 IsDone c.done = Unit {0}
@@ -25,3 +26,6 @@ end_together b k xs rest Whole is h same =
 
 pub funcs_from : (f g : c.Func) → f.number ≡ g.number → f.result ≡ g.result → f.params ≡ g.params → f.vars ≡ g.vars → f.body ≡ g.body → f ≡ g
 funcs_from f g n r p v b = λ i. record { number = n i; result = r i; params = p i; vars = v i; body = b i }
+
+pub heads_from : (f g : c.Func) → f.number ≡ g.number → f.result ≡ g.result → f.params ≡ g.params → head_of f ≡ head_of g
+heads_from f g n r p = λ i. record { number = n i; result = r i; params = p i }

@@ -4,12 +4,13 @@ ghost use Rattle.std.specs.Prelude.{◌≡◌, false, Decides, IfOk};
 ghost use Rattle.vlt_core.specs.View as view;
 ghost use Rattle.c_syntax.specs.View.{program_of};
 ghost use Rattle.c_lower.specs.Lowering.{lowered};
+ghost use Rattle.c_lower_exprs.specs.Scopes.{AreTables};
 ghost use Rattle.c_lower_glue.specs.ManyCases.{gives_many_cases};
 ghost use Rattle.c_match.specs.Whole.{whole_of};
 
 use crate::same::same_funcs;
 use c_lower_code::lower_bodies;
-use c_lower_exprs::{name_of, program_tables};
+use c_lower_exprs::{ProgramTables, name_of};
 use c_lower_glue::lower_externals;
 use c_syntax::{CFunc, CProgram};
 use std::alloc::Global;
@@ -25,13 +26,17 @@ pub struct Lowering {
 }
 
 /// The lowering of a program.
-pub fn lower(alloc: Global, program: &Program) -> Result<Lowering, Memory>
-    requires { gives_many_cases (view.program_of program.now) ≡ false }
+pub fn lower(
+    alloc: Global,
+    program: &Program,
+    tables: &ProgramTables,
+) -> Result<Lowering, Memory>
+    requires tables { AreTables (view.program_of program.now) tables.now }
+    requires few { gives_many_cases (view.program_of program.now) ≡ false }
     ensures { IfOk result (λ x. whole_of x ≡ lowered (view.program_of program.now)) }
 {
-    let tables = program_tables(alloc, program)?;
-    let glue = lower_externals(alloc, program, &tables)?;
-    let fns = lower_bodies(alloc, program, &tables)?;
+    let glue = lower_externals(alloc, program, tables)?;
+    let fns = lower_bodies(alloc, program, tables)?;
     let main = name_of(program, &tables.names, program.main).number;
     Ok(Lowering { glue, fns, main })
 }

@@ -6,7 +6,7 @@ ghost use Rattle.c_syntax.specs.View.{arg_of, call_of, expr_of, func_of, stmt_of
 use c_syntax::{CArg, CCall, CExpr, CFunc, CResult, CStmt, CVar};
 
 /// Whether expressions are the same.
-fn same_expr(a: &CExpr, b: &CExpr) -> bool
+pub fn same_expr(a: &CExpr, b: &CExpr) -> bool
     ensures { Decides result (expr_of a.now ≡ expr_of b.now) }
 {
     match (a, b) {
@@ -75,7 +75,7 @@ fn same_value(a: &Option<CExpr>, b: &Option<CExpr>) -> bool
 }
 
 #[cycle(same)]
-fn same_stmt(a: &CStmt, b: &CStmt) -> bool
+pub fn same_stmt(a: &CStmt, b: &CStmt) -> bool
     ensures { Decides result (stmt_of a.now ≡ stmt_of b.now) }
 {
     match (a, b) {
@@ -116,7 +116,7 @@ fn same_stmts(a: &[CStmt], b: &[CStmt]) -> bool
     left.is_empty()
 }
 
-fn same_result(a: CResult, b: CResult) -> bool
+pub fn same_result(a: CResult, b: CResult) -> bool
     ensures { Decides result (a ≡ b) }
 {
     a == b
@@ -128,7 +128,7 @@ fn same_variable(a: CVar, b: CVar) -> bool
     a == b
 }
 
-fn same_vars(a: &[CVar], b: &[CVar]) -> bool
+pub fn same_vars(a: &[CVar], b: &[CVar]) -> bool
     ensures { Decides result (a.now ≡ b.now) }
 {
     let mut left = b;
