@@ -1,3 +1,5 @@
 pub mod Version
 pub mod Failing
 pub mod OneWay
+pub mod Judging
+pub mod SomeWay

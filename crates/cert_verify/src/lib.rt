@@ -16,7 +16,7 @@ mod laws;
 mod parts;
 
 pub use error::VerifyError;
-pub use laws::texts_verify_in_one_way;
+pub use laws::{texts_verify_in_one_way, texts_verify_in_some_way};
 use parts::verify_parts;
 use std::alloc::Global;
 
