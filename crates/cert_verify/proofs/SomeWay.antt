@@ -1,10 +1,9 @@
 -- It can't be that a text neither verifies nor is refused.
-use Rattle.std.proofs.Common.{◌≡◌, ◌⊎◌, inl, inr, ⊎_elim, refl, sym, ap, subst, ℕ, Bool, true, false, List, Option, Some, None}
-use Rattle.std.specs.Prelude.{slice_get}
+use Rattle.std.proofs.Common.{◌≡◌, ◌⊎◌, inl, inr, ⊎_elim, refl, subst, ℕ, Bool, true, false, List, Option, Some, None}
 use Rattle.vlt_base.specs.Sure.{Surely}
 use Rattle.vlt_base.specs.declared.places.Span.{Span}
 use Rattle.vlt_base.proofs.Surely.{sure, surely, so, one_way}
-use Rattle.vlt_core.specs.Core.{Func, Program}
+use Rattle.vlt_core.specs.Core.{Program}
 use Rattle.vlt_core.specs.Kinded.{breaks, IsKinded}
 use Rattle.c_syntax.specs.C as c
 use Rattle.c_syntax.specs.Reading.{IsCProgramOf}
@@ -14,22 +13,14 @@ use Rattle.cert_format.specs.Notes.{Note}
 use Rattle.cert_format.specs.Certificate.{FitsCertificate, IsCertificateOf}
 use Rattle.cert_format.specs.Readings.{Reading, certificate, not_json as no_json, not_of_its_form as wrong_row, IsReading}
 use Rattle.cert_format_laws.specs.Readings.{HasSomeReading}
-use Rattle.cert_fit_laws.specs.Programs.{FirstVersionHasNoBounds}
-use Rattle.cert_check.specs.Laws.{TestsSayLocalCertificate}
-use Rattle.cert_check.specs.Tests.{FirstFails, lost, function_tests}
-use Rattle.cert_check.specs.Unfit.{unfit_func, body, lost_jump}
-use Rattle.cert_check.proofs.Functions.{one_instance}
 use Rattle.cert_verify.specs.Verified.{certificate_text, IsCertified}
 use Rattle.cert_verify.specs.Refusals.{unread, no_certificate, kind, local, not_lowered, not_json, not_of_its_form, second_version, no_mark, no_certificate_there}
-use Rattle.cert_verify.specs.Laws.{Verifies, IsRefused, VerifiesInSomeWay, CertificatesArentUnfit}
-use Rattle.cert_verify.proofs.Judging.{judged_notes}
+use Rattle.cert_verify.specs.Laws.{Verifies, IsRefused, VerifiesInSomeWay, NotesHaveAnAnswer}
 
 pub record Laws : Type 0 where
   pub reads : (text : List ℕ) → IsReadInOneWay text
   pub reading : HasSomeReading
-  pub bounds : FirstVersionHasNoBounds
-  pub notes : TestsSayLocalCertificate
-  pub fit : CertificatesArentUnfit
+  pub answer : NotesHaveAnAnswer
 
 module _ (laws : Laws) (text : List ℕ) where
   abbrev Way : Type 0
@@ -39,20 +30,13 @@ module _ (laws : Laws) (text : List ℕ) where
     fits : FitsCertificate false p all
     fits = subst (λ o. FitsCertificate o p all) is.first_version is.certificate.fits
 
-    in_loops : IsKinded p → (g : ℕ) (f : Func) (notes : List Note) → slice_get p.fns g ≡ Some f → slice_get all g ≡ Some notes →
-        f.external ≡ false → FirstFails (function_tests p f notes) lost → ⊥
-    in_loops kinded g f notes there noted own first =
-        let one = one_instance p f notes (laws.bounds p all fits g f there) in
-        laws.fit p all fits kinded
-        (unfit_func g f notes there noted own (body (lost_jump (subst (λ ts. FirstFails ts lost) one first))))
-
     judged_program : Surely Way
     judged_program = by (breaks p) refl
       where
         by : (o : Option (ℕ × ℕ)) → breaks p ≡ o → Surely Way
         by (Some r) e =
             sure (inr (kind r.1, record { x = x; p = p; all = all; certified = is; row = r.0; breaks = e }))
-        by None kinded = surely (judged_notes p all (in_loops kinded) laws.notes) (λ y. ⊎_elim
+        by None kinded = surely (laws.answer p all fits kinded) (λ y. ⊎_elim
             (λ holds. so (one_way (x ≡ lowered p)) (λ z. ⊎_elim
             (λ low. inl (p, all, record { x = x; certified = is; verified = record { kinded = kinded; local = holds }; lowered = low }))
             (λ apart. inr (not_lowered, record {

@@ -5,7 +5,8 @@ use Rattle.vlt_core.specs.Core.{Program}
 use Rattle.vlt_core.specs.Kinded.{IsKinded}
 use Rattle.cert_format.specs.Notes.{Note}
 use Rattle.cert_format.specs.Certificate.{FitsCertificate}
-use Rattle.cert_check.specs.Unfit.{IsUnfit}
+use Rattle.cert_fit_laws.specs.Annotation.{IsLocalCertificate}
+use Rattle.cert_check.specs.Whole.{ProgramRefusal, IsFirstRefusal}
 use Rattle.cert_verify.specs.Verified.{IsVerifiedFile}
 use Rattle.cert_verify.specs.Refusals.{Refusal, IsRefusal}
 
@@ -27,12 +28,12 @@ IsRefused text = (r : Refusal) × IsRefusal text r
 abbrev pub VerifiesInSomeWay : List ℕ → Type 0
 VerifiesInSomeWay text = Surely (Verifies text ⊎ IsRefused text)
 
--- A premise that isn't proved here: notes of a certificate of version 1, whose program breaks no rule
--- on names and types, can be tested.
-abbrev pub CertificatesArentUnfit : Type 0
-CertificatesArentUnfit =
+-- A premise that isn't proved here: it can't be that the notes of a certificate of version 1, whose
+-- program breaks no rule on names and types, neither hold nor are refused.
+abbrev pub NotesHaveAnAnswer : Type 0
+NotesHaveAnAnswer =
     (p : Program) (all : List (List Note)) → FitsCertificate false p all → IsKinded p →
-    IsUnfit p all → ⊥
+    Surely (IsLocalCertificate p all ⊎ ((first : ProgramRefusal) × IsFirstRefusal p all first))
 
 abbrev pub TextsVerifyInSomeWay : Type 0
-TextsVerifyInSomeWay = CertificatesArentUnfit → (text : List ℕ) → VerifiesInSomeWay text
+TextsVerifyInSomeWay = NotesHaveAnAnswer → (text : List ℕ) → VerifiesInSomeWay text

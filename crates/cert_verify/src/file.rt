@@ -15,7 +15,7 @@ use vlt_core::Program;
 /// The C program of a file, and what its certificate says.
 #[derive(Drop)]
 pub struct CertifiedFile {
-    pub c: CProgram,
+    pub c_program: CProgram,
     pub program: Program,
     pub notes: Items<Items<MapsNote>>,
 }
@@ -50,7 +50,7 @@ pub fn certified_file(alloc: Global, text: &[u8]) -> Result<CertifiedFile, Verif
     };
     let certificate = first_version(alloc, text_from(text, span.from))?;
     Ok(CertifiedFile {
-        c: file.program,
+        c_program: file.program,
         program: certificate.program,
         notes: certificate.notes,
     })

@@ -4,8 +4,7 @@ ghost use Rattle.std.specs.Prelude.{ℕ, List};
 ghost use Rattle.cert_verify.specs.Laws.{VerifiesInOneWay, TextsVerifyInSomeWay};
 
 use c_reader_laws::texts_are_read_in_one_way;
-use cert_check::{refused_in_one_way, tests_say_local};
-use cert_fit_laws::first_version_has_no_bounds;
+use cert_check::refused_in_one_way;
 use cert_format_laws::{texts_have_one_reading, texts_have_some_reading};
 
 /// A text verifies with one program and its notes, or is refused for one reason.
@@ -17,12 +16,10 @@ pub fn texts_verify_in_one_way()
     refused_in_one_way();
 }
 
-/// It can't be that a text neither verifies nor is refused, where the notes of certificates can be tested.
+/// It can't be that a text neither verifies nor is refused, where notes have an answer (`NotesHaveAnAnswer`, a premise).
 pub fn texts_verify_in_some_way()
     ensures { TextsVerifyInSomeWay }
 {
     texts_are_read_in_one_way();
     texts_have_some_reading();
-    first_version_has_no_bounds();
-    tests_say_local();
 }

@@ -34,10 +34,14 @@ pub fn verify_parts(alloc: Global, text: &[u8]) -> Result<u32, VerifyError>
 {
     certificates_are_formed();
     let file = certified_file(alloc, text)?;
-    let CertifiedFile { c, program, notes } = file;
+    let CertifiedFile {
+        c_program,
+        program,
+        notes,
+    } = file;
     kinded(alloc, &program)?;
     local(alloc, &program, notes.as_slice())?;
     drop(notes);
-    matches(alloc, &program, &c)?;
+    matches(alloc, &program, &c_program)?;
     Ok(count_bodies(program.fns.as_slice()))
 }

@@ -22,7 +22,7 @@ returns-in_err-file c =
 pub kinded-requires : goal.kinded-requires
 kinded-requires c =
     let f = c.in_ok-file.file in
-    few_types c.args.text.now (c_view.program_of f.c) (program_of f.program) (notes_of_all f.notes) c.in_ok-file.ensures
+    few_types c.args.text.now (c_view.program_of f.c_program) (program_of f.program) (notes_of_all f.notes) c.in_ok-file.ensures
 
 pub returns-in_err-kinded : goal.returns-in_err-kinded
 returns-in_err-kinded c =
@@ -30,7 +30,7 @@ returns-in_err-kinded c =
     let e = c.in_err-kinded.field-0.0 in
     let is : c.from_residual-2.result ≡ Err (of_kinded e) = first_of (search rules, grind (arith, common_steps)) in
     subst (IsAnswer c.args.text.now) (sym is)
-    (unkinded_as c.args.text.now (c_view.program_of f.c) (program_of f.program) (notes_of_all f.notes) c.in_ok-file.ensures e c.in_err-kinded.ensures)
+    (unkinded_as c.args.text.now (c_view.program_of f.c_program) (program_of f.program) (notes_of_all f.notes) c.in_ok-file.ensures e c.in_err-kinded.ensures)
 
 pub returns-in_err-local : goal.returns-in_err-local
 returns-in_err-local c =
@@ -39,13 +39,13 @@ returns-in_err-local c =
     let is : c.from_residual-3.result ≡ Err (of_local e) = first_of (search rules, grind (arith, common_steps)) in
     let r : Result (Unit {0}) LocalError = Err e in
     subst (IsAnswer c.args.text.now) (sym is)
-    (not_local_as c.args.text.now (c_view.program_of f.c) (program_of f.program) (notes_of_all f.notes) c.in_ok-file.ensures c.in_ok-kinded.ensures e
+    (not_local_as c.args.text.now (c_view.program_of f.c_program) (program_of f.program) (notes_of_all f.notes) c.in_ok-file.ensures c.in_ok-kinded.ensures e
     (subst (λ ns. IfRefused r (IsFirstRefusal (program_of f.program) (notes_of_all ns))) c.as_slice.ensures c.in_err-local.ensures.refused))
 
 pub matches-requires : goal.matches-requires
 matches-requires c =
     let f = c.in_ok-file.file in
-    few_cases c.args.text.now (c_view.program_of f.c) (program_of f.program) (notes_of_all f.notes) c.in_ok-file.ensures
+    few_cases c.args.text.now (c_view.program_of f.c_program) (program_of f.program) (notes_of_all f.notes) c.in_ok-file.ensures
     c.certificates_are_formed.ensures
 
 pub returns-in_err-matches : goal.returns-in_err-matches
@@ -54,14 +54,14 @@ returns-in_err-matches c =
     let e = c.in_err-matches.field-0.0 in
     let is : c.from_residual-4.result ≡ Err (of_match e) = first_of (search rules, grind (arith, common_steps)) in
     subst (IsAnswer c.args.text.now) (sym is)
-    (not_lowered_as c.args.text.now (c_view.program_of f.c) (program_of f.program) (notes_of_all f.notes) c.in_ok-file.ensures c.in_ok-kinded.ensures
+    (not_lowered_as c.args.text.now (c_view.program_of f.c_program) (program_of f.program) (notes_of_all f.notes) c.in_ok-file.ensures c.in_ok-kinded.ensures
     (subst (λ ns. IsLocalCertificate (program_of f.program) (notes_of_all ns)) c.as_slice.ensures c.in_ok-local.ensures.local) e
     c.in_err-matches.ensures)
 
 pub count_bodies-requires : goal.count_bodies-requires
 count_bodies-requires c =
     let f = c.in_ok-file.file in
-    let few = few_functions c.args.text.now (c_view.program_of f.c) (program_of f.program) (notes_of_all f.notes) c.in_ok-file.ensures in
+    let few = few_functions c.args.text.now (c_view.program_of f.c_program) (program_of f.program) (notes_of_all f.notes) c.in_ok-file.ensures in
     let mapped = length-map f.program.fns func_of in
     let same = ap length c.as_slice-2.ensures in
     omega (arith, few, mapped, same)
@@ -73,7 +73,7 @@ returns c =
       p = program_of f.program;
       all = notes_of_all f.notes;
       file = record {
-        x = c_view.program_of f.c;
+        x = c_view.program_of f.c_program;
         certified = c.in_ok-file.ensures;
         verified = record {
           kinded = c.in_ok-kinded.ensures;
