@@ -1,6 +1,6 @@
 //! The text of a certificate in; the program and the notes that it says out, or why it says none.
 //! Read `specs/Certificates.antt` first, and before it of `cert_format` `specs/Certificate.antt` and `Readings`.
-//! Used by: nothing yet; what verifies a C file will.
+//! Used by: `cert_verify`.
 #![tactic(auto)]
 
 ghost use Rattle.cert_format.specs.Readings.{Reading, IsReading};

@@ -1,3 +1,4 @@
 pub mod Version
 pub mod Failing
 pub mod OneWay
+pub mod SomeWay

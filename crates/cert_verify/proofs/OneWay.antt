@@ -12,7 +12,7 @@ use Rattle.c_reader_laws.specs.Laws.{IsReadInOneWay}
 use Rattle.c_lower.specs.Lowering.{lowered}
 use Rattle.cert_format.specs.Notes.{Note}
 use Rattle.cert_format.specs.Certificate.{IsCertificateOf}
-use Rattle.cert_format.specs.Readings.{Reading, certificate, not_json as no_json, not_of_its_form as row}
+use Rattle.cert_format.specs.Readings.{Reading, certificate, not_json as no_json, not_of_its_form as wrong_row}
 use Rattle.cert_format_laws.specs.Readings.{HasOneReading}
 use Rattle.cert_fit_laws.specs.Annotation.{IsVerified}
 use Rattle.cert_check.specs.Laws.{NoneIsRefused, RefusedInOneWay}
@@ -106,12 +106,12 @@ module _ (laws : Laws) where
         program_in : Reading → Program
         program_in (certificate q b) = q
         program_in no_json = p
-        program_in (row n) = p
+        program_in (wrong_row n) = p
 
         notes_in : Reading → List (List Note)
         notes_in (certificate q b) = b
         notes_in no_json = a
-        notes_in (row n) = a
+        notes_in (wrong_row n) = a
 
     -- a text with a program is none without
     read_not_unread : (x : c.Program) (o : Option Span) (e : CError) → IsCProgramOf text x o → IsUnread text e → ⊥
@@ -127,9 +127,9 @@ module _ (laws : Laws) where
       where
         named : certificate p all ≡ no_json → ⊥
         named e = cc
-    no_certificate_is t p all is first (not_of_its_form n h) = absurd (named (laws.reading t (certificate p all) (row n) is h))
+    no_certificate_is t p all is first (not_of_its_form n h) = absurd (named (laws.reading t (certificate p all) (wrong_row n) is h))
       where
-        named : certificate p all ≡ row n → ⊥
+        named : certificate p all ≡ wrong_row n → ⊥
         named e = cc
     no_certificate_is t p all is first (second_version q b h second) = true≢false (sym second ∙ sym (one_version t p q all b is h) ∙ first)
 
@@ -191,8 +191,7 @@ module _ (laws : Laws) where
 
     pub in_one_way : VerifiesInOneWay text
     in_one_way = record {
-      one_program = λ p q a b v w. (one_certified v.x w.x p q a b v.certified w.certified).1 ,
-          (one_certified v.x w.x p q a b v.certified w.certified).2;
+      one_program = λ p q a b v w. let e = one_certified v.x w.x p q a b v.certified w.certified in (e.1, e.2);
       one_refusal = λ r s a b. one_place r s (place_of r a) (place_of s b);
       never_both = λ p all r v a. never_placed p all r v (place_of r a);
     }

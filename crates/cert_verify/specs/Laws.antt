@@ -1,10 +1,12 @@
 -- A text verifies in one way, or is refused in one way.
-use Rattle.std.specs.Prelude.{◌≡◌, ◌⊎◌, ℕ, List}
+use Rattle.std.specs.Prelude.{◌≡◌, ◌⊎◌, ℕ, false, List}
 use Rattle.vlt_base.specs.Sure.{Surely}
 use Rattle.vlt_core.specs.Core.{Program}
 use Rattle.vlt_core.specs.Kinded.{IsKinded}
 use Rattle.cert_format.specs.Notes.{Note}
-use Rattle.cert_format.specs.Certificate.{IsCertificateOf}
+use Rattle.cert_format.specs.Certificate.{FitsCertificate}
+use Rattle.cert_fit_laws.specs.Annotation.{IsLocalCertificate}
+use Rattle.cert_check.specs.Whole.{ProgramRefusal, IsFirstRefusal}
 use Rattle.cert_verify.specs.Verified.{IsVerifiedFile}
 use Rattle.cert_verify.specs.Refusals.{Refusal, IsRefusal}
 
@@ -25,3 +27,13 @@ IsRefused text = (r : Refusal) × IsRefusal text r
 -- It can't be that the text neither verifies nor is refused.
 abbrev pub VerifiesInSomeWay : List ℕ → Type 0
 VerifiesInSomeWay text = Surely (Verifies text ⊎ IsRefused text)
+
+-- A premise that isn't proved here: it can't be that the notes of a certificate of version 1, whose
+-- program breaks no rule on names and types, neither hold nor are refused.
+abbrev pub NotesHaveAnAnswer : Type 0
+NotesHaveAnAnswer =
+    (p : Program) (all : List (List Note)) → FitsCertificate false p all → IsKinded p →
+    Surely (IsLocalCertificate p all ⊎ ((first : ProgramRefusal) × IsFirstRefusal p all first))
+
+abbrev pub TextsVerifyInSomeWay : Type 0
+TextsVerifyInSomeWay = NotesHaveAnAnswer → (text : List ℕ) → VerifiesInSomeWay text

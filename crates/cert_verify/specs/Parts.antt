@@ -61,7 +61,7 @@ IsCertificateIn text (Err e) = ⊥
 
 abbrev pub IsFileOf : List ℕ → CertifiedFile → Type 0
 IsFileOf text f =
-    IsCertified text (c_view.program_of f.c) (program_of f.program) (notes_of_all f.notes)
+    IsCertified text (c_view.program_of f.c_program) (program_of f.program) (notes_of_all f.notes)
 
 abbrev pub IsOpened : List ℕ → Result CertifiedFile VerifyError → Type 0
 IsOpened text (Ok f) = IsFileOf text f

@@ -1,6 +1,6 @@
 //! A C file: its C program, and the program and the notes of its certificate.
 
-ghost use Rattle.std.specs.Prelude.{◌<◌, ◌-◌, ◌^◌, length};
+ghost use Rattle.std.specs.Prelude.{◌≡◌, ◌<◌, ◌≤◌, ◌-◌, ◌^◌, drop, length};
 ghost use Rattle.cert_verify.specs.Parts.{IsCertificateIn, IsOpened};
 
 use crate::error::VerifyError;
@@ -15,9 +15,17 @@ use vlt_core::Program;
 /// The C program of a file, and what its certificate says.
 #[derive(Drop)]
 pub struct CertifiedFile {
-    pub c: CProgram,
+    pub c_program: CProgram,
     pub program: Program,
     pub notes: Items<Items<MapsNote>>,
+}
+
+/// A text from a position on.
+fn text_from(text: &[u8], from: u32) -> &[u8]
+    requires { from ≤ length text.now }
+    ensures { result.now ≡ drop from text.now }
+{
+    &text[from as usize..]
 }
 
 /// Reads the text of a certificate of version 1.
@@ -40,9 +48,9 @@ pub fn certified_file(alloc: Global, text: &[u8]) -> Result<CertifiedFile, Verif
     let Some(span) = file.cert else {
         return Err(VerifyError::Certificate);
     };
-    let certificate = first_version(alloc, &text[span.from as usize..])?;
+    let certificate = first_version(alloc, text_from(text, span.from))?;
     Ok(CertifiedFile {
-        c: file.program,
+        c_program: file.program,
         program: certificate.program,
         notes: certificate.notes,
     })

@@ -8,6 +8,7 @@ use crate::error::VerifyError;
 use crate::file::{CertifiedFile, certified_file};
 use c_match::matches;
 use cert_check::local;
+use cert_fit_laws::certificates_are_formed;
 use cert_kinds::kinded;
 use std::alloc::Global;
 use vlt_core::Func;
@@ -31,11 +32,16 @@ pub fn verify_parts(alloc: Global, text: &[u8]) -> Result<u32, VerifyError>
     requires { length text.now < 2 ^ 32 - 1 }
     ensures { IsAnswer text.now result }
 {
+    certificates_are_formed();
     let file = certified_file(alloc, text)?;
-    let CertifiedFile { c, program, notes } = file;
+    let CertifiedFile {
+        c_program,
+        program,
+        notes,
+    } = file;
     kinded(alloc, &program)?;
     local(alloc, &program, notes.as_slice())?;
     drop(notes);
-    matches(alloc, &program, &c)?;
+    matches(alloc, &program, &c_program)?;
     Ok(count_bodies(program.fns.as_slice()))
 }
