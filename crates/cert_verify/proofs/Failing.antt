@@ -86,7 +86,7 @@ module _ (text : List ℕ) (x : c.Program) (cert : Span) (reads : IsCProgramOf t
   uncertified_as (error.C e) is = absurd is
   uncertified_as (error.Kind rule) is = absurd is
   uncertified_as (error.Local first) is = absurd is
-  uncertified_as error.NotLowered is = absurd is
+  uncertified_as (error.NotLowered n) is = absurd is
 
   pub certified : (y : Certificate) → IsOfFirstVersion (certificate_text text cert) y → IsCertified text x (program_of y.program) (notes_of_all y.notes)
   certified y is = record { cert = cert; reads = reads; certificate = is.is; first_version = is.first }
@@ -142,6 +142,6 @@ module _ (text : List ℕ) (x : c.Program) (p : Program) (all : List (List Note)
     not_local_as local_error.Memory h = tt
 
     pub not_lowered_as : IsLocalCertificate p all → (e : MatchError) → match_refusals.Refuses p x e → IsRefusedAs text (of_match e)
-    not_lowered_as local match_error.Differs h =
-        record { x = x; p = p; all = all; certified = is; verified = record { kinded = kinded; local = local }; apart = h }
+    not_lowered_as local (match_error.Differs n) h =
+        record { x = x; p = p; all = all; certified = is; verified = record { kinded = kinded; local = local }; apart = h.other; first = h.first }
     not_lowered_as local match_error.Memory h = tt

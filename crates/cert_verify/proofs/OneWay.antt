@@ -17,6 +17,8 @@ use Rattle.cert_format_laws.specs.Readings.{HasOneReading}
 use Rattle.cert_fit_laws.specs.Annotation.{IsVerified}
 use Rattle.cert_check.specs.Laws.{NoneIsRefused, RefusedInOneWay}
 use Rattle.cert_check.specs.Whole.{ProgramRefusal, IsFirstRefusal}
+use Rattle.c_match.specs.Apart.{IsApartAt}
+use Rattle.c_match.specs.Laws.{ApartAtOne}
 use Rattle.cert_verify.specs.Verified.{certificate_text, IsCertified, IsVerifiedFile, body_count}
 use Rattle.cert_verify.specs.Refusals.{Refusal, unread, no_certificate, kind, local, not_lowered, IsNoCertificate, not_json, not_of_its_form, second_version, IsUncertified, no_mark, no_certificate_there, IsRefusal}
 use Rattle.cert_verify.specs.Outcomes.{refusal_of, IsAnswer, Refuses, Counts}
@@ -30,6 +32,7 @@ pub record Laws : Type 0 where
   pub reading : HasOneReading
   pub none : NoneIsRefused
   pub one : RefusedInOneWay
+  pub apart : ApartAtOne
 
 -- ---- what is found of a program and its C program, where the text has both
 
@@ -38,7 +41,7 @@ Finds x p all (unread e) = ⊥
 Finds x p all no_certificate = ⊥
 Finds x p all (kind rule) = (row : ℕ) × (breaks p ≡ Some (row, rule))
 Finds x p all (local first) = IsKinded p × IsFirstRefusal p all first
-Finds x p all not_lowered = IsVerified p all × (x ≡ lowered p → ⊥)
+Finds x p all (not_lowered n) = IsVerified p all × (x ≡ lowered p → ⊥) × IsApartAt p x n
 
 record Late (text : List ℕ) (r : Refusal) : Type 0 where
   x : c.Program
@@ -53,8 +56,8 @@ late_kind text rule r = record { x = r.x; p = r.p; all = r.all; certified = r.ce
 late_local : (text : List ℕ) (first : ProgramRefusal) → IsRefusal text (local first) → Late text (local first)
 late_local text first r = record { x = r.x; p = r.p; all = r.all; certified = r.certified; finds = (r.kinded, r.refused) }
 
-late_lowering : (text : List ℕ) → IsRefusal text not_lowered → Late text not_lowered
-late_lowering text r = record { x = r.x; p = r.p; all = r.all; certified = r.certified; finds = (r.verified, r.apart) }
+late_lowering : (text : List ℕ) (n : ℕ) → IsRefusal text (not_lowered n) → Late text (not_lowered n)
+late_lowering text n r = record { x = r.x; p = r.p; all = r.all; certified = r.certified; finds = (r.verified, r.apart, r.first) }
 
 unbroken : (p : Program) (row rule : ℕ) → breaks p ≡ Some (row, rule) → IsKinded p → ⊥
 unbroken p row rule broken kinded = some_not_none (row, rule) (sym broken ∙ kinded)
@@ -68,24 +71,24 @@ module _ (laws : Laws) where
     one_found (kind m) no_certificate a b = absurd b
     one_found (kind m) (kind n) a b = ap (λ z. kind z.1) (some_same (a.0, m) (b.0, n) (sym a.1 ∙ b.1))
     one_found (kind m) (local y) a b = absurd (unbroken p a.0 m a.1 b.0)
-    one_found (kind m) not_lowered a b = absurd (unbroken p a.0 m a.1 b.0.kinded)
+    one_found (kind m) (not_lowered n) a b = absurd (unbroken p a.0 m a.1 b.0.kinded)
     one_found (local y) (unread e) a b = absurd b
     one_found (local y) no_certificate a b = absurd b
     one_found (local y) (kind n) a b = absurd (unbroken p b.0 n b.1 a.0)
     one_found (local y) (local z) a b = ap local (laws.one p all y z a.1 b.1)
-    one_found (local y) not_lowered a b = absurd (laws.none p all y b.0.local a.1)
-    one_found not_lowered (unread e) a b = absurd b
-    one_found not_lowered no_certificate a b = absurd b
-    one_found not_lowered (kind n) a b = absurd (unbroken p b.0 n b.1 a.0.kinded)
-    one_found not_lowered (local z) a b = absurd (laws.none p all z a.0.local b.1)
-    one_found not_lowered not_lowered a b = refl
+    one_found (local y) (not_lowered n) a b = absurd (laws.none p all y b.0.local a.1)
+    one_found (not_lowered m) (unread e) a b = absurd b
+    one_found (not_lowered m) no_certificate a b = absurd b
+    one_found (not_lowered m) (kind n) a b = absurd (unbroken p b.0 n b.1 a.0.kinded)
+    one_found (not_lowered m) (local z) a b = absurd (laws.none p all z a.0.local b.1)
+    one_found (not_lowered m) (not_lowered n) a b = ap not_lowered (laws.apart p x m n a.2 b.2)
 
     none_found : (r : Refusal) → Finds x p all r → IsVerified p all → x ≡ lowered p → ⊥
     none_found (unread e) a v low = a
     none_found no_certificate a v low = a
     none_found (kind m) a v low = unbroken p a.0 m a.1 v.kinded
     none_found (local y) a v low = laws.none p all y v.local a.1
-    none_found not_lowered a v low = a.1 low
+    none_found (not_lowered m) a v low = a.1 low
 
   -- ---- what a text has
 
@@ -168,7 +171,7 @@ module _ (laws : Laws) where
     place_of no_certificate h = second refl h
     place_of (kind rule) h = late (late_kind text rule h)
     place_of (local y) h = late (late_local text y h)
-    place_of not_lowered h = late (late_lowering text h)
+    place_of (not_lowered n) h = late (late_lowering text n h)
 
     one_place : (r s : Refusal) → Place r → Place s → r ≡ s
     one_place r s (first e is a) (first d same b) = is ∙ ap unread ((laws.reads text).one_reason e d a b) ∙ sym same

@@ -13,6 +13,7 @@ use Rattle.cert_format.specs.Notes.{Note}
 use Rattle.cert_format.specs.Certificate.{FitsCertificate, IsCertificateOf}
 use Rattle.cert_format.specs.Readings.{Reading, certificate, not_json as no_json, not_of_its_form as wrong_row, IsReading}
 use Rattle.cert_format_laws.specs.Readings.{HasSomeReading}
+use Rattle.c_match.specs.Laws.{OthersAreApart}
 use Rattle.cert_verify.specs.Verified.{certificate_text, IsCertified}
 use Rattle.cert_verify.specs.Refusals.{unread, no_certificate, kind, local, not_lowered, not_json, not_of_its_form, second_version, no_mark, no_certificate_there}
 use Rattle.cert_verify.specs.Laws.{Verifies, IsRefused, VerifiesInSomeWay, NotesHaveAnAnswer}
@@ -21,6 +22,7 @@ pub record Laws : Type 0 where
   pub reads : (text : List ℕ) → IsReadInOneWay text
   pub reading : HasSomeReading
   pub answer : NotesHaveAnAnswer
+  pub others : OthersAreApart
 
 module _ (laws : Laws) (text : List ℕ) where
   abbrev Way : Type 0
@@ -37,16 +39,17 @@ module _ (laws : Laws) (text : List ℕ) where
         by (Some r) e =
             sure (inr (kind r.1, record { x = x; p = p; all = all; certified = is; row = r.0; breaks = e }))
         by None kinded = surely (laws.answer p all fits kinded) (λ y. ⊎_elim
-            (λ holds. so (one_way (x ≡ lowered p)) (λ z. ⊎_elim
-            (λ low. inl (p, all, record { x = x; certified = is; verified = record { kinded = kinded; local = holds }; lowered = low }))
-            (λ apart. inr (not_lowered, record {
+            (λ holds. surely (one_way (x ≡ lowered p)) (λ z. ⊎_elim
+            (λ low. sure (inl (p, all, record { x = x; certified = is; verified = record { kinded = kinded; local = holds }; lowered = low })))
+            (λ apart. so (laws.others p x apart) (λ n. inr (not_lowered n.0, record {
               x = x;
               p = p;
               all = all;
               certified = is;
               verified = record { kinded = kinded; local = holds };
               apart = apart;
-            })) z))
+              first = n.1;
+            }))) z))
             (λ first. sure (inr (local first.0, record {
               x = x;
               p = p;

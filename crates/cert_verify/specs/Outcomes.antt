@@ -14,7 +14,7 @@ refusal_of (error.C e) = Some (unread e)
 refusal_of error.Certificate = Some no_certificate
 refusal_of (error.Kind rule) = Some (kind rule)
 refusal_of (error.Local first) = Some (local (refusal_in first))
-refusal_of error.NotLowered = Some not_lowered
+refusal_of (error.NotLowered statement) = Some (not_lowered statement)
 refusal_of error.Memory = None
 
 -- The file verifies, and its certificate's program has so many functions with a body.

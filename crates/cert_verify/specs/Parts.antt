@@ -41,7 +41,7 @@ of_local (local_error.Refused first) = error.Local first
 of_local e = error.Memory
 
 abbrev pub of_match : MatchError → VerifyError
-of_match match_error.Differs = error.NotLowered
+of_match (match_error.Differs statement) = error.NotLowered statement
 of_match match_error.Memory = error.Memory
 
 -- ---- the certificate

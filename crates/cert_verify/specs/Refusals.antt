@@ -10,6 +10,7 @@ use Rattle.c_syntax.specs.Reading.{IsCProgramOf}
 use Rattle.c_reader.specs.declared.error.CError.{CError}
 use Rattle.c_reader.specs.Reads.{IsUnread}
 use Rattle.c_lower.specs.Lowering.{lowered}
+use Rattle.c_match.specs.Apart.{IsApartAt}
 use Rattle.cert_format.specs.Notes.{Note}
 use Rattle.cert_format.specs.Certificate.{IsCertificateOf}
 use Rattle.cert_format.specs.Readings.{IsNotJson, IsFormRefusal}
@@ -22,7 +23,7 @@ pub data Refusal : Type 0 where
   no_certificate : Refusal
   kind : (rule : ℕ) → Refusal
   local : ProgramRefusal → Refusal
-  not_lowered : Refusal
+  not_lowered : (statement : ℕ) → Refusal
 
 -- The text is no certificate of version 1. One of version 2 is none yet.
 pub data IsNoCertificate (text : List ℕ) : Type 0 where
@@ -58,14 +59,16 @@ pub record IsNotLocal (text : List ℕ) (first : ProgramRefusal) : Type 0 where
   pub kinded : IsKinded p
   pub refused : IsFirstRefusal p all first
 
--- The notes hold too, and the C program isn't the lowering of the certificate's.
-pub record IsNotLowered (text : List ℕ) : Type 0 where
+-- The notes hold too, and the C program isn't the lowering of the certificate's: this is the first
+-- statement whose lowering isn't there, or the number of all where they differ outside them.
+pub record IsNotLowered (text : List ℕ) (statement : ℕ) : Type 0 where
   pub x : c.Program
   pub p : Program
   pub all : List (List Note)
   pub certified : IsCertified text x p all
   pub verified : IsVerified p all
   pub apart : x ≡ lowered p → ⊥
+  pub first : IsApartAt p x statement
 
 -- this is the first part that fails, and why
 abbrev pub IsRefusal : List ℕ → Refusal → Type 0
@@ -73,4 +76,4 @@ IsRefusal text (unread e) = IsUnread text e
 IsRefusal text no_certificate = IsUncertified text
 IsRefusal text (kind rule) = IsUnkinded text rule
 IsRefusal text (local first) = IsNotLocal text first
-IsRefusal text not_lowered = IsNotLowered text
+IsRefusal text (not_lowered n) = IsNotLowered text n

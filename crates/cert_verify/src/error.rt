@@ -25,9 +25,10 @@ pub enum VerifyError {
     /// The first test that the notes fail.
     #[error("the notes don't hold")]
     Local(LocalRefusal),
-    /// The C program isn't the lowering of the certificate's program.
-    #[error("the C program isn't the lowering")]
-    NotLowered,
+    /// The C program isn't the lowering of the certificate's program. The statement is the first one whose lowering isn't there,
+    /// counted from 0 over the whole program; outside all statements it is their number.
+    #[error("the C program isn't the lowering, from statement {statement} on")]
+    NotLowered { statement: u64 },
     #[error("there was no memory")]
     Memory,
 }
@@ -86,7 +87,7 @@ impl From<MatchError> for VerifyError {
 
     fn from(error: MatchError) -> VerifyError {
         match error {
-            MatchError::Differs => VerifyError::NotLowered,
+            MatchError::Differs { statement } => VerifyError::NotLowered { statement },
             MatchError::Memory => VerifyError::Memory,
         }
     }

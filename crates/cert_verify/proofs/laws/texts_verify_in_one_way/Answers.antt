@@ -7,4 +7,5 @@ returns c = in_one_way (record {
   reading = c.texts_have_one_reading.ensures;
   none = c.refused_in_one_way.ensures.none_of_program;
   one = c.refused_in_one_way.ensures.one_of_program;
+  apart = c.apart_at_one.ensures.one;
 })
