@@ -99,9 +99,11 @@ module _ (o : Bool) (rows : List Value) (d : Declarations) (fault : Option ℕ) 
     of_version c x = record { rows = map view rows; json = j.json; names = names ∙ ap (λ v. Some v) (sym x.version) }
 
     pub at_none : fault ≡ None → (c : Certificate) → IsCertificateWith o d c → IsReadAs text (Ok c)
-    at_none e c x =
-        (subst (λ p. IsCertificateOf text p (notes_of_all c.notes)) (sym (program_is e c x))
-        (subst (IsCertificateOf text (folded.program_of r.read)) (sym (ap notes_of_all x.notes ∙ (r.right e).notes)) (said e)), of_version c x)
+    at_none e c x = (
+      subst (λ p. IsCertificateOf text p (notes_of_all c.notes)) (sym (program_is e c x))
+          (subst (IsCertificateOf text (folded.program_of r.read)) (sym (ap notes_of_all x.notes ∙ (r.right e).notes)) (said e)),
+      of_version c x,
+    )
 
 -- ---- values and texts
 

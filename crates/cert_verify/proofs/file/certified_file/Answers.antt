@@ -3,15 +3,9 @@ use Rattle.std.proofs.lemmas.Grind.{common_steps}
 use Rattle.c_syntax.specs.Reading.{IsCProgramOf}
 use Rattle.c_syntax.specs.View.{program_of}
 use Rattle.cert_verify.specs.Refusals.{no_mark}
-use Rattle.cert_verify.specs.Parts.{of_c, IsOfFirstVersion, IsCertificateIn, IsOpened}
-use Rattle.cert_verify.proofs.Failing.{unread_as, marked_within, uncertified_as, certified}
+use Rattle.cert_verify.specs.Parts.{IsOfFirstVersion, IsCertificateIn, IsOpened}
+use Rattle.cert_verify.proofs.Failing.{marked_within, uncertified_as, certified}
 use Rattle.cert_verify.proofs.file.certified_file.Goals as goal
-
-pub returns-in_err-file : goal.returns-in_err-file
-returns-in_err-file c =
-    let e = c.in_err-file.field-0.0 in
-    let is : c.from_residual.result ≡ Err (of_c e) = first_of (search rules, grind (arith, common_steps)) in
-    subst (IsOpened c.args.text.now) (sym is) (unread_as c.args.text.now e c.in_err-file.ensures)
 
 pub returns-in_default : goal.returns-in_default
 returns-in_default c =
@@ -28,7 +22,7 @@ returns-in_err-certificate c =
     let x = program_of c.in_ok-file.file.program in
     let reads = subst (IsCProgramOf c.args.text.now x) c.in-Some.is c.in_ok-file.ensures in
     let e = c.in_err-certificate.field-0.0 in
-    let is : c.from_residual-2.result ≡ Err e = first_of (search rules, grind (arith, common_steps)) in
+    let is : c.from_residual-in_err-certificate.result ≡ Err e = first_of (search rules, grind (arith, common_steps)) in
     subst (IsOpened c.args.text.now) (sym is)
     (uncertified_as c.args.text.now x c.in-Some.span reads e
     (subst (λ t. IsCertificateIn t (Err e)) c.text_from.ensures c.in_err-certificate.ensures))
