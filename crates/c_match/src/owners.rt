@@ -16,9 +16,7 @@ ghost use Rattle.c_match.specs.Owned.{arms_owned, block_owned, body_owned, count
 ghost use Rattle.c_match.specs.Owners.{arm_owned, owner_at, owners_in, Adds, AreOwners};
 
 use crate::pieces::{count_code, count_funcs};
-use c_lower_exprs::{
-    Numbers, ProgramTables, Scope, Sort, frame_slots, lower_value, successor,
-};
+use c_lower_exprs::{Numbers, ProgramTables, Scope, Sort, frame_slots, lower_value, successor};
 use c_lower_stmts::lower_stmts;
 use c_syntax::{CFunc, CStmt};
 use std::alloc::Global;

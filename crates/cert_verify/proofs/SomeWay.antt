@@ -41,23 +41,29 @@ module _ (laws : Laws) (text : List ℕ) where
         by None kinded = surely (laws.answer p all fits kinded) (λ y. ⊎_elim
             (λ holds. surely (one_way (x ≡ lowered p)) (λ z. ⊎_elim
             (λ low. sure (inl (p, all, record { x = x; certified = is; verified = record { kinded = kinded; local = holds }; lowered = low })))
-            (λ apart. so (laws.others p x apart) (λ n. inr (not_lowered n.0, record {
-              x = x;
-              p = p;
-              all = all;
-              certified = is;
-              verified = record { kinded = kinded; local = holds };
-              apart = apart;
-              first = n.1;
-            }))) z))
-            (λ first. sure (inr (local first.0, record {
-              x = x;
-              p = p;
-              all = all;
-              certified = is;
-              kinded = kinded;
-              refused = first.1;
-            }))) y)
+            (λ apart. so (laws.others p x apart) (λ n. inr (
+              not_lowered n.0,
+              record {
+                x = x;
+                p = p;
+                all = all;
+                certified = is;
+                verified = record { kinded = kinded; local = holds };
+                apart = apart;
+                first = n.1;
+              },
+            ))) z))
+            (λ first. sure (inr (
+              local first.0,
+              record {
+                x = x;
+                p = p;
+                all = all;
+                certified = is;
+                kinded = kinded;
+                refused = first.1;
+              },
+            ))) y)
 
   module _ (x : c.Program) (cert : Span) (reads : IsCProgramOf text x (Some cert)) where
     judged_version : (p : Program) (all : List (List Note)) (is : IsCertificateOf (certificate_text text cert) p all) →

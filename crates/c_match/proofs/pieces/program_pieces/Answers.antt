@@ -13,5 +13,5 @@ returns c =
     let fns = c.args.fns.now in
     let x : plain.Program = record { glue = map func_of glue; fns = map func_of fns; main = main } in
     let first : map piece_seen c.push.new.self ≡ heads_of x ∷ [] =
-        ap (map piece_seen) (c.in_ok-push.ensures.ok ∙ ap (λ l. l ++ _ ∷ []) c.new-out.ensures) ∙ ap₂ (λ a b. heads main a b ∷ []) (heads_are glue) (heads_are fns) in
+    ap (map piece_seen) (c.in_ok-push.ensures.ok ∙ ap (λ l. l ++ _ ∷ []) c.new-out.ensures) ∙ ap₂ (λ a b. heads main a b ∷ []) (heads_are glue) (heads_are fns) in
     whole_laid x (map piece_seen c.push.new.self) (map piece_seen c.add_funcs.new.out) (map piece_seen c.add_funcs-2.new.out) first c.in_ok-add_funcs.ensures c.in_ok-add_funcs-2.ensures
