@@ -1,12 +1,15 @@
 -- What a part gives, and what it refuses where it fails.
-use Rattle.std.proofs.Common.{◌≡◌, ◌≤◌, ◌<◌, ◌+◌, ◌^◌, refl, sym, ap, ◌∙◌, ℕ, nat_le, nat_lt, ◌&&◌, ◌||◌, Bool, true, false, if◌then◌else◌, List, [], ◌∷◌, length, Option, Some, None, Result, Ok, Err, arith}
+use Rattle.std.proofs.Common.{◌≡◌, ◌≤◌, ◌<◌, ◌+◌, ◌-◌, ◌^◌, refl, sym, ap, ◌∙◌, subst, ℕ, nat_le, nat_lt, ◌&&◌, ◌||◌, Bool, true, false, if◌then◌else◌, List, [], ◌∷◌, length, Option, Some, None, Result, Ok, Err, arith}
 use Rattle.std.specs.List.{list_any}
 use Rattle.std.proofs.lemmas.Bool.Decides.{nat_tests}
+use Rattle.std.proofs.lemmas.List.{length-drop}
 use Rattle.vlt_base.specs.declared.places.Span.{Span}
 use Rattle.vlt_core.specs.Core.{Ty, int, bool, tracked, owning, guarded, variant, owning_variant, Func, Program}
 use Rattle.vlt_core.specs.Kinded.{IsKinded}
 use Rattle.vlt_core.specs.Lookups.{cases_of}
 use Rattle.vlt_core.specs.View.{program_of}
+use Rattle.vlt_core.specs.declared.program.Program.{Program as CodeProgram}
+use Rattle.cert_format.specs.Certificate.{FitsCertificate}
 use Rattle.vlt_core_laws.proofs.Unbroken.{some_same, some_not_none}
 use Rattle.c_syntax.specs.C as c
 use Rattle.c_syntax.specs.Text.{before_mark}
@@ -30,13 +33,12 @@ use Rattle.cert_read.specs.declared.error.ReadError.TheVariants as read_error
 use Rattle.cert_kinds.specs.Outcomes as kinds
 use Rattle.cert_kinds.specs.declared.whole.KindedError.{KindedError}
 use Rattle.cert_kinds.specs.declared.whole.KindedError.TheVariants as kinded_error
-use Rattle.cert_check.specs.Whole.{IfRefused, IsFirstRefusal}
-use Rattle.cert_check.specs.declared.whole.LocalError.{LocalError}
-use Rattle.cert_check.specs.declared.whole.LocalError.TheVariants as local_error
+use Rattle.cert_check.specs.Unfit.{IsUnfit}
+use Rattle.cert_check_laws.specs.Laws.{TextsHaveMoreBytes, CertificatesArentUnfit}
 use Rattle.cert_verify.specs.Verified.{certificate_text, IsCertified}
 use Rattle.cert_verify.specs.Refusals.{IsNoCertificate, not_json, not_of_its_form, second_version, no_certificate_there}
 use Rattle.cert_verify.specs.Outcomes.{IsRefusedAs}
-use Rattle.cert_verify.specs.Parts.{of_c, of_read, of_kinded, of_local, of_match, IsOfFirstVersion, IsCertificateIn}
+use Rattle.cert_verify.specs.Parts.{of_c, of_read, of_kinded, of_match, AreTested, IsOfFirstVersion, IsCertificateIn}
 use Rattle.cert_verify.specs.declared.error.VerifyError.{VerifyError}
 use Rattle.cert_verify.specs.declared.error.VerifyError.TheVariants as error
 use Rattle.cert_verify.proofs.Version.{version_is}
@@ -135,13 +137,23 @@ module _ (text : List ℕ) (x : c.Program) (p : Program) (all : List (List Note)
   unkinded_as kinded_error.Memory h = tt
 
   module _ (kinded : IsKinded p) where
-    pub not_local_as : (e : LocalError) → (let r : Result (Unit {0}) LocalError = Err e in IfRefused r (IsFirstRefusal p all)) → IsRefusedAs text (of_local e)
-    not_local_as (local_error.Refused first) h =
-        record { x = x; p = p; all = all; certified = is; kinded = kinded; refused = h.holds first refl }
-    not_local_as local_error.Unfit h = tt
-    not_local_as local_error.Memory h = tt
+    pub not_local_as : (e : VerifyError) → AreTested p all (Err e) → IsRefusedAs text e
+    not_local_as (error.Local first) h = record { x = x; p = p; all = all; certified = is; kinded = kinded; refused = h }
+    not_local_as error.Memory h = tt
+    not_local_as (error.C e) h = absurd h
+    not_local_as error.Certificate h = absurd h
+    not_local_as (error.Kind rule) h = absurd h
+    not_local_as (error.NotLowered n) h = absurd h
 
     pub not_lowered_as : IsLocalCertificate p all → (e : MatchError) → match_refusals.Refuses p x e → IsRefusedAs text (of_match e)
     not_lowered_as local (match_error.Differs n) h =
         record { x = x; p = p; all = all; certified = is; verified = record { kinded = kinded; local = local }; apart = h.other; first = h.first }
     not_lowered_as local match_error.Memory h = tt
+
+-- the notes of a program of the code can be tested
+pub testable : TextsHaveMoreBytes → CertificatesArentUnfit → (text : List ℕ) (x : c.Program) (p : CodeProgram) (all : List (List Note)) → length text < 2 ^ 32 - 1 →
+    IsCertified text x (program_of p) all → IsKinded (program_of p) → IsUnfit (program_of p) all → ⊥
+testable more arent text x p all short is kinded =
+    arent p all (subst (λ o. FitsCertificate o (program_of p) all) is.first_version is.certificate.fits) kinded
+    (λ g. (let less = more (certificate_text text is.cert) (program_of p) all is.certificate g in
+    let dropped = length-drop is.cert.from text in omega (arith, less, dropped, short)))

@@ -6,6 +6,9 @@ use Rattle.c_reader.specs.declared.error.CError.{CError}
 use Rattle.c_reader.specs.declared.error.CError.TheVariants as c_error
 use Rattle.c_match.specs.declared.error.MatchError.{MatchError}
 use Rattle.c_match.specs.declared.error.MatchError.TheVariants as match_error
+use Rattle.vlt_core.specs.Core.{Program}
+use Rattle.cert_format.specs.Notes.{Note}
+use Rattle.cert_fit_laws.specs.Annotation.{IsLocalCertificate}
 use Rattle.cert_format.specs.Certificate.{IsCertificateOf}
 use Rattle.cert_read.specs.Declarations.{notes_of_all}
 use Rattle.cert_read.specs.declared.read.Certificate.{Certificate}
@@ -13,8 +16,7 @@ use Rattle.cert_read.specs.declared.error.ReadError.{ReadError}
 use Rattle.cert_read.specs.declared.error.ReadError.TheVariants as read_error
 use Rattle.cert_kinds.specs.declared.whole.KindedError.{KindedError}
 use Rattle.cert_kinds.specs.declared.whole.KindedError.TheVariants as kinded_error
-use Rattle.cert_check.specs.declared.whole.LocalError.{LocalError}
-use Rattle.cert_check.specs.declared.whole.LocalError.TheVariants as local_error
+use Rattle.cert_check.specs.Whole.{refusal_in, IsFirstRefusal}
 use Rattle.cert_verify.specs.Verified.{IsCertified}
 use Rattle.cert_verify.specs.Refusals.{IsNoCertificate}
 use Rattle.cert_verify.specs.Outcomes.{IsRefusedAs}
@@ -35,10 +37,6 @@ of_read e = error.Certificate
 abbrev pub of_kinded : KindedError → VerifyError
 of_kinded (kinded_error.Broken row rule) = error.Kind rule
 of_kinded kinded_error.Memory = error.Memory
-
-abbrev pub of_local : LocalError → VerifyError
-of_local (local_error.Refused first) = error.Local first
-of_local e = error.Memory
 
 abbrev pub of_match : MatchError → VerifyError
 of_match (match_error.Differs statement) = error.NotLowered statement
@@ -66,3 +64,12 @@ IsFileOf text f =
 abbrev pub IsOpened : List ℕ → Result CertifiedFile VerifyError → Type 0
 IsOpened text (Ok f) = IsFileOf text f
 IsOpened text (Err e) = IsRefusedAs text e
+
+-- ---- the notes
+
+-- the notes hold, or this is the first test that they fail
+abbrev pub AreTested : Program → List (List Note) → Result (Unit {0}) VerifyError → Type 0
+AreTested p all (Ok u) = IsLocalCertificate p all
+AreTested p all (Err (error.Local first)) = IsFirstRefusal p all (refusal_in first)
+AreTested p all (Err error.Memory) = Unit {0}
+AreTested p all (Err e) = ⊥

@@ -1,11 +1,11 @@
 //! Why a C file doesn't verify.
 
 ghost use Rattle.std.specs.Prelude.{◌≡◌};
-ghost use Rattle.cert_verify.specs.Parts.{of_c, of_read, of_kinded, of_local, of_match};
+ghost use Rattle.cert_verify.specs.Parts.{of_c, of_read, of_kinded, of_match};
 
 use c_match::MatchError;
 use c_reader::CError;
-use cert_check::{LocalError, LocalRefusal};
+use cert_check::LocalRefusal;
 use cert_kinds::KindedError;
 use cert_read::ReadError;
 use thiserror::Error;
@@ -66,18 +66,6 @@ impl From<KindedError> for VerifyError {
         match error {
             KindedError::Broken { row: _, rule } => VerifyError::Kind { rule },
             KindedError::Memory => VerifyError::Memory,
-        }
-    }
-}
-
-impl From<LocalError> for VerifyError {
-    ghost from_gives = { λ x e. e ≡ of_local x };
-
-    fn from(error: LocalError) -> VerifyError {
-        match error {
-            LocalError::Refused(first) => VerifyError::Local(first),
-            LocalError::Unfit => VerifyError::Memory,
-            LocalError::Memory => VerifyError::Memory,
         }
     }
 }

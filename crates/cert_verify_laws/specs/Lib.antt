@@ -1,0 +1,3 @@
+pub mod CodePrograms
+pub mod Promises
+pub mod Emitted
