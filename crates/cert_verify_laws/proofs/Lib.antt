@@ -1,6 +1,0 @@
-mod CodePrograms
-mod RowMasks
-mod Packs
-mod Masking
-mod Emitting
-mod Annotated

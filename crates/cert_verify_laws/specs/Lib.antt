@@ -1,3 +1,0 @@
-pub mod CodePrograms
-pub mod Promises
-pub mod Emitted
