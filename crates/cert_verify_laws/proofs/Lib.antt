@@ -1,0 +1,6 @@
+mod CodePrograms
+mod RowMasks
+mod Packs
+mod Masking
+mod Emitting
+mod Annotated

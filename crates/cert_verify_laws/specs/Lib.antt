@@ -1,0 +1,4 @@
+pub mod CodePrograms
+pub mod Promises
+pub mod Emitted
+pub mod Causes
