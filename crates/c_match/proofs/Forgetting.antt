@@ -96,8 +96,8 @@ module _ (p : Program) (f : Func) where
         let adopter = var_at (past t of_reference) of_reference in
         let inside = past (past t of_reference) of_reference in
         let first =
-            c.set object (c.variable (slot_of p f y)) ∷ runtime_value adopter prim.Parent (c.variable object ∷ [])
-            ∷ runtime_call prim.Disown (c.variable object ∷ []) ∷ c.set (slot_of p f z) (c.variable object) ∷ [] in
+        c.set object (c.variable (slot_of p f y)) ∷ runtime_value adopter prim.Parent (c.variable object ∷ [])
+        ∷ runtime_call prim.Disown (c.variable object ∷ []) ∷ c.set (slot_of p f z) (c.variable object) ∷ [] in
         let last = runtime_call prim.Own (c.variable object ∷ c.variable adopter ∷ []) in
         and_so
         (both (both

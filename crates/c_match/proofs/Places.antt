@@ -44,10 +44,13 @@ part_apart [] (y ∷ ys) (suc k) x = absurd (none-some y (x.before 0 (omega arit
 part_apart (x ∷ xs) [] zero q = refl
 part_apart (x ∷ xs) [] (suc k) q = absurd (none-some x.piece (sym (q.before 0 (omega arith))))
 part_apart (x ∷ xs) (y ∷ ys) zero q = inl ((λ e. q.here (ap Some e)), refl)
-part_apart (x ∷ xs) (y ∷ ys) (suc k) q = inr (same_Some x.piece y (q.before 0 (omega arith)), part_apart xs ys k (record {
-  before = λ j less. q.before (suc j) (omega (arith, less));
-  here = q.here;
-}))
+part_apart (x ∷ xs) (y ∷ ys) (suc k) q = inr (
+  same_Some x.piece y (q.before 0 (omega arith)),
+  part_apart xs ys k (record {
+    before = λ j less. q.before (suc j) (omega (arith, less));
+    here = q.here;
+  }),
+)
 
 -- the number that is found is that of the first statement whose lowering isn't there
 pub told : (p : Program) (x : c.Program) (wanted found : List Piece) (owners : List (Option ℕ)) (statements at n : ℕ) →

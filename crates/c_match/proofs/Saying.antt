@@ -156,7 +156,7 @@ mutual
   same_list (c.next x xs) c.done zs ws q = absurd (end_begins x (list_pieces xs ++ ends ∷ zs) ws (sym q ∙ append_assoc (stmt_pieces x) (list_pieces xs) (ends ∷ zs)))
   same_list (c.next x xs) (c.next y ys) zs ws q =
       let s = same_stmt x y (list_pieces xs ++ ends ∷ zs) (list_pieces ys ++ ends ∷ ws) (else_follows xs zs) (else_follows ys ws)
-          (sym (append_assoc (stmt_pieces x) (list_pieces xs) (ends ∷ zs)) ∙ q ∙ append_assoc (stmt_pieces y) (list_pieces ys) (ends ∷ ws)) in
+      (sym (append_assoc (stmt_pieces x) (list_pieces xs) (ends ∷ zs)) ∙ q ∙ append_assoc (stmt_pieces y) (list_pieces ys) (ends ∷ ws)) in
       let r = same_list xs ys zs ws s.1 in
       (ap₂ c.next s.0 r.0, r.1)
 
@@ -176,7 +176,7 @@ same_funcs [] (g ∷ gs) zs ws h q = absurd (nothing_there (head_of g) (map head
 same_funcs (f ∷ fs) [] zs ws h q = absurd (nothing_there (head_of f) (map head_of fs) (sym h))
 same_funcs (f ∷ fs) (g ∷ gs) zs ws h q =
     let s = same_func f g (flat_map func_pieces fs ++ zs) (flat_map func_pieces gs ++ ws) (head_same (head_of f) (head_of g) (map head_of fs) (map head_of gs) h)
-        (sym (append_assoc (func_pieces f) (flat_map func_pieces fs) zs) ∙ q ∙ append_assoc (func_pieces g) (flat_map func_pieces gs) ws) in
+    (sym (append_assoc (func_pieces f) (flat_map func_pieces fs) zs) ∙ q ∙ append_assoc (func_pieces g) (flat_map func_pieces gs) ws) in
     let r = same_funcs fs gs zs ws (tail_same (head_of f) (head_of g) (map head_of fs) (map head_of gs) h) s.1 in
     (ap₂ (λ x xs. x ∷ xs) s.0 r.0, r.1)
 
@@ -193,6 +193,6 @@ pieces_say_all x y q =
     let all = λ (z : c.Program). flat_map func_pieces (z.glue ++ z.fns) in
     let h = same_heads x y (head_same (heads_of x) (heads_of y) (all x) (all y) q) in
     let glue = same_funcs x.glue y.glue (flat_map func_pieces x.fns) (flat_map func_pieces y.fns) h.glue
-        (sym (flat_map-append func_pieces x.glue x.fns) ∙ tail_same (heads_of x) (heads_of y) (all x) (all y) q ∙ flat_map-append func_pieces y.glue y.fns) in
+    (sym (flat_map-append func_pieces x.glue x.fns) ∙ tail_same (heads_of x) (heads_of y) (all x) (all y) q ∙ flat_map-append func_pieces y.glue y.fns) in
     let fns = same_funcs x.fns y.fns [] [] h.fns (append-nil (flat_map func_pieces x.fns) ∙ glue.1 ∙ sym (append-nil (flat_map func_pieces y.fns))) in
     program_from x y h.main glue.0 fns.0

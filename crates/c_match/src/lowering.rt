@@ -26,11 +26,7 @@ pub struct Lowering {
 }
 
 /// The lowering of a program.
-pub fn lower(
-    alloc: Global,
-    program: &Program,
-    tables: &ProgramTables,
-) -> Result<Lowering, Memory>
+pub fn lower(alloc: Global, program: &Program, tables: &ProgramTables) -> Result<Lowering, Memory>
     requires tables { AreTables (view.program_of program.now) tables.now }
     requires few { gives_many_cases (view.program_of program.now) ≡ false }
     ensures { IfOk result (λ x. whole_of x ≡ lowered (view.program_of program.now)) }

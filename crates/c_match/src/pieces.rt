@@ -94,7 +94,10 @@ pub fn program_pieces<'a>(
     fns: &'a [CFunc],
 ) -> Result<Items<Piece<'a>>, Memory>
     ensures { IfOk result (λ out. map piece_seen out ≡ p.program_pieces (record {
-        glue = map func_of glue.now; fns = map func_of fns.now; main = main })) }
+      glue = map func_of glue.now;
+      fns = map func_of fns.now;
+      main = main;
+    })) }
 {
     let mut out = Items::new(alloc);
     out.push(Piece::Heads(main, glue, fns))?;

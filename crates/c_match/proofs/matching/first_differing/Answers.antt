@@ -16,12 +16,12 @@ unreachable-requires c =
     let xs = map piece_seen c.as_slice-3.result.now in
     let ys = map piece_seen c.as_slice-4.result.now in
     let wanted : xs ≡ program_pieces (whole_of lowering) =
-        ap (map piece_seen) c.as_slice-3.ensures ∙ c.in_ok-wanted.ensures
-        ∙ ap₂ (λ g f. program_pieces (let x : plain.Program = record { glue = map func_of g; fns = map func_of f; main = lowering.main } in x)) c.as_slice-glue.ensures c.as_slice-fns.ensures in
+    ap (map piece_seen) c.as_slice-3.ensures ∙ c.in_ok-wanted.ensures
+    ∙ ap₂ (λ g f. program_pieces (let x : plain.Program = record { glue = map func_of g; fns = map func_of f; main = lowering.main } in x)) c.as_slice-glue.ensures c.as_slice-fns.ensures in
     let found : ys ≡ program_pieces (program_of given) =
-        ap (map piece_seen) c.as_slice-4.ensures ∙ c.in_ok-found.ensures
-        ∙ ap₂ (λ g f. program_pieces (let x : plain.Program = record { glue = map func_of g; fns = map func_of f; main = c.from-main.result } in x)) c.as_slice.ensures c.as_slice-2.ensures
-        ∙ ap (λ m. program_pieces (let x : plain.Program = record { glue = map func_of given.glue; fns = map func_of given.fns; main = m } in x)) c.from-main.ensures in
+    ap (map piece_seen) c.as_slice-4.ensures ∙ c.in_ok-found.ensures
+    ∙ ap₂ (λ g f. program_pieces (let x : plain.Program = record { glue = map func_of g; fns = map func_of f; main = c.from-main.result } in x)) c.as_slice.ensures c.as_slice-2.ensures
+    ∙ ap (λ m. program_pieces (let x : plain.Program = record { glue = map func_of given.glue; fns = map func_of given.fns; main = m } in x)) c.from-main.ensures in
     let same = subst (λ r. MatchOption r (xs ≡ ys) (PartAt xs ys)) c.in-None.is c.first_apart.ensures in
     c.requires.other (pieces_say_all (program_of given) (whole_of lowering) (sym found ∙ sym same ∙ wanted))
 
@@ -33,12 +33,12 @@ returns c =
     let xs = map piece_seen c.as_slice-3.result.now in
     let ys = map piece_seen c.as_slice-4.result.now in
     let wanted : xs ≡ program_pieces (whole_of lowering) =
-        ap (map piece_seen) c.as_slice-3.ensures ∙ c.in_ok-wanted.ensures
-        ∙ ap₂ (λ g f. program_pieces (let x : plain.Program = record { glue = map func_of g; fns = map func_of f; main = lowering.main } in x)) c.as_slice-glue.ensures c.as_slice-fns.ensures in
+    ap (map piece_seen) c.as_slice-3.ensures ∙ c.in_ok-wanted.ensures
+    ∙ ap₂ (λ g f. program_pieces (let x : plain.Program = record { glue = map func_of g; fns = map func_of f; main = lowering.main } in x)) c.as_slice-glue.ensures c.as_slice-fns.ensures in
     let found : ys ≡ program_pieces (program_of given) =
-        ap (map piece_seen) c.as_slice-4.ensures ∙ c.in_ok-found.ensures
-        ∙ ap₂ (λ g f. program_pieces (let x : plain.Program = record { glue = map func_of g; fns = map func_of f; main = c.from-main.result } in x)) c.as_slice.ensures c.as_slice-2.ensures
-        ∙ ap (λ m. program_pieces (let x : plain.Program = record { glue = map func_of given.glue; fns = map func_of given.fns; main = m } in x)) c.from-main.ensures in
+    ap (map piece_seen) c.as_slice-4.ensures ∙ c.in_ok-found.ensures
+    ∙ ap₂ (λ g f. program_pieces (let x : plain.Program = record { glue = map func_of g; fns = map func_of f; main = c.from-main.result } in x)) c.as_slice.ensures c.as_slice-2.ensures
+    ∙ ap (λ m. program_pieces (let x : plain.Program = record { glue = map func_of given.glue; fns = map func_of given.fns; main = m } in x)) c.from-main.ensures in
     let part = subst (λ r. MatchOption r (xs ≡ ys) (PartAt xs ys)) c.in-Some.is c.first_apart.ensures in
     let owners = c.in_ok-owners.owners in
     told p (program_of given) xs ys owners.owners owners.statements c.in-Some.at c.number.result

@@ -12,7 +12,7 @@ loop-func-init c =
     let glue = map func_of c.args.glue.now in
     let first : c.push.new.owners ≡ None ∷ [] = c.in_ok-push.ensures ∙ ap (λ l. l ++ None ∷ []) c.new-owners.ensures in
     let outer : c.push-2.new.owners ≡ c.push.new.owners ++ replicate (length (flat_map func_pieces glue)) None =
-        c.in_ok-push-2.ensures ∙ ap (λ k. c.push.new.owners ++ replicate k None) c.in_ok-externals.ensures in
+    c.in_ok-push-2.ensures ∙ ap (λ k. c.push.new.owners ++ replicate k None) c.in_ok-externals.ensures in
     record {
       owners =
           ap (λ fs. c.push-2.new.owners ++ owners_in (bodies_from p 0 (map view.func_of fs))) c.as_slice-func-items.ensures
