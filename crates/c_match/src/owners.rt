@@ -358,7 +358,8 @@ impl Owners {
     /// The number of the statement that owns the piece at a place; the number of all statements outside them, and after the
     /// last piece.
     pub fn number(&self, at: usize) -> u64
-        ensures { result ≡ unwrap_or (owner_at (slice_get self.now.owners at)) self.now.statements }
+        ensures { result
+            ≡ unwrap_or (owner_at (slice_get self.now.owners at)) self.now.statements }
     {
         match self.owners.get(at) {
             Some(Some(n)) => *n,
