@@ -1,5 +1,5 @@
 -- First differences of pieces: there is one at most, none in the lowering itself, and surely one in another program.
-use Rattle.std.proofs.Common.{◌≡◌, ◌⊎◌, inl, inr, ⊎_elim, ℕ, List, [], ◌∷◌, map, Option, None, refl, sym, ap, ap₂, ◌∙◌}
+use Rattle.std.proofs.Common.{◌≡◌, inl, inr, ⊎_elim, ℕ, List, [], ◌∷◌, map, Option, None, refl, sym, ap₂, ◌∙◌}
 use Rattle.vlt_base.specs.Sure.{Surely}
 use Rattle.vlt_base.proofs.Surely.{sure, surely, so, one_way}
 use Rattle.c_match.specs.Pieces.{Piece}

@@ -1,5 +1,5 @@
 -- Statements are counted as those of a body's flow are.
-use Rattle.std.proofs.Common.{◌≡◌, ℕ, suc, ◌+◌, List, [], ◌++◌, refl, ap, ap₂, ◌∙◌, arith}
+use Rattle.std.proofs.Common.{◌≡◌, ℕ, suc, ◌+◌, List, [], ◌++◌, refl, ap₂, arith}
 use Rattle.vlt_core.specs.Core as core
 use Rattle.vlt_core.specs.Core.{Func, Program, Tok}
 use Rattle.vlt_core.specs.Flow.{size, size_block, size_stmts, size_arms}

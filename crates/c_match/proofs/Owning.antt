@@ -1,5 +1,5 @@
 -- Owners that are added part by part.
-use Rattle.std.proofs.Common.{◌≡◌, ℕ, suc, zero, ◌+◌, min, List, [], ◌∷◌, ◌++◌, map, length, replicate, Option, Some, None, Result, Ok, Err, OnOk, refl, sym, ap, ap₂, ◌∙◌, arith, fold, take, take_all, if◌then◌else◌}
+use Rattle.std.proofs.Common.{◌≡◌, ℕ, suc, ◌+◌, min, List, [], ◌∷◌, ◌++◌, length, replicate, Option, Some, None, Result, Ok, Err, OnOk, refl, sym, ap, ap₂, ◌∙◌, arith, fold, take, if◌then◌else◌}
 use Rattle.std.proofs.lemmas.List.{map-append}
 use Rattle.std.specs.List.{flat_map, enumerate_from}
 use Rattle.vlt_core.specs.Core.{Func, Program}
@@ -10,7 +10,7 @@ use Rattle.c_syntax.specs.C as c
 use Rattle.c_lower.specs.Statements.{arm_copies}
 use Rattle.c_lower.specs.Lowering.{lowered}
 use Rattle.c_match.specs.Pieces.{Piece, func_pieces, heads_of}
-use Rattle.c_match.specs.Owned.{Owned, owned_by, own_code, body_owned, count_list, owned_lowering}
+use Rattle.c_match.specs.Owned.{owned_by, own_code, body_owned, count_list, owned_lowering}
 use Rattle.c_match.specs.Apart.{all_statements}
 use Rattle.c_match.specs.Owners.{owners_in, bodies_from, number_after}
 use Rattle.c_match.proofs.Counting.{body_counted}

@@ -1,9 +1,9 @@
 -- Programs with the same pieces are the same.
-use Rattle.std.proofs.Common.{◌≡◌, ◌⊎◌, inl, inr, ⊎_elim, ℕ, List, [], ◌∷◌, ◌++◌, map, refl, sym, ap, ap₂, ◌∙◌, append_assoc, append-nil}
+use Rattle.std.proofs.Common.{◌≡◌, ◌⊎◌, inl, inr, ⊎_elim, List, [], ◌∷◌, ◌++◌, map, refl, sym, ap, ap₂, ◌∙◌, append_assoc, append-nil}
 use Rattle.std.proofs.lemmas.Grind.{flat_map-append}
 use Rattle.std.specs.List.{flat_map}
 use Rattle.c_syntax.specs.C as c
-use Rattle.c_match.specs.Pieces.{Piece, Head, heads, variables, plain, begins_if, begins_else, begins_loop, ends, stmt_pieces, list_pieces, func_pieces, head_of, heads_of, program_pieces}
+use Rattle.c_match.specs.Pieces.{Piece, variables, plain, begins_if, begins_else, begins_loop, ends, stmt_pieces, list_pieces, func_pieces, head_of, heads_of, program_pieces}
 use Rattle.c_match.proofs.Parts.{funcs_from}
 use Rattle.c_match.proofs.Wholes.{program_from}
 

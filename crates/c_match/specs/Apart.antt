@@ -7,18 +7,21 @@ use Rattle.c_syntax.specs.C as c
 use Rattle.c_match.specs.Pieces.{Piece, program_pieces}
 use Rattle.c_match.specs.Owned.{Owned, owned_lowering}
 
--- The owner of the first of the owned pieces that isn't there; none where all are there, and others follow.
+-- The owner of the first of the owned pieces that isn't there; none where all are there, and others
+-- follow.
 abbrev pub IsFirstApart : List Owned → List Piece → (owner : Option ℕ) → Type 0
 IsFirstApart [] [] o = ⊥
 IsFirstApart [] (y ∷ ys) o = o ≡ None
 IsFirstApart (x ∷ xs) [] o = o ≡ x.owner
-IsFirstApart (x ∷ xs) (y ∷ ys) o = ((x.piece ≡ y → ⊥) × (o ≡ x.owner)) ⊎ ((x.piece ≡ y) × IsFirstApart xs ys o)
+IsFirstApart (x ∷ xs) (y ∷ ys) o =
+    ((x.piece ≡ y → ⊥) × (o ≡ x.owner)) ⊎ ((x.piece ≡ y) × IsFirstApart xs ys o)
 
 -- how many statements there are
 abbrev pub all_statements : Program → ℕ
 all_statements p = first_number p (length p.fns)
 
--- The number of the first statement whose lowering isn't there; outside all statements it is the number of all.
+-- The number of the first statement whose lowering isn't there; outside all statements it is the
+-- number of all.
 pub record IsApartAt (p : Program) (x : c.Program) (statement : ℕ) : Type 0 where
   pub owner : Option ℕ
   pub first : IsFirstApart (owned_lowering p) (program_pieces x) owner

@@ -32,4 +32,5 @@ ApartAtOne = (p : Program) (x : c.Program) (m n : ℕ) → IsApartAt p x m → I
 
 -- a program that isn't the lowering differs at one
 abbrev pub OthersAreApart : Type 0
-OthersAreApart = (p : Program) (x : c.Program) → (x ≡ lowered p → ⊥) → Surely ((n : ℕ) × IsApartAt p x n)
+OthersAreApart = (p : Program) (x : c.Program) → (x ≡ lowered p → ⊥) →
+    Surely ((n : ℕ) × IsApartAt p x n)

@@ -1,5 +1,5 @@
 -- The pieces of a program's lowering, each with the core statement in whose own code it is.
-use Rattle.std.specs.Prelude.{ℕ, suc, ◌+◌, List, [], ◌∷◌, ◌++◌, map, length, if◌then◌else◌, Option, Some, None}
+use Rattle.std.specs.Prelude.{ℕ, suc, ◌+◌, List, [], ◌∷◌, ◌++◌, map, if◌then◌else◌, Option, Some, None}
 use Rattle.std.specs.List.{flat_map, enumerate_from}
 use Rattle.vlt_core.specs.Core as core
 use Rattle.vlt_core.specs.Core.{Func, Program}
@@ -50,7 +50,8 @@ abbrev mutual
   count_arms core.no_arms = 0
   count_arms (core.arm k vs b arms) = count_block b + count_arms arms
 
--- The code of a statement that has the number n, and that of the statements in its blocks, which have the numbers after it.
+-- The code of a statement that has the number n, and that of the statements in its blocks, which have
+-- the numbers after it.
 -- `t` are the numbers of the next temps.
 abbrev mutual
   pub form_owned : Program → Func → Numbers → (n : ℕ) → core.Form → List Owned
@@ -70,13 +71,16 @@ abbrev mutual
       ++ block_owned p f t (suc n) b
       ++ own n (ends ∷ [])
   form_owned p f t n (core.switch v arms end) =
-      own_code n (c.set (var_at t of_number) (c.variable (slot_of p f v)) ∷ []) ++ arms_owned p f t n (suc n) v arms
+      own_code n (c.set (var_at t of_number) (c.variable (slot_of p f v)) ∷ [])
+      ++ arms_owned p f t n (suc n) v arms
   form_owned p f t n (core.focus y z b) =
       let object = var_at t of_reference in
       let adopter = var_at (past t of_reference) of_reference in
       own_code n
-      (c.set object (c.variable (slot_of p f y)) ∷ runtime_value adopter prim.Parent (c.variable object ∷ [])
-      ∷ runtime_call prim.Disown (c.variable object ∷ []) ∷ c.set (slot_of p f z) (c.variable object) ∷ [])
+      (c.set object (c.variable (slot_of p f y))
+      ∷ runtime_value adopter prim.Parent (c.variable object ∷ [])
+      ∷ runtime_call prim.Disown (c.variable object ∷ [])
+      ∷ c.set (slot_of p f z) (c.variable object) ∷ [])
       ++ block_owned p f (past (past t of_reference) of_reference) (suc n) b
       ++ own_code n (runtime_call prim.Own (c.variable object ∷ c.variable adopter ∷ []) ∷ [])
   form_owned p f t n (core.scope b) = block_owned p f t (suc n) b
@@ -87,9 +91,11 @@ abbrev mutual
 
   pub list_owned : Program → Func → Numbers → (n : ℕ) → core.Stmts → List Owned
   list_owned p f t n core.done = []
-  list_owned p f t n (core.next at s rest) = form_owned p f t n s ++ list_owned p f t (n + count s) rest
+  list_owned p f t n (core.next at s rest) =
+      form_owned p f t n s ++ list_owned p f t (n + count s) rest
 
-  -- arms of the switch n on v, whose case is in the temp at t; the first statement in them has the number m
+  -- arms of the switch n on v, whose case is in the temp at t; the first statement in them has the
+  -- number m
   pub arms_owned : Program → Func → Numbers → (n m v : ℕ) → core.Arms → List Owned
   arms_owned p f t n m v core.no_arms = []
   arms_owned p f t n m v (core.arm k vs b arms) =
@@ -111,4 +117,5 @@ body_owned p n f =
 abbrev pub owned_lowering : Program → List Owned
 owned_lowering p =
     owned_by None (heads_of (lowered p) ∷ flat_map func_pieces (lowered p).glue)
-    ++ flat_map (λ q. if q.1.external then [] else body_owned p (first_number p q.0) q.1) (enumerate_from 0 p.fns)
+    ++ flat_map (λ q. if q.1.external then [] else body_owned p (first_number p q.0) q.1)
+    (enumerate_from 0 p.fns)

@@ -20,7 +20,8 @@ pub record Adds (xs : List Owned) (after : ℕ) (old new : List (Option ℕ)) (n
   pub counted : next ≡ after
 
 -- an arm of the switch n on v, whose case is in the temp at t
-abbrev pub arm_owned : Program → Func → Numbers → (n m v k : ℕ) → (vs : List ℕ) → core.Block → List Owned
+abbrev pub arm_owned : Program → Func → Numbers → (n m v k : ℕ) → (vs : List ℕ) → core.Block →
+    List Owned
 arm_owned p f t n m v k vs b =
     own n (begins_if (equal (c.variable (var_at t of_number)) (whole k)) ∷ [])
     ++ own_code n (arm_copies p f v (case_positions p (variant_type f v) k) vs)
@@ -30,7 +31,8 @@ arm_owned p f t n m v k vs b =
 -- functions of which the first statement has the number n, and the number after their statements
 abbrev pub bodies_from : Program → (n : ℕ) → List Func → List Owned
 bodies_from p n [] = []
-bodies_from p n (f ∷ fs) = (if f.external then [] else body_owned p n f) ++ bodies_from p (n + count_list f.body) fs
+bodies_from p n (f ∷ fs) =
+    (if f.external then [] else body_owned p n f) ++ bodies_from p (n + count_list f.body) fs
 
 abbrev pub number_after : (n : ℕ) → List Func → ℕ
 number_after n [] = n

@@ -95,11 +95,12 @@ fn push_flat(
     push_code(alloc, code.as_slice(), Some(n), owners)
 }
 
-/// Adds the switch n for the payloads that an arm's variables take.
+/// Adds the switch n for the payloads of a case that variables take.
 fn push_copies(
     alloc: Global,
     scope: &Scope<'_>,
-    arm: &Arm,
+    case: u8,
+    vars: &[VarId],
     v: VarId,
     n: u64,
     owners: &mut Items<Option<u64>>,
@@ -107,13 +108,12 @@ fn push_copies(
     requires { IsScope scope.now }
     ensures { OnOk result (owners.new ≡ owners.old ++ owners_in (own_code n
         (arm_copies (program_in scope.now) (func_in scope.now) v.0
-        (case_positions (program_in scope.now) (variant_type (func_in scope.now) v.0)
-        (view.arm_of arm.now).0) (view.arm_of arm.now).1))) }
+        (case_positions (program_in scope.now) (variant_type (func_in scope.now) v.0) case)
+        (view.vars_of vars.now)))) }
 {
-    let positions = scope.case_positions(alloc, scope.variant_type(v), arm.case)?;
+    let positions = scope.case_positions(alloc, scope.variant_type(v), case)?;
     let payloads = positions.len();
-    let vars = arm.vars.len();
-    push(owners, payloads.min(vars), Some(n))
+    push(owners, payloads.min(vars.len()), Some(n))
 }
 
 /// An arm of the switch n on v, whose first statement has the number `first`.
@@ -135,7 +135,7 @@ fn add_arm(
         owners.old owners.new) }
 {
     push(owners, 1, Some(n))?;
-    push_copies(alloc, scope, arm, v, n, owners)?;
+    push_copies(alloc, scope, arm.case, arm.vars.as_slice(), v, n, owners)?;
     let inside = t.past(Sort::Number)?;
     let next = add_block(alloc, scope, &arm.body, first, inside, owners)?;
     push(owners, 1, Some(n))?;
@@ -358,7 +358,8 @@ impl Owners {
     /// The number of the statement that owns the piece at a place; the number of all statements outside them, and after the
     /// last piece.
     pub fn number(&self, at: usize) -> u64
-        ensures { result ≡ unwrap_or (owner_at (slice_get self.now.owners at)) self.now.statements }
+        ensures { result
+            ≡ unwrap_or (owner_at (slice_get self.now.owners at)) self.now.statements }
     {
         match self.owners.get(at) {
             Some(Some(n)) => *n,

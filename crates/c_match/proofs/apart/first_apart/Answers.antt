@@ -1,4 +1,4 @@
-use Rattle.std.proofs.Common.{◌≡◌, ◌<◌, ◌≤◌, map, length, min, slice_get, Some, sym, ap, ◌∙◌, subst, below_more, arith, rules}
+use Rattle.std.proofs.Common.{◌≡◌, ◌<◌, ◌≤◌, map, length, slice_get, Some, sym, ap, ◌∙◌, subst, below_more, arith, rules}
 use Rattle.c_match.specs.Seen.{piece_seen}
 use Rattle.c_match.proofs.Places.{seen_at, all_seen, ends_apart}
 use Rattle.c_match.proofs.apart.first_apart.Goals as goal

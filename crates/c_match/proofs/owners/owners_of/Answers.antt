@@ -1,4 +1,4 @@
-use Rattle.std.proofs.Common.{◌≡◌, List, [], ◌∷◌, ◌++◌, length, map, replicate, flat_map, Option, None, ℕ, ap, ◌∙◌}
+use Rattle.std.proofs.Common.{◌≡◌, [], ◌∷◌, ◌++◌, length, map, replicate, flat_map, None, ap, ◌∙◌}
 use Rattle.vlt_core.specs.View as view
 use Rattle.c_syntax.specs.View.{func_of}
 use Rattle.c_match.specs.Pieces.{func_pieces}
