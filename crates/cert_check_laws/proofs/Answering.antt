@@ -1,5 +1,5 @@
 -- It can't be that of the notes of a certificate neither all tests hold nor one refuses first.
-use Rattle.std.proofs.Common.{◌≡◌, ◌⊎◌, ◌<◌, ◌≤◌, ◌+◌, inl, inr, ⊎_elim, ℕ, zero, suc, Bool, true, false, true≢false, List, [], length, Option, Some, None, slice_get, refl, sym, ap, ◌∙◌, subst, arith}
+use Rattle.std.proofs.Common.{◌≡◌, ◌⊎◌, ◌<◌, ◌+◌, inl, inr, ⊎_elim, ℕ, zero, suc, Bool, true, false, true≢false, List, length, Option, Some, None, slice_get, refl, sym, ap, ◌∙◌, subst, arith}
 use Rattle.vlt_base.specs.Sure.{Surely}
 use Rattle.vlt_base.proofs.Surely.{sure, surely, so}
 use Rattle.vlt_core.specs.Core.{Func, Program}
@@ -11,7 +11,7 @@ use Rattle.vlt_core_laws.specs.Scoped.{IsJumpingBlock}
 use Rattle.vlt_core_laws.proofs.Unbroken.{some_same, some_not_none}
 use Rattle.cert_format.specs.Notes.{Note}
 use Rattle.cert_fit_laws.specs.Annotation.{annotation, IsLocalCertificate}
-use Rattle.cert_check.specs.Tests.{Test, Hold, Failure, refused, lost, Refusal, refusal, FirstFails, body_tests, function_tests}
+use Rattle.cert_check.specs.Tests.{Test, Hold, Failure, refused, lost, Refusal, FirstFails, body_tests, function_tests}
 use Rattle.cert_check.specs.Whole.{ProgramRefusal, HoldAt, IsRefusedAt, IsFirstRefusal}
 use Rattle.cert_check.proofs.Functions.{one_instance}
 use Rattle.cert_check.proofs.Telling.{hold_more, all_hold}

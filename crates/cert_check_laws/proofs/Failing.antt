@@ -2,8 +2,8 @@
 use Rattle.std.proofs.Common.{◌≡◌, ◌⊎◌, ◌<◌, inl, inr, ⊎_elim, ℕ, zero, suc, Bool, true, false, true≢false, IsTrue, List, [], ◌∷◌, refl, sym, subst, arith}
 use Rattle.vlt_base.specs.Sure.{Surely}
 use Rattle.vlt_base.proofs.Surely.{sure, surely, so, one_way}
-use Rattle.vlt_core.specs.Core.{States, Tok, a_key, a_var}
-use Rattle.vlt_core.specs.Maps.{Kind, is_absent, is_held, is_lent, is_full, kind_of, states_of, Status, HeldMap, IsWithin, IsStatusBelow, IsBelow, IsWanted}
+use Rattle.vlt_core.specs.Core.{Tok, a_key, a_var}
+use Rattle.vlt_core.specs.Maps.{Kind, is_absent, is_held, is_lent, is_full, kind_of, states_of, Status, HeldMap, IsStatusBelow, IsBelow, IsWanted}
 use Rattle.vlt_keyset.specs.Pairs.{IsBefore}
 use Rattle.cert_check.specs.Tests.{Test, row_test, below_test, lost_test, Holds, Hold, as_wanted, IsFirstApart, Failure, refused, lost, refusal, Fails, FirstFails}
 

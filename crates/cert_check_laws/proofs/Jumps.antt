@@ -1,5 +1,5 @@
 -- Where each jump of a body stands in a loop, no test is that of a jump in no loop.
-use Rattle.std.proofs.Common.{◌≡◌, ⊎_elim, inl, inr, ℕ, ◌+◌, Bool, true, false, true≢false, IsTrue, List, [], ◌∷◌, ◌++◌, map, Option, Some, None, sym}
+use Rattle.std.proofs.Common.{⊎_elim, inl, inr, ℕ, ◌+◌, Bool, true, false, true≢false, IsTrue, List, [], ◌∷◌, ◌++◌, map, Option, Some, None, sym}
 use Rattle.vlt_core.specs.Maps.{HeldMap, Row, row_passed, map_after, away_row}
 use Rattle.vlt_core.specs.Flow.{Flow, step, choose, loop, switch, scope, focus, return, jump, Block, block, Stmts, done, next, Arms, no_arms, arm, size, size_block}
 use Rattle.vlt_core.specs.Local.{Notes, leads, leads_block, leads_stmts}

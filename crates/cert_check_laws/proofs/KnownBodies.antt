@@ -1,5 +1,5 @@
 -- No row of a body that breaks no rule names a set of states that the code doesn't have.
-use Rattle.std.proofs.Common.{◌≡◌, ⊎_elim, ℕ, not, Bool, false, List, [], ◌++◌, Option, Some, slice_get}
+use Rattle.std.proofs.Common.{◌≡◌, ⊎_elim, ℕ, not, Bool, false, List, [], ◌++◌, Some, slice_get}
 use Rattle.vlt_core.specs.Core as core
 use Rattle.vlt_core.specs.Core.{Tok, Func, Program}
 use Rattle.vlt_core.specs.Lookups.{is_owning_var}

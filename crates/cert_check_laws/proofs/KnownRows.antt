@@ -1,5 +1,5 @@
 -- The rows of a statement that breaks no rule name sets of states that the code has.
-use Rattle.std.proofs.Common.{◌≡◌, ◌<◌, ◌≤◌, ◌==◌, inl, inr, ⊎_elim, ℕ, zero, suc, nat_lt, Bool, true, false, if◌then◌else◌, List, [], ◌∷◌, ◌++◌, map, length, Option, Some, None, IfSome, slice_get, refl, sym, ap, ◌∙◌, subst, arith}
+use Rattle.std.proofs.Common.{◌≡◌, ◌<◌, ◌≤◌, ◌==◌, ⊎_elim, ℕ, suc, nat_lt, Bool, true, false, if◌then◌else◌, List, [], ◌∷◌, ◌++◌, map, length, Option, Some, None, IfSome, slice_get, refl, sym, ap, ◌∙◌, subst, arith}
 use Rattle.std.specs.Prelude.{filter, cond}
 use Rattle.std.specs.List.{flat_map, enumerate_from}
 use Rattle.std.proofs.lemmas.Bool.Decides.{nat_tests}
@@ -7,21 +7,21 @@ use Rattle.std.proofs.lemmas.List.Concat.{flat_map-cons}
 use Rattle.vlt_ops.specs.Operator.{row_of}
 use Rattle.vlt_core.specs.Core as core
 use Rattle.vlt_core.specs.Core.{States, Ty, int, bool, tracked, owning, guarded, variant, owning_variant, FieldDecl, Tok, a_key, a_var, Expr, Operand, pure, move, pack, Mode, Entry, Func, Program}
-use Rattle.vlt_core.specs.Lookups.{Reference, first_state, all_states, every_state, state_count, permitted_in, field_states_in, release_set, fields_of, owning_states, states_of_type, key_type, states_or_all, after_set, is_held_before, is_held_after, is_new, is_given_back, is_owning, is_owning_var, tracked_in, reference_of, guarded_of, var_type, variant_of}
-use Rattle.vlt_core.specs.Maps.{Wanted, wants_absent, wants_held, wants_in, wants_lent, wants_full, After, becomes_absent, becomes_held, stays, becomes_full, becomes_lent, comes_back, Row, away_row}
-use Rattle.vlt_core.specs.Rows.{row, on_option, on_key, end_row, empty_row, fill_rows, touch_rows, expr_rows, operand_rows, operands_rows, key_row, simple_rows, held_in, entry_wanted, entry_after, entry_row, called_row, called_rows, target_rows, returned_row, new_rows, given_back_rows, return_rows, tokens_of, rows_of, arm_rows, focus_end_rows}
+use Rattle.vlt_core.specs.Lookups.{Reference, first_state, all_states, state_count, permitted_in, field_states_in, fields_of, owning_states, states_of_type, key_type, states_or_all, after_set, is_held_before, is_held_after, is_new, is_given_back, is_owning, is_owning_var, tracked_in, reference_of, guarded_of, var_type, variant_of}
+use Rattle.vlt_core.specs.Maps.{Wanted, wants_absent, wants_held, wants_in, wants_lent, After, becomes_absent, becomes_held, stays, becomes_lent, comes_back, Row, away_row}
+use Rattle.vlt_core.specs.Rows.{row, on_option, on_key, end_row, empty_row, fill_rows, touch_rows, expr_rows, operand_rows, operands_rows, key_row, simple_rows, held_in, entry_row, called_row, called_rows, target_rows, returned_row, new_rows, given_back_rows, return_rows, tokens_of, rows_of, arm_rows, focus_end_rows}
 use Rattle.vlt_core.specs.Instances.{bound_at, or_else, bound_in, HasNoBounds}
 use Rattle.vlt_core.specs.Types.{decl_of, with_keys}
 use Rattle.vlt_core.specs.KindedHeads.{Rules, unless, when_some, has, new_keys, argument_broken, type_broken, state_broken, parameters_of}
 use Rattle.vlt_core.specs.KindedScopes.{Ids, own_key, use_broken, binding_broken, target_broken}
 use Rattle.vlt_core.specs.KindedOperands.{misfit, object_in, field_type, unless_owning, is_permitted, type_of_expr, left_broken, right_wanted, touch_broken, not_owning_broken, expr_broken, value_broken, operand_broken, operands_broken}
-use Rattle.vlt_core.specs.KindedStatements.{tracked_broken, struct_broken, made_broken, made_types, variant_args, case_broken, payload_types, wanted_of, is_variant_type, swap_broken, set_broken, simple_broken}
+use Rattle.vlt_core.specs.KindedStatements.{tracked_broken, struct_broken, made_broken, made_types, variant_args, case_broken, payload_types, wanted_of, is_variant_type, swap_broken, simple_broken}
 use Rattle.vlt_core.specs.KindedCalls.{caller_type, argument_type, gives_other_keys, argument_broken_by, arguments_broken, caller_keys_broken, call_target_broken, target_alone_broken, call_broken, new_result_broken, returned_broken, return_broken}
 use Rattle.vlt_core.specs.declared.rules.TheConstants as rule
 use Rattle.vlt_core_laws.proofs.Good.{AllRows, all_both, all_key, all_mapped, all_filled}
 use Rattle.vlt_core_laws.proofs.Simple.{option_rows, case_keys_rows}
 use Rattle.vlt_core_laws.proofs.Unbroken.{filled_not_empty, left_empty, right_empty, unless_holds, some_not_none, some_same}
-use Rattle.vlt_rows.specs.Unfit.{WantsWide, LeavesWide, IsWide, HasWide}
+use Rattle.vlt_rows.specs.Unfit.{WantsWide, LeavesWide, HasWide}
 use Rattle.cert_rows.specs.Parts.{All}
 use Rattle.cert_fit_laws.proofs.Masked.{IsMaskedOperand, IsMaskedSimple}
 use Rattle.cert_fit_laws.proofs.NarrowNumbers.{Bounds, use_there, type_at}

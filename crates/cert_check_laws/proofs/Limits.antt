@@ -1,10 +1,8 @@
 -- What the program of a certificate that breaks no rule keeps: the numbers of its functions, and where bodies begin.
-use Rattle.std.proofs.Common.{◌≡◌, ◌<◌, ◌≤◌, ◌^◌, inl, inr, ℕ, nat_lt, Bool, true, false, if◌then◌else◌, List, [], length, Option, Some, None, slice_get, subst, arith}
+use Rattle.std.proofs.Common.{◌≡◌, ◌≤◌, inl, inr, ℕ, nat_lt, true, false, if◌then◌else◌, [], length, Some, slice_get, subst, arith}
 use Rattle.std.proofs.lemmas.Bool.Decides.{nat_tests}
 use Rattle.vlt_core.specs.Core.{VarDecl, Entry, Func, Program}
-use Rattle.vlt_core.specs.Lookups.{set_in}
 use Rattle.vlt_core.specs.Instances.{HasNoBounds}
-use Rattle.vlt_core.specs.Bodies.{body_flow}
 use Rattle.vlt_core.specs.Kinded.{HasKindedParts}
 use Rattle.vlt_core.specs.KindedHeads.{type_broken, entry_broken}
 use Rattle.vlt_core.specs.KindedBodies.{first_ids, stmts_rows}

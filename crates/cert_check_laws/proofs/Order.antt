@@ -1,5 +1,5 @@
 -- The notes of a certificate are in order: the numbers of statements ascend, and so do the tokens of each map.
-use Rattle.std.proofs.Common.{◌≡◌, ◌≤◌, ◌<◌, ◌+◌, ◌-◌, ◌&&◌, ℕ, zero, suc, nat_lt, nat_le, Bool, true, false, if◌then◌else◌, List, [], ◌∷◌, ◌++◌, map, Option, Some, None, refl, sym, ap, ◌∙◌, subst, arith}
+use Rattle.std.proofs.Common.{◌≡◌, ◌≤◌, ◌<◌, ◌+◌, ◌-◌, ℕ, suc, nat_lt, nat_le, Bool, true, false, if◌then◌else◌, List, [], ◌∷◌, map, Option, Some, None, refl, sym, ap, ◌∙◌, subst, arith}
 use Rattle.std.proofs.lemmas.Bool.{and_parts}
 use Rattle.std.proofs.lemmas.Bool.Decides.{nat_tests}
 use Rattle.vlt_core.specs.Core.{Tok, a_key, a_var, Func, Program}
@@ -8,13 +8,13 @@ use Rattle.vlt_core.specs.Instances.{bound_in}
 use Rattle.vlt_core.specs.Least.{Noted, a_loop, a_join}
 use Rattle.vlt_keyset.specs.Pairs.{IsBefore}
 use Rattle.cert_rows.specs.Parts.{All}
-use Rattle.cert_rows.specs.Values.{Shape, TokenStatus, ListedMap, token, number_of_tok, tok_of_number, kind_number, token_status, ascends, map_part, maps_part, first_map, only_one}
+use Rattle.cert_rows.specs.Values.{TokenStatus, ListedMap, token, number_of_tok, tok_of_number, kind_number, token_status, ascends, maps_part}
 use Rattle.cert_rows.specs.Rows.{Row, Maps, FitsRow}
 use Rattle.cert_format.specs.Notes.{Note, at_loop, at_join, MapNotes, maps_of, join_note}
 use Rattle.cert_format.specs.Drafts.{Draft, plain, choose, loop, switch, focus, scope, Block, block, Drafts, done, next, Arms, no_arms, arm, draft_rows, block_rows, list_rows, arms_rows}
 use Rattle.cert_format.specs.Bodies.{size, size_block, notes_of, block_notes, list_notes, arms_notes, count_list}
 use Rattle.cert_format.specs.Bounds.{instances}
-use Rattle.cert_format.specs.Certificate.{shape, fn_shape, body_draft, function_rows, FitsFunction}
+use Rattle.cert_format.specs.Certificate.{shape, body_draft, function_rows, FitsFunction}
 use Rattle.cert_format_laws.proofs.Decoding.{all_left, all_right, all_joined}
 use Rattle.cert_fit_laws.specs.Complete.{named_by, FitsNote}
 use Rattle.cert_fit_laws.proofs.Named as named

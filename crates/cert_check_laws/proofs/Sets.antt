@@ -1,19 +1,18 @@
 -- Each set of states that a certificate's program says is one of the code.
-use Rattle.std.proofs.Common.{◌≡◌, ◌<◌, ◌≤◌, ◌*◌, ◌%◌, ◌-◌, ◌^◌, ◌==◌, inl, inr, ℕ, nat_lt, not, Bool, true, false, if◌then◌else◌, length, map, Option, Some, None, IfSome, slice_get, option_map, refl, sym, ap, ◌∙◌, subst, arith}
+use Rattle.std.proofs.Common.{◌≡◌, ◌<◌, ◌≤◌, ◌*◌, ◌%◌, ◌-◌, ◌^◌, ◌==◌, inl, inr, ℕ, nat_lt, not, true, length, Option, Some, None, IfSome, slice_get, refl, sym, arith}
 use Rattle.std.proofs.Math.Pow.{pow-lt, pow_pos}
 use Rattle.std.proofs.lemmas.Bool.Decides.{nat_tests}
 use Rattle.std.proofs.lemmas.Option.{slice_get_cases}
 use Rattle.vlt_base.specs.States.{has_state}
 use Rattle.vlt_base.specs.declared.states.StateSet.{StateSet}
 use Rattle.vlt_base.proofs.Sets.{shifted_bit, first_filled, first_fits, first_bits}
-use Rattle.vlt_core.specs.Core.{States, FieldDecl, CaseDecl, CaseKey, SetDecl, TypeDecl, an_abstract, a_struct, a_variant, Entry, Func, Program}
+use Rattle.vlt_core.specs.Core.{States, FieldDecl, CaseDecl, CaseKey, TypeDecl, an_abstract, a_struct, a_variant, Entry, Func, Program}
 use Rattle.vlt_core.specs.HeldView.{IsSetOf}
-use Rattle.vlt_core.specs.Lookups.{set_in, state_count, all_states, every_state, release_in, release_set, fields_in, fields_of, case_at, owning_states}
+use Rattle.vlt_core.specs.Lookups.{set_in, state_count, all_states, release_in, release_set, fields_in, fields_of, case_at, owning_states}
 use Rattle.vlt_core.specs.Kinded.{HasKindedParts}
 use Rattle.vlt_core.specs.View.{program_of}
 use Rattle.vlt_core.specs.declared.program.Program.{Program as CodeProgram}
 use Rattle.vlt_core_laws.proofs.Unbroken.{some_not_none}
-use Rattle.cert_rows.specs.Parts.{All}
 use Rattle.cert_rows.specs.Values.{mask_of, mask}
 use Rattle.cert_fit_laws.specs.Formed.{IsFormed}
 use Rattle.cert_fit_laws.proofs.CodeSets.{owned_has, after_has, before_has, listed_has}
