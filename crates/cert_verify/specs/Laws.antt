@@ -28,8 +28,8 @@ IsRefused text = (r : Refusal) × IsRefusal text r
 abbrev pub VerifiesInSomeWay : List ℕ → Type 0
 VerifiesInSomeWay text = Surely (Verifies text ⊎ IsRefused text)
 
--- A premise that isn't proved here: it can't be that the notes of a certificate of version 1, whose
--- program breaks no rule on names and types, neither hold nor are refused.
+-- It can't be that the notes of a certificate of version 1, whose program breaks no rule on names and
+-- types, neither hold nor are refused. A premise here, which `cert_verify_laws` proves.
 abbrev pub NotesHaveAnAnswer : Type 0
 NotesHaveAnAnswer =
     (p : Program) (all : List (List Note)) → FitsCertificate false p all → IsKinded p →

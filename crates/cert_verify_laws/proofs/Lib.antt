@@ -4,3 +4,4 @@ mod Packs
 mod Masking
 mod Emitting
 mod Annotated
+mod Answered

@@ -6,9 +6,11 @@
 mod causes;
 mod codes;
 mod emitted;
+mod outcomes;
 mod promises;
 
 pub use causes::accepted_texts_can_be_certified;
 pub use codes::{certificates_are_of_code, texts_are_of_code};
 pub use emitted::{emitted_files_verify, least_certificates_fit, places_keep_counts};
+pub use outcomes::c_files_verify_in_some_way;
 pub use promises::{verified_files_keep_their_promise, verified_programs_go_right};

@@ -85,12 +85,12 @@ some_after_emit : (n : ℕ) (text : List ℕ) (p : Program) (emitted : ℕ) → 
 some_after_emit n text p emitted never = ⊎_elim
     (λ wide. (over_reply VALUE_SLOTS, inl (wide, refl)))
     (λ fits. (
-      let b = default_budgets in
-      let ran = run_alone p in
-      let last = last_there ran.outcome (never b.fuel b.heap b.depth [] []) in
-      let told = load_reply n text p emitted (event_text ran.world.events) in
-      let r = some_then last.0 (λ q. q ≡ told) (told, refl) in
-      (r.0, inr (fits, (last.0, last.1, r.1)))
+    let b = default_budgets in
+    let ran = run_alone p in
+    let last = last_there ran.outcome (never b.fuel b.heap b.depth [] []) in
+    let told = load_reply n text p emitted (event_text ran.world.events) in
+    let r = some_then last.0 (λ q. q ≡ told) (told, refl) in
+    (r.0, inr (fits, (last.0, last.1, r.1)))
     ))
     (over_or_not (limit_of VALUE_SLOTS) (slots_needed p default_budgets.depth default_budgets.heap))
 

@@ -175,12 +175,7 @@ fn reply_to_file<S: Store, K: Sink>(
 }
 
 /// Reads a C file, and verifies it.
-fn reply_to_verify<S: Store, K: Sink>(
-    alloc: Global,
-    name: &str,
-    store: &mut S,
-    out: &mut K,
-) -> u8
+fn reply_to_verify<S: Store, K: Sink>(alloc: Global, name: &str, store: &mut S, out: &mut K) -> u8
     ensures { Finishes K.Sink
         (MayReply S.Store store.old store.new (Some (c.verify name.now)))
         out.old out.new result }

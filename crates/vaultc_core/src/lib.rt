@@ -42,8 +42,10 @@ use c_lower_printed::accepted_texts_are_read_again;
 use c_reader_laws::texts_are_read_in_one_way;
 use cert_least_laws::least_certificates_are_one;
 use cert_least_texts::accepted_texts_have_one;
-use cert_verify::{texts_verify_in_one_way, texts_verify_in_some_way};
-use cert_verify_laws::{emitted_files_verify, verified_files_keep_their_promise};
+use cert_verify::texts_verify_in_one_way;
+use cert_verify_laws::{
+    c_files_verify_in_some_way, emitted_files_verify, verified_files_keep_their_promise,
+};
 use std::alloc::Global;
 use vlt_check_laws::first_fault_has_witness;
 use vlt_io::{Sink, Store};
@@ -153,7 +155,7 @@ pub fn a_command_has_some_reply()
     texts_have_text_trees();
     texts_are_read_in_one_way();
     accepted_texts_have_one();
-    texts_verify_in_some_way();
+    c_files_verify_in_some_way();
 }
 
 /// All bytes are a text of one tree, or they are refused for one reason.

@@ -61,8 +61,9 @@ fn counts(
 ) -> Result<Vec<u8>, AllocError>
     ensures { IfOk result (λ v. v.items ≡ load_counts functions bytes with_body emitted) }
 {
-    let text =
-        format!(in alloc; "load {functions} bytes {bytes} functions {with_body} emitted {emitted} printed ")?;
+    let text = format!(in alloc;
+        "load {functions} bytes {bytes} functions {with_body} emitted {emitted} printed "
+    )?;
     Ok(text.into_bytes())
 }
 
@@ -78,7 +79,13 @@ fn numbers(
         ≡ load_reply made.now.functions made.now.text.items (program_of program.now)
         emitted events.now) }
 {
-    let mut text = counts(alloc, made.functions, made.text.len(), bodies(program), emitted)?;
+    let mut text = counts(
+        alloc,
+        made.functions,
+        made.text.len(),
+        bodies(program),
+        emitted,
+    )?;
     text.extend_from_slice(first_line(events))?;
     text.extend_from_slice(b"\n")?;
     Ok(Reply { status: DONE, text })
@@ -123,12 +130,7 @@ fn run_compiled<K: Sink>(
 }
 
 /// Compiles an accepted program, and then runs it.
-fn compile_and_run<K: Sink>(
-    alloc: Global,
-    made: &Generated,
-    program: &Program,
-    out: &mut K,
-) -> u8
+fn compile_and_run<K: Sink>(alloc: Global, made: &Generated, program: &Program, out: &mut K) -> u8
     requires compilable { IsCompilable (program_of program.now) }
     requires runnable { IsRunnable (program_of program.now) }
     ensures { Finishes K.Sink

@@ -244,11 +244,7 @@ fn without_options<'a>(command: Command<'a>, options: &[String]) -> Option<Comma
 }
 
 /// A command on a text alone, which takes no options.
-fn text_command<'a>(
-    command: TextCommand,
-    file: &'a str,
-    options: &[String],
-) -> Option<Command<'a>>
+fn text_command<'a>(command: TextCommand, file: &'a str, options: &[String]) -> Option<Command<'a>>
     ensures { option_map seen_command result
         ≡ without_options (seen_text command file.now) (map string_bytes options.now) }
 {

@@ -10,5 +10,5 @@ returns c = some_of_read (record {
   never = c.accepted_programs_go_right.ensures.never;
   c_texts = c.texts_are_read_in_one_way.ensures;
   certificates = c.accepted_texts_have_one.ensures;
-  verified = c.texts_verify_in_some_way.ensures;
+  verified = c.c_files_verify_in_some_way.ensures;
 })
