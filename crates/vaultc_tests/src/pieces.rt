@@ -2,6 +2,7 @@
 
 use std::alloc::Global;
 use std::io::{self, ErrorKind};
+use std::str;
 
 /// The sign that stands in a piece for the number of its turn, from 0.
 const TURN: char = '#';
@@ -51,5 +52,27 @@ pub fn push_piece(alloc: Global, bytes: &mut Vec<u8>, line: &str) -> io::Result<
     for turn in 0..count {
         push_turn(alloc, bytes, piece, turn)?;
     }
+    Ok(())
+}
+
+/// Appends a text but for a change, `OLD => NEW` or `OLD =>`: in place of the old part, which is to stand in the text once, the new one or nothing.
+pub fn push_changed(
+    alloc: Global,
+    bytes: &mut Vec<u8>,
+    text: &[u8],
+    change: &str,
+) -> io::Result<()> {
+    let text = str::from_utf8(text).map_err(|_| ErrorKind::InvalidData)?;
+    let (old, new) = change.split_once(" =>").ok_or(ErrorKind::InvalidData)?;
+    let mut old_bytes = Vec::new(alloc);
+    push_text(&mut old_bytes, old)?;
+    let old = str::from_utf8(old_bytes.as_slice()).map_err(|_| ErrorKind::InvalidData)?;
+    let (before, after) = text.split_once(old).ok_or(ErrorKind::InvalidData)?;
+    if after.contains(old) {
+        return Err(ErrorKind::InvalidData.into());
+    }
+    bytes.extend_from_slice(before.as_bytes())?;
+    push_text(bytes, new.strip_prefix(" ").unwrap_or(new))?;
+    bytes.extend_from_slice(after.as_bytes())?;
     Ok(())
 }
