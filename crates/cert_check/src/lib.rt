@@ -1,6 +1,6 @@
 //! Whether the notes of a certificate hold in the bodies of its program, or the first test that they fail; nothing is searched for.
 //! Read `specs/Tests.antt` first, then `specs/Whole.antt` and `specs/Unfit.antt`.
-//! Used by: nothing yet; the check of certificates, which is to come, asks it of the program and the notes that a certificate has.
+//! Used by: `cert_verify`, which asks it of the program and the notes of a C file.
 #![tactic(auto)]
 
 ghost use Rattle.cert_check.specs.Laws.{TestsSayLocal, TestsSayLocalCertificate, NoneFails, FailsInOneWay, NoneIsRefused, RefusedInOneWay, EndsDontPass};

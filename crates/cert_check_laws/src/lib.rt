@@ -1,6 +1,6 @@
 //! Laws on the notes of certificates: nothing goes in and nothing comes out.
 //! Read `specs/Laws.antt`.
-//! Used by: nothing yet; that the check of certificates, which is to come, surely has an answer is to rest on it.
+//! Used by: `cert_verify`, whose notes can be tested, and `cert_verify_laws`.
 #![tactic(auto)]
 
 ghost use Rattle.cert_check_laws.specs.Laws.{TextsHaveMoreBytes, UnboundArentUnfit, UnboundHaveAnAnswer, CertificatesArentUnfit, CertificatesHaveAnAnswer};

@@ -1,6 +1,6 @@
 //! Laws on the compact text of a certificate: nothing goes in and nothing comes out.
 //! Read `specs/Compact.antt`.
-//! Used by: no crate yet; writing a certificate after a C text, which is to come, will.
+//! Used by: `cert_json_names`, and `cert_verify_laws`, by which what `emit` writes is read back.
 #![tactic(auto)]
 
 ghost use Rattle.cert_json_laws.specs.Compact.{CompactTextsAreReadBack, CompactTextsAreCertificates, NamesStayWithoutPlaces};

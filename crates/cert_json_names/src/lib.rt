@@ -1,6 +1,6 @@
 //! Laws on the names in certificates of texts' programs: nothing goes in and nothing comes out.
 //! Read `specs/Names.antt`.
-//! Used by: no crate yet; writing a certificate after a C text, which is to come, will.
+//! Used by: `vaultc_core`, for `emit`, and `cert_verify_laws`.
 #![tactic(auto)]
 
 ghost use Rattle.cert_json_names.specs.Names.{TextsHaveTextNames, AcceptedProgramsHaveCompactTexts};

@@ -1,6 +1,6 @@
 //! A core program in; the first row that breaks a rule on names and types out, with the least rule that it breaks, or none.
 //! Read of `vlt_core` `specs/Kinded.antt` first, then `specs/Outcomes.antt`.
-//! Used by: nothing yet; what verifies a C file will.
+//! Used by: `cert_verify`.
 #![tactic(auto)]
 
 mod declarations;

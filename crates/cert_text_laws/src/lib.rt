@@ -1,6 +1,6 @@
 //! Laws that join certificates with the programs of texts: nothing goes in and nothing comes out.
 //! Read `specs/Annotations.antt` first, then `Texts` and `Verified`, and `Fit`.
-//! Used by: `c_lower_printed`; writing and checking certificates, which is to come, will.
+//! Used by: `c_lower_printed`, and the laws on certificates that `emit` writes and `verify` tests.
 #![tactic(auto)]
 
 mod fit;

@@ -1,6 +1,6 @@
 //! The text of a C file in; how many functions with a body its certificate's program has out, or the first part of its verification that fails.
 //! Read `specs/Verified.antt` first, then `specs/Refusals.antt`, `specs/Outcomes.antt` and `specs/Laws.antt`.
-//! Used by: nothing yet; the command `verify` will.
+//! Used by: the command `verify`.
 #![tactic(auto)]
 
 ghost use Rattle.std.specs.Prelude.{ℕ, List, ◌<◌, ◌-◌, ◌^◌, length};

@@ -1,6 +1,6 @@
 //! A core program and the notes of its functions in, the text of its certificate out.
 //! Read `cert_format/specs/Certificate.antt` first, then `specs/Notes.antt`.
-//! Used by: nothing yet; `emit` will.
+//! Used by: `cert_emit`.
 #![tactic(auto)]
 
 mod cursor;
