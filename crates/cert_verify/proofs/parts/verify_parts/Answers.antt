@@ -1,6 +1,8 @@
+use Rattle.std.proofs.Common.{sym, subst}
 use Rattle.vlt_core.specs.View.{program_of}
 use Rattle.c_syntax.specs.View as c_view
 use Rattle.cert_read.specs.Declarations.{notes_of_all}
+use Rattle.cert_check.specs.Unfit.{IsUnfit}
 use Rattle.cert_verify.proofs.Failing.{few_cases, testable}
 use Rattle.cert_verify.proofs.parts.verify_parts.Goals as goal
 
@@ -13,5 +15,6 @@ matches-requires c =
 pub test_notes-requires : goal.test_notes-requires
 test_notes-requires c =
     let f = c.in_ok-file.file in
-    testable c.texts_have_more_bytes.ensures c.certificates_arent_unfit.ensures.first_version c.args.text.now (c_view.program_of f.c_program) f.program (notes_of_all f.notes) c.requires
-    c.in_ok-file.ensures c.in_ok-kinded.ensures
+    subst (λ notes. IsUnfit (program_of f.program) (notes_of_all notes) → ⊥) (sym c.as_slice.ensures.value)
+    (testable c.texts_have_more_bytes.ensures c.certificates_arent_unfit.ensures.first_version c.args.text.now (c_view.program_of f.c_program) f.program (notes_of_all f.notes) c.requires
+    c.in_ok-file.ensures c.in_ok-kinded.ensures)
