@@ -318,8 +318,7 @@ code_func f is =
     let clause = listed IsMaskedEntry entry_of code_entry f.clause is.clause in
     let keys = each key_of code_key f.keys in
     let vars = listed (λ (d : s.VarDecl). IsMaskedTy d.ty) var_of code_var f.vars is.vars in
-    let body = code_stmts f.body is.body in
-    (
+    let body = code_stmts f.body is.body in (
       record {
         name = f.name;
         external = f.external;
@@ -349,8 +348,7 @@ pub code_program : (p : s.Program) → IsMaskedProgram p → (c : Program) × (p
 code_program p is =
     let sets = each set_of code_set p.sets in
     let types = listed IsMaskedType type_of code_type p.types is.types in
-    let fns = listed IsMaskedFunc func_of code_func p.fns is.fns in
-    (
+    let fns = listed IsMaskedFunc func_of code_func p.fns is.fns in (
       record { sets = sets.0; types = types.0; fns = fns.0; main = record { 0 = p.main } },
       λ i. record { sets = sets.1 i; types = types.1 i; fns = fns.1 i; main = p.main },
     )

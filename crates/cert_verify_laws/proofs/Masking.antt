@@ -60,8 +60,7 @@ module _ (p : Program) (says : HasMasks p) where
 
   case_masked : (t : ℕ) (d : core.VariantDecl) → slice_get p.types t ≡ Some (a_variant d) → (c : ℕ) (x : CaseDecl) → slice_get d.cases c ≡ Some x → IsMaskedCase x
   case_masked t d there c x at =
-      let here = ap (λ o. slice_get (cases_in o) c) there ∙ at in
-      (
+      let here = ap (λ o. slice_get (cases_in o) c) there ∙ at in (
         all_from IsMaskedTy x.payload (λ i ty is. ty_masked ty (says.payloads t c i x ty here is)),
         all_from IsMaskedKey x.keys (λ i k is. set_of k.states (says.listed t c i x k here is)),
       )
