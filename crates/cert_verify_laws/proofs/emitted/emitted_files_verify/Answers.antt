@@ -1,3 +1,4 @@
+use Rattle.std.proofs.Common.{false}
 use Rattle.cert_verify_laws.proofs.Emitting.{accepted_text, emitted}
 use Rattle.cert_format.specs.Places.{unplaced_program}
 use Rattle.cert_verify_laws.proofs.emitted.emitted_files_verify.Goals as goal
