@@ -1,9 +1,10 @@
 -- What `load` replies to a text: one reply, some reply, and what is written of it.
-use Rattle.std.proofs.Common.{◌≡◌, inl, inr, ⊎_elim, ℕ, true, false, List, [], ◌++◌, length, Some, refl, sym, ap, ◌∙◌, subst, arith}
+use Rattle.std.proofs.Common.{◌≡◌, inl, inr, ⊎_elim, ℕ, true, false, List, [], ◌++◌, length, Some, refl, sym, ap, ◌∙◌, subst, append_assoc, arith}
 use Rattle.std.proofs.lemmas.Bool.Decides.{eqb_tells}
 use Rattle.std.proofs.lemmas.Option.{same_Some}
 use Rattle.std.specs.Prelude.{◌≢◌, Result, Ok, Err, IfOk, codes}
 use Rattle.std.specs.declared.alloc.AllocError.{AllocError}
+use Rattle.vlt_base.specs.declared.Budgets.{Budgets}
 use Rattle.vlt_base.specs.Limits.{limit_of}
 use Rattle.vlt_base.specs.declared.limits.TheConstants.{VALUE_SLOTS}
 use Rattle.vlt_io.specs.declared.sink.Sink.{Ghosts}
@@ -17,7 +18,7 @@ use Rattle.vlt_steps.specs.declared.stop.Stop.TheVariants as stop
 use Rattle.vlt_steps.specs.declared.end.RunEnd.{RunEnd}
 use Rattle.vlt_steps.specs.declared.end.RunEnd.TheVariants.{BadInput, BadAnswers, TooWide, Stopped, Memory}
 use Rattle.vlt_steps.specs.Writing.{Outside}
-use Rattle.vlt_interp.specs.Runs.Ends.{IsTooWide, EndsGiven}
+use Rattle.vlt_interp.specs.Runs.Ends.{IsTooWide, EndsGiven, EndsAs}
 use Rattle.vlt_sound.specs.Promise.{NeverGoesWrong}
 use Rattle.vlt_syntax.specs.Tree.{Tree}
 use Rattle.vlt_verdict.specs.Verdicts.{Verdict, refused, faulty, accepted, IsVerdictOf}
@@ -42,6 +43,17 @@ use Rattle.vaultc_core.specs.Verdicts.{check_reply}
 use Rattle.vaultc_core.proofs.CReplies.{over_or_not}
 use Rattle.vaultc_core.proofs.Finished.{finishes_as, none_written}
 use Rattle.vaultc_core.proofs.RunEnded.{last_there, not_sink_fault}
+
+-- nine pieces, put together from the last one on or from the first one on
+pub nested : (a b c d e f g h i : List ℕ) → a ++ (b ++ (c ++ (d ++ (e ++ (f ++ (g ++ (h ++ i))))))) ≡ a ++ b ++ c ++ d ++ e ++ f ++ g ++ h ++ i
+nested a b c d e f g h i =
+    sym (append_assoc a b (c ++ (d ++ (e ++ (f ++ (g ++ (h ++ i))))))) ∙
+    sym (append_assoc (a ++ b) c (d ++ (e ++ (f ++ (g ++ (h ++ i)))))) ∙
+    sym (append_assoc (a ++ b ++ c) d (e ++ (f ++ (g ++ (h ++ i))))) ∙
+    sym (append_assoc (a ++ b ++ c ++ d) e (f ++ (g ++ (h ++ i)))) ∙
+    sym (append_assoc (a ++ b ++ c ++ d ++ e) f (g ++ (h ++ i))) ∙
+    sym (append_assoc (a ++ b ++ c ++ d ++ e ++ f) g (h ++ i)) ∙
+    sym (append_assoc (a ++ b ++ c ++ d ++ e ++ f ++ g) h i)
 
 -- ---- one reply
 
@@ -102,6 +114,13 @@ some_loaded n text p notes least never =
 
 -- ---- the run
 
+-- over files of numbers without bytes, within the budgets that no option sets
+pub ends_alone : (p : Program) (input answers : List ℕ) (b : Budgets) (before after : Outside) (end : RunEnd Stop) → input ≡ [] → answers ≡ [] → b ≡ default_budgets
+    → EndsAs p input answers b before after end → EndsGiven p (numbers [] []) default_budgets before after end
+ends_alone p input answers b before after end no_input no_answers same ends =
+    subst (λ c. EndsAs p [] [] c before after end) same
+    (subst (λ l. EndsAs p [] l b before after end) no_answers (subst (λ l. EndsAs p l answers b before after end) no_input ends))
+
 module _ (n : ℕ) (text : List ℕ) (p : Program) (emitted : ℕ) where
   -- it came to the end of `main`
   pub run_done : (old new : List ℕ) (before after : ℕ) (end : RunEnd Stop) (r : Reply)
@@ -124,6 +143,14 @@ module _ (n : ℕ) (text : List ℕ) (p : Program) (emitted : ℕ) where
   run_done old new before after (BadAnswers line) r x none done is = absurd cc
   run_done old new before after TooWide r x none done is = absurd cc
   run_done old new before after Memory r x none done is = absurd cc
+
+  -- what is said then is a reply
+  pub done_said : (old new : List ℕ) (before after : ℕ) (end : RunEnd Stop) (r : Result CodeReply AllocError)
+      → EndsGiven p (numbers [] []) default_budgets (record { written = Some old; faults = before }) (record { written = Some new; faults = after }) end
+      → old ≡ [] → is_done end ≡ true → (events : List ℕ) → events ≡ new → IfOk r (λ x. shown_reply x ≡ load_reply n text p emitted events)
+      → IfOk r (λ x. IsReplyAfterEmit n text p emitted (shown_reply x))
+  done_said old new before after end (Ok x) ends none done events same is = run_done old new before after end (shown_reply x) ends none done (is ∙ ap (load_reply n text p emitted) same)
+  done_said old new before after end (Err e) ends none done events same is = tt
 
   module _ {K : Type 0} (g : Ghosts K) (old new : K) (result : ℕ) where
     -- with an outcome whose last line isn't that of a run that is done

@@ -5,7 +5,7 @@ use Rattle.vlt_base.specs.Limits.{limit_of}
 use Rattle.vlt_base.specs.declared.limits.TheConstants.{C_BYTES}
 use Rattle.vlt_base.specs.declared.Budgets.{Budgets}
 use Rattle.vlt_core.specs.Core.{Program}
-use Rattle.vlt_meaning.specs.World.{Outcome, done, trap, fuel_end, heap_end, depth_end, input_end, answers_end, bad_answer, fault}
+use Rattle.vlt_meaning.specs.World.{Outcome, done, trap, fuel_end, heap_end, depth_end, input_end, answers_end, bad_answer, fault, event_text}
 use Rattle.vlt_numbers.specs.Given.Given.{Given, numbers, bad_input, bad_answers, given_by}
 use Rattle.vlt_lexer.specs.declared.LexError.TheVariants as lex
 use Rattle.vlt_resolve.specs.Elaboration.{broken, exceeded}
@@ -30,7 +30,7 @@ use Rattle.vaultc_core.specs.Runs.{last_of, IsReplyOverNumbers, IsReplyToProgram
 use Rattle.vaultc_core.specs.Texts.{Refusal, unlexed, unparsed, refusal_reply}
 use Rattle.vaultc_core.specs.Verdicts.{check_reply, IsExplained}
 use Rattle.vaultc_core.specs.Emitted.{c_file, IsReplyToCompiled}
-use Rattle.vaultc_core.specs.Loads.{Then, IsReplyAfterEmit, IsReplyToLoaded}
+use Rattle.vaultc_core.specs.Loads.{load_reply, Then, run_alone, IsReplyAfterEmit, IsReplyToLoaded}
 use Rattle.vlt_load.specs.Generated.{generated_text}
 
 -- neither that of words that are no command nor that of a file that wasn't read
@@ -170,13 +170,15 @@ own_then step Next r first next (inr x) = next r x.1
 
 own_after_emit : (n : ℕ) (text : List ℕ) (p : Program) (emitted : ℕ) (r : Reply) → IsReplyAfterEmit n text p emitted r → IsOwn r.status
 own_after_emit n text p emitted r (inl (wide, same)) = own_as r _ same (own 5 (omega arith))
-own_after_emit n text p emitted r (inr (fits, (last, of, after))) = own_then last _ r (own_outcome _ last of) (λ q is. own_as q _ is own_zero) after
+own_after_emit n text p emitted r (inr (fits, (last, of, after))) =
+    let told = load_reply n text p emitted (event_text (run_alone p).world.events) in
+    own_then last (λ q. q ≡ told) r (own_outcome (run_alone p).outcome last of) (λ q is. own_as q told is own_zero) after
 
 own_loaded : (n : ℕ) (text : List ℕ) (v : Verdict) (r : Reply) → IsReplyToLoaded n text v r → IsOwn r.status
 own_loaded n text (verdict.refused x) r is = own_as r _ is (own_verdict text (verdict.refused x))
 own_loaded n text (verdict.faulty p f x) r is = own_as r _ is (own_verdict text (verdict.faulty p f x))
 own_loaded n text (verdict.accepted p) r (file, written, after) =
-    own_then file _ r (own_emitted text (verdict.accepted p) file written) (own_after_emit n text p (length file.text)) after
+    own_then file (IsReplyAfterEmit n text p (length file.text)) r (own_emitted text (verdict.accepted p) file written) (own_after_emit n text p (length file.text)) after
 
 own_made : (n : ℕ) (text : List ℕ) (r : Reply) → IsReplyToMade n text r → IsOwn r.status
 own_made n text r (inl (e, refused, is)) = own_as r _ is (own_refusal text e)

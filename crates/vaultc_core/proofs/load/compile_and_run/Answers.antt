@@ -1,0 +1,26 @@
+use Rattle.std.proofs.Common.{◌≡◌, length, ap, ◌∙◌, arith}
+use Rattle.vlt_core.specs.View.{program_of}
+use Rattle.vaultc_core.specs.Lines.{reply}
+use Rattle.vaultc_core.specs.Loads.{IsReplyAfterEmit, IsLoaded}
+use Rattle.vaultc_core.specs.Shown.{shown_reply}
+use Rattle.vaultc_core.proofs.Finished.{finishes_as}
+use Rattle.vaultc_core.proofs.Loads.{unwritten, written}
+use Rattle.vaultc_core.proofs.load.compile_and_run.Goals as goal
+
+pub returns-then-file-ne-DONE : goal.returns-then-file-ne-DONE
+returns-then-file-ne-DONE g c =
+    let n = c.args.made.now.functions in
+    let text = c.args.made.now.text.items in
+    let p = program_of c.args.program.now in
+    let status = c.in-Ok.file.status in
+    finishes_as g.K.Sink (λ r. r ≡ reply status c.as_slice.result.now) (IsLoaded n text p) c.args.out.now c.finish.new.out c.finish.result
+    (λ r is. unwritten n text p (shown_reply c.in-Ok.file) c.in-Ok.ensures (λ done. omega (arith, done)) r (is ∙ ap (reply status) c.as_slice.ensures.value)) c.finish.ensures.finishes
+
+pub returns : goal.returns
+returns g c =
+    let n = c.args.made.now.functions in
+    let text = c.args.made.now.text.items in
+    let p = program_of c.args.program.now in
+    let size : c.len.result ≡ length c.in-Ok.file.text.items = (let most = c.len.ensures in omega (arith, most)) in
+    finishes_as g.K.Sink (IsReplyAfterEmit n text p c.len.result) (IsLoaded n text p) c.args.out.now c.run_compiled.new.out c.run_compiled.result
+    (written n text p (shown_reply c.in-Ok.file) c.in-Ok.ensures (omega arith) c.len.result size) c.run_compiled.ensures

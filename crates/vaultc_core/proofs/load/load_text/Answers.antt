@@ -1,0 +1,17 @@
+use Rattle.std.proofs.Common.{subst}
+use Rattle.vaultc_core.specs.Finishes.{Finishes}
+use Rattle.vaultc_core.specs.Loads.{IsReplyToLoad}
+use Rattle.vaultc_core.specs.Replies.{IsReplyToMade}
+use Rattle.vaultc_core.specs.Shown.{IsReplyOf, refusal_of}
+use Rattle.vaultc_core.proofs.Finished.{finishes_as, reply_is}
+use Rattle.vaultc_core.proofs.Said.{refused_text}
+use Rattle.vaultc_core.proofs.load.load_text.Goals as goal
+
+pub returns-in-Err : goal.returns-in-Err
+returns-in-Err g c =
+    let n = c.args.made.now.functions in
+    let slice = c.as_slice-text.result.now in
+    subst (λ l. Finishes g.K.Sink (IsReplyToMade n l) c.args.out.now c.finish_reply.new.out c.finish_reply.result) c.as_slice-text.ensures.value
+    (finishes_as g.K.Sink (IsReplyOf c.refusal.result) (IsReplyToMade n slice) c.args.out.now c.finish_reply.new.out c.finish_reply.result
+    (λ r is. reply_is (IsReplyToMade n slice) c.refusal.result r (refused_text (IsReplyToLoad n slice) slice (refusal_of c.in-Err.error) c.refusal.result c.in-Err.ensures.refused c.refusal.ensures) is)
+    c.finish_reply.ensures)
