@@ -1,5 +1,5 @@
 -- What `load` replies to a text: one reply, some reply, and what is written of it.
-use Rattle.std.proofs.Common.{◌≡◌, inl, inr, ⊎_elim, ℕ, true, false, List, [], ◌++◌, length, Some, refl, sym, ap, ◌∙◌, subst, arith}
+use Rattle.std.proofs.Common.{◌≡◌, inl, inr, ⊎_elim, ℕ, true, false, List, [], ◌++◌, length, Some, refl, sym, ap, ◌∙◌, subst, append_assoc, arith}
 use Rattle.std.proofs.lemmas.Bool.Decides.{eqb_tells}
 use Rattle.std.proofs.lemmas.Option.{same_Some}
 use Rattle.std.specs.Prelude.{◌≢◌, Result, Ok, Err, IfOk, codes}
@@ -43,6 +43,17 @@ use Rattle.vaultc_core.specs.Verdicts.{check_reply}
 use Rattle.vaultc_core.proofs.CReplies.{over_or_not}
 use Rattle.vaultc_core.proofs.Finished.{finishes_as, none_written}
 use Rattle.vaultc_core.proofs.RunEnded.{last_there, not_sink_fault}
+
+-- nine pieces, put together from the last one on or from the first one on
+pub nested : (a b c d e f g h i : List ℕ) → a ++ (b ++ (c ++ (d ++ (e ++ (f ++ (g ++ (h ++ i))))))) ≡ a ++ b ++ c ++ d ++ e ++ f ++ g ++ h ++ i
+nested a b c d e f g h i =
+    sym (append_assoc a b (c ++ (d ++ (e ++ (f ++ (g ++ (h ++ i))))))) ∙
+    sym (append_assoc (a ++ b) c (d ++ (e ++ (f ++ (g ++ (h ++ i)))))) ∙
+    sym (append_assoc (a ++ b ++ c) d (e ++ (f ++ (g ++ (h ++ i))))) ∙
+    sym (append_assoc (a ++ b ++ c ++ d) e (f ++ (g ++ (h ++ i)))) ∙
+    sym (append_assoc (a ++ b ++ c ++ d ++ e) f (g ++ (h ++ i))) ∙
+    sym (append_assoc (a ++ b ++ c ++ d ++ e ++ f) g (h ++ i)) ∙
+    sym (append_assoc (a ++ b ++ c ++ d ++ e ++ f ++ g) h i)
 
 -- ---- one reply
 
