@@ -16,8 +16,8 @@ returns-then-is_done g c =
     let old = c.new-events.result in
     let new = c.run-end.new.out in
     let said = done_said n text p emitted (kept_bytes old) (kept_bytes new) (kept_faults old) (kept_faults new) c.run-end.result c.numbers.result
-        (ends_alone p _ _ c.default_budgets.result _ _ c.run-end.result refl refl c.default_budgets.ensures c.run-end.ensures)
-        c.new-events.ensures (sym c.if-is_done.ensures) c.bytes.result.now c.bytes.ensures c.numbers.ensures in
+    (ends_alone p _ _ c.default_budgets.result _ _ c.run-end.result refl refl c.default_budgets.ensures c.run-end.ensures)
+    c.new-events.ensures (sym c.if-is_done.ensures) c.bytes.result.now c.bytes.ensures c.numbers.ensures in
     finishes_as g.K.Sink (IsReplyOf c.numbers.result) (IsReplyAfterEmit n text p emitted) c.args.out.now c.finish_reply.new.out c.finish_reply.result
     (λ r is. reply_is (IsReplyAfterEmit n text p emitted) c.numbers.result r said is) c.finish_reply.ensures
 
