@@ -1,7 +1,5 @@
 -- Each set of states in an elaborated program is a mask.
-use Rattle.std.proofs.Common.{◌≡◌, ◌<◌, ◌≤◌, ◌^◌, false, ℕ, zero, suc, List, [], ◌∷◌, length, Option, Some, None, slice_get, option_map, IfSome, refl, sym, ap, ◌∙◌, subst, arith}
-use Rattle.std.proofs.lemmas.Option.{none-some}
-use Rattle.vlt_base.specs.declared.states.StateSet.{StateSet}
+use Rattle.std.proofs.Common.{◌≡◌, false, ℕ, suc, List, [], ◌∷◌, Option, Some, None, slice_get, option_map, IfSome, refl, sym, ap, ◌∙◌, subst, arith}
 use Rattle.vlt_syntax.specs.Tree.{Tree, Block, Head}
 use Rattle.vlt_syntax.specs.Lists.{Each}
 use Rattle.vlt_core.specs.Core as core
@@ -9,17 +7,16 @@ use Rattle.vlt_core.specs.Core.{States, Ty, owning, VarDecl, FieldDecl, CaseKey,
 use Rattle.vlt_core.specs.Lookups.{owning_states_in, release_in, fields_in, cases_in}
 use Rattle.vlt_kinds.specs.Kinds.{Kinds}
 use Rattle.vlt_resolve_exprs.specs.Scopes.{Scope}
-use Rattle.vlt_resolve.specs.Elaboration.{body_scope, body_around, stmts_in, func_made}
+use Rattle.vlt_resolve.specs.Elaboration.{body_scope, body_around, stmts_in}
 use Rattle.vlt_resolve_laws.specs.Elaborated.{IsElaborated}
-use Rattle.vlt_resolve_laws.specs.Made.{head_made, HasWalked, IsMade, IsWalked}
-use Rattle.vlt_resolve_laws.specs.Narrow.{ProgramSays, IsMask, HasMasks}
+use Rattle.vlt_resolve_laws.specs.Made.{head_made, IsMade}
+use Rattle.vlt_resolve_laws.specs.Narrow.{IsMask, HasMasks}
 use Rattle.vlt_resolve_laws.specs.KindsLaws.Said.{TypeSays}
 use Rattle.vlt_resolve_laws.proofs.Bodies.{made_head}
-use Rattle.vlt_resolve_laws.proofs.Made.{HasFunctions, MadeAt, HeadAt, made_at, head_at}
+use Rattle.vlt_resolve_laws.proofs.Made.{HasFunctions, made_at, head_at}
 use Rattle.vlt_resolve_laws.proofs.Starting.{body_is}
 use Rattle.vlt_resolve_laws.proofs.WalkGrowing.{stmts_grow}
 use Rattle.vlt_resolve_laws.proofs.Whole.{facts_of}
-use Rattle.cert_rows.specs.Parts.{All}
 use Rattle.cert_rows.specs.Values.{mask}
 use Rattle.cert_fit_laws.proofs.Listed.{all_from}
 use Rattle.cert_fit_laws.proofs.Masks.{mask_fits}

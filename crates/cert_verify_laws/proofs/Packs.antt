@@ -1,5 +1,5 @@
 -- Each set of states in the body of an elaborated function is a mask, where those of the types that stand around are.
-use Rattle.std.proofs.Common.{◌≡◌, ℕ, ◌-◌, Bool, true, false, if◌then◌else◌, List, [], ◌∷◌, ◌++◌, map, length, Option, Some, None, slice_get, option_map, Ok, refl, sym, ap, ◌∙◌, subst}
+use Rattle.std.proofs.Common.{◌≡◌, ℕ, ◌-◌, Bool, true, false, if◌then◌else◌, List, [], ◌∷◌, ◌++◌, map, length, Option, Some, None, slice_get, option_map, Ok, refl, sym, subst}
 use Rattle.std.proofs.lemmas.Option.{none-some, same_Some}
 use Rattle.vlt_syntax.specs.Tree as s
 use Rattle.vlt_syntax.specs.Tree.{Name, Init, Right, Stmt, Block, If, Else, Stmts, Arms}
@@ -7,7 +7,6 @@ use Rattle.vlt_syntax.specs.Lists.{Each}
 use Rattle.vlt_core.specs.Core as core
 use Rattle.vlt_core.specs.Core.{States, Ty, bool, VarDecl, FieldDecl, CaseDecl, Operand, Form, Func}
 use Rattle.vlt_core.specs.Lookups.{is_owning, VariantOf, variant_in}
-use Rattle.vlt_core.specs.Types.{with_keys}
 use Rattle.vlt_core.specs.View.{stmts_made, arms_made}
 use Rattle.vlt_kinds_types.specs.declared.names.found.Refusal.{Refusal}
 use Rattle.vlt_kinds_types.specs.Names.Refusals.{least_from}
@@ -23,11 +22,11 @@ use Rattle.vlt_resolve_rights.specs.News.{field_types, init_operands, made_opera
 use Rattle.vlt_resolve_rights.specs.Adopts.{core_adopt}
 use Rattle.vlt_resolve_rights.specs.Rights.{right_forms}
 use Rattle.vlt_resolve_stmts.specs.Around.{Around, inside_loop, inside_focus}
-use Rattle.vlt_resolve_stmts.specs.Declarations.{with_bound_key, binds_key, declared_target, plain_target, assigned_target, declare_became, keyed_became, hidden_became, declared_became, assign_became}
+use Rattle.vlt_resolve_stmts.specs.Declarations.{with_bound_key, binds_key, declared_target, assigned_target, declare_became, keyed_became, hidden_became, declared_became, assign_became}
 use Rattle.vlt_resolve_stmts.specs.Statements.{core_put, release_form, core_become, core_swap, opened_parts, opened_became, open_became, hidden_operand, returned_value, returned_build, return_became, simple_refused, simple_became}
 use Rattle.vlt_resolve.specs.Switches.Switches.{arm_names, switch_refused, arm_case, arm_refused, arm_scope, arm_numbers, case_number, focus_refused, bound_scope}
 use Rattle.vlt_resolve.specs.Walk.Blocks.{block_ends, closing, else_closing, ends, stmt_place}
-use Rattle.vlt_resolve.specs.Walk.Walk.{late, placed_at, block_made, walk_stmts, walk_stmt, walk_block, walk_if, walk_else, walk_chained, walk_arms, walk_arm, walk_simple}
+use Rattle.vlt_resolve.specs.Walk.Walk.{late, placed_at, block_made, walk_stmts, walk_stmt, walk_block, walk_else, walk_arms, walk_arm, walk_simple}
 use Rattle.vlt_resolve.specs.Elaboration.{body_scope, body_around, stmts_in, last_return, func_made}
 use Rattle.vlt_resolve_laws.specs.KindsLaws.Said.{TypeSays}
 use Rattle.vlt_resolve_laws.specs.WalkSteps.{Leads}

@@ -15,7 +15,7 @@ use Rattle.cert_format.specs.Notes.{MapNotes, Note, maps_of}
 use Rattle.cert_format.specs.Bodies.{count, count_block, draft_of, block_draft, list_draft, arms_draft}
 use Rattle.cert_format.specs.Certificate.{shape, fn_shape, type_rows, fn_row, FitsCertificate}
 use Rattle.cert_format_laws.proofs.Decoding.{all_left, all_right}
-use Rattle.cert_fit_laws.proofs.Listed.{all_from, all_at, mapped, spread, noted}
+use Rattle.cert_fit_laws.proofs.Listed.{all_from, mapped, spread, noted}
 use Rattle.cert_fit_laws.proofs.Masked.{IsMaskedTy, IsMaskedOperand, IsMaskedSimple, IsMasked, IsMaskedBlock, AreMasked, AreMaskedArms, IsMaskedField, IsMaskedKey, IsMaskedCase, IsMaskedType, IsMaskedEntry, IsMaskedFunc, IsMaskedProgram}
 
 -- what is so of each part that fits is so of all
