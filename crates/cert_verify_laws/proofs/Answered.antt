@@ -1,5 +1,5 @@
 -- It can't be that the notes of a certificate neither hold nor are refused.
-use Rattle.std.proofs.Common.{sym, subst}
+use Rattle.std.proofs.Common.{false, sym, subst}
 use Rattle.vlt_base.specs.Sure.{Surely}
 use Rattle.vlt_core.specs.Kinded.{IsKinded}
 use Rattle.cert_format.specs.Certificate.{FitsCertificate}
