@@ -1,0 +1,4 @@
+pub mod Moves
+pub mod Keeps
+pub mod Knows
+pub mod MoveLaws
