@@ -14,4 +14,7 @@ mod statements;
 mod tasks;
 
 pub use machine::Machine;
+pub use moves::step;
+pub use rooms::{Start, is_too_wide_for_host, prepare};
+pub use tasks::{At, Rules, Run, Task};
 pub use vlt_steps::{OpenError, Stop};

@@ -1,5 +1,6 @@
 pub mod Numbers
 pub mod Search
-pub mod Entries
+pub mod Parameters
 pub mod Holding
 pub mod Seen
+pub mod Clauses

@@ -23,7 +23,7 @@ use Rattle.vlt_permits.proofs.Holding.{held_has, is_held_there}
 
 module _ (h : Hosted) (objects : List Object) (s : ShowsHosted h objects) where
   pub table_has : (n : ℕ) → has (numbers_in h.held.now) n ≡ host_holds objects n
-  table_has n = ap (λ ns. has ns n) s.held ∙ held_has objects n
+  table_has n = ap (λ ns. has ns n) s.numbers ∙ held_has objects n
 
   -- an object that the host holds has an item
   pub record HasItem (n : ℕ) : Type 0 where
