@@ -106,7 +106,7 @@ module _ (p : Program) (f : Func) (args : List Argument) (objects : List Object)
   is_in e = is_object_in (permitted_states p f e e.mode) (slice_get objects (stands e))
 
   stood : (e : Entry) → e.key < length f.keys → stands e ≡ or_unused (length objects) (name e)
-  stood e within = get_or-map-range_with_len (λ k. or_unused (length objects) (object_of_key bs k)) 0 (length f.keys) e.key e.key 0 within refl
+  stood e within = get_or-map-range_with_len (λ k. or_unused (length objects) (object_of_key bs k)) 0 (length f.keys) e.key e.key 0 within (omega arith)
 
   named_stands : (e : Entry) (n : ℕ) → e.key < length f.keys → name e ≡ Some n → stands e ≡ n
   named_stands e n within is = stood e within ∙ ap (or_unused (length objects)) is

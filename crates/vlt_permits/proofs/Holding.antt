@@ -139,4 +139,4 @@ is_held_there items width objects shown n (Some x) at e = refl
 pub few_held : (items : Items) (width : ℕ) (objects : List Object) → ShowObjects items width objects →
     length (held_numbers objects) ≤ live_count items
 few_held items width objects shown =
-    fewer (host_holds objects) 0 objects items shown.long (λ i x at e. is_held_there items width objects shown i x at e)
+    fewer (host_holds objects) 0 objects items shown.long (λ i x at e. is_held_there items width objects shown i x at (subst (λ n. host_holds objects n ≡ true) (omega arith) e))

@@ -4,3 +4,4 @@ pub mod Parameters
 pub mod Holding
 pub mod Seen
 pub mod Clauses
+pub mod Nexts

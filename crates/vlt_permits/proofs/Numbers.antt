@@ -8,7 +8,7 @@ use Rattle.vlt_permits.specs.Numbers.{AreAbove, IsAscending, with_number, withou
 
 -- ---- tests of numbers
 
-same_test : (m n : ℕ) → m ≡ n → (m == n) ≡ true
+pub same_test : (m n : ℕ) → m ≡ n → (m == n) ≡ true
 same_test m n e = grind (arith, nat_tests)
 
 other_test : (m n : ℕ) → (m ≡ n → ⊥) → (m == n) ≡ false
@@ -203,7 +203,7 @@ ascending_same (x ∷ xs) (y ∷ ys) h k same =
         by true e =
             let less : x < y = grind (arith, nat_tests) in
             let none : has (y ∷ ys) x ≡ false =
-                ap (λ b. b || has ys x) (other_test y x (λ e. omega (arith, e, less))) ∙ none_above y ys k x (omega (arith, less)) in
+            ap (λ b. b || has ys x) (other_test y x (λ e. omega (arith, e, less))) ∙ none_above y ys k x (omega (arith, less)) in
             absurd (clash (sym none ∙ (sym (same x) ∙ ap (λ b. b || has xs x) (same_test x x refl))))
 
     first : x ≡ y

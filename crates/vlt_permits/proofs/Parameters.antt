@@ -1,5 +1,5 @@
 -- Parameters, and types without a header.
-use Rattle.std.proofs.Common.{◌≡◌, ℕ, ◌≤◌, nat_le, min, Bool, true, false, List, [], ◌∷◌, map, take, length, take_all, refl, sym, ap, ◌∙◌, ◌==◌, arith}
+use Rattle.std.proofs.Common.{◌≡◌, ℕ, suc, ◌≤◌, nat_le, min, Bool, true, false, List, [], ◌∷◌, map, take, length, take_all, refl, sym, ap, ◌∙◌, ◌==◌, arith}
 use Rattle.std.proofs.lemmas.Bool.Decides.{nat_tests}
 use Rattle.std.proofs.lemmas.List.{take-map}
 use Rattle.vlt_base.specs.declared.ids.KeyId.{KeyId}
@@ -29,4 +29,4 @@ first_taken n ds =
 
 pub bare : (k t : ℕ) (args : List KeyId) → (length args == 0) ≡ is_host_type (core.tracked k t (keys_of args))
 bare k t [] = refl
-bare k t (x ∷ xs) = refl
+bare k t (x ∷ xs) = let e : (suc (length xs) == 0) ≡ false = grind (arith, nat_tests) in e

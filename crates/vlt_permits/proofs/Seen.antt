@@ -1,11 +1,12 @@
 -- Objects that a host holds, where they are.
-use Rattle.std.proofs.Common.{◌≡◌, ℕ, ◌+◌, ◌<◌, ◌≤◌, ◌==◌, Bool, true, false, ◌&&◌, List, Option, Some, None, refl, sym, ap, ◌∙◌, subst, arith, slice_get, length}
+use Rattle.std.proofs.Common.{◌≡◌, ℕ, ◌+◌, ◌<◌, ◌≤◌, ◌==◌, nat_lt, Bool, true, false, ◌&&◌, List, Option, Some, None, refl, sym, ap, ◌∙◌, subst, arith, slice_get, length}
+use Rattle.std.proofs.lemmas.Bool.Decides.{nat_tests}
 use Rattle.std.proofs.lemmas.Option.{none-some, same_Some, slice_get_within}
 use Rattle.vlt_rings.proofs.Calls.{ItemAt, item_at}
 use Rattle.vlt_core.specs.KindedHeads.{has}
 use Rattle.vlt_core.specs.Core.{States}
 use Rattle.vlt_heap.specs.Items.{Item, Items, IsAt, is_there, IsMadeAt}
-use Rattle.vlt_heap.specs.Shown.{Holds, IsLive, ForObject, Tells, heap_of}
+use Rattle.vlt_heap.specs.Shown.{Holds, IsLive, ForObject, IsThereOrGone, heap_of}
 use Rattle.vlt_heap.specs.Shown as heaps
 use Rattle.vlt_heap.specs.declared.heap.Heap.{Heap}
 use Rattle.vlt_heap.specs.declared.slots.Obj.{Obj}
@@ -95,9 +96,21 @@ module _ (h : Hosted) (objects : List Object) (s : ShowsHosted h objects) where
 abbrev pub IsNotAt : Heap → (place number : ℕ) → Type 0
 IsNotAt heap c n = (items : Items) → Holds heap items → IsMadeAt items c n → slice_get items n ≡ Some None
 
-pub tells_not : (heap : Heap) (o : Obj) (n : ℕ) (b : Bool) → b ≡ false → Tells b o n heap → IsNotAt heap o.0 n
-tells_not heap o n true e t = cc
-tells_not heap o n false e t = t
+pub tells_not : (heap : Heap) (c n : ℕ) (b : Bool) → b ≡ false →
+    ((items : Items) → Holds heap items → IsMadeAt items c n → IsThereOrGone b items n c) → IsNotAt heap c n
+tells_not heap c n true e t = cc
+tells_not heap c n false e t = t
+
+-- after one more place
+pub none_yet : (heap : Heap) (n c : ℕ) → ((d : ℕ) → d < c → IsNotAt heap d n) → IsNotAt heap c n → (d : ℕ) → d < c + 1 → IsNotAt heap d n
+none_yet heap n c before here d k = by (nat_lt d c) refl
+  where
+    by : (b : Bool) → nat_lt d c ≡ b → IsNotAt heap d n
+    by true e = before d (grind (arith, nat_tests))
+    by false e =
+        let more : c ≤ d = grind (arith, nat_tests) in
+        let same : c ≡ d = omega (arith, more, k) in
+        subst (λ m. IsNotAt heap m n) same here
 
 -- it is at one of the places
 pub somewhere : (h : Hosted) → IsHosted h → (n : ℕ) → has (numbers_in h.held.now) n ≡ true →
@@ -106,4 +119,4 @@ somewhere h k n e none =
     let s = k.shown in
     let q = has_item h k.objects s n (sym (table_has h k.objects s n) ∙ e) in
     let within = place_within h.heap.now s.items s.holds n q.item q.at in
-    none-some q.item (sym (same_Some None (Some q.item) (sym (none q.item.place (omega (arith, within, k.places, k.heap.settled.sound.within)) s.items s.holds (made_at s.items n q.item q.at)) ∙ q.at)))
+    none-some q.item (same_Some None (Some q.item) (sym (none q.item.place (omega (arith, within, k.places, k.heap.settled.sound.within)) s.items s.holds (made_at s.items n q.item q.at)) ∙ q.at))

@@ -9,7 +9,7 @@ put_at-requires-clause-room c =
     let xs = c.args.self.now.numbers.items in
     let i = c.in-Err.i in
     let long = one_longer xs i c.args.number
-        (not_found xs c.as_slice.result.now c.args.number i c.as_slice.ensures.value c.requires.sound.ascending c.in-Err.ensures.position) in
+    (not_found xs c.as_slice.result.now c.args.number i c.as_slice.ensures.value c.requires.sound.ascending c.in-Err.ensures.position) in
     omega (arith, long, c.requires.room)
 
 pub put_at-requires-in-Err-clause-room : goal.put_at-requires-in-Err-clause-room
@@ -17,7 +17,7 @@ put_at-requires-in-Err-clause-room c =
     let xs = c.args.self.now.numbers.items in
     let i = c.in-Err.i in
     let long = one_longer xs i c.args.number
-        (not_found xs c.as_slice.result.now c.args.number i c.as_slice.ensures.value c.requires.sound.ascending c.in-Err.ensures.position) in
+    (not_found xs c.as_slice.result.now c.args.number i c.as_slice.ensures.value c.requires.sound.ascending c.in-Err.ensures.position) in
     omega (arith, long, c.requires.room, c.requires.sound.places)
 
 pub returns-in-Err-clause-numbers : goal.returns-in-Err-clause-numbers
@@ -32,7 +32,7 @@ returns-in-Err-clause-sound c =
     let xs = c.args.self.now.numbers.items in
     let i = c.in-Err.i in
     let is = c.put_at.ensures.items ∙ one_inserted xs i c.args.number
-        (not_found xs c.as_slice.result.now c.args.number i c.as_slice.ensures.value c.requires.sound.ascending c.in-Err.ensures.position) in
+    (not_found xs c.as_slice.result.now c.args.number i c.as_slice.ensures.value c.requires.sound.ascending c.in-Err.ensures.position) in
     record {
       ascending = subst IsAscending (sym is) (ascending_with c.args.number xs c.requires.sound.ascending);
       places = omega (arith, c.put_at.ensures.long, c.put_at-in-Err.ensures.long, c.requires.sound.places);

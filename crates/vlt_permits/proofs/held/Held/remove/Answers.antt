@@ -16,7 +16,7 @@ returns-in-Ok-clause-sound c =
     let xs = c.args.self.now.numbers.items in
     let i = c.in-Ok.i in
     let is = c.remove.ensures.items ∙ one_removed xs i c.args.number c.requires.sound.ascending
-        (found xs c.as_slice.result.now c.args.number i c.as_slice.ensures.value c.requires.sound.ascending c.in-Ok.ensures.position) in
+    (found xs c.as_slice.result.now c.args.number i c.as_slice.ensures.value c.requires.sound.ascending c.in-Ok.ensures.position) in
     record {
       ascending = subst IsAscending (sym is) (ascending_without c.args.number xs c.requires.sound.ascending);
       places = omega (arith, c.remove.ensures.len, c.remove-in-Ok.ensures.len, c.requires.sound.places);
