@@ -58,7 +58,8 @@ fn is_new_for(e: Entry, k: KeyId) -> bool
 }
 
 fn lists_new(clause: &[Entry], k: KeyId) -> bool
-    ensures { result ≡ list_any (λ e. lookups.is_new e && e.key == k.0) (map entry_of clause.now) }
+    ensures { result ≡ list_any (λ e. lookups.is_new e && e.key == k.0)
+        (map entry_of clause.now) }
 {
     for e in clause {
         if is_new_for(*e, k) {

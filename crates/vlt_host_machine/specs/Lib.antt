@@ -1,0 +1,3 @@
+pub mod Callable
+pub mod Room
+pub mod HostMachine

@@ -1,0 +1,11 @@
+//! What a machine for a host keeps between calls.
+
+use vlt_interp::Start;
+use vlt_permits::Held;
+
+/// The tables of a run, in which only objects stand between calls, and what the host holds of these.
+#[derive(Drop)]
+pub struct Tables<'a> {
+    pub start: Start<'a>,
+    pub held: Held,
+}
