@@ -1,6 +1,6 @@
 //! What a host holds and which calls it may make: a program, its objects and those of the host in, yes or no out.
 //! Read `vlt_host_meaning/specs/Permitted.antt` first, then `specs/Held.antt` and `specs/Hosted.antt`.
-//! Used by: `vlt_host_machine`.
+//! Used by: nothing yet; the machine that a host calls is to rest on it.
 #![tactic(auto)]
 
 mod arguments;

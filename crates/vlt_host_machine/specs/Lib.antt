@@ -1,3 +1,0 @@
-pub mod Callable
-pub mod Room
-pub mod HostMachine
