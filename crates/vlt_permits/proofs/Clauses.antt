@@ -1,5 +1,5 @@
 -- What the code asks of arguments and clauses is what the definition asks.
-use Rattle.std.proofs.Common.{◌≡◌, ℕ, suc, ◌+◌, ◌<◌, ◌==◌, Bool, true, false, not, ◌&&◌, ◌||◌, if◌then◌else◌, List, [], ◌∷◌, ◌++◌, length, map, filter, Option, Some, None, refl, sym, ap, ◌∙◌, subst, arith, slice_get}
+use Rattle.std.proofs.Common.{◌≡◌, ℕ, suc, ◌<◌, ◌==◌, Bool, true, false, not, ◌&&◌, ◌||◌, if◌then◌else◌, List, [], ◌∷◌, ◌++◌, length, map, filter, Option, Some, None, refl, sym, ap, ◌∙◌, subst, arith, slice_get}
 use Rattle.std.specs.List.{list_all, list_any}
 use Rattle.std.proofs.lemmas.Option.{none-some, same_Some, slice_get_past}
 use Rattle.std.proofs.lemmas.List.FromFn.{get_or-map-range_with_len}
@@ -8,7 +8,7 @@ use Rattle.vlt_core.specs.Lookups.{is_held_before}
 use Rattle.vlt_core.specs.Types.{stands_for}
 use Rattle.vlt_core.specs.KindedHeads.{has, are_apart, parameters_of}
 use Rattle.vlt_meaning.specs.World.{Object}
-use Rattle.vlt_meaning.specs.Calls.{Binding, binding}
+use Rattle.vlt_meaning.specs.Calls.{Binding}
 use Rattle.vlt_host_meaning.specs.Calls.{Argument, number, object}
 use Rattle.vlt_host_meaning.specs.HostFrame.{host_holds}
 use Rattle.vlt_host_meaning.specs.Permitted.{argument_fits, arguments_fit, argument_bindings, object_of_key, have_one_object, or_unused, host_keys, entries_before, keys_before, is_object_in, permitted_states, are_in_states}

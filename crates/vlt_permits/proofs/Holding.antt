@@ -1,14 +1,14 @@
 -- The numbers of the objects that a host holds: they ascend, and are few.
-use Rattle.std.proofs.Common.{◌≡◌, ℕ, zero, suc, ◌+◌, ◌<◌, ◌≤◌, ◌==◌, Bool, true, false, ◌||◌, if◌then◌else◌, List, [], ◌∷◌, length, map, filter, Option, Some, None, refl, sym, ap, ◌∙◌, subst, arith, slice_get, cond}
-use Rattle.std.specs.List.{enumerate_from, count_by}
+use Rattle.std.proofs.Common.{◌≡◌, ℕ, suc, ◌+◌, ◌<◌, ◌≤◌, ◌==◌, Bool, true, false, ◌||◌, if◌then◌else◌, List, [], ◌∷◌, length, map, filter, Option, Some, None, refl, sym, ap, ◌∙◌, subst, arith, slice_get, cond}
+use Rattle.std.specs.List.{enumerate_from}
 use Rattle.std.proofs.lemmas.Bool.{eqb-true}
 use Rattle.std.proofs.lemmas.Bool.Decides.{nat_tests}
-use Rattle.std.proofs.lemmas.Option.{none-some, slice_get_within}
+use Rattle.std.proofs.lemmas.Option.{slice_get_within}
 use Rattle.std.proofs.lemmas.List.Sums.{sum_by-cons}
 use Rattle.vlt_core.specs.KindedHeads.{has}
 use Rattle.vlt_heap.specs.Items.{Item, Items, is_there, live_count}
 use Rattle.vlt_meaning.specs.World.{Object, Owner, gone, loose, inside, adopted_by, out, held, lent, is_gone, is_held_under}
-use Rattle.vlt_acts.specs.Values.Shown.{ShowsIt, ShowObjects}
+use Rattle.vlt_acts.specs.Values.Shown.{ShowObjects}
 use Rattle.vlt_host_meaning.specs.HostFrame.{holds_in, host_holds}
 use Rattle.vlt_host_meaning.specs.HostClean.{held_numbers}
 use Rattle.vlt_permits.specs.Numbers.{AreAbove, IsAscending}

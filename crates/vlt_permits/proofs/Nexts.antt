@@ -1,5 +1,5 @@
 -- Entries of a clause, one after another.
-use Rattle.std.proofs.Common.{◌≡◌, ◌-◌, ◌≤◌, ℕ, Bool, true, false, ◌&&◌, if◌then◌else◌, List, [], ◌∷◌, map, filter, length, get_or, take, drop, refl, sym, ap, ◌∙◌, take_all, length-drop, arith}
+use Rattle.std.proofs.Common.{◌≡◌, ◌-◌, ◌≤◌, Bool, true, false, ◌&&◌, if◌then◌else◌, List, [], ◌∷◌, map, filter, length, get_or, take, drop, refl, sym, ap, ◌∙◌, take_all, length-drop, arith}
 use Rattle.std.specs.List.{list_all}
 use Rattle.vlt_core.specs.Core.{Entry}
 use Rattle.vlt_core.specs.View.{entry_of}

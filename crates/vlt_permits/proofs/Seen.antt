@@ -2,20 +2,18 @@
 use Rattle.std.proofs.Common.{◌≡◌, ℕ, ◌+◌, ◌<◌, ◌≤◌, ◌==◌, nat_lt, Bool, true, false, ◌&&◌, List, Option, Some, None, refl, sym, ap, ◌∙◌, subst, arith, slice_get, length}
 use Rattle.std.proofs.lemmas.Bool.Decides.{nat_tests}
 use Rattle.std.proofs.lemmas.Option.{none-some, same_Some, slice_get_within}
-use Rattle.vlt_rings.proofs.Calls.{ItemAt, item_at}
+use Rattle.vlt_rings.proofs.Calls.{item_at}
 use Rattle.vlt_core.specs.KindedHeads.{has}
 use Rattle.vlt_core.specs.Core.{States}
 use Rattle.vlt_heap.specs.Items.{Item, Items, IsAt, is_there, IsMadeAt}
-use Rattle.vlt_heap.specs.Shown.{Holds, IsLive, ForObject, IsThereOrGone, heap_of}
-use Rattle.vlt_heap.specs.Shown as heaps
+use Rattle.vlt_heap.specs.Shown.{Holds, IsLive, ForObject, IsThereOrGone}
 use Rattle.vlt_heap.specs.declared.heap.Heap.{Heap}
 use Rattle.vlt_heap.specs.declared.slots.Obj.{Obj}
 use Rattle.vlt_heap.proofs.Calls.{found, place_within}
 use Rattle.vlt_heap.proofs.Listed.{made_at}
 use Rattle.vlt_meaning.specs.World.{Object}
-use Rattle.vlt_acts.specs.Values.Shown.{ShowsObject, ShowObjects}
+use Rattle.vlt_acts.specs.Values.Shown.{ShowsObject}
 use Rattle.vlt_host_meaning.specs.HostFrame.{holds_in, host_holds}
-use Rattle.vlt_host_meaning.specs.HostClean.{held_numbers}
 use Rattle.vlt_host_meaning.specs.Permitted.{is_of_type, is_object_in}
 use Rattle.vlt_permits.specs.declared.hosted.Hosted.{Hosted}
 use Rattle.vlt_permits.specs.Held.{numbers_in}

@@ -1,4 +1,4 @@
-use Rattle.std.proofs.Common.{ℕ, List, ◌∙◌, sym, subst, arith}
+use Rattle.std.proofs.Common.{◌∙◌, sym, subst, arith}
 use Rattle.vlt_permits.specs.Numbers.{IsAscending}
 use Rattle.vlt_permits.proofs.Numbers.{ascending_without}
 use Rattle.vlt_permits.proofs.Search.{found, not_found, one_removed, nothing_removed}

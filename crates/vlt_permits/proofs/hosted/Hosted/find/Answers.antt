@@ -1,4 +1,4 @@
-use Rattle.std.proofs.Common.{sym, ◌∙◌}
+use Rattle.std.proofs.Common.{◌∙◌}
 use Rattle.vlt_permits.proofs.Seen.{table_has}
 use Rattle.vlt_permits.proofs.hosted.Hosted.find.Goals as goal
 
