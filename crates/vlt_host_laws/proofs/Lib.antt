@@ -9,3 +9,4 @@ pub mod OfInstances
 pub mod Cleanness
 pub mod Whole
 pub mod PastCallsLaws
+pub mod ResultsOfCalls

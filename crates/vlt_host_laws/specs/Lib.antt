@@ -1,2 +1,3 @@
 pub mod Promise
 pub mod Calls
+pub mod Results

@@ -11,6 +11,7 @@ ghost use Rattle.vlt_sound.specs.Sizes.{HasSizes};
 ghost use Rattle.vlt_sound.specs.Narrow.{HasNarrowHeads};
 ghost use Rattle.vlt_host_laws.specs.Promise.{NeverGoesWrongForHosts, KeepsClauses, LeavesOnlyTheHosts};
 ghost use Rattle.vlt_host_laws.specs.Calls.{TakesCalls};
+ghost use Rattle.vlt_host_laws.specs.Results.{GivesResults};
 
 /// Whatever a host calls, no run of an accepted program ends in a fault. Each call that comes back changes what the host holds as
 /// the clause of its function says, and all calls leave only objects that the host has, and what is below those.
@@ -27,4 +28,10 @@ pub fn hosts_of_accepted_programs_go_right()
 pub fn accepted_programs_take_calls()
     ensures { (p : Program) → IsKinded p → IsAccepted p → HasSizes p → HasStates p →
         HasNarrowHeads p → TakesCalls p }
+{}
+
+/// A call that comes back gives a value just where its function's type says so: a number, or a reference to an object.
+pub fn accepted_programs_give_results()
+    ensures { (p : Program) → IsKinded p → IsAccepted p → HasSizes p → HasStates p →
+        HasNarrowHeads p → GivesResults p }
 {}

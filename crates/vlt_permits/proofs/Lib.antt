@@ -1,0 +1,7 @@
+pub mod Numbers
+pub mod Search
+pub mod Parameters
+pub mod Holding
+pub mod Seen
+pub mod Clauses
+pub mod Nexts
