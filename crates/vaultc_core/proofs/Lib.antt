@@ -8,7 +8,7 @@ pub mod Own
 pub mod RunEnded
 pub mod CEnded
 pub mod CReplies
-pub mod Verifies
+pub mod VReplies
 pub mod Said
 pub mod Runnable
 pub mod Explained
@@ -20,6 +20,7 @@ pub mod Some
 pub mod Told
 pub mod Replied
 pub mod Promises
+pub mod Verifies
 pub mod OfTexts
 pub mod Compiles
 pub mod Compilable

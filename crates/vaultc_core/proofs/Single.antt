@@ -27,7 +27,7 @@ use Rattle.vaultc_core.specs.Replies.{IsReplyToVerdict, IsReplyToTree, IsReplyBy
 use Rattle.c_reader_laws.specs.Laws.{IsReadInOneWay}
 use Rattle.cert_verify.specs.Laws.{VerifiesInOneWay}
 use Rattle.vaultc_core.proofs.CReplies.{one_c_reply}
-use Rattle.vaultc_core.proofs.Verifies.{one_verify_reply}
+use Rattle.vaultc_core.proofs.VReplies.{one_verify_reply}
 use Rattle.vaultc_core.proofs.Loads.{one_emitted, one_loaded}
 use Rattle.vaultc_core.proofs.Read.{text_tree, one_text, refusals_alike, text_not_refused}
 

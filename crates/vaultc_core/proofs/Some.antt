@@ -41,7 +41,7 @@ use Rattle.c_reader_laws.specs.Laws.{IsReadInOneWay}
 use Rattle.vaultc_core.proofs.OfTexts.{program_of_text}
 use Rattle.cert_verify.specs.Laws.{VerifiesInSomeWay}
 use Rattle.vaultc_core.proofs.CReplies.{over_or_not, some_c_reply}
-use Rattle.vaultc_core.proofs.Verifies.{some_verify_reply}
+use Rattle.vaultc_core.proofs.VReplies.{some_verify_reply}
 use Rattle.vaultc_core.proofs.Loads.{some_loaded}
 use Rattle.vaultc_core.proofs.Read.{text_tree, read_in_one_way}
 use Rattle.vaultc_core.proofs.RunEnded.{last_there}

@@ -1,16 +1,13 @@
--- `verify` has one reply to a C file and surely some, and what status 0 of it promises.
+-- What status 0 of `verify` promises.
 use Rattle.std.proofs.Common.{◌≡◌, ◌⊎◌, inl, inr, ⊎_elim, ℕ, List, Option, Some, refl, sym, ap, ◌∙◌, subst, arith}
 use Rattle.vlt_base.specs.Limits.{limit_of}
-use Rattle.vlt_base.specs.Sure.{Surely}
 use Rattle.vlt_base.specs.declared.limits.TheConstants.{C_BYTES}
-use Rattle.vlt_base.proofs.Surely.{so}
 use Rattle.vlt_io.specs.Outside.{Files, IsRead, Grew}
 use Rattle.vlt_io.specs.declared.sink.Sink as sink
 use Rattle.vlt_io.specs.declared.store.Store.{Ghosts}
 use Rattle.c_reader.specs.declared.error.CError.{CError}
 use Rattle.c_reader.specs.declared.error.CError.TheVariants as error
 use Rattle.cert_verify.specs.Refusals.{Refusal, unread, no_certificate, kind, local, not_lowered}
-use Rattle.cert_verify.specs.Laws.{VerifiesInOneWay, VerifiesInSomeWay}
 use Rattle.cert_verify_laws.specs.Promises.{VerifiedFilesKeepTheirPromise}
 use Rattle.vaultc_core.specs.declared.status.TheConstants.{DONE}
 use Rattle.vaultc_core.specs.Commands.{Command, verify}
@@ -22,22 +19,6 @@ use Rattle.vaultc_core.specs.Verifying.{verified_line, unread_reply, unverified_
 use Rattle.vaultc_core.specs.Verified.{IsVerified}
 use Rattle.vaultc_core.proofs.Promises.{not_zero, status_of}
 use Rattle.vaultc_core.proofs.Reading.{one_read, read_there}
-
--- ---- one reply
-
-pub one_verify_reply : ((text : List ℕ) → VerifiesInOneWay text) → (text : List ℕ) (r q : Reply) → IsReplyToVerify text r → IsReplyToVerify text q → r ≡ q
-one_verify_reply one text r q (inl (p, all, is, is_r)) (inl (p', all', is', is_q)) =
-    is_r ∙ ap (λ p. reply DONE (verified_line p)) ((one text).one_program p p' all all' is is').0 ∙ sym is_q
-one_verify_reply one text r q (inl (p, all, is, is_r)) (inr (x, refused, is_q)) = absurd ((one text).never_both p all x is refused)
-one_verify_reply one text r q (inr (x, refused, is_r)) (inl (p, all, is, is_q)) = absurd ((one text).never_both p all x is refused)
-one_verify_reply one text r q (inr (x, is, is_r)) (inr (y, also, is_q)) = is_r ∙ ap unverified_reply ((one text).one_refusal x y is also) ∙ sym is_q
-
-pub some_verify_reply : ((text : List ℕ) → VerifiesInSomeWay text) → (text : List ℕ) → Surely ((r : Reply) × IsReplyToVerify text r)
-some_verify_reply some text = so (some text) (⊎_elim
-    (λ x. (reply DONE (verified_line x.0), inl (x.0, x.1, x.2, refl)))
-    (λ x. (unverified_reply x.0, inr (x.0, x.1, refl))))
-
--- ---- status 0
 
 no_error : (text : List ℕ) (e : CError) → reply DONE text ≡ unread_reply e → ⊥
 no_error text (error.Unexpected at) e = not_zero 11 (status_of text _ e)

@@ -19,7 +19,7 @@ abbrev pub refused_reply : (part : List ℕ) → Reply
 refused_reply part = reply REFUSED (codes "refused " ++ part ++ codes "\n")
 
 abbrev pub refused_at_reply : (part : List ℕ) → (statement : ℕ) → Reply
-refused_at_reply part n = refused_reply (part ++ codes " statement " ++ decimal n)
+refused_at_reply part n = refused_reply (part ++ (codes " statement " ++ decimal n))
 
 -- A C text over a limit is refused by that limit, as in a run. Out of memory refuses none.
 abbrev pub unread_reply : CError → Reply
