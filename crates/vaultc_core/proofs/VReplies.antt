@@ -34,4 +34,4 @@ pub refusal_told : (text : List ℕ) (o : Option Refusal) (r : Result CodeReply 
     IfOk r (λ x. option_map unverified_reply o ≡ Some (shown_reply x)) → IfOk r (λ x. IsReplyToVerify text (shown_reply x))
 refusal_told text o (Err e) refused told = tt
 refusal_told text None (Ok x) refused told = absurd (no_reply (shown_reply x) told)
-refusal_told text (Some y) (Ok x) refused told = inr (y, refused, sym (same_Some told))
+refusal_told text (Some y) (Ok x) refused told = inr (y, refused, sym (same_Some (unverified_reply y) (shown_reply x) told))
