@@ -7,6 +7,16 @@ ghost use Rattle.std.specs.Prelude.{◌≡◌};
 ghost use Rattle.vlt_syntax.specs.Tree.{Decl};
 ghost use Rattle.vlt_syntax_copies.specs.Raised.{raised};
 
+mod decls;
+mod exprs;
+mod heads;
+mod names;
+mod rights;
+mod statements;
+mod types;
+
+pub use decls::raised_decl;
+
 /// A declaration that is raised by nothing stays as it is.
 pub fn raised_by_zero()
     ensures { (d : Decl) → raised 0 d ≡ d }

@@ -1,0 +1,11 @@
+use Rattle.std.proofs.Common.{◌≡◌, ◌++◌, [], ◌∷◌, drop, take, map}
+use Rattle.std.specs.List.{flat_map}
+use Rattle.vlt_syntax.specs.View as view
+use Rattle.vlt_iface.specs.Clash as c
+use Rattle.vlt_iface.specs.Texts.{texts_of, texts_seen, parameter_texts, stmt_texts, arm_texts, decl_texts}
+use Rattle.vlt_iface.proofs.bound.add_names.Given as goal
+
+abbrev pub invariant-loop-name : goal.invariant-loop-name
+invariant-loop-name l =
+    texts_seen l.texts ++ texts_of (view.names_of (drop l.name-index l.names)) ≡
+    texts_seen l.initial.texts ++ texts_of (view.names_of l.names)

@@ -1,0 +1,9 @@
+use Rattle.vlt_syntax.specs.View.{decl_of}
+use Rattle.vlt_iface.specs.Seen.{decls_seen}
+use Rattle.vlt_iface.proofs.Standing.{view_made}
+use Rattle.vlt_iface.proofs.view.make_view.Goals as goal
+
+pub returns : goal.returns
+returns c =
+    view_made decl_of c.args.wanted.now (decls_seen c.args.given.now) c.in_ok-decls.decls c.as_slice.result.now c.rest_of.result.now c.in_ok-origins.origins
+    c.as_slice.ensures c.in_ok-decls.ensures c.rest_of.ensures c.in_ok-origins.ensures
