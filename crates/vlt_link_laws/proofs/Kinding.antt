@@ -7,6 +7,8 @@ use Rattle.std.specs.Prelude.{nat_lt}
 use Rattle.vlt_syntax.specs.Tree.{Decl, Tree}
 use Rattle.vlt_core.specs.Core.{Func, Program}
 use Rattle.vlt_core.specs.Kinded.{HasKindedParts, IsKinded}
+use Rattle.vlt_core_laws.specs.States.{HasStates, IsFilledSet}
+use Rattle.vlt_core_laws.specs.Fit.{IsWellFormed}
 use Rattle.vlt_kinds_types.specs.Names.Names as nam
 use Rattle.vlt_kinds_types.specs.Files.{file_of}
 use Rattle.vlt_kinds_decls.specs.Decls.{types_refused}
@@ -14,7 +16,12 @@ use Rattle.vlt_kinds_heads.specs.Phase.{heads_refused, core_heads}
 use Rattle.vlt_kinds.specs.Kinds.{Kinds}
 use Rattle.vlt_kinds.specs.Tables.{kinds_of}
 use Rattle.vlt_resolve.specs.Elaboration.{is_main, main_of}
-use Rattle.vlt_resolve_laws.proofs.Whole.{MainAt, main_is, some_main, Facts, AreFine, facts_walked, kinded_but_main, kinded}
+use Rattle.vlt_resolve_laws.specs.KindsLaws.Declared as declared
+use Rattle.vlt_resolve_laws.proofs.Made.{made_at}
+use Rattle.vlt_resolve_laws.proofs.Arms.{func_arms}
+use Rattle.vlt_resolve_laws.proofs.Filled.{listed_filled_sets}
+use Rattle.vlt_resolve_laws.proofs.Said.{program_says}
+use Rattle.vlt_resolve_laws.proofs.Whole.{unbound, MainAt, main_is, some_main, Facts, AreFine, facts_walked, kinded_but_main, kinded}
 use Rattle.vlt_syntax_copies.specs.Raised.{raised}
 use Rattle.vlt_iface.specs.declared.places.TheConstants.{RAISE}
 use Rattle.vlt_iface.specs.View.{view_decls, origins_in, viewed}
@@ -66,6 +73,28 @@ module _ (i m : Tree) (text_i : IsText i) (text_m : IsText m) (with_main : Bool)
   kinded_part =
       subst HasKindedParts walked.is
       (kinded_but_main (kinds_of decls) (program_of decls walked.fns (main_of (kinds_of decls).heads)) facts)
+
+  -- ---- what the check wants of a program
+
+  abbrev q : Program
+  q = program_of decls walked.fns (main_of (kinds_of decls).heads)
+
+  passed : declared.IsPassed decls
+  passed = let x = are_fine i m text_i text_m fine.0 in record { language = x.language; names = x.again; types = x.types }
+
+  filled : HasStates q
+  filled =
+      let has : declared.HasDeclared decls q = record { sets = facts.functions.sets; types = facts.functions.types } in
+      let x = program_says decls q passed has IsFilledSet (listed_filled_sets (file_of decls)) facts.functions in
+      record { all = x.all; released = x.released; owned = x.owned; listed = x.listed; after = x.after; before = x.before }
+
+  pub well_formed : IsWellFormed p
+  well_formed = subst IsWellFormed walked.is (record {
+    kinded = kinded_but_main (kinds_of decls) q facts;
+    states = filled;
+    arms = λ g f at. let x = made_at (kinds_of decls) (kinds_of decls).heads q.fns facts.functions.made g f at in func_arms (kinds_of decls) x.head x.body f x.made;
+    plain = unbound (kinds_of decls) q facts;
+  })
 
   module _ (wanted : with_main ≡ true) where
     main_there : list_any nam.is_main decls ≡ true

@@ -27,5 +27,8 @@ pub mod Hosting
 pub mod Clashing
 pub mod Veils
 pub mod Texts
+pub mod Spelling
+pub mod Tokens
+pub mod Numbered
 pub mod Kinding
 pub mod Passing

@@ -35,6 +35,7 @@ use Rattle.vlt_link_laws.proofs.Parts.{IsFreeDecl, HostStays, IsSame, Covers, Is
 use Rattle.vlt_link_laws.proofs.Sides.{first_joins, second_joins, IsApart, IsView}
 use Rattle.vlt_link_laws.specs.Views.{view_elaborated}
 use Rattle.vlt_link_laws.specs.Link.{IsPassed, IsText, IsAcceptedText}
+use Rattle.vlt_link_laws.proofs.Numbered.{joined_numbers}
 use Rattle.vlt_link_laws.proofs.Given.{each_map, each_both, each_none}
 use Rattle.vlt_link_laws.proofs.Viewing.{found_is, first_is_view, second_is_view, first_is_joined, first_fits, second_fits, views_cover}
 use Rattle.vlt_link_laws.proofs.Seen.{same_cases}
@@ -422,6 +423,7 @@ module _ (i f g : Tree) (text_i : IsText i) (text_f : IsText f) (text_g : IsText
     joined_text = record {
       tree = (joined_each (IsDecl language) text_i.tree.0 (raised_are f.decls text_f.tree.0) (raised_are g.decls text_g.tree.0), few);
       ticks = joined_each HasTicks text_i.ticks (all_ticks f.decls text_f.ticks) (all_ticks g.decls text_g.ticks);
+      numbers = joined_numbers i f g text_i.numbers text_f.numbers text_g.numbers;
     }
 
     pub accepted_link : IsAcceptedText (joined i f g)

@@ -6,9 +6,11 @@ use Rattle.vlt_syntax.specs.Tree.{Tree}
 use Rattle.vlt_syntax.specs.Lists.{Each}
 use Rattle.vlt_syntax.specs.Grammar.{IsTree, language}
 use Rattle.vlt_syntax_laws.specs.Ticks.{HasTicks}
+use Rattle.vlt_syntax_laws.specs.Numbers.{HasNumbers}
 use Rattle.vlt_core.specs.Core.{Program}
 use Rattle.vlt_core.specs.Kinded.{HasKindedParts, IsKinded}
 use Rattle.vlt_core.specs.Derives.{IsAccepted}
+use Rattle.vlt_core_laws.specs.Fit.{IsWellFormed}
 use Rattle.vlt_kinds.specs.Kinds.{Kinds}
 use Rattle.vlt_kinds.specs.Tables.{kinds_told}
 use Rattle.vlt_resolve.specs.Elaboration.{elaborated}
@@ -17,10 +19,11 @@ use Rattle.vlt_iface.specs.Rules.{view_refused}
 use Rattle.vlt_iface.specs.Clash.{clashing}
 use Rattle.vlt_link_laws.specs.Views.{view_kinds_told, view_elaborated}
 
--- a tree of the language, in which the names of cases are ticks, as in each text
+-- a tree of the language, in which the names of cases are ticks and the numbers from 0 to 2^63 - 1, as in each text
 pub record IsText (t : Tree) : Type 0 where
   pub tree : IsTree language t
   pub ticks : Each HasTicks t.decls
+  pub numbers : HasNumbers t
 
 -- The view of the interface with this module passes all rules, that on main only where it is wanted, and is accepted.
 pub record IsPassed (i m : Tree) (with_main : Bool) : Type 0 where
@@ -53,3 +56,9 @@ ViewProgramsAreKinded = (i m : Tree) → IsText i → IsText m →
     (with_main : Bool) (kinds : Kinds) (p : Program) → view_kinds_told (viewed i m) ≡ Ok kinds →
     view_elaborated (viewed i m) kinds with_main ≡ Ok p →
     HasKindedParts p × (with_main ≡ true → IsKinded p)
+
+-- So it is well-formed, which is what the check asks of a program.
+abbrev pub ViewProgramsAreWellFormed : Type 0
+ViewProgramsAreWellFormed = (i m : Tree) → IsText i → IsText m →
+    (with_main : Bool) (kinds : Kinds) (p : Program) → view_kinds_told (viewed i m) ≡ Ok kinds →
+    view_elaborated (viewed i m) kinds with_main ≡ Ok p → IsWellFormed p
