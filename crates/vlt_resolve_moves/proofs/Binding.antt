@@ -1,5 +1,5 @@
 -- Variables and keys that are bound, under names that are free in the joined program.
-use Rattle.std.proofs.Common.{◌≡◌, ℕ, ◌+◌, ◌==◌, nat_lt, Bool, true, false, ◌||◌, if◌then◌else◌, is_some, List, [], ◌∷◌, ◌++◌, length, map, Option, Some, None, option_map, refl, sym, ap, ap₂, ◌∙◌, subst}
+use Rattle.std.proofs.Common.{◌≡◌, ℕ, ◌+◌, ◌==◌, nat_lt, Bool, true, false, ◌||◌, if◌then◌else◌, is_some, List, [], ◌∷◌, length, map, refl, sym, ap, ap₂, ◌∙◌, subst}
 use Rattle.std.proofs.lemmas.List.{length-map}
 use Rattle.vlt_syntax.specs.Tree.{Name}
 use Rattle.vlt_core.specs.Core.{Ty}
@@ -11,7 +11,7 @@ use Rattle.vlt_kinds.specs.Kinds.{Kinds}
 use Rattle.vlt_resolve_exprs.specs.declared.limits.TheConstants.{TOO_MANY_VARIABLES, TOO_MANY_KEYS}
 use Rattle.vlt_resolve_exprs.specs.Scopes.{Scope, tok_named, is_taken, with_var}
 use Rattle.vlt_resolve_exprs.specs.Bindings.{too_many_vars, too_many_keys, not_free, new_var_refused, new_key_refused, new_vars_refused, with_vars, numbers_from, several_refused, with_several, several_numbers}
-use Rattle.vlt_resolve_moves.specs.Sees.{Sees, moved_scope, IsFree, AreFree}
+use Rattle.vlt_resolve_moves.specs.Sees.{moved_scope, IsFree, AreFree}
 use Rattle.vlt_resolve_moves.proofs.Empty.{cons_not_nil, no_left, no_right, none_of_both, not_broken, quiet}
 use Rattle.vlt_resolve_moves.proofs.Scoping.{with_var_moves}
 

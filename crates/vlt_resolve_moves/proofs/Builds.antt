@@ -1,22 +1,22 @@
 -- Values of targets, and ticks with their payloads.
-use Rattle.std.proofs.Common.{◌≡◌, ℕ, ◌==◌, Bool, true, false, not, if◌then◌else◌, List, [], ◌∷◌, ◌++◌, length, map, drop, Option, Some, None, slice_get, option_map, refl, sym, ap, ap₂, ◌∙◌, subst, position}
+use Rattle.std.proofs.Common.{◌≡◌, ℕ, ◌==◌, Bool, true, false, not, if◌then◌else◌, List, [], ◌∷◌, length, map, drop, Option, Some, None, slice_get, option_map, refl, sym, ap, ap₂, ◌∙◌}
 use Rattle.std.specs.Str.{bytes_eq}
-use Rattle.std.proofs.lemmas.Option.{slice_get-map, none-some, same_Some}
+use Rattle.std.proofs.lemmas.Option.{slice_get-map, none-some}
 use Rattle.std.proofs.lemmas.List.{length-map}
 use Rattle.vlt_syntax.specs.Tree as s
 use Rattle.vlt_syntax.specs.Tree.{Name}
 use Rattle.vlt_core.specs.Core as core
 use Rattle.vlt_core.specs.Core.{Ty, Simple, simple, set, own, unpack, build, CaseDecl, TypeDecl, an_abstract, a_struct, a_variant, VariantDecl}
-use Rattle.vlt_core.specs.Lookups.{is_owning, cases_in, VariantOf, variant_in}
+use Rattle.vlt_core.specs.Lookups.{cases_in, variant_in}
 use Rattle.vlt_core.specs.declared.rules.TheConstants as rule
 use Rattle.vlt_core_moves.specs.Moves.{Moves, moved_ty, moved_case}
 use Rattle.vlt_core_moves.proofs.Looks.{same_owner, moved_variant_of, variant_moves}
 use Rattle.vlt_kinds_types.specs.Names.Refusals.{refusal, refuse_if}
 use Rattle.vlt_kinds.specs.Kinds.{Kinds}
-use Rattle.vlt_resolve_exprs.specs.Types.{then_with, takes, unpacks, ty_under}
+use Rattle.vlt_resolve_exprs.specs.Types.{then_with, ty_under}
 use Rattle.vlt_resolve_exprs.specs.Scopes.{Scope}
 use Rattle.vlt_resolve_exprs.specs.Exprs.{expr_place, expr_refused, type_of, core_expr}
-use Rattle.vlt_resolve_exprs.specs.Operands.{operands_refused, core_operands, operand_for, variable_in}
+use Rattle.vlt_resolve_exprs.specs.Operands.{operands_refused, variable_in}
 use Rattle.vlt_resolve_calls.specs.Targets.{Target, target_takes, value_misfit, value_refused, value_form, core_value}
 use Rattle.vlt_resolve_calls.specs.Builds.{cases_of, case_position, Case, payload_in, case_at, case_in, case_of_tick, payload_refused, case_refused, build_refused, case_form, core_build}
 use Rattle.vlt_resolve_moves.specs.Sees.{Sees, moved_scope}

@@ -1,11 +1,10 @@
 -- Calls.
-use Rattle.std.proofs.Common.{◌≡◌, ℕ, ◌+◌, ◌==◌, Bool, true, false, not, ◌&&◌, ◌||◌, if◌then◌else◌, List, [], ◌∷◌, ◌++◌, length, map, Option, Some, None, slice_get, option_map, unwrap_or, refl, sym, ap, ap₂, ◌∙◌, subst}
-use Rattle.std.proofs.lemmas.Option.{none-some, same_Some}
+use Rattle.std.proofs.Common.{◌≡◌, ℕ, ◌+◌, ◌==◌, Bool, true, false, not, ◌&&◌, ◌||◌, if◌then◌else◌, List, [], ◌∷◌, ◌++◌, length, map, Option, Some, None, slice_get, option_map, unwrap_or, refl, sym, ap, ap₂, ◌∙◌}
+use Rattle.std.proofs.lemmas.Option.{none-some}
 use Rattle.std.proofs.lemmas.List.{length-map}
 use Rattle.vlt_syntax.specs.Tree as s
 use Rattle.vlt_syntax.specs.Tree.{Name}
-use Rattle.vlt_core.specs.Core as core
-use Rattle.vlt_core.specs.Core.{States, Ty, int, bool, tracked, owning, guarded, variant, owning_variant, Entry, KeyDecl, VarDecl, Func, Form, call}
+use Rattle.vlt_core.specs.Core.{States, Ty, int, bool, tracked, owning, guarded, variant, owning_variant, Entry, KeyDecl, VarDecl, Func, call}
 use Rattle.vlt_core.specs.Lookups.{owns}
 use Rattle.vlt_core.specs.Types.{args_of, keys_of_ty}
 use Rattle.vlt_core.specs.declared.rules.TheConstants as rule
@@ -14,17 +13,16 @@ use Rattle.vlt_core_moves.proofs.Looks.{same_owner}
 use Rattle.vlt_kinds_types.specs.Names.Globals.{global_in}
 use Rattle.vlt_kinds_types.specs.declared.names.globals.Entity.{Entity}
 use Rattle.vlt_kinds_types.specs.declared.names.globals.Entity.TheVariants.{ASet, AType, AFunction}
-use Rattle.vlt_kinds_types.specs.Names.Refusals.{refusal, refuse_if}
+use Rattle.vlt_kinds_types.specs.Names.Refusals.{refuse_if}
 use Rattle.vlt_kinds_types.specs.Files.{then_with}
 use Rattle.vlt_kinds.specs.Kinds.{Kinds, as_function, function_named, head_named}
 use Rattle.vlt_resolve_exprs.specs.Types.{is_inside}
 use Rattle.vlt_resolve_exprs.specs.Scopes.{Scope}
 use Rattle.vlt_resolve_exprs.specs.Exprs.{expr_place, type_of, expr_refused, number_of}
-use Rattle.vlt_resolve_exprs.specs.Operands.{core_operand, core_operands}
+use Rattle.vlt_resolve_exprs.specs.Operands.{core_operands}
 use Rattle.vlt_resolve_calls.specs.Targets.{Target}
 use Rattle.vlt_resolve_calls.specs.Calls.{same_length, same_kind, same_shape, takes_kind, takes_shape, Pair, key_pairs, keys_handed, fitting_pairs, argument_pairs, call_pairs, caller_key, keys_fit, argument_misfit, argument_refused, arguments_refused, Use, dropped, given, has_fresh, dropped_refused, result_fits, is_same, target_fits, use_refused, count_refused, matching_refused, param_types, paired_refused, full_call_refused, head_refused, callee_refused, call_refused, own_key, fresh_key, keys_given, head_form, callee_form, core_call}
-use Rattle.vlt_resolve_moves.specs.Sees.{Sees, IsHeadIn, moved_scope, moved_global}
-use Rattle.vlt_resolve_moves.specs.Exprs.{IsMovedExpr}
+use Rattle.vlt_resolve_moves.specs.Sees.{Sees, IsHeadIn, moved_scope}
 use Rattle.vlt_resolve_moves.proofs.Empty.{cons_not_nil, no_left, no_right, none_of_both}
 use Rattle.vlt_resolve_moves.proofs.Exprs.{expr_moves, operand_core}
 
@@ -172,7 +170,10 @@ module _ (m : Moves) where
         by (Some f) at e =
             let known = sees.heads f h e in
             record {
-              number = f; named = at; named_there = function_moves n f at; head = h;
+              number = f;
+              named = at;
+              named_there = function_moves n f at;
+              head = h;
               is = ap (λ o. then_with o (slice_get a.heads)) at ∙ e;
               known = known;
               is_there = ap (λ o. then_with o (slice_get b.heads)) (function_moves n f at) ∙ known.there;

@@ -1,6 +1,5 @@
 -- Declared types.
-use Rattle.std.proofs.Common.{◌≡◌, ◌⊎◌, inl, inr, ⊎_elim, ℕ, ◌==◌, Bool, true, false, not, ◌&&◌, ◌||◌, if◌then◌else◌, List, [], ◌∷◌, ◌++◌, length, map, drop, Option, Some, None, slice_get, option_map, refl, sym, ap, ap₂, ◌∙◌, subst}
-use Rattle.std.proofs.lemmas.Option.{none-some}
+use Rattle.std.proofs.Common.{◌≡◌, ⊎_elim, ℕ, Bool, true, false, not, ◌&&◌, ◌||◌, if◌then◌else◌, List, [], ◌∷◌, ◌++◌, map, drop, Option, Some, None, option_map, refl, sym, ap, ap₂, ◌∙◌}
 use Rattle.std.specs.Str.{bytes_eq}
 use Rattle.vlt_syntax.specs.Tree as s
 use Rattle.vlt_syntax.specs.Tree.{Name, States, KeyStates, Ty, HeaderKey, Field, Case}
@@ -9,19 +8,18 @@ use Rattle.vlt_core.specs.declared.rules.TheConstants as rule
 use Rattle.vlt_core_moves.specs.Moves.{Moves, moved_ty, moved_field, moved_struct, moved_case, moved_variant}
 use Rattle.vlt_kinds_types.specs.Names.Along.{along}
 use Rattle.vlt_kinds_types.specs.Names.Refusals.{refusal, refuse_if, of_each}
-use Rattle.vlt_kinds_types.specs.declared.shapes.Sort.{Sort}
 use Rattle.vlt_kinds_types.specs.declared.shapes.Sort.TheVariants as sort
 use Rattle.vlt_kinds_types.specs.declared.shapes.Wanted.{Wanted}
 use Rattle.vlt_kinds_types.specs.declared.shapes.Wanted.TheVariants as wanted
 use Rattle.vlt_kinds_types.specs.declared.shapes.Shape.{Shape}
-use Rattle.vlt_kinds_types.specs.Files.{type_named, wanted_type, wanted_in, header_in, set_in, shape_named, shape_at, state_names}
-use Rattle.vlt_kinds_types.specs.Types.{KeyUse, is_variant, sort_in, shape_in, is_unknown_or_listed, states_refused, owned_states_refused, ty_place, named_refused, owned_refused, ty_refused, ty_uses, states_listed, core_ty}
+use Rattle.vlt_kinds_types.specs.Files.{wanted_type, wanted_in, header_in, set_in, shape_named, state_names}
+use Rattle.vlt_kinds_types.specs.Types.{KeyUse, sort_in, shape_in, is_unknown_or_listed, states_refused, named_refused, owned_refused, ty_refused, ty_uses, states_listed, core_ty}
 use Rattle.vlt_kinds.specs.Kinds.{Kinds}
 use Rattle.vlt_kinds_decls.specs.declared.parts.Part.{Part}
 use Rattle.vlt_kinds_decls.specs.declared.parts.Part.TheVariants as part
-use Rattle.vlt_kinds_decls.specs.Decls.{object_refused, key_type_refused, header_refused, wanted_of, disagrees, key_refused, use_refused, is_wrong_field, is_wrong_payload, part_refused, typed_refused, field_refused, struct_refused, header_position, is_any, object_states_refused, case_key_refused, with_key, next_key_refused, case_keys_refused, case_refused, variant_refused}
+use Rattle.vlt_kinds_decls.specs.Decls.{object_refused, key_type_refused, header_refused, wanted_of, disagrees, key_refused, use_refused, part_refused, typed_refused, field_refused, struct_refused, header_position, is_any, object_states_refused, case_key_refused, with_key, next_key_refused, case_refused, variant_refused}
 use Rattle.vlt_kinds_decls.specs.Made.{type_wanted, core_header, header_number, core_field, core_struct, object_states, core_case_key, core_case, core_variant}
-use Rattle.vlt_resolve_moves.specs.Sees.{Sees, IsSort, moved_wanted}
+use Rattle.vlt_resolve_moves.specs.Sees.{Sees, moved_wanted}
 use Rattle.vlt_resolve_moves.proofs.Empty.{cons_not_nil, no_left, no_right, none_of_both}
 use Rattle.vlt_resolve_moves.proofs.Named.{moved_use, Known, known_shape, named_known, same_variant, ty_fine, uses_move, core_moves}
 use Rattle.vlt_resolve_moves.proofs.Heads.{shape_states}
@@ -150,10 +148,12 @@ module _ (m : Moves) where
     unfolding typed_refused
     typed_fine ps header p t none =
         let ty = no_left (ty_refused a.file t) _ none in
-        let back = no_right (ty_refused a.file t) _ none in
-        (ty, none_of_both _ _ (ty_fine m a b sees t ty)
-        (none_of_both _ _ (part_same p t ty ∙ no_left (part_refused p t (sort_in (shape_in a.file t))) _ back)
-        (ap (of_each (use_refused b.file.globals ps)) (uses_move m a b sees t ty) ∙ (uses_same ps header (ty_uses a.file t) ∙ no_right (part_refused p t (sort_in (shape_in a.file t))) _ back))))
+        let back = no_right (ty_refused a.file t) _ none in (
+          ty,
+          none_of_both _ _ (ty_fine m a b sees t ty)
+              (none_of_both _ _ (part_same p t ty ∙ no_left (part_refused p t (sort_in (shape_in a.file t))) _ back)
+              (ap (of_each (use_refused b.file.globals ps)) (uses_move m a b sees t ty) ∙ (uses_same ps header (ty_uses a.file t) ∙ no_right (part_refused p t (sort_in (shape_in a.file t))) _ back))),
+        )
 
     -- ---- structs
 

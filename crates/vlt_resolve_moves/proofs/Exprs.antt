@@ -1,8 +1,8 @@
 -- Expressions and what is handed over.
-use Rattle.std.proofs.Common.{◌≡◌, ℕ, ◌+◌, nat_lt, Bool, true, false, cond, not, if◌then◌else◌, List, [], ◌∷◌, ◌++◌, length, map, Option, Some, None, slice_get, option_map, refl, sym, ap, ap₂, ◌∙◌, subst, position}
+use Rattle.std.proofs.Common.{◌≡◌, ℕ, ◌+◌, nat_lt, Bool, true, false, cond, not, if◌then◌else◌, List, [], ◌∷◌, ◌++◌, map, Option, Some, None, slice_get, option_map, refl, sym, ap, ap₂, ◌∙◌, subst, position}
 use Rattle.std.specs.List.{prefix_len}
 use Rattle.std.specs.Str.{bytes_eq}
-use Rattle.std.proofs.lemmas.Option.{slice_get-map, none-some, same_Some}
+use Rattle.std.proofs.lemmas.Option.{slice_get-map, none-some}
 use Rattle.std.proofs.lemmas.List.{length-map}
 use Rattle.vlt_ops.specs.declared.Op.{Op}
 use Rattle.vlt_ops.specs.declared.Takes.{Takes}
@@ -14,18 +14,18 @@ use Rattle.vlt_core.specs.Core as core
 use Rattle.vlt_core.specs.Core.{States, Ty, int, bool, tracked, owning, guarded, variant, owning_variant, TypeDecl, an_abstract, a_struct, a_variant, StructDecl, FieldDecl, Operand}
 use Rattle.vlt_core.specs.Lookups.{fields_in, is_owning}
 use Rattle.vlt_core.specs.declared.rules.TheConstants as rule
-use Rattle.vlt_kinds_types.specs.Names.Refusals.{refusal, refuse_if}
+use Rattle.vlt_kinds_types.specs.Names.Refusals.{refuse_if}
 use Rattle.vlt_kinds.specs.Kinds.{Kinds}
 use Rattle.vlt_core_moves.specs.Moves.{Moves, moved_ty, moved_field, moved_struct}
 use Rattle.vlt_core_moves.proofs.Looks.{same_owner}
 use Rattle.vlt_resolve_exprs.specs.Refused.{unknown_name}
-use Rattle.vlt_resolve_exprs.specs.Types.{then_with, is_same_ty, is_inside, takes, ty_under}
+use Rattle.vlt_resolve_exprs.specs.Types.{then_with, ty_under}
 use Rattle.vlt_resolve_exprs.specs.Scopes.{Scope, var_named, var_ty}
-use Rattle.vlt_resolve_exprs.specs.Exprs.{expr_place, fields_of, field_position, field_named, Object, object_in, value_ty, object_field_ty, field_ty, guard_refused, owner_refused, touch_refused, named_refused, object_refused, base_refused, field_refused, type_given, type_of, unfit, is_basic, not_basic, basic, operand_wanted, left_refused, unary_refused, binary_refused, expr_refused, wanted_refused, number_of, object_type, field_number, var_number, core_expr}
+use Rattle.vlt_resolve_exprs.specs.Exprs.{expr_place, fields_of, field_position, field_named, Object, object_in, value_ty, object_field_ty, field_ty, guard_refused, owner_refused, touch_refused, named_refused, object_refused, base_refused, field_refused, type_given, type_of, unfit, is_basic, not_basic, operand_wanted, left_refused, unary_refused, binary_refused, expr_refused, number_of, object_type, field_number, var_number, core_expr}
 use Rattle.vlt_resolve_exprs.specs.Operands.{misfit, operand_refused, operands_refused, variable_in, object_operand, operand_for, core_operand, core_operands}
 use Rattle.vlt_resolve_moves.specs.Sees.{Sees, moved_scope}
 use Rattle.vlt_resolve_moves.specs.Exprs.{IsMovedExpr, IsMovedOperand}
-use Rattle.vlt_resolve_moves.proofs.Empty.{cons_not_nil, no_left, no_right, none_of_both, not_broken, quiet, not_false}
+use Rattle.vlt_resolve_moves.proofs.Empty.{cons_not_nil, no_left, no_right, none_of_both, not_broken}
 use Rattle.vlt_resolve_moves.proofs.Scoping.{ty_moves, same_var}
 use Rattle.vlt_resolve_moves.proofs.Types.{is_same_moves, takes_moves, under_moves}
 
@@ -248,9 +248,10 @@ module _ (m : Moves) (a b : Kinds) (sees : Sees m a b) where
     left_none : (o : Op) (l r : s.Expr) → binary_refused o (expr_refused a scope l) (type_of a scope l) (expr_place l) (expr_refused a scope r) (type_of a scope r) (expr_place r) ≡ [] →
         (expr_refused a scope l ≡ []) × (expr_refused a scope r ≡ [])
     unfolding binary_refused
-    left_none o l r none =
-        (no_left (expr_refused a scope l) _ (no_left (expr_refused a scope l ++ left_refused (row_of o).takes (type_of a scope l) (expr_place l)) _ none),
-        no_left (expr_refused a scope r) _ (no_right (expr_refused a scope l ++ left_refused (row_of o).takes (type_of a scope l) (expr_place l)) _ none))
+    left_none o l r none = (
+      no_left (expr_refused a scope l) _ (no_left (expr_refused a scope l ++ left_refused (row_of o).takes (type_of a scope l) (expr_place l)) _ none),
+      no_left (expr_refused a scope r) _ (no_right (expr_refused a scope l ++ left_refused (row_of o).takes (type_of a scope l) (expr_place l)) _ none),
+    )
 
     inner_none : (o : Op) (e : s.Expr) → unary_refused o (expr_refused a scope e) (type_of a scope e) (expr_place e) ≡ [] → expr_refused a scope e ≡ []
     unfolding unary_refused

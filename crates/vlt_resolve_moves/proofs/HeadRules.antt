@@ -1,5 +1,5 @@
 -- What the rules on heads refuse, the rule on externals aside.
-use Rattle.std.proofs.Common.{◌≡◌, ℕ, ◌==◌, Bool, true, false, not, ◌&&◌, ◌||◌, if◌then◌else◌, List, [], ◌∷◌, ◌++◌, length, map, Option, Some, None, slice_get, option_map, refl, sym, ap, ap₂, ◌∙◌, subst}
+use Rattle.std.proofs.Common.{◌≡◌, ℕ, ◌==◌, Bool, true, false, not, ◌||◌, List, [], ◌∷◌, ◌++◌, map, Option, Some, None, slice_get, option_map, refl, sym, ap, ap₂, ◌∙◌}
 use Rattle.vlt_syntax.specs.Tree as s
 use Rattle.vlt_syntax.specs.Tree.{Name, States, Entry, ResultType, Parameter, Head}
 use Rattle.vlt_syntax.specs.Lists.{Each}
@@ -8,7 +8,7 @@ use Rattle.vlt_core_moves.specs.Moves.{Moves}
 use Rattle.vlt_kinds_types.specs.declared.names.found.Refusal.{Refusal}
 use Rattle.vlt_kinds_types.specs.Names.Along.{along}
 use Rattle.vlt_kinds_types.specs.Names.Globals.{is_global}
-use Rattle.vlt_kinds_types.specs.Names.Refusals.{refusal, refuse_if, of_each}
+use Rattle.vlt_kinds_types.specs.Names.Refusals.{refuse_if, of_each}
 use Rattle.vlt_kinds_types.specs.declared.shapes.Shape.{Shape}
 use Rattle.vlt_kinds_types.specs.declared.shapes.Wanted.{Wanted}
 use Rattle.vlt_kinds_types.specs.declared.shapes.Wanted.TheVariants as wanted
@@ -19,7 +19,7 @@ use Rattle.vlt_kinds_heads.specs.declared.facts.Facts.{Facts}
 use Rattle.vlt_kinds_heads.specs.declared.facts.Typing.{Typing}
 use Rattle.vlt_kinds_heads.specs.Places.{result_uses, parameter_uses, clause_in, entry_key, is_fresh, first_states, second_states, HeadName, used_name, entry_name, parameter_name, parameter_names, head_names}
 use Rattle.vlt_kinds_heads.specs.Keys.{Keys, facts_of, behind_result, behind_parameters, behind_entry, behind_use, fresh_typed, places_behind, keys_behind}
-use Rattle.vlt_kinds_heads.specs.Heads.{result_type_refused, parameter_refused, Seen, is_repeated, with_name, name_refused, names_refused, again_refused, entries_again, type_rule, clash_with, clash, clashes, is_bound, result_place, result_clash_with, result_clash, result_key_refused, entry_key_refused, key_states_refused, entry_states_refused, entry_refused, main_refused, types_refused, clause_again, typings_refused, result_refused, head_refused_by, head_refused}
+use Rattle.vlt_kinds_heads.specs.Heads.{result_type_refused, parameter_refused, Seen, is_repeated, with_name, name_refused, names_refused, again_refused, type_rule, clash_with, clash, result_clash_with, result_clash, result_key_refused, entry_key_refused, key_states_refused, entry_states_refused, entry_refused, types_refused, clause_again, typings_refused, result_refused, head_refused_by, head_refused}
 use Rattle.vlt_resolve_moves.specs.Sees.{Sees, IsFree, moved_wanted}
 use Rattle.vlt_resolve_moves.proofs.Empty.{no_left, no_right, none_of_both, not_broken, quiet}
 use Rattle.vlt_resolve_moves.proofs.Named.{moved_use, ty_fine, uses_move, same_owned_states}

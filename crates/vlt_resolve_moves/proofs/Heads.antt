@@ -1,34 +1,30 @@
 -- Heads.
 use mathlib.Core.Path.{fun_ext}
-use Rattle.std.proofs.Common.{◌≡◌, ℕ, ◌==◌, Bool, true, false, cond, not, ◌&&◌, ◌||◌, if◌then◌else◌, List, [], ◌∷◌, ◌++◌, length, map, Option, Some, None, slice_get, option_map, unwrap_or, refl, sym, ap, ap₂, ◌∙◌, subst}
+use Rattle.std.proofs.Common.{◌≡◌, ℕ, Bool, true, false, cond, ◌||◌, if◌then◌else◌, List, [], ◌∷◌, ◌++◌, length, map, Option, Some, None, slice_get, option_map, unwrap_or, refl, sym, ap, ap₂, ◌∙◌}
 use Rattle.std.proofs.lemmas.List.{length-map, map-append}
 use Rattle.std.specs.Map.{lookup}
 use Rattle.std.specs.Str.{bytes_eq}
 use Rattle.indexmap.specs.IndexMap.{insert_entry}
 use Rattle.vlt_syntax.specs.Tree as s
 use Rattle.vlt_syntax.specs.Tree.{Name, States, Entry, ResultType, Parameter, Head}
-use Rattle.vlt_syntax.specs.Lists.{Each}
 use Rattle.vlt_core.specs.Core as core
-use Rattle.vlt_core.specs.declared.rules.TheConstants as rule
 use Rattle.vlt_core_moves.specs.Moves.{Moves, moved_ty, moved_key, moved_var}
-use Rattle.vlt_kinds_types.specs.Names.Along.{along}
-use Rattle.vlt_kinds_types.specs.Names.Globals.{Globals, is_global}
-use Rattle.vlt_kinds_types.specs.Names.Refusals.{refusal, refuse_if, of_each}
+use Rattle.vlt_kinds_types.specs.Names.Refusals.{of_each}
 use Rattle.vlt_kinds_types.specs.declared.shapes.Shape.{Shape}
 use Rattle.vlt_kinds_types.specs.declared.shapes.Wanted.{Wanted}
 use Rattle.vlt_kinds_types.specs.declared.shapes.Wanted.TheVariants as wanted
 use Rattle.vlt_kinds_types.specs.Files.{shape_at, state_names}
-use Rattle.vlt_kinds_types.specs.Types.{KeyUse, ty_refused, ty_uses, owned_states_refused, core_ty, states_listed}
+use Rattle.vlt_kinds_types.specs.Types.{KeyUse, ty_refused, ty_uses, core_ty}
 use Rattle.vlt_kinds.specs.Kinds.{Kinds}
 use Rattle.vlt_kinds_heads.specs.declared.facts.Facts.{Facts}
 use Rattle.vlt_kinds_heads.specs.declared.facts.Typing.{Typing}
-use Rattle.vlt_kinds_heads.specs.Places.{result_uses, parameter_uses, clause_in, entry_key, is_fresh, first_states, second_states, HeadName, used_name, entry_name, parameter_name, parameter_names, head_names}
-use Rattle.vlt_kinds_heads.specs.Keys.{Keys, no_facts, facts_of, with_facts, is_unknown, with_result, with_parameter, with_entry, note, behind_result, behind_parameters, behind_entry, behind_clause, places_behind, typed_first, with_typing, behind_typing, behind_use, gives_type, behind_fresh, fresh_typed, parameters_typed, typed_keys, keys_behind, keys_of}
-use Rattle.vlt_kinds_heads.specs.Heads.{result_type_refused, parameter_refused, Seen, is_repeated, with_name, name_refused, names_refused, again_refused, entries_again, clash_with, clash, clashes, is_bound, result_clash_with, result_clash, result_key_refused, entry_key_refused, key_states_refused, entry_states_refused, entry_refused, main_refused, types_refused, clause_again, typings_refused, result_refused, head_refused_by, head_refused}
+use Rattle.vlt_kinds_heads.specs.Places.{result_uses, parameter_uses, clause_in, entry_key}
+use Rattle.vlt_kinds_heads.specs.Keys.{Keys, no_facts, facts_of, is_unknown, with_result, with_parameter, with_entry, note, behind_result, behind_parameters, behind_entry, behind_clause, places_behind, typed_first, with_typing, behind_typing, behind_use, gives_type, behind_fresh, fresh_typed, parameters_typed, typed_keys, keys_behind, keys_of}
+use Rattle.vlt_kinds_heads.specs.Heads.{result_type_refused, parameter_refused, types_refused}
 use Rattle.vlt_kinds_heads.specs.Phase.{number_in, key_number, key_decl, typed_states, states_named, core_entry_in, core_entry, core_result, core_parameter, core_head}
 use Rattle.vlt_resolve_moves.specs.Sees.{Sees, moved_wanted}
-use Rattle.vlt_resolve_moves.proofs.Empty.{no_left, no_right, none_of_both, not_broken, quiet}
-use Rattle.vlt_resolve_moves.proofs.Named.{moved_use, ty_fine, uses_move, core_moves, same_owned_states}
+use Rattle.vlt_resolve_moves.proofs.Empty.{no_left, no_right}
+use Rattle.vlt_resolve_moves.proofs.Named.{moved_use, uses_move, core_moves}
 
 module _ (m : Moves) where
   abbrev pub moved_typing : Typing → Typing

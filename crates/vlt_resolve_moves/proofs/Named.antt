@@ -1,7 +1,7 @@
 -- Types by their names: what isn't refused in one, and what it becomes.
-use Rattle.std.proofs.Common.{◌≡◌, ◌⊎◌, inl, inr, ⊎_elim, ℕ, ◌==◌, Bool, true, false, not, if◌then◌else◌, List, [], ◌∷◌, ◌++◌, length, map, Option, Some, None, slice_get, option_map, unwrap_or, refl, sym, ap, ap₂, ◌∙◌, subst}
-use Rattle.std.proofs.lemmas.Option.{none-some, same_Some}
-use Rattle.std.proofs.lemmas.List.{length-map, map-append}
+use Rattle.std.proofs.Common.{◌≡◌, inl, inr, ⊎_elim, ℕ, ◌==◌, Bool, true, false, not, if◌then◌else◌, List, [], ◌∷◌, length, map, Option, Some, None, slice_get, option_map, unwrap_or, refl, sym, ap, ap₂, ◌∙◌}
+use Rattle.std.proofs.lemmas.Option.{none-some}
+use Rattle.std.proofs.lemmas.List.{length-map}
 use Rattle.vlt_syntax.specs.Tree as s
 use Rattle.vlt_syntax.specs.Tree.{Name, Named}
 use Rattle.vlt_core.specs.Core as core
@@ -10,16 +10,16 @@ use Rattle.vlt_core_moves.specs.Moves.{Moves, moved_ty}
 use Rattle.vlt_kinds_types.specs.Names.Globals.{global_in}
 use Rattle.vlt_kinds_types.specs.declared.names.globals.Entity.{Entity}
 use Rattle.vlt_kinds_types.specs.declared.names.globals.Entity.TheVariants.{ASet, AType, AFunction}
-use Rattle.vlt_kinds_types.specs.Names.Refusals.{refusal, refuse_if}
+use Rattle.vlt_kinds_types.specs.Names.Refusals.{refuse_if}
 use Rattle.vlt_kinds_types.specs.declared.shapes.Sort.{Sort}
 use Rattle.vlt_kinds_types.specs.declared.shapes.Sort.TheVariants as sort
 use Rattle.vlt_kinds_types.specs.declared.shapes.Wanted.{Wanted}
 use Rattle.vlt_kinds_types.specs.declared.shapes.Wanted.TheVariants as wanted
 use Rattle.vlt_kinds_types.specs.declared.shapes.Shape.{Shape}
-use Rattle.vlt_kinds_types.specs.Files.{then_with, as_type, type_in, type_named, shape_at, shape_named, state_names, wanted_type}
+use Rattle.vlt_kinds_types.specs.Files.{then_with, as_type, type_named, shape_at, shape_named, state_names, wanted_type}
 use Rattle.vlt_kinds_types.specs.Types.{is_variant, sort_in, name_refused, form_refused, states_refused, has_states, owned_states_refused, ty_place, named_refused, owned_refused, ty_refused, KeyUse, key_use, tracked_use, argument_uses, header_uses, named_uses, ty_uses, states_listed, type_number, key_numbers, is_variant_in, owned_ty, core_ty}
 use Rattle.vlt_kinds.specs.Kinds.{Kinds}
-use Rattle.vlt_resolve_moves.specs.Sees.{Sees, IsShapeIn, IsSort, moved_global, moved_wanted}
+use Rattle.vlt_resolve_moves.specs.Sees.{Sees, IsShapeIn, IsSort, moved_wanted}
 use Rattle.vlt_resolve_moves.proofs.Empty.{cons_not_nil, no_left, no_right, none_of_both}
 
 module _ (m : Moves) where
@@ -74,7 +74,10 @@ module _ (m : Moves) where
         by (Some t) at e =
             let is = sees.shapes t x e in
             record {
-              type = t; named = at; named_there = type_moves n t at; shape = x;
+              type = t;
+              named = at;
+              named_there = type_moves n t at;
+              shape = x;
               shaped = ap (λ o. then_with o (slice_get a.file.shapes)) at ∙ e;
               is = is;
               shaped_there = ap (λ o. then_with o (slice_get b.file.shapes)) (type_moves n t at) ∙ is.there;

@@ -1,5 +1,5 @@
 -- The names of a file, and where they stand in the joined one.
-use Rattle.std.proofs.Common.{◌≡◌, ℕ, zero, suc, ◌+◌, Bool, true, false, true≢false, cond, if◌then◌else◌, is_some, List, [], ◌∷◌, ◌++◌, Option, Some, None, refl, sym, ap, ap₂, ◌∙◌, subst, arith}
+use Rattle.std.proofs.Common.{◌≡◌, ℕ, suc, ◌+◌, Bool, true, false, true≢false, cond, if◌then◌else◌, is_some, List, [], ◌∷◌, ◌++◌, Option, Some, None, refl, sym, ap, ◌∙◌, subst, arith}
 use Rattle.std.proofs.lemmas.Option.{none-some, same_Some}
 use Rattle.std.specs.Map.{lookup}
 use Rattle.std.proofs.lemmas.Slice.Eq.{bytes_eq-Decides}
@@ -10,7 +10,7 @@ use Rattle.vlt_core_moves.specs.Moves.{Moves}
 use Rattle.vlt_kinds_types.specs.declared.names.globals.Entity.{Entity}
 use Rattle.vlt_kinds_types.specs.declared.names.globals.Entity.TheVariants.{ASet, AType, AFunction}
 use Rattle.vlt_kinds_types.specs.Names.Globals.{Globals, global_in, is_global, decl_name, Counts, global_of, counts_after, with_declared, globals_behind, no_counts, globals_of}
-use Rattle.vlt_resolve_moves.specs.Joins.{Join, Joins, befores, afters, counted, at_in, is_set, is_type, is_function, moves_of}
+use Rattle.vlt_resolve_moves.specs.Joins.{Joins, befores, afters, counted, at_in, is_set, is_type, is_function, moves_of}
 use Rattle.vlt_resolve_moves.specs.Sees.{moved_global}
 
 abbrev or_else : Option Entity → Option Entity → Option Entity
@@ -214,7 +214,7 @@ module _ (m : Moves) (js : Joins) (c c2 : Counts) where
     }
 
     both : kind_of e ≡ kind_of d → Shifts m js (counts_after c d) (counts_after c2 e)
-    both same = subst (λ x. Shifts m js x (counts_after c2 e)) (sym (counts_kind c d) ) (subst (λ x. Shifts m js (counts_by (kind_of d) c) x) (ap (λ k. counts_by k c2) (sym same) ∙ sym (counts_kind c2 e)) (both_by (kind_of d) same))
+    both same = subst (λ x. Shifts m js x (counts_after c2 e)) (sym (counts_kind c d)) (subst (λ x. Shifts m js (counts_by (kind_of d) c) x) (ap (λ k. counts_by k c2) (sym same) ∙ sym (counts_kind c2 e)) (both_by (kind_of d) same))
 
     -- the one that stands here
     here_by : (k : Kind) → kind_of e ≡ k → global_by k c2 ≡ moved_global m (global_by k c)

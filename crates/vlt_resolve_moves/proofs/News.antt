@@ -1,31 +1,27 @@
 -- New objects, and objects that are adopted.
-use Rattle.std.proofs.Common.{◌≡◌, ℕ, zero, suc, ◌==◌, Bool, true, false, true≢false, not, ◌&&◌, if◌then◌else◌, List, [], ◌∷◌, ◌++◌, length, map, Option, Some, None, slice_get, option_map, refl, sym, ap, ap₂, ◌∙◌, subst, arith, eqb-true}
+use Rattle.std.proofs.Common.{◌≡◌, ℕ, ◌==◌, Bool, true, false, not, ◌&&◌, if◌then◌else◌, List, [], ◌∷◌, ◌++◌, length, map, Option, Some, None, slice_get, option_map, refl, sym, ap, ap₂, ◌∙◌, arith, eqb-true}
 use Rattle.std.specs.Str.{bytes_eq}
-use Rattle.std.proofs.lemmas.Option.{none-some, same_Some}
 use Rattle.std.proofs.lemmas.List.{length-map}
 use Rattle.vlt_syntax.specs.Tree as s
 use Rattle.vlt_syntax.specs.Tree.{Name, Named, Init, Right}
 use Rattle.vlt_core.specs.Core as core
 use Rattle.vlt_core.specs.Core.{Ty, int, bool, tracked, owning, guarded, variant, owning_variant, TypeDecl, an_abstract, a_struct, a_variant, StructDecl, FieldDecl, Operand, Form, simple, make, own, adopt, pack}
-use Rattle.vlt_core.specs.Lookups.{first_state}
 use Rattle.vlt_core.specs.Types.{is_struct}
 use Rattle.vlt_core.specs.declared.rules.TheConstants as rule
-use Rattle.vlt_core_moves.specs.Moves.{Moves, moved_ty, moved_field, moved_struct, moved_form}
+use Rattle.vlt_core_moves.specs.Moves.{Moves, moved_ty, moved_field, moved_form}
 use Rattle.vlt_kinds_types.specs.Names.Refusals.{refusal, refuse_if, of_each}
-use Rattle.vlt_kinds_types.specs.declared.shapes.Shape.{Shape}
 use Rattle.vlt_kinds_types.specs.declared.shapes.Wanted.{Wanted}
 use Rattle.vlt_kinds_types.specs.declared.shapes.Wanted.TheVariants as wanted
 use Rattle.vlt_kinds_types.specs.Files.{type_named, shape_named}
 use Rattle.vlt_kinds_types.specs.Types.{KeyUse, key_use, argument_uses, header_uses, named_uses, name_refused}
 use Rattle.vlt_kinds.specs.Kinds.{Kinds}
 use Rattle.vlt_resolve_exprs.specs.Refused.{unknown_name}
-use Rattle.vlt_resolve_exprs.specs.Types.{is_same_object, ty_under}
 use Rattle.vlt_resolve_exprs.specs.Scopes.{Scope, key_named, key_type, var_named, var_ty, more_key, more_var}
-use Rattle.vlt_resolve_exprs.specs.Exprs.{expr_refused, fields_of, number_of, var_number}
-use Rattle.vlt_resolve_exprs.specs.Operands.{operand_refused, core_operand}
+use Rattle.vlt_resolve_exprs.specs.Exprs.{fields_of, number_of, var_number}
+use Rattle.vlt_resolve_exprs.specs.Operands.{operand_refused}
 use Rattle.vlt_resolve_calls.specs.Targets.{Target}
 use Rattle.vlt_resolve_rights.specs.Droppable.{may_drop_struct}
-use Rattle.vlt_resolve_rights.specs.News.{typed_refused, wanted_refused, known_refused, use_refused, uses_refused, named_refused, with_known, known_keys, keys_of_shape, known_args, args_fit, object_fits, target_fits, target_refused, guards, recipient_unfit, recipient_refused, adopter_refused, agree, fields_agree, releases_first, takes_first, adopted_refused, start_refused, inits_refused, field_types, values_refused, struct_refused, object_refused, known_made_refused, made_refused, is_some_name, new_refused, hides, hidden_refused, args_or_none, with_object, with_hidden, init_operands, made_operands, made_forms, new_forms}
+use Rattle.vlt_resolve_rights.specs.News.{typed_refused, wanted_refused, known_refused, use_refused, uses_refused, named_refused, with_known, known_keys, keys_of_shape, known_args, args_fit, object_fits, target_fits, target_refused, guards, recipient_unfit, recipient_refused, adopter_refused, agree, fields_agree, releases_first, takes_first, adopted_refused, start_refused, inits_refused, field_types, values_refused, struct_refused, object_refused, known_made_refused, made_refused, is_some_name, new_refused, hides, hidden_refused, args_or_none, with_object, init_operands, made_operands, made_forms, new_forms}
 use Rattle.vlt_resolve_rights.specs.Adopts as ad
 use Rattle.vlt_resolve_rights.specs.Adopts.{recipient_fits, is_guarded, adopt_fits, is_adoptable, adopt_refused, core_adopt}
 use Rattle.vlt_resolve_moves.specs.Sees.{Sees, moved_scope, moved_wanted}
@@ -181,8 +177,8 @@ module _ (m : Moves) where
           let k = named_of n none in
           let same : length k.shape.header == length n.keys ≡ true = not_false _ (not_broken _ rule.KEY_COUNT n.name.at.from (sym (ap (λ o. name_refused o n) k.shaped) ∙ no_left (name_refused (shape_named a.file n.name) n) _ none)) in
           let uses : of_each (use_refused scope) (argument_uses k.shape.header n.keys) ≡ [] =
-              sym (ap (λ o. of_each (use_refused scope) (header_uses o n.keys)) k.shaped ∙ ap (λ (x : Bool). of_each (use_refused scope) (if x then argument_uses k.shape.header n.keys else map (key_use wanted.Unknown) n.keys)) same)
-              ∙ no_right (name_refused (shape_named a.file n.name) n) _ none in
+          sym (ap (λ o. of_each (use_refused scope) (header_uses o n.keys)) k.shaped ∙ ap (λ (x : Bool). of_each (use_refused scope) (if x then argument_uses k.shape.header n.keys else map (key_use wanted.Unknown) n.keys)) same)
+          ∙ no_right (name_refused (shape_named a.file n.name) n) _ none in
           let r = argument_known k.shape.header n.keys (eqb-true _ _ same) uses in
           (r.0, ap (λ o. keys_of_shape o scope n.keys) k.shaped ∙ (ap (λ (x : Bool). if x then known_keys scope n.keys else None) same ∙ r.1))
 

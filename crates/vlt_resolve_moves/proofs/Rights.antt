@@ -3,16 +3,14 @@ use Rattle.std.proofs.Common.{◌≡◌, ℕ, Bool, true, false, not, if◌then�
 use Rattle.std.proofs.lemmas.List.{length-map}
 use Rattle.vlt_syntax.specs.Tree as s
 use Rattle.vlt_syntax.specs.Tree.{Name, Right}
-use Rattle.vlt_syntax.specs.Lists.{Each}
-use Rattle.vlt_core.specs.Core.{Ty, int, bool, Form, simple, input}
+use Rattle.vlt_core.specs.Core.{Ty, int, bool, Form}
 use Rattle.vlt_core.specs.declared.rules.TheConstants as rule
-use Rattle.vlt_core_moves.specs.Moves.{Moves, moved_ty, moved_key, moved_var, moved_form}
+use Rattle.vlt_core_moves.specs.Moves.{Moves, moved_ty, moved_var, moved_form}
 use Rattle.vlt_kinds_types.specs.Names.Refusals.{refuse_if}
 use Rattle.vlt_kinds_types.specs.Files.{type_named}
-use Rattle.vlt_kinds_types.specs.Types.{ty_refused, ty_uses, core_ty, named_refused, name_refused, form_refused, sort_in, ty_place}
+use Rattle.vlt_kinds_types.specs.Types.{ty_refused, ty_uses, named_refused, form_refused, ty_place}
 use Rattle.vlt_kinds.specs.Kinds.{Kinds}
 use Rattle.vlt_resolve_exprs.specs.Refused.{unknown_name}
-use Rattle.vlt_resolve_exprs.specs.Types.{is_same_ty}
 use Rattle.vlt_resolve_exprs.specs.Scopes.{Scope, key_named, var_named, var_ty, with_key, with_var}
 use Rattle.vlt_resolve_exprs.specs.Exprs.{number_of, var_number}
 use Rattle.vlt_resolve_exprs.specs.Bindings.{new_key_refused, new_var_refused}
@@ -25,7 +23,7 @@ use Rattle.vlt_resolve_rights.specs.Rights.{input_refused, target_right_refused,
 use Rattle.vlt_resolve_stmts.specs.Declarations.{Became, is_known_key, binds_key, bound_key_refused, with_bound_key, type_refused, key_number, declared_ty, declared_target, hidden_right_refused, declared_refused, declared_became, hidden_became, keyed_refused, keyed_became, declare_refused, declare_became, plain_target, assigned_target, assign_refused, assign_became}
 use Rattle.vlt_iface.specs.Clash.{key_bound}
 use Rattle.vlt_resolve_moves.specs.Sees.{Sees, moved_scope, IsFree, AreFree}
-use Rattle.vlt_resolve_moves.proofs.Empty.{cons_not_nil, no_left, no_right, none_of_both}
+use Rattle.vlt_resolve_moves.proofs.Empty.{no_left, no_right, none_of_both}
 use Rattle.vlt_resolve_moves.proofs.Scoping.{same_var, same_key, ty_moves, with_key_moves, with_var_moves}
 use Rattle.vlt_resolve_moves.proofs.Types.{is_same_moves}
 use Rattle.vlt_resolve_moves.proofs.Binding.{new_var_fine, new_key_fine}
@@ -153,9 +151,11 @@ module _ (m : Moves) where
     type_fine : (scope : Scope) (t : s.Ty) → type_refused a scope t ≡ [] → (ty_refused a.file t ≡ []) × (type_refused b (moved_scope m scope) t ≡ [])
     unfolding type_refused
     type_fine scope t none =
-        let front = no_left (ty_refused a.file t) _ none in
-        (front, none_of_both _ _ (ty_fine m a b sees t front)
-        (ap (uses_refused (moved_scope m scope)) (uses_move m a b sees t front) ∙ (uses_same m a b sees scope (ty_uses a.file t) ∙ no_right (ty_refused a.file t) _ none)))
+        let front = no_left (ty_refused a.file t) _ none in (
+          front,
+          none_of_both _ _ (ty_fine m a b sees t front)
+              (ap (uses_refused (moved_scope m scope)) (uses_move m a b sees t front) ∙ (uses_same m a b sees scope (ty_uses a.file t) ∙ no_right (ty_refused a.file t) _ none)),
+        )
 
     declared_moves : (scope : Scope) (t : s.Ty) → ty_refused a.file t ≡ [] → declared_ty b (moved_scope m scope) t ≡ moved_ty m (declared_ty a scope t)
     unfolding declared_ty key_named

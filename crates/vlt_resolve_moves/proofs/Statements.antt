@@ -1,7 +1,6 @@
 -- Statements without blocks.
-use Rattle.std.proofs.Common.{◌≡◌, ℕ, ◌==◌, Bool, true, false, true≢false, not, ◌&&◌, if◌then◌else◌, is_some, List, [], ◌∷◌, ◌++◌, length, map, Option, Some, None, slice_get, option_map, refl, sym, ap, ap₂, ◌∙◌, subst}
-use Rattle.std.specs.List.{list_any}
-use Rattle.std.proofs.lemmas.Option.{none-some, same_Some}
+use Rattle.std.proofs.Common.{◌≡◌, ℕ, Bool, true, false, true≢false, not, if◌then◌else◌, is_some, List, [], ◌∷◌, length, map, Option, Some, None, slice_get, option_map, refl, sym, ap, ap₂, ◌∙◌, subst}
+use Rattle.std.proofs.lemmas.Option.{none-some}
 use Rattle.std.proofs.lemmas.List.{length-map}
 use Rattle.vlt_syntax.specs.Tree as s
 use Rattle.vlt_syntax.specs.Tree.{Name, Stmt}
@@ -10,7 +9,7 @@ use Rattle.vlt_core.specs.Core.{Ty, int, bool, tracked, owning, guarded, variant
 use Rattle.vlt_core.specs.Lookups.{is_owning}
 use Rattle.vlt_core.specs.Types.{is_struct}
 use Rattle.vlt_core.specs.declared.rules.TheConstants as rule
-use Rattle.vlt_core_moves.specs.Moves.{Moves, moved_ty, moved_field, moved_struct, moved_key, moved_var, moved_form}
+use Rattle.vlt_core_moves.specs.Moves.{Moves, moved_ty, moved_field, moved_var, moved_form}
 use Rattle.vlt_core_moves.proofs.Looks.{same_owner}
 use Rattle.vlt_kinds_types.specs.Names.Refusals.{refusal, refuse_if}
 use Rattle.vlt_kinds_types.specs.declared.shapes.Shape.{Shape}
@@ -18,11 +17,11 @@ use Rattle.vlt_kinds_types.specs.Files.{state_names, state_number}
 use Rattle.vlt_kinds_types.specs.Types.{known_states}
 use Rattle.vlt_kinds.specs.Kinds.{Kinds}
 use Rattle.vlt_resolve_exprs.specs.Refused.{unknown_name}
-use Rattle.vlt_resolve_exprs.specs.Types.{is_same_ty, is_same_object, ty_under}
-use Rattle.vlt_resolve_exprs.specs.Scopes.{Scope, var_named, var_ty, more_var}
-use Rattle.vlt_resolve_exprs.specs.Exprs.{expr_place, fields_of, field_named, object_in, field_ty, field_refused, type_of, expr_refused, unfit, wanted_refused, core_expr, number_of, var_number, field_number}
-use Rattle.vlt_resolve_exprs.specs.Operands.{operand_refused, core_operand}
-use Rattle.vlt_resolve_exprs.specs.Bindings.{too_many_vars, several_refused, with_several, several_numbers}
+use Rattle.vlt_resolve_exprs.specs.Types.{ty_under}
+use Rattle.vlt_resolve_exprs.specs.Scopes.{Scope, var_ty, more_var}
+use Rattle.vlt_resolve_exprs.specs.Exprs.{expr_place, fields_of, field_named, field_ty, field_refused, type_of, expr_refused, unfit, wanted_refused, core_expr, number_of, var_number}
+use Rattle.vlt_resolve_exprs.specs.Operands.{operand_refused}
+use Rattle.vlt_resolve_exprs.specs.Bindings.{too_many_vars, several_refused}
 use Rattle.vlt_resolve_calls.specs.Builds.{build_refused, core_build}
 use Rattle.vlt_resolve_calls.specs.Calls.{dropped, has_fresh, core_call}
 use Rattle.vlt_resolve_rights.specs.Droppable.{may_drop_struct, may_drop}
@@ -31,11 +30,11 @@ use Rattle.vlt_resolve_stmts.specs.Declarations.{Became}
 use Rattle.vlt_resolve_stmts.specs.Statements.{put_refused, core_put, is_releasable, release_refused, release_form, state_of, state_refused, become_refused, tracked_type, core_become, swapped_misfit, owner_refused, swapped_field_refused, base_refused, swap_refused, core_swap, owning_types, parts_of, opened_parts, unopened_refused, opened_refused, open_refused, opened_became, open_became, same_but_key, gives_back, fresh_misfit, fresh_refused, value_refused, value_refused_for, build_refused_for, built_refused, returned_refused, gives_value, differ, return_refused, hidden_operand, returned_value, returned_build, return_became, jump_refused, simple_refused, alone, simple_became}
 use Rattle.vlt_iface.specs.Clash.{bound_names}
 use Rattle.vlt_resolve_moves.specs.Walks.{moved_around}
-use Rattle.vlt_resolve_moves.specs.Sees.{Sees, moved_scope, IsFree, AreFree}
+use Rattle.vlt_resolve_moves.specs.Sees.{Sees, moved_scope, AreFree}
 use Rattle.vlt_resolve_moves.proofs.Empty.{cons_not_nil, no_left, no_right, none_of_both, not_broken, quiet, not_false}
 use Rattle.vlt_resolve_moves.proofs.Scoping.{same_var, ty_moves, more_var_moves}
 use Rattle.vlt_resolve_moves.proofs.Types.{is_same_moves, is_same_object_moves, under_moves}
-use Rattle.vlt_resolve_moves.proofs.Exprs.{fields_move, field_moves, field_number_same, field_numbered, touched, field_fine, field_typed, field_typed_there, struct_of, var_known, unfit_moves, expr_moves, operand_core, operand_moves}
+use Rattle.vlt_resolve_moves.proofs.Exprs.{fields_move, field_moves, field_number_same, field_numbered, touched, field_fine, field_typed, field_typed_there, unfit_moves, expr_moves, operand_core, operand_moves}
 use Rattle.vlt_resolve_moves.proofs.Binding.{same_many_vars, several_fine, several_same, with_several_moves}
 use Rattle.vlt_resolve_moves.proofs.Calls.{call_fine, call_core}
 use Rattle.vlt_resolve_moves.proofs.Builds.{build_fine, build_core}

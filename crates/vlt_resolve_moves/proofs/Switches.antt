@@ -1,6 +1,6 @@
 -- Switches and foci.
-use Rattle.std.proofs.Common.{◌≡◌, ℕ, zero, suc, ◌+◌, nat_lt, Bool, true, false, true≢false, cond, not, ◌&&◌, ◌||◌, if◌then◌else◌, List, [], ◌∷◌, ◌++◌, length, map, drop, Option, Some, None, slice_get, option_map, refl, sym, ap, ap₂, ◌∙◌, subst, position, arith, lt-ltb, ltb-true}
-use Rattle.std.specs.List.{list_any, list_all, prefix_len}
+use Rattle.std.proofs.Common.{◌≡◌, ℕ, suc, ◌+◌, nat_lt, Bool, true, false, true≢false, cond, not, ◌&&◌, ◌||◌, List, [], ◌∷◌, length, map, drop, Option, Some, None, slice_get, option_map, refl, sym, ap, ap₂, ◌∙◌, subst, arith, lt-ltb, ltb-true}
+use Rattle.std.specs.List.{prefix_len}
 use Rattle.std.specs.Str.{bytes_eq}
 use Rattle.std.proofs.lemmas.Option.{none-some}
 use Rattle.std.proofs.lemmas.List.{length-map, map-append}
@@ -13,13 +13,13 @@ use Rattle.vlt_core.specs.Lookups.{VariantOf, variant_in, cases_in}
 use Rattle.vlt_core.specs.declared.rules.TheConstants as rule
 use Rattle.vlt_core_moves.specs.Moves.{Moves, moved_ty, moved_case, moved_key}
 use Rattle.vlt_core_moves.proofs.Looks.{moved_variant_of, variant_moves}
-use Rattle.vlt_kinds_types.specs.Names.Refusals.{refusal, refuse_if}
+use Rattle.vlt_kinds_types.specs.Names.Refusals.{refuse_if}
 use Rattle.vlt_kinds.specs.Kinds.{Kinds}
 use Rattle.vlt_resolve_exprs.specs.Types.{then_with}
 use Rattle.vlt_resolve_exprs.specs.Scopes.{Scope, with_focus_key, with_var}
 use Rattle.vlt_resolve_exprs.specs.Bindings.{new_key_refused, new_var_refused}
-use Rattle.vlt_resolve_calls.specs.Builds.{Case, cases_of, case_position, case_at, case_in, case_of_tick}
-use Rattle.vlt_resolve.specs.Switches.Switches.{arm_names, is_among, are_distinct, case_names, all_among, covers, variant_covered, cases_refused, switch_refused, arm_case, arm_refused, arm_scope, arm_numbers, case_number, focused_type, focused_refused, focus_ty, keyed_scope, bound_scope, bound_refused, focus_refused}
+use Rattle.vlt_resolve_calls.specs.Builds.{Case, cases_of, case_at, case_in, case_of_tick}
+use Rattle.vlt_resolve.specs.Switches.Switches.{arm_names, is_among, are_distinct, case_names, all_among, covers, variant_covered, cases_refused, switch_refused, arm_case, arm_refused, arm_scope, arm_numbers, focused_type, focused_refused, focus_ty, keyed_scope, bound_scope, bound_refused, focus_refused}
 use Rattle.vlt_resolve_moves.specs.Apt.{HasArm}
 use Rattle.vlt_resolve_moves.specs.Sees.{Sees, moved_scope, AreFree}
 use Rattle.vlt_resolve_moves.proofs.Empty.{cons_not_nil, no_left, no_right, none_of_both, not_broken, quiet, not_false}
@@ -65,9 +65,10 @@ module _ (m : Moves) (a b : Kinds) (sees : Sees m a b) where
   unfolding case_of_tick
   covered_each ty v is s.no_arms e = tt
   covered_each ty v is (s.arm tick vs y at rest) e =
-      let c = case_known (cases_of a v.type) v.args tick (and_left (is_among (case_names (cases_of a v.type)) (drop 1 tick.text)) (all_among (case_names (cases_of a v.type)) (arm_names rest)) e) in
-      ((c.0, ap (λ o. then_with o (λ v. case_in (cases_of a v.type) v.args tick)) is ∙ c.1),
-      covered_each ty v is rest (and_right (is_among (case_names (cases_of a v.type)) (drop 1 tick.text)) (all_among (case_names (cases_of a v.type)) (arm_names rest)) e))
+      let c = case_known (cases_of a v.type) v.args tick (and_left (is_among (case_names (cases_of a v.type)) (drop 1 tick.text)) (all_among (case_names (cases_of a v.type)) (arm_names rest)) e) in (
+        (c.0, ap (λ o. then_with o (λ v. case_in (cases_of a v.type) v.args tick)) is ∙ c.1),
+        covered_each ty v is rest (and_right (is_among (case_names (cases_of a v.type)) (drop 1 tick.text)) (all_among (case_names (cases_of a v.type)) (arm_names rest)) e),
+      )
 
   -- a switch with an arm is on a variant
   variant_of_arms : (t : ℕ) (arms : Arms) → HasArm arms → covers (arm_names arms) (case_names (cases_of a t)) ≡ true → (x : VariantDecl) × (slice_get a.types t ≡ Some (a_variant x))

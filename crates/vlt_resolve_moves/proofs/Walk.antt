@@ -6,10 +6,9 @@ use Rattle.vlt_syntax.specs.Tree.{Name, Stmt, Block, If, Else, Stmts, Arms}
 use Rattle.vlt_core.specs.Core as core
 use Rattle.vlt_core.specs.Core.{Ty, bool, Form}
 use Rattle.vlt_core.specs.View.{stmts_made, arms_made}
-use Rattle.vlt_core.specs.declared.rules.TheConstants as rule
 use Rattle.vlt_core_moves.specs.Moves.{Moves, moved_ty, moved_form, moved_block, moved_stmts, moved_arms, moved_var}
 use Rattle.vlt_kinds_types.specs.declared.names.found.Refusal.{Refusal}
-use Rattle.vlt_kinds_types.specs.Names.Refusals.{refusal, refuse_if, is_before, lesser, least_from}
+use Rattle.vlt_kinds_types.specs.Names.Refusals.{is_before, least_from}
 use Rattle.vlt_kinds.specs.Kinds.{Kinds}
 use Rattle.vlt_resolve_exprs.specs.Refused.{unknown_name}
 use Rattle.vlt_resolve_exprs.specs.Scopes.{Scope, var_named, var_ty, scope_inside, scope_behind, bound_in}
@@ -20,7 +19,7 @@ use Rattle.vlt_resolve_stmts.specs.Declarations.{Became, assign_refused}
 use Rattle.vlt_resolve_stmts.specs.Statements.{simple_refused, simple_became}
 use Rattle.vlt_resolve.specs.Walk.Blocks.{stmt_place, ends, closing, else_closing}
 use Rattle.vlt_resolve.specs.Switches.Switches.{arm_names, switch_refused, arm_case, arm_refused, arm_scope, arm_numbers, case_number, focus_refused, bound_scope}
-use Rattle.vlt_resolve.specs.Walk.Walk.{then_do, unless_refused, late, placed_at, block_made, one, walk_simple, walk_stmts, walk_stmt, walk_focus, walk_block, walk_if, walk_else, walk_chained, walk_arms, walk_arm}
+use Rattle.vlt_resolve.specs.Walk.Walk.{then_do, unless_refused, late, placed_at, block_made, one, walk_simple, walk_stmts, walk_stmt, walk_block, walk_if, walk_else, walk_chained, walk_arms, walk_arm}
 use Rattle.vlt_iface.specs.Clash.{bound_names}
 use Rattle.vlt_resolve_moves.specs.Sees.{Sees, moved_scope, AreFree}
 use Rattle.vlt_resolve_moves.specs.Apt.{IsApt, IsAptBlock, IsAptIf, IsAptElse, IsAptStmts, IsAptArms}
@@ -142,10 +141,11 @@ module _ (m : Moves) where
         let u = unless_ok (least_from found (simple_refused a around scope x)) (Ok (simple_became a around scope x)) y e in
         let l = least_none found (simple_refused a around scope x) u.0 in
         let typed = typed_stmt around scope x w l.1 in
-        let is = same_ok (simple_became a around scope x) y u.1 in
-        (ap (λ o. unless_refused o (Ok (simple_became b (moved_around m around) (moved_scope m scope) x))) (calm found _ l.0 (simple_fine m a b sees around scope x typed free l.1)) ∙
-        ap Ok (simple_core m a b sees around scope x typed free l.1 ∙ ap (moved_became m) is),
-        subst (λ y. IsWhole y.1) is (whole_simple a around scope x w))
+        let is = same_ok (simple_became a around scope x) y u.1 in (
+          ap (λ o. unless_refused o (Ok (simple_became b (moved_around m around) (moved_scope m scope) x))) (calm found _ l.0 (simple_fine m a b sees around scope x typed free l.1)) ∙
+              ap Ok (simple_core m a b sees around scope x typed free l.1 ∙ ap (moved_became m) is),
+          subst (λ y. IsWhole y.1) is (whole_simple a around scope x w),
+        )
 
     -- one form, of a part that was walked
     one_goes : (f g : Form) (scope : Scope) (y : Became) → IsWhole scope → f ≡ moved_form m g → one g scope ≡ Ok y → Goes (one f (moved_scope m scope)) y
@@ -168,12 +168,13 @@ module _ (m : Moves) where
           let here = stmt_goes around scope (late ended x) x part.0 apt.0 w part.1 in
           let two = then_ok (walk_stmts a around part.0.1 (ends x) xs) _ y part.2 in
           let rest = stmts_go around part.0.1 (ends x) xs two.0 apt.1 here.1 two.1 in
-          let is = same_ok (placed_at (stmt_place x) part.0.0 ++ two.0.0, two.0.1) y two.2 in
-          (ap (λ r. then_do r (λ y. then_do (walk_stmts b (moved_around m around) y.1 (ends x) xs) (λ z. Ok (placed_at (stmt_place x) y.0 ++ z.0, z.1)))) here.0 ∙
-          (ap (λ r. then_do r (λ z. Ok (placed_at (stmt_place x) (map (moved_form m) part.0.0) ++ z.0, z.1))) rest.0 ∙
-          (ap (λ fs. Ok (fs, moved_scope m two.0.1)) (ap (λ fs. fs ++ moved_placed two.0.0) (placed_moves (stmt_place x) part.0.0) ∙ sym (map-append (λ x. (x.0, moved_form m x.1)) (placed_at (stmt_place x) part.0.0) two.0.0)) ∙
-          ap (λ y. Ok (moved_walked m y)) is)),
-          subst (λ y. IsWhole y.1) is rest.1)
+          let is = same_ok (placed_at (stmt_place x) part.0.0 ++ two.0.0, two.0.1) y two.2 in (
+            ap (λ r. then_do r (λ y. then_do (walk_stmts b (moved_around m around) y.1 (ends x) xs) (λ z. Ok (placed_at (stmt_place x) y.0 ++ z.0, z.1)))) here.0 ∙
+                (ap (λ r. then_do r (λ z. Ok (placed_at (stmt_place x) (map (moved_form m) part.0.0) ++ z.0, z.1))) rest.0 ∙
+                (ap (λ fs. Ok (fs, moved_scope m two.0.1)) (ap (λ fs. fs ++ moved_placed two.0.0) (placed_moves (stmt_place x) part.0.0) ∙ sym (map-append (λ x. (x.0, moved_form m x.1)) (placed_at (stmt_place x) part.0.0) two.0.0)) ∙
+                ap (λ y. Ok (moved_walked m y)) is)),
+            subst (λ y. IsWhole y.1) is rest.1,
+          )
 
       stmt_goes : (around : Around) (scope : Scope) (found : Option Refusal) (x : Stmt) (y : Became) → IsApt a b x → IsWhole scope → walk_stmt a around scope found x ≡ Ok y →
           Goes (walk_stmt b (moved_around m around) (moved_scope m scope) found x) y
@@ -181,9 +182,11 @@ module _ (m : Moves) where
           let u = unless_ok found _ y e in
           let part = then_ok (walk_block a around scope c) _ y u.1 in
           let c2 = block_goes around scope c part.0 apt w part.1 in
-          let o = one_goes (core.scope (moved_block m part.0.0)) (core.scope part.0.0) part.0.1 y c2.1 refl part.2 in
-          (ap (λ f. unless_refused f (then_do (walk_block b (moved_around m around) (moved_scope m scope) c) (λ y. one (core.scope y.0) y.1))) u.0 ∙
-          (ap (λ r. then_do r (λ y. one (core.scope y.0) y.1)) c2.0 ∙ o.0), o.1)
+          let o = one_goes (core.scope (moved_block m part.0.0)) (core.scope part.0.0) part.0.1 y c2.1 refl part.2 in (
+            ap (λ f. unless_refused f (then_do (walk_block b (moved_around m around) (moved_scope m scope) c) (λ y. one (core.scope y.0) y.1))) u.0 ∙
+                (ap (λ r. then_do r (λ y. one (core.scope y.0) y.1)) c2.0 ∙ o.0),
+            o.1,
+          )
       stmt_goes around scope found (s.choose i) y apt w e = if_goes around scope found i y apt w e
       stmt_goes around scope found (s.loop x c at) y apt w e =
           let u = unless_ok (least_from found (wanted_refused a scope (Some bool) x)) _ y e in
@@ -191,9 +194,11 @@ module _ (m : Moves) where
           let part = then_ok (walk_block a (inside_loop around) scope c) _ y u.1 in
           let c2 = block_goes (inside_loop around) scope c part.0 apt w part.1 in
           let o = one_goes (core.loop (core_expr b (moved_scope m scope) x) (moved_block m part.0.0)) (core.loop (core_expr a scope x) part.0.0) part.0.1 y c2.1
-              (ap (λ f. core.loop f (moved_block m part.0.0)) (wanted_core m a b sees scope (Some bool) x l.1)) part.2 in
-          (ap (λ f. unless_refused f (then_do (walk_block b (moved_around m (inside_loop around)) (moved_scope m scope) c) (λ y. one (core.loop (core_expr b (moved_scope m scope) x) y.0) y.1))) (calm found _ l.0 (wanted_fine m a b sees scope bool x l.1)) ∙
-          (ap (λ r. then_do r (λ y. one (core.loop (core_expr b (moved_scope m scope) x) y.0) y.1)) c2.0 ∙ o.0), o.1)
+          (ap (λ f. core.loop f (moved_block m part.0.0)) (wanted_core m a b sees scope (Some bool) x l.1)) part.2 in (
+            ap (λ f. unless_refused f (then_do (walk_block b (moved_around m (inside_loop around)) (moved_scope m scope) c) (λ y. one (core.loop (core_expr b (moved_scope m scope) x) y.0) y.1))) (calm found _ l.0 (wanted_fine m a b sees scope bool x l.1)) ∙
+                (ap (λ r. then_do r (λ y. one (core.loop (core_expr b (moved_scope m scope) x) y.0) y.1)) c2.0 ∙ o.0),
+            o.1,
+          )
       stmt_goes around scope found (s.switch x arms at) y apt w e =
           let ty = var_ty scope x.text in
           let u = unless_ok (least_from found (switch_refused a ty x (arm_names arms) at.from)) _ y e in
@@ -201,10 +206,12 @@ module _ (m : Moves) where
           let part = then_ok (walk_arms a around scope ty arms) _ y u.1 in
           let c2 = arms_go around scope ty arms part.0 apt.1 (switch_covered m a b sees ty x arms at.from l.1) w part.1 in
           let o = one_goes (core.switch (var_number (moved_scope m scope) x) (arms_made (map moved_arm part.0.0)) (at.to - 1)) (core.switch (var_number scope x) (arms_made part.0.0) (at.to - 1)) part.0.1 y c2.1
-              (ap₂ (λ v arms. core.switch v arms (at.to - 1)) (same_number scope x) (arms_made_moves part.0.0)) part.2 in
-          (ap (λ o. unless_refused (least_from found (switch_refused b o x (arm_names arms) at.from)) (then_do (walk_arms b (moved_around m around) (moved_scope m scope) o arms) (λ y. one (core.switch (var_number (moved_scope m scope) x) (arms_made y.0) (at.to - 1)) y.1))) (ty_moves m scope x.text) ∙
-          (ap (λ f. unless_refused f (then_do (walk_arms b (moved_around m around) (moved_scope m scope) (option_map (moved_ty m) ty) arms) (λ y. one (core.switch (var_number (moved_scope m scope) x) (arms_made y.0) (at.to - 1)) y.1))) (calm found _ l.0 (switch_fine m a b sees ty x arms at.from apt.0 l.1)) ∙
-          (ap (λ r. then_do r (λ y. one (core.switch (var_number (moved_scope m scope) x) (arms_made y.0) (at.to - 1)) y.1)) c2.0 ∙ o.0)), o.1)
+          (ap₂ (λ v arms. core.switch v arms (at.to - 1)) (same_number scope x) (arms_made_moves part.0.0)) part.2 in (
+            ap (λ o. unless_refused (least_from found (switch_refused b o x (arm_names arms) at.from)) (then_do (walk_arms b (moved_around m around) (moved_scope m scope) o arms) (λ y. one (core.switch (var_number (moved_scope m scope) x) (arms_made y.0) (at.to - 1)) y.1))) (ty_moves m scope x.text) ∙
+                (ap (λ f. unless_refused f (then_do (walk_arms b (moved_around m around) (moved_scope m scope) (option_map (moved_ty m) ty) arms) (λ y. one (core.switch (var_number (moved_scope m scope) x) (arms_made y.0) (at.to - 1)) y.1))) (calm found _ l.0 (switch_fine m a b sees ty x arms at.from apt.0 l.1)) ∙
+                (ap (λ r. then_do r (λ y. one (core.switch (var_number (moved_scope m scope) x) (arms_made y.0) (at.to - 1)) y.1)) c2.0 ∙ o.0)),
+            o.1,
+          )
       stmt_goes around scope found (s.focus y k z (s.braced ss close) at) r apt w e =
           let ty = var_ty scope y.text in
           let inner = bound_scope (scope_inside scope) ty k z in
@@ -213,12 +220,14 @@ module _ (m : Moves) where
           let part = then_ok (walk_stmts a (inside_focus around) inner false ss) _ r u.1 in
           let c2 = stmts_go (inside_focus around) inner false ss part.0 apt.1 (whole_bound (scope_inside scope) ty k z (whole_inside scope w)) part.1 in
           let o = one_goes (core.focus (var_number (moved_scope m scope) y) (length (map (moved_var m) scope.vars)) (block_made (moved_walked m part.0) (close.to - 1))) (core.focus (var_number scope y) (length scope.vars) (block_made part.0 (close.to - 1))) (scope_behind scope part.0.1) r
-              (whole_behind scope part.0.1 c2.1)
-              (ap₂ (λ v n. core.focus v n (block_made (moved_walked m part.0) (close.to - 1))) (same_number scope y) (length-map scope.vars (moved_var m)) ∙ ap (core.focus (var_number scope y) (length scope.vars)) (block_made_moves part.0 (close.to - 1))) part.2 in
-          (ap (λ o. unless_refused (least_from found (focus_refused b (scope_inside (moved_scope m scope)) o y k z)) (then_do (walk_stmts b (inside_focus (moved_around m around)) (bound_scope (scope_inside (moved_scope m scope)) o k z) false ss) (λ w. one (core.focus (var_number (moved_scope m scope) y) (length (map (moved_var m) scope.vars)) (block_made w (close.to - 1))) (scope_behind (moved_scope m scope) w.1)))) (ty_moves m scope y.text) ∙
-          (ap (λ f. unless_refused f (then_do (walk_stmts b (inside_focus (moved_around m around)) (bound_scope (scope_inside (moved_scope m scope)) (option_map (moved_ty m) ty) k z) false ss) (λ w. one (core.focus (var_number (moved_scope m scope) y) (length (map (moved_var m) scope.vars)) (block_made w (close.to - 1))) (scope_behind (moved_scope m scope) w.1)))) (calm found _ l.0 (focus_fine m a b sees (scope_inside scope) ty y k z apt.0 l.1)) ∙
-          (ap (λ sc. then_do (walk_stmts b (inside_focus (moved_around m around)) sc false ss) (λ w. one (core.focus (var_number (moved_scope m scope) y) (length (map (moved_var m) scope.vars)) (block_made w (close.to - 1))) (scope_behind (moved_scope m scope) w.1))) (sym (bound_moves m a b sees (scope_inside scope) ty y k z l.1)) ∙
-          (ap (λ r. then_do r (λ w. one (core.focus (var_number (moved_scope m scope) y) (length (map (moved_var m) scope.vars)) (block_made w (close.to - 1))) (scope_behind (moved_scope m scope) w.1))) c2.0 ∙ o.0))), o.1)
+          (whole_behind scope part.0.1 c2.1)
+          (ap₂ (λ v n. core.focus v n (block_made (moved_walked m part.0) (close.to - 1))) (same_number scope y) (length-map scope.vars (moved_var m)) ∙ ap (core.focus (var_number scope y) (length scope.vars)) (block_made_moves part.0 (close.to - 1))) part.2 in (
+            ap (λ o. unless_refused (least_from found (focus_refused b (scope_inside (moved_scope m scope)) o y k z)) (then_do (walk_stmts b (inside_focus (moved_around m around)) (bound_scope (scope_inside (moved_scope m scope)) o k z) false ss) (λ w. one (core.focus (var_number (moved_scope m scope) y) (length (map (moved_var m) scope.vars)) (block_made w (close.to - 1))) (scope_behind (moved_scope m scope) w.1)))) (ty_moves m scope y.text) ∙
+                (ap (λ f. unless_refused f (then_do (walk_stmts b (inside_focus (moved_around m around)) (bound_scope (scope_inside (moved_scope m scope)) (option_map (moved_ty m) ty) k z) false ss) (λ w. one (core.focus (var_number (moved_scope m scope) y) (length (map (moved_var m) scope.vars)) (block_made w (close.to - 1))) (scope_behind (moved_scope m scope) w.1)))) (calm found _ l.0 (focus_fine m a b sees (scope_inside scope) ty y k z apt.0 l.1)) ∙
+                (ap (λ sc. then_do (walk_stmts b (inside_focus (moved_around m around)) sc false ss) (λ w. one (core.focus (var_number (moved_scope m scope) y) (length (map (moved_var m) scope.vars)) (block_made w (close.to - 1))) (scope_behind (moved_scope m scope) w.1))) (sym (bound_moves m a b sees (scope_inside scope) ty y k z l.1)) ∙
+                (ap (λ r. then_do r (λ w. one (core.focus (var_number (moved_scope m scope) y) (length (map (moved_var m) scope.vars)) (block_made w (close.to - 1))) (scope_behind (moved_scope m scope) w.1))) c2.0 ∙ o.0))),
+            o.1,
+          )
       stmt_goes around scope found (s.declare t x right at) y apt w e = simple_goes around scope found (s.declare t x right at) y apt w e
       stmt_goes around scope found (s.assign x right at) y apt w e = simple_goes around scope found (s.assign x right at) y apt w e
       stmt_goes around scope found (s.put x f v at) y apt w e = simple_goes around scope found (s.put x f v at) y apt w e
@@ -237,10 +246,11 @@ module _ (m : Moves) where
       block_goes around scope (s.braced ss at) y apt w e =
           let part = then_ok (walk_stmts a around (scope_inside scope) false ss) _ y e in
           let c = stmts_go around (scope_inside scope) false ss part.0 apt (whole_inside scope w) part.1 in
-          let is = same_ok (block_made part.0 (at.to - 1), scope_behind scope part.0.1) y part.2 in
-          (ap (λ r. then_do r (λ y. Ok (block_made y (at.to - 1), scope_behind (moved_scope m scope) y.1))) c.0 ∙
-          (ap (λ x. Ok (x, moved_scope m (scope_behind scope part.0.1))) (block_made_moves part.0 (at.to - 1)) ∙ ap (λ y. Ok (moved_blocked y)) is),
-          subst (λ y. IsWhole y.1) is (whole_behind scope part.0.1 c.1))
+          let is = same_ok (block_made part.0 (at.to - 1), scope_behind scope part.0.1) y part.2 in (
+            ap (λ r. then_do r (λ y. Ok (block_made y (at.to - 1), scope_behind (moved_scope m scope) y.1))) c.0 ∙
+                (ap (λ x. Ok (x, moved_scope m (scope_behind scope part.0.1))) (block_made_moves part.0 (at.to - 1)) ∙ ap (λ y. Ok (moved_blocked y)) is),
+            subst (λ y. IsWhole y.1) is (whole_behind scope part.0.1 c.1),
+          )
 
       if_goes : (around : Around) (scope : Scope) (found : Option Refusal) (i : If) (y : Became) → IsAptIf a b i → IsWhole scope → walk_if a around scope found i ≡ Ok y →
           Goes (walk_if b (moved_around m around) (moved_scope m scope) found i) y
@@ -252,10 +262,12 @@ module _ (m : Moves) where
           let second = then_ok (walk_else a around first.0.1 (else_closing (closing c) other) other) _ y first.2 in
           let c2 = else_goes around first.0.1 (else_closing (closing c) other) other second.0 apt.1 c1.1 second.1 in
           let o = one_goes (core.choose (core_expr b (moved_scope m scope) x) (moved_block m first.0.0) (moved_block m second.0.0)) (core.choose (core_expr a scope x) first.0.0 second.0.0) second.0.1 y c2.1
-              (ap (λ f. core.choose f (moved_block m first.0.0) (moved_block m second.0.0)) (wanted_core m a b sees scope (Some bool) x l.1)) second.2 in
-          (ap (λ f. unless_refused f (then_do (walk_block b (moved_around m around) (moved_scope m scope) c) (λ y. then_do (walk_else b (moved_around m around) y.1 (else_closing (closing c) other) other) (λ z. one (core.choose (core_expr b (moved_scope m scope) x) y.0 z.0) z.1)))) (calm found _ l.0 (wanted_fine m a b sees scope bool x l.1)) ∙
-          (ap (λ r. then_do r (λ y. then_do (walk_else b (moved_around m around) y.1 (else_closing (closing c) other) other) (λ z. one (core.choose (core_expr b (moved_scope m scope) x) y.0 z.0) z.1))) c1.0 ∙
-          (ap (λ r. then_do r (λ z. one (core.choose (core_expr b (moved_scope m scope) x) (moved_block m first.0.0) z.0) z.1)) c2.0 ∙ o.0)), o.1)
+          (ap (λ f. core.choose f (moved_block m first.0.0) (moved_block m second.0.0)) (wanted_core m a b sees scope (Some bool) x l.1)) second.2 in (
+            ap (λ f. unless_refused f (then_do (walk_block b (moved_around m around) (moved_scope m scope) c) (λ y. then_do (walk_else b (moved_around m around) y.1 (else_closing (closing c) other) other) (λ z. one (core.choose (core_expr b (moved_scope m scope) x) y.0 z.0) z.1)))) (calm found _ l.0 (wanted_fine m a b sees scope bool x l.1)) ∙
+                (ap (λ r. then_do r (λ y. then_do (walk_else b (moved_around m around) y.1 (else_closing (closing c) other) other) (λ z. one (core.choose (core_expr b (moved_scope m scope) x) y.0 z.0) z.1))) c1.0 ∙
+                (ap (λ r. then_do r (λ z. one (core.choose (core_expr b (moved_scope m scope) x) (moved_block m first.0.0) z.0) z.1)) c2.0 ∙ o.0)),
+            o.1,
+          )
 
       else_goes : (around : Around) (scope : Scope) (end : ℕ) (other : Else) (y : core.Block × Scope) → IsAptElse a b other → IsWhole scope → walk_else a around scope end other ≡ Ok y →
           (walk_else b (moved_around m around) (moved_scope m scope) end other ≡ Ok (moved_blocked y)) × IsWhole y.1
@@ -274,12 +286,13 @@ module _ (m : Moves) where
           let c1 = block_goes around scope c first.0 apt.0 w first.1 in
           let second = then_ok (walk_else a around first.0.1 end other) _ y first.2 in
           let c2 = else_goes around first.0.1 end other second.0 apt.1 c1.1 second.1 in
-          let is = same_ok (core.block (core.next at.from (core.choose (core_expr a scope x) first.0.0 second.0.0) core.done) [] end, second.0.1) y second.2 in
-          (ap (λ f. unless_refused f (then_do (walk_block b (moved_around m around) (moved_scope m scope) c) (λ y. then_do (walk_else b (moved_around m around) y.1 end other) (λ z. Ok (core.block (core.next at.from (core.choose (core_expr b (moved_scope m scope) x) y.0 z.0) core.done) [] end, z.1))))) (calm None _ refl (wanted_fine m a b sees scope bool x l.1)) ∙
-          (ap (λ r. then_do r (λ y. then_do (walk_else b (moved_around m around) y.1 end other) (λ z. Ok (core.block (core.next at.from (core.choose (core_expr b (moved_scope m scope) x) y.0 z.0) core.done) [] end, z.1)))) c1.0 ∙
-          (ap (λ r. then_do r (λ z. Ok (core.block (core.next at.from (core.choose (core_expr b (moved_scope m scope) x) (moved_block m first.0.0) z.0) core.done) [] end, z.1))) c2.0 ∙
-          (ap (λ f. Ok (core.block (core.next at.from (core.choose f (moved_block m first.0.0) (moved_block m second.0.0)) core.done) [] end, moved_scope m second.0.1)) (wanted_core m a b sees scope (Some bool) x l.1) ∙ ap (λ y. Ok (moved_blocked y)) is))),
-          subst (λ y. IsWhole y.1) is c2.1)
+          let is = same_ok (core.block (core.next at.from (core.choose (core_expr a scope x) first.0.0 second.0.0) core.done) [] end, second.0.1) y second.2 in (
+            ap (λ f. unless_refused f (then_do (walk_block b (moved_around m around) (moved_scope m scope) c) (λ y. then_do (walk_else b (moved_around m around) y.1 end other) (λ z. Ok (core.block (core.next at.from (core.choose (core_expr b (moved_scope m scope) x) y.0 z.0) core.done) [] end, z.1))))) (calm None _ refl (wanted_fine m a b sees scope bool x l.1)) ∙
+                (ap (λ r. then_do r (λ y. then_do (walk_else b (moved_around m around) y.1 end other) (λ z. Ok (core.block (core.next at.from (core.choose (core_expr b (moved_scope m scope) x) y.0 z.0) core.done) [] end, z.1)))) c1.0 ∙
+                (ap (λ r. then_do r (λ z. Ok (core.block (core.next at.from (core.choose (core_expr b (moved_scope m scope) x) (moved_block m first.0.0) z.0) core.done) [] end, z.1))) c2.0 ∙
+                (ap (λ f. Ok (core.block (core.next at.from (core.choose f (moved_block m first.0.0) (moved_block m second.0.0)) core.done) [] end, moved_scope m second.0.1)) (wanted_core m a b sees scope (Some bool) x l.1) ∙ ap (λ y. Ok (moved_blocked y)) is))),
+            subst (λ y. IsWhole y.1) is c2.1,
+          )
 
       arms_go : (around : Around) (scope : Scope) (ty : Option Ty) (arms : Arms) (y : List (ℕ × List ℕ × core.Block) × Scope) → IsAptArms a b arms → IsCovered a ty arms → IsWhole scope → walk_arms a around scope ty arms ≡ Ok y →
           (walk_arms b (moved_around m around) (moved_scope m scope) (option_map (moved_ty m) ty) arms ≡ Ok (moved_arms_walked y)) × IsWhole y.1
@@ -301,15 +314,16 @@ module _ (m : Moves) where
           let c2 = arms_go around first.0.1 ty rest second.0 apt.2 covered.1 whole second.1 in
           let is = same_ok (first.0.0 ∷ second.0.0, second.0.1) y second.2 in
           let arm_there : walk_arm b (moved_around m around) (moved_scope m scope) (arm_case b (option_map (moved_ty m) ty) tick) tick vs (s.braced ss at) ≡ Ok (moved_armed first.0) =
-              ap (λ o. walk_arm b (moved_around m around) (moved_scope m scope) o tick vs (s.braced ss at)) (arm_case_moves m a b sees ty tick c covered.0.1) ∙
-              (ap (λ f. unless_refused f (then_do (walk_stmts b (moved_around m around) (arm_scope (scope_inside (moved_scope m scope)) (Some (moved_the_case m a b sees c)) vs) false ss) (λ y. Ok ((case_number (Some (moved_the_case m a b sees c)), arm_numbers (scope_inside (moved_scope m scope)) (Some (moved_the_case m a b sees c)) vs, block_made y (at.to - 1)), scope_behind (moved_scope m scope) y.1)))) (calm None _ refl (arm_fine m a b sees inside c tick vs apt.0 l.1)) ∙
-              (ap (λ sc. then_do (walk_stmts b (moved_around m around) sc false ss) (λ y. Ok ((case_number (Some (moved_the_case m a b sees c)), arm_numbers (scope_inside (moved_scope m scope)) (Some (moved_the_case m a b sees c)) vs, block_made y (at.to - 1)), scope_behind (moved_scope m scope) y.1))) (sym (arm_scope_moves m a b sees inside c vs)) ∙
-              (ap (λ r. then_do r (λ y. Ok ((case_number (Some (moved_the_case m a b sees c)), arm_numbers (scope_inside (moved_scope m scope)) (Some (moved_the_case m a b sees c)) vs, block_made y (at.to - 1)), scope_behind (moved_scope m scope) y.1))) c1.0 ∙
-              (ap₂ (λ (ns : List ℕ) (x : core.Block). Ok ((c.number, ns, x), moved_scope m (scope_behind scope body.0.1))) (same_arm_numbers m a b sees inside c vs) (block_made_moves body.0 (at.to - 1)) ∙
-              ap (λ y. Ok (moved_armed y)) here)))) in
-          (ap (λ r. then_do r (λ y. then_do (walk_arms b (moved_around m around) y.1 (option_map (moved_ty m) ty) rest) (λ z. Ok (y.0 ∷ z.0, z.1)))) arm_there ∙
-          (ap (λ r. then_do r (λ z. Ok (moved_arm first.0.0 ∷ z.0, z.1))) c2.0 ∙ ap (λ y. Ok (moved_arms_walked y)) is),
-          subst (λ y. IsWhole y.1) is c2.1)
+          ap (λ o. walk_arm b (moved_around m around) (moved_scope m scope) o tick vs (s.braced ss at)) (arm_case_moves m a b sees ty tick c covered.0.1) ∙
+          (ap (λ f. unless_refused f (then_do (walk_stmts b (moved_around m around) (arm_scope (scope_inside (moved_scope m scope)) (Some (moved_the_case m a b sees c)) vs) false ss) (λ y. Ok ((case_number (Some (moved_the_case m a b sees c)), arm_numbers (scope_inside (moved_scope m scope)) (Some (moved_the_case m a b sees c)) vs, block_made y (at.to - 1)), scope_behind (moved_scope m scope) y.1)))) (calm None _ refl (arm_fine m a b sees inside c tick vs apt.0 l.1)) ∙
+          (ap (λ sc. then_do (walk_stmts b (moved_around m around) sc false ss) (λ y. Ok ((case_number (Some (moved_the_case m a b sees c)), arm_numbers (scope_inside (moved_scope m scope)) (Some (moved_the_case m a b sees c)) vs, block_made y (at.to - 1)), scope_behind (moved_scope m scope) y.1))) (sym (arm_scope_moves m a b sees inside c vs)) ∙
+          (ap (λ r. then_do r (λ y. Ok ((case_number (Some (moved_the_case m a b sees c)), arm_numbers (scope_inside (moved_scope m scope)) (Some (moved_the_case m a b sees c)) vs, block_made y (at.to - 1)), scope_behind (moved_scope m scope) y.1))) c1.0 ∙
+          (ap₂ (λ (ns : List ℕ) (x : core.Block). Ok ((c.number, ns, x), moved_scope m (scope_behind scope body.0.1))) (same_arm_numbers m a b sees inside c vs) (block_made_moves body.0 (at.to - 1)) ∙
+          ap (λ y. Ok (moved_armed y)) here)))) in (
+            ap (λ r. then_do r (λ y. then_do (walk_arms b (moved_around m around) y.1 (option_map (moved_ty m) ty) rest) (λ z. Ok (y.0 ∷ z.0, z.1)))) arm_there ∙
+                (ap (λ r. then_do r (λ z. Ok (moved_arm first.0.0 ∷ z.0, z.1))) c2.0 ∙ ap (λ y. Ok (moved_arms_walked y)) is),
+            subst (λ y. IsWhole y.1) is c2.1,
+          )
 
     pub walks_move : (around : Around) (scope : Scope) (ended : Bool) (ss : Stmts) (y : List (ℕ × Form) × Scope) → IsAptStmts a b ss → IsWhole scope → walk_stmts a around scope ended ss ≡ Ok y →
         walk_stmts b (moved_around m around) (moved_scope m scope) ended ss ≡ Ok (moved_walked m y)

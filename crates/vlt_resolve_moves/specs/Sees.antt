@@ -1,10 +1,10 @@
 -- A table of kinds that knows what another one knows, at other numbers: the joined program's beside a view's. It may know more names.
 -- A type that is abstract in the first may be a struct in the second, and an external may have a body there.
-use Rattle.std.specs.Prelude.{◌≡◌, ◌⊎◌, ℕ, ◌==◌, Bool, true, false, List, map, Option, Some, None, slice_get}
+use Rattle.std.specs.Prelude.{◌≡◌, ◌⊎◌, ℕ, ◌==◌, true, false, List, map, Some, None, slice_get}
 use Rattle.std.specs.Option.{option_map}
 use Rattle.vlt_syntax.specs.Tree.{Name}
 use Rattle.vlt_syntax.specs.Lists.{Each}
-use Rattle.vlt_core.specs.Core.{StructDecl, VariantDecl, TypeDecl, a_struct, a_variant, Ty, KeyDecl, VarDecl, Func}
+use Rattle.vlt_core.specs.Core.{StructDecl, VariantDecl, a_struct, a_variant, Ty, Func}
 use Rattle.vlt_core.specs.Types.{is_droppable_struct, is_droppable}
 use Rattle.vlt_core_moves.specs.Moves.{Moves, moved_ty, moved_struct, moved_variant, moved_key, moved_var}
 use Rattle.vlt_kinds_types.specs.Names.Globals.{global_in, is_global}

@@ -1,6 +1,6 @@
 -- Bodies that aren't refused in a view aren't refused in the joined program, and become the same, but for the numbers of the
 -- functions that they call.
-use Rattle.std.specs.Prelude.{◌≡◌, ℕ, Bool, List, map, Option, Result, Ok}
+use Rattle.std.specs.Prelude.{◌≡◌, ℕ, Bool, List, map, Ok}
 use Rattle.std.specs.Option.{option_map}
 use Rattle.vlt_syntax.specs.Tree.{Stmts}
 use Rattle.vlt_core.specs.Core.{Form}
