@@ -24,8 +24,8 @@ use std::alloc::Global;
 /// the rules on names and types, and the notes hold in each of its bodies. Gives how many functions with a body that program
 /// has, or the first part that fails: the C text, the certificate, the rules on names and types, the notes, the lowering.
 ///
-/// `Memory` where memory is refused; where the notes aren't such as can be tested (`LocalError::Unfit`); and where 64 bits
-/// can't number the slots of a function or the cells of a struct in the lowering.
+/// `Memory` where memory is refused, and where 64 bits can't number the slots of a function, the cells of a struct or the
+/// statements in the lowering.
 pub fn verify(alloc: Global, text: &[u8]) -> Result<u32, VerifyError>
     requires { length text.now < 2 ^ 32 - 1 }
     ensures answer { IsAnswer text.now result }
