@@ -6,6 +6,7 @@ pub mod Finished
 pub mod Ended
 pub mod Own
 pub mod RunEnded
+pub mod HostEnded
 pub mod CEnded
 pub mod CReplies
 pub mod VReplies
@@ -15,12 +16,17 @@ pub mod Explained
 pub mod Loads
 pub mod Lexed
 pub mod Read
+pub mod OneModules
 pub mod Single
+pub mod OfTexts
+pub mod Linked
+pub mod SomeModules
 pub mod Some
 pub mod Told
 pub mod Replied
 pub mod Promises
 pub mod Verifies
-pub mod OfTexts
+pub mod Hosts
 pub mod Compiles
 pub mod Compilable
+pub mod ModuleSteps

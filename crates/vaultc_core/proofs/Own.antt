@@ -1,12 +1,15 @@
 -- Which statuses a command's replies to the bytes of its files have.
 use Rattle.std.proofs.Common.{◌≡◌, inl, inr, ℕ, ℤ, ◌≤◌, Bool, true, false, if◌then◌else◌, List, length, Some, None, sym, subst, arith}
-use Rattle.std.specs.Prelude.{◌≢◌, nat_lt}
+use Rattle.std.specs.Prelude.{◌≢◌, nat_lt, Result, Ok, Err}
 use Rattle.vlt_base.specs.Limits.{limit_of}
 use Rattle.vlt_base.specs.declared.limits.TheConstants.{C_BYTES}
 use Rattle.vlt_base.specs.declared.Budgets.{Budgets}
 use Rattle.vlt_core.specs.Core.{Program}
 use Rattle.vlt_meaning.specs.World.{Outcome, done, trap, fuel_end, heap_end, depth_end, input_end, answers_end, bad_answer, fault, event_text}
 use Rattle.vlt_numbers.specs.Given.Given.{Given, numbers, bad_input, bad_answers, given_by}
+use Rattle.vlt_host_meaning.specs.Calls.{HostCall}
+use Rattle.vlt_host_meaning.specs.HostRun.{HostOutcome, ended, bad_call}
+use Rattle.vlt_host.specs.CallsFile.{calls_of}
 use Rattle.vlt_lexer.specs.declared.LexError.TheVariants as lex
 use Rattle.vlt_resolve.specs.Elaboration.{broken, exceeded}
 use Rattle.vlt_syntax.specs.Refusals.{unexpected_at, over_limit, ended}
@@ -23,15 +26,19 @@ use Rattle.c_interp.specs.declared.runs.end.CEnd.{CEnd}
 use Rattle.c_interp.specs.declared.runs.end.CEnd.TheVariants.{Unread, Ended}
 use Rattle.vaultc_core.specs.declared.status.TheConstants.{DONE, NO_COMMAND, UNREAD}
 use Rattle.vaultc_core.specs.CRuns.{IsReplyToC, c_refusal, stop_reply, end_reply}
-use Rattle.vaultc_core.specs.Commands.{Command, check, explain, run, fmt, emit, verify, crun, load}
+use Rattle.vaultc_core.specs.Commands.{Command, check, explain, run, fmt, emit, verify, crun, load, host, modules, link}
 use Rattle.vaultc_core.specs.Lines.{Reply, reply, over_reply}
 use Rattle.vaultc_core.specs.Replies.{IsReplyToVerdict, IsReplyToTree, IsReplyToText, IsReplyToRunText, IsReplyToMade, IsReplyToContents, bytes_at}
 use Rattle.vaultc_core.specs.Runs.{last_of, IsReplyOverNumbers, IsReplyToProgram}
+use Rattle.vaultc_core.specs.HostRuns.{host_last_of, IsReplyToCallsOver, IsReplyToCalls, IsReplyToHost}
 use Rattle.vaultc_core.specs.Texts.{Refusal, unlexed, unparsed, refusal_reply}
 use Rattle.vaultc_core.specs.Verdicts.{check_reply, IsExplained}
 use Rattle.vaultc_core.specs.Emitted.{c_file, IsReplyToCompiled}
 use Rattle.vaultc_core.specs.Verifying.{unread_reply, unverified_reply, IsReplyToVerify}
 use Rattle.cert_verify.specs.Refusals as unverified
+use Rattle.vlt_iface.specs.View.{View}
+use Rattle.vlt_iface.specs.Told as told
+use Rattle.vaultc_core.specs.Modules.{File, file_with, IsReplyByTreeIn, IsReplyToNoView, IsReplyToViewVerdict, IsReplyToView, IsReplyToModule, IsReplyToJoined, IsReplyToLink}
 use Rattle.vaultc_core.specs.Loads.{load_reply, Then, run_alone, IsReplyAfterEmit, IsReplyToLoaded}
 use Rattle.vlt_load.specs.Generated.{generated_text}
 
@@ -105,10 +112,31 @@ own_program p (numbers input answers) b r is = own_over_numbers p input answers 
 own_program p (bad_input line) b r is = own_as r _ is (own 6 (omega arith))
 own_program p (bad_answers line) b r is = own_as r _ is (own 6 (omega arith))
 
-own_judged : (text : List ℕ) (given : Given) (b : Budgets) (v : Verdict) (r : Reply) → IsReplyToVerdict text given b v r → IsOwn r.status
-own_judged text given b (verdict.refused x) r is = own_as r _ is (own_verdict text (verdict.refused x))
-own_judged text given b (verdict.faulty p f x) r is = own_as r _ is (own_verdict text (verdict.faulty p f x))
-own_judged text given b (verdict.accepted p) r is = own_program p given b r is
+-- ---- runs for hosts
+
+pub own_host_outcome : (o : HostOutcome) (last : Reply) → host_last_of o ≡ Some last → IsOwn last.status
+own_host_outcome (ended o) last e = own_outcome o last e
+own_host_outcome (bad_call n) last e = own_last _ last e (own 11 (omega arith))
+
+own_calls_over : (p : Program) (calls : List HostCall) (input : List ℤ) (answers : List (List ℤ)) (b : Budgets) (r : Reply) → IsReplyToCallsOver p calls input answers b r → IsOwn r.status
+own_calls_over p calls input answers b r (inl (wide, same)) = own_as r _ same (own 5 (omega arith))
+own_calls_over p calls input answers b r (inr (fits, (last, of, same))) = own_as r _ same (own_host_outcome _ last of)
+
+own_calls : (p : Program) (calls : List HostCall) (given : Given) (b : Budgets) (r : Reply) → IsReplyToCalls p calls given b r → IsOwn r.status
+own_calls p calls (numbers input answers) b r is = own_calls_over p calls input answers b r is
+own_calls p calls (bad_input line) b r is = own_as r _ is (own 6 (omega arith))
+own_calls p calls (bad_answers line) b r is = own_as r _ is (own 6 (omega arith))
+
+own_host : (p : Program) (calls : Result (List HostCall) ℕ) (given : Given) (b : Budgets) (r : Reply) → IsReplyToHost p calls given b r → IsOwn r.status
+own_host p (Ok calls) given b r is = own_calls p calls given b r is
+own_host p (Err line) given b r is = own_as r _ is (own 6 (omega arith))
+
+-- ---- texts that are run; P has the replies to accepted programs
+
+own_judged : (P : Program → Reply → Type 0) → ((p : Program) (r : Reply) → P p r → IsOwn r.status) → (text : List ℕ) (v : Verdict) (r : Reply) → IsReplyToVerdict P text v r → IsOwn r.status
+own_judged P owns text (verdict.refused x) r is = own_as r _ is (own_verdict text (verdict.refused x))
+own_judged P owns text (verdict.faulty p f x) r is = own_as r _ is (own_verdict text (verdict.faulty p f x))
+own_judged P owns text (verdict.accepted p) r is = owns p r is
 
 own_explained : (text : List ℕ) (v : Verdict) (r : Reply) → IsExplained text v r → IsOwn r.status
 own_explained text (verdict.refused x) r is = own_as r _ is (own_verdict text (verdict.refused x))
@@ -124,14 +152,17 @@ own_tree (fmt file) text t r is = own_as r _ is own_zero
 own_tree (emit file) text t r (v, judged, is) = own_emitted text v r is
 own_tree (crun file taken) text t r is = absurd is
 own_tree (load n) text t r is = absurd is
+own_tree (host file calls taken) text t r is = absurd is
+own_tree (modules interface file) text t r is = absurd is
+own_tree (link interface first second) text t r is = absurd is
 
 own_text : (command : Command) (text : List ℕ) (r : Reply) → IsReplyToText command text r → IsOwn r.status
 own_text command text r (inl (e, refused, is)) = own_as r _ is (own_refusal text e)
 own_text command text r (inr (t, reads, is)) = own_tree command text t r is
 
-own_run : (text : List ℕ) (given : Given) (b : Budgets) (r : Reply) → IsReplyToRunText text given b r → IsOwn r.status
-own_run text given b r (inl (e, refused, is)) = own_as r _ is (own_refusal text e)
-own_run text given b r (inr (t, reads, (v, judged, is))) = own_judged text given b v r is
+own_run : (P : Program → Reply → Type 0) → ((p : Program) (r : Reply) → P p r → IsOwn r.status) → (text : List ℕ) (r : Reply) → IsReplyToRunText P text r → IsOwn r.status
+own_run P owns text r (inl (e, refused, is)) = own_as r _ is (own_refusal text e)
+own_run P owns text r (inr (t, reads, (v, judged, is))) = own_judged P owns text v r is
 
 -- ---- C texts
 
@@ -207,6 +238,44 @@ own_made : (n : ℕ) (text : List ℕ) (r : Reply) → IsReplyToMade n text r �
 own_made n text r (inl (e, refused, is)) = own_as r _ is (own_refusal text e)
 own_made n text r (inr (t, reads, (v, judged, is))) = own_loaded n text v r is
 
+-- ---- modules
+
+own_by_tree_in : (f : File) (P : Tree → Reply → Type 0) → ((t : Tree) (r : Reply) → P t r → IsOwn r.status) → (r : Reply) → IsReplyByTreeIn f P r → IsOwn r.status
+own_by_tree_in f P own_of r (inl (e, refused, is)) = own_as r _ is (own_refusal f.bytes e)
+own_by_tree_in f P own_of r (inr (t, reads, is)) = own_of t r is
+
+own_no_view : (i m : File) (e : told.Told) (r : Reply) → IsReplyToNoView i m e r → IsOwn r.status
+own_no_view i m (told.broken rule place) r is = own_as r _ is (own 7 (omega arith))
+own_no_view i m (told.exceeded n) r is = own_as r _ is (own 5 (omega arith))
+own_no_view i m (told.clash name) r is = absurd is
+
+own_view_verdict : (i m : File) (P : Program → Reply → Type 0) → ((p : Program) (r : Reply) → P p r → IsOwn r.status) → (v : Verdict) (r : Reply) → IsReplyToViewVerdict i m P v r → IsOwn r.status
+own_view_verdict i m P own_of (verdict.refused (broken rule at)) r is = own_as r _ is (own 7 (omega arith))
+own_view_verdict i m P own_of (verdict.refused (exceeded n)) r is = own_as r _ is (own 5 (omega arith))
+own_view_verdict i m P own_of (verdict.faulty p f x) r is = own_as r _ is (own 8 (omega arith))
+own_view_verdict i m P own_of (verdict.accepted p) r is = own_of p r is
+
+own_view : (i m : File) (with_main : Bool) (P : Program → Reply → Type 0) → ((p : Program) (r : Reply) → P p r → IsOwn r.status) → (x : Result View told.Told) (r : Reply) →
+    IsReplyToView i m with_main P x r → IsOwn r.status
+own_view i m with_main P own_of (Err e) r is = own_no_view i m e r is
+own_view i m with_main P own_of (Ok v) r (w, of_view, is) = own_view_verdict i m P own_of w r is
+
+own_module : (i m : File) (r : Reply) → IsReplyToModule i m r → IsOwn r.status
+own_module i m r is =
+    own_by_tree_in i _ (λ t q at_i. own_by_tree_in m _ (λ u a at_m.
+    own_view i m false _ (λ p b same. own_as b _ same own_zero) (told.view_told t u) a at_m) q at_i) r is
+
+own_joined : (x : Result Tree told.Told) (r : Reply) → IsReplyToJoined x r → IsOwn r.status
+own_joined (Err (told.clash name)) r is = own_as r _ is (own 7 (omega arith))
+own_joined (Err (told.exceeded n)) r is = own_as r _ is (own 5 (omega arith))
+own_joined (Err (told.broken rule place)) r is = absurd is
+own_joined (Ok t) r (p, gives, (notes, least, is)) = own_as r _ is (own_text_or_limit (nat_lt (limit_of C_BYTES) (length (c_file p notes))) (c_file p notes))
+
+own_link : (i f g : File) (r : Reply) → IsReplyToLink i f g r → IsOwn r.status
+own_link i f g r is =
+    own_by_tree_in i _ (λ t q at_i. own_by_tree_in f _ (λ u a at_f. own_by_tree_in g _ (λ v b at_g.
+    own_view i f false _ (λ p c first. own_view i g true _ (λ o d second. own_joined (told.joined_told t u v) d second) (told.view_told t v) c first) (told.view_told t u) b at_g) a at_f) q at_i) r is
+
 -- ---- commands
 
 pub own_reply : (command : Command) (contents : List (List ℕ)) (r : Reply) → IsReplyToContents command contents r → IsOwn r.status
@@ -214,8 +283,16 @@ own_reply (check file) contents r is = own_text (check file) (bytes_at contents 
 own_reply (explain file) contents r is = own_text (explain file) (bytes_at contents 0) r is
 own_reply (verify file) contents r is = own_verify (bytes_at contents 0) r is
 own_reply (run file taken) contents r is =
-    own_run (bytes_at contents 0) (given_by (bytes_at contents 1) (bytes_at contents 2)) taken.budgets r is
+    let given = given_by (bytes_at contents 1) (bytes_at contents 2) in
+    own_run (λ p q. IsReplyToProgram p given taken.budgets q) (λ p q of. own_program p given taken.budgets q of) (bytes_at contents 0) r is
 own_reply (fmt file) contents r is = own_text (fmt file) (bytes_at contents 0) r is
 own_reply (emit file) contents r is = own_text (emit file) (bytes_at contents 0) r is
 own_reply (crun file taken) contents r is = own_c (bytes_at contents 0) (bytes_at contents 1) (bytes_at contents 2) taken.budgets r is
 own_reply (load n) contents r is = own_made n (generated_text n) r is
+own_reply (host file calls taken) contents r is =
+    let asked = calls_of (bytes_at contents 1) in
+    let given = given_by (bytes_at contents 2) (bytes_at contents 3) in
+    own_run (λ p q. IsReplyToHost p asked given taken.budgets q) (λ p q of. own_host p asked given taken.budgets q of) (bytes_at contents 0) r is
+own_reply (modules interface file) contents r is = own_module (file_with interface (bytes_at contents 0)) (file_with file (bytes_at contents 1)) r is
+own_reply (link interface first second) contents r is =
+    own_link (file_with interface (bytes_at contents 0)) (file_with first (bytes_at contents 1)) (file_with second (bytes_at contents 2)) r is

@@ -85,7 +85,7 @@ module _ (law : ProgramsAreFit) (trees : TextsHaveTextTrees) (right : GoRight) w
       MayReply g early late (Some (check file)) (reply DONE text) → Grew old new text →
       (bytes : List ℕ) × IsOneRead g early late (text_in file) bytes × IsPromised (g.files early) file bytes old new
   of_may g early late file text old new (unread name, may, same) grew = absurd (not_zero 1 (status_of text _ same))
-  of_may g early late file text old new (too_long n, may, same) grew = absurd (not_zero 4 (status_of text _ same))
+  of_may g early late file text old new (too_long name n, may, same) grew = absurd (not_zero 4 (status_of text _ same))
   of_may g early late file text old new (had contents, may, is) grew =
       let one = one_read g early late (text_in file) contents may in
       let at_first : IsReplyToText (check file) one.0 (reply DONE text) = subst (λ cs. IsReplyToText (check file) (bytes_at cs 0) (reply DONE text)) one.1 is in

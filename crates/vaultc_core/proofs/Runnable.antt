@@ -1,7 +1,7 @@
--- An accepted program of a text can be run.
+-- An accepted program of a text can be run, and a host can call its functions.
 use Rattle.std.proofs.Common.{◌≤◌, ◌<◌, ℕ, length, arith}
-use Rattle.std.specs.Prelude.{◌^◌}
-use Rattle.vlt_core.specs.Core.{Program}
+use Rattle.std.specs.Prelude.{◌≡◌, ◌^◌, Some, slice_get}
+use Rattle.vlt_core.specs.Core.{Func, Program}
 use Rattle.vlt_core.specs.Derives.{IsAccepted}
 use Rattle.vlt_core.specs.Instances.{HasNoBounds}
 use Rattle.vlt_core.specs.Kinded.{IsKinded}
@@ -14,6 +14,12 @@ use Rattle.vlt_sound.specs.Promise.{NeverGoesWrong}
 use Rattle.vlt_sound.specs.Narrow.{HasNarrowHeads}
 use Rattle.vlt_sound.specs.Sizes.{HasSizes}
 use Rattle.vlt_syntax.specs.Tree.{Tree}
+use Rattle.vlt_permits.specs.Arguments.{HasClauseKeys}
+use Rattle.vlt_host_laws.specs.Calls.{TakesCalls}
+use Rattle.vlt_host_laws.specs.Results.{GivesResults}
+use Rattle.vlt_host_run_laws.specs.Started.{KnowsStartedCalls}
+use Rattle.vlt_host_laws.specs.Promise.{NeverGoesWrongForHosts}
+use Rattle.vaultc_core.specs.Callable.{IsRunnableForHosts}
 use Rattle.vlt_interp.specs.Tasks.Own.{HasOwn}
 use Rattle.vlt_verdict.proofs.Single.{fit_program}
 use Rattle.vlt_verdict.specs.Verdicts.{accepted, IsVerdictOf}
@@ -32,6 +38,9 @@ pub record RunLaws : Type 0 where
 few_vars : (n : ℕ) → n ≤ 256 → n < 2 ^ 32
 few_vars n le = omega (arith, le)
 
+few_functions : (n : ℕ) → n ≤ 4096 → n < 2 ^ 32
+few_functions n le = omega (arith, le)
+
 pub runnable : RunLaws → (t : Tree) (p : Program) → IsTextTree t → IsVerdictOf t (accepted p) → IsRunnable p
 runnable laws t p tree is =
     let x = fit_program laws.fit t p tree is.0 in
@@ -41,4 +50,29 @@ runnable laws t p tree is =
       never = laws.never p kinded is.1 x.sizes states x.narrow;
       own = laws.own p kinded (λ i f at. few_vars (length f.vars) (x.few.vars i f at)) x.blank x.well_formed.plain;
       calls = laws.calls p kinded is.1 x.sizes states x.narrow;
+    }
+
+-- the laws on programs whose functions a host calls
+pub record HostLaws : Type 0 where
+  pub run : RunLaws
+  pub never : OfAccepted NeverGoesWrongForHosts
+  pub keys : (p : Program) → IsKinded p → (i : ℕ) (f : Func) → slice_get p.fns i ≡ Some f → HasClauseKeys f
+  pub takes : OfAccepted TakesCalls
+  pub results : OfAccepted GivesResults
+  pub knows : OfAccepted KnowsStartedCalls
+
+pub runnable_for_hosts : HostLaws → (t : Tree) (p : Program) → IsTextTree t → IsVerdictOf t (accepted p) → IsRunnableForHosts p
+runnable_for_hosts laws t p tree is =
+    let x = fit_program laws.run.fit t p tree is.0 in
+    let states = x.well_formed.states in
+    record {
+      callable = record {
+        own = (runnable laws.run t p tree is).own;
+        keys = laws.keys p x.kinded;
+        takes = laws.takes p x.kinded is.1 x.sizes states x.narrow;
+        results = laws.results p x.kinded is.1 x.sizes states x.narrow;
+        knows = laws.knows p x.kinded is.1 x.sizes states x.narrow;
+      };
+      never = laws.never p x.kinded is.1 x.sizes states x.narrow;
+      few = few_functions (length p.fns) x.few.functions;
     }

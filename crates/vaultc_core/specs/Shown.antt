@@ -21,10 +21,17 @@ use Rattle.vlt_verdict.specs.declared.Verdict.{Verdict}
 use Rattle.vlt_verdict.specs.declared.Verdict.TheVariants as verdict
 use Rattle.vaultc_core.specs.declared.status.TheConstants.{SINK_FAILED, NO_MEMORY}
 use Rattle.vaultc_core.specs.Finishes.{Finishes}
-use Rattle.vaultc_core.specs.Runs.{stop_line, end_line}
+use Rattle.vaultc_core.specs.Runs.{stop_line, end_line, IsReplyToProgram}
+use Rattle.vaultc_core.specs.HostRuns.{host_stop_line, IsReplyToHost}
 use Rattle.vaultc_core.specs.Lines as lines
 use Rattle.vaultc_core.specs.Texts.{Refusal, unlexed, unparsed}
+use Rattle.vlt_base.specs.declared.Budgets.{Budgets}
 use Rattle.vlt_base.specs.declared.limits.TheConstants.{SOURCE_BYTES}
+use Rattle.vlt_core.specs.Core.{Program}
+use Rattle.vlt_numbers.specs.Given.Given.{Given}
+use Rattle.vlt_host.specs.CallsFile.{calls_of}
+use Rattle.vlt_host_runs.specs.declared.stop.HostStop.{HostStop}
+use Rattle.vlt_host_runs.specs.declared.stop.HostStop.TheVariants as host
 use Rattle.c_interp.specs.declared.stop.CStop.{CStop}
 use Rattle.c_interp.specs.declared.stop.CStop.TheVariants.{Stopped}
 use Rattle.c_reader.specs.Reads.{IsUnread, IsWithin}
@@ -36,9 +43,14 @@ use Rattle.vaultc_core.specs.Sources.{Read, had, unread, too_long, IsOver}
 use Rattle.vaultc_core.specs.declared.files.FileError.{FileError}
 use Rattle.vaultc_core.specs.declared.files.FileError.TheVariants.{Unread, TooLong, Memory}
 use Rattle.vaultc_core.specs.declared.files.RunFiles.{RunFiles}
+use Rattle.vaultc_core.specs.declared.files.HostFiles.{HostFiles}
+use Rattle.vaultc_core.specs.declared.files.LinkFiles.{LinkFiles}
+use Rattle.vaultc_core.specs.declared.files.ModuleFiles.{ModuleFiles}
 use Rattle.vaultc_core.specs.declared.source.TextError.{TextError}
 use Rattle.vaultc_core.specs.declared.source.TextError.TheVariants as error
 use Rattle.vaultc_core.specs.declared.reply.Reply.{Reply}
+use Rattle.vaultc_core.specs.declared.runs.Caller.{Caller}
+use Rattle.vaultc_core.specs.declared.runs.Caller.TheVariants.{Main, Host}
 
 -- the refusal that an error tells; want of memory is none
 abbrev pub refusal_of : TextError → Option Refusal
@@ -75,7 +87,7 @@ IsReplyOf (Err e) q = ⊥
 -- what reading came to, where it ended so; want of memory tells nothing
 abbrev pub error_seen : FileError → Option Read
 error_seen (Unread name) = Some (unread name.now)
-error_seen (TooLong n) = Some (too_long n)
+error_seen (TooLong name n) = Some (too_long name.now n)
 error_seen Memory = None
 
 abbrev pub seen_file : Result (Vec ℕ) FileError → Option Read
@@ -86,9 +98,22 @@ abbrev pub seen_files : Result RunFiles FileError → Option Read
 seen_files (Ok files) = Some (had (files.text.items ∷ files.input.items ∷ files.answers.items ∷ []))
 seen_files (Err e) = error_seen e
 
+abbrev pub seen_host_files : Result HostFiles FileError → Option Read
+seen_host_files (Ok files) =
+    Some (had (files.run.text.items ∷ files.calls.items ∷ files.run.input.items ∷ files.run.answers.items ∷ []))
+seen_host_files (Err e) = error_seen e
+
+abbrev pub seen_module_files : Result ModuleFiles FileError → Option Read
+seen_module_files (Ok files) = Some (had (files.interface.items ∷ files.own.items ∷ []))
+seen_module_files (Err e) = error_seen e
+
+abbrev pub seen_link_files : Result LinkFiles FileError → Option Read
+seen_link_files (Ok files) = Some (had (files.interface.items ∷ files.first.items ∷ files.second.items ∷ []))
+seen_link_files (Err e) = error_seen e
+
 -- a limit that is told has a number
 abbrev pub IsNumbered : FileError → Type 0
-IsNumbered (TooLong n) = (1 ≤ n) × (n ≤ 15)
+IsNumbered (TooLong name n) = (1 ≤ n) × (n ≤ 15)
 IsNumbered e = Unit {0}
 
 -- no file has more bytes than its limit allows; that of the text has this number
@@ -97,7 +122,30 @@ pub record AreShort (limit : ℕ) (files : RunFiles) : Type 0 where
   pub input : IsOver SOURCE_BYTES files.input.items → ⊥
   pub answers : IsOver SOURCE_BYTES files.answers.items → ⊥
 
+pub record AreShortForHost (files : HostFiles) : Type 0 where
+  pub run : AreShort SOURCE_BYTES files.run
+  pub calls : IsOver SOURCE_BYTES files.calls.items → ⊥
+
+pub record AreShortModules (files : ModuleFiles) : Type 0 where
+  pub interface : IsOver SOURCE_BYTES files.interface.items → ⊥
+  pub own : IsOver SOURCE_BYTES files.own.items → ⊥
+
+pub record AreShortLinked (files : LinkFiles) : Type 0 where
+  pub interface : IsOver SOURCE_BYTES files.interface.items → ⊥
+  pub first : IsOver SOURCE_BYTES files.first.items → ⊥
+  pub second : IsOver SOURCE_BYTES files.second.items → ⊥
+
 -- ---- runs of programs
+
+-- what the run of an accepted program replies, where `main` runs, or a host makes calls
+abbrev pub IsReplyToCaller : Caller → Given → Budgets → Program → lines.Reply → Type 0
+IsReplyToCaller Main given b p r = IsReplyToProgram p given b r
+IsReplyToCaller (Host calls) given b p r = IsReplyToHost p (calls_of calls.now) given b r
+
+-- a calls file isn't too long
+abbrev pub IsShortCaller : Caller → Type 0
+IsShortCaller Main = Unit {0}
+IsShortCaller (Host calls) = IsOver SOURCE_BYTES calls.now → ⊥
 
 -- How the last line of a run is written, by how the machine stopped: where it has a last line, that one; else nothing, the
 -- sink having failed.
@@ -110,6 +158,19 @@ StopsRun g stop old new status = MatchOption (stop_line stop)
 abbrev pub EndsRun : {K : Type 0} (g : Ghosts K) → RunEnd Stop → (old new : K) → (status : ℕ) → Type 0
 EndsRun g e old new status = MatchOption (end_line stop_line e)
     ((new ≡ old) × (((status ≡ SINK_FAILED) × (e ≡ end.Stopped SinkFault)) ⊎ (status ≡ NO_MEMORY)))
+    (λ last. Finishes g (λ r. r ≡ last) old new status)
+
+-- ---- runs for hosts
+
+-- the same of runs for hosts
+abbrev pub StopsHost : {K : Type 0} (g : Ghosts K) → HostStop → (old new : K) → (status : ℕ) → Type 0
+StopsHost g stop old new status = MatchOption (host_stop_line stop)
+    ((new ≡ old) × ((status ≡ SINK_FAILED) × (stop ≡ host.Stopped SinkFault)))
+    (λ last. Finishes g (λ r. r ≡ last) old new status)
+
+abbrev pub EndsHost : {K : Type 0} (g : Ghosts K) → RunEnd HostStop → (old new : K) → (status : ℕ) → Type 0
+EndsHost g e old new status = MatchOption (end_line host_stop_line e)
+    ((new ≡ old) × (((status ≡ SINK_FAILED) × (e ≡ end.Stopped (host.Stopped SinkFault))) ⊎ (status ≡ NO_MEMORY)))
     (λ last. Finishes g (λ r. r ≡ last) old new status)
 
 -- ---- runs of C texts

@@ -2,27 +2,33 @@
 
 ghost use Rattle.std.specs.Prelude.{◌≡◌, ◌≢◌, List, ℕ, map, None, Some, IfOk, IfSome, IfNone, false, string_bytes};
 ghost use Rattle.vlt_base.specs.declared.limits.TheConstants.{SOURCE_BYTES};
+ghost use Rattle.vlt_core.specs.View.{program_of};
 ghost use Rattle.vlt_syntax.specs.View.{tree_of};
 ghost use Rattle.vlt_verdict.specs.FitLaws.Fit.{IsTextTree};
 ghost use Rattle.vlt_numbers.specs.Given.Given.{given_by};
 ghost use Rattle.vlt_verdict.specs.Seen.{IsTellable};
 ghost use Rattle.vlt_verdict.specs.declared.Verdict.TheVariants.{Accepted};
+ghost use Rattle.vlt_interp.specs.Reached.{IsRunnable};
+ghost use Rattle.vaultc_core.specs.Callable.{IsRunnableForHosts};
 ghost use Rattle.vaultc_core.specs.Commands as c;
 ghost use Rattle.vaultc_core.specs.Commands.{command_of};
 ghost use Rattle.vaultc_core.specs.Texts.{IsTooLong, IsTextOf};
 ghost use Rattle.vaultc_core.specs.Replies.{IsReplyToText, IsReplyToRunText, MayReply};
 ghost use Rattle.vaultc_core.specs.Finishes.{Finishes};
 ghost use Rattle.vaultc_core.specs.View.{seen_command, seen_taken, seen_text};
-ghost use Rattle.vaultc_core.specs.Shown.{AreShort, IsJudged, is_accepted, shown_reply};
+ghost use Rattle.vaultc_core.specs.Shown.{AreShort, IsJudged, IsReplyToCaller, IsShortCaller, is_accepted, shown_reply, AreShortModules, AreShortLinked};
+ghost use Rattle.vaultc_core.specs.Modules.{file_with, IsReplyToModule, IsReplyToLink};
 
 use crate::c_runs::run_c;
 use crate::emit::{accepted, compiled};
 use crate::explain::explained;
-use crate::files::{RunFiles, read_file, read_run_files};
-use crate::lines::{USAGE, laid_out, not_had, refusal, verdict};
+use crate::files::{LinkFiles, ModuleFiles, RunFiles, read_file, read_host_files, read_link_files, read_module_files, read_run_files};
+use crate::host_runs::run_host;
+use crate::lines::{USAGE, laid_out, not_had, not_had_in, refusal, verdict};
 use crate::load::load;
+use crate::modules::{NamedText, link_reply, module_reply};
 use crate::reply::Reply;
-use crate::runs::run_program;
+use crate::runs::{Caller, run_program};
 use crate::source::read_tree;
 use crate::status::{NO_COMMAND, NO_MEMORY};
 use crate::verify::verified;
@@ -31,6 +37,11 @@ use crate::write::{finish, finish_reply};
 use std::alloc::{AllocError, Global};
 use vlt_base::{Budgets, C_BYTES, SOURCE_BYTES};
 use vlt_core::Program;
+use vlt_host_laws::{
+    accepted_programs_give_results, accepted_programs_take_calls, hosts_of_accepted_programs_go_right,
+};
+use vlt_host_machine::kinded_programs_have_clause_keys;
+use vlt_host_run_laws::accepted_programs_know_started_calls;
 use vlt_io::{Sink, Store};
 use vlt_run_laws::{accepted_programs_know_their_calls, kinded_programs_name_their_own};
 use vlt_sound::accepted_programs_go_right;
@@ -95,9 +106,33 @@ fn reply_to_emit(alloc: Global, bytes: &[u8]) -> Result<Reply, AllocError>
     }
 }
 
-/// Runs the program of a verdict, or says of it what `check` says.
+/// Runs an accepted program for its caller.
+fn run_accepted<K: Sink>(
+    alloc: Global,
+    caller: Caller<'_>,
+    program: &Program,
+    files: &RunFiles,
+    budgets: Budgets,
+    out: &mut K,
+) -> u8
+    requires runnable { IsRunnable (program_of program.now) }
+    requires callable { IsRunnableForHosts (program_of program.now) }
+    requires caller { IsShortCaller caller }
+    requires short { AreShort SOURCE_BYTES files.now }
+    ensures { Finishes K.Sink (IsReplyToCaller caller.entry
+        (given_by files.now.input.items files.now.answers.items) budgets
+        (program_of program.now)) out.old out.new result }
+{
+    match caller {
+        Caller::Main => run_program(alloc, program, files, budgets, out),
+        Caller::Host(calls) => run_host(alloc, program, calls, files, budgets, out),
+    }
+}
+
+/// Runs the program of a verdict for its caller, or says of it what `check` says.
 fn run_judged<K: Sink>(
     alloc: Global,
+    caller: Caller<'_>,
     files: &RunFiles,
     tree: &Tree,
     judged: &Verdict,
@@ -109,26 +144,39 @@ fn run_judged<K: Sink>(
     requires tree { IsTextTree (tree_of tree.now) }
     requires is { IsJudged (tree_of tree.now) judged.now }
     requires tellable { IsTellable judged.now }
-    ensures { Finishes K.Sink (IsReplyToRunText files.now.text.items
+    requires caller { IsShortCaller caller }
+    ensures { Finishes K.Sink (IsReplyToRunText (IsReplyToCaller caller.entry
         (given_by files.now.input.items files.now.answers.items) budgets)
-        out.old out.new result }
+        files.now.text.items) out.old out.new result }
 {
     programs_are_fit();
     accepted_programs_go_right();
     accepted_programs_know_their_calls();
     kinded_programs_name_their_own();
+    kinded_programs_have_clause_keys();
+    hosts_of_accepted_programs_go_right();
+    accepted_programs_take_calls();
+    accepted_programs_give_results();
+    accepted_programs_know_started_calls();
     match accepted(judged) {
-        Some(program) => run_program(alloc, program, files, budgets, out),
+        Some(program) => run_accepted(alloc, caller, program, files, budgets, out),
         None => finish_reply(out, verdict(alloc, files.text.as_slice(), judged)),
     }
 }
 
-/// Runs the program of a text, or says of the text what `check` says.
-fn run_text<K: Sink>(alloc: Global, files: &RunFiles, budgets: Budgets, out: &mut K) -> u8
-    requires { AreShort SOURCE_BYTES files.now }
-    ensures { Finishes K.Sink (IsReplyToRunText files.now.text.items
+/// Runs the program of a text for its caller, or says of the text what `check` says.
+fn run_text<K: Sink>(
+    alloc: Global,
+    caller: Caller<'_>,
+    files: &RunFiles,
+    budgets: Budgets,
+    out: &mut K,
+) -> u8
+    requires files { AreShort SOURCE_BYTES files.now }
+    requires caller { IsShortCaller caller }
+    ensures { Finishes K.Sink (IsReplyToRunText (IsReplyToCaller caller.entry
         (given_by files.now.input.items files.now.answers.items) budgets)
-        out.old out.new result }
+        files.now.text.items) out.old out.new result }
 {
     let bytes = files.text.as_slice();
     let tree = match read_tree(alloc, bytes) {
@@ -136,7 +184,7 @@ fn run_text<K: Sink>(alloc: Global, files: &RunFiles, budgets: Budgets, out: &mu
         Err(error) => return finish_reply(out, refusal(alloc, bytes, error)),
     };
     match judge(alloc, &tree) {
-        Ok(judged) => run_judged(alloc, files, &tree, &judged, budgets, out),
+        Ok(judged) => run_judged(alloc, caller, files, &tree, &judged, budgets, out),
         Err(_) => NO_MEMORY,
     }
 }
@@ -199,7 +247,32 @@ fn reply_to_run<S: Store, K: Sink>(
         out.old out.new result }
 {
     match read_run_files(alloc, store, name, SOURCE_BYTES, taken) {
-        Ok(files) => run_text(alloc, &files, taken.budgets, out),
+        Ok(files) => run_text(alloc, Caller::Main, &files, taken.budgets, out),
+        Err(error) => finish_reply(out, not_had(alloc, error)),
+    }
+}
+
+/// Reads the files of a run for a host, and makes its calls on the program of the text.
+fn reply_to_host<S: Store, K: Sink>(
+    alloc: Global,
+    name: &str,
+    calls: &str,
+    taken: Taken<'_>,
+    store: &mut S,
+    out: &mut K,
+) -> u8
+    ensures { Finishes K.Sink (MayReply S.Store store.old store.new
+        (Some (c.host name.now calls.now (seen_taken taken.entry))))
+        out.old out.new result }
+{
+    match read_host_files(alloc, store, name, calls, taken) {
+        Ok(files) => run_text(
+            alloc,
+            Caller::Host(files.calls.as_slice()),
+            &files.run,
+            taken.budgets,
+            out,
+        ),
         Err(error) => finish_reply(out, not_had(alloc, error)),
     }
 }
@@ -222,6 +295,95 @@ fn reply_to_c<S: Store, K: Sink>(
     }
 }
 
+/// What `module` says of these files.
+fn module_of(
+    alloc: Global,
+    interface: &str,
+    own: &str,
+    files: &ModuleFiles,
+) -> Result<Reply, AllocError>
+    requires { AreShortModules files.now }
+    ensures { IfOk result (λ r. IsReplyToModule
+        (file_with interface.now files.now.interface.items)
+        (file_with own.now files.now.own.items) (shown_reply r)) }
+{
+    let interface = NamedText {
+        name: interface,
+        bytes: files.interface.as_slice(),
+    };
+    let own = NamedText {
+        name: own,
+        bytes: files.own.as_slice(),
+    };
+    module_reply(alloc, interface, own)
+}
+
+/// Reads the files of an interface and a module, and tests these.
+fn reply_to_module<S: Store, K: Sink>(
+    alloc: Global,
+    interface: &str,
+    own: &str,
+    store: &mut S,
+    out: &mut K,
+) -> u8
+    ensures { Finishes K.Sink
+        (MayReply S.Store store.old store.new (Some (c.modules interface.now own.now)))
+        out.old out.new result }
+{
+    match read_module_files(alloc, store, interface, own) {
+        Ok(files) => finish_reply(out, module_of(alloc, interface, own, &files)),
+        Err(error) => finish_reply(out, not_had_in(alloc, error)),
+    }
+}
+
+/// What `link` says of these files.
+fn link_of(
+    alloc: Global,
+    interface: &str,
+    first: &str,
+    second: &str,
+    files: &LinkFiles,
+) -> Result<Reply, AllocError>
+    requires { AreShortLinked files.now }
+    ensures { IfOk result (λ r. IsReplyToLink
+        (file_with interface.now files.now.interface.items)
+        (file_with first.now files.now.first.items)
+        (file_with second.now files.now.second.items) (shown_reply r)) }
+{
+    let interface = NamedText {
+        name: interface,
+        bytes: files.interface.as_slice(),
+    };
+    let first = NamedText {
+        name: first,
+        bytes: files.first.as_slice(),
+    };
+    let second = NamedText {
+        name: second,
+        bytes: files.second.as_slice(),
+    };
+    link_reply(alloc, interface, first, second)
+}
+
+/// Reads the files of an interface and two modules, and links these.
+fn reply_to_link<S: Store, K: Sink>(
+    alloc: Global,
+    interface: &str,
+    first: &str,
+    second: &str,
+    store: &mut S,
+    out: &mut K,
+) -> u8
+    ensures { Finishes K.Sink
+        (MayReply S.Store store.old store.new (Some (c.link interface.now first.now second.now)))
+        out.old out.new result }
+{
+    match read_link_files(alloc, store, interface, first, second) {
+        Ok(files) => finish_reply(out, link_of(alloc, interface, first, second, &files)),
+        Err(error) => finish_reply(out, not_had_in(alloc, error)),
+    }
+}
+
 /// Reads the files of a command, and carries the command out.
 fn reply_to_command<S: Store, K: Sink>(
     alloc: Global,
@@ -239,6 +401,11 @@ fn reply_to_command<S: Store, K: Sink>(
         Command::Run(name, taken) => reply_to_run(alloc, name, taken, store, out),
         Command::C(name, taken) => reply_to_c(alloc, name, taken, store, out),
         Command::Load(functions) => load(alloc, functions, out),
+        Command::Host(name, calls, taken) => reply_to_host(alloc, name, calls, taken, store, out),
+        Command::Module(interface, own) => reply_to_module(alloc, interface, own, store, out),
+        Command::Link(interface, first, second) => {
+            reply_to_link(alloc, interface, first, second, store, out)
+        }
     }
 }
 

@@ -22,7 +22,7 @@ use Rattle.vlt_meaning.specs.Step.{ends}
 use Rattle.vlt_meaning.specs.Run.{Setup, first_frame, start, ran_of, main_run, run}
 use Rattle.vlt_meaning.specs.Does.{does}
 use Rattle.vlt_meaning_laws.specs.Machine.Machine as m
-use Rattle.vlt_meaning_laws.specs.Machine.Machine.{Conf, at, first_conf}
+use Rattle.vlt_meaning_laws.specs.Machine.Machine.{Conf, at, moves, first_conf}
 use Rattle.vlt_meaning_laws.specs.Machine.Laws.{LeadsTo}
 use Rattle.vlt_meaning_laws.proofs.OfMachine.Theorem.{machine_is_the_run}
 use Rattle.vlt_acts.specs.declared.values.values.Values.{Values}
@@ -46,7 +46,7 @@ use Rattle.vlt_interp.specs.Tasks.Moves.{HasRoom}
 use Rattle.vlt_meaning_laws.specs.Machine.Reached.{IsReached}
 use Rattle.vlt_interp.specs.Reached.{IsRunnable}
 use Rattle.vlt_interp.specs.Going.{setup_in}
-use Rattle.vlt_interp.specs.Running.{start_of, goal_of, IsRunning, IsFinished}
+use Rattle.vlt_interp.specs.Running.{start_of, goal_of, IsUnderWay, IsRunning, IsFinished}
 use Rattle.vlt_interp.specs.Start.{run_within, EndsAs}
 use Rattle.vlt_interp.proofs.Fitting.{frame_fits}
 
@@ -125,8 +125,21 @@ module _ (b : Budgets) (s : Start) (input : Bor (List ℤ)) (answers : Bor Answe
       };
     }
 
-    begun_reached : IsReached (setup_in rules begun) (first_conf (func_of main.now) (first_frame 1) (start_of begun))
-    begun_reached = record { main = func_of main.now; is_main = is_main; fuel = b.fuel; input = input.now; answers = lists_of answers.now; count = 0; is = refl }
+    begun_reached : (n : ℕ) → IsReached (setup_in rules begun) (moves (setup_in rules begun) n (first_conf (func_of main.now) (first_frame 1) (start_of begun)))
+    begun_reached n = record { main = func_of main.now; is_main = is_main; fuel = b.fuel; input = input.now; answers = lists_of answers.now; count = n; is = refl }
+
+    begun_way : IsUnderWay (setup_in rules begun) (first_conf (func_of main.now) (first_frame 1) (start_of begun))
+    begun_way = record {
+      func = func_of main.now;
+      position = (program_of program.now).main;
+      at = is_main;
+      frame = first_frame 1;
+      first = refl;
+      world = start_of begun;
+      count = 0;
+      is = refl;
+      knows = λ n. runnable.calls (setup_in rules begun) (moves (setup_in rules begun) n (first_conf (func_of main.now) (first_frame 1) (start_of begun))) refl (begun_reached n);
+    }
 
     goal_is : goal_of rules begun ≡ does (setup_in rules begun) (func_of main.now) (func_of main.now).body (first_frame 1) (start_of begun)
     unfolding does
@@ -143,12 +156,12 @@ module _ (b : Budgets) (s : Start) (input : Bor (List ℤ)) (answers : Bor Answe
 
     begun_running : (x : Outside) → IsRunning rules (goal_of rules begun) (start_of begun) x x begun
     begun_running x = record {
-      runnable = runnable;
+      own = runnable.own;
       deep = deep;
       room = begun_room;
       conf = first_conf (func_of main.now) (first_frame 1) (start_of begun);
       shown = begun_shown;
-      reached = begun_reached;
+      under_way = begun_way;
       leads = subst (LeadsTo (setup_in rules begun) (first_conf (func_of main.now) (first_frame 1) (start_of begun))) (sym goal_is) (machine_is_the_run (setup_in rules begun) (func_of main.now) (first_frame 1) (start_of begun));
       right = subst (λ y. is_fault y.outcome ≡ false) ran_is (runnable.never b.fuel b.heap b.depth input.now (lists_of answers.now));
       wrote = silent (start_of begun) (start_of begun) x refl;

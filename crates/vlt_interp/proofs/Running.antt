@@ -6,7 +6,7 @@ use Rattle.vlt_core.specs.View.{program_of}
 use Rattle.vlt_core.specs.Core.{Func, Program}
 use Rattle.vlt_meaning.specs.World.{line_of, World, is_fault}
 use Rattle.vlt_meaning.specs.Step.{Step, goes, jumps, leaves, ends}
-use Rattle.vlt_meaning.specs.Run.{Setup, first_frame, start, ran_of}
+use Rattle.vlt_meaning.specs.Run.{Setup, ran_of}
 use Rattle.vlt_meaning_laws.specs.Keeping.{world_after}
 use Rattle.vlt_meaning_laws.specs.Machine.Machine as m
 use Rattle.vlt_meaning_laws.specs.Machine.Machine.{Conf, at, after_move, moves, first_conf}
@@ -29,10 +29,10 @@ use Rattle.vlt_interp.specs.Tasks.Shown.{setup_of, tasks_left, ShowsStep, ShowsW
 use Rattle.vlt_interp.specs.Tasks.Moves.{Keeps, world_in, GoneOn, CameTo, IsRight}
 use Rattle.vlt_steps.proofs.Writing as writing
 use Rattle.vlt_interp.proofs.OfTasks.Staying.{room_kept}
-use Rattle.vlt_meaning_laws.specs.Machine.Reached.{IsReached}
 use Rattle.vlt_interp.specs.Owned.{HoldsIn, IsOwnConf}
 use Rattle.vlt_interp.specs.Going.{setup_in, IsFine, CanMove, IsOver, Moves}
-use Rattle.vlt_interp.specs.Running.{IsRunning, IsFinished}
+use Rattle.vlt_interp.specs.Running.{IsUnderWay, IsRunning, IsFinished}
+use Rattle.vlt_interp.specs.Calls.Known.{KnowsNext}
 use Rattle.vlt_interp.proofs.Keeping.{IsClosed, moved_holds, first_holds}
 use Rattle.vlt_interp.proofs.Later.{Adds, ending_adds, moved_end, ends_there}
 use Rattle.vlt_interp.proofs.Fitting.{as_many}
@@ -62,40 +62,45 @@ own_closed p h = record {
   plain = h.plain;
 }
 
-module _ (r : Setup) (c : Conf) (reached : IsReached r c) where
+module _ (r : Setup) (c : Conf) (way : IsUnderWay r c) where
   -- what holds at the start and after each move
-  along : (P : Conf → Type 0) → ((d : Conf) → P d → P (after_move r d)) → P (first_conf reached.main (first_frame 1) (start reached.fuel reached.input reached.answers)) → P c
-  along P next first = subst P reached.is (go reached.count (first_conf reached.main (first_frame 1) (start reached.fuel reached.input reached.answers)) first)
+  along : (P : Conf → Type 0) → ((d : Conf) → P d → P (after_move r d)) → P (first_conf way.func way.frame way.world) → P c
+  along P next first = subst P way.is (go way.count (first_conf way.func way.frame way.world) first)
     where
       go : (n : ℕ) (d : Conf) → P d → P (moves r n d)
       go zero d h = h
       go (suc n) d h = go n (after_move r d) (next d h)
 
-  reached_own : HasOwn r.program → IsOwnConf r.program c
-  reached_own h =
+  own_there : HasOwn r.program → IsOwnConf r.program c
+  own_there h =
       let k = own_closed r.program h in
       along (IsOwnConf r.program) (moved_holds r (AreOwn r.program) (IsOwn r.program) (IsOwnBlock r.program) (AreOwnArms r.program) k)
-      (first_holds r (AreOwn r.program) (IsOwn r.program) (IsOwnBlock r.program) (AreOwnArms r.program) k r.program.main reached.main reached.is_main)
+      (first_holds r (AreOwn r.program) (IsOwn r.program) (IsOwnBlock r.program) (AreOwnArms r.program) k way.position way.func way.at)
 
-  reached_small : HasOwn r.program → HoldsIn (IsSmallList (size_of r.program)) (IsSmall (size_of r.program)) r.program c.func c.tasks
-  reached_small h =
+  small_there : HasOwn r.program → HoldsIn (IsSmallList (size_of r.program)) (IsSmall (size_of r.program)) r.program c.func c.tasks
+  small_there h =
       let n = size_of r.program in
       let k = small_closed r.program h.plain in
       along (λ d. HoldsIn (IsSmallList n) (IsSmall n) r.program d.func d.tasks) (moved_holds r (IsSmallList n) (IsSmall n) (IsSmallBlock n) (AreSmallArms n) k)
-      (first_holds r (IsSmallList n) (IsSmall n) (IsSmallBlock n) (AreSmallArms n) k r.program.main reached.main reached.is_main)
+      (first_holds r (IsSmallList n) (IsSmall n) (IsSmallBlock n) (AreSmallArms n) k way.position way.func way.at)
 
-  reached_fits : 1 ≤ r.depth → Fits r c
-  reached_fits deep = along (Fits r) (λ d h. (suffices r d h).next) (first_fits r reached.main r.program.main (first_frame 1) (start reached.fuel reached.input reached.answers) reached.is_main refl deep)
+  fits_there : 1 ≤ r.depth → Fits r c
+  fits_there deep = along (Fits r) (λ d h. (suffices r d h).next) (first_fits r way.func way.position way.frame way.world way.at way.first deep)
 
-  reached_next : IsReached r (after_move r c)
-  reached_next = record {
-    main = reached.main;
-    is_main = reached.is_main;
-    fuel = reached.fuel;
-    input = reached.input;
-    answers = reached.answers;
-    count = suc reached.count;
-    is = last_move r reached.count (first_conf reached.main (first_frame 1) (start reached.fuel reached.input reached.answers)) ∙ ap (after_move r) reached.is;
+  knows_there : KnowsNext r.program c
+  knows_there = subst (KnowsNext r.program) way.is (way.knows way.count)
+
+  way_on : IsUnderWay r (after_move r c)
+  way_on = record {
+    func = way.func;
+    position = way.position;
+    at = way.at;
+    frame = way.frame;
+    first = way.first;
+    world = way.world;
+    count = suc way.count;
+    is = last_move r way.count (first_conf way.func way.frame way.world) ∙ ap (after_move r) way.is;
+    knows = way.knows;
   }
 
 -- ---- where it ends
@@ -148,13 +153,13 @@ module _ (rules : Rules) (goal : Step) (w0 : World) (a b c : Outside) (old new :
   fine : IsFine (setup_in rules old) running.conf
   fine = record {
     right = right_moved (setup_in rules old) running.conf goal to_goal running.right;
-    fits = reached_fits (setup_in rules old) running.conf running.reached running.deep;
-    own = reached_own (setup_in rules old) running.conf running.reached running.runnable.own;
-    knows = running.runnable.calls (setup_in rules old) running.conf refl running.reached;
+    fits = fits_there (setup_in rules old) running.conf running.under_way running.deep;
+    own = own_there (setup_in rules old) running.conf running.under_way running.own;
+    knows = knows_there (setup_in rules old) running.conf running.under_way;
   }
 
   pub can_move : CanMove rules old
-  can_move = record { room = running.room; has_own = running.runnable.own; conf = running.conf; shown = running.shown; fine = fine }
+  can_move = record { room = running.room; has_own = running.own; conf = running.conf; shown = running.shown; fine = fine }
 
   -- some task is left
   some_task : (t : Task) (ts : List Task) → tasks_left old ≡ t ∷ ts → (us : List m.Task) → running.conf.tasks ≡ us → (P : Type 0) → ((u : m.Task) (vs : List m.Task) → running.conf.tasks ≡ u ∷ vs → P) → P
@@ -197,16 +202,16 @@ module _ (rules : Rules) (goal : Step) (w0 : World) (a b c : Outside) (old new :
       let s = setup_in rules old in
       let next = after_move s running.conf in
       let same : setup_in rules new ≡ s = ap (setup_of rules) keeps.size.heap in
-      let reached = reached_next s running.conf running.reached in
-      let fall = moved_falls s running.conf u vs e (suffices s next (suffices s running.conf fine.fits).next).tasks (reached_small s next reached running.runnable.own) in
+      let way = way_on s running.conf running.under_way in
+      let fall = moved_falls s running.conf u vs e (suffices s next (suffices s running.conf fine.fits).next).tasks (small_there s next way running.own) in
       record {
         goes = record {
-          runnable = running.runnable;
+          own = running.own;
           deep = running.deep;
           room = room_kept (program_of rules.program.now) rules.depth old new running.room keeps;
           conf = next;
           shown = h.shown;
-          reached = subst (λ t. IsReached t next) (sym same) reached;
+          under_way = subst (λ t. IsUnderWay t next) (sym same) way;
           leads = subst (λ t. LeadsTo t next goal) (sym same) (leads_next u vs e);
           right = running.right;
           wrote = writing.wrote_both line_of w0.events (world_in running.conf.step).events (world_in next.step).events a b c running.wrote h.wrote;

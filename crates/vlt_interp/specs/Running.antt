@@ -1,11 +1,12 @@
 -- A run under way, and how it ends.
-use Rattle.std.specs.Prelude.{◌≡◌, ◌⊎◌, ◌≤◌, false, slice_get}
+use Rattle.std.specs.Prelude.{◌≡◌, ◌⊎◌, ◌≤◌, ℕ, false, Some, slice_get}
+use Rattle.vlt_core.specs.Core.{Func}
 use Rattle.vlt_core.specs.View.{program_of}
 use Rattle.vlt_numbers.specs.HostAnswers.{lists_of}
-use Rattle.vlt_meaning.specs.World.{World, Ran, is_fault}
+use Rattle.vlt_meaning.specs.World.{World, Frame, Ran, is_fault}
 use Rattle.vlt_meaning.specs.Step.{Step}
-use Rattle.vlt_meaning.specs.Run.{start, ran_of, main_run}
-use Rattle.vlt_meaning_laws.specs.Machine.Machine.{Conf}
+use Rattle.vlt_meaning.specs.Run.{Setup, start, ran_of, main_run}
+use Rattle.vlt_meaning_laws.specs.Machine.Machine.{Conf, moves, first_conf}
 use Rattle.vlt_meaning_laws.specs.Machine.Laws.{LeadsTo}
 use Rattle.vlt_steps.specs.Writing.{Outside}
 use Rattle.vlt_acts.specs.Hosts.Stops.{Wrote, IsCut, HasStopped}
@@ -14,8 +15,8 @@ use Rattle.vlt_interp.specs.declared.tasks.task.Rules.{Rules}
 use Rattle.vlt_interp.specs.declared.tasks.task.Run.{Run}
 use Rattle.vlt_interp.specs.Tasks.Shown.{ShowsConf}
 use Rattle.vlt_interp.specs.Tasks.Moves.{HasRoom, world_in}
-use Rattle.vlt_meaning_laws.specs.Machine.Reached.{IsReached}
-use Rattle.vlt_interp.specs.Reached.{IsRunnable}
+use Rattle.vlt_interp.specs.Calls.Known.{KnowsNext}
+use Rattle.vlt_interp.specs.Tasks.Own.{HasOwn}
 use Rattle.vlt_interp.specs.Going.{setup_in}
 
 -- the world that a run begins with, and the step that it comes to
@@ -25,14 +26,26 @@ start_of r = start r.fuel r.host.input.now (lists_of r.host.answers.now)
 abbrev pub goal_of : Rules → Run → Step
 goal_of rules r = main_run (setup_in rules r) r.fuel (slice_get (program_of rules.program.now).fns (program_of rules.program.now).main) (start_of r)
 
+-- it was come to from where a function of the program begins in a frame of depth 1, and all that is come to so knows its next call
+pub record IsUnderWay (r : Setup) (c : Conf) : Type 0 where
+  pub func : Func
+  pub position : ℕ
+  pub at : slice_get r.program.fns position ≡ Some func
+  pub frame : Frame
+  pub first : frame.depth ≡ 1
+  pub world : World
+  pub count : ℕ
+  pub is : moves r count (first_conf func frame world) ≡ c
+  pub knows : (n : ℕ) → KnowsNext r.program (moves r n (first_conf func frame world))
+
 -- the run is under way to that step, having begun in the world w
 pub record IsRunning (rules : Rules) (goal : Step) (w : World) (before after : Outside) (r : Run) : Type 0 where
-  pub runnable : IsRunnable (program_of rules.program.now)
+  pub own : HasOwn (program_of rules.program.now)
   pub deep : 1 ≤ rules.depth
   pub room : HasRoom (program_of rules.program.now) rules.depth r
   pub conf : Conf
   pub shown : ShowsConf r conf
-  pub reached : IsReached (setup_in rules r) conf
+  pub under_way : IsUnderWay (setup_in rules r) conf
   pub leads : LeadsTo (setup_in rules r) conf goal
   pub right : is_fault (ran_of goal).outcome ≡ false
   pub wrote : Wrote w (world_in conf.step) before after

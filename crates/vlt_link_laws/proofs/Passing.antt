@@ -9,6 +9,7 @@ use Rattle.vlt_syntax.specs.Tree.{Name, Case, Decl, Tree}
 use Rattle.vlt_syntax.specs.Lists.{Each}
 use Rattle.vlt_syntax.specs.Grammar.{IsDecl, language}
 use Rattle.vlt_syntax_laws.specs.Ticks.{HasTicks}
+use Rattle.vlt_syntax_laws.specs.Numbers.{IsNumbered}
 use Rattle.vlt_core.specs.Core.{Func}
 use Rattle.vlt_core.specs.Lookups.{cases_in}
 use Rattle.vlt_core.specs.Derives.{IsAccepted}
@@ -30,11 +31,13 @@ use Rattle.vlt_iface.specs.Clash.{clashing, decl_bound}
 use Rattle.vlt_iface.proofs.Raising.{texts}
 use Rattle.vlt_resolve_moves.specs.Joins.{Joins, befores, afters, moves_of}
 use Rattle.vlt_resolve_moves.specs.Sees.{Sees, IsFree}
-use Rattle.vlt_link_laws.specs.Hidden.{hidden_names, own_refused_in, own_refused}
+use Rattle.vlt_views.specs.Hidden.{hidden_names, own_refused_in, own_refused}
 use Rattle.vlt_link_laws.proofs.Parts.{IsFreeDecl, HostStays, IsSame, Covers, IsLinked, program_of}
 use Rattle.vlt_link_laws.proofs.Sides.{first_joins, second_joins, IsApart, IsView}
-use Rattle.vlt_link_laws.specs.Views.{view_elaborated}
-use Rattle.vlt_link_laws.specs.Link.{IsPassed, IsText, IsAcceptedText}
+use Rattle.vlt_views.specs.Views.{view_elaborated}
+use Rattle.vlt_verdict.specs.FitLaws.Fit.{IsTextTree}
+use Rattle.vlt_link_laws.specs.Link.{IsPassed, IsAcceptedText}
+use Rattle.vlt_link_laws.proofs.Joining.{joined_tokens}
 use Rattle.vlt_link_laws.proofs.Given.{each_map, each_both, each_none}
 use Rattle.vlt_link_laws.proofs.Viewing.{found_is, first_is_view, second_is_view, first_is_joined, first_fits, second_fits, views_cover}
 use Rattle.vlt_link_laws.proofs.Seen.{same_cases}
@@ -125,7 +128,7 @@ pub record Facts (ds : List Decl) (fs : List Func) (main : ℕ) : Type 0 where
   pub unbroken : (n : ℕ) (f : Func) → slice_get fs n ≡ Some f → first_broken 0 (function_rows (program_of ds fs main) (n, f)) ≡ None
   pub accepted : IsAccepted (program_of ds fs main)
 
-module _ (i m : Tree) (text_i : IsText i) (text_m : IsText m) (with_main : Bool) (passed : IsPassed i m with_main) where
+module _ (i m : Tree) (text_i : IsTextTree i) (text_m : IsTextTree m) (with_main : Bool) (passed : IsPassed i m with_main) where
   abbrev decls : List Decl
   decls = view_decls i.decls (map (raised RAISE) m.decls)
 
@@ -150,7 +153,7 @@ module _ (i m : Tree) (text_i : IsText i) (text_m : IsText m) (with_main : Bool)
 
 -- ---- both views
 
-module _ (i f g : Tree) (text_i : IsText i) (text_f : IsText f) (text_g : IsText g) (first : IsPassed i f false) (second : IsPassed i g true) (clear : clashing f g ≡ []) where
+module _ (i f g : Tree) (text_i : IsTextTree i) (text_f : IsTextTree f) (text_g : IsTextTree g) (first : IsPassed i f false) (second : IsPassed i g true) (clear : clashing f g ≡ []) where
   abbrev is : List Decl
   is = i.decls
 
@@ -418,10 +421,11 @@ module _ (i f g : Tree) (text_i : IsText i) (text_f : IsText f) (text_g : IsText
   joined_each R x y z = subst (Each R) (sym joined_decls) (in_view R is (ms ++ ns) x (each_join R ms ns y z))
 
   module _ (few : length (joined i f g).decls ≤ limit_of DECLARATIONS) where
-    joined_text : IsText (joined i f g)
+    joined_text : IsTextTree (joined i f g)
     joined_text = record {
       tree = (joined_each (IsDecl language) text_i.tree.0 (raised_are f.decls text_f.tree.0) (raised_are g.decls text_g.tree.0), few);
       ticks = joined_each HasTicks text_i.ticks (all_ticks f.decls text_f.ticks) (all_ticks g.decls text_g.ticks);
+      numbers = joined_tokens IsNumbered i f g text_i.numbers text_f.numbers text_g.numbers;
     }
 
     pub accepted_link : IsAcceptedText (joined i f g)

@@ -1,9 +1,9 @@
 //! Laws of joined modules: nothing goes in and nothing comes out.
-//! Read `specs/Link.antt` first, then `Views` and `Hidden`, which have the kinds and the program of a view.
-//! Used by: the commands for modules. What is accepted in both views is accepted in the joined program.
+//! Read `specs/Link.antt` first; `vlt_views/specs` has the kinds and the program of a view.
+//! Used by: verdicts on views, and the commands for modules. What is accepted in both views is accepted in the joined program.
 #![tactic(auto)]
 
-ghost use Rattle.vlt_link_laws.specs.Link.{AcceptedViewsLink, ViewProgramsAreKinded};
+ghost use Rattle.vlt_link_laws.specs.Link.{AcceptedViewsLink, TestedViewsLink, ToldViewsAreTrees, ViewProgramsAreJudgeable, ViewProgramsAreKinded};
 
 /// Let the view of an interface with one module pass all rules but the one on `main`, that with another module pass all rules,
 /// and both be accepted. Where no names clash and there are no more declarations than a tree may have, the joined tree is one of
@@ -15,4 +15,20 @@ pub fn accepted_views_link()
 /// The program of a view breaks none of the core's rules, but perhaps the one on `main` where that wasn't tested.
 pub fn view_programs_are_kinded()
     ensures { ViewProgramsAreKinded }
+{}
+
+/// It is one that the check may be asked of, whether the rule on `main` was tested or not.
+pub fn view_programs_are_judgeable()
+    ensures { ViewProgramsAreJudgeable }
+{}
+
+/// The view that is told of an interface with a module, both of the language, is a tree of the language.
+pub fn told_views_are_trees()
+    ensures { ToldViewsAreTrees }
+{}
+
+/// Where the views that are told of an interface with two modules pass all rules, the second with a main, and both are accepted,
+/// the joined tree that is told is accepted.
+pub fn tested_views_link()
+    ensures { TestedViewsLink }
 {}

@@ -4,6 +4,7 @@ use Rattle.vaultc_core.specs.Commands.{command_of}
 use Rattle.vaultc_core.proofs.Promises.{GoRight, promised, accepts}
 use Rattle.vaultc_core.proofs.Compiles.{Laws, compiled}
 use Rattle.vaultc_core.proofs.Verifies.{verified}
+use Rattle.vaultc_core.proofs.Hosts.{GoRightForHosts, hosted}
 use Rattle.vaultc_core.proofs.Told.{told, memory, complete, no_fault, usage, unread_told}
 use Rattle.vaultc_core.proofs.vaultc.Goals as goal
 
@@ -13,7 +14,7 @@ returns-clause-told g c = λ files.
 
 pub returns-clause-complete : goal.returns-clause-complete
 returns-clause-complete g c = λ files r.
-    complete (record { one = c.a_tree_has_one_verdict.ensures; trees = c.texts_have_text_trees.ensures; c_texts = c.texts_are_read_in_one_way.ensures; certificates = c.least_certificates_are_one.ensures; verified = c.texts_verify_in_one_way.ensures }) g.S.Store g.K.Sink c.args.store.now c.carry_out.new.store c.args.out.now c.carry_out.new.out (command_of (map string_bytes c.args.words.now)) c.carry_out.result files r c.carry_out.ensures.finishes
+    complete (record { one = c.a_tree_has_one_verdict.ensures; trees = c.texts_have_text_trees.ensures; c_texts = c.texts_are_read_in_one_way.ensures; certificates = c.least_certificates_are_one.ensures; verified = c.texts_verify_in_one_way.ensures; views = c.a_view_has_one_verdict.ensures }) g.S.Store g.K.Sink c.args.store.now c.carry_out.new.store c.args.out.now c.carry_out.new.out (command_of (map string_bytes c.args.words.now)) c.carry_out.result files r c.carry_out.ensures.finishes
 
 pub returns-clause-memory : goal.returns-clause-memory
 returns-clause-memory g c = λ files.
@@ -32,8 +33,8 @@ pub returns-clause-compiled : goal.returns-clause-compiled
 returns-clause-compiled g c =
     let laws : Laws = record {
       trees = c.texts_have_text_trees.ensures;
-      alike = c.texts_are_lowered_rightly.ensures.alike;
-      defined = c.texts_are_lowered_rightly.ensures.defined;
+      alike = c.trees_are_lowered_rightly.ensures.alike;
+      defined = c.trees_are_lowered_rightly.ensures.defined;
       again = c.accepted_texts_are_read_again.ensures;
       verify = c.emitted_files_verify.ensures;
     } in
@@ -45,9 +46,19 @@ returns-clause-verified g c =
     verified c.verified_files_keep_their_promise.ensures g.S.Store g.K.Sink c.args.store.now c.carry_out.new.store c.args.out.now c.carry_out.new.out
     (command_of (map string_bytes c.args.words.now)) c.carry_out.result c.carry_out.ensures.finishes
 
+pub returns-clause-hosted : goal.returns-clause-hosted
+returns-clause-hosted g c =
+    let right : GoRightForHosts = record {
+      never = c.hosts_of_accepted_programs_go_right.ensures.never;
+      keeps = c.hosts_of_accepted_programs_go_right.ensures.keeps;
+      leaves = c.hosts_of_accepted_programs_go_right.ensures.leaves;
+    } in
+    hosted c.programs_are_fit.ensures c.texts_have_text_trees.ensures right g.S.Store c.args.store.now c.carry_out.new.store g.K.Sink c.args.out.now c.carry_out.new.out
+    (command_of (map string_bytes c.args.words.now)) c.carry_out.result c.carry_out.ensures.finishes
+
 pub returns-clause-accepts : goal.returns-clause-accepts
 returns-clause-accepts g c =
-    accepts (record { one = c.a_tree_has_one_verdict.ensures; trees = c.texts_have_text_trees.ensures; c_texts = c.texts_are_read_in_one_way.ensures; certificates = c.least_certificates_are_one.ensures; verified = c.texts_verify_in_one_way.ensures }) g.S.Store g.K.Sink c.args.store.now c.carry_out.new.store c.args.out.now c.carry_out.new.out
+    accepts (record { one = c.a_tree_has_one_verdict.ensures; trees = c.texts_have_text_trees.ensures; c_texts = c.texts_are_read_in_one_way.ensures; certificates = c.least_certificates_are_one.ensures; verified = c.texts_verify_in_one_way.ensures; views = c.a_view_has_one_verdict.ensures }) g.S.Store g.K.Sink c.args.store.now c.carry_out.new.store c.args.out.now c.carry_out.new.out
     (command_of (map string_bytes c.args.words.now)) c.carry_out.result c.carry_out.ensures.finishes
 
 pub returns-clause-no_fault : goal.returns-clause-no_fault

@@ -2,13 +2,12 @@
 use Rattle.std.specs.Prelude.{ℕ, Bool, not, ◌&&◌, if◌then◌else◌, List, ◌++◌, Result, Ok, Err}
 use Rattle.std.specs.List.{list_any}
 use Rattle.vlt_syntax.specs.Tree.{Decl}
-use Rattle.vlt_core.specs.Core.{Program}
+use Rattle.vlt_core.specs.Core.{TypeDecl, Program}
 use Rattle.vlt_core.specs.declared.rules.TheConstants.{NO_MAIN}
 use Rattle.vlt_kinds_types.specs.declared.names.found.Refusal.{Refusal}
-use Rattle.vlt_kinds_types.specs.Names.Globals.{globals_of}
-use Rattle.vlt_kinds_types.specs.Names.Names.{is_main, names_again, decl_refused}
-use Rattle.vlt_kinds_types.specs.Names.Refusals.{of_each, least}
-use Rattle.vlt_kinds_types.specs.Files.{file_of}
+use Rattle.vlt_kinds_types.specs.Names.Names.{is_main, other_names_refused}
+use Rattle.vlt_kinds_types.specs.Names.Refusals.{least}
+use Rattle.vlt_kinds_types.specs.Files.{File, file_of}
 use Rattle.vlt_kinds_decls.specs.Decls.{types_refused}
 use Rattle.vlt_kinds_heads.specs.Phase.{heads_refused}
 use Rattle.vlt_kinds.specs.Kinds.{Kinds}
@@ -16,27 +15,24 @@ use Rattle.vlt_kinds.specs.Tables.{kinds_of, unless}
 use Rattle.vlt_resolve.specs.Elaboration.{Told, broken, elaborated}
 use Rattle.vlt_iface.specs.declared.places.TheConstants.{RAISE}
 use Rattle.vlt_iface.specs.View.{View}
-use Rattle.vlt_link_laws.specs.Hidden.{hidden_names, own_refused}
+use Rattle.vlt_views.specs.Hidden.{hidden_names, own_refused}
 
 -- ---- kinds of a view: all rules on names, types and heads but that on main, and the rule on what stays abstract
 
-abbrev pub view_names_refused : List Decl → List Refusal
-view_names_refused ds = names_again ds ++ of_each (decl_refused (globals_of ds)) ds
-
-abbrev pub view_heads_refused : (origins : List ℕ) → List Decl → List Refusal
-view_heads_refused os ds =
-    heads_refused (file_of ds) (kinds_of ds).types ds ++
-    own_refused (hidden_names os ds) (kinds_of ds).types (file_of ds) os ds
+abbrev pub view_heads_refused : File → List TypeDecl → (origins : List ℕ) → List Decl → List Refusal
+view_heads_refused file types os ds =
+    heads_refused file types ds ++ own_refused (hidden_names os ds) types file os ds
 
 -- In each phase the least refusal is told.
 abbrev pub view_heads_told : (origins : List ℕ) → List Decl → Result Kinds Refusal
-view_heads_told os ds = unless (least (view_heads_refused os ds)) (Ok (kinds_of ds))
+view_heads_told os ds =
+    unless (least (view_heads_refused (file_of ds) (kinds_of ds).types os ds)) (Ok (kinds_of ds))
 
 abbrev pub view_types_told : (origins : List ℕ) → List Decl → Result Kinds Refusal
 view_types_told os ds = unless (least (types_refused (file_of ds) ds)) (view_heads_told os ds)
 
 abbrev pub view_names_told : (origins : List ℕ) → List Decl → Result Kinds Refusal
-view_names_told os ds = unless (least (view_names_refused ds)) (view_types_told os ds)
+view_names_told os ds = unless (least (other_names_refused ds)) (view_types_told os ds)
 
 -- the table of a view, or the refusal
 abbrev pub view_kinds_told : View → Result Kinds Refusal

@@ -28,20 +28,20 @@ type_name (an_abstract n set) = n
 type_name (a_struct d) = d.name
 type_name (a_variant d) = d.name
 
-module _ (hidden : List (List ℕ)) (types : List TypeDecl) where
-  -- the type of this number is one of them
-  abbrev pub is_hidden : Option TypeDecl → Bool
-  is_hidden None = false
-  is_hidden (Some d) = list_any (bytes_eq (type_name d)) hidden
+-- the type has one of these names
+abbrev pub is_hidden : (hidden : List (List ℕ)) → Option TypeDecl → Bool
+is_hidden hidden None = false
+is_hidden hidden (Some d) = list_any (bytes_eq (type_name d)) hidden
 
+module _ (hidden : List (List ℕ)) (types : List TypeDecl) where
   abbrev pub hides : core.Ty → Bool
   hides core.int = false
   hides core.bool = false
-  hides (core.tracked k t args) = is_hidden (slice_get types t)
-  hides (core.owning states t args) = is_hidden (slice_get types t)
-  hides (core.guarded k t args) = is_hidden (slice_get types t)
-  hides (core.variant t args) = is_hidden (slice_get types t)
-  hides (core.owning_variant t args) = is_hidden (slice_get types t)
+  hides (core.tracked k t args) = is_hidden hidden (slice_get types t)
+  hides (core.owning states t args) = is_hidden hidden (slice_get types t)
+  hides (core.guarded k t args) = is_hidden hidden (slice_get types t)
+  hides (core.variant t args) = is_hidden hidden (slice_get types t)
+  hides (core.owning_variant t args) = is_hidden hidden (slice_get types t)
 
   abbrev pub case_hides : CaseDecl → Bool
   case_hides c = list_any hides c.payload
@@ -49,7 +49,7 @@ module _ (hidden : List (List ℕ)) (types : List TypeDecl) where
   -- the type of this name, or a payload of the variant of this name
   abbrev pub named_hides : File → Named → Bool
   named_hides file n =
-      is_hidden (then_with (type_named file n.name) (slice_get types)) ||
+      is_hidden hidden (then_with (type_named file n.name) (slice_get types)) ||
       list_any case_hides (cases_named file types n)
 
   abbrev pub ty_hides : File → Ty → Bool

@@ -1,0 +1,5 @@
+pub mod Started
+pub mod Callable
+pub mod Room
+pub mod HostMachine
+pub mod Called

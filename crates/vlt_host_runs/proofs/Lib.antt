@@ -1,0 +1,4 @@
+pub mod Written
+pub mod Names
+pub mod Progress
+pub mod HeldObjects
