@@ -39,6 +39,6 @@ runnable laws t p tree is =
     let states = x.well_formed.states in
     record {
       never = laws.never p kinded is.1 x.sizes states x.narrow;
-      own = laws.own p kinded (λ i f at. few_vars (length f.vars) (x.few.vars i f at)) x.blank x.well_formed.plain;
+      own = laws.own p kinded (λ i f at. few_vars (length f.vars) (x.few.vars i f at)) x.blank x.plain;
       calls = laws.calls p kinded is.1 x.sizes states x.narrow;
     }

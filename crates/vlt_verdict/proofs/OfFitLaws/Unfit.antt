@@ -9,12 +9,13 @@ use Rattle.vlt_base.proofs.Sets.{first_filled, first_fits, first_bits}
 use Rattle.vlt_core.specs.Core.{States, SetDecl, TypeDecl, KeyDecl, Entry, Func, Program}
 use Rattle.vlt_core.specs.Lookups.{set_in, count_in, state_count, all_states, every_state, key_type, states_of_type, states_or_all, before_set}
 use Rattle.vlt_core.specs.KindedHeads.{entry_broken}
+use Rattle.vlt_core.specs.Instances.{instance, IsOrigin}
 use Rattle.vlt_core.specs.HeldView.{IsSetOf}
 use Rattle.vlt_core.specs.View.{states_of, entry_of, func_of, program_of}
 use Rattle.vlt_core.specs.declared.program.Entry.{Entry as CodeEntry}
 use Rattle.vlt_core.specs.declared.program.Func.{Func as CodeFunc}
 use Rattle.vlt_core.specs.declared.program.Program.{Program as CodeProgram}
-use Rattle.vlt_core_laws.proofs.Formed.{formed_body}
+use Rattle.vlt_core_laws.proofs.Formed.{formed_bodies, of_instance, in_instance}
 use Rattle.vlt_core_laws.proofs.Headed.{head_empty, entries_fit, each_at}
 use Rattle.vlt_core_laws.proofs.Unbroken.{filled_not_empty, some_same}
 use Rattle.vlt_flow.specs.Unfit as walk
@@ -106,16 +107,23 @@ module _ (c : CodeProgram) (fit : IsFitProgram (program_of c)) where
   walk_fits n f there (walk.no_start s) = absurd (start_fits n f there s)
   walk_fits n f there (walk.many_statements q) = many_statements q
 
-  body_fits : (n : ℕ) (f : Func) → slice_get p.fns n ≡ Some f → f.external ≡ false → IsUnfitBody p f → IsStillUnfit p f
-  body_fits n f there body (no_walk u) = walk_fits n f there u
-  body_fits n f there body (no_fault never) =
-      let q = formed_body p n f fit.well_formed there body in
-      absurd (never (record { fit = q.fit; start = q.start }))
-  body_fits n f there body (unfit.no_number u) = no_number u
+  -- a function without a bound entry is its only instance
+  alone_fits : (n : ℕ) (f : Func) (o : Option ℕ) → slice_get p.fns n ≡ Some f → IsOrigin p f o → walk.IsUnfit p (instance p f o) → IsStillUnfit p (instance p f o)
+  alone_fits n f o there origin u =
+      of_instance p f o (IsStillUnfit p) (fit.plain n f there) origin
+      (walk_fits n f there (in_instance p f o (walk.IsUnfit p) (fit.plain n f there) origin u))
+
+  body_fits : (n : ℕ) (f : Func) → slice_get p.fns n ≡ Some f → f.external ≡ false → IsUnfitBody p f → HasUnfitBody p
+  body_fits n f there body (no_walk o is u) =
+      record { number = n; func = f; there = there; with_body = body; origin = o; is = is; unfit = alone_fits n f o there is u }
+  body_fits n f there body (no_fault never) = absurd (never (λ o is.
+      let q = formed_bodies p n f o fit.well_formed there body is in record { fit = q.fit; start = q.start }))
+  body_fits n f there body (unfit.no_number o is u) =
+      record { number = n; func = f; there = there; with_body = body; origin = o; is = is; unfit = no_number u }
 
   by_bodies : IsUnfit p → HasUnfitBody p
   by_bodies (many_functions q) = let few = fit.few.functions in absurd (omega (arith, q, few))
-  by_bodies (unfit_body n f there body u) = record { number = n; func = f; there = there; with_body = body; unfit = body_fits n f there body u }
+  by_bodies (unfit_body n f there body u) = body_fits n f there body u
 
 pub only_bodies : OnlyBodiesAreUnfit
 only_bodies c fit u = by_bodies c fit u

@@ -7,5 +7,5 @@ returns c = λ bytes p is accepted.
     let fit = c.programs_are_fit.ensures is.tree is.kinds p tree is.elaborated.told is.elaborated.gives in
     record {
       named = c.texts_have_text_names.ensures bytes p is;
-      annotated = not_refused p fit.well_formed accepted;
+      annotated = not_refused p fit.well_formed fit.plain accepted;
     }
