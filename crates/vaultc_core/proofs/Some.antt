@@ -98,7 +98,7 @@ module _ (laws : Laws) where
   compiled text t reads tree (refused e) is = sure (check_reply text (refused e), refl)
   compiled text t reads tree (faulty p f x) is = sure (check_reply text (faulty p f x), refl)
   compiled text t reads tree (accepted p) is =
-      so (laws.certificates text p (program_of_text text t p reads tree is.0) is.1) (λ n. (file_reply (c_file p n.0), (n.0, n.1, refl)))
+      so (laws.certificates p (program_of_text text t p reads tree is.0) is.1) (λ n. (file_reply (c_file p n.0), (n.0, n.1, refl)))
 
   loaded : (n : ℕ) (text : List ℕ) (t : Tree) → IsTextOf t text → IsTextTree t → (v : Verdict) → IsVerdictOf t v → Surely ((r : Reply) × IsReplyToLoaded n text v r)
   loaded n text t reads tree (refused e) is = sure (check_reply text (refused e), refl)
@@ -106,7 +106,7 @@ module _ (laws : Laws) where
   loaded n text t reads tree (accepted p) is =
       let x = fit_program laws.fit t p tree is.0 in
       let never = laws.never p x.kinded is.1 x.sizes x.well_formed.states x.narrow in
-      so (laws.certificates text p (program_of_text text t p reads tree is.0) is.1) (λ notes. some_loaded n text p notes.0 notes.1 never)
+      so (laws.certificates p (program_of_text text t p reads tree is.0) is.1) (λ notes. some_loaded n text p notes.0 notes.1 never)
 
   -- ---- texts
 

@@ -37,7 +37,7 @@ mod verify;
 mod words;
 mod write;
 
-use c_lower_accepted::texts_are_lowered_rightly;
+use c_lower_accepted::trees_are_lowered_rightly;
 use c_lower_printed::accepted_texts_are_read_again;
 use c_reader_laws::texts_are_read_in_one_way;
 use cert_least_laws::least_certificates_are_one;
@@ -124,7 +124,7 @@ pub fn vaultc<S: Store, K: Sink>(alloc: Global, words: &[String], store: &mut S,
     a_tree_has_one_verdict();
     texts_have_text_trees();
     texts_are_read_in_one_way();
-    texts_are_lowered_rightly();
+    trees_are_lowered_rightly();
     accepted_texts_are_read_again();
     least_certificates_are_one();
     emitted_files_verify();

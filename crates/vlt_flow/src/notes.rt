@@ -1,6 +1,6 @@
 //! The least annotation of a body as a list of notes: from a function to the maps at its loops and behind its choices.
 //! Read `vlt_core/specs/Least.antt` first, then `specs/Notes/Listed.antt`.
-//! Used by: certificates, which are to come.
+//! Used by: certificates.
 
 ghost use Rattle.std.specs.Prelude.{◌≡◌, ◌⊎◌, map, length, IfOk, None};
 ghost use Rattle.vlt_core.specs.View.{program_of, func_of};
@@ -18,8 +18,6 @@ ghost use Rattle.vlt_core.specs.Derives.{start_map};
 mod listing;
 mod passing;
 mod statuses;
-#[cfg(test)]
-mod tests;
 
 use crate::notes::listing::note_block;
 use crate::{Stop, least_maps, start_map_of};

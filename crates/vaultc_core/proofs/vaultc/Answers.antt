@@ -32,8 +32,8 @@ pub returns-clause-compiled : goal.returns-clause-compiled
 returns-clause-compiled g c =
     let laws : Laws = record {
       trees = c.texts_have_text_trees.ensures;
-      alike = c.texts_are_lowered_rightly.ensures.alike;
-      defined = c.texts_are_lowered_rightly.ensures.defined;
+      alike = c.trees_are_lowered_rightly.ensures.alike;
+      defined = c.trees_are_lowered_rightly.ensures.defined;
       again = c.accepted_texts_are_read_again.ensures;
       verify = c.emitted_files_verify.ensures;
     } in
