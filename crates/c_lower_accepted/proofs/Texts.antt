@@ -1,5 +1,5 @@
--- What texts give is all that is asked of an accepted program.
-use Rattle.std.proofs.Common.{◌≡◌, ℕ, List, Result, Ok, Err, refl, sym, subst}
+-- What trees of texts give is all that is asked of an accepted program.
+use Rattle.std.proofs.Common.{◌≡◌, Result, Ok, Err, refl, sym, subst}
 use Rattle.vlt_syntax.specs.Tree.{Tree}
 use Rattle.vlt_core.specs.Core.{Program}
 use Rattle.vlt_core.specs.Derives.{IsAccepted}
@@ -12,9 +12,8 @@ use Rattle.vlt_resolve_laws.specs.Elaborated.{IsElaborated}
 use Rattle.vlt_resolve_laws.proofs.Made.{told}
 use Rattle.vlt_resolve_laws.proofs.Whole.{Facts, facts_of}
 use Rattle.vlt_verdict.specs.FitLaws.Fit.{IsTextTree, ProgramsAreFit}
-use Rattle.vlt_verdict.specs.FitLaws.Texts.{TextsHaveTextTrees}
 use Rattle.c_lower_accepted.specs.Accepted.{IsAcceptedProgram}
-use Rattle.c_lower_accepted.specs.Texts.{IsAcceptedText, TextsRunAlike, TextsAreDefined}
+use Rattle.c_lower_accepted.specs.Texts.{IsAcceptedTree, TreesRunAlike, TreesAreDefined}
 use Rattle.c_lower_accepted.proofs.Accepted.{accepted_alike, accepted_defined}
 use Rattle.c_lower_accepted.proofs.FilledParts.{results_filled, parts_filled}
 use Rattle.c_lower_accepted.proofs.TextLimits.{cases_few, payloads_few, parameters_few}
@@ -51,12 +50,12 @@ module _ (fits : ProgramsAreFit) (t : Tree) (p : Program) (tree : IsTextTree t) 
   of_tree (Ok kinds) is_told gives = of_kinds kinds is_told gives
   of_tree (Err r) is_told gives = absurd (ok_or_err (broken r.rule r.at) p gives)
 
-module _ (fits : ProgramsAreFit) (trees : TextsHaveTextTrees) where
-  pub of_text : (bytes : List ℕ) (p : Program) → IsAcceptedText bytes p → IsAcceptedProgram p
-  of_text bytes p h = of_tree fits h.tree p (trees bytes h.lexemes h.tree h.tokens h.spells) h.accepted (kinds_told h.tree) refl h.elaborates
+module _ (fits : ProgramsAreFit) where
+  pub accepted_program : (t : Tree) (p : Program) → IsAcceptedTree t p → IsAcceptedProgram p
+  accepted_program t p h = of_tree fits t p h.text h.accepted (kinds_told t) refl h.elaborates
 
-  pub texts_alike : TextsRunAlike
-  texts_alike bytes p h = accepted_alike p (of_text bytes p h)
+  pub trees_alike : TreesRunAlike
+  trees_alike t p h = accepted_alike p (accepted_program t p h)
 
-  pub texts_defined : TextsAreDefined
-  texts_defined bytes p h = accepted_defined p (of_text bytes p h)
+  pub trees_defined : TreesAreDefined
+  trees_defined t p h = accepted_defined p (accepted_program t p h)

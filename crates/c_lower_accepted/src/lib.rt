@@ -1,12 +1,12 @@
-//! Laws on the C programs of accepted programs, and of those of texts: nothing goes in and nothing comes out.
+//! Laws on the C programs of accepted programs, and of those of trees: nothing goes in and nothing comes out.
 //! Read `specs/Accepted.antt` first, then `specs/Texts.antt`.
 //! Used by: the command `emit`, which promises them.
 #![tactic(auto)]
 
 ghost use Rattle.c_lower_accepted.specs.Accepted.{AcceptedRunAlike, AcceptedAreDefined};
-ghost use Rattle.c_lower_accepted.specs.Texts.{TextsRunAlike, TextsAreDefined};
+ghost use Rattle.c_lower_accepted.specs.Texts.{TreesRunAlike, TreesAreDefined};
 
-use vlt_verdict::{programs_are_fit, texts_have_text_trees};
+use vlt_verdict::programs_are_fit;
 
 /// A run of an accepted program and that of its C program have the same outcome, event text and fuel left, and the second
 /// breaks no rule of C.
@@ -15,11 +15,11 @@ pub fn accepted_programs_are_lowered_rightly()
     ensures defined { AcceptedAreDefined }
 {}
 
-/// So do a run of an accepted text's program and that of its C program, and the second breaks no rule of C.
-pub fn texts_are_lowered_rightly()
-    ensures alike { TextsRunAlike }
-    ensures defined { TextsAreDefined }
+/// So do a run of the program of an accepted tree, as texts have them, and that of its C program, and the second breaks no
+/// rule of C.
+pub fn trees_are_lowered_rightly()
+    ensures alike { TreesRunAlike }
+    ensures defined { TreesAreDefined }
 {
     programs_are_fit();
-    texts_have_text_trees();
 }

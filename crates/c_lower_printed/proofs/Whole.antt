@@ -11,12 +11,11 @@ use Rattle.vlt_resolve_laws.specs.Elaborated.{IsElaborated}
 use Rattle.vlt_resolve_laws.proofs.Made.{told}
 use Rattle.vlt_resolve_laws.proofs.Whole.{Facts, facts_of}
 use Rattle.vlt_verdict.specs.FitLaws.Fit.{ProgramsAreFit}
-use Rattle.vlt_verdict.specs.FitLaws.Texts.{TextsHaveTextTrees}
 use Rattle.c_reader_laws.specs.PrinterLaws.ReadAgain.{AreReadAgain}
 use Rattle.c_lower.specs.Lowering.{lowered}
 use Rattle.c_lower_texts.specs.Laws.{AreCPrograms}
 use Rattle.c_lower_accepted.proofs.Lowerable.{lowerable}
-use Rattle.c_lower_accepted.proofs.Texts.{of_text}
+use Rattle.c_lower_accepted.proofs.Texts.{accepted_program}
 use Rattle.cert_text_laws.proofs.CNames.{text_names}
 use Rattle.c_lower_printed.specs.Laws.{TextsArePrintable, AcceptedTextsAreReadAgain}
 use Rattle.c_lower_printed.proofs.Blocks.{blocks_shallow}
@@ -39,23 +38,21 @@ with_its_kinds t p e = by (kinds_told t) refl e
     by (Ok kinds) is gives = record { kinds = kinds; are_told = is; gives = gives }
     by (Err r) is gives = absurd (ok_or_err (broken r.rule r.at) p gives)
 
-module _ (fits : ProgramsAreFit) (trees : TextsHaveTextTrees) where
+module _ (fits : ProgramsAreFit) where
   pub texts_printable : TextsArePrintable
-  texts_printable bytes p h small =
-      let t = h.tree in
-      let tree = trees bytes h.lexemes t h.tokens h.spells in
+  texts_printable t p spelled h small =
       let k = with_its_kinds t p h.elaborates in
-      let e : IsElaborated t k.kinds p = record { tree = tree.tree; ticks = tree.ticks; told = k.are_told; gives = k.gives } in
+      let e : IsElaborated t k.kinds p = record { tree = h.text.tree; ticks = h.text.ticks; told = k.are_told; gives = k.gives } in
       let x = facts_of t k.kinds p e in
       let of_tree : Facts (kinds_of t.decls) p = subst (λ k. Facts k p) (sym (told t.decls k.kinds k.are_told).same) x in
       record {
         shallow = record { blocks = blocks_shallow k.kinds p x.functions; expressions = expressions_shallow t k.kinds p e };
-        fields = (fits t k.kinds p tree k.are_told k.gives).few.fields;
-        cases = (of_text fits trees bytes p h).limits.cases;
-        names = externals_named t k.kinds p e of_tree.functions (text_names bytes h.lexemes t h.tokens h.spells.1);
+        fields = (fits t k.kinds p h.text k.are_told k.gives).few.fields;
+        cases = (accepted_program fits t p h).limits.cases;
+        names = externals_named t k.kinds p e of_tree.functions (text_names t spelled);
         fits = small;
       }
 
   pub read_again : TextsArePrintable → AreCPrograms → AreReadAgain → AcceptedTextsAreReadAgain
-  read_again printable programs again bytes p h small =
-      again (lowered p) (programs p (lowerable p (of_text fits trees bytes p h)) (printable bytes p h small))
+  read_again printable programs again t p spelled h small =
+      again (lowered p) (programs p (lowerable p (accepted_program fits t p h)) (printable t p spelled h small))

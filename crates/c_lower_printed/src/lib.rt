@@ -7,14 +7,13 @@ ghost use Rattle.c_lower_printed.specs.Laws.{TextsArePrintable, AcceptedTextsAre
 
 use c_lower_texts::lowered_programs_are_c_programs;
 use c_reader_laws::canonical_texts_are_read_again;
-use vlt_verdict::{programs_are_fit, texts_have_text_trees};
+use vlt_verdict::programs_are_fit;
 
 /// The program of an accepted text has what its C text is written of, where that text is no longer than a C file may be.
 pub fn texts_are_printable()
     ensures { TextsArePrintable }
 {
     programs_are_fit();
-    texts_have_text_trees();
 }
 
 /// So the canonical text of its C program reads as that very program, alone and with a certificate after it.
@@ -22,7 +21,6 @@ pub fn accepted_texts_are_read_again()
     ensures { AcceptedTextsAreReadAgain }
 {
     programs_are_fit();
-    texts_have_text_trees();
     texts_are_printable();
     lowered_programs_are_c_programs();
     canonical_texts_are_read_again();

@@ -1,8 +1,6 @@
 -- The names of an elaborated program are those of its text, or none.
 use Rattle.std.proofs.Common.{◌≡◌, ℕ, Bool, true, false, if◌then◌else◌, List, [], ◌∷◌, map, Option, Ok, IsUtf8, refl, sym, ap, ◌∙◌, subst}
-use Rattle.vlt_lexer.specs.Reading.{Lexeme}
-use Rattle.vlt_lexer.specs.Text.{IsTokensOf}
-use Rattle.vlt_syntax.specs.Tokens.{Token, tokens_in}
+use Rattle.vlt_syntax.specs.Tokens.{Token}
 use Rattle.vlt_syntax.specs.Tree as s
 use Rattle.vlt_syntax.specs.Tree.{Name, HeaderKey, Field, Case, Parameter, Head, Block, Decl, Tree}
 use Rattle.vlt_syntax.specs.Lists.{Each, each_then}
@@ -25,6 +23,8 @@ use Rattle.vlt_resolve_laws.proofs.Results.{same_ok, then_ok, unless_ok}
 use Rattle.vlt_resolve_laws.proofs.Made.{told, all_walked}
 use Rattle.cert_rows.specs.Parts.{All}
 use Rattle.cert_decl_values.specs.Names.{HasTextSet, HasTextType, HasTextFunc, HasTextNames}
+use Rattle.cert_text_laws.specs.Texts.{IsInText}
+use Rattle.cert_text_laws.proofs.InTexts.{each_has}
 use Rattle.cert_json_names.proofs.Characters.{HasText, texts_have_text}
 use Rattle.cert_json_names.proofs.Uses.{IsNamed, names_named, all_more, IsKeyed, IsHeadNamed, head_named}
 use Rattle.cert_json_names.proofs.Scopes.{HasTextKey, HasTextVar, HasTextScope, begun_text, stmts_text}
@@ -158,10 +158,9 @@ module _ (kinds : Kinds) where
 
 -- ---- the program
 
-pub text_named : (bytes : List ℕ) (ls : List Lexeme) (t : Tree) (kinds : Kinds) (p : Program) → IsTokensOf bytes ls → tokens_in ls ≡ spelling t →
-    IsElaborated t kinds p → HasTextNames p
-text_named bytes ls t kinds p read spelled e =
-    let is : Each HasText (spelling t) = subst (Each HasText) spelled (texts_have_text bytes ls read) in
+pub text_named : (t : Tree) (kinds : Kinds) (p : Program) → Each IsInText (spelling t) → IsElaborated t kinds p → HasTextNames p
+text_named t kinds p spelled e =
+    let is = each_has HasText texts_have_text (spelling t) spelled in
     let w = all_walked t p (ap (elab.elaborated t) (told t.decls kinds e.told).same ∙ e.gives) in
     subst HasTextNames w.same (record {
       sets = sets_text t.decls [] is;

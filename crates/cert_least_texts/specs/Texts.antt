@@ -17,13 +17,13 @@ use Rattle.cert_format_laws.specs.Versions.{is_ordered}
 use Rattle.cert_write.specs.Notes.{notes_in}
 use Rattle.cert_fit_laws.specs.Annotation.{IsVerified}
 use Rattle.cert_least_laws.specs.LeastNotes.{IsLeastCertificate}
-use Rattle.cert_text_laws.specs.Texts.{IsProgramOfText}
+use Rattle.cert_text_laws.specs.Texts.{IsProgramOfTexts}
 use Rattle.cert_least_texts.specs.Annotated.{AreAnnotatedBy}
 
 -- It can't be that there is none.
 abbrev pub AcceptedTextsHaveOne : Type 0
 AcceptedTextsHaveOne =
-    (bytes : List ℕ) (p : Program) → IsProgramOfText bytes p → IsAccepted p →
+    (p : Program) → IsProgramOfTexts p → IsAccepted p →
     Surely ((all : List (List Note)) × IsLeastCertificate p all)
 
 -- Without its places the program has a certificate of version 1 with these notes. The program breaks
@@ -35,11 +35,11 @@ pub record IsCertified (p : Program) (all : List (List Note)) : Type 0 where
   pub verified : IsVerified (unplaced_program p) all
   pub same_c : lowered (unplaced_program p) ≡ lowered p
 
--- The least certificate of the program that the code makes of a text.
+-- The least certificate of the program that the code makes of texts.
 abbrev pub LeastCertificatesVerify : Type 0
 LeastCertificatesVerify =
-    (bytes : List ℕ) (p : CodeProgram) (all : List (List Note)) →
-    IsProgramOfText bytes (program_of p) → IsLeastCertificate (program_of p) all →
+    (p : CodeProgram) (all : List (List Note)) →
+    IsProgramOfTexts (program_of p) → IsLeastCertificate (program_of p) all →
     IsCertified (program_of p) all
 
 -- ---- what is read of it
@@ -53,17 +53,17 @@ pub record IsReadBack (p : Program) (all : List (List Note)) (text : List ℕ) :
 
 abbrev pub LeastCertificatesAreReadBack : Type 0
 LeastCertificatesAreReadBack =
-    (bytes : List ℕ) (p : CodeProgram) (all : List (List Note)) (body : List ℕ) →
-    IsProgramOfText bytes (program_of p) → IsLeastCertificate (program_of p) all →
+    (p : CodeProgram) (all : List (List Note)) (body : List ℕ) →
+    IsProgramOfTexts (program_of p) → IsLeastCertificate (program_of p) all →
     (let q = unplaced_program (program_of p) in
     IsWrittenText body (list (program_data (is_ordered q) q all))) →
     IsReadBack (program_of p) all (marked body)
 
 -- ---- annotations of the code
 
--- The notes that are written of them are the least certificate of the text's program.
+-- The notes that are written of them are the least certificate of the program of texts.
 abbrev pub AnnotationsAreLeast : Type 0
 AnnotationsAreLeast =
-    (bytes : List ℕ) (p : CodeProgram) (all : List (List Annotation)) →
-    IsProgramOfText bytes (program_of p) → AreAnnotatedBy p p.fns all →
+    (p : CodeProgram) (all : List (List Annotation)) →
+    IsProgramOfTexts (program_of p) → AreAnnotatedBy p p.fns all →
     IsLeastCertificate (program_of p) (notes_in (program_of p).fns all)

@@ -12,10 +12,8 @@ use Rattle.vlt_lexer.specs.Characters.{is_name_start, is_name_more, EachIs, IsNa
 use Rattle.vlt_lexer.specs.declared.token.TokenKind.{TokenKind}
 use Rattle.vlt_lexer.specs.declared.token.TokenKind.TheVariants as kind
 use Rattle.vlt_lexer.specs.Lexemes.{IsOf}
-use Rattle.vlt_lexer.specs.Reading.{Lexeme}
-use Rattle.vlt_lexer.specs.Text.{IsTokensOf}
 use Rattle.vlt_syntax.specs.Tokens as t
-use Rattle.vlt_syntax.specs.Tokens.{Token, token_from, tokens_in}
+use Rattle.vlt_syntax.specs.Tokens.{Token, token_from}
 use Rattle.vlt_syntax.specs.Tree as s
 use Rattle.vlt_syntax.specs.Tree.{Decl, Tree}
 use Rattle.vlt_syntax.specs.Lists.{Each, each_then}
@@ -23,6 +21,8 @@ use Rattle.vlt_syntax.specs.Spelling.{decl_then, spelling}
 use Rattle.vlt_syntax_laws.proofs.TextTokens.{each_token}
 use Rattle.vlt_syntax_laws.proofs.Tokenwise.{after_result_type, after_decl}
 use Rattle.cert_rows.specs.Rows.{is_letter, is_c_character, is_c_name}
+use Rattle.cert_text_laws.specs.Texts.{IsInText}
+use Rattle.cert_text_laws.proofs.InTexts.{each_has}
 
 ascii_bytes : (bs : List ℕ) → list_all is_ascii bs ≡ true → IsAscii bs
 ascii_bytes [] e i = omega arith
@@ -109,5 +109,5 @@ in_externs : (ds : List Decl) (rest : List Token) → Each HasCName (each_then d
 in_externs [] rest h = tt
 in_externs (d ∷ ds) rest h = (in_extern d _ h, in_externs ds rest (after_decl HasCName d _ h))
 
-pub text_names : (bytes : List ℕ) (ls : List Lexeme) (t : Tree) → IsTokensOf bytes ls → tokens_in ls ≡ spelling t → Each IsNamed t.decls
-text_names bytes ls t is e = in_externs t.decls [] (subst (Each HasCName) e (each_token HasCName named bytes ls is))
+pub text_names : (t : Tree) → Each IsInText (spelling t) → Each IsNamed t.decls
+text_names t is = in_externs t.decls [] (each_has HasCName (each_token HasCName named) (spelling t) is)

@@ -1,18 +1,15 @@
 -- Lists of statements are no longer than the tokens that spell them.
-use Rattle.std.proofs.Common.{◌≤◌, ◌+◌, ℕ, suc, List, [], ◌∷◌, length, sym, subst, arith}
-use Rattle.std.proofs.lemmas.List.{length-map}
+use Rattle.std.proofs.Common.{◌≤◌, ◌+◌, ℕ, suc, List, [], ◌∷◌, length, arith}
 use Rattle.vlt_base.specs.Limits.{limit_of}
-use Rattle.vlt_lexer.specs.Reading.{Lexeme}
 use Rattle.vlt_lexer.specs.declared.token.Mark.TheVariants as mark
-use Rattle.vlt_syntax.specs.Tokens.{Token, sign, token_from, tokens_in}
-use Rattle.std.proofs.Common.{◌≡◌}
-use Rattle.vlt_syntax.specs.Spelling.{spelling}
+use Rattle.vlt_syntax.specs.Tokens.{Token, sign}
 use Rattle.vlt_syntax.specs.Tree as s
-use Rattle.vlt_syntax.specs.Tree.{Stmt, Block, If, Else, Stmts, Arms, Decl, Tree}
-use Rattle.vlt_syntax.specs.Lists.{Each, each_then}
+use Rattle.vlt_syntax.specs.Tree.{Stmt, Block, If, Else, Stmts, Arms, Decl}
+use Rattle.vlt_syntax.specs.Lists.{Each}
 use Rattle.vlt_syntax.specs.Spelling.{name_then, stmt_then, block_then, if_then, else_then, stmts_then, arms_then, decl_then}
+use Rattle.cert_text_laws.specs.Texts.{IsShort}
 use Rattle.cert_text_laws.proofs.Few.{count_of, StmtIsFew, BlockIsFew, IfIsFew, ElseIsFew, StmtsAreFew, ArmsAreFew, DeclIsFew}
-use Rattle.cert_text_laws.proofs.Shorter.{over, one, after_enclosed, after_name, after_condition, past_stmt, past_block, after_head, after_decl}
+use Rattle.cert_text_laws.proofs.Shorter.{over, one, after_enclosed, after_name, after_condition, past_stmt, past_block, after_head}
 
 counted : (ss : Stmts) (rest : List Token) → count_of ss + length rest ≤ length (stmts_then ss rest)
 counted s.done rest = none (length rest)
@@ -86,10 +83,6 @@ module _ (most : ℕ) where
   in_decl (s.extern x at) rest h = tt
   in_decl (s.function x b at) rest h = in_block b rest (less (after_head x _) h)
 
-  in_decls : (ds : List Decl) (rest : List Token) → length (each_then decl_then ds rest) ≤ most → Each (DeclIsFew most) ds
-  in_decls [] rest h = tt
-  in_decls (d ∷ ds) rest h = (in_decl d _ h, in_decls ds rest (less (after_decl d _) h))
-
-pub few_statements : (ls : List Lexeme) (t : Tree) → length ls ≤ limit_of 3 → tokens_in ls ≡ spelling t → Each (DeclIsFew (limit_of 3)) t.decls
-few_statements ls t few e =
-    in_decls (limit_of 3) t.decls [] (subst (λ ts. length ts ≤ limit_of 3) e (subst (λ n. n ≤ limit_of 3) (sym (length-map ls (λ (l : Lexeme). token_from l.kind l.text))) few))
+pub few_statements : (ds : List Decl) → Each IsShort ds → Each (DeclIsFew (limit_of 3)) ds
+few_statements [] h = tt
+few_statements (d ∷ ds) h = (in_decl (limit_of 3) d h.0.0 h.0.1, few_statements ds h.1)

@@ -1,6 +1,7 @@
-pub mod CNames
 pub mod Few
 pub mod Shorter
+pub mod InTexts
+pub mod CNames
 pub mod Counting
 pub mod Shallow
 pub mod Simple

@@ -1,11 +1,13 @@
 -- Accepted programs of texts have certificates.
-use Rattle.std.specs.Prelude.{◌≡◌, ◌≤◌, ℕ, false, List, map, length, Option}
+use Rattle.std.specs.Prelude.{◌≡◌, ◌≤◌, ◌⊎◌, ℕ, false, List, [], ◌∷◌, map, length, Option}
 use Rattle.vlt_base.specs.Limits.{limit_of}
 use Rattle.vlt_lexer.specs.Reading.{Lexeme}
 use Rattle.vlt_lexer.specs.Text.{IsTokensOf}
-use Rattle.vlt_syntax.specs.Tokens.{tokens_in}
-use Rattle.vlt_syntax.specs.Tree.{Tree}
-use Rattle.vlt_syntax.specs.Spelling.{spelling}
+use Rattle.vlt_syntax.specs.Tokens.{Token, tokens_in}
+use Rattle.vlt_syntax.specs.Tree.{Decl, Tree}
+use Rattle.vlt_syntax.specs.Lists.{Each}
+use Rattle.vlt_syntax.specs.Spelling.{decl_then, spelling}
+use Rattle.vlt_syntax_laws.specs.Numbers.{HasNumbers}
 use Rattle.vlt_core.specs.Core.{Program}
 use Rattle.vlt_core.specs.View.{program_of}
 use Rattle.vlt_core.specs.declared.notes.Note.{Note as CodeNote}
@@ -21,35 +23,48 @@ use Rattle.cert_format_laws.specs.Versions.{is_ordered}
 use Rattle.cert_fit_laws.specs.Limits.{IsLimitedProgram}
 use Rattle.cert_text_laws.specs.Annotations.{listed_notes, AreAnnotated}
 
--- The program is what elaboration gives of the tree that the tokens of the text spell, whose number
--- is within its limit.
-pub record IsProgramOfText (bytes : List ℕ) (p : Program) : Type 0 where
-  pub tokens : List Lexeme
+-- one of these tokens
+abbrev pub IsAmong : Token → List Token → Type 0
+IsAmong x [] = ⊥
+IsAmong x (y ∷ ys) = (x ≡ y) ⊎ IsAmong x ys
+
+-- a token of some text
+pub record IsInText (x : Token) : Type 0 where
+  pub bytes : List ℕ
+  pub lexemes : List Lexeme
+  pub read : IsTokensOf bytes lexemes
+  pub one : IsAmong x (tokens_in lexemes)
+
+-- with some tokens after it the declaration has no more than a text may have
+abbrev pub IsShort : Decl → Type 0
+IsShort d = (rest : List Token) × (length (decl_then d rest) ≤ limit_of 3)
+
+-- The program is what elaboration gives of a tree, which one text spells or several: each token of
+-- the tree is one of a text, and no declaration has more of them than a text may have.
+pub record IsProgramOfTexts (p : Program) : Type 0 where
   pub tree : Tree
   pub kinds : Kinds
-  pub read : IsTokensOf bytes tokens
-  pub few : length tokens ≤ limit_of 3
-  pub spelled : tokens_in tokens ≡ spelling tree
+  pub spelled : Each IsInText (spelling tree)
+  pub short : Each IsShort tree.decls
+  pub numbers : HasNumbers tree
   pub elaborated : IsElaborated tree kinds p
 
--- the program of a text keeps the limits of certificates of version 1
+-- the program of texts keeps the limits of certificates of version 1
 abbrev pub TextsAreLimited : Type 0
-TextsAreLimited =
-    (bytes : List ℕ) (p : Program) → IsProgramOfText bytes p → IsLimitedProgram p
+TextsAreLimited = (p : Program) → IsProgramOfTexts p → IsLimitedProgram p
 
 -- so version 1 is the one that is written of it
 abbrev pub TextsAreUnordered : Type 0
 TextsAreUnordered =
-    (bytes : List ℕ) (p : Program) → IsProgramOfText bytes p →
-    is_ordered (unplaced_program p) ≡ false
+    (p : Program) → IsProgramOfTexts p → is_ordered (unplaced_program p) ≡ false
 
--- The program that the code makes of a text, each of whose bodies has its least annotation, has a
+-- The program that the code makes of texts, each of whose bodies has its least annotation, has a
 -- certificate of version 1, without its places, and with the notes of the annotations. An annotation
 -- holds in each body, so the program is accepted.
 abbrev pub AcceptedProgramsHaveCertificates : Type 0
 AcceptedProgramsHaveCertificates =
-    (bytes : List ℕ) (p : CodeProgram) (all : List (Option (List CodeNote))) →
-    IsProgramOfText bytes (program_of p) → AreAnnotated p p.fns all →
+    (p : CodeProgram) (all : List (Option (List CodeNote))) →
+    IsProgramOfTexts (program_of p) → AreAnnotated p p.fns all →
     FitsCertificate false (unplaced_program (program_of p)) (map listed_notes all)
 
 -- the text that is written of a program without its places, and of these notes
@@ -61,6 +76,6 @@ IsWrittenOf body p all =
 -- What is written of it is, between the marks, its certificate.
 abbrev pub AcceptedProgramsHaveTexts : Type 0
 AcceptedProgramsHaveTexts =
-    (bytes : List ℕ) (p : CodeProgram) (all : List (Option (List CodeNote))) (body : List ℕ) →
-    IsProgramOfText bytes (program_of p) → AreAnnotated p p.fns all → IsWrittenOf body p all →
+    (p : CodeProgram) (all : List (Option (List CodeNote))) (body : List ℕ) →
+    IsProgramOfTexts (program_of p) → AreAnnotated p p.fns all → IsWrittenOf body p all →
     IsCertificateOf (marked body) (unplaced_program (program_of p)) (map listed_notes all)

@@ -17,7 +17,7 @@ use Rattle.cert_format.specs.Certificate.{IsCertificateOf}
 use Rattle.cert_fit_laws.specs.Formed.{IsFormed}
 use Rattle.cert_fit_laws.specs.Annotation.{IsLocalCertificate, IsVerified}
 use Rattle.cert_text_laws.specs.Annotations.{listed_notes, AreHeld, AreAnnotated}
-use Rattle.cert_text_laws.specs.Texts.{IsProgramOfText, IsWrittenOf}
+use Rattle.cert_text_laws.specs.Texts.{IsProgramOfTexts, IsWrittenOf}
 
 -- Notes of the code that hold in the bodies of a program without bound entries are local as notes of
 -- a certificate.
@@ -58,6 +58,6 @@ pub record IsReadBack (p : CodeProgram) (all : List (Option (List CodeNote)))
 
 abbrev pub WrittenCertificatesVerify : Type 0
 WrittenCertificatesVerify =
-    (bytes : List ℕ) (p : CodeProgram) (all : List (Option (List CodeNote))) (body : List ℕ) →
-    IsProgramOfText bytes (program_of p) → AreAnnotated p p.fns all → IsWrittenOf body p all →
+    (p : CodeProgram) (all : List (Option (List CodeNote))) (body : List ℕ) →
+    IsProgramOfTexts (program_of p) → AreAnnotated p p.fns all → IsWrittenOf body p all →
     IsReadBack p all (marked body)

@@ -9,13 +9,11 @@ use vlt_resolve_laws::{
     elaborated_programs_have_few_keys, elaborated_programs_have_few_variables,
     elaborated_programs_have_proper_bodies,
 };
-use vlt_syntax_laws::texts_have_numbers;
 
-/// The program of a text keeps the limits of certificates.
+/// The program of texts keeps the limits of certificates.
 pub fn texts_are_limited()
     ensures { TextsAreLimited }
 {
-    texts_have_numbers();
     elaborated_programs_have_proper_bodies();
     elaborated_programs_have_few_keys();
     elaborated_programs_have_few_variables();

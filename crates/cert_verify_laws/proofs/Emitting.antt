@@ -6,12 +6,13 @@ use Rattle.serde_json.specs.Written.{compact_text}
 use Rattle.vlt_core.specs.Core.{Func, Program}
 use Rattle.vlt_core.specs.Derives.{IsAccepted}
 use Rattle.vlt_resolve.specs.Programs.{with_kinds}
+use Rattle.vlt_verdict.specs.FitLaws.Fit.{IsTextTree}
 use Rattle.c_syntax.specs.Canonical.{canonical_text}
 use Rattle.c_syntax.specs.Reading.{IsCProgramOf}
 use Rattle.c_syntax.specs.Text.{mark}
 use Rattle.c_reader_laws.specs.PrinterLaws.ReadAgain.{ReadsAs}
 use Rattle.c_lower.specs.Lowering.{lowered}
-use Rattle.c_lower_accepted.specs.Texts.{IsAcceptedText}
+use Rattle.c_lower_accepted.specs.Texts.{IsAcceptedTree}
 use Rattle.cert_rows.specs.Parts.{list}
 use Rattle.cert_format.specs.Places.{unplaced_func, unplaced_program}
 use Rattle.cert_format.specs.Text.{marked, closing}
@@ -19,7 +20,7 @@ use Rattle.cert_format.specs.Notes.{Note}
 use Rattle.cert_format.specs.Certificate.{program_data, FitsCertificate, IsCertificateOf}
 use Rattle.cert_format_laws.specs.Texts.{IsWrittenText, CertificatesAreWritten}
 use Rattle.cert_format_laws.specs.Versions.{is_ordered}
-use Rattle.cert_text_laws.specs.Texts.{IsProgramOfText}
+use Rattle.cert_text_laws.specs.Texts.{IsProgramOfTexts}
 use Rattle.cert_least_texts.specs.Texts as least
 use Rattle.cert_emit.specs.Certificates.{certificate_of}
 use Rattle.cert_verify.specs.Verified.{IsVerifiedFile}
@@ -38,12 +39,12 @@ same_count (f ∷ fs) = by (not f.external) (same_count fs)
 
 -- ---- texts
 
-pub accepted_text : (bytes : List ℕ) (p : Program) → IsProgramOfText bytes p → IsAccepted p → IsAcceptedText bytes p
-accepted_text bytes p is accepted = record {
-  lexemes = is.tokens;
-  tree = is.tree;
-  tokens = is.read;
-  spells = (is.elaborated.tree, is.spelled);
+pub text_tree : (p : Program) (is : IsProgramOfTexts p) → IsTextTree is.tree
+text_tree p is = record { tree = is.elaborated.tree; ticks = is.elaborated.ticks; numbers = is.numbers }
+
+pub accepted_tree : (p : Program) (is : IsProgramOfTexts p) → IsAccepted p → IsAcceptedTree is.tree p
+accepted_tree p is accepted = record {
+  text = text_tree p is;
   elaborates = ap (with_kinds is.tree) is.elaborated.told ∙ is.elaborated.gives;
   accepted = accepted;
 }

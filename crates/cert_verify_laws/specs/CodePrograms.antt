@@ -5,7 +5,7 @@ use Rattle.vlt_core.specs.View.{program_of}
 use Rattle.vlt_core.specs.declared.program.Program.{Program as CodeProgram}
 use Rattle.cert_format.specs.Notes.{Note}
 use Rattle.cert_format.specs.Certificate.{FitsCertificate}
-use Rattle.cert_text_laws.specs.Texts.{IsProgramOfText}
+use Rattle.cert_text_laws.specs.Texts.{IsProgramOfTexts}
 
 -- a program of the code stands for it
 pub record IsOfCode (p : Program) : Type 0 where
@@ -20,4 +20,4 @@ CertificatesAreOfCode =
 
 -- and with the program of each text
 abbrev pub TextsAreOfCode : Type 0
-TextsAreOfCode = (bytes : List ℕ) (p : Program) → IsProgramOfText bytes p → IsOfCode p
+TextsAreOfCode = (p : Program) → IsProgramOfTexts p → IsOfCode p

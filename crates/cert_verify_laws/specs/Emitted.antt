@@ -8,7 +8,7 @@ use Rattle.c_lower.specs.Lowering.{lowered}
 use Rattle.cert_format.specs.Places.{unplaced_program}
 use Rattle.cert_format.specs.Notes.{Note}
 use Rattle.cert_least_laws.specs.LeastNotes.{IsLeastCertificate}
-use Rattle.cert_text_laws.specs.Texts.{IsProgramOfText}
+use Rattle.cert_text_laws.specs.Texts.{IsProgramOfTexts}
 use Rattle.cert_least_texts.specs.Texts.{IsCertified}
 use Rattle.cert_emit.specs.Certificates.{certificate_of}
 use Rattle.cert_verify.specs.Verified.{IsVerifiedFile, body_count}
@@ -16,14 +16,14 @@ use Rattle.cert_verify.specs.Verified.{IsVerifiedFile, body_count}
 -- The least certificate of each text's program fits the format and verifies.
 abbrev pub LeastCertificatesFit : Type 0
 LeastCertificatesFit =
-    (bytes : List ℕ) (p : Program) (all : List (List Note)) → IsProgramOfText bytes p →
+    (p : Program) (all : List (List Note)) → IsProgramOfTexts p →
     IsLeastCertificate p all → IsCertified p all
 
 -- The C text of an accepted text's program, which is no longer than a C file may be (limit 2), with
 -- its least certificate after it, verifies with the program without its places.
 abbrev pub EmittedFilesVerify : Type 0
 EmittedFilesVerify =
-    (bytes : List ℕ) (p : Program) (all : List (List Note)) → IsProgramOfText bytes p →
+    (p : Program) (all : List (List Note)) → IsProgramOfTexts p →
     IsAccepted p → IsLeastCertificate p all → length (canonical_text (lowered p)) ≤ limit_of 2 →
     IsVerifiedFile (canonical_text (lowered p) ++ certificate_of p all) (unplaced_program p) all
 

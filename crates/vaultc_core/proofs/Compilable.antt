@@ -8,7 +8,7 @@ use Rattle.vlt_verdict.specs.Verdicts.{accepted, IsVerdictOf}
 use Rattle.vlt_verdict.proofs.Single.{fit_program}
 use Rattle.vaultc_core.specs.Texts.{IsTextOf}
 use Rattle.vaultc_core.specs.Compilable.{IsCompilable}
-use Rattle.vaultc_core.proofs.Compiles.{few_cases}
+use Rattle.vaultc_core.proofs.Compiles.{accepted_tree, few_cases}
 use Rattle.vaultc_core.proofs.OfTexts.{program_of_text}
 use Rattle.vaultc_core.proofs.Read.{text_tree}
 
@@ -16,9 +16,8 @@ pub compilable : ProgramsAreFit → TextsHaveTextTrees → (bytes : List ℕ) (t
 compilable fit trees bytes t p reads is =
     let tree = text_tree trees bytes t reads in
     record {
-      bytes = bytes;
-      text = program_of_text bytes t p reads tree is.0;
+      texts = program_of_text bytes t p reads tree is.0;
       accepted = is.1;
       well_formed = (fit_program fit t p tree is.0).well_formed;
-      few_cases = few_cases fit trees bytes t p reads is;
+      few_cases = few_cases fit t p (accepted_tree t p tree is);
     }

@@ -18,7 +18,7 @@ use Rattle.vlt_io.specs.declared.store.Store.{Ghosts}
 use Rattle.vlt_resolve.specs.Elaboration.{broken, exceeded}
 use Rattle.vlt_resolve.specs.Programs.{program_told}
 use Rattle.vlt_syntax.specs.Tree.{Tree}
-use Rattle.vlt_verdict.specs.FitLaws.Fit.{ProgramsAreFit}
+use Rattle.vlt_verdict.specs.FitLaws.Fit.{IsTextTree, ProgramsAreFit}
 use Rattle.vlt_verdict.specs.FitLaws.Texts.{TextsHaveTextTrees}
 use Rattle.vlt_verdict.specs.Verdicts.{Verdict, refused, faulty, accepted, IsVerdictOf}
 use Rattle.c_syntax.specs.C as c
@@ -28,8 +28,8 @@ use Rattle.c_lower_glue.specs.ManyCases.{has_many_cases, gives_many_cases}
 use Rattle.c_lower_program.specs.Refusals.{Refuses}
 use Rattle.c_lower_program.specs.declared.error.LowerError.{LowerError}
 use Rattle.c_lower_program.specs.declared.error.LowerError.TheVariants as error
-use Rattle.c_lower_accepted.specs.Texts.{IsAcceptedText, TextsRunAlike, TextsAreDefined}
-use Rattle.c_lower_accepted.proofs.Texts as accepted_texts
+use Rattle.c_lower_accepted.specs.Texts.{IsAcceptedTree, TreesRunAlike, TreesAreDefined}
+use Rattle.c_lower_accepted.proofs.Texts.{accepted_program}
 use Rattle.c_reader_laws.specs.PrinterLaws.ReadAgain.{ReadsAs}
 use Rattle.std.proofs.lemmas.List.{append_assoc}
 use Rattle.c_syntax.specs.Text.{mark}
@@ -43,6 +43,7 @@ use Rattle.cert_format.specs.Notes.{Note}
 use Rattle.cert_format.specs.Certificate.{program_data}
 use Rattle.cert_format_laws.specs.Versions.{is_ordered}
 use Rattle.cert_verify_laws.specs.Emitted.{EmittedFilesVerify}
+use Rattle.cert_text_laws.proofs.InTexts.{spelled_in}
 use Rattle.vaultc_core.proofs.OfTexts.{program_of_text}
 use Rattle.vlt_verdict.proofs.Single.{fit_program}
 use Rattle.cert_emit.specs.Causes.{HasRefused}
@@ -63,16 +64,9 @@ use Rattle.vaultc_core.proofs.Promises.{not_zero, status_of, no_refusal}
 use Rattle.vaultc_core.proofs.Read.{text_tree}
 use Rattle.vaultc_core.proofs.Reading.{one_read, read_there}
 
--- the bytes are a text of an accepted program
-accepted_text : (bytes : List ℕ) (t : Tree) (p : Program) → IsTextOf t bytes → IsVerdictOf t (accepted p) → IsAcceptedText bytes p
-accepted_text bytes t p reads is = record {
-  lexemes = reads.0;
-  tree = t;
-  tokens = reads.1.tokens;
-  spells = (reads.2.0, reads.2.1);
-  elaborates = is.0;
-  accepted = is.1;
-}
+-- the program is that of an accepted tree
+pub accepted_tree : (t : Tree) (p : Program) → IsTextTree t → IsVerdictOf t (accepted p) → IsAcceptedTree t p
+accepted_tree t p tree is = record { text = tree; elaborates = is.0; accepted = is.1 }
 
 -- ---- variants of texts have few cases
 
@@ -98,8 +92,8 @@ none_gives p few (f ∷ fs) = ap (λ b. (f.external && b) || list_any (λ f. f.e
     neither false e = e
 
 -- variants of accepted texts have no more cases than the grammar lets them have
-pub few_cases : ProgramsAreFit → TextsHaveTextTrees → (bytes : List ℕ) (t : Tree) (p : Program) → IsTextOf t bytes → IsVerdictOf t (accepted p) → gives_many_cases p ≡ false
-few_cases law trees bytes t p reads is = none_gives p (accepted_texts.of_text law trees bytes p (accepted_text bytes t p reads is)).limits.cases p.fns
+pub few_cases : ProgramsAreFit → (t : Tree) (p : Program) → IsAcceptedTree t p → gives_many_cases p ≡ false
+few_cases law t p is = none_gives p (accepted_program law t p is).limits.cases p.fns
 
 -- ---- replies
 
@@ -169,8 +163,8 @@ text_there false text of is e = (ap (λ r. r.text) e, not_less (limit_of C_BYTES
 -- what is known of programs, of the C programs of texts, and of certificates
 pub record Laws : Type 0 where
   pub trees : TextsHaveTextTrees
-  pub alike : TextsRunAlike
-  pub defined : TextsAreDefined
+  pub alike : TreesRunAlike
+  pub defined : TreesAreDefined
   pub again : AcceptedTextsAreReadAgain
   pub verify : EmittedFilesVerify
 
@@ -190,7 +184,8 @@ module _ (laws : Laws) where
   of_verdict store name bytes text t (refused (exceeded n)) old new read short reads is e grew = absurd (not_zero 4 (status_of text _ e))
   of_verdict store name bytes text t (faulty p f x) old new read short reads is e grew = absurd (not_zero 7 (status_of text _ e))
   of_verdict store name bytes text t (accepted p) old new read short reads is (notes, least, e) grew =
-      let follows = accepted_text bytes t p reads is in
+      let tree = text_tree laws.trees bytes t reads in
+      let follows = accepted_tree t p tree is in
       let there = text_there (nat_lt (limit_of C_BYTES) (length (c_file p notes))) text (c_file p notes) refl e in
       let longer : length (c_file p notes) ≡ length (c_text p) + length (certificate_of p notes) = length-append (c_text p) (certificate_of p notes) in
       let within = there.1 in
@@ -200,10 +195,10 @@ module _ (laws : Laws) where
         accepted = is.1;
         notes = notes;
         least = least;
-        verifies = laws.verify bytes p notes (program_of_text bytes t p reads (text_tree laws.trees bytes t reads) is.0) is.1 least (omega (arith, within, longer));
-        reads_as = certified p notes (laws.again bytes p follows (omega (arith, within, longer)));
-        runs_alike = laws.alike bytes p follows;
-        is_defined = laws.defined bytes p follows;
+        verifies = laws.verify p notes (program_of_text bytes t p reads tree is.0) is.1 least (omega (arith, within, longer));
+        reads_as = certified p notes (laws.again t p (spelled_in bytes reads.0 reads.1.tokens t reads.2.1) follows (omega (arith, within, longer)));
+        runs_alike = laws.alike t p follows;
+        is_defined = laws.defined t p follows;
         there = λ told tells. read_there store told (text_in name) bytes read short tells;
         written = subst (λ x. Grew old new x) there.0 grew;
       }

@@ -33,7 +33,8 @@ use Rattle.vlt_host_laws.proofs.CallFromHost.{is_call, passes, values_long, befo
 use Rattle.vlt_host_laws.proofs.OfInstances.{origin, allowed, plain, asked_of}
 use Rattle.vlt_host_laws.proofs.PastCallsLaws.{calls_agree}
 use Rattle.vlt_run_laws.specs.Known.{IsKnown}
-use Rattle.vlt_host_run_laws.specs.Started.{begun, begun_by_host, KnowsStartedSteps, KnowsStartedCalls}
+use Rattle.vlt_host_machine.specs.Started.{begun, begun_by_host, KnowsStartedCalls}
+use Rattle.vlt_host_run_laws.specs.Started.{KnowsStartedSteps}
 use Rattle.vlt_run_laws.proofs.ReachedNaming.{callee_head, no_head}
 use Rattle.vlt_run_laws.proofs.Moves.{Good, lists_now, lists_all, tells_all}
 use Rattle.vlt_run_laws.proofs.CallsWhole.{knows_call}

@@ -1,6 +1,6 @@
 //! Laws on what a run comes to that began with a host's call: nothing goes in and nothing comes out.
-//! Read `vlt_host_laws/specs/Calls.antt` first, then `specs/Started.antt`.
-//! Used by: nothing yet; machines that hosts call are to call externals without a test by them.
+//! Read `vlt_host_laws/specs/Calls.antt` first, then `vlt_host_machine/specs/Callable.antt` and `specs/Started.antt`.
+//! Used by: the command `host`, which opens the machine that a host calls (`vlt_host_machine`) by them.
 #![tactic(auto)]
 
 ghost use Rattle.vlt_core.specs.Core.{Program};
@@ -9,7 +9,11 @@ ghost use Rattle.vlt_core.specs.Derives.{IsAccepted};
 ghost use Rattle.vlt_core_laws.specs.States.{HasStates};
 ghost use Rattle.vlt_sound.specs.Sizes.{HasSizes};
 ghost use Rattle.vlt_sound.specs.Narrow.{HasNarrowHeads};
-ghost use Rattle.vlt_host_run_laws.specs.Started.{KnowsStartedSteps, KnowsStartedCalls};
+ghost use Rattle.vlt_core.specs.Instances.{HasNoBounds};
+ghost use Rattle.vlt_run_laws.specs.Blank.{HasBlankExternals, HasFewVars};
+ghost use Rattle.vlt_host_machine.specs.Callable.{IsCallable};
+ghost use Rattle.vlt_host_machine.specs.Started.{KnowsStartedCalls};
+ghost use Rattle.vlt_host_run_laws.specs.Started.{KnowsStartedSteps};
 
 /// Each statement that a permitted call of a host comes to is known, of an accepted program.
 pub fn accepted_programs_know_started_steps()
@@ -22,4 +26,11 @@ pub fn accepted_programs_know_started_steps()
 pub fn accepted_programs_know_started_calls()
     ensures { (p : Program) → IsKinded p → IsAccepted p → HasSizes p → HasStates p →
         HasNarrowHeads p → KnowsStartedCalls p }
+{}
+
+/// A machine can be opened for hosts of an accepted program in which no function has a bound entry.
+pub fn accepted_programs_are_callable()
+    ensures { (p : Program) → IsKinded p → IsAccepted p → HasSizes p → HasStates p →
+        HasNarrowHeads p → HasFewVars p → HasBlankExternals p → HasNoBounds p →
+        IsCallable p }
 {}

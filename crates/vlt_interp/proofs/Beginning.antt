@@ -18,11 +18,11 @@ use Rattle.vlt_core.specs.Core.{Program}
 use Rattle.vlt_heap.specs.Items.{Items}
 use Rattle.vlt_meaning.specs.World as model
 use Rattle.vlt_meaning.specs.World.{line_of, is_fault}
-use Rattle.vlt_meaning.specs.Step.{ends}
+use Rattle.vlt_meaning.specs.Step.{Step, ends}
 use Rattle.vlt_meaning.specs.Run.{Setup, first_frame, start, ran_of, main_run, run}
 use Rattle.vlt_meaning.specs.Does.{does}
 use Rattle.vlt_meaning_laws.specs.Machine.Machine as m
-use Rattle.vlt_meaning_laws.specs.Machine.Machine.{Conf, at, first_conf}
+use Rattle.vlt_meaning_laws.specs.Machine.Machine.{Conf, at, moves, first_conf}
 use Rattle.vlt_meaning_laws.specs.Machine.Laws.{LeadsTo}
 use Rattle.vlt_meaning_laws.proofs.OfMachine.Theorem.{machine_is_the_run}
 use Rattle.vlt_acts.specs.declared.values.values.Values.{Values}
@@ -46,9 +46,10 @@ use Rattle.vlt_interp.specs.Tasks.Moves.{HasRoom}
 use Rattle.vlt_meaning_laws.specs.Machine.Reached.{IsReached}
 use Rattle.vlt_interp.specs.Reached.{IsRunnable}
 use Rattle.vlt_interp.specs.Going.{setup_in}
-use Rattle.vlt_interp.specs.Running.{start_of, goal_of, IsRunning, IsFinished}
+use Rattle.vlt_interp.specs.Running.{start_of, goal_of, IsUnderWay, IsRunning, HasGoal, ComesOrEnds, or_done, IsFinished}
 use Rattle.vlt_interp.specs.Start.{run_within, EndsAs}
 use Rattle.vlt_interp.proofs.Fitting.{frame_fits}
+use Rattle.vlt_interp.proofs.Running.{finished}
 
 -- a program that never goes wrong has a first function
 pub has_main : (p : Program) → IsRunnable p → slice_get p.fns p.main ≡ None → ⊥
@@ -125,8 +126,21 @@ module _ (b : Budgets) (s : Start) (input : Bor (List ℤ)) (answers : Bor Answe
       };
     }
 
-    begun_reached : IsReached (setup_in rules begun) (first_conf (func_of main.now) (first_frame 1) (start_of begun))
-    begun_reached = record { main = func_of main.now; is_main = is_main; fuel = b.fuel; input = input.now; answers = lists_of answers.now; count = 0; is = refl }
+    begun_reached : (n : ℕ) → IsReached (setup_in rules begun) (moves (setup_in rules begun) n (first_conf (func_of main.now) (first_frame 1) (start_of begun)))
+    begun_reached n = record { main = func_of main.now; is_main = is_main; fuel = b.fuel; input = input.now; answers = lists_of answers.now; count = n; is = refl }
+
+    begun_way : IsUnderWay (setup_in rules begun) (first_conf (func_of main.now) (first_frame 1) (start_of begun))
+    begun_way = record {
+      func = func_of main.now;
+      position = (program_of program.now).main;
+      at = is_main;
+      frame = first_frame 1;
+      first = refl;
+      world = start_of begun;
+      count = 0;
+      is = refl;
+      knows = λ n. runnable.calls (setup_in rules begun) (moves (setup_in rules begun) n (first_conf (func_of main.now) (first_frame 1) (start_of begun))) refl (begun_reached n);
+    }
 
     goal_is : goal_of rules begun ≡ does (setup_in rules begun) (func_of main.now) (func_of main.now).body (first_frame 1) (start_of begun)
     unfolding does
@@ -143,22 +157,28 @@ module _ (b : Budgets) (s : Start) (input : Bor (List ℤ)) (answers : Bor Answe
 
     begun_running : (x : Outside) → IsRunning rules (goal_of rules begun) (start_of begun) x x begun
     begun_running x = record {
-      runnable = runnable;
+      own = runnable.own;
       deep = deep;
       room = begun_room;
       conf = first_conf (func_of main.now) (first_frame 1) (start_of begun);
       shown = begun_shown;
-      reached = begun_reached;
+      under_way = begun_way;
       leads = subst (LeadsTo (setup_in rules begun) (first_conf (func_of main.now) (first_frame 1) (start_of begun))) (sym goal_is) (machine_is_the_run (setup_in rules begun) (func_of main.now) (first_frame 1) (start_of begun));
       right = subst (λ y. is_fault y.outcome ≡ false) ran_is (runnable.never b.fuel b.heap b.depth input.now (lists_of answers.now));
       wrote = silent (start_of begun) (start_of begun) x refl;
     }
 
-    pub first_running : (x : Outside) → IsRunning rules (goal_of rules run) (start_of run) x x run
+    first_running : (x : Outside) → IsRunning rules (goal_of rules run) (start_of run) x x run
     first_running x = subst (λ r. IsRunning rules (goal_of rules r) (start_of r) x x r) (sym run_is) (begun_running x)
 
-    pub first_ended : (before after : Outside) (stop : Stop) (last : Run) → IsFinished (ran_of (goal_of rules run)) (start_of run) before after stop last → EndsAs (run_within program.now b input.now (lists_of answers.now)) before after (record { stop = stop; fuel = last.fuel })
-    first_ended before after stop last h =
+    pub first_goal : HasGoal rules run
+    first_goal = record { goal = goal_of rules run; world = start_of run; running = first_running }
+
+    pub first_ended : (before after : Outside) (o : Option Stop) (stop : Stop) (last : Run) → stop ≡ or_done o
+        → ((goal : Step) (w : model.World) → ((b : Outside) → IsRunning rules goal w b b run) → ComesOrEnds rules goal w before after o last)
+        → EndsAs (run_within program.now b input.now (lists_of answers.now)) before after (record { stop = stop; fuel = last.fuel })
+    first_ended before after o stop last is comes =
+        let h = subst (λ s. IsFinished (ran_of (goal_of rules run)) (start_of run) before after s last) (sym is) (finished rules (goal_of rules run) (start_of run) before after o last (comes (goal_of rules run) (start_of run) first_running)) in
         let k = subst (λ r. IsFinished (ran_of (goal_of rules r)) (start_of r) before after stop last) run_is h in
         subst (λ y. EndsAs y before after (record { stop = stop; fuel = last.fuel })) (sym ran_is)
         (let ran = ran_of (goal_of rules begun) in

@@ -1,12 +1,13 @@
 -- The run goes on, and comes to its end.
-use Rattle.std.proofs.Common.{◌≡◌, inl, inr, ⊎_elim, ℕ, zero, suc, ◌<◌, ◌≤◌, ◌+◌, ◌*◌, false, List, [], ◌∷◌, length, Some, None, refl, sym, ap, ◌∙◌, subst, arith}
+use Rattle.std.proofs.Common.{◌≡◌, ◌⊎◌, inl, inr, ⊎_elim, ℕ, zero, suc, ◌<◌, ◌≤◌, ◌+◌, ◌*◌, false, List, [], ◌∷◌, length, Option, Some, None, refl, sym, ap, ◌∙◌, subst, arith}
 use Rattle.std.proofs.lemmas.Bool.{false≢true}
+use Rattle.std.proofs.lemmas.List.{nil_from_length, length-reverse}
 use Rattle.std.proofs.lemmas.Option.{none-some, same_Some}
 use Rattle.vlt_core.specs.View.{program_of}
 use Rattle.vlt_core.specs.Core.{Func, Program}
 use Rattle.vlt_meaning.specs.World.{line_of, World, is_fault}
 use Rattle.vlt_meaning.specs.Step.{Step, goes, jumps, leaves, ends}
-use Rattle.vlt_meaning.specs.Run.{Setup, first_frame, start, ran_of}
+use Rattle.vlt_meaning.specs.Run.{Setup, ran_of}
 use Rattle.vlt_meaning_laws.specs.Keeping.{world_after}
 use Rattle.vlt_meaning_laws.specs.Machine.Machine as m
 use Rattle.vlt_meaning_laws.specs.Machine.Machine.{Conf, at, after_move, moves, first_conf}
@@ -15,6 +16,7 @@ use Rattle.vlt_meaning_laws.specs.Machine.Laws.{LeadsTo}
 use Rattle.vlt_meaning_laws.proofs.OfMachine.Fitting.{suffices, first_fits}
 use Rattle.vlt_meaning_laws.proofs.OfMachine.Finishing.{finishes, ending, moves_end}
 use Rattle.vlt_meaning_laws.proofs.OfMachine.Halting.{fuel_in, weight}
+use Rattle.vlt_heap.specs.Shown.{heap_of}
 use Rattle.vlt_steps.specs.Writing.{Outside}
 use Rattle.vlt_acts.specs.Hosts.Stops.{Wrote, outcome_of, IsCut, HasStopped}
 use Rattle.vlt_steps.specs.declared.stop.Stop.{Stop}
@@ -29,10 +31,10 @@ use Rattle.vlt_interp.specs.Tasks.Shown.{setup_of, tasks_left, ShowsStep, ShowsW
 use Rattle.vlt_interp.specs.Tasks.Moves.{Keeps, world_in, GoneOn, CameTo, IsRight}
 use Rattle.vlt_steps.proofs.Writing as writing
 use Rattle.vlt_interp.proofs.OfTasks.Staying.{room_kept}
-use Rattle.vlt_meaning_laws.specs.Machine.Reached.{IsReached}
 use Rattle.vlt_interp.specs.Owned.{HoldsIn, IsOwnConf}
-use Rattle.vlt_interp.specs.Going.{setup_in, IsFine, CanMove, IsOver, Moves}
-use Rattle.vlt_interp.specs.Running.{IsRunning, IsFinished}
+use Rattle.vlt_interp.specs.Going.{setup_in, IsFine, CanMove, Moves}
+use Rattle.vlt_interp.specs.Running.{IsUnderWay, IsRunning, HasCome, HasHalted, ComesOrEnds, or_done, IsFinished}
+use Rattle.vlt_interp.specs.Calls.Known.{KnowsNext}
 use Rattle.vlt_interp.proofs.Keeping.{IsClosed, moved_holds, first_holds}
 use Rattle.vlt_interp.proofs.Later.{Adds, ending_adds, moved_end, ends_there}
 use Rattle.vlt_interp.proofs.Fitting.{as_many}
@@ -62,40 +64,45 @@ own_closed p h = record {
   plain = h.plain;
 }
 
-module _ (r : Setup) (c : Conf) (reached : IsReached r c) where
+module _ (r : Setup) (c : Conf) (way : IsUnderWay r c) where
   -- what holds at the start and after each move
-  along : (P : Conf → Type 0) → ((d : Conf) → P d → P (after_move r d)) → P (first_conf reached.main (first_frame 1) (start reached.fuel reached.input reached.answers)) → P c
-  along P next first = subst P reached.is (go reached.count (first_conf reached.main (first_frame 1) (start reached.fuel reached.input reached.answers)) first)
+  along : (P : Conf → Type 0) → ((d : Conf) → P d → P (after_move r d)) → P (first_conf way.func way.frame way.world) → P c
+  along P next first = subst P way.is (go way.count (first_conf way.func way.frame way.world) first)
     where
       go : (n : ℕ) (d : Conf) → P d → P (moves r n d)
       go zero d h = h
       go (suc n) d h = go n (after_move r d) (next d h)
 
-  reached_own : HasOwn r.program → IsOwnConf r.program c
-  reached_own h =
+  own_there : HasOwn r.program → IsOwnConf r.program c
+  own_there h =
       let k = own_closed r.program h in
       along (IsOwnConf r.program) (moved_holds r (AreOwn r.program) (IsOwn r.program) (IsOwnBlock r.program) (AreOwnArms r.program) k)
-      (first_holds r (AreOwn r.program) (IsOwn r.program) (IsOwnBlock r.program) (AreOwnArms r.program) k r.program.main reached.main reached.is_main)
+      (first_holds r (AreOwn r.program) (IsOwn r.program) (IsOwnBlock r.program) (AreOwnArms r.program) k way.position way.func way.at)
 
-  reached_small : HasOwn r.program → HoldsIn (IsSmallList (size_of r.program)) (IsSmall (size_of r.program)) r.program c.func c.tasks
-  reached_small h =
+  small_there : HasOwn r.program → HoldsIn (IsSmallList (size_of r.program)) (IsSmall (size_of r.program)) r.program c.func c.tasks
+  small_there h =
       let n = size_of r.program in
       let k = small_closed r.program h.plain in
       along (λ d. HoldsIn (IsSmallList n) (IsSmall n) r.program d.func d.tasks) (moved_holds r (IsSmallList n) (IsSmall n) (IsSmallBlock n) (AreSmallArms n) k)
-      (first_holds r (IsSmallList n) (IsSmall n) (IsSmallBlock n) (AreSmallArms n) k r.program.main reached.main reached.is_main)
+      (first_holds r (IsSmallList n) (IsSmall n) (IsSmallBlock n) (AreSmallArms n) k way.position way.func way.at)
 
-  reached_fits : 1 ≤ r.depth → Fits r c
-  reached_fits deep = along (Fits r) (λ d h. (suffices r d h).next) (first_fits r reached.main r.program.main (first_frame 1) (start reached.fuel reached.input reached.answers) reached.is_main refl deep)
+  fits_there : 1 ≤ r.depth → Fits r c
+  fits_there deep = along (Fits r) (λ d h. (suffices r d h).next) (first_fits r way.func way.position way.frame way.world way.at way.first deep)
 
-  reached_next : IsReached r (after_move r c)
-  reached_next = record {
-    main = reached.main;
-    is_main = reached.is_main;
-    fuel = reached.fuel;
-    input = reached.input;
-    answers = reached.answers;
-    count = suc reached.count;
-    is = last_move r reached.count (first_conf reached.main (first_frame 1) (start reached.fuel reached.input reached.answers)) ∙ ap (after_move r) reached.is;
+  knows_there : KnowsNext r.program c
+  knows_there = subst (KnowsNext r.program) way.is (way.knows way.count)
+
+  way_on : IsUnderWay r (after_move r c)
+  way_on = record {
+    func = way.func;
+    position = way.position;
+    at = way.at;
+    frame = way.frame;
+    first = way.first;
+    world = way.world;
+    count = suc way.count;
+    is = last_move r way.count (first_conf way.func way.frame way.world) ∙ ap (after_move r) way.is;
+    knows = way.knows;
   }
 
 -- ---- where it ends
@@ -148,13 +155,13 @@ module _ (rules : Rules) (goal : Step) (w0 : World) (a b c : Outside) (old new :
   fine : IsFine (setup_in rules old) running.conf
   fine = record {
     right = right_moved (setup_in rules old) running.conf goal to_goal running.right;
-    fits = reached_fits (setup_in rules old) running.conf running.reached running.deep;
-    own = reached_own (setup_in rules old) running.conf running.reached running.runnable.own;
-    knows = running.runnable.calls (setup_in rules old) running.conf refl running.reached;
+    fits = fits_there (setup_in rules old) running.conf running.under_way running.deep;
+    own = own_there (setup_in rules old) running.conf running.under_way running.own;
+    knows = knows_there (setup_in rules old) running.conf running.under_way;
   }
 
   pub can_move : CanMove rules old
-  can_move = record { room = running.room; has_own = running.runnable.own; conf = running.conf; shown = running.shown; fine = fine }
+  can_move = record { room = running.room; has_own = running.own; conf = running.conf; shown = running.shown; fine = fine }
 
   -- some task is left
   some_task : (t : Task) (ts : List Task) → tasks_left old ≡ t ∷ ts → (us : List m.Task) → running.conf.tasks ≡ us → (P : Type 0) → ((u : m.Task) (vs : List m.Task) → running.conf.tasks ≡ u ∷ vs → P) → P
@@ -197,16 +204,16 @@ module _ (rules : Rules) (goal : Step) (w0 : World) (a b c : Outside) (old new :
       let s = setup_in rules old in
       let next = after_move s running.conf in
       let same : setup_in rules new ≡ s = ap (setup_of rules) keeps.size.heap in
-      let reached = reached_next s running.conf running.reached in
-      let fall = moved_falls s running.conf u vs e (suffices s next (suffices s running.conf fine.fits).next).tasks (reached_small s next reached running.runnable.own) in
+      let way = way_on s running.conf running.under_way in
+      let fall = moved_falls s running.conf u vs e (suffices s next (suffices s running.conf fine.fits).next).tasks (small_there s next way running.own) in
       record {
         goes = record {
-          runnable = running.runnable;
+          own = running.own;
           deep = running.deep;
           room = room_kept (program_of rules.program.now) rules.depth old new running.room keeps;
           conf = next;
           shown = h.shown;
-          reached = subst (λ t. IsReached t next) (sym same) reached;
+          under_way = subst (λ t. IsUnderWay t next) (sym same) way;
           leads = subst (λ t. LeadsTo t next goal) (sym same) (leads_next u vs e);
           right = running.right;
           wrote = writing.wrote_both line_of w0.events (world_in running.conf.step).events (world_in next.step).events a b c running.wrote h.wrote;
@@ -227,7 +234,10 @@ module _ (rules : Rules) (goal : Step) (w0 : World) (a b c : Outside) (old new :
   goal_world : world_after goal ≡ (ran_of goal).world
   goal_world = sym (ended_world goal)
 
-  cut_so : (stop : Stop) (v : World) → IsCut (world_in running.conf.step) b c stop v → Adds v (ran_of goal).world → IsFinished (ran_of goal) w0 a c stop new
+  abbrev EndsSo : Stop → Type 0
+  EndsSo stop = HasHalted goal w0 a c stop new ⊎ IsCut w0 a c stop (ran_of goal).world
+
+  cut_so : (stop : Stop) (v : World) → IsCut (world_in running.conf.step) b c stop v → Adds v (ran_of goal).world → EndsSo stop
   cut_so stop v k more = inr (writing.cut_both line_of SinkFault w0.events (world_in running.conf.step).events v.events (ran_of goal).world.events more.events a b c stop running.wrote k more.are)
 
   from_next : (x : Step) → (after_move (setup_in rules old) running.conf).step ≡ x → Adds (world_in x) (ran_of goal).world
@@ -239,54 +249,91 @@ module _ (rules : Rules) (goal : Step) (w0 : World) (a b c : Outside) (old new :
       let here : world_after next.step ≡ world_in x = ap world_after is ∙ sym (same_world x) in
       subst (λ w. Adds w (ran_of goal).world) here (subst (Adds (world_after next.step)) there adds)
 
-  stops_so : (stop : Stop) (x : Step) → (after_move (setup_in rules old) running.conf).step ≡ x → CameTo (world_in running.conf.step) b c (Some stop) new (after_move (setup_in rules old) running.conf) x → IsFinished (ran_of goal) w0 a c stop new
+  stops_so : (stop : Stop) (x : Step) → (after_move (setup_in rules old) running.conf).step ≡ x → CameTo (world_in running.conf.step) b c (Some stop) new (after_move (setup_in rules old) running.conf) x → EndsSo stop
   stops_so stop (goes frame w) is h = cut_so stop w h (from_next (goes frame w) is)
   stops_so stop (jumps k frame w) is h = cut_so stop w h (from_next (jumps k frame w) is)
   stops_so stop (leaves x kept w) is h = cut_so stop w h (from_next (leaves x kept w) is)
   stops_so stop (ends o w) is h =
-      let at_end : ends o w ≡ goal = sym (ends_there (setup_in rules old) running.conf o w is) ∙ to_goal in
-      let out : o ≡ (ran_of goal).outcome = ap (λ y. (ran_of y).outcome) at_end in
-      let there : w ≡ (ran_of goal).world = ap (λ y. (ran_of y).world) at_end in
       ⊎_elim
       (λ f. absurd (false≢true (sym (fine.right o w is) ∙ f)))
       (λ k. ⊎_elim
       (λ (e : HasStopped (world_in running.conf.step) b c new.fuel stop o w). inl (record {
-        outcome = e.outcome ∙ ap (λ y. Some y) out;
-        fuel = ap (λ y. y.fuel) (sym there) ∙ e.fuel;
-        wrote = writing.wrote_both line_of w0.events (world_in running.conf.step).events (ran_of goal).world.events a b c running.wrote (subst (λ y. Wrote (world_in running.conf.step) y b c) there e.wrote);
+        outcome = o;
+        world = w;
+        is = sym (ends_there (setup_in rules old) running.conf o w is) ∙ to_goal;
+        stopped = record {
+          outcome = e.outcome;
+          fuel = e.fuel;
+          wrote = writing.wrote_both line_of w0.events (world_in running.conf.step).events w.events a b c running.wrote e.wrote;
+        };
       }))
       (λ k. cut_so stop w k (from_next (ends o w) is))
       k)
       h
 
-  -- with nothing left main was left
-  over_so : (stop : Stop) → IsOver new old b c (Some stop) → running.conf.tasks ≡ [] → IsFinished (ran_of goal) w0 a c stop new
-  over_so stop h none = by running.conf.step running.shown.step running.wrote (done_is (setup_in rules old) running.conf.func running.conf.tasks running.conf.step none)
+  -- while something is left to do
+  pub ends_so : (stop : Stop) → (tasks_left old ≡ [] → ⊥) → Moves (tasks_left old) rules old new b c (Some stop) → EndsSo stop
+  ends_so stop some h = by (tasks_left old) refl h
     where
-      by : (x : Step) → ShowsStep running.shown.items old running.conf.func old.at x → Wrote w0 (world_in x) a b → ending (setup_in rules old) running.conf ≡ x → IsFinished (ran_of goal) w0 a c stop new
-      by (goes frame w) q wrote e = absurd (false≢true (sym (subst (λ y. is_fault (ran_of y).outcome ≡ false) (sym to_goal ∙ e) running.right)))
-      by (jumps k frame w) q wrote e = absurd (false≢true (sym (subst (λ y. is_fault (ran_of y).outcome ≡ false) (sym to_goal ∙ e) running.right)))
-      by (ends o w) q wrote e = absurd (not_ended running.shown.items old running.conf.func old.at o w q)
-      by (leaves x kept w) q wrote e =
-          let at_end : leaves x kept w ≡ goal = sym e ∙ to_goal in
-          let stop_is : stop ≡ Done = same_Some stop Done h.done in
-          inl (record {
-            outcome = ap outcome_of stop_is ∙ ap (λ y. Some (ran_of y).outcome) at_end;
-            fuel = ap (λ y. (ran_of y).world.fuel) (sym at_end) ∙ shown_fuel running.shown.items old running.conf.func old.at (leaves x kept w) q ∙ sym h.fuel;
-            wrote = subst (λ o. Wrote w0 (ran_of goal).world a o) (sym h.silent) (subst (λ y. Wrote w0 y a b) (ap (λ y. (ran_of y).world) at_end) wrote);
-          })
-
-  pub ends_so : (stop : Stop) → Moves (tasks_left old) rules old new b c (Some stop) → IsFinished (ran_of goal) w0 a c stop new
-  ends_so stop h = by (tasks_left old) refl h
-    where
-      empty : (us : List m.Task) → tasks_left old ≡ [] → running.conf.tasks ≡ us → running.conf.tasks ≡ []
-      empty [] is e = e
-      empty (u ∷ us) is e =
-          let n = as_many running.shown.items old.values old.values.base old.depth (tasks_left old) running.conf.tasks running.shown.shown in
-          let k = ap length is in
-          let l = ap length e in
-          absurd (omega (arith, n, k, l))
-
-      by : (ts : List Task) → tasks_left old ≡ ts → Moves ts rules old new b c (Some stop) → IsFinished (ran_of goal) w0 a c stop new
-      by [] is h = over_so stop h (empty running.conf.tasks is refl)
+      by : (ts : List Task) → tasks_left old ≡ ts → Moves ts rules old new b c (Some stop) → EndsSo stop
+      by [] is h = absurd (some is)
       by (t ∷ ts) is h = stops_so stop (after_move (setup_in rules old) running.conf).step refl (h.comes running.conf (subst (λ l. ShowsWith l old running.conf) is running.shown) fine)
+
+-- the heap stays as large as it was
+pub same_heap : (rules : Rules) (b c : Outside) (old new : Run) (o : Option Stop) → (tasks_left old ≡ [] → ⊥) → Moves (tasks_left old) rules old new b c o → heap_of new.heap ≡ heap_of old.heap
+same_heap rules b c old new o some h = by (tasks_left old) refl h
+  where
+    by : (ts : List Task) → tasks_left old ≡ ts → Moves ts rules old new b c o → heap_of new.heap ≡ heap_of old.heap
+    by [] is h = absurd (some is)
+    by (t ∷ ts) is h = h.keeps.size.heap
+
+pub some_left : (r : Run) → 0 < length r.tasks.items → tasks_left r ≡ [] → ⊥
+some_left r some none = let l = length-reverse r.tasks.items in let k = ap length none in omega (arith, l, k, some)
+
+pub none_left : (r : Run) → length r.tasks.items ≤ 0 → tasks_left r ≡ []
+none_left r none = nil_from_length (tasks_left r) (let l = length-reverse r.tasks.items in omega (arith, l, none))
+
+-- with nothing left to do
+pub come_so : (rules : Rules) (goal : Step) (w0 : World) (a b : Outside) (old : Run) → IsRunning rules goal w0 a b old → tasks_left old ≡ [] → HasCome rules goal w0 a b old
+come_so rules goal w0 a b old running none = record {
+  room = running.room;
+  none_left = let l = length-reverse old.tasks.items in let k = ap length none in omega (arith, l, k);
+  items = running.shown.items;
+  holds = running.shown.holds;
+  func = running.conf.func;
+  step = subst (ShowsStep running.shown.items old running.conf.func old.at) is running.shown.step;
+  right = running.right;
+  wrote = subst (λ x. Wrote w0 (world_in x) a b) is running.wrote;
+}
+  where
+    empty : (us : List m.Task) → running.conf.tasks ≡ us → running.conf.tasks ≡ []
+    empty [] e = e
+    empty (u ∷ us) e =
+        let n = as_many running.shown.items old.values old.values.base old.depth (tasks_left old) running.conf.tasks running.shown.shown in
+        let k = ap length none in
+        let l = ap length e in
+        absurd (omega (arith, n, k, l))
+
+    is : running.conf.step ≡ goal
+    is =
+        sym (done_is (setup_in rules old) running.conf.func running.conf.tasks running.conf.step (empty running.conf.tasks refl)) ∙
+        leads_ending (setup_in rules old) running.conf goal running.leads
+
+-- ---- its outcome
+
+-- where nothing is left to do the function was left
+came_finished : (rules : Rules) (goal : Step) (w0 : World) (a b : Outside) (r : Run) → HasCome rules goal w0 a b r → IsFinished (ran_of goal) w0 a b Done r
+came_finished rules goal w0 a b r h = by goal h.step h.right h.wrote
+  where
+    by : (x : Step) → ShowsStep h.items r h.func r.at x → is_fault (ran_of x).outcome ≡ false → Wrote w0 (world_in x) a b → IsFinished (ran_of x) w0 a b Done r
+    by (goes frame w) q right wrote = absurd (false≢true (sym right))
+    by (jumps k frame w) q right wrote = absurd (false≢true (sym right))
+    by (ends o w) q right wrote = absurd (not_ended h.items r h.func r.at o w q)
+    by (leaves x kept w) q right wrote = inl (record { outcome = refl; fuel = shown_fuel h.items r h.func r.at (leaves x kept w) q; wrote = wrote })
+
+halted_finished : (goal : Step) (w0 : World) (a b : Outside) (stop : Stop) (r : Run) → HasHalted goal w0 a b stop r → IsFinished (ran_of goal) w0 a b stop r
+halted_finished goal w0 a b stop r h = subst (λ x. IsFinished (ran_of x) w0 a b stop r) h.is (inl h.stopped)
+
+pub finished : (rules : Rules) (goal : Step) (w0 : World) (a b : Outside) (o : Option Stop) (r : Run) → ComesOrEnds rules goal w0 a b o r → IsFinished (ran_of goal) w0 a b (or_done o) r
+finished rules goal w0 a b None r h = came_finished rules goal w0 a b r h
+finished rules goal w0 a b (Some stop) r h = ⊎_elim (halted_finished goal w0 a b stop r) inr h

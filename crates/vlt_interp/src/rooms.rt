@@ -8,5 +8,5 @@ mod slots;
 mod start;
 mod tasks;
 
-pub use slots::is_too_wide;
+pub use slots::{is_too_wide, is_too_wide_for_host};
 pub use start::{Start, prepare};

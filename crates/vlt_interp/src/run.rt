@@ -1,12 +1,15 @@
 //! Whole runs.
 
+ghost use Rattle.std.specs.Prelude.{◌≡◌};
 ghost use Rattle.vlt_core.specs.View.{program_of};
 ghost use Rattle.vlt_numbers.specs.HostAnswers.{lists_of};
-ghost use Rattle.vlt_meaning.specs.Run.{ran_of};
+ghost use Rattle.vlt_heap.specs.Shown.{heap_of};
+ghost use Rattle.vlt_meaning.specs.Step.{Step};
+ghost use Rattle.vlt_meaning.specs.World.{World};
 ghost use Rattle.vlt_steps.specs.Writing.{Outside};
 ghost use Rattle.vlt_interp.specs.Rooms.Start.{IsSet};
 ghost use Rattle.vlt_interp.specs.Reached.{IsRunnable};
-ghost use Rattle.vlt_interp.specs.Running.{start_of, goal_of, IsRunning, IsFinished};
+ghost use Rattle.vlt_interp.specs.Running.{IsRunning, HasGoal, ComesOrEnds, or_done};
 ghost use Rattle.vlt_interp.specs.Start.{run_within, EndsAs};
 
 use crate::moves::step;
@@ -19,19 +22,30 @@ use vlt_io::Sink;
 use vlt_numbers::Answers;
 use vlt_steps::{Ended, Stop, put};
 
-/// Goes on to the end of the run.
-fn finish<'a, K: Sink>(rules: &Rules<'a>, run: &mut Run<'a, '_>, sink: &mut K) -> Stop
-    requires start { (b : Outside) → IsRunning rules.now (goal_of rules.now run.old)
-        (start_of run.old) b b run.old }
-    ensures { IsFinished (ran_of (goal_of rules.now run.old)) (start_of run.old)
+/// Goes on to where nothing is left to do, or to a stop.
+pub fn finish<'a, K: Sink>(rules: &Rules<'a>, run: &mut Run<'a, '_>, sink: &mut K) -> Option<Stop>
+    requires goal { HasGoal rules.now run.old }
+    ensures heap { heap_of run.new.heap ≡ heap_of run.old.heap }
+    ensures comes { (goal : Step) (w : World) →
+        ((b : Outside) → IsRunning rules.now goal w b b run.old) → ComesOrEnds rules.now goal w
         (record { written = K.written sink.old; faults = K.faults sink.old })
         (record { written = K.written sink.new; faults = K.faults sink.new }) result run.new }
 {
-    loop {
-        match step(rules, run, sink) {
-            None => {}
-            Some(stop) => return stop,
+    while run.tasks.len() > 0 {
+        if let Some(stop) = step(rules, run, sink) {
+            return Some(stop);
         }
+    }
+    None
+}
+
+/// A run that came to where nothing is left to do is done.
+fn or_done(stop: Option<Stop>) -> Stop
+    ensures { result ≡ or_done stop }
+{
+    match stop {
+        None => Stop::Done,
+        Some(stop) => stop,
     }
 }
 
@@ -85,7 +99,7 @@ pub fn run_program<'a, K: Sink>(
         heap,
         host,
     };
-    let stop = finish(&rules, &mut run, sink);
+    let stop = or_done(finish(&rules, &mut run, sink));
     Ended {
         stop,
         fuel: run.fuel,

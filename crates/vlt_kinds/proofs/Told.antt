@@ -19,7 +19,7 @@ past_names ds named = ap (λ o. unless o (types_told ds)) named
 past_types : (ds : List Decl) (f : File) → f ≡ file_of ds → least (types_refused f ds) ≡ None → types_told ds ≡ heads_told ds
 past_types ds f is typed = ap (λ o. unless o (heads_told ds)) (ap (λ g. least (types_refused g ds)) (sym is) ∙ typed)
 
-same_heads : (ds : List Decl) (f : File) (ts : List TypeDecl) → f ≡ file_of ds → ts ≡ core_types f ds
+pub same_heads : (ds : List Decl) (f : File) (ts : List TypeDecl) → f ≡ file_of ds → ts ≡ core_types f ds
     → least (heads_refused (file_of ds) (core_types (file_of ds) ds) ds) ≡ least (heads_refused f ts ds)
 same_heads ds f ts is made =
     ap (λ g. least (heads_refused g (core_types g ds) ds)) (sym is) ∙ ap (λ us. least (heads_refused f us ds)) (sym made)
@@ -34,7 +34,7 @@ pub heads_refuse : (ds : List Decl) (f : File) (ts : List TypeDecl) (x : Refusal
 heads_refuse ds f ts x is named made typed refused =
     past_names ds named ∙ past_types ds f is typed ∙ ap (λ o. unless o (Ok (kinds_of ds))) (same_heads ds f ts is made ∙ refused)
 
-same_kinds : (ds : List Decl) (f : File) (ts : List TypeDecl) (hs : List Func) → f ≡ file_of ds → ts ≡ core_types f ds → hs ≡ core_heads f ds
+pub same_kinds : (ds : List Decl) (f : File) (ts : List TypeDecl) (hs : List Func) → f ≡ file_of ds → ts ≡ core_types f ds → hs ≡ core_heads f ds
     → kinds_of ds ≡ record { file = f; types = ts; heads = hs }
 same_kinds ds f ts hs is made headed =
     ap (λ g. record { file = g; types = core_types g ds; heads = core_heads g ds }) (sym is)

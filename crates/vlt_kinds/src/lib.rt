@@ -12,7 +12,7 @@ ghost use Rattle.vlt_kinds.specs.Seen.{kinds_seen};
 mod error;
 mod kinds;
 mod lookups;
-mod phases;
+pub mod phases;
 
 pub use error::KindError;
 pub use kinds::Kinds;

@@ -29,7 +29,7 @@ use vlt_kinds_types::{File, LeastRefusal, check_names, file_of};
 use vlt_syntax::Decl;
 
 /// Nothing, unless something was refused.
-fn told(found: LeastRefusal) -> Result<(), KindError>
+pub fn told(found: LeastRefusal) -> Result<(), KindError>
     ensures ok { IfOk result (λ _. found.least ≡ None) }
     ensures refused { OnRefused result (λ x. found.least ≡ Some x) }
 {
@@ -60,7 +60,11 @@ fn file_table<'a>(alloc: Global, decls: &'a [Decl]) -> Result<File<'a>, KindErro
 }
 
 /// The declared types, where no rule on them refuses one.
-fn type_table(alloc: Global, file: &File<'_>, decls: &[Decl]) -> Result<Items<TypeDecl>, KindError>
+pub fn type_table(
+    alloc: Global,
+    file: &File<'_>,
+    decls: &[Decl],
+) -> Result<Items<TypeDecl>, KindError>
     requires { Each (IsDecl language) (map view.decl_of decls.now) }
     ensures types { IfOk result (λ types. map core_view.type_of types
         ≡ core_types (file_seen file.now) (map view.decl_of decls.now)) }
@@ -114,6 +118,30 @@ fn type_marks(alloc: Global, file: &File<'_>, types: &[TypeDecl]) -> Result<Item
     Ok(marks)
 }
 
+/// The table of a file with these types and heads. `Memory` alone is an error.
+pub fn table_of<'a>(
+    alloc: Global,
+    file: File<'a>,
+    types: Items<TypeDecl>,
+    heads: Items<Func>,
+) -> Result<Kinds<'a>, KindError>
+    requires { All (HasKnownSet (length file.sets)) types }
+    ensures table { IfOk result (λ kinds. kinds_seen kinds ≡ record {
+      file = file_seen file.entry;
+      types = map core_view.type_of types;
+      heads = map core_view.func_of heads;
+    }) }
+    ensures refused { OnRefused result (λ _. ⊥) }
+{
+    let marks = type_marks(alloc, &file, types.as_slice())?;
+    Ok(Kinds {
+        file,
+        types,
+        heads,
+        marks,
+    })
+}
+
 /// What a file declares, where no rule refuses it.
 #[tactic(auto, using(crate::proofs::Told::types_refuse, crate::proofs::Told::heads_refuse, crate::proofs::Told::nothing_refuses))]
 pub fn kinds_of<'a>(alloc: Global, decls: &'a [Decl]) -> Result<Kinds<'a>, KindError>
@@ -126,11 +154,6 @@ pub fn kinds_of<'a>(alloc: Global, decls: &'a [Decl]) -> Result<Kinds<'a>, KindE
     let file = file_table(alloc, decls)?;
     let types = type_table(alloc, &file, decls)?;
     let heads = head_table(alloc, &file, types.as_slice(), decls)?;
-    let marks = type_marks(alloc, &file, types.as_slice())?;
-    Ok(Kinds {
-        file,
-        types,
-        heads,
-        marks,
-    })
+    let kinds = table_of(alloc, file, types, heads)?;
+    Ok(kinds)
 }

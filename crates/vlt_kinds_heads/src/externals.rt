@@ -105,8 +105,9 @@ fn cases_in(decl: Option<&TypeDecl>) -> &[CaseDecl]
     }
 }
 
+/// The cases of the variant of this name; none where the name is no variant's.
 #[tactic(auto, unfolding(crate::specs::Externals::cases_named))]
-fn cases_named<'a>(file: &File<'_>, types: &'a [TypeDecl], named: &Named) -> &'a [CaseDecl]
+pub fn cases_named<'a>(file: &File<'_>, types: &'a [TypeDecl], named: &Named) -> &'a [CaseDecl]
     ensures { map core_view.case_of result.now
         ≡ e.cases_named (file_seen file.now) (map core_view.type_of types.now)
         (view.named_of named.now) }

@@ -15,5 +15,6 @@ mod noted;
 mod places;
 mod types;
 
+pub use externals::cases_named;
 pub use facts::{Facts, Typing};
 pub use heads::check_heads;

@@ -17,7 +17,10 @@ mod uses;
 pub use file::File;
 pub use listed::{add_listed, check_some_states, check_states, some_states_listed, states_listed};
 pub use made::KeyNumbers;
-pub use names::{Entity, Globals, HasName, LeastRefusal, Refusal, check_names, rules};
+pub use names::{
+    Entity, Globals, HasName, LeastRefusal, Refusal, check_names, check_other_names, has_main,
+    rules,
+};
 pub use shapes::{Shape, Sort, Wanted, header_in, set_in, wanted_in};
 pub use states::StateNames;
 pub use tables::file_of;

@@ -8,5 +8,5 @@ mod names;
 
 pub use found::{LeastRefusal, Refusal};
 pub use globals::{Entity, Globals};
-pub use names::{HasName, check_names};
+pub use names::{HasName, check_names, check_other_names, has_main};
 pub use vlt_core::rules;

@@ -1,6 +1,6 @@
 pub mod Numbers
 pub mod Search
-pub mod Parameters
+pub mod Params
 pub mod Holding
 pub mod Seen
 pub mod Clauses

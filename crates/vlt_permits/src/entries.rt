@@ -13,7 +13,7 @@ use vlt_base::{FnId, KeyId};
 use vlt_core::{Entry, Func, Mode, Program, Ty, VarDecl};
 
 /// The parameters, the first of the variables.
-#[tactic(auto, using(crate::proofs::Parameters::first_taken))]
+#[tactic(auto, using(crate::proofs::Params::first_taken))]
 pub fn parameters(f: &Func) -> &[VarDecl]
     ensures { map (λ d. d.ty) (map var_of result.now) ≡ parameters_of (func_of f.now) }
 {
@@ -21,7 +21,7 @@ pub fn parameters(f: &Func) -> &[VarDecl]
     &vars[..vars.len().min(f.params as usize)]
 }
 
-#[tactic(auto, using(crate::proofs::Parameters::bare))]
+#[tactic(auto, using(crate::proofs::Params::bare))]
 fn is_host_type(ty: &Ty) -> bool
     ensures { result ≡ is_host_type (ty_of ty.now) }
 {

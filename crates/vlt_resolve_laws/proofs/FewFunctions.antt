@@ -21,13 +21,13 @@ one_head file (s.abstract n ss at) = omega arith
 one_head file (s.struct n ps ss xs r at) = omega arith
 one_head file (s.variant n ps cs at) = omega arith
 
-few_heads : (file : File) (ds : List Decl) → length (core_heads file ds) ≤ length ds
+pub few_heads : (file : File) (ds : List Decl) → length (core_heads file ds) ≤ length ds
 few_heads file [] = omega arith
 few_heads file (d ∷ ds) =
     let both = length-append (core_heads_in file d) (core_heads file ds) in
     omega (arith, both, one_head file d, few_heads file ds)
 
-as_many : (kinds : Kinds) (hs fs : List Func) → AreMade kinds hs fs → length fs ≡ length hs
+pub as_many : (kinds : Kinds) (hs fs : List Func) → AreMade kinds hs fs → length fs ≡ length hs
 as_many kinds [] [] m = refl
 as_many kinds [] (f ∷ fs) m = absurd m
 as_many kinds (h ∷ hs) [] m = absurd m

@@ -160,7 +160,7 @@ few_kept kinds = record {
 
 -- ---- functions
 
-made_few : (kinds : Kinds) (head : Head) (body : Option Block) (f : Func) → IsMade kinds head body f → length f.keys ≤ 256
+pub made_few : (kinds : Kinds) (head : Head) (body : Option Block) (f : Func) → IsMade kinds head body f → length f.keys ≤ 256
 made_few kinds head body f m = by body (head_made kinds head body) m.few_keys m.walked
   where
     by : (body : Option Block) (h : Func) → length h.keys ≤ 256 → IsWalked kinds h body f → length f.keys ≤ 256

@@ -399,7 +399,7 @@ module _ (ds : List Decl) (p : Program) (passed : IsPassed ds) (has : HasDeclare
         let same = (made_head (kinds_of ds) (head_made (kinds_of ds) m.head m.body) m.body f m.made.walked).result in
         result_says (file_of ds) p described P listed (keys_of (file_of ds) m.head) m.head.result_type ty (sym same ∙ is)
 
-    program_says : ProgramSays P p
+    pub program_says : ProgramSays P p
     program_says = record {
       all = said.all;
       released = λ t. released t (decl_of p t) refl;

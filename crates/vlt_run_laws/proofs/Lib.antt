@@ -1,7 +1,7 @@
 pub mod Instanced
 mod Keys
 mod OwnNaming
-mod OwnWhole
+pub mod OwnWhole
 pub mod ReachedNaming
 pub mod Calls
 pub mod Moves

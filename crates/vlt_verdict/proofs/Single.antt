@@ -14,7 +14,7 @@ use Rattle.vlt_core_laws.specs.FaultLaws.{HasOneFirstFault}
 use Rattle.vlt_verdict.specs.FitLaws.Fit.{IsFitProgram, IsTextTree, ProgramsAreFit}
 use Rattle.vlt_resolve.specs.Programs.{with_kinds, program_told}
 use Rattle.vlt_verdict.specs.Verdicts.{IsFaultyIn, refused, faulty, accepted}
-use Rattle.vlt_verdict.specs.Laws.{HasOneVerdict}
+use Rattle.vlt_verdict.specs.Laws.{GivesWellFormed, ProgramsHaveOneVerdict, HasOneVerdict}
 
 same_told : (a b : Told) → ◌≡◌ {A = Result Program Told} (Err a) (Err b) → a ≡ b
 same_told a b e = cc
@@ -37,8 +37,7 @@ of_kinds law t (Err r) p tree told e = absurd (ok_or_err (Err (broken r.rule r.a
 pub fit_program : ProgramsAreFit → (t : Tree) (p : Program) → IsTextTree t → program_told t ≡ Ok p → IsFitProgram p
 fit_program law t p tree told = of_kinds law t (kinds_told t) p tree refl told
 
-module _ (law : ProgramsAreFit) (one : (p : Program) → HasOneFirstFault p)
-    (none : (p : Program) (x : FlowFault) → IsWellFormed p → IsAccepted p → IsFirstFault p x → ⊥) where
+module _ (one : (p : Program) → HasOneFirstFault p) (none : (p : Program) (x : FlowFault) → IsWellFormed p → IsAccepted p → IsFirstFault p x → ⊥) where
   faulty_once : (p q : Program) (f g : Func) (x y : FlowFault) → p ≡ q → IsFaultyIn p f x → IsFaultyIn q g y → faulty p f x ≡ faulty q g y
   faulty_once p q f g x y same a b =
       let b' : IsFaultyIn p g y = subst (λ o. IsFaultyIn o g y) (sym same) b in
@@ -46,18 +45,24 @@ module _ (law : ProgramsAreFit) (one : (p : Program) → HasOneFirstFault p)
       let func : f ≡ g = same_func p x f g a.there (subst (λ z. slice_get p.fns z.function ≡ Some g) (sym fault) b'.there) in
       ap (λ o. faulty o f x) same ∙ ap (λ o. faulty q o x) func ∙ ap (λ z. faulty q g z) fault
 
-  not_both : (t : Tree) (p q : Program) (f : Func) (x : FlowFault) → IsTextTree t → program_told t ≡ Ok p → program_told t ≡ Ok q →
+  not_both : (told : Result Program Told) (p q : Program) (f : Func) (x : FlowFault) → GivesWellFormed told → told ≡ Ok p → told ≡ Ok q →
       IsFaultyIn p f x → IsAccepted q → ⊥
-  not_both t p q f x tree a b bad good =
-      none p x (fit_program law t p tree a).well_formed (subst IsAccepted (sym (same_program p q (sym a ∙ b))) good) bad.first
+  not_both told p q f x formed a b bad good =
+      none p x (formed p a) (subst IsAccepted (sym (same_program p q (sym a ∙ b))) good) bad.first
 
-  pub one_verdict : HasOneVerdict
-  one_verdict t (refused a) (refused b) tree v w = ap (λ r. refused r) (same_told a b (sym v ∙ w))
-  one_verdict t (refused a) (faulty q g y) tree v w = absurd (ok_or_err (program_told t) a q v w.0)
-  one_verdict t (refused a) (accepted q) tree v w = absurd (ok_or_err (program_told t) a q v w.0)
-  one_verdict t (faulty p f x) (refused b) tree v w = absurd (ok_or_err (program_told t) b p w v.0)
-  one_verdict t (faulty p f x) (faulty q g y) tree v w = faulty_once p q f g x y (same_program p q (sym v.0 ∙ w.0)) v.1 w.1
-  one_verdict t (faulty p f x) (accepted q) tree v w = absurd (not_both t p q f x tree v.0 w.0 v.1 w.1)
-  one_verdict t (accepted p) (refused b) tree v w = absurd (ok_or_err (program_told t) b p w v.0)
-  one_verdict t (accepted p) (faulty q g y) tree v w = absurd (not_both t q p g y tree w.0 v.0 w.1 v.1)
-  one_verdict t (accepted p) (accepted q) tree v w = ap (λ o. accepted o) (same_program p q (sym v.0 ∙ w.0))
+  pub programs_have_one : ProgramsHaveOneVerdict
+  programs_have_one told (refused a) (refused b) formed v w = ap (λ r. refused r) (same_told a b (sym v ∙ w))
+  programs_have_one told (refused a) (faulty q g y) formed v w = absurd (ok_or_err told a q v w.0)
+  programs_have_one told (refused a) (accepted q) formed v w = absurd (ok_or_err told a q v w.0)
+  programs_have_one told (faulty p f x) (refused b) formed v w = absurd (ok_or_err told b p w v.0)
+  programs_have_one told (faulty p f x) (faulty q g y) formed v w = faulty_once p q f g x y (same_program p q (sym v.0 ∙ w.0)) v.1 w.1
+  programs_have_one told (faulty p f x) (accepted q) formed v w = absurd (not_both told p q f x formed v.0 w.0 v.1 w.1)
+  programs_have_one told (accepted p) (refused b) formed v w = absurd (ok_or_err told b p w v.0)
+  programs_have_one told (accepted p) (faulty q g y) formed v w = absurd (not_both told q p g y formed w.0 v.0 w.1 v.1)
+  programs_have_one told (accepted p) (accepted q) formed v w = ap (λ o. accepted o) (same_program p q (sym v.0 ∙ w.0))
+
+pub gives_well_formed : ProgramsAreFit → (t : Tree) → IsTextTree t → GivesWellFormed (program_told t)
+gives_well_formed law t tree p told = (fit_program law t p tree told).well_formed
+
+pub one_verdict : ProgramsAreFit → ProgramsHaveOneVerdict → HasOneVerdict
+one_verdict law one t v w tree a b = one (program_told t) v w (gives_well_formed law t tree) a b

@@ -9,20 +9,23 @@ use Rattle.vlt_base.specs.Sure.{Surely}
 use Rattle.vlt_check_laws.specs.Judged.{IsJudged}
 use Rattle.vlt_base.proofs.Surely.{sure, so}
 use Rattle.vlt_resolve.specs.Programs.{program_told}
-use Rattle.vlt_verdict.specs.Verdicts.{Verdict, refused, faulty, accepted, IsVerdictOf}
-use Rattle.vlt_verdict.specs.Laws.{HasSomeVerdict}
-use Rattle.vlt_verdict.proofs.Single.{fit_program}
+use Rattle.vlt_verdict.specs.Verdicts.{Verdict, refused, faulty, accepted, IsVerdict}
+use Rattle.vlt_verdict.specs.Laws.{ProgramsHaveSomeVerdict, HasSomeVerdict}
+use Rattle.vlt_verdict.proofs.Single.{gives_well_formed}
 
-abbrev Judged : Tree → Type 0
-Judged t = (v : Verdict) × IsVerdictOf t v
+abbrev Judged : Result Program Told → Type 0
+Judged told = (v : Verdict) × IsVerdict told v
 
-of_program : (t : Tree) (p : Program) → program_told t ≡ Ok p → IsJudged p → Judged t
-of_program t p told (inl is) = (accepted p, (told, is))
-of_program t p told (inr (x, first)) = (faulty p first.func x, (told, record { there = first.there; first = first }))
+of_program : (told : Result Program Told) (p : Program) → told ≡ Ok p → IsJudged p → Judged told
+of_program told p gives (inl is) = (accepted p, (gives, is))
+of_program told p gives (inr (x, first)) = (faulty p first.func x, (gives, record { there = first.there; first = first }))
 
-pub some_verdict : ProgramsAreFit → ((p : Program) → IsWellFormed p → Surely (IsJudged p)) → HasSomeVerdict
-some_verdict fit judged t tree = by (program_told t) refl
+pub programs_have_some : ((p : Program) → IsWellFormed p → Surely (IsJudged p)) → ProgramsHaveSomeVerdict
+programs_have_some judged told formed = by told refl
   where
-    by : (r : Result Program Told) → program_told t ≡ r → Surely (Judged t)
-    by (Ok p) told = so (judged p (fit_program fit t p tree told).well_formed) (of_program t p told)
-    by (Err r) told = sure (refused r, told)
+    by : (r : Result Program Told) → told ≡ r → Surely (Judged told)
+    by (Ok p) gives = so (judged p (formed p gives)) (of_program told p gives)
+    by (Err r) gives = sure (refused r, gives)
+
+pub some_verdict : ProgramsAreFit → ProgramsHaveSomeVerdict → HasSomeVerdict
+some_verdict fit some t tree = some (program_told t) (gives_well_formed fit t tree)

@@ -1,5 +1,5 @@
 -- What a tree is as a program: refused by a rule on names and types or by a limit, faulty, or accepted.
-use Rattle.std.specs.Prelude.{◌≡◌, Some, Ok, Err, slice_get}
+use Rattle.std.specs.Prelude.{◌≡◌, Some, Result, Ok, Err, slice_get}
 use Rattle.vlt_syntax.specs.Tree.{Tree}
 use Rattle.vlt_core.specs.Core.{Func, Program}
 use Rattle.vlt_core.specs.Derives.{IsAccepted}
@@ -18,7 +18,11 @@ pub record IsFaultyIn (p : Program) (f : Func) (x : FlowFault) : Type 0 where
   pub there : slice_get p.fns x.function ≡ Some f
   pub first : IsFirstFault p x
 
+-- the verdict where elaboration gives this
+abbrev pub IsVerdict : Result Program Told → Verdict → Type 0
+IsVerdict told (refused r) = told ≡ Err r
+IsVerdict told (faulty p f x) = (told ≡ Ok p) × IsFaultyIn p f x
+IsVerdict told (accepted p) = (told ≡ Ok p) × IsAccepted p
+
 abbrev pub IsVerdictOf : Tree → Verdict → Type 0
-IsVerdictOf t (refused r) = program_told t ≡ Err r
-IsVerdictOf t (faulty p f x) = (program_told t ≡ Ok p) × IsFaultyIn p f x
-IsVerdictOf t (accepted p) = (program_told t ≡ Ok p) × IsAccepted p
+IsVerdictOf t v = IsVerdict (program_told t) v

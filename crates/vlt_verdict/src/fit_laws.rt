@@ -39,8 +39,8 @@ pub fn programs_are_fit()
     declared_externals_are_narrow();
 }
 
-/// Where a fit program of the code is unfit for the check, one of its bodies is: a row of it names states of which there is
-/// no set, it has 2^62 statements or more, or it is refused and something in it has no number.
+/// Where a program of the code that the check may be asked of is unfit for it, one of its bodies is: a row of it names states
+/// of which there is no set, it has 2^62 statements or more, or it is refused and something in it has no number.
 pub fn only_bodies_are_unfit()
     ensures { OnlyBodiesAreUnfit }
 {}

@@ -8,16 +8,15 @@ ghost use Rattle.vlt_syntax.specs.View.{tree_of};
 ghost use Rattle.vlt_verdict.specs.FitLaws.Fit.{IsTextTree};
 ghost use Rattle.vlt_verdict.specs.Verdicts as v;
 ghost use Rattle.vlt_verdict.specs.Verdicts.{IsVerdictOf};
-ghost use Rattle.vlt_verdict.specs.Laws.{HasOneVerdict, HasSomeVerdict};
+ghost use Rattle.vlt_verdict.specs.Laws.{HasOneVerdict, HasSomeVerdict, ProgramsHaveOneVerdict, ProgramsHaveSomeVerdict};
 ghost use Rattle.vlt_verdict.specs.Seen.{IsSeenAs, IsTellable};
 ghost use Rattle.vlt_verdict.specs.Unfit.{IfUnfit, HasUnfitProgram};
 
 mod fit_laws;
 
-use crate::fit_laws::only_bodies_are_unfit;
 pub use fit_laws::{
     declared_externals_are_narrow, declared_sets_are_small, declared_structs_are_small,
-    programs_are_fit, texts_have_text_trees,
+    only_bodies_are_unfit, programs_are_fit, texts_have_text_trees,
 };
 use std::alloc::{AllocError, Global};
 use thiserror::Error;
@@ -89,13 +88,27 @@ pub fn judge(alloc: Global, tree: &Tree) -> Result<Verdict, JudgeError>
     }
 }
 
+/// Whatever gives a program that the laws on checks are about, it is of one verdict.
+pub fn programs_have_one_verdict()
+    ensures { ProgramsHaveOneVerdict }
+{
+    accepted_has_no_fault();
+    there_is_one_first_fault();
+}
+
 /// A tree that a text has is of one verdict.
 pub fn a_tree_has_one_verdict()
     ensures { HasOneVerdict }
 {
-    accepted_has_no_fault();
-    there_is_one_first_fault();
+    programs_have_one_verdict();
     programs_are_fit();
+}
+
+/// It can't be that what gives such a program is of no verdict.
+pub fn programs_have_some_verdict()
+    ensures { ProgramsHaveSomeVerdict }
+{
+    programs_are_judged();
 }
 
 /// It can't be that a tree that a text has is of no verdict.
@@ -103,5 +116,5 @@ pub fn a_tree_has_some_verdict()
     ensures { HasSomeVerdict }
 {
     programs_are_fit();
-    programs_are_judged();
+    programs_have_some_verdict();
 }

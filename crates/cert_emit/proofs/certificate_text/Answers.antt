@@ -8,13 +8,13 @@ use Rattle.cert_least_texts.specs.Annotated.{AreAnnotatedBy}
 use Rattle.cert_emit.proofs.certificate_text.Goals as goal
 
 pub returns-clause-text : goal.returns-clause-text
-returns-clause-text c = λ bytes of.
+returns-clause-text c = λ of.
     let p = c.args.p.now in
     let all = c.as_slice.result.now in
     let are = subst (AreAnnotatedBy p p.fns) (sym c.as_slice.ensures) c.in_ok-all.ensures.ok in
     record {
       notes = notes_in (program_of p).fns all;
-      least = c.annotations_are_least.ensures bytes p all of are;
+      least = c.annotations_are_least.ensures p all of are;
       is = c.in_ok-to_text.ensures.text.compact;
     }
 

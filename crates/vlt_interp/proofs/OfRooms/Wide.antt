@@ -39,3 +39,15 @@ compared p d h w c frames objects n limit small e g f o is =
     let f' : frames ≡ capped_count (d * capped_count (widest_function p)) = f ∙ ap (λ x. capped_count (d * x)) e in
     let o' : objects ≡ capped_count (h * capped_count (widest_type p)) = o ∙ ap (λ x. capped_count (h * x)) g in
     summed most_counted (d * widest_function p) (h * widest_type p) (d * capped_count (widest_function p)) (h * capped_count (widest_type p)) n limit small a b (is ∙ ap (λ x. capped_count (x + objects)) f' ∙ ap (λ x. capped_count (capped_count (d * capped_count (widest_function p)) + x)) o')
+
+summed_more : (m x y h a b n k limit : ℕ) → limit < m → min a m ≡ min x m → min b m ≡ min y m → n ≡ min (min a m + min b m) m → k ≡ min (n + h) m → (limit < k) ↔ (limit < x + y + h)
+summed_more m x y h a b n k limit small e g is more = (λ lt. omega arith, λ lt. omega arith)
+
+-- with some slots more
+pub compared_more : (p : Program) (d h w c frames objects n k limit : ℕ) → limit < most_counted → w ≡ capped_count (widest_function p) → c ≡ capped_count (widest_type p) → frames ≡ capped_count (d * w) → objects ≡ capped_count (h * c) → n ≡ capped_count (frames + objects) → k ≡ capped_count (n + h) → (limit < k) ↔ (limit < slots_needed p d h + h)
+compared_more p d h w c frames objects n k limit small e g f o is more =
+    let a = product d (widest_function p) in
+    let b = product h (widest_type p) in
+    let f' : frames ≡ capped_count (d * capped_count (widest_function p)) = f ∙ ap (λ x. capped_count (d * x)) e in
+    let o' : objects ≡ capped_count (h * capped_count (widest_type p)) = o ∙ ap (λ x. capped_count (h * x)) g in
+    summed_more most_counted (d * widest_function p) (h * widest_type p) h (d * capped_count (widest_function p)) (h * capped_count (widest_type p)) n k limit small a b (is ∙ ap (λ x. capped_count (x + objects)) f' ∙ ap (λ x. capped_count (capped_count (d * capped_count (widest_function p)) + x)) o') more

@@ -131,3 +131,13 @@ pub fn is_too_wide(p: &Program, depth: u32, heap: u32) -> bool
     let objects = u128::from(heap).saturating_mul(widest_type(p));
     frames.saturating_add(objects) > u128::from(limit(VALUE_SLOTS))
 }
+
+/// The same with one slot more for each object.
+pub fn is_too_wide_for_host(p: &Program, depth: u32, heap: u32) -> bool
+    ensures { IsTrue result ↔ (limit_of 13 < slots_needed (program_of p.now) depth heap + heap) }
+{
+    let frames = u128::from(depth).saturating_mul(widest_function(p));
+    let objects = u128::from(heap).saturating_mul(widest_type(p));
+    let all = frames.saturating_add(objects);
+    all.saturating_add(u128::from(heap)) > u128::from(limit(VALUE_SLOTS))
+}

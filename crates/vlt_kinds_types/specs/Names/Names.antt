@@ -86,6 +86,10 @@ decl_refused known (s.function h b at) = []
 unfoldable pub names_again : List Decl → List Refusal
 names_again ds = refuse rule.DECLARED_AGAIN (declared_again [] no_counts ds)
 
--- what the rules on declared names refuse
+-- what the rules on declared names refuse, that on main aside
+abbrev pub other_names_refused : List Decl → List Refusal
+other_names_refused ds = names_again ds ++ of_each (decl_refused (globals_of ds)) ds
+
+-- what all of them refuse
 unfoldable pub names_refused : List Decl → List Refusal
-names_refused ds = no_main ds ++ (names_again ds ++ of_each (decl_refused (globals_of ds)) ds)
+names_refused ds = no_main ds ++ other_names_refused ds

@@ -196,7 +196,8 @@ fn check_decl(decl: &Decl, known: &Globals<'_>, found: &mut LeastRefusal)
     }
 }
 
-fn has_main(decls: &[Decl]) -> bool
+/// Whether some function with a body is named `main`.
+pub fn has_main(decls: &[Decl]) -> bool
     ensures { result ≡ list_any n.is_main (map view.decl_of decls.now) }
 {
     for decl in decls {
@@ -229,8 +230,26 @@ fn check_decls(decls: &[Decl], known: &Globals<'_>, found: &mut LeastRefusal)
     }
 }
 
+/// The names of a file. What the rules on declared names refuse is noted, but for the one on `main`.
+#[tactic(auto, using(crate::proofs::OfNames::Least::least_of_both, crate::proofs::OfNames::Least::each_is))]
+pub fn check_other_names<'a>(
+    alloc: Global,
+    decls: &'a [Decl],
+    found: &mut LeastRefusal,
+) -> Result<Globals<'a>, AllocError>
+    requires { length decls.now < 2 ^ 32 - 1 }
+    ensures names { IfOk result (λ g. names_seen g ≡ globals_of (map view.decl_of decls.now)) }
+    ensures refused { OnOk result
+        (found.new.least
+        ≡ least_from found.old.least (n.other_names_refused (map view.decl_of decls.now))) }
+{
+    let known = globals::known_names(alloc, decls, found)?;
+    check_decls(decls, &known, found);
+    Ok(known)
+}
+
 /// The names of a file. What the rules on declared names refuse is noted.
-#[tactic(auto, using(crate::proofs::OfNames::Least::least_of_both, crate::proofs::OfNames::Least::each_is), unfolding(crate::specs::Names::Names::names_refused))]
+#[tactic(auto, using(crate::proofs::OfNames::Least::least_of_both), unfolding(crate::specs::Names::Names::names_refused))]
 pub fn check_names<'a>(
     alloc: Global,
     decls: &'a [Decl],
@@ -243,7 +262,5 @@ pub fn check_names<'a>(
         ≡ least_from found.old.least (n.names_refused (map view.decl_of decls.now))) }
 {
     check_main(decls, found);
-    let known = globals::known_names(alloc, decls, found)?;
-    check_decls(decls, &known, found);
-    Ok(known)
+    check_other_names(alloc, decls, found)
 }

@@ -1,4 +1,4 @@
--- Why a fit program of the code isn't unfit for the check.
+-- Why a well-formed program of the code, of small sets and few parts, isn't unfit for the check.
 use Rattle.std.proofs.Common.{◌≡◌, ◌<◌, zero, suc, ◌≤◌, ◌^◌, ◌*◌, ◌%◌, ◌-◌, ℕ, Bool, true, false, true≢false, nat_lt, if◌then◌else◌, IsTrue, List, [], ◌∷◌, map, length, Option, Some, None, slice_get, inl, inr, refl, sym, ap, ◌∙◌, subst, arith, rules}
 use Rattle.std.specs.Option.{option_map}
 use Rattle.std.proofs.lemmas.Bool.Decides.{nat_tests}
@@ -21,7 +21,9 @@ use Rattle.vlt_flow.specs.Unfit as walk
 use Rattle.vlt_flow.specs.Unfit.{IsUnfitEntry, wide_entry, stray_entry, HasNoStart, many_keys, many_vars, unfit_entry}
 use Rattle.vlt_check.specs.Unfit as unfit
 use Rattle.vlt_check.specs.Unfit.{IsUnfitBody, no_walk, no_fault, IsUnfit, many_functions, unfit_body}
-use Rattle.vlt_verdict.specs.FitLaws.Fit.{IsFitProgram}
+use Rattle.vlt_core_laws.specs.Fit.{IsWellFormed}
+use Rattle.vlt_sound.specs.Sizes.{HasSizes}
+use Rattle.vlt_verdict.specs.FitLaws.Fit.{HasFewParts}
 use Rattle.vlt_verdict.specs.FitLaws.Unfit.{IsStillUnfit, wide_row, many_statements, no_number, HasUnfitBody, OnlyBodiesAreUnfit}
 
 -- ---- sets of states
@@ -37,7 +39,7 @@ first_set n from within = (
 wide_not : (n : ℕ) → 1 ≤ n → n ≤ 32 → IsSetOf (λ i. nat_lt i n) None → ⊥
 wide_not n from within wide = let s = first_set n from within in wide s.0 s.1
 
-module _ (p : Program) (fit : IsFitProgram p) where
+module _ (p : Program) (formed : IsWellFormed p) (sizes : HasSizes p) where
   counted : (o : Option SetDecl) → ((d : SetDecl) → o ≡ Some d → length d.states ≤ 32) → count_in o ≤ 32
   counted None each = omega arith
   counted (Some d) each = each d refl
@@ -47,10 +49,10 @@ module _ (p : Program) (fit : IsFitProgram p) where
     where
       by : (o : Option ℕ) → set_in (slice_get p.types t) ≡ o → state_count p t ≤ 32
       by None e = rw e (omega arith)
-      by (Some i) e = rw e (counted (slice_get p.sets i) (λ d is. fit.sizes.most i d is))
+      by (Some i) e = rw e (counted (slice_get p.sets i) (λ d is. sizes.most i d is))
 
   some_state : (t : ℕ) → 1 ≤ state_count p t
-  some_state t = let x = fit.well_formed.states.all t in below (state_count p t) x.state x.has
+  some_state t = let x = formed.states.all t in below (state_count p t) x.state x.has
     where
       below : (n i : ℕ) → IsTrue (nat_lt i n) → 1 ≤ n
       below n i h = grind (arith, nat_tests)
@@ -71,7 +73,7 @@ module _ (p : Program) (fit : IsFitProgram p) where
 
   in_range : (n : ℕ) (f : Func) (i : ℕ) (e : Entry) → slice_get p.fns n ≡ Some f → slice_get f.clause i ≡ Some e → length f.keys ≤ e.key → ⊥
   in_range n f i e there at stray =
-      let h = head_empty p n f fit.well_formed.kinded there in
+      let h = head_empty p n f formed.kinded there in
       let row = each_at (entry_broken p f) f.clause i e (entries_fit p h.0 f h.1) at in
       let past : nat_lt e.key (length f.keys) ≡ false = grind (arith, nat_tests, stray) in
       filled_not_empty _ _ (rw past at row)
@@ -83,7 +85,7 @@ mapped g [] i y e = absurd (none-some y e)
 mapped g (x ∷ xs) zero y e = (x, sym (some_same (g x) y e))
 mapped g (x ∷ xs) (suc i) y e = mapped g xs i y e
 
-module _ (c : CodeProgram) (fit : IsFitProgram (program_of c)) where
+module _ (c : CodeProgram) (formed : IsWellFormed (program_of c)) (sizes : HasSizes (program_of c)) (parts : HasFewParts (program_of c)) where
   abbrev p : Program
   p = program_of c
 
@@ -91,31 +93,31 @@ module _ (c : CodeProgram) (fit : IsFitProgram (program_of c)) where
   entry_fits n f i e there at (wide_entry wide) =
       let g = mapped func_of c.fns n f there in
       let d = mapped entry_of g.0.clause i e (subst (λ h. slice_get h.clause i ≡ Some e) g.1 at) in
-      entry_set p fit f d.0 (subst (λ x. IsSetOf (before_set p f x) None) d.1 wide)
-  entry_fits n f i e there at (stray_entry stray) = in_range p fit n f i e there at stray
+      entry_set p formed sizes f d.0 (subst (λ x. IsSetOf (before_set p f x) None) d.1 wide)
+  entry_fits n f i e there at (stray_entry stray) = in_range p formed sizes n f i e there at stray
 
   start_fits : (n : ℕ) (f : Func) → slice_get p.fns n ≡ Some f → HasNoStart p f → ⊥
-  start_fits n f there (many_keys q) = let few = fit.few.keys n f there in omega (arith, q, few)
-  start_fits n f there (many_vars q) = let few = fit.few.vars n f there in omega (arith, q, few)
+  start_fits n f there (many_keys q) = let few = parts.keys n f there in omega (arith, q, few)
+  start_fits n f there (many_vars q) = let few = parts.vars n f there in omega (arith, q, few)
   start_fits n f there (unfit_entry i e at before u) = entry_fits n f i e there at u
 
   walk_fits : (n : ℕ) (f : Func) → slice_get p.fns n ≡ Some f → walk.IsUnfit p f → IsStillUnfit p f
   walk_fits n f there (walk.no_flow (inl wide)) = wide_row wide
-  walk_fits n f there (walk.no_flow (inr (inl q))) = let few = fit.few.keys n f there in absurd (omega (arith, q, few))
-  walk_fits n f there (walk.no_flow (inr (inr q))) = let few = fit.few.vars n f there in absurd (omega (arith, q, few))
+  walk_fits n f there (walk.no_flow (inr (inl q))) = let few = parts.keys n f there in absurd (omega (arith, q, few))
+  walk_fits n f there (walk.no_flow (inr (inr q))) = let few = parts.vars n f there in absurd (omega (arith, q, few))
   walk_fits n f there (walk.no_start s) = absurd (start_fits n f there s)
   walk_fits n f there (walk.many_statements q) = many_statements q
 
   body_fits : (n : ℕ) (f : Func) → slice_get p.fns n ≡ Some f → f.external ≡ false → IsUnfitBody p f → IsStillUnfit p f
   body_fits n f there body (no_walk u) = walk_fits n f there u
   body_fits n f there body (no_fault never) =
-      let q = formed_body p n f fit.well_formed there body in
+      let q = formed_body p n f formed there body in
       absurd (never (record { fit = q.fit; start = q.start }))
   body_fits n f there body (unfit.no_number u) = no_number u
 
-  by_bodies : IsUnfit p → HasUnfitBody p
-  by_bodies (many_functions q) = let few = fit.few.functions in absurd (omega (arith, q, few))
+  pub by_bodies : IsUnfit p → HasUnfitBody p
+  by_bodies (many_functions q) = let few = parts.functions in absurd (omega (arith, q, few))
   by_bodies (unfit_body n f there body u) = record { number = n; func = f; there = there; with_body = body; unfit = body_fits n f there body u }
 
 pub only_bodies : OnlyBodiesAreUnfit
-only_bodies c fit u = by_bodies c fit u
+only_bodies c fit u = by_bodies c fit.well_formed fit.sizes fit.few u

@@ -47,5 +47,5 @@ returns-in-Err-Unfit-clause-unfit c =
     let told = told_of t _ _ c.in-Ok.ensures.ok c.in-Ok-elaborate.ensures.ok in
     let unfit = c.check.ensures.unfit.holds (c.in-Err-Unfit.is ∙ ap (λ x. Err x) c.in-Err-Unfit.field-0-is) in
     record {
-      holds = λ e. record { program = program_of c.in-Ok-elaborate.program; told = told; unfit = c.only_bodies_are_unfit.ensures c.in-Ok-elaborate.program fit unfit };
+      holds = λ e. record { program = program_of c.in-Ok-elaborate.program; told = told; unfit = c.only_bodies_are_unfit.ensures c.in-Ok-elaborate.program (record { well_formed = fit.well_formed; sizes = fit.sizes; few = fit.few }) unfit };
     }

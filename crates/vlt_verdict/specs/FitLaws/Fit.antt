@@ -23,6 +23,12 @@ pub record HasFewParts (p : Program) : Type 0 where
   pub keys : (i : ℕ) (f : Func) → slice_get p.fns i ≡ Some f → length f.keys ≤ 256
   pub functions : length p.fns ≤ 4096
 
+-- what the check asks of a program, and what keeps it from being unfit for it
+pub record IsJudgeable (p : Program) : Type 0 where
+  pub well_formed : IsWellFormed p
+  pub sizes : HasSizes p
+  pub few : HasFewParts p
+
 -- All that the laws on checks and runs want to know of a program: it breaks no rule on names and types, each of its sets has a
 -- state and at most 32, all below 32 where a host gives one, each of its switches has an arm, no clause has a bound entry (as
 -- long as no text has one), fields, variables, keys and functions are few, each operator has as many operands as it wants, and

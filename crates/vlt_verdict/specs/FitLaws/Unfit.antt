@@ -1,4 +1,4 @@
--- What a fit program of the code may still be unfit for the check by: no law excludes these.
+-- What a program of the code that the check may be asked of may still be unfit for it by: no law excludes these.
 use Rattle.std.specs.Prelude.{◌≡◌, ◌≤◌, ◌^◌, ℕ, false, Some, slice_get}
 use Rattle.vlt_core.specs.Core.{Func, Program}
 use Rattle.vlt_core.specs.Flow.{size_block}
@@ -7,7 +7,7 @@ use Rattle.vlt_core.specs.View.{program_of}
 use Rattle.vlt_core.specs.declared.program.Program.{Program as CodeProgram}
 use Rattle.vlt_rows.specs.Unfit.{HasWideRow}
 use Rattle.vlt_check.specs.Unfit.{IsUnfit, HasNoNumber}
-use Rattle.vlt_verdict.specs.FitLaws.Fit.{IsFitProgram}
+use Rattle.vlt_verdict.specs.FitLaws.Fit.{IsJudgeable}
 
 pub data IsStillUnfit (p : Program) (f : Func) : Type 0 where
   -- no set of the code has just the states that a row names
@@ -25,4 +25,4 @@ pub record HasUnfitBody (p : Program) : Type 0 where
   pub unfit : IsStillUnfit p func
 
 abbrev pub OnlyBodiesAreUnfit : Type 0
-OnlyBodiesAreUnfit = (c : CodeProgram) → IsFitProgram (program_of c) → IsUnfit (program_of c) → HasUnfitBody (program_of c)
+OnlyBodiesAreUnfit = (c : CodeProgram) → IsJudgeable (program_of c) → IsUnfit (program_of c) → HasUnfitBody (program_of c)

@@ -10,9 +10,9 @@ use Rattle.cert_text_laws.proofs.Verifying.{one_of}
 use Rattle.cert_least_texts.proofs.texts.least_certificates_are_read_back.Goals as goal
 
 pub returns : goal.returns
-returns c = λ bytes p all body is has written.
+returns c = λ p all body is has written.
     let q = unplaced_program (program_of p) in
-    let v = c.least_certificates_verify.ensures bytes p all is has in
+    let v = c.least_certificates_verify.ensures p all is has in
     let text = (c.certificates_are_written.ensures false q all v.fits).certificate body (subst (λ o. IsWrittenText body (list (program_data o q all))) v.version written) in
     record {
       certificate = text;

@@ -6,15 +6,15 @@ use Rattle.cert_fit_laws.proofs.Listed.{all_at}
 use Rattle.cert_least_texts.proofs.texts.least_certificates_verify.Goals as goal
 
 pub returns : goal.returns
-returns c = λ bytes p all is has.
+returns c = λ p all is has.
     let q = program_of p in
-    let limited = c.texts_are_limited.ensures bytes q is in
+    let limited = c.texts_are_limited.ensures q is in
     let kinded = c.elaborated_programs_are_kinded.ensures is.tree is.kinds q is.elaborated in
     let plain = c.elaborated_programs_have_no_bounds.ensures is.tree is.kinds q is.elaborated in
     let places = c.places_dont_count.ensures q in
     let complete = c.least_certificates_are_complete.ensures q all plain (λ g f at. (all_at IsLimitedFunc q.fns g f limited.fns at).blank) has in
     record {
-      version = c.texts_are_unordered.ensures bytes q is;
+      version = c.texts_are_unordered.ensures q is;
       fits = c.limited_programs_fit.ensures p all kinded limited complete;
       verified = record {
         kinded = places.kinds ∙ kinded;

@@ -5,7 +5,7 @@ use Rattle.cert_text_laws.proofs.Annotated.{all_complete}
 use Rattle.cert_text_laws.proofs.texts.accepted_programs_have_certificates.Goals as goal
 
 pub returns : goal.returns
-returns c = λ bytes p all is are.
-    let limited = c.texts_are_limited.ensures bytes (program_of p) is in
+returns c = λ p all is are.
+    let limited = c.texts_are_limited.ensures (program_of p) is in
     c.limited_programs_fit.ensures p (map listed_notes all) (c.elaborated_programs_are_kinded.ensures is.tree is.kinds (program_of p) is.elaborated) limited
     (all_complete p p.fns all limited.fns are)

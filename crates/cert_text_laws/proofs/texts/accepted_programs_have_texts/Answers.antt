@@ -8,8 +8,8 @@ use Rattle.cert_text_laws.specs.Annotations.{listed_notes}
 use Rattle.cert_text_laws.proofs.texts.accepted_programs_have_texts.Goals as goal
 
 pub returns : goal.returns
-returns c = λ bytes p all body is are written.
+returns c = λ p all body is are written.
     let q = unplaced_program (program_of p) in
-    let fits = c.accepted_programs_have_certificates.ensures bytes p all is are in
+    let fits = c.accepted_programs_have_certificates.ensures p all is are in
     (c.certificates_are_written.ensures false q (map listed_notes all) fits).certificate body
-    (subst (λ o. IsWrittenText body (list (program_data o q (map listed_notes all)))) (c.texts_are_unordered.ensures bytes (program_of p) is) written)
+    (subst (λ o. IsWrittenText body (list (program_data o q (map listed_notes all)))) (c.texts_are_unordered.ensures (program_of p) is) written)

@@ -4,9 +4,9 @@ use Rattle.cert_text_laws.proofs.Limited.{limited}
 use Rattle.cert_text_laws.proofs.texts.texts_are_limited.Goals as goal
 
 pub returns : goal.returns
-returns c = λ bytes p is.
-    limited is.tree is.kinds p (text_names bytes is.tokens is.tree is.read is.spelled) (few_statements is.tokens is.tree is.few is.spelled) is.elaborated
-    (c.elaborated_programs_have_proper_bodies.ensures is.tree is.kinds p is.elaborated (c.texts_have_numbers.ensures bytes is.tokens is.tree is.read is.spelled))
+returns c = λ p is.
+    limited is.tree is.kinds p (text_names is.tree is.spelled) (few_statements is.tree.decls is.short) is.elaborated
+    (c.elaborated_programs_have_proper_bodies.ensures is.tree is.kinds p is.elaborated is.numbers)
     (record {
       keys = λ g f at. c.elaborated_programs_have_few_keys.ensures is.tree is.kinds p is.elaborated g f at;
       vars = λ g f at. c.elaborated_programs_have_few_variables.ensures is.tree is.kinds p is.elaborated g f at;

@@ -8,9 +8,9 @@ use Rattle.cert_text_laws.proofs.Verifying.{one_of, read_as}
 use Rattle.cert_text_laws.proofs.verified.written_certificates_verify.Goals as goal
 
 pub returns : goal.returns
-returns c = λ bytes p all body is are written.
+returns c = λ p all body is are written.
     let own = unplaced_program (program_of p) in
-    let text = c.accepted_programs_have_texts.ensures bytes p all body is are written in
+    let text = c.accepted_programs_have_texts.ensures p all body is are written in
     let verified = c.certificates_verify.ensures is.tree is.kinds p all is.elaborated are in
     record {
       certificate = text;

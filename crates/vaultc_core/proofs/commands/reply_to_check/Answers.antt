@@ -1,7 +1,12 @@
+use Rattle.vlt_syntax.specs.View.{tree_of}
 use Rattle.vaultc_core.specs.Commands.{check}
 use Rattle.vaultc_core.specs.Shown.{refusal_of}
-use Rattle.vaultc_core.proofs.Said.{refused_each}
+use Rattle.vaultc_core.proofs.Said.{refused_each, checked_said}
 use Rattle.vaultc_core.proofs.commands.reply_to_check.Goals as goal
+
+pub returns-in_ok-judged-in-Ok : goal.returns-in_ok-judged-in-Ok
+returns-in_ok-judged-in-Ok c =
+    checked_said c.args.bytes.now (tree_of c.in-Ok.tree) c.in_ok-judged-in-Ok.judged c.verdict.result c.in-Ok.ensures.ok c.in_ok-judged-in-Ok.ensures.is c.verdict.ensures
 
 pub returns-in-Err : goal.returns-in-Err
 returns-in-Err c = refused_each (λ file. check file) c.args.bytes.now (refusal_of c.in-Err.error) c.refusal.result c.in-Err.ensures.refused c.refusal.ensures

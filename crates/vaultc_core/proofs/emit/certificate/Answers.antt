@@ -4,7 +4,7 @@ use Rattle.vaultc_core.proofs.Compiles.{not_refused}
 use Rattle.vaultc_core.proofs.emit.certificate.Goals as goal
 
 pub returns-in-Ok : goal.returns-in-Ok
-returns-in-Ok c = c.in-Ok.ensures.text c.requires.bytes c.requires.text
+returns-in-Ok c = c.in-Ok.ensures.text c.requires.texts
 
 pub unreachable-requires : goal.unreachable-requires
 unreachable-requires c =
@@ -14,4 +14,4 @@ unreachable-requires c =
 pub unreachable-requires-in-Err-Name : goal.unreachable-requires-in-Err-Name
 unreachable-requires-in-Err-Name c =
     c.certificate_text.ensures.name.holds (c.in-Err-Name.is ∙ ap (λ x. Err x) c.in-Err-Name.field-0-is)
-    (c.texts_have_text_names.ensures c.requires.bytes (program_of c.args.program.now) c.requires.text)
+    (c.texts_have_text_names.ensures (program_of c.args.program.now) c.requires.texts)

@@ -1,27 +1,53 @@
-use Rattle.vlt_interp.specs.Running.{start_of, goal_of}
-use Rattle.vlt_interp.proofs.Running.{can_move, goes_on, ends_so}
+use Rattle.std.proofs.Common.{◌≡◌, ◌<◌, ◌∙◌, [], None, Some, refl, arith, length}
+use Rattle.vlt_steps.specs.Writing.{Outside}
+use Rattle.vlt_interp.specs.Tasks.Shown.{tasks_left}
+use Rattle.vlt_interp.proofs.Running.{can_move, goes_on, ends_so, same_heap, some_left, none_left, come_so}
 use Rattle.vlt_interp.proofs.run.finish.Goals as goal
 
-pub loop-stop-init : goal.loop-stop-init
-loop-stop-init g c = c.requires.start (record { written = g.K.Sink.written c.args.sink.now; faults = g.K.Sink.faults c.args.sink.now })
+pub loop-run-init : goal.loop-run-init
+loop-run-init g c = record { heap = refl; running = λ goal w r. r (record { written = g.K.Sink.written c.args.sink.now; faults = g.K.Sink.faults c.args.sink.now }) }
 
 pub step-requires : goal.step-requires
-step-requires g c = record {
-  can = can_move c.args.rules.now (goal_of c.args.rules.now c.args.run.now) (start_of c.args.run.now) (record { written = g.K.Sink.written c.args.sink.now; faults = g.K.Sink.faults c.args.sink.now })
-      (record { written = g.K.Sink.written c.loop-stop.sink; faults = g.K.Sink.faults c.loop-stop.sink }) (record { written = g.K.Sink.written c.loop-stop.sink; faults = g.K.Sink.faults c.loop-stop.sink }) c.loop-stop.run c.loop-stop.run c.loop-stop.invariant;
-}
+step-requires g c =
+    let before : Outside = record { written = g.K.Sink.written c.args.sink.now; faults = g.K.Sink.faults c.args.sink.now } in
+    let here : Outside = record { written = g.K.Sink.written c.loop-run.sink; faults = g.K.Sink.faults c.loop-run.sink } in
+    let h = c.requires.goal in
+    record { can = can_move c.args.rules.now h.goal h.world before here here c.loop-run.run c.loop-run.run (c.loop-run.invariant.running h.goal h.world h.running) }
 
-pub loop-stop-preserved : goal.loop-stop-preserved
-loop-stop-preserved g c =
-    (goes_on c.args.rules.now (goal_of c.args.rules.now c.args.run.now) (start_of c.args.run.now) (record { written = g.K.Sink.written c.args.sink.now; faults = g.K.Sink.faults c.args.sink.now })
-    (record { written = g.K.Sink.written c.loop-stop.sink; faults = g.K.Sink.faults c.loop-stop.sink }) (record { written = g.K.Sink.written c.step.new.sink; faults = g.K.Sink.faults c.step.new.sink }) c.loop-stop.run c.step.new.run c.loop-stop.invariant c.in-None.ensures).goes
+pub loop-run-preserved : goal.loop-run-preserved
+loop-run-preserved g c =
+    let before : Outside = record { written = g.K.Sink.written c.args.sink.now; faults = g.K.Sink.faults c.args.sink.now } in
+    let here : Outside = record { written = g.K.Sink.written c.loop-run.sink; faults = g.K.Sink.faults c.loop-run.sink } in
+    let there : Outside = record { written = g.K.Sink.written c.step.new.sink; faults = g.K.Sink.faults c.step.new.sink } in
+    record {
+      heap = same_heap c.args.rules.now here there c.loop-run.run c.step.new.run None (some_left c.loop-run.run (omega (arith, c.loop-run-test.true))) c.in_default.ensures ∙ c.loop-run.invariant.heap;
+      running = λ goal w r. (goes_on c.args.rules.now goal w before here there c.loop-run.run c.step.new.run (c.loop-run.invariant.running goal w r) c.in_default.ensures).goes;
+    }
 
-pub loop-stop-smaller : goal.loop-stop-smaller
-loop-stop-smaller g c =
-    (goes_on c.args.rules.now (goal_of c.args.rules.now c.args.run.now) (start_of c.args.run.now) (record { written = g.K.Sink.written c.args.sink.now; faults = g.K.Sink.faults c.args.sink.now })
-    (record { written = g.K.Sink.written c.loop-stop.sink; faults = g.K.Sink.faults c.loop-stop.sink }) (record { written = g.K.Sink.written c.step.new.sink; faults = g.K.Sink.faults c.step.new.sink }) c.loop-stop.run c.step.new.run c.loop-stop.invariant c.in-None.ensures).falls
+pub loop-run-smaller : goal.loop-run-smaller
+loop-run-smaller g c =
+    let before : Outside = record { written = g.K.Sink.written c.args.sink.now; faults = g.K.Sink.faults c.args.sink.now } in
+    let here : Outside = record { written = g.K.Sink.written c.loop-run.sink; faults = g.K.Sink.faults c.loop-run.sink } in
+    let there : Outside = record { written = g.K.Sink.written c.step.new.sink; faults = g.K.Sink.faults c.step.new.sink } in
+    let h = c.requires.goal in
+    (goes_on c.args.rules.now h.goal h.world before here there c.loop-run.run c.step.new.run (c.loop-run.invariant.running h.goal h.world h.running) c.in_default.ensures).falls
 
 pub returns-in-Some : goal.returns-in-Some
 returns-in-Some g c =
-    ends_so c.args.rules.now (goal_of c.args.rules.now c.args.run.now) (start_of c.args.run.now) (record { written = g.K.Sink.written c.args.sink.now; faults = g.K.Sink.faults c.args.sink.now })
-    (record { written = g.K.Sink.written c.loop-stop.sink; faults = g.K.Sink.faults c.loop-stop.sink }) (record { written = g.K.Sink.written c.step.new.sink; faults = g.K.Sink.faults c.step.new.sink }) c.loop-stop.run c.step.new.run c.loop-stop.invariant c.in-Some.stop c.in-Some.ensures
+    let before : Outside = record { written = g.K.Sink.written c.args.sink.now; faults = g.K.Sink.faults c.args.sink.now } in
+    let here : Outside = record { written = g.K.Sink.written c.loop-run.sink; faults = g.K.Sink.faults c.loop-run.sink } in
+    let there : Outside = record { written = g.K.Sink.written c.step.new.sink; faults = g.K.Sink.faults c.step.new.sink } in
+    let some : tasks_left c.loop-run.run ≡ [] → ⊥ = some_left c.loop-run.run (omega (arith, c.loop-run-test.true)) in
+    record {
+      heap = same_heap c.args.rules.now here there c.loop-run.run c.step.new.run (Some c.in-Some.stop) some c.in-Some.ensures ∙ c.loop-run.invariant.heap;
+      comes = λ goal w r. ends_so c.args.rules.now goal w before here there c.loop-run.run c.step.new.run (c.loop-run.invariant.running goal w r) c.in-Some.stop some c.in-Some.ensures;
+    }
+
+pub returns : goal.returns
+returns g c =
+    let before : Outside = record { written = g.K.Sink.written c.args.sink.now; faults = g.K.Sink.faults c.args.sink.now } in
+    let here : Outside = record { written = g.K.Sink.written c.loop-run.sink; faults = g.K.Sink.faults c.loop-run.sink } in
+    record {
+      heap = c.loop-run.invariant.heap;
+      comes = λ goal w r. come_so c.args.rules.now goal w before here c.loop-run.run (c.loop-run.invariant.running goal w r) (none_left c.loop-run.run (omega (arith, c.loop-run-test.false)));
+    }

@@ -1,0 +1,4 @@
+pub mod Frames
+pub mod Values
+pub mod Clause
+pub mod Lines
