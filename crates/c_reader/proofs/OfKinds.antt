@@ -2,3 +2,4 @@ pub mod Before
 pub mod Turns
 pub mod Places
 pub mod Seen
+pub mod Order

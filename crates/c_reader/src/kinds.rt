@@ -13,6 +13,7 @@ mod calls;
 mod exprs;
 mod functions;
 mod heads;
+mod order;
 mod stmts;
 mod types;
 mod walk;

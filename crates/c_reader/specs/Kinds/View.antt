@@ -1,4 +1,4 @@
--- What the types of the judgement stand for. Nothing is forgotten but what the walk has behind it.
+-- What the types of the judgement stand for. Nothing is forgotten but the tokens that the walk has passed, and how heads are found.
 use Rattle.std.specs.Prelude.{map, option_map}
 use Rattle.c_syntax.specs.Kinds as k
 use Rattle.c_parser.specs.View.{head_of}
@@ -15,7 +15,7 @@ abbrev pub walk_of : Walk → k.Walk
 walk_of w = record { places = map (λ l. l.at) w.rest.now; least = option_map refusal_of w.least }
 
 abbrev pub scope_of : Scope → k.Scope
-scope_of s = record { heads = map head_of s.heads.now; name = s.name; result = s.result; declared = s.declared.now }
+scope_of s = record { heads = map head_of s.heads.list.now; name = s.name; result = s.result; declared = s.declared.now }
 
 abbrev pub wanted_of : Wanted → k.Wanted
 wanted_of (wanted.Value t) = k.value t

@@ -7,9 +7,10 @@ ghost use Rattle.c_syntax.specs.View.{arg_of, call_of};
 ghost use Rattle.c_parser.specs.View.{head_of, declaration_of};
 ghost use Rattle.c_reader.specs.Kinds.View.{scope_of, walk_of, wanted_of};
 
-use crate::kinds::types::{Scope, Wanted, is_one_of, may_be, same_name, same_type, type_of};
+use crate::kinds::heads::find_head;
+use crate::kinds::types::{Scope, Wanted, is_one_of, may_be, same_type, type_of};
 use crate::kinds::walk::Walk;
-use c_parser::{Declaration, Head};
+use c_parser::Declaration;
 use c_syntax::{CArg, CCall, CName, CPrim, CResult};
 
 const NUMBER: Wanted = Wanted::Value(CResult::Number);
@@ -99,25 +100,12 @@ fn all_params_fit(scope: &Scope<'_>, params: &[Declaration], args: &[CArg]) -> b
     left.is_empty()
 }
 
-/// The first head of that name.
-fn head_of<'a>(name: CName, heads: &'a [Head]) -> Option<&'a Head>
-    ensures { MatchOption result (k.head_of name (map head_of heads.now) ≡ None)
-        (λ h. k.head_of name (map head_of heads.now) ≡ Some (head_of h.now)) }
-{
-    for head in heads {
-        if same_name(name, head.name) {
-            return Some(head);
-        }
-    }
-    None
-}
-
 /// Whether the arguments of a call of a function are right. Glue calls no glue; those of an unknown function are right.
 fn known_fits(scope: &Scope<'_>, name: CName, args: &[CArg]) -> bool
     ensures { result ≡ k.known_fits (scope_of scope.now) name (map arg_of args.now)
         (k.head_of name (scope_of scope.now).heads) }
 {
-    match head_of(name, scope.heads) {
+    match find_head(name, scope.heads) {
         None => true,
         Some(head) => {
             !(name.glue && scope.name.glue) && all_params_fit(scope, head.params.as_slice(), args)
@@ -128,7 +116,7 @@ fn known_fits(scope: &Scope<'_>, name: CName, args: &[CArg]) -> bool
 fn is_known(scope: &Scope<'_>, name: CName) -> bool
     ensures { result ≡ k.is_known (k.head_of name (scope_of scope.now).heads) }
 {
-    head_of(name, scope.heads).is_some()
+    find_head(name, scope.heads).is_some()
 }
 
 /// What a call gives, where its function is declared.
@@ -136,7 +124,7 @@ pub fn call_type(scope: &Scope<'_>, call: &CCall) -> Option<CResult>
     ensures { result ≡ k.call_type (scope_of scope.now) (call_of call.now) }
 {
     match call {
-        CCall::Function(name, _) => match head_of(*name, scope.heads) {
+        CCall::Function(name, _) => match find_head(*name, scope.heads) {
             None => None,
             Some(head) => Some(head.result),
         },

@@ -1,13 +1,14 @@
 //! Declarations, heads, functions with their bodies, and the whole.
 
-ghost use Rattle.std.specs.Prelude.{◌≡◌, ◌++◌, [], ◌∷◌, map, take, IfOk};
+ghost use Rattle.std.specs.Prelude.{◌≡◌, ◌++◌, [], ◌∷◌, map, not, take, IfOk};
 ghost use Rattle.c_syntax.specs.Kinds as k;
 ghost use Rattle.c_parser.specs.View.{body_of, declaration_of, head_of, unit_of};
 ghost use Rattle.c_reader.specs.Kinds.View.{walk_of};
 
 use crate::kinds::heads::{
-    has_body, has_head, has_main, has_name, has_name_of_body, result_width, type_width,
+    has_body, has_head, has_main, is_new_body, is_new_head, result_width, type_width,
 };
+use crate::kinds::order::{Heads, are_bodies_in_order};
 use crate::kinds::types::{Scope, is_one_of, same_bool};
 use crate::kinds::walk::Walk;
 use c_parser::{Body, Declaration, Head, Unit};
@@ -65,21 +66,23 @@ impl Walk<'_> {
         Ok(names)
     }
 
-    /// A head with the semicolon behind it, before those functions and after those heads.
+    /// A head with the semicolon after it, before those functions and after those heads, of whose names it has a new one or not.
     fn head(
         &mut self,
         alloc: Global,
         bodies: &[Body],
         before: &[Head],
         head: &Head,
+        new: bool,
     ) -> Result<(), Memory>
+        requires { new ≡ not (k.has_name head.now.name (map head_of before.now)) }
         ensures { IfOk result (λ u. walk_of self.new
             ≡ k.heads_judged (k.heads_of (map body_of bodies.now)) (map head_of before.now)
             (head_of head.now ∷ []) (walk_of self.old)) }
     {
         self.skip(result_width(head.result));
-        self.unless_here(!has_name(head.name, before), 1);
-        self.unless_here(has_body(head, bodies), 6);
+        self.unless_here(new, 1);
+        self.unless_here(has_body(head, bodies, before.len()), 6);
         self.skip(2);
         self.params(alloc, head.params.as_slice())?;
         self.skip(1);
@@ -87,31 +90,36 @@ impl Walk<'_> {
     }
 
     /// The heads before those functions.
-    fn heads(&mut self, alloc: Global, bodies: &[Body], heads: &[Head]) -> Result<(), Memory>
+    fn heads(&mut self, alloc: Global, bodies: &[Body], heads: Heads<'_>) -> Result<(), Memory>
         ensures { IfOk result (λ u. walk_of self.new ≡ k.heads_judged
-            (k.heads_of (map body_of bodies.now)) [] (map head_of heads.now) (walk_of self.old)) }
+            (k.heads_of (map body_of bodies.now)) [] (map head_of heads.entry.list.now)
+            (walk_of self.old)) }
     {
-        for at in 0..heads.len() {
-            self.head(alloc, bodies, &heads[..at], &heads[at])?;
+        let list = heads.list;
+        for at in 0..list.len() {
+            let new = is_new_head(list, heads.in_order, at);
+            self.head(alloc, bodies, &list[..at], &list[at], new)?;
         }
         Ok(())
     }
 
-    /// A function with its body, behind those heads and after those functions.
+    /// A function with its body, after those heads and those functions, of whose names it has a new one or not.
     fn body(
         &mut self,
         alloc: Global,
-        heads: &[Head],
+        heads: Heads<'_>,
         before: &[Body],
         body: &Body,
+        new: bool,
     ) -> Result<(), Memory>
-        ensures { IfOk result (λ u. walk_of self.new ≡ k.body_judged (map head_of heads.now)
+        requires { new ≡ not (k.has_name body.now.head.name (k.heads_of (map body_of before.now))) }
+        ensures { IfOk result (λ u. walk_of self.new ≡ k.body_judged (map head_of heads.entry.list.now)
             (k.heads_of (map body_of before.now)) (body_of body.now) (walk_of self.old)) }
     {
         let head = &body.head;
         self.skip(result_width(head.result));
-        self.unless_here(!has_name_of_body(head.name, before), 6);
-        self.unless_here(has_head(head, heads), 6);
+        self.unless_here(new, 6);
+        self.unless_here(has_head(head, heads.list, before.len()), 6);
         self.skip(2);
         let mut declared = self.params(alloc, head.params.as_slice())?;
         self.skip(1);
@@ -127,13 +135,15 @@ impl Walk<'_> {
         Ok(())
     }
 
-    /// The functions with their bodies, behind those heads.
-    fn bodies(&mut self, alloc: Global, heads: &[Head], bodies: &[Body]) -> Result<(), Memory>
-        ensures { IfOk result (λ u. walk_of self.new ≡ k.bodies_judged (map head_of heads.now) []
-            (map body_of bodies.now) (walk_of self.old)) }
+    /// The functions with their bodies, after those heads.
+    fn bodies(&mut self, alloc: Global, heads: Heads<'_>, bodies: &[Body]) -> Result<(), Memory>
+        ensures { IfOk result (λ u. walk_of self.new ≡ k.bodies_judged (map head_of heads.entry.list.now)
+            [] (map body_of bodies.now) (walk_of self.old)) }
     {
+        let in_order = are_bodies_in_order(bodies);
         for at in 0..bodies.len() {
-            self.body(alloc, heads, &bodies[..at], &bodies[at])?;
+            let new = is_new_body(bodies, in_order, at);
+            self.body(alloc, heads, &bodies[..at], &bodies[at], new)?;
         }
         Ok(())
     }
@@ -151,10 +161,11 @@ impl Walk<'_> {
         ensures { IfOk result (λ u. walk_of self.new
             ≡ k.unit_judged (unit_of unit.now) (walk_of self.old)) }
     {
+        let heads = Heads::new(&unit.heads);
         self.skip(3);
         self.main(unit);
         self.skip(2);
-        self.heads(alloc, &unit.bodies, &unit.heads)?;
-        self.bodies(alloc, &unit.heads, &unit.bodies)
+        self.heads(alloc, &unit.bodies, heads)?;
+        self.bodies(alloc, heads, &unit.bodies)
     }
 }

@@ -6,14 +6,13 @@ ghost use Rattle.c_syntax.specs.View.{arg_of, call_of, expr_of};
 ghost use Rattle.c_parser.specs.View.{head_of};
 ghost use Rattle.c_reader.specs.Kinds.View.{scope_of, wanted_of};
 
-use c_parser::Head;
+use crate::kinds::order::Heads;
 use c_syntax::{CArg, CCell, CExpr, CName, CPrim, CResult, CVar};
 
 /// What the body of a function sees.
 #[derive(Clone, Copy)]
 pub struct Scope<'a> {
-    /// The heads before the bodies.
-    pub heads: &'a [Head],
+    pub heads: Heads<'a>,
     /// The function's own name and result.
     pub name: CName,
     pub result: CResult,
@@ -22,7 +21,7 @@ pub struct Scope<'a> {
 }
 
 /// What an argument has to be.
-#[derive(Clone, Copy, Debug, PartialEq, Eq)]
+#[derive(Clone, Copy)]
 pub enum Wanted {
     /// A value of this type.
     Value(CResult),

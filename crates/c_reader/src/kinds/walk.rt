@@ -14,7 +14,7 @@ pub struct Refusal {
 }
 
 /// The tokens to come, and the least refusal so far.
-#[derive(Clone, Copy, Debug)]
+#[derive(Clone, Copy)]
 pub struct Walk<'a> {
     pub rest: &'a [Lexeme<'a>],
     pub least: Option<Refusal>,

@@ -7,6 +7,9 @@ use Rattle.c_reader.proofs.kinds.walk.Walk.heads.Goals as goal
 
 pub loop-at-preserved : goal.loop-at-preserved
 loop-at-preserved c =
-    heads_turn (k.heads_of (map body_of c.args.bodies.now)) c.args.heads.now c.loop-at.at c.index-heads-at.result (walk_of c.loop-at.self) (walk_of c.head.new.self)
-    c.loop-at-test.true c.index-heads-at.is c.in_ok-head.ensures
+    heads_turn (k.heads_of (map body_of c.args.bodies.now)) c.args.heads.list.now c.loop-at.at c.index-list-at.result (walk_of c.loop-at.self) (walk_of c.head.new.self)
+    c.loop-at-test.true c.index-list-at.is c.in_ok-head.ensures
     ∙ c.loop-at.invariant
+
+pub head-requires : goal.head-requires
+head-requires c = c.is_new_head-new.ensures c.index-list-at.result c.index-list-at.is
