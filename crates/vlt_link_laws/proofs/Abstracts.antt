@@ -19,7 +19,7 @@ use Rattle.vlt_resolve_moves.specs.Joins.{Joins, befores, afters, counted, at_in
 use Rattle.vlt_resolve_moves.proofs.Joins.{Gives, GivesBoth, JoinGives, stands}
 use Rattle.vlt_resolve_moves.proofs.Names.{Kind, a_type, kind_of, IsJoin, AreJoined}
 use Rattle.vlt_link_laws.proofs.Fits.{IsGiven, FitsIf, Fits}
-use Rattle.vlt_link_laws.specs.Hidden.{type_name, is_hidden}
+use Rattle.vlt_views.specs.Hidden.{type_name, is_hidden}
 use Rattle.vlt_link_laws.proofs.Parts.{IsSame, Covers}
 use Rattle.vlt_link_laws.proofs.Given.{given_elim, each_both}
 
@@ -220,14 +220,14 @@ module _ (hidden : List (List ℕ)) (f h : File) where
 
   pub own_abstract : (js : Joins) → Each Fits js → Each (λ j. Veiled hidden j.before j.after) js → (t : ℕ) →
       is_abstract (slice_get (of_each (core_types_in f) (befores js)) t) ≡ true →
-      is_hidden hidden (of_each (core_types_in f) (befores js)) (slice_get (of_each (core_types_in f) (befores js)) t) ≡ false →
+      is_hidden hidden (slice_get (of_each (core_types_in f) (befores js)) t) ≡ false →
       is_abstract (slice_get (of_each (core_types_in h) (afters js)) (at_in is_type js t)) ≡ true
   own_abstract js fits veils t on shown = by (slice_get (of_each (core_types_in f) (befores js)) t) refl on shown
     where
       all : Each (JoinGives (λ x y. Kept x y) (core_types_in f) (core_types_in h) is_type) js
       all = each_both {P = Fits} {Q = λ j. Veiled hidden j.before j.after} {R = JoinGives (λ x y. Kept x y) (core_types_in f) (core_types_in h) is_type} (λ j x y. one j.before j.after x y) js fits veils
 
-      by : (o : Option TypeDecl) → slice_get (of_each (core_types_in f) (befores js)) t ≡ o → is_abstract o ≡ true → is_hidden hidden (of_each (core_types_in f) (befores js)) o ≡ false →
+      by : (o : Option TypeDecl) → slice_get (of_each (core_types_in f) (befores js)) t ≡ o → is_abstract o ≡ true → is_hidden hidden o ≡ false →
           is_abstract (slice_get (of_each (core_types_in h) (afters js)) (at_in is_type js t)) ≡ true
       by None e on shown = absurd (true≢false (sym on))
       by (Some x) e on shown =

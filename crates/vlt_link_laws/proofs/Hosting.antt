@@ -27,7 +27,7 @@ use Rattle.vlt_resolve_moves.proofs.Empty.{no_left, no_right, not_broken, not_fa
 use Rattle.vlt_resolve_moves.proofs.Named.{Known, named_known}
 use Rattle.vlt_link_laws.proofs.Parts.{Stays, SortStays, PayloadStays, TyStays, ResultStays, HostStays}
 use Rattle.vlt_iface.specs.declared.rules.TheConstants.{ABSTRACT_RESULT}
-use Rattle.vlt_link_laws.specs.Hidden.{is_hidden, hides, case_hides, named_hides, ty_hides, result_hides, own_refused_in}
+use Rattle.vlt_views.specs.Hidden.{is_hidden, hides, case_hides, named_hides, ty_hides, result_hides, own_refused_in}
 use Rattle.vlt_link_laws.proofs.Headed.{head_types, extern_head}
 use Rattle.vlt_link_laws.proofs.External.{cases_move}
 use Rattle.vlt_link_laws.proofs.Abstracts.{is_abstract_sort}
@@ -70,12 +70,12 @@ module _ (m : Moves) (a b : Kinds) (sees : Sees m a b) where
     -- ---- a module's own
 
     module _ (hidden : List (List ℕ))
-        (kept : (t : ℕ) → is_abstract (slice_get a.types t) ≡ true → is_hidden hidden a.types (slice_get a.types t) ≡ false → is_abstract (slice_get b.types (m.types t)) ≡ true) where
+        (kept : (t : ℕ) → is_abstract (slice_get a.types t) ≡ true → is_hidden hidden (slice_get a.types t) ≡ false → is_abstract (slice_get b.types (m.types t)) ≡ true) where
       own_sort : (n : Named) → Known m a b sees n.name → named_hides hidden a.types a.file n ≡ false → SortStays m a b n.name
       own_sort n k off =
           sort_stays n.name k (λ on. kept k.type on
-          (sym (ap (λ o. is_hidden hidden a.types (then_with o (slice_get a.types))) k.named) ∙
-          (or_off (is_hidden hidden a.types (then_with (type_named a.file n.name) (slice_get a.types))) (list_any (case_hides hidden a.types) (cases_named a.file a.types n)) off).0))
+          (sym (ap (λ o. is_hidden hidden (then_with o (slice_get a.types))) k.named) ∙
+          (or_off (is_hidden hidden (then_with (type_named a.file n.name) (slice_get a.types))) (list_any (case_hides hidden a.types) (cases_named a.file a.types n)) off).0))
 
       own_tys : (ts : List core.Ty) → list_any (hides hidden a.types) ts ≡ false → Each (Stays m a b) ts
       own_tys [] off = tt
@@ -98,7 +98,7 @@ module _ (m : Moves) (a b : Kinds) (sees : Sees m a b) where
 
       own_payload : (n : Named) → named_hides hidden a.types a.file n ≡ false → PayloadStays m a b n
       own_payload n off =
-          own_cases (cases_named a.file a.types n) (or_off (is_hidden hidden a.types (then_with (type_named a.file n.name) (slice_get a.types))) (list_any (case_hides hidden a.types) (cases_named a.file a.types n)) off).1
+          own_cases (cases_named a.file a.types n) (or_off (is_hidden hidden (then_with (type_named a.file n.name) (slice_get a.types))) (list_any (case_hides hidden a.types) (cases_named a.file a.types n)) off).1
 
       own_ty : (t : Ty) → ty_refused a.file t ≡ [] → ty_hides hidden a.types a.file t ≡ false → TyStays m a b t
       unfolding owned_refused

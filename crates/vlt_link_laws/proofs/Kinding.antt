@@ -19,8 +19,8 @@ use Rattle.vlt_syntax_copies.specs.Raised.{raised}
 use Rattle.vlt_iface.specs.declared.places.TheConstants.{RAISE}
 use Rattle.vlt_iface.specs.View.{view_decls, origins_in, viewed}
 use Rattle.vlt_link_laws.proofs.Parts.{program_of}
-use Rattle.vlt_link_laws.specs.Views.{view_kinds_told, view_elaborated}
-use Rattle.vlt_link_laws.specs.Link.{IsText}
+use Rattle.vlt_views.specs.Views.{view_kinds_told, view_elaborated}
+use Rattle.vlt_verdict.specs.FitLaws.Fit.{IsTextTree}
 use Rattle.vlt_link_laws.proofs.Texts.{view_language, view_ticks}
 use Rattle.vlt_link_laws.proofs.Telling.{ViewFine, view_fine, ViewWalked, view_walked}
 
@@ -44,22 +44,22 @@ main_at hs h at = by (nat_lt (position_or_len is_main hs) (length hs)) at
     by true at = passing_at is_main hs h at
     by false at = absurd (none_past (length hs) (slice_get_within hs (length hs) h at))
 
-pub are_fine : (i m : Tree) → IsText i → IsText m → ViewFine (origins_in i.decls (map (raised RAISE) m.decls)) (view_decls i.decls (map (raised RAISE) m.decls)) → AreFine (view_decls i.decls (map (raised RAISE) m.decls))
+pub are_fine : (i m : Tree) → IsTextTree i → IsTextTree m → ViewFine (origins_in i.decls (map (raised RAISE) m.decls)) (view_decls i.decls (map (raised RAISE) m.decls)) → AreFine (view_decls i.decls (map (raised RAISE) m.decls))
 unfolding types_refused heads_refused
 are_fine i m x y fine = record { language = view_language i m x y; ticks = view_ticks i m x y; again = fine.again; named = fine.named; types = fine.typed; heads = fine.headed }
 
-module _ (i m : Tree) (text_i : IsText i) (text_m : IsText m) (with_main : Bool) (kinds : Kinds) (p : Program)
+module _ (i m : Tree) (text_i : IsTextTree i) (text_m : IsTextTree m) (with_main : Bool) (kinds : Kinds) (p : Program)
     (told : view_kinds_told (viewed i m) ≡ Ok kinds) (gives : view_elaborated (viewed i m) kinds with_main ≡ Ok p) where
   abbrev decls : List Decl
   decls = view_decls i.decls (map (raised RAISE) m.decls)
 
-  fine : ViewFine (origins_in i.decls (map (raised RAISE) m.decls)) decls × (kinds_of decls ≡ kinds)
+  pub fine : ViewFine (origins_in i.decls (map (raised RAISE) m.decls)) decls × (kinds_of decls ≡ kinds)
   fine = view_fine (origins_in i.decls (map (raised RAISE) m.decls)) decls kinds told
 
-  walked : ViewWalked decls with_main p
+  pub walked : ViewWalked decls with_main p
   walked = view_walked (viewed i m) with_main p (subst (λ k. view_elaborated (viewed i m) k with_main ≡ Ok p) (sym fine.1) gives)
 
-  facts : Facts (kinds_of decls) (program_of decls walked.fns (main_of (kinds_of decls).heads))
+  pub facts : Facts (kinds_of decls) (program_of decls walked.fns (main_of (kinds_of decls).heads))
   facts = facts_walked decls walked.fns (main_of (kinds_of decls).heads) (are_fine i m text_i text_m fine.0) walked.walked (main_at (kinds_of decls).heads)
 
   pub kinded_part : HasKindedParts p

@@ -27,5 +27,8 @@ pub mod Hosting
 pub mod Clashing
 pub mod Veils
 pub mod Texts
+pub mod Joining
 pub mod Kinding
+pub mod Judging
 pub mod Passing
+pub mod Asked

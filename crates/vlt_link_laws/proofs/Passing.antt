@@ -1,14 +1,13 @@
 -- Two views that pass, whose names don't clash, are accepted as one.
-use Rattle.std.proofs.Common.{◌≡◌, ◌⊎◌, inl, inr, ◌≤◌, ℕ, Bool, true, false, List, [], ◌∷◌, ◌++◌, map, length, Some, None, slice_get, unwrap_or, Ok, sym, ap, ◌∙◌, subst}
+use Rattle.std.proofs.Common.{◌≡◌, ◌⊎◌, inl, inr, ◌≤◌, ℕ, Bool, true, false, List, [], ◌∷◌, ◌++◌, map, length, Some, None, slice_get, unwrap_or, Ok, sym, ◌∙◌, subst}
 use Rattle.std.proofs.lemmas.List.{map-append}
 use Rattle.std.specs.List.{find}
 use Rattle.vlt_base.specs.Limits.{limit_of}
 use Rattle.vlt_base.specs.declared.limits.TheConstants.{DECLARATIONS}
 use Rattle.vlt_syntax.specs.Tree as s
-use Rattle.vlt_syntax.specs.Tree.{Name, Case, Decl, Tree}
+use Rattle.vlt_syntax.specs.Tree.{Decl, Tree}
 use Rattle.vlt_syntax.specs.Lists.{Each}
 use Rattle.vlt_syntax.specs.Grammar.{IsDecl, language}
-use Rattle.vlt_syntax_laws.specs.Ticks.{HasTicks}
 use Rattle.vlt_core.specs.Core.{Func}
 use Rattle.vlt_core.specs.Lookups.{cases_in}
 use Rattle.vlt_core.specs.Derives.{IsAccepted}
@@ -30,11 +29,13 @@ use Rattle.vlt_iface.specs.Clash.{clashing, decl_bound}
 use Rattle.vlt_iface.proofs.Raising.{texts}
 use Rattle.vlt_resolve_moves.specs.Joins.{Joins, befores, afters, moves_of}
 use Rattle.vlt_resolve_moves.specs.Sees.{Sees, IsFree}
-use Rattle.vlt_link_laws.specs.Hidden.{hidden_names, own_refused_in, own_refused}
+use Rattle.vlt_views.specs.Hidden.{hidden_names, own_refused_in, own_refused}
 use Rattle.vlt_link_laws.proofs.Parts.{IsFreeDecl, HostStays, IsSame, Covers, IsLinked, program_of}
 use Rattle.vlt_link_laws.proofs.Sides.{first_joins, second_joins, IsApart, IsView}
-use Rattle.vlt_link_laws.specs.Views.{view_elaborated}
-use Rattle.vlt_link_laws.specs.Link.{IsPassed, IsText, IsAcceptedText}
+use Rattle.vlt_views.specs.Views.{view_elaborated}
+use Rattle.vlt_verdict.specs.FitLaws.Fit.{IsTextTree}
+use Rattle.vlt_link_laws.specs.Link.{IsPassed, IsAcceptedText}
+use Rattle.vlt_link_laws.proofs.Joining.{joined_text}
 use Rattle.vlt_link_laws.proofs.Given.{each_map, each_both, each_none}
 use Rattle.vlt_link_laws.proofs.Viewing.{found_is, first_is_view, second_is_view, first_is_joined, first_fits, second_fits, views_cover}
 use Rattle.vlt_link_laws.proofs.Seen.{same_cases}
@@ -45,9 +46,9 @@ use Rattle.vlt_link_laws.proofs.Apart.{apart_modules, each_others, each_found}
 use Rattle.vlt_link_laws.proofs.Again.{Text, Other, name_texts}
 use Rattle.vlt_link_laws.proofs.Modules.{are_joined, given_new, same_new, new_alone, new_before, declarations_link}
 use Rattle.vlt_link_laws.proofs.Telling.{ViewFine, view_fine, ViewWalked, view_walked, wanted_main, unbroken, Given, is_given}
-use Rattle.vlt_link_laws.proofs.Placed.{each_join, Found, Shared, all_first, all_second}
+use Rattle.vlt_link_laws.proofs.Placed.{Found, Shared, all_first, all_second}
 use Rattle.vlt_link_laws.proofs.Freed.{Unknown, first_free, second_free, first_shared, second_shared, free_decl, unknown, of_texts, to_texts}
-use Rattle.vlt_link_laws.proofs.Texts.{in_view, raised_are, all_ticks}
+use Rattle.vlt_link_laws.proofs.Texts.{raised_are}
 use Rattle.vlt_link_laws.proofs.Kinding.{kinded_part}
 use Rattle.vlt_link_laws.proofs.Clashing.{bound_far, are_apart, first_clash, second_clash}
 use Rattle.vlt_link_laws.proofs.Abstracts.{Veiled, sorted, both_abstract, own_abstract}
@@ -125,7 +126,7 @@ pub record Facts (ds : List Decl) (fs : List Func) (main : ℕ) : Type 0 where
   pub unbroken : (n : ℕ) (f : Func) → slice_get fs n ≡ Some f → first_broken 0 (function_rows (program_of ds fs main) (n, f)) ≡ None
   pub accepted : IsAccepted (program_of ds fs main)
 
-module _ (i m : Tree) (text_i : IsText i) (text_m : IsText m) (with_main : Bool) (passed : IsPassed i m with_main) where
+module _ (i m : Tree) (text_i : IsTextTree i) (text_m : IsTextTree m) (with_main : Bool) (passed : IsPassed i m with_main) where
   abbrev decls : List Decl
   decls = view_decls i.decls (map (raised RAISE) m.decls)
 
@@ -150,7 +151,7 @@ module _ (i m : Tree) (text_i : IsText i) (text_m : IsText m) (with_main : Bool)
 
 -- ---- both views
 
-module _ (i f g : Tree) (text_i : IsText i) (text_f : IsText f) (text_g : IsText g) (first : IsPassed i f false) (second : IsPassed i g true) (clear : clashing f g ≡ []) where
+module _ (i f g : Tree) (text_i : IsTextTree i) (text_f : IsTextTree f) (text_g : IsTextTree g) (first : IsPassed i f false) (second : IsPassed i g true) (clear : clashing f g ≡ []) where
   abbrev is : List Decl
   is = i.decls
 
@@ -409,24 +410,10 @@ module _ (i f g : Tree) (text_i : IsText i) (text_f : IsText f) (text_g : IsText
       (declarations_link is ms ns one.given two.given apart first_fns second_fns first_main second_main first_view second_view
       (wanted_main (view_decls is ns) (walked i g text_i text_g true second).main) (fine i f text_i text_f false first).0.again (fine i g text_i text_g true second).0.again)
 
-  -- ---- the joined tree is one of the language
-
-  joined_decls : (joined i f g).decls ≡ view_decls is (ms ++ ns)
-  joined_decls = ap (view_decls is) (map-append (raised RAISE) f.decls g.decls)
-
-  joined_each : (R : Decl → Type 0) → Each R is → Each R ms → Each R ns → Each R (joined i f g).decls
-  joined_each R x y z = subst (Each R) (sym joined_decls) (in_view R is (ms ++ ns) x (each_join R ms ns y z))
-
   module _ (few : length (joined i f g).decls ≤ limit_of DECLARATIONS) where
-    joined_text : IsText (joined i f g)
-    joined_text = record {
-      tree = (joined_each (IsDecl language) text_i.tree.0 (raised_are f.decls text_f.tree.0) (raised_are g.decls text_g.tree.0), few);
-      ticks = joined_each HasTicks text_i.ticks (all_ticks f.decls text_f.ticks) (all_ticks g.decls text_g.ticks);
-    }
-
     pub accepted_link : IsAcceptedText (joined i f g)
     accepted_link = record {
-      text = joined_text;
+      text = joined_text i f g text_i text_f text_g few;
       kinds = kinds_of (joined i f g).decls;
       told = linked.kinds;
       program = linked.program;

@@ -26,8 +26,8 @@ use Rattle.vlt_iface.specs.Rules.{body_refused, given_refused, view_refused}
 use Rattle.vlt_resolve_moves.proofs.Empty.{no_left, no_right, quiet}
 use Rattle.vlt_resolve_moves.proofs.Walk.{then_ok, least_none, same_ok}
 use Rattle.vlt_link_laws.proofs.Parts.{program_of}
-use Rattle.vlt_link_laws.specs.Hidden.{hidden_names, own_refused}
-use Rattle.vlt_link_laws.specs.Views.{view_names_refused, view_heads_refused, view_heads_told, view_types_told, view_names_told, lacks_main, view_elaborated}
+use Rattle.vlt_views.specs.Hidden.{hidden_names, own_refused}
+use Rattle.vlt_views.specs.Views.{view_heads_refused, view_heads_told, view_types_told, view_names_told, lacks_main, view_elaborated}
 
 -- ---- kinds
 
@@ -51,11 +51,11 @@ pub record ViewFine (os : List ℕ) (ds : List Decl) : Type 0 where
 pub view_fine : (os : List ℕ) (ds : List Decl) (kinds : Kinds) → view_names_told os ds ≡ Ok kinds → ViewFine os ds × (kinds_of ds ≡ kinds)
 unfolding types_refused heads_refused
 view_fine os ds kinds e =
-    let one = went (least (view_names_refused ds)) (view_types_told os ds) kinds e in
+    let one = went (least (nam.other_names_refused ds)) (view_types_told os ds) kinds e in
     let two = went (least (types_refused (file_of ds) ds)) (view_heads_told os ds) kinds one.1 in
-    let three = went (least (view_heads_refused os ds)) (Ok (kinds_of ds)) kinds two.1 in
-    let names = no_least (view_names_refused ds) one.0 in
-    let heads = no_least (view_heads_refused os ds) three.0 in (
+    let three = went (least (view_heads_refused (file_of ds) (kinds_of ds).types os ds)) (Ok (kinds_of ds)) kinds two.1 in
+    let names = no_least (nam.other_names_refused ds) one.0 in
+    let heads = no_least (view_heads_refused (file_of ds) (kinds_of ds).types os ds) three.0 in (
       record {
         again = no_left (nam.names_again ds) _ names;
         named = no_right (nam.names_again ds) _ names;

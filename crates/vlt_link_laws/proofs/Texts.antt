@@ -4,13 +4,13 @@ use Rattle.std.specs.List.{find}
 use Rattle.vlt_syntax.specs.Tree as s
 use Rattle.vlt_syntax.specs.Tree.{Case, Decl, Tree}
 use Rattle.vlt_syntax.specs.Lists.{Each}
-use Rattle.vlt_syntax.specs.Grammar.{IsDecl, language}
+use Rattle.vlt_syntax.specs.Grammar.{IsDecl, IsTree, language}
 use Rattle.vlt_syntax_laws.specs.Ticks.{IsTick, HasTicks}
 use Rattle.vlt_syntax_copies.specs.Raised.{raised, raised_case}
 use Rattle.vlt_iface.specs.declared.places.TheConstants.{RAISE}
 use Rattle.vlt_iface.specs.View.{gives, with_given, others, view_decls}
 use Rattle.vlt_iface.proofs.Raising.{decl_is}
-use Rattle.vlt_link_laws.specs.Link.{IsText}
+use Rattle.vlt_verdict.specs.FitLaws.Fit.{IsTextTree}
 use Rattle.vlt_link_laws.proofs.Apart.{each_others, each_found}
 use Rattle.vlt_link_laws.proofs.Placed.{each_join}
 
@@ -30,7 +30,7 @@ pub raised_are : (ds : List Decl) → Each (IsDecl language) ds → Each (IsDecl
 raised_are [] all = tt
 raised_are (d ∷ ds) all = (decl_is RAISE language d all.0, raised_are ds all.1)
 
-raised_ticks : (d : Decl) → HasTicks d → HasTicks (raised RAISE d)
+pub raised_ticks : (d : Decl) → HasTicks d → HasTicks (raised RAISE d)
 raised_ticks (s.stateset n ss at) h = tt
 raised_ticks (s.abstract n ss at) h = tt
 raised_ticks (s.struct n ps ss fs r at) h = tt
@@ -42,12 +42,15 @@ raised_ticks (s.variant n ps cs at) h = go cs h
 raised_ticks (s.extern h at) x = tt
 raised_ticks (s.function h b at) x = tt
 
-pub all_ticks : (ds : List Decl) → Each HasTicks ds → Each HasTicks (map (raised RAISE) ds)
+all_ticks : (ds : List Decl) → Each HasTicks ds → Each HasTicks (map (raised RAISE) ds)
 all_ticks [] all = tt
 all_ticks (d ∷ ds) all = (raised_ticks d all.0, all_ticks ds all.1)
 
-pub view_language : (i m : Tree) → IsText i → IsText m → Each (IsDecl language) (view_decls i.decls (map (raised RAISE) m.decls))
-view_language i m x y = in_view (IsDecl language) i.decls (map (raised RAISE) m.decls) x.tree.0 (raised_are m.decls y.tree.0)
+pub language_of : (i m : Tree) → IsTree language i → IsTree language m → Each (IsDecl language) (view_decls i.decls (map (raised RAISE) m.decls))
+language_of i m x y = in_view (IsDecl language) i.decls (map (raised RAISE) m.decls) x.0 (raised_are m.decls y.0)
 
-pub view_ticks : (i m : Tree) → IsText i → IsText m → Each HasTicks (view_decls i.decls (map (raised RAISE) m.decls))
+pub view_language : (i m : Tree) → IsTextTree i → IsTextTree m → Each (IsDecl language) (view_decls i.decls (map (raised RAISE) m.decls))
+view_language i m x y = language_of i m x.tree y.tree
+
+pub view_ticks : (i m : Tree) → IsTextTree i → IsTextTree m → Each HasTicks (view_decls i.decls (map (raised RAISE) m.decls))
 view_ticks i m x y = in_view HasTicks i.decls (map (raised RAISE) m.decls) x.ticks (all_ticks m.decls y.ticks)

@@ -1,3 +1,1 @@
-pub mod Hidden
-pub mod Views
 pub mod Link

@@ -1,9 +1,11 @@
 //! Laws of joined modules: nothing goes in and nothing comes out.
-//! Read `specs/Link.antt` first, then `Views` and `Hidden`, which have the kinds and the program of a view.
-//! Used by: the commands for modules. What is accepted in both views is accepted in the joined program.
+//! Read `specs/Link.antt` first; `vlt_views/specs` has the kinds and the program of a view.
+//! Used by: verdicts on views. What is accepted in both views is accepted in the joined program.
 #![tactic(auto)]
 
-ghost use Rattle.vlt_link_laws.specs.Link.{AcceptedViewsLink, ViewProgramsAreKinded};
+ghost use Rattle.vlt_link_laws.specs.Link.{AcceptedViewsLink, JoinedTokensAreThoseOfFiles, TestedViewsLink, ToldJoinsAreTextTrees, ToldViewsAreTrees, ViewProgramsAreJudgeable, ViewProgramsAreKinded};
+
+use vlt_iface::{told_joins_are_joined, told_views_are_few, told_views_are_views};
 
 /// Let the view of an interface with one module pass all rules but the one on `main`, that with another module pass all rules,
 /// and both be accepted. Where no names clash and there are no more declarations than a tree may have, the joined tree is one of
@@ -16,3 +18,40 @@ pub fn accepted_views_link()
 pub fn view_programs_are_kinded()
     ensures { ViewProgramsAreKinded }
 {}
+
+/// Each token that a joined tree is spelled with is one of those that its three files are spelled with.
+pub fn joined_tokens_are_those_of_files()
+    ensures { JoinedTokensAreThoseOfFiles }
+{}
+
+/// The program of a view that is told is one that the check may be asked of, whether the rule on `main` was tested or not.
+pub fn view_programs_are_judgeable()
+    ensures { ViewProgramsAreJudgeable }
+{
+    told_views_are_views();
+    told_views_are_few();
+}
+
+/// The view that is told of an interface with a module, both of the language, is a tree of the language.
+pub fn told_views_are_trees()
+    ensures { ToldViewsAreTrees }
+{
+    told_views_are_views();
+    told_views_are_few();
+}
+
+/// The joined tree that is told of an interface with two modules, all as texts have them, is a tree as texts have them.
+pub fn told_joins_are_text_trees()
+    ensures { ToldJoinsAreTextTrees }
+{
+    told_joins_are_joined();
+}
+
+/// Where the views that are told of an interface with two modules pass all rules, the second with a main, and both are accepted,
+/// the joined tree that is told is accepted.
+pub fn tested_views_link()
+    ensures { TestedViewsLink }
+{
+    told_views_are_views();
+    told_joins_are_joined();
+}

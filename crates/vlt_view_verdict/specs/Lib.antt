@@ -1,0 +1,5 @@
+pub mod Verdicts
+pub mod Views
+pub mod Unfit
+pub mod Laws
+pub mod Link

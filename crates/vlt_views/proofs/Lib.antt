@@ -1,0 +1,3 @@
+mod Told
+mod Alike
+mod Loops

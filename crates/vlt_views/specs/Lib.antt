@@ -1,0 +1,3 @@
+pub mod Hidden
+pub mod Views
+pub mod Texts
