@@ -3,7 +3,7 @@ _vaultc() {
     local word=${COMP_WORDS[COMP_CWORD]} before=${COMP_WORDS[COMP_CWORD - 1]} command=${COMP_WORDS[1]}
     COMPREPLY=()
     if [ "$COMP_CWORD" -eq 1 ]; then
-        mapfile -t COMPREPLY < <(compgen -W "check explain fmt run emit verify crun load" -- "$word")
+        mapfile -t COMPREPLY < <(compgen -W "check explain fmt run host emit verify crun load" -- "$word")
         return
     fi
     case $before in
@@ -13,8 +13,13 @@ _vaultc() {
     esac
     if [[ $word == -* ]]; then
         case $command in
-            run | crun) mapfile -t COMPREPLY < <(compgen -W "--fuel --heap --depth --input --answers" -- "$word") ;;
+            run | crun | host) mapfile -t COMPREPLY < <(compgen -W "--fuel --heap --depth --input --answers" -- "$word") ;;
         esac
+        return
+    fi
+    if [[ $command == host && $COMP_CWORD -eq 3 ]]; then
+        compopt -o filenames
+        mapfile -t COMPREPLY < <(compgen -f -- "$word")
         return
     fi
     local ending=v

@@ -1,5 +1,5 @@
 -- What one step of reading finds. Only private contracts cite this.
-use Rattle.std.specs.Prelude.{◌≡◌, ℕ, Bool, List, ◌∷◌, ◌++◌}
+use Rattle.std.specs.Prelude.{◌≡◌, ℕ, ◌==◌, Bool, true, List, [], ◌∷◌, ◌++◌}
 use Rattle.c_syntax.specs.Tokens as t
 use Rattle.c_syntax.specs.Text.{Lexeme, AreTokensOf, fixed_piece, is_blank, is_run_byte, piece, Piece}
 use Rattle.c_lexer.specs.declared.scan.Class.{Class}
@@ -17,7 +17,12 @@ abbrev pub mark_token : Mark → t.Token
 mark_token (mark.Sign x) = t.sign x
 mark_token (mark.Operator o) = t.operator o
 
--- the text begins with this token, behind which that text stands, as those pieces say
+-- a text may begin with this byte
+abbrev pub may_begin : ℕ → List ℕ → Bool
+may_begin b [] = true
+may_begin b (c ∷ cs) = c == b
+
+-- the text begins with this token, and after it that text stands, as those pieces say
 pub record IsFirst (pieces : ℕ → List ℕ → Piece) (bytes : List ℕ) (token : t.Token) (after : List ℕ) : Type 0 where
   pub byte : ℕ
   pub rest : List ℕ
@@ -34,7 +39,7 @@ first_piece first.LineEnd = fixed_piece t.line_end
 first_piece first.Define = fixed_piece t.define
 first_piece first.Number = piece
 
--- behind these tokens stand those of the rest of a text of so many bytes
+-- after these tokens those of the rest of a text of so many bytes are added
 pub record AreOthers (total : ℕ) (bytes : List ℕ) (before all : List Lexeme) : Type 0 where
   pub more : List Lexeme
   pub are : AreTokensOf total bytes more

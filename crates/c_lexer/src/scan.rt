@@ -1,11 +1,14 @@
 //! From bytes to one token after another.
 
-ghost use Rattle.std.specs.Prelude.{◌≡◌, ◌≤◌, ◌<◌, ◌+◌, ◌^◌, ◌-◌, ℕ, List, [], ◌∷◌, length, map, MatchOption, Some, None, IfOk, IfSome, OnOk};
+ghost use Rattle.std.specs.Prelude.{◌≡◌, ◌≤◌, ◌<◌, ◌+◌, ◌^◌, ◌-◌, ℕ, List, [], ◌∷◌, length, map, filter, drop, MatchOption, Some, None, IfOk, IfSome, OnOk};
 ghost use Rattle.c_syntax.specs.Tokens as t;
 ghost use Rattle.c_syntax.specs.Text.{before_mark, first_beginning, behind, fixed_piece, is_blank, is_digit, is_run_byte, max_number, letter_token, number_of, named_token, Piece, past_run, piece, prim_of, quoted_piece, run, run_token, sign_piece, item_with_text, with_digit, word_of, digits_after, is_text_name};
 ghost use Rattle.c_syntax.specs.Tokens.{prim_text, word_text, token_text};
+ghost use Rattle.c_syntax.specs.declared.token.TheConstants.CWord as words;
+ghost use Rattle.c_syntax.specs.declared.program.TheConstants.CPrim as prims;
+ghost use Rattle.c_lexer.specs.declared.scan.TheConstants.Mark as marks;
 ghost use Rattle.c_lexer.specs.View.{token_of, lexemes_of};
-ghost use Rattle.c_lexer.specs.Steps.{mark_token, is_in, AreOthers, IsFirst, IsPiece, first_piece};
+ghost use Rattle.c_lexer.specs.Steps.{mark_token, is_in, may_begin, AreOthers, IsFirst, IsPiece, first_piece};
 
 use crate::token::{Lexeme, Token};
 use c_syntax::{CName, CPrim, CSign, CVar, CWord};
@@ -16,14 +19,14 @@ use vlt_ops::{Op, row};
 const MAX_NUMBER: u64 = 9_223_372_036_854_775_807;
 
 /// A class of bytes of which a run is taken.
-#[derive(Clone, Copy, Debug, PartialEq, Eq)]
+#[derive(Clone, Copy)]
 enum Class {
     Blank,
     Run,
 }
 
 /// A sign.
-#[derive(Clone, Copy, Debug, PartialEq, Eq)]
+#[derive(Clone, Copy)]
 enum Mark {
     Sign(CSign),
     Operator(Op),
@@ -91,7 +94,7 @@ impl Mark {
     }
 }
 
-/// What stands behind the run of the class at the front of a text.
+/// What is left after the run of the class that a text begins with.
 fn past(class: Class, text: &[u8]) -> &[u8]
     ensures rest { result.now ≡ past_run (is_in class) text.now }
     ensures no_longer { length result.now ≤ length text.now }
@@ -106,25 +109,27 @@ fn past(class: Class, text: &[u8]) -> &[u8]
     rest
 }
 
-/// The run of letters, digits and `_` at the front of a text.
+/// The run of letters, digits and `_` that a text begins with, by what is left after it.
 #[tactic(auto, using(crate::proofs::Runs::run_is))]
-fn run_at(text: &[u8]) -> &[u8]
+fn run_before<'a>(text: &'a [u8], rest: &[u8]) -> &'a [u8]
+    requires left { rest.now ≡ past_run is_run_byte text.now }
+    requires no_longer { length rest.now ≤ length text.now }
     ensures { result.now ≡ run is_run_byte text.now }
 {
-    &text[..text.len() - past(Class::Run, text).len()]
+    &text[..text.len() - rest.len()]
 }
 
-/// What stands behind these bytes, if the text begins with them.
-fn behind<'a>(text: &'a [u8], front: &[u8]) -> Option<&'a [u8]>
-    ensures rest { MatchOption result (behind front.now text.now ≡ None)
-        (λ rest. behind front.now text.now ≡ Some rest.now) }
+/// What stands after this prefix, if the text begins with it.
+fn behind<'a>(text: &'a [u8], prefix: &[u8]) -> Option<&'a [u8]>
+    ensures rest { MatchOption result (behind prefix.now text.now ≡ None)
+        (λ rest. behind prefix.now text.now ≡ Some rest.now) }
     ensures taken { IfSome result (λ rest.
-        length rest.now + length front.now ≤ length text.now) }
+        length rest.now + length prefix.now ≤ length text.now) }
 {
     let mut rest = text;
-    for &want in front {
+    for &expected in prefix {
         let (&byte, after) = rest.split_first()?;
-        if byte != want {
+        if byte != expected {
             return None;
         }
         rest = after;
@@ -218,18 +223,70 @@ fn first_primitive(primitives: &[CPrim], run: &[u8]) -> Option<CPrim>
     None
 }
 
-#[tactic(auto, unfolding(c_syntax::specs::Text::word_of))]
+/// The words that begin with this byte.
+fn words_from(first: u8) -> &'static [CWord]
+    ensures { result.now ≡ filter (λ w. may_begin first (word_text w)) words.ALL }
+{
+    match first {
+        b'b' => &[CWord::Break],
+        b'c' => &[CWord::Continue],
+        b'e' => &[CWord::Else],
+        b'i' => &[CWord::If],
+        b'l' => &[CWord::Long],
+        b'n' => &[CWord::Numbers],
+        b'r' => &[CWord::Return, CWord::References],
+        b'v' => &[CWord::Void, CWord::Ref, CWord::Null],
+        b'w' => &[CWord::While],
+        _ => &[],
+    }
+}
+
+/// The word that is spelled so, by its first byte.
 fn word(run: &[u8]) -> Option<CWord>
     ensures { result ≡ word_of run.now }
 {
-    first_word(&CWord::ALL, run)
+    match run.first() {
+        Some(first) => first_word(words_from(*first), run),
+        None => None,
+    }
 }
 
-#[tactic(auto, unfolding(c_syntax::specs::Text::prim_of))]
+/// The primitives whose fourth byte is this one: what they begin with is the same.
+fn primitives_with(fourth: u8) -> &'static [CPrim]
+    ensures { result.now ≡ filter (λ p. may_begin fourth (drop 3 (prim_text p))) prims.ALL }
+{
+    match fourth {
+        b'a' => &[CPrim::ArgN, CPrim::ArgP, CPrim::Ask],
+        b'b' => &[CPrim::Back],
+        b'c' => &[CPrim::Call],
+        b'd' => &[CPrim::Disown],
+        b'e' => &[CPrim::End],
+        b'g' => &[CPrim::GetN, CPrim::GetP],
+        b'i' => &[CPrim::Int],
+        b'm' => &[CPrim::More],
+        b'n' => &[CPrim::New],
+        b'o' => &[CPrim::Own, CPrim::Out],
+        b'p' => &[
+            CPrim::Parent,
+            CPrim::Print,
+            CPrim::PutN,
+            CPrim::PutP,
+            CPrim::Pick,
+        ],
+        b'r' => &[CPrim::Release, CPrim::Read],
+        b't' => &[CPrim::Trap],
+        _ => &[],
+    }
+}
+
+/// The primitive that is spelled so, by its fourth byte.
 fn primitive(run: &[u8]) -> Option<CPrim>
     ensures { result ≡ prim_of run.now }
 {
-    first_primitive(&CPrim::ALL, run)
+    match run.get(3) {
+        Some(fourth) => first_primitive(primitives_with(*fourth), run),
+        None => None,
+    }
 }
 
 /// What a letter with a number is, if the run is one.
@@ -271,14 +328,15 @@ fn is_text_name(run: &[u8]) -> bool
     }
 }
 
-/// The token that begins with a quote, behind which this text stands, and what stands behind it.
+/// The token that begins with a quote before this text, and what stands after it.
 fn quoted(text: &[u8]) -> (Token<'_>, &[u8])
     ensures token { token_of result.0 ≡ (quoted_piece text.now).0 }
     ensures rest { result.1.now ≡ (quoted_piece text.now).1 }
     ensures no_longer { length result.1.now ≤ length text.now }
 {
-    let name = run_at(text);
-    match behind(past(Class::Run, text), b"\"") {
+    let end = past(Class::Run, text);
+    let name = run_before(text, end);
+    match behind(end, b"\"") {
         Some(rest) => {
             if is_text_name(name) {
                 (Token::Text(name), rest)
@@ -290,7 +348,7 @@ fn quoted(text: &[u8]) -> (Token<'_>, &[u8])
     }
 }
 
-/// The first of the signs that begins the text, and what stands behind it.
+/// The first of the signs that begins the text, and what stands after it.
 fn first_mark<'a>(marks: &[Mark], text: &'a [u8]) -> Option<(Mark, &'a [u8])>
     ensures mark { MatchOption result ((other : Piece) →
         first_beginning (map mark_token marks.now) text.now other ≡ other) (λ x. (other : Piece) →
@@ -305,21 +363,52 @@ fn first_mark<'a>(marks: &[Mark], text: &'a [u8]) -> Option<(Mark, &'a [u8])>
     None
 }
 
-/// The sign at the front of a text, and what stands behind it.
-#[tactic(auto, unfolding(c_syntax::specs::Text::sign_piece))]
-fn signed<'a>(text: &'a [u8], after: &'a [u8]) -> (Token<'a>, &'a [u8])
-    requires { length after.now < length text.now }
+/// The signs that begin with this byte, the longer ones first.
+fn marks_from(first: u8) -> &'static [Mark]
+    ensures { result.now ≡ filter (λ m. may_begin first (token_text (mark_token m))) marks.ALL }
+{
+    match first {
+        b'-' => &[Mark::Sign(CSign::Arrow), Mark::Operator(Op::Subtract)],
+        b'&' => &[Mark::Operator(Op::And), Mark::Operator(Op::BitAnd)],
+        b'|' => &[Mark::Operator(Op::Or), Mark::Operator(Op::BitOr)],
+        b'=' => &[Mark::Operator(Op::Equal), Mark::Sign(CSign::Assign)],
+        b'!' => &[Mark::Operator(Op::NotEqual), Mark::Operator(Op::Not)],
+        b'<' => &[Mark::Operator(Op::LessOrEqual), Mark::Operator(Op::Less)],
+        b'>' => &[
+            Mark::Operator(Op::GreaterOrEqual),
+            Mark::Operator(Op::Greater),
+        ],
+        b'{' => &[Mark::Sign(CSign::OpenBrace)],
+        b'}' => &[Mark::Sign(CSign::CloseBrace)],
+        b'(' => &[Mark::Sign(CSign::OpenParen)],
+        b')' => &[Mark::Sign(CSign::CloseParen)],
+        b'[' => &[Mark::Sign(CSign::OpenBracket)],
+        b']' => &[Mark::Sign(CSign::CloseBracket)],
+        b';' => &[Mark::Sign(CSign::Semicolon)],
+        b',' => &[Mark::Sign(CSign::Comma)],
+        b'*' => &[Mark::Operator(Op::Multiply)],
+        b'/' => &[Mark::Operator(Op::Divide)],
+        b'%' => &[Mark::Operator(Op::Remainder)],
+        b'+' => &[Mark::Operator(Op::Add)],
+        b'^' => &[Mark::Operator(Op::BitXor)],
+        _ => &[],
+    }
+}
+
+/// The sign that a text begins with, by the text's first byte, and what stands after it.
+fn signed<'a>(first: u8, text: &'a [u8], after: &'a [u8]) -> (Token<'a>, &'a [u8])
+    requires { text.now ≡ first ∷ after.now }
     ensures token { token_of result.0 ≡ (sign_piece text.now after.now).0 }
     ensures rest { result.1.now ≡ (sign_piece text.now after.now).1 }
     ensures shorter { length result.1.now < length text.now }
 {
-    match first_mark(&Mark::ALL, text) {
+    match first_mark(marks_from(first), text) {
         Some((mark, rest)) => (mark.token(), rest),
         None => (Token::Stray, after),
     }
 }
 
-/// The token at the front of a text, and what stands behind it.
+/// The token that a text begins with, and what stands after it.
 fn piece(text: &[u8]) -> Option<(Token<'_>, &[u8])>
     ensures piece { MatchOption result (text.now ≡ [])
         (λ x. IsPiece text.now (token_of x.0) x.1.now) }
@@ -327,16 +416,17 @@ fn piece(text: &[u8]) -> Option<(Token<'_>, &[u8])>
 {
     let (&byte, after) = text.split_first()?;
     if Class::Run.has(byte) {
-        return Some((run_token(run_at(text)), past(Class::Run, after)));
+        let rest = past(Class::Run, after);
+        return Some((run_token(run_before(text, rest)), rest));
     }
     if byte == b'"' {
         return Some(quoted(after));
     }
-    Some(signed(text, after))
+    Some(signed(byte, text, after))
 }
 
 /// What stands in the two first lines.
-#[derive(Clone, Copy, Debug, PartialEq, Eq)]
+#[derive(Clone, Copy)]
 pub enum First {
     Include,
     LineEnd,
@@ -353,7 +443,7 @@ impl First {
         First::LineEnd,
     ];
 
-    /// What stands at the front of a text where this is wanted, and what stands behind it.
+    /// What a text begins with where this has to stand, and what stands after it.
     pub fn take(self, text: &[u8]) -> Option<(Token<'_>, &[u8])>
         ensures piece { MatchOption result (text.now ≡ [])
             (λ x. IsFirst (first_piece self) text.now (token_of x.0) x.1.now) }
@@ -368,16 +458,16 @@ impl First {
     }
 }
 
-/// The token where the text begins with these bytes, and what stands behind it.
-fn fixed<'a>(text: &'a [u8], front: &[u8], token: Token<'a>) -> Option<(Token<'a>, &'a [u8])>
-    requires spelled { front.now ≡ token_text (token_of token) }
-    requires some { 0 < length front.now }
+/// The token where the text begins with this prefix, and what stands after it.
+fn fixed<'a>(text: &'a [u8], prefix: &[u8], token: Token<'a>) -> Option<(Token<'a>, &'a [u8])>
+    requires spelled { prefix.now ≡ token_text (token_of token) }
+    requires some { 0 < length prefix.now }
     ensures piece { MatchOption result (text.now ≡ [])
         (λ x. IsFirst (fixed_piece (token_of token.entry)) text.now (token_of x.0) x.1.now) }
     ensures shorter { IfSome result (λ x. length x.1.now < length text.now) }
 {
     let (_, after) = text.split_first()?;
-    match behind(text, front) {
+    match behind(text, prefix) {
         Some(rest) => Some((token, rest)),
         None => Some((Token::Stray, after)),
     }
@@ -396,7 +486,7 @@ pub fn lexeme<'a>(token: Token<'a>, text: &[u8], left: &[u8]) -> Lexeme<'a>
     }
 }
 
-/// Puts the tokens of what is left of the text behind those before.
+/// Adds the tokens of what is left of the text to those before.
 pub fn others<'a>(text: &[u8], left: &'a [u8], lexemes: &mut Vec<Lexeme<'a>>) -> Result<(), Memory>
     requires size { length text.now < 2 ^ 32 }
     requires within { length left.now ≤ length text.now }

@@ -6,6 +6,7 @@ pub mod Finished
 pub mod Ended
 pub mod Own
 pub mod RunEnded
+pub mod HostEnded
 pub mod CEnded
 pub mod CReplies
 pub mod VReplies
@@ -21,6 +22,7 @@ pub mod Told
 pub mod Replied
 pub mod Promises
 pub mod Verifies
+pub mod Hosts
 pub mod OfTexts
 pub mod Compiles
 pub mod Compilable

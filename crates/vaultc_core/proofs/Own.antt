@@ -1,12 +1,15 @@
 -- Which statuses a command's replies to the bytes of its files have.
 use Rattle.std.proofs.Common.{◌≡◌, inl, inr, ℕ, ℤ, ◌≤◌, Bool, true, false, if◌then◌else◌, List, length, Some, None, sym, subst, arith}
-use Rattle.std.specs.Prelude.{◌≢◌, nat_lt}
+use Rattle.std.specs.Prelude.{◌≢◌, nat_lt, Result, Ok, Err}
 use Rattle.vlt_base.specs.Limits.{limit_of}
 use Rattle.vlt_base.specs.declared.limits.TheConstants.{C_BYTES}
 use Rattle.vlt_base.specs.declared.Budgets.{Budgets}
 use Rattle.vlt_core.specs.Core.{Program}
 use Rattle.vlt_meaning.specs.World.{Outcome, done, trap, fuel_end, heap_end, depth_end, input_end, answers_end, bad_answer, fault, event_text}
 use Rattle.vlt_numbers.specs.Given.Given.{Given, numbers, bad_input, bad_answers, given_by}
+use Rattle.vlt_host_meaning.specs.Calls.{HostCall}
+use Rattle.vlt_host_meaning.specs.HostRun.{HostOutcome, ended, bad_call}
+use Rattle.vlt_host.specs.CallsFile.{calls_of}
 use Rattle.vlt_lexer.specs.declared.LexError.TheVariants as lex
 use Rattle.vlt_resolve.specs.Elaboration.{broken, exceeded}
 use Rattle.vlt_syntax.specs.Refusals.{unexpected_at, over_limit, ended}
@@ -23,10 +26,11 @@ use Rattle.c_interp.specs.declared.runs.end.CEnd.{CEnd}
 use Rattle.c_interp.specs.declared.runs.end.CEnd.TheVariants.{Unread, Ended}
 use Rattle.vaultc_core.specs.declared.status.TheConstants.{DONE, NO_COMMAND, UNREAD}
 use Rattle.vaultc_core.specs.CRuns.{IsReplyToC, c_refusal, stop_reply, end_reply}
-use Rattle.vaultc_core.specs.Commands.{Command, check, explain, run, fmt, emit, verify, crun, load}
+use Rattle.vaultc_core.specs.Commands.{Command, check, explain, run, fmt, emit, verify, crun, load, host}
 use Rattle.vaultc_core.specs.Lines.{Reply, reply, over_reply}
 use Rattle.vaultc_core.specs.Replies.{IsReplyToVerdict, IsReplyToTree, IsReplyToText, IsReplyToRunText, IsReplyToMade, IsReplyToContents, bytes_at}
 use Rattle.vaultc_core.specs.Runs.{last_of, IsReplyOverNumbers, IsReplyToProgram}
+use Rattle.vaultc_core.specs.HostRuns.{host_last_of, IsReplyToCallsOver, IsReplyToCalls, IsReplyToHost}
 use Rattle.vaultc_core.specs.Texts.{Refusal, unlexed, unparsed, refusal_reply}
 use Rattle.vaultc_core.specs.Verdicts.{check_reply, IsExplained}
 use Rattle.vaultc_core.specs.Emitted.{c_file, IsReplyToCompiled}
@@ -105,10 +109,31 @@ own_program p (numbers input answers) b r is = own_over_numbers p input answers 
 own_program p (bad_input line) b r is = own_as r _ is (own 6 (omega arith))
 own_program p (bad_answers line) b r is = own_as r _ is (own 6 (omega arith))
 
-own_judged : (text : List ℕ) (given : Given) (b : Budgets) (v : Verdict) (r : Reply) → IsReplyToVerdict text given b v r → IsOwn r.status
-own_judged text given b (verdict.refused x) r is = own_as r _ is (own_verdict text (verdict.refused x))
-own_judged text given b (verdict.faulty p f x) r is = own_as r _ is (own_verdict text (verdict.faulty p f x))
-own_judged text given b (verdict.accepted p) r is = own_program p given b r is
+-- ---- runs for hosts
+
+pub own_host_outcome : (o : HostOutcome) (last : Reply) → host_last_of o ≡ Some last → IsOwn last.status
+own_host_outcome (ended o) last e = own_outcome o last e
+own_host_outcome (bad_call n) last e = own_last _ last e (own 11 (omega arith))
+
+own_calls_over : (p : Program) (calls : List HostCall) (input : List ℤ) (answers : List (List ℤ)) (b : Budgets) (r : Reply) → IsReplyToCallsOver p calls input answers b r → IsOwn r.status
+own_calls_over p calls input answers b r (inl (wide, same)) = own_as r _ same (own 5 (omega arith))
+own_calls_over p calls input answers b r (inr (fits, (last, of, same))) = own_as r _ same (own_host_outcome _ last of)
+
+own_calls : (p : Program) (calls : List HostCall) (given : Given) (b : Budgets) (r : Reply) → IsReplyToCalls p calls given b r → IsOwn r.status
+own_calls p calls (numbers input answers) b r is = own_calls_over p calls input answers b r is
+own_calls p calls (bad_input line) b r is = own_as r _ is (own 6 (omega arith))
+own_calls p calls (bad_answers line) b r is = own_as r _ is (own 6 (omega arith))
+
+own_host : (p : Program) (calls : Result (List HostCall) ℕ) (given : Given) (b : Budgets) (r : Reply) → IsReplyToHost p calls given b r → IsOwn r.status
+own_host p (Ok calls) given b r is = own_calls p calls given b r is
+own_host p (Err line) given b r is = own_as r _ is (own 6 (omega arith))
+
+-- ---- texts that are run; P has the replies to accepted programs
+
+own_judged : (P : Program → Reply → Type 0) → ((p : Program) (r : Reply) → P p r → IsOwn r.status) → (text : List ℕ) (v : Verdict) (r : Reply) → IsReplyToVerdict P text v r → IsOwn r.status
+own_judged P owns text (verdict.refused x) r is = own_as r _ is (own_verdict text (verdict.refused x))
+own_judged P owns text (verdict.faulty p f x) r is = own_as r _ is (own_verdict text (verdict.faulty p f x))
+own_judged P owns text (verdict.accepted p) r is = owns p r is
 
 own_explained : (text : List ℕ) (v : Verdict) (r : Reply) → IsExplained text v r → IsOwn r.status
 own_explained text (verdict.refused x) r is = own_as r _ is (own_verdict text (verdict.refused x))
@@ -124,14 +149,22 @@ own_tree (fmt file) text t r is = own_as r _ is own_zero
 own_tree (emit file) text t r (v, judged, is) = own_emitted text v r is
 own_tree (crun file taken) text t r is = absurd is
 own_tree (load n) text t r is = absurd is
+own_tree (host file calls taken) text t r is = absurd is
 
 own_text : (command : Command) (text : List ℕ) (r : Reply) → IsReplyToText command text r → IsOwn r.status
 own_text command text r (inl (e, refused, is)) = own_as r _ is (own_refusal text e)
 own_text command text r (inr (t, reads, is)) = own_tree command text t r is
 
-own_run : (text : List ℕ) (given : Given) (b : Budgets) (r : Reply) → IsReplyToRunText text given b r → IsOwn r.status
-own_run text given b r (inl (e, refused, is)) = own_as r _ is (own_refusal text e)
-own_run text given b r (inr (t, reads, (v, judged, is))) = own_judged text given b v r is
+own_run : (P : Program → Reply → Type 0) → ((p : Program) (r : Reply) → P p r → IsOwn r.status) → (text : List ℕ) (r : Reply) → IsReplyToRunText P text r → IsOwn r.status
+own_run P owns text r (inl (e, refused, is)) = own_as r _ is (own_refusal text e)
+own_run P owns text r (inr (t, reads, (v, judged, is))) = own_judged P owns text v r is
+
+own_run_text : (given : Given) (b : Budgets) (text : List ℕ) (r : Reply) → IsReplyToRunText (λ p q. IsReplyToProgram p given b q) text r → IsOwn r.status
+own_run_text given b text r is = own_run (λ p q. IsReplyToProgram p given b q) (λ p q of. own_program p given b q of) text r is
+
+own_host_text : (asked : Result (List HostCall) ℕ) (given : Given) (b : Budgets) (text : List ℕ) (r : Reply) →
+    IsReplyToRunText (λ p q. IsReplyToHost p asked given b q) text r → IsOwn r.status
+own_host_text asked given b text r is = own_run (λ p q. IsReplyToHost p asked given b q) (λ p q of. own_host p asked given b q of) text r is
 
 -- ---- C texts
 
@@ -214,8 +247,10 @@ own_reply (check file) contents r is = own_text (check file) (bytes_at contents 
 own_reply (explain file) contents r is = own_text (explain file) (bytes_at contents 0) r is
 own_reply (verify file) contents r is = own_verify (bytes_at contents 0) r is
 own_reply (run file taken) contents r is =
-    own_run (bytes_at contents 0) (given_by (bytes_at contents 1) (bytes_at contents 2)) taken.budgets r is
+    own_run_text (given_by (bytes_at contents 1) (bytes_at contents 2)) taken.budgets (bytes_at contents 0) r is
 own_reply (fmt file) contents r is = own_text (fmt file) (bytes_at contents 0) r is
 own_reply (emit file) contents r is = own_text (emit file) (bytes_at contents 0) r is
 own_reply (crun file taken) contents r is = own_c (bytes_at contents 0) (bytes_at contents 1) (bytes_at contents 2) taken.budgets r is
 own_reply (load n) contents r is = own_made n (generated_text n) r is
+own_reply (host file calls taken) contents r is =
+    own_host_text (calls_of (bytes_at contents 1)) (given_by (bytes_at contents 2) (bytes_at contents 3)) taken.budgets (bytes_at contents 0) r is

@@ -36,10 +36,10 @@ seen g k = record { written = g.written k; faults = g.faults k }
 
 -- ---- ends before anything was written
 
-untouched_grew : (before after : Outside) → IsUntouched before after → Grew before.written after.written []
+pub untouched_grew : (before after : Outside) → IsUntouched before after → Grew before.written after.written []
 untouched_grew before after same = subst (λ x. Grew before.written x.written []) (sym same) (grew_none before.written)
 
-untouched_counted : (before after : Outside) → IsUntouched before after → before.faults ≤ after.faults
+pub untouched_counted : (before after : Outside) → IsUntouched before after → before.faults ≤ after.faults
 untouched_counted before after same = omega (arith, ap (λ x. x.faults) same)
 
 says_last : (Replies : Reply → Type 0) (last : Reply) → Replies last → last.status ≢ UNREAD → Says Replies (λ r. r ≡ last) []
@@ -50,7 +50,7 @@ says_last Replies last is inside = record {
 }
 
 -- nothing was written, and then this line
-line_alone : {K : Type 0} (g : Ghosts K) (Replies : Reply → Type 0) (old mid new : K) (result : ℕ) (last : Reply) → IsUntouched (seen g old) (seen g mid)
+pub line_alone : {K : Type 0} (g : Ghosts K) (Replies : Reply → Type 0) (old mid new : K) (result : ℕ) (last : Reply) → IsUntouched (seen g old) (seen g mid)
     → Replies last → last.status ≢ UNREAD → Finishes g (λ r. r ≡ last) mid new result → Finishes g Replies old new result
 line_alone g Replies old mid new result last same is inside f =
     came_to_end g Replies (λ r. r ≡ last) [] old mid new result (says_last Replies last is inside)

@@ -1,4 +1,4 @@
--- An accepted program of a text can be run.
+-- An accepted program of a text can be run, and a host can call its functions.
 use Rattle.std.proofs.Common.{◌≤◌, ◌<◌, ℕ, length, arith}
 use Rattle.std.specs.Prelude.{◌^◌}
 use Rattle.vlt_core.specs.Core.{Program}
@@ -14,6 +14,9 @@ use Rattle.vlt_sound.specs.Promise.{NeverGoesWrong}
 use Rattle.vlt_sound.specs.Narrow.{HasNarrowHeads}
 use Rattle.vlt_sound.specs.Sizes.{HasSizes}
 use Rattle.vlt_syntax.specs.Tree.{Tree}
+use Rattle.vlt_host_machine.specs.Callable.{IsCallable}
+use Rattle.vlt_host_laws.specs.Promise.{NeverGoesWrongForHosts}
+use Rattle.vaultc_core.specs.Callable.{IsRunnableForHosts}
 use Rattle.vlt_interp.specs.Tasks.Own.{HasOwn}
 use Rattle.vlt_verdict.proofs.Single.{fit_program}
 use Rattle.vlt_verdict.specs.Verdicts.{accepted, IsVerdictOf}
@@ -32,6 +35,9 @@ pub record RunLaws : Type 0 where
 few_vars : (n : ℕ) → n ≤ 256 → n < 2 ^ 32
 few_vars n le = omega (arith, le)
 
+few_functions : (n : ℕ) → n ≤ 4096 → n < 2 ^ 32
+few_functions n le = omega (arith, le)
+
 pub runnable : RunLaws → (t : Tree) (p : Program) → IsTextTree t → IsVerdictOf t (accepted p) → IsRunnable p
 runnable laws t p tree is =
     let x = fit_program laws.fit t p tree is.0 in
@@ -41,4 +47,20 @@ runnable laws t p tree is =
       never = laws.never p kinded is.1 x.sizes states x.narrow;
       own = laws.own p kinded (λ i f at. few_vars (length f.vars) (x.few.vars i f at)) x.blank x.well_formed.plain;
       calls = laws.calls p kinded is.1 x.sizes states x.narrow;
+    }
+
+-- the laws on programs whose functions a host calls
+pub record HostLaws : Type 0 where
+  pub fit : ProgramsAreFit
+  pub never : OfAccepted NeverGoesWrongForHosts
+  pub callable : (p : Program) → IsKinded p → IsAccepted p → HasSizes p → HasStates p → HasNarrowHeads p → HasFewVars p → HasBlankExternals p → HasNoBounds p → IsCallable p
+
+pub runnable_for_hosts : HostLaws → (t : Tree) (p : Program) → IsTextTree t → IsVerdictOf t (accepted p) → IsRunnableForHosts p
+runnable_for_hosts laws t p tree is =
+    let x = fit_program laws.fit t p tree is.0 in
+    let states = x.well_formed.states in
+    record {
+      callable = laws.callable p x.kinded is.1 x.sizes states x.narrow (λ i f at. few_vars (length f.vars) (x.few.vars i f at)) x.blank x.well_formed.plain;
+      never = laws.never p x.kinded is.1 x.sizes states x.narrow;
+      few = few_functions (length p.fns) x.few.functions;
     }

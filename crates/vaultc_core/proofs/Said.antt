@@ -2,7 +2,6 @@
 use Rattle.std.proofs.Common.{◌≡◌, inl, inr, ℕ, false, List, Option, Some, None, sym, subst, ap, ◌∙◌}
 use Rattle.std.specs.Prelude.{Result, Ok, Err, IfOk, IfSome, option_map}
 use Rattle.std.specs.declared.alloc.AllocError.{AllocError}
-use Rattle.vlt_base.specs.declared.Budgets.{Budgets}
 use Rattle.vlt_core.specs.View.{program_of}
 use Rattle.vlt_printer.specs.Layout.{layout}
 use Rattle.vlt_syntax.specs.Tree.{Tree}
@@ -18,9 +17,7 @@ use Rattle.vaultc_core.specs.Texts.{Refusal, AreRefused, IsTextOf, refusal_reply
 use Rattle.vaultc_core.specs.Verdicts.{check_reply, IsExplained}
 use Rattle.vlt_core.specs.Core.{Program}
 use Rattle.vlt_core.specs.declared.program.Program as code
-use Rattle.vlt_numbers.specs.Given.Given.{Given}
 use Rattle.vaultc_core.specs.Emitted.{IsEmitted, IsReplyToCompiled}
-use Rattle.vaultc_core.specs.Runs.{IsReplyToProgram}
 use Rattle.vaultc_core.specs.Replies.{IsReplyToVerdict, IsReplyToRun, IsReplyToTree, IsReplyByTree, IsReplyToText, IsReplyToRunText}
 use Rattle.vaultc_core.specs.Shown.{shown_reply, is_accepted, IsJudged}
 
@@ -76,28 +73,28 @@ pub refused_text : (P : Tree → lines.Reply → Type 0) (bytes : List ℕ) (o :
 refused_text P bytes o (Ok x) is same = refused_by P bytes o (shown_reply x) is same
 refused_text P bytes o (Err e) is same = tt
 
--- what is said of a text that is refused is what `run` replies to it
-pub refused_run_text : (bytes : List ℕ) (given : Given) (b : Budgets) (o : Option Refusal) (r : Result Reply AllocError) → IfSome o (AreRefused bytes)
-    → IfOk r (λ x. option_map (refusal_reply bytes) o ≡ Some (shown_reply x)) → IfOk r (λ x. IsReplyToRunText bytes given b (shown_reply x))
-refused_run_text bytes given b o r is same = refused_text (IsReplyToRun bytes given b) bytes o r is same
+-- what is said of a text that is refused is what a run of its program replies to it, whatever is replied to accepted programs
+pub refused_run_text : (P : Program → lines.Reply → Type 0) (bytes : List ℕ) (o : Option Refusal) (r : Result Reply AllocError) → IfSome o (AreRefused bytes)
+    → IfOk r (λ x. option_map (refusal_reply bytes) o ≡ Some (shown_reply x)) → IfOk r (λ x. IsReplyToRunText P bytes (shown_reply x))
+refused_run_text P bytes o r is same = refused_text (IsReplyToRun P bytes) bytes o r is same
 
--- `run` says of a verdict that isn't accepted what `check` says of it
-check_is_run : (text : List ℕ) (given : Given) (b : Budgets) (v : shown.Verdict) (s : Verdict) (r : lines.Reply) → is_accepted v ≡ false →
-    IsSeenAs v s → r ≡ check_reply text s → IsReplyToVerdict text given b s r
-check_is_run text given b v (refused x) r other seen e = e
-check_is_run text given b v (faulty p f x) r other seen e = e
-check_is_run text given b (Accepted q) (accepted p) r other seen e = absurd cc
-check_is_run text given b (Broken rule at) (accepted p) r other seen e = absurd cc
-check_is_run text given b (Exceeded n) (accepted p) r other seen e = absurd cc
-check_is_run text given b (Faulty q x) (accepted p) r other (f, there, same) e = absurd cc
+-- a run says of a verdict that isn't accepted what `check` says of it
+check_is_run : (P : Program → lines.Reply → Type 0) (text : List ℕ) (v : shown.Verdict) (s : Verdict) (r : lines.Reply) → is_accepted v ≡ false →
+    IsSeenAs v s → r ≡ check_reply text s → IsReplyToVerdict P text s r
+check_is_run P text v (refused x) r other seen e = e
+check_is_run P text v (faulty p f x) r other seen e = e
+check_is_run P text (Accepted q) (accepted p) r other seen e = absurd cc
+check_is_run P text (Broken rule at) (accepted p) r other seen e = absurd cc
+check_is_run P text (Exceeded n) (accepted p) r other seen e = absurd cc
+check_is_run P text (Faulty q x) (accepted p) r other (f, there, same) e = absurd cc
 
--- what is said of a verdict that isn't accepted is what `run` replies to the text
-pub refused_run : (text slice : List ℕ) (given : Given) (b : Budgets) (t : Tree) (v : shown.Verdict) (r : Result Reply AllocError) → slice ≡ text → IsTextOf t text →
+-- what is said of a verdict that isn't accepted is what a run replies to the text
+pub refused_run : (P : Program → lines.Reply → Type 0) (text slice : List ℕ) (t : Tree) (v : shown.Verdict) (r : Result Reply AllocError) → slice ≡ text → IsTextOf t text →
     is_accepted v ≡ false → IsJudged t v → IfOk r (λ x. (s : Verdict) → IsSeenAs v s → shown_reply x ≡ check_reply slice s) →
-    IfOk r (λ x. IsReplyToRunText text given b (shown_reply x))
-refused_run text slice given b t v (Ok x) same reads other (s, is, seen) said =
-    inr (t, reads, (s, is, check_is_run text given b v s (shown_reply x) other seen (subst (λ l. shown_reply x ≡ check_reply l s) same (said s seen))))
-refused_run text slice given b t v (Err e) same reads other judged said = tt
+    IfOk r (λ x. IsReplyToRunText P text (shown_reply x))
+refused_run P text slice t v (Ok x) same reads other (s, is, seen) said =
+    inr (t, reads, (s, is, check_is_run P text v s (shown_reply x) other seen (subst (λ l. shown_reply x ≡ check_reply l s) same (said s seen))))
+refused_run P text slice t v (Err e) same reads other judged said = tt
 
 -- an accepted verdict is that of its program
 pub accepted_program : (t : Tree) (v : shown.Verdict) (q : code.Program) → v ≡ Accepted q → IsJudged t v → IsVerdictOf t (accepted (program_of q))
@@ -105,10 +102,10 @@ accepted_program t v q so (s, is, seen) = accepted_seen t q s is (subst (λ x. I
   accepted_seen : (t : Tree) (q : code.Program) (s : Verdict) → IsVerdictOf t s → IsSeenAs (Accepted q) s → IsVerdictOf t (accepted (program_of q))
   accepted_seen t q s is same = subst (IsVerdictOf t) same is
 
--- the run of an accepted program is what `run` replies to the text
-pub accepted_run : (text : List ℕ) (given : Given) (b : Budgets) (t : Tree) (p : Program) → IsTextOf t text → IsVerdictOf t (accepted p) →
-    (r : lines.Reply) → IsReplyToProgram p given b r → IsReplyToRunText text given b r
-accepted_run text given b t p reads is r replies = inr (t, reads, (accepted p, is, replies))
+-- what is replied to an accepted program is replied to its text
+pub accepted_run : (P : Program → lines.Reply → Type 0) (text : List ℕ) (t : Tree) (p : Program) → IsTextOf t text → IsVerdictOf t (accepted p) →
+    (r : lines.Reply) → P p r → IsReplyToRunText P text r
+accepted_run P text t p reads is r replies = inr (t, reads, (accepted p, is, replies))
 
 -- ---- C texts
 

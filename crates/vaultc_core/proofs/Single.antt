@@ -1,5 +1,5 @@
 -- A command has one reply to what it read.
-use Rattle.std.proofs.Common.{◌≡◌, inl, inr, ℕ, ℤ, ◌++◌, List, Option, Some, None, refl, sym, ap, ◌∙◌, subst}
+use Rattle.std.proofs.Common.{◌≡◌, inl, inr, ℕ, ℤ, ◌++◌, List, Option, Some, None, Result, Ok, Err, refl, sym, ap, ◌∙◌, subst}
 use Rattle.vlt_base.specs.declared.Budgets.{Budgets}
 use Rattle.vlt_io.specs.Outside.{Files}
 use Rattle.vlt_core.specs.Core.{Program}
@@ -9,10 +9,13 @@ use Rattle.vlt_syntax.specs.Tree.{Tree}
 use Rattle.vlt_verdict.specs.FitLaws.Fit.{IsTextTree}
 use Rattle.vlt_verdict.specs.FitLaws.Texts.{TextsHaveTextTrees}
 use Rattle.vlt_numbers.specs.Given.Given.{Given, numbers, bad_input, bad_answers, given_by}
+use Rattle.vlt_host_meaning.specs.Calls.{HostCall}
+use Rattle.vlt_host_meaning.specs.HostRun.{HostRan, host_run}
+use Rattle.vlt_host.specs.CallsFile.{calls_of}
 use Rattle.vlt_verdict.specs.Verdicts.{Verdict, IsVerdictOf}
 use Rattle.vlt_verdict.specs.Laws.{HasOneVerdict}
 use Rattle.vlt_verdict.specs.Verdicts as verdict
-use Rattle.vaultc_core.specs.Commands.{Command, check, explain, run, fmt, emit, verify, crun, load}
+use Rattle.vaultc_core.specs.Commands.{Command, check, explain, run, fmt, emit, verify, crun, load, host}
 use Rattle.vaultc_core.specs.Sources.{Read, had, unread, too_long, sources_of, read_in}
 use Rattle.vaultc_core.specs.Lines.{Reply, reply, behind}
 use Rattle.vaultc_core.specs.Texts.{IsTextOf, refusal_reply}
@@ -23,6 +26,7 @@ use Rattle.vlt_load.specs.Generated.{generated_text}
 use Rattle.vaultc_core.specs.Loads.{IsReplyToLoaded}
 use Rattle.cert_least_laws.specs.Laws.{LeastCertificatesAreOne}
 use Rattle.vaultc_core.specs.Runs.{IsReplyToRan, IsReplyOverNumbers, IsReplyToProgram}
+use Rattle.vaultc_core.specs.HostRuns.{IsReplyToHostRan, IsReplyToCallsOver, IsReplyToCalls, IsReplyToHost}
 use Rattle.vaultc_core.specs.Replies.{IsReplyToVerdict, IsReplyToTree, IsReplyByTree, IsReplyToText, IsReplyToRunText, IsReplyToMade, bytes_at, IsReplyToContents, IsReplyToRead, IsReplyToCommand, GoesOn, AreAlike}
 use Rattle.c_reader_laws.specs.Laws.{IsReadInOneWay}
 use Rattle.cert_verify.specs.Laws.{VerifiesInOneWay}
@@ -52,11 +56,32 @@ one_of_program p (numbers input answers) b r q x y = one_over_numbers p input an
 one_of_program p (bad_input line) b r q x y = x ∙ sym y
 one_of_program p (bad_answers line) b r q x y = x ∙ sym y
 
-one_of_verdict : (text : List ℕ) (given : Given) (b : Budgets) (v : Verdict) (r q : Reply) →
-    IsReplyToVerdict text given b v r → IsReplyToVerdict text given b v q → r ≡ q
-one_of_verdict text given b (verdict.refused x) r q p n = p ∙ sym n
-one_of_verdict text given b (verdict.faulty p f x) r q a n = a ∙ sym n
-one_of_verdict text given b (verdict.accepted p) r q a n = one_of_program p given b r q a n
+one_of_host_ran : (ran : HostRan) (r q : Reply) → IsReplyToHostRan ran r → IsReplyToHostRan ran q → r ≡ q
+one_of_host_ran ran r q (k, of_k, is_r) (l, of_l, is_q) =
+    is_r ∙ ap (behind ran.text) (same_last k l (sym of_k ∙ of_l)) ∙ sym is_q
+
+one_of_calls_over : (p : Program) (calls : List HostCall) (input : List ℤ) (answers : List (List ℤ)) (b : Budgets) (r q : Reply) →
+    IsReplyToCallsOver p calls input answers b r → IsReplyToCallsOver p calls input answers b q → r ≡ q
+one_of_calls_over p calls input answers b r q (inl x) (inl y) = x.1 ∙ sym y.1
+one_of_calls_over p calls input answers b r q (inl x) (inr y) = absurd (y.0 x.0)
+one_of_calls_over p calls input answers b r q (inr x) (inl y) = absurd (x.0 y.0)
+one_of_calls_over p calls input answers b r q (inr x) (inr y) = one_of_host_ran (host_run p b.fuel b.heap b.depth input answers calls) r q x.1 y.1
+
+one_of_calls : (p : Program) (calls : List HostCall) (given : Given) (b : Budgets) (r q : Reply) → IsReplyToCalls p calls given b r → IsReplyToCalls p calls given b q → r ≡ q
+one_of_calls p calls (numbers input answers) b r q x y = one_of_calls_over p calls input answers b r q x y
+one_of_calls p calls (bad_input line) b r q x y = x ∙ sym y
+one_of_calls p calls (bad_answers line) b r q x y = x ∙ sym y
+
+one_of_host : (p : Program) (calls : Result (List HostCall) ℕ) (given : Given) (b : Budgets) (r q : Reply) → IsReplyToHost p calls given b r → IsReplyToHost p calls given b q → r ≡ q
+one_of_host p (Ok calls) given b r q x y = one_of_calls p calls given b r q x y
+one_of_host p (Err line) given b r q x y = x ∙ sym y
+
+-- where an accepted program has one reply, a verdict has
+one_of_verdict : (P : Program → Reply → Type 0) → ((p : Program) (r q : Reply) → P p r → P p q → r ≡ q) → (text : List ℕ) (v : Verdict) (r q : Reply) →
+    IsReplyToVerdict P text v r → IsReplyToVerdict P text v q → r ≡ q
+one_of_verdict P one text (verdict.refused x) r q p n = p ∙ sym n
+one_of_verdict P one text (verdict.faulty p f x) r q a n = a ∙ sym n
+one_of_verdict P one text (verdict.accepted p) r q a n = one p r q a n
 
 one_of_compiled : LeastCertificatesAreOne → (text : List ℕ) (v : Verdict) (r q : Reply) → IsReplyToCompiled text v r → IsReplyToCompiled text v q → r ≡ q
 one_of_compiled one text (verdict.refused x) r q p n = p ∙ sym n
@@ -74,6 +99,7 @@ same_alike (emit file) x r q e = e
 same_alike (verify file) x r q e = e
 same_alike (crun file taken) x r q e = e
 same_alike (load n) x r q e = e
+same_alike (host file calls taken) x r q e = e
 
 alike_status : (command : Command) (x : Read) (r q : Reply) → AreAlike command x r q → r.status ≡ q.status
 alike_status (check file) x r q e = ap (λ z. z.status) e
@@ -85,6 +111,7 @@ alike_status (emit file) x r q e = ap (λ z. z.status) e
 alike_status (verify file) x r q e = ap (λ z. z.status) e
 alike_status (crun file taken) x r q e = ap (λ z. z.status) e
 alike_status (load n) x r q e = ap (λ z. z.status) e
+alike_status (host file calls taken) x r q e = ap (λ z. z.status) e
 
 goes_on : (line more : List ℕ) (r : Reply) → r ≡ reply NOT_ACCEPTED (line ++ more) → GoesOn (reply NOT_ACCEPTED line) r
 goes_on line more r e = (ap (λ z. z.status) e, (more, ap (λ z. z.text) e))
@@ -122,6 +149,7 @@ module _ (laws : Laws) where
   one_of_tree (verify file) contents t r q reads tree is_r is_q = absurd is_r
   one_of_tree (crun file taken) contents t r q reads tree is_r is_q = absurd is_r
   one_of_tree (load n) contents t r q reads tree is_r is_q = absurd is_r
+  one_of_tree (host file calls taken) contents t r q reads tree is_r is_q = absurd is_r
 
   -- ---- commands
 
@@ -146,8 +174,19 @@ module _ (laws : Laws) where
       let here : IsVerdictOf u v = subst (λ x. IsVerdictOf x v) (one_text bytes t u p n) of_v in
       one w r q (subst (λ x. P x r) (laws.one u v w (text_tree laws.trees bytes u n) here of_w) is_r) is_q
 
-  one_of_run : (bytes : List ℕ) (given : Given) (b : Budgets) (r q : Reply) → IsReplyToRunText bytes given b r → IsReplyToRunText bytes given b q → r ≡ q
-  one_of_run bytes given b r q is_r is_q = one_by_verdict (IsReplyToVerdict bytes given b) (one_of_verdict bytes given b) bytes r q is_r is_q
+  one_of_run : (P : Program → Reply → Type 0) → ((p : Program) (r q : Reply) → P p r → P p q → r ≡ q) → (bytes : List ℕ) (r q : Reply) →
+      IsReplyToRunText P bytes r → IsReplyToRunText P bytes q → r ≡ q
+  one_of_run P one bytes r q is_r is_q = one_by_verdict (IsReplyToVerdict P bytes) (one_of_verdict P one bytes) bytes r q is_r is_q
+
+  one_of_run_text : (given : Given) (b : Budgets) (bytes : List ℕ) (r q : Reply) →
+      IsReplyToRunText (λ p a. IsReplyToProgram p given b a) bytes r → IsReplyToRunText (λ p a. IsReplyToProgram p given b a) bytes q → r ≡ q
+  one_of_run_text given b bytes r q is_r is_q =
+      one_of_run (λ p a. IsReplyToProgram p given b a) (λ p s t x y. one_of_program p given b s t x y) bytes r q is_r is_q
+
+  one_of_host_text : (asked : Result (List HostCall) ℕ) (given : Given) (b : Budgets) (bytes : List ℕ) (r q : Reply) →
+      IsReplyToRunText (λ p a. IsReplyToHost p asked given b a) bytes r → IsReplyToRunText (λ p a. IsReplyToHost p asked given b a) bytes q → r ≡ q
+  one_of_host_text asked given b bytes r q is_r is_q =
+      one_of_run (λ p a. IsReplyToHost p asked given b a) (λ p s t x y. one_of_host p asked given b s t x y) bytes r q is_r is_q
 
   one_of_load : (n : ℕ) (bytes : List ℕ) (r q : Reply) → IsReplyToMade n bytes r → IsReplyToMade n bytes q → r ≡ q
   one_of_load n bytes r q is_r is_q = one_by_verdict (IsReplyToLoaded n bytes) (one_loaded laws.certificates n bytes) bytes r q is_r is_q
@@ -157,13 +196,15 @@ module _ (laws : Laws) where
   one_of_contents (check file) contents r q is_r is_q = one_of_text (check file) contents r q is_r is_q
   one_of_contents (explain file) contents r q is_r is_q = one_of_text (explain file) contents r q is_r is_q
   one_of_contents (run file taken) contents r q is_r is_q =
-      one_of_run (bytes_at contents 0) (given_by (bytes_at contents 1) (bytes_at contents 2)) taken.budgets r q is_r is_q
+      one_of_run_text (given_by (bytes_at contents 1) (bytes_at contents 2)) taken.budgets (bytes_at contents 0) r q is_r is_q
   one_of_contents (fmt file) contents r q is_r is_q = one_of_text (fmt file) contents r q is_r is_q
   one_of_contents (emit file) contents r q is_r is_q = one_of_text (emit file) contents r q is_r is_q
   one_of_contents (verify file) contents r q is_r is_q = one_verify_reply laws.verified (bytes_at contents 0) r q is_r is_q
   one_of_contents (crun file taken) contents r q is_r is_q =
       one_c_reply (laws.c_texts (bytes_at contents 0)) (bytes_at contents 1) (bytes_at contents 2) taken.budgets r q is_r is_q
   one_of_contents (load n) contents r q is_r is_q = one_of_load n (generated_text n) r q is_r is_q
+  one_of_contents (host file calls taken) contents r q is_r is_q =
+      one_of_host_text (calls_of (bytes_at contents 1)) (given_by (bytes_at contents 2) (bytes_at contents 3)) taken.budgets (bytes_at contents 0) r q is_r is_q
 
   -- a command has one reply to what it read
   pub one_of_read : (command : Command) (x : Read) (r q : Reply) → IsReplyToRead command x r → IsReplyToRead command x q → AreAlike command x r q

@@ -1,5 +1,5 @@
 -- It can't be that a command has no reply to what it read.
-use Rattle.std.proofs.Common.{◌≡◌, ◌<◌, ℕ, ℤ, List, ◌++◌, ◌⊎◌, inl, inr, ⊎_elim, refl, arith}
+use Rattle.std.proofs.Common.{◌≡◌, ◌<◌, ℕ, ℤ, List, ◌++◌, ◌⊎◌, inl, inr, ⊎_elim, Result, Ok, Err, refl, arith}
 use Rattle.std.specs.Prelude.{false, codes}
 use Rattle.std.proofs.lemmas.Bool.{cases_lt}
 use Rattle.vlt_base.specs.declared.Budgets.{Budgets}
@@ -15,6 +15,12 @@ use Rattle.vlt_verdict.specs.FitLaws.Fit.{IsTextTree, ProgramsAreFit}
 use Rattle.vlt_verdict.specs.FitLaws.Texts.{TextsHaveTextTrees}
 use Rattle.vlt_numbers.specs.Given.Given.{Given, numbers, bad_input, bad_answers, given_by}
 use Rattle.vlt_meaning.specs.Run as meaning
+use Rattle.vlt_host_meaning.specs.Calls.{HostCall}
+use Rattle.vlt_host_meaning.specs.HostRun.{HostRan, host_run}
+use Rattle.vlt_host.specs.CallsFile.{calls_of}
+use Rattle.vlt_host_laws.specs.Promise.{is_host_fault, NeverGoesWrongForHosts}
+use Rattle.vlt_host_machine.specs.Callable.{slots_needed_by_host}
+use Rattle.vlt_host_runs.specs.Ends.{IsTooWideForHost}
 use Rattle.vlt_meaning.specs.World.{Ran, is_fault, event_text}
 use Rattle.vlt_reports.specs.Reports.{fault_line, paths_text}
 use Rattle.vlt_interp.specs.Runs.Ends.{IsTooWide}
@@ -26,9 +32,10 @@ use Rattle.vlt_verdict.specs.Verdicts.{Verdict, refused, faulty, accepted, IsVer
 use Rattle.vlt_verdict.specs.Laws.{HasSomeVerdict}
 use Rattle.vlt_check_laws.specs.Shown.{HasWitness}
 use Rattle.vaultc_core.specs.declared.status.TheConstants.{DONE, NOT_ACCEPTED}
-use Rattle.vaultc_core.specs.Commands.{Command, check, explain, run, fmt, emit, verify, crun, load}
+use Rattle.vaultc_core.specs.Commands.{Command, check, explain, run, fmt, emit, verify, crun, load, host}
 use Rattle.vaultc_core.specs.Lines.{Reply, reply, over_reply, unread_reply, numbers_reply, behind}
 use Rattle.vaultc_core.specs.Runs.{IsReplyToRan, IsReplyOverNumbers, IsReplyToProgram}
+use Rattle.vaultc_core.specs.HostRuns.{IsReplyToHostRan, IsReplyToCallsOver, IsReplyToCalls, IsReplyToHost}
 use Rattle.vaultc_core.specs.Sources.{had, unread, too_long}
 use Rattle.vaultc_core.specs.Texts.{IsTextOf, refusal_reply}
 use Rattle.cert_least_texts.specs.Texts.{AcceptedTextsHaveOne}
@@ -36,7 +43,7 @@ use Rattle.vaultc_core.specs.Verdicts.{check_reply, IsExplained}
 use Rattle.vaultc_core.specs.Emitted.{c_file, file_reply, IsReplyToCompiled}
 use Rattle.vlt_load.specs.Generated.{generated_text}
 use Rattle.vaultc_core.specs.Loads.{IsReplyToLoaded, IsReplyToLoad}
-use Rattle.vaultc_core.specs.Replies.{IsReplyToCheck, IsReplyToExplain, IsReplyToEmit, IsReplyToVerdict, IsReplyToRun, IsReplyByTree, bytes_at, IsReplyToContents, HasSomeReply}
+use Rattle.vaultc_core.specs.Replies.{IsReplyToCheck, IsReplyToExplain, IsReplyToEmit, IsReplyToVerdict, IsReplyToRun, IsReplyByTree, IsReplyToRunText, bytes_at, IsReplyToContents, HasSomeReply}
 use Rattle.c_reader_laws.specs.Laws.{IsReadInOneWay}
 use Rattle.vaultc_core.proofs.OfTexts.{program_of_text}
 use Rattle.cert_verify.specs.Laws.{VerifiesInSomeWay}
@@ -45,6 +52,7 @@ use Rattle.vaultc_core.proofs.VReplies.{some_verify_reply}
 use Rattle.vaultc_core.proofs.Loads.{some_loaded}
 use Rattle.vaultc_core.proofs.Read.{text_tree, read_in_one_way}
 use Rattle.vaultc_core.proofs.RunEnded.{last_there}
+use Rattle.vaultc_core.proofs.HostEnded.{host_last_there}
 use Rattle.vaultc_core.proofs.Runnable.{OfAccepted}
 
 -- what is known of the trees of texts, of C texts, of certificates, and of C files that have one
@@ -54,6 +62,7 @@ pub record Laws : Type 0 where
   pub verdicts : HasSomeVerdict
   pub witnesses : (p : Program) (x : FlowFault) → IsWellFormed p → IsFirstFault p x → HasWitness p x
   pub never : OfAccepted NeverGoesWrong
+  pub never_for_hosts : OfAccepted NeverGoesWrongForHosts
   pub c_texts : (text : List ℕ) → IsReadInOneWay text
   pub certificates : AcceptedTextsHaveOne
   pub verified : (text : List ℕ) → VerifiesInSomeWay text
@@ -77,6 +86,29 @@ of_program p (numbers input answers) b never = over_numbers p input answers b ne
 of_program p (bad_input line) b never = (numbers_reply (codes "input") line, refl)
 of_program p (bad_answers line) b never = (numbers_reply (codes "answers") line, refl)
 
+-- ---- runs for hosts
+
+wide_for_host_or_not : (p : Program) (b : Budgets) → IsTooWideForHost p b ⊎ (IsTooWideForHost p b → ⊥)
+wide_for_host_or_not p b = over_or_not (limit_of VALUE_SLOTS) (slots_needed_by_host p b.depth b.heap)
+
+of_host_ran : (ran : HostRan) → is_host_fault ran.outcome ≡ false → (r : Reply) × IsReplyToHostRan ran r
+of_host_ran ran right = let last = host_last_there ran.outcome right in (behind ran.text last.0, (last.0, last.1, refl))
+
+of_calls_over : (p : Program) (calls : List HostCall) (input : List ℤ) (answers : List (List ℤ)) (b : Budgets) → NeverGoesWrongForHosts p → (r : Reply) × IsReplyToCallsOver p calls input answers b r
+of_calls_over p calls input answers b never = ⊎_elim
+    (λ wide. (over_reply VALUE_SLOTS, inl (wide, refl)))
+    (λ fits. let r = of_host_ran (host_run p b.fuel b.heap b.depth input answers calls) (never b.fuel b.heap b.depth input answers calls) in (r.0, inr (fits, r.1)))
+    (wide_for_host_or_not p b)
+
+of_calls : (p : Program) (calls : List HostCall) (given : Given) (b : Budgets) → NeverGoesWrongForHosts p → (r : Reply) × IsReplyToCalls p calls given b r
+of_calls p calls (numbers input answers) b never = of_calls_over p calls input answers b never
+of_calls p calls (bad_input line) b never = (numbers_reply (codes "input") line, refl)
+of_calls p calls (bad_answers line) b never = (numbers_reply (codes "answers") line, refl)
+
+of_host : (p : Program) (calls : Result (List HostCall) ℕ) (given : Given) (b : Budgets) → NeverGoesWrongForHosts p → (r : Reply) × IsReplyToHost p calls given b r
+of_host p (Ok calls) given b never = of_calls p calls given b never
+of_host p (Err line) given b never = (numbers_reply (codes "calls") line, refl)
+
 module _ (laws : Laws) where
   -- each verdict is explained in some way, since each first fault has a witness
   explained : (text : List ℕ) (t : Tree) → IsTextTree t → (v : Verdict) → IsVerdictOf t v → (r : Reply) × IsExplained text v r
@@ -86,12 +118,14 @@ module _ (laws : Laws) where
       let w = laws.witnesses p x (fit_program laws.fit t p tree is.0).well_formed is.1.first in
       (reply NOT_ACCEPTED (fault_line text p f x.at x.tok x.kind ++ paths_text text p f w.first w.second), (w.first, w.second, w.shown, refl))
 
-  of_verdict : (text : List ℕ) (given : Given) (b : Budgets) (t : Tree) → IsTextTree t → (v : Verdict) → IsVerdictOf t v → (r : Reply) × IsReplyToVerdict text given b v r
-  of_verdict text given b t tree (refused e) is = (check_reply text (refused e), refl)
-  of_verdict text given b t tree (faulty p f x) is = (check_reply text (faulty p f x), refl)
-  of_verdict text given b t tree (accepted p) is =
+  -- where each accepted program has a reply, a verdict has
+  of_verdict : (P : Program → Reply → Type 0) → OfAccepted (λ p. (r : Reply) × P p r) → (text : List ℕ) (t : Tree) → IsTextTree t → (v : Verdict) → IsVerdictOf t v →
+      (r : Reply) × IsReplyToVerdict P text v r
+  of_verdict P some text t tree (refused e) is = (check_reply text (refused e), refl)
+  of_verdict P some text t tree (faulty p f x) is = (check_reply text (faulty p f x), refl)
+  of_verdict P some text t tree (accepted p) is =
       let x = fit_program laws.fit t p tree is.0 in
-      of_program p given b (laws.never p x.kinded is.1 x.sizes x.well_formed.states x.narrow)
+      some p x.kinded is.1 x.sizes x.well_formed.states x.narrow
 
   -- an accepted program surely has a least certificate
   compiled : (text : List ℕ) (t : Tree) → IsTextOf t text → IsTextTree t → (v : Verdict) → IsVerdictOf t v → Surely ((r : Reply) × IsReplyToCompiled text v r)
@@ -119,8 +153,8 @@ module _ (laws : Laws) where
   some_of_emit : (text : List ℕ) (t : Tree) → IsTextOf t text → IsTextTree t → Surely ((r : Reply) × IsReplyToEmit text t r)
   some_of_emit text t reads tree = surely (laws.verdicts t tree) (λ v. so (compiled text t reads tree v.0 v.1) (λ r. (r.0, (v.0, v.1, r.1))))
 
-  some_of_run : (text : List ℕ) (given : Given) (b : Budgets) (t : Tree) → IsTextTree t → Surely ((r : Reply) × IsReplyToRun text given b t r)
-  some_of_run text given b t tree = so (laws.verdicts t tree) (λ v. let r = of_verdict text given b t tree v.0 v.1 in (r.0, (v.0, v.1, r.1)))
+  some_of_run : (P : Program → Reply → Type 0) → OfAccepted (λ p. (r : Reply) × P p r) → (text : List ℕ) (t : Tree) → IsTextTree t → Surely ((r : Reply) × IsReplyToRun P text t r)
+  some_of_run P some text t tree = so (laws.verdicts t tree) (λ v. let r = of_verdict P some text t tree v.0 v.1 in (r.0, (v.0, v.1, r.1)))
 
   some_of_load : (n : ℕ) (text : List ℕ) (t : Tree) → IsTextOf t text → IsTextTree t → Surely ((r : Reply) × IsReplyToLoad n text t r)
   some_of_load n text t reads tree = surely (laws.verdicts t tree) (λ v. so (loaded n text t reads tree v.0 v.1) (λ r. (r.0, (v.0, v.1, r.1))))
@@ -133,20 +167,32 @@ module _ (laws : Laws) where
 
   -- ---- files
 
+  some_of_run_text : (given : Given) (b : Budgets) (bytes : List ℕ) → Surely ((r : Reply) × IsReplyToRunText (λ p q. IsReplyToProgram p given b q) bytes r)
+  some_of_run_text given b bytes =
+      by_tree (IsReplyToRun (λ p q. IsReplyToProgram p given b q) bytes) bytes
+      (λ t reads. some_of_run (λ p q. IsReplyToProgram p given b q)
+      (λ p kinded accepts sizes states narrow. of_program p given b (laws.never p kinded accepts sizes states narrow)) bytes t)
+
+  some_of_host_text : (asked : Result (List HostCall) ℕ) (given : Given) (b : Budgets) (bytes : List ℕ) →
+      Surely ((r : Reply) × IsReplyToRunText (λ p q. IsReplyToHost p asked given b q) bytes r)
+  some_of_host_text asked given b bytes =
+      by_tree (IsReplyToRun (λ p q. IsReplyToHost p asked given b q) bytes) bytes
+      (λ t reads. some_of_run (λ p q. IsReplyToHost p asked given b q)
+      (λ p kinded accepts sizes states narrow. of_host p asked given b (laws.never_for_hosts p kinded accepts sizes states narrow)) bytes t)
+
   some_of_contents : (command : Command) (contents : List (List ℕ)) → Surely ((r : Reply) × IsReplyToContents command contents r)
   some_of_contents (check file) contents = let bytes = bytes_at contents 0 in by_tree (IsReplyToCheck bytes) bytes (λ t reads. some_of_check bytes t)
   some_of_contents (explain file) contents = let bytes = bytes_at contents 0 in by_tree (IsReplyToExplain bytes) bytes (λ t reads. some_of_explain bytes t)
   some_of_contents (fmt file) contents =
       by_tree (λ t r. r ≡ reply DONE (layout t)) (bytes_at contents 0) (λ t reads tree. sure (reply DONE (layout t), refl))
   some_of_contents (emit file) contents = let bytes = bytes_at contents 0 in by_tree (IsReplyToEmit bytes) bytes (some_of_emit bytes)
-  some_of_contents (run file taken) contents =
-      let bytes = bytes_at contents 0 in
-      let given = given_by (bytes_at contents 1) (bytes_at contents 2) in
-      by_tree (IsReplyToRun bytes given taken.budgets) bytes (λ t reads. some_of_run bytes given taken.budgets t)
+  some_of_contents (run file taken) contents = some_of_run_text (given_by (bytes_at contents 1) (bytes_at contents 2)) taken.budgets (bytes_at contents 0)
   some_of_contents (verify file) contents = some_verify_reply laws.verified (bytes_at contents 0)
   some_of_contents (crun file taken) contents =
       sure (some_c_reply (laws.c_texts (bytes_at contents 0)) (bytes_at contents 1) (bytes_at contents 2) taken.budgets)
   some_of_contents (load n) contents = let text = generated_text n in by_tree (IsReplyToLoad n text) text (some_of_load n text)
+  some_of_contents (host file calls taken) contents =
+      some_of_host_text (calls_of (bytes_at contents 1)) (given_by (bytes_at contents 2) (bytes_at contents 3)) taken.budgets (bytes_at contents 0)
 
   pub some_of_read : HasSomeReply
   some_of_read command (had contents) = some_of_contents command contents

@@ -24,6 +24,8 @@ pub data Command : Type 0 where
   verify : (file : List ℕ) → Command
   crun : (file : List ℕ) → Taken → Command
   load : (functions : ℕ) → Command
+  -- with the file of a host's calls
+  host : (file calls : List ℕ) → Taken → Command
 
 -- a file word is not empty and doesn't begin with `-`
 abbrev pub is_file_word : List ℕ → Bool
@@ -108,6 +110,12 @@ abbrev pub without_options : Command → (options : List (List ℕ)) → Option 
 without_options command [] = Some command
 without_options command (word ∷ words) = None
 
+-- `host` with a file, of which the next word names the calls; the others set options
+abbrev pub host_of : (file : List ℕ) → List (List ℕ) → Option Command
+host_of file [] = None
+host_of file (word ∷ options) =
+    option_and_then (λ calls. option_map (λ s. host file calls (taken_by s)) (settings_of options nothing_set)) (file_word word)
+
 -- the command that the words are, if they are one
 abbrev pub command_of : List (List ℕ) → Option Command
 command_of (word ∷ file ∷ options) =
@@ -120,5 +128,6 @@ command_of (word ∷ file ∷ options) =
     else if bytes_eq word (codes "run") then option_map (λ s. run file (taken_by s)) (settings_of options nothing_set)
     else if bytes_eq word (codes "crun") then option_map (λ s. crun file (taken_by s)) (settings_of options nothing_set)
     else if bytes_eq word (codes "load") then option_and_then (λ n. without_options (load n) options) (number_within 1 MOST_FUNCTIONS file)
+    else if bytes_eq word (codes "host") then host_of file options
     else None
 command_of _ = None

@@ -7,6 +7,7 @@ pub mod Verdicts
 pub mod Emitted
 pub mod Runs
 pub mod CRuns
+pub mod HostRuns
 pub mod Verifying
 pub mod Loads
 pub mod Loading
@@ -14,7 +15,9 @@ pub mod Replies
 pub mod Promised
 pub mod Compiled
 pub mod Verified
+pub mod Hosted
 pub mod Finishes
 pub mod View
 pub mod Shown
 pub mod Compilable
+pub mod Callable

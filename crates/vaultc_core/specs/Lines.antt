@@ -18,7 +18,7 @@ reply status text = record { status = status; text = text }
 -- ---- lines
 
 abbrev pub usage : List ℕ
-usage = codes "usage: vaultc check F | explain F | fmt F | emit F | verify F | load N | run F OPTIONS | crun F OPTIONS\n"
+usage = codes "usage: vaultc check F | explain F | fmt F | emit F | verify F | load N | run F OPTIONS | crun F OPTIONS | host F H OPTIONS\n"
 
 abbrev pub read_line : List ℕ → List ℕ
 read_line name = codes "read " ++ name ++ codes "\n"
@@ -59,6 +59,9 @@ numbers_reply what line = reply NO_TEXT (codes "text " ++ what ++ codes " " ++ d
 
 abbrev pub bad_answer_line : ℕ → List ℕ
 bad_answer_line n = codes "answer " ++ decimal n ++ codes " bad\n"
+
+abbrev pub bad_call_line : ℕ → List ℕ
+bad_call_line n = codes "call " ++ decimal n ++ codes " bad\n"
 
 -- the text of the events, and then the last line
 abbrev pub behind : (events : List ℕ) → Reply → Reply

@@ -1,12 +1,11 @@
 -- What each command replies, in the order in which commands refuse: the words, the files with their sizes, the text, the program, the run.
 use Rattle.std.specs.Prelude.{◌≡◌, ◌≢◌, ℕ, List, [], ◌++◌, slice_index_or, Option, Some, None, ◌⊎◌}
-use Rattle.vlt_base.specs.declared.Budgets.{Budgets}
 use Rattle.vlt_io.specs.Outside.{Files, MayFail}
 use Rattle.vlt_io.specs.declared.store.Store.{Ghosts}
 use Rattle.vlt_syntax.specs.Tree.{Tree}
 use Rattle.vlt_printer.specs.Layout.{layout}
 use Rattle.vaultc_core.specs.declared.status.TheConstants.{DONE, UNREAD, SINK_FAILED, NO_MEMORY, NOT_ACCEPTED}
-use Rattle.vaultc_core.specs.Commands.{Command, check, explain, run, fmt, emit, verify, crun, load, command_of}
+use Rattle.vaultc_core.specs.Commands.{Command, check, explain, run, fmt, emit, verify, crun, load, host, command_of}
 use Rattle.vaultc_core.specs.Sources.{Read, had, unread, too_long, sources_of, read_in, MayRead}
 use Rattle.vaultc_core.specs.Lines.{Reply, reply, usage_reply, unread_reply, over_reply}
 use Rattle.vaultc_core.specs.Texts.{Refusal, AreRefused, IsTextOf, refusal_reply}
@@ -14,9 +13,12 @@ use Rattle.vlt_base.specs.Sure.{Surely}
 use Rattle.vlt_verdict.specs.Verdicts.{Verdict, accepted, IsVerdictOf}
 use Rattle.vaultc_core.specs.Verdicts.{check_reply, IsExplained}
 use Rattle.vaultc_core.specs.Emitted.{IsReplyToCompiled}
-use Rattle.vlt_numbers.specs.Given.Given.{Given, given_by}
+use Rattle.vlt_core.specs.Core.{Program}
+use Rattle.vlt_numbers.specs.Given.Given.{given_by}
+use Rattle.vlt_host.specs.CallsFile.{calls_of}
 use Rattle.vaultc_core.specs.Runs.{IsReplyToProgram}
 use Rattle.vaultc_core.specs.CRuns.{IsReplyToC}
+use Rattle.vaultc_core.specs.HostRuns.{IsReplyToHost}
 use Rattle.vaultc_core.specs.Verifying.{IsReplyToVerify}
 use Rattle.vlt_load.specs.Generated.{generated_text}
 use Rattle.vaultc_core.specs.Loads.{IsReplyToLoad}
@@ -32,13 +34,13 @@ IsReplyToExplain text t r = (v : Verdict) × IsVerdictOf t v × IsExplained text
 abbrev pub IsReplyToEmit : (text : List ℕ) → Tree → Reply → Type 0
 IsReplyToEmit text t r = (v : Verdict) × IsVerdictOf t v × IsReplyToCompiled text v r
 
--- `run` replies as `check` does where that doesn't accept
-abbrev pub IsReplyToVerdict : (text : List ℕ) → Given → Budgets → Verdict → Reply → Type 0
-IsReplyToVerdict text given b (accepted p) r = IsReplyToProgram p given b r
-IsReplyToVerdict text given b v r = r ≡ check_reply text v
+-- a command that runs a program replies as `check` does where that doesn't accept; P has the replies to accepted programs
+abbrev pub IsReplyToVerdict : (P : Program → Reply → Type 0) → (text : List ℕ) → Verdict → Reply → Type 0
+IsReplyToVerdict P text (accepted p) r = P p r
+IsReplyToVerdict P text v r = r ≡ check_reply text v
 
-abbrev pub IsReplyToRun : (text : List ℕ) → Given → Budgets → Tree → Reply → Type 0
-IsReplyToRun text given b t r = (v : Verdict) × IsVerdictOf t v × IsReplyToVerdict text given b v r
+abbrev pub IsReplyToRun : (P : Program → Reply → Type 0) → (text : List ℕ) → Tree → Reply → Type 0
+IsReplyToRun P text t r = (v : Verdict) × IsVerdictOf t v × IsReplyToVerdict P text v r
 
 -- what a command on a text alone replies to its tree; the others take more than a text
 abbrev pub IsReplyToTree : Command → (text : List ℕ) → Tree → Reply → Type 0
@@ -50,6 +52,7 @@ IsReplyToTree (verify file) text t r = ⊥
 IsReplyToTree (run file taken) text t r = ⊥
 IsReplyToTree (crun file taken) text t r = ⊥
 IsReplyToTree (load n) text t r = ⊥
+IsReplyToTree (host file calls taken) text t r = ⊥
 
 -- ---- bytes
 
@@ -61,8 +64,8 @@ IsReplyByTree P bytes r =
 abbrev pub IsReplyToText : Command → List ℕ → Reply → Type 0
 IsReplyToText command bytes r = IsReplyByTree (IsReplyToTree command bytes) bytes r
 
-abbrev pub IsReplyToRunText : List ℕ → Given → Budgets → Reply → Type 0
-IsReplyToRunText bytes given b r = IsReplyByTree (IsReplyToRun bytes given b) bytes r
+abbrev pub IsReplyToRunText : (P : Program → Reply → Type 0) → List ℕ → Reply → Type 0
+IsReplyToRunText P bytes r = IsReplyByTree (IsReplyToRun P bytes) bytes r
 
 abbrev pub IsReplyToMade : (n : ℕ) → List ℕ → Reply → Type 0
 IsReplyToMade n bytes r = IsReplyByTree (IsReplyToLoad n bytes) bytes r
@@ -75,10 +78,14 @@ bytes_at contents n = slice_index_or contents n []
 abbrev pub IsReplyToContents : Command → List (List ℕ) → Reply → Type 0
 IsReplyToContents (verify file) contents r = IsReplyToVerify (bytes_at contents 0) r
 IsReplyToContents (run file taken) contents r =
-    IsReplyToRunText (bytes_at contents 0) (given_by (bytes_at contents 1) (bytes_at contents 2)) taken.budgets r
+    IsReplyToRunText (λ p q. IsReplyToProgram p (given_by (bytes_at contents 1) (bytes_at contents 2)) taken.budgets q) (bytes_at contents 0) r
 IsReplyToContents (crun file taken) contents r =
     IsReplyToC (bytes_at contents 0) (bytes_at contents 1) (bytes_at contents 2) taken.budgets r
 IsReplyToContents (load n) contents r = IsReplyToMade n (generated_text n) r
+IsReplyToContents (host file calls taken) contents r =
+    IsReplyToRunText
+    (λ p q. IsReplyToHost p (calls_of (bytes_at contents 1)) (given_by (bytes_at contents 2) (bytes_at contents 3)) taken.budgets q)
+    (bytes_at contents 0) r
 IsReplyToContents command contents r = IsReplyToText command (bytes_at contents 0) r
 
 -- what is replied to what reading files came to, where these are the replies to the bytes of all

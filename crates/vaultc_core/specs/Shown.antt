@@ -21,10 +21,17 @@ use Rattle.vlt_verdict.specs.declared.Verdict.{Verdict}
 use Rattle.vlt_verdict.specs.declared.Verdict.TheVariants as verdict
 use Rattle.vaultc_core.specs.declared.status.TheConstants.{SINK_FAILED, NO_MEMORY}
 use Rattle.vaultc_core.specs.Finishes.{Finishes}
-use Rattle.vaultc_core.specs.Runs.{stop_line, end_line}
+use Rattle.vaultc_core.specs.Runs.{stop_line, end_line, IsReplyToProgram}
+use Rattle.vaultc_core.specs.HostRuns.{host_stop_line, IsReplyToHost}
 use Rattle.vaultc_core.specs.Lines as lines
 use Rattle.vaultc_core.specs.Texts.{Refusal, unlexed, unparsed}
+use Rattle.vlt_base.specs.declared.Budgets.{Budgets}
 use Rattle.vlt_base.specs.declared.limits.TheConstants.{SOURCE_BYTES}
+use Rattle.vlt_core.specs.Core.{Program}
+use Rattle.vlt_numbers.specs.Given.Given.{Given}
+use Rattle.vlt_host.specs.CallsFile.{calls_of}
+use Rattle.vlt_host_runs.specs.declared.stop.HostStop.{HostStop}
+use Rattle.vlt_host_runs.specs.declared.stop.HostStop.TheVariants as host
 use Rattle.c_interp.specs.declared.stop.CStop.{CStop}
 use Rattle.c_interp.specs.declared.stop.CStop.TheVariants.{Stopped}
 use Rattle.c_reader.specs.Reads.{IsUnread, IsWithin}
@@ -36,9 +43,12 @@ use Rattle.vaultc_core.specs.Sources.{Read, had, unread, too_long, IsOver}
 use Rattle.vaultc_core.specs.declared.files.FileError.{FileError}
 use Rattle.vaultc_core.specs.declared.files.FileError.TheVariants.{Unread, TooLong, Memory}
 use Rattle.vaultc_core.specs.declared.files.RunFiles.{RunFiles}
+use Rattle.vaultc_core.specs.declared.files.HostFiles.{HostFiles}
 use Rattle.vaultc_core.specs.declared.source.TextError.{TextError}
 use Rattle.vaultc_core.specs.declared.source.TextError.TheVariants as error
 use Rattle.vaultc_core.specs.declared.reply.Reply.{Reply}
+use Rattle.vaultc_core.specs.declared.runs.Caller.{Caller}
+use Rattle.vaultc_core.specs.declared.runs.Caller.TheVariants.{Main, Host}
 
 -- the refusal that an error tells; want of memory is none
 abbrev pub refusal_of : TextError → Option Refusal
@@ -86,6 +96,11 @@ abbrev pub seen_files : Result RunFiles FileError → Option Read
 seen_files (Ok files) = Some (had (files.text.items ∷ files.input.items ∷ files.answers.items ∷ []))
 seen_files (Err e) = error_seen e
 
+abbrev pub seen_host_files : Result HostFiles FileError → Option Read
+seen_host_files (Ok files) =
+    Some (had (files.run.text.items ∷ files.calls.items ∷ files.run.input.items ∷ files.run.answers.items ∷ []))
+seen_host_files (Err e) = error_seen e
+
 -- a limit that is told has a number
 abbrev pub IsNumbered : FileError → Type 0
 IsNumbered (TooLong n) = (1 ≤ n) × (n ≤ 15)
@@ -97,7 +112,21 @@ pub record AreShort (limit : ℕ) (files : RunFiles) : Type 0 where
   pub input : IsOver SOURCE_BYTES files.input.items → ⊥
   pub answers : IsOver SOURCE_BYTES files.answers.items → ⊥
 
+pub record AreShortForHost (files : HostFiles) : Type 0 where
+  pub run : AreShort SOURCE_BYTES files.run
+  pub calls : IsOver SOURCE_BYTES files.calls.items → ⊥
+
 -- ---- runs of programs
+
+-- what the run of an accepted program replies, where `main` runs, or a host makes calls
+abbrev pub IsReplyToCaller : Caller → Given → Budgets → Program → lines.Reply → Type 0
+IsReplyToCaller Main given b p r = IsReplyToProgram p given b r
+IsReplyToCaller (Host calls) given b p r = IsReplyToHost p (calls_of calls.now) given b r
+
+-- a calls file isn't too long
+abbrev pub IsShortCaller : Caller → Type 0
+IsShortCaller Main = Unit {0}
+IsShortCaller (Host calls) = IsOver SOURCE_BYTES calls.now → ⊥
 
 -- How the last line of a run is written, by how the machine stopped: where it has a last line, that one; else nothing, the
 -- sink having failed.
@@ -110,6 +139,19 @@ StopsRun g stop old new status = MatchOption (stop_line stop)
 abbrev pub EndsRun : {K : Type 0} (g : Ghosts K) → RunEnd Stop → (old new : K) → (status : ℕ) → Type 0
 EndsRun g e old new status = MatchOption (end_line stop_line e)
     ((new ≡ old) × (((status ≡ SINK_FAILED) × (e ≡ end.Stopped SinkFault)) ⊎ (status ≡ NO_MEMORY)))
+    (λ last. Finishes g (λ r. r ≡ last) old new status)
+
+-- ---- runs for hosts
+
+-- the same of runs for hosts
+abbrev pub StopsHost : {K : Type 0} (g : Ghosts K) → HostStop → (old new : K) → (status : ℕ) → Type 0
+StopsHost g stop old new status = MatchOption (host_stop_line stop)
+    ((new ≡ old) × ((status ≡ SINK_FAILED) × (stop ≡ host.Stopped SinkFault)))
+    (λ last. Finishes g (λ r. r ≡ last) old new status)
+
+abbrev pub EndsHost : {K : Type 0} (g : Ghosts K) → RunEnd HostStop → (old new : K) → (status : ℕ) → Type 0
+EndsHost g e old new status = MatchOption (end_line host_stop_line e)
+    ((new ≡ old) × (((status ≡ SINK_FAILED) × (e ≡ end.Stopped (host.Stopped SinkFault))) ⊎ (status ≡ NO_MEMORY)))
     (λ last. Finishes g (λ r. r ≡ last) old new status)
 
 -- ---- runs of C texts

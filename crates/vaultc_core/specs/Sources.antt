@@ -5,7 +5,7 @@ use Rattle.vlt_base.specs.Limits.{limit_of}
 use Rattle.vlt_base.specs.declared.limits.TheConstants.{SOURCE_BYTES, C_BYTES}
 use Rattle.vlt_io.specs.Outside.{Files, IsRead, MayFail}
 use Rattle.vlt_io.specs.declared.store.Store.{Ghosts}
-use Rattle.vaultc_core.specs.Commands.{Taken, Command, check, explain, run, fmt, emit, verify, crun, load}
+use Rattle.vaultc_core.specs.Commands.{Taken, Command, check, explain, run, fmt, emit, verify, crun, load, host}
 
 -- a file: its name, and the number of the limit on its bytes
 pub record Source : Type 0 where
@@ -39,6 +39,8 @@ sources_of (emit file) = Some (text_in file) ∷ []
 sources_of (verify file) = Some (c_text_in file) ∷ []
 sources_of (crun file t) = run_sources (c_text_in file) t
 sources_of (load n) = []
+sources_of (host file calls t) =
+    Some (text_in file) ∷ Some (numbers_in calls) ∷ option_map numbers_in t.input ∷ option_map numbers_in t.answers ∷ []
 
 -- what reading files comes to: the bytes of each; or the first that isn't had, as it wasn't read or exceeds its limit
 pub data Read : Type 0 where

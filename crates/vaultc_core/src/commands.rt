@@ -2,27 +2,31 @@
 
 ghost use Rattle.std.specs.Prelude.{◌≡◌, ◌≢◌, List, ℕ, map, None, Some, IfOk, IfSome, IfNone, false, string_bytes};
 ghost use Rattle.vlt_base.specs.declared.limits.TheConstants.{SOURCE_BYTES};
+ghost use Rattle.vlt_core.specs.View.{program_of};
 ghost use Rattle.vlt_syntax.specs.View.{tree_of};
 ghost use Rattle.vlt_verdict.specs.FitLaws.Fit.{IsTextTree};
 ghost use Rattle.vlt_numbers.specs.Given.Given.{given_by};
 ghost use Rattle.vlt_verdict.specs.Seen.{IsTellable};
 ghost use Rattle.vlt_verdict.specs.declared.Verdict.TheVariants.{Accepted};
+ghost use Rattle.vlt_interp.specs.Reached.{IsRunnable};
+ghost use Rattle.vaultc_core.specs.Callable.{IsRunnableForHosts};
 ghost use Rattle.vaultc_core.specs.Commands as c;
 ghost use Rattle.vaultc_core.specs.Commands.{command_of};
 ghost use Rattle.vaultc_core.specs.Texts.{IsTooLong, IsTextOf};
 ghost use Rattle.vaultc_core.specs.Replies.{IsReplyToText, IsReplyToRunText, MayReply};
 ghost use Rattle.vaultc_core.specs.Finishes.{Finishes};
 ghost use Rattle.vaultc_core.specs.View.{seen_command, seen_taken, seen_text};
-ghost use Rattle.vaultc_core.specs.Shown.{AreShort, IsJudged, is_accepted, shown_reply};
+ghost use Rattle.vaultc_core.specs.Shown.{AreShort, IsJudged, IsReplyToCaller, IsShortCaller, is_accepted, shown_reply};
 
 use crate::c_runs::run_c;
 use crate::emit::{accepted, compiled};
 use crate::explain::explained;
-use crate::files::{RunFiles, read_file, read_run_files};
+use crate::files::{RunFiles, read_file, read_host_files, read_run_files};
+use crate::host_runs::run_host;
 use crate::lines::{USAGE, laid_out, not_had, refusal, verdict};
 use crate::load::load;
 use crate::reply::Reply;
-use crate::runs::run_program;
+use crate::runs::{Caller, run_program};
 use crate::source::read_tree;
 use crate::status::{NO_COMMAND, NO_MEMORY};
 use crate::verify::verified;
@@ -31,6 +35,8 @@ use crate::write::{finish, finish_reply};
 use std::alloc::{AllocError, Global};
 use vlt_base::{Budgets, C_BYTES, SOURCE_BYTES};
 use vlt_core::Program;
+use vlt_host_laws::hosts_of_accepted_programs_go_right;
+use vlt_host_run_laws::accepted_programs_are_callable;
 use vlt_io::{Sink, Store};
 use vlt_run_laws::{accepted_programs_know_their_calls, kinded_programs_name_their_own};
 use vlt_sound::accepted_programs_go_right;
@@ -95,9 +101,33 @@ fn reply_to_emit(alloc: Global, bytes: &[u8]) -> Result<Reply, AllocError>
     }
 }
 
-/// Runs the program of a verdict, or says of it what `check` says.
+/// Runs an accepted program for its caller.
+fn run_accepted<K: Sink>(
+    alloc: Global,
+    caller: Caller<'_>,
+    program: &Program,
+    files: &RunFiles,
+    budgets: Budgets,
+    out: &mut K,
+) -> u8
+    requires runnable { IsRunnable (program_of program.now) }
+    requires callable { IsRunnableForHosts (program_of program.now) }
+    requires caller { IsShortCaller caller }
+    requires short { AreShort SOURCE_BYTES files.now }
+    ensures { Finishes K.Sink (IsReplyToCaller caller.entry
+        (given_by files.now.input.items files.now.answers.items) budgets
+        (program_of program.now)) out.old out.new result }
+{
+    match caller {
+        Caller::Main => run_program(alloc, program, files, budgets, out),
+        Caller::Host(calls) => run_host(alloc, program, calls, files, budgets, out),
+    }
+}
+
+/// Runs the program of a verdict for its caller, or says of it what `check` says.
 fn run_judged<K: Sink>(
     alloc: Global,
+    caller: Caller<'_>,
     files: &RunFiles,
     tree: &Tree,
     judged: &Verdict,
@@ -109,26 +139,36 @@ fn run_judged<K: Sink>(
     requires tree { IsTextTree (tree_of tree.now) }
     requires is { IsJudged (tree_of tree.now) judged.now }
     requires tellable { IsTellable judged.now }
-    ensures { Finishes K.Sink (IsReplyToRunText files.now.text.items
+    requires caller { IsShortCaller caller }
+    ensures { Finishes K.Sink (IsReplyToRunText (IsReplyToCaller caller.entry
         (given_by files.now.input.items files.now.answers.items) budgets)
-        out.old out.new result }
+        files.now.text.items) out.old out.new result }
 {
     programs_are_fit();
     accepted_programs_go_right();
     accepted_programs_know_their_calls();
     kinded_programs_name_their_own();
+    hosts_of_accepted_programs_go_right();
+    accepted_programs_are_callable();
     match accepted(judged) {
-        Some(program) => run_program(alloc, program, files, budgets, out),
+        Some(program) => run_accepted(alloc, caller, program, files, budgets, out),
         None => finish_reply(out, verdict(alloc, files.text.as_slice(), judged)),
     }
 }
 
-/// Runs the program of a text, or says of the text what `check` says.
-fn run_text<K: Sink>(alloc: Global, files: &RunFiles, budgets: Budgets, out: &mut K) -> u8
-    requires { AreShort SOURCE_BYTES files.now }
-    ensures { Finishes K.Sink (IsReplyToRunText files.now.text.items
+/// Runs the program of a text for its caller, or says of the text what `check` says.
+fn run_text<K: Sink>(
+    alloc: Global,
+    caller: Caller<'_>,
+    files: &RunFiles,
+    budgets: Budgets,
+    out: &mut K,
+) -> u8
+    requires files { AreShort SOURCE_BYTES files.now }
+    requires caller { IsShortCaller caller }
+    ensures { Finishes K.Sink (IsReplyToRunText (IsReplyToCaller caller.entry
         (given_by files.now.input.items files.now.answers.items) budgets)
-        out.old out.new result }
+        files.now.text.items) out.old out.new result }
 {
     let bytes = files.text.as_slice();
     let tree = match read_tree(alloc, bytes) {
@@ -136,7 +176,7 @@ fn run_text<K: Sink>(alloc: Global, files: &RunFiles, budgets: Budgets, out: &mu
         Err(error) => return finish_reply(out, refusal(alloc, bytes, error)),
     };
     match judge(alloc, &tree) {
-        Ok(judged) => run_judged(alloc, files, &tree, &judged, budgets, out),
+        Ok(judged) => run_judged(alloc, caller, files, &tree, &judged, budgets, out),
         Err(_) => NO_MEMORY,
     }
 }
@@ -199,7 +239,32 @@ fn reply_to_run<S: Store, K: Sink>(
         out.old out.new result }
 {
     match read_run_files(alloc, store, name, SOURCE_BYTES, taken) {
-        Ok(files) => run_text(alloc, &files, taken.budgets, out),
+        Ok(files) => run_text(alloc, Caller::Main, &files, taken.budgets, out),
+        Err(error) => finish_reply(out, not_had(alloc, error)),
+    }
+}
+
+/// Reads the files of a run for a host, and makes its calls on the program of the text.
+fn reply_to_host<S: Store, K: Sink>(
+    alloc: Global,
+    name: &str,
+    calls: &str,
+    taken: Taken<'_>,
+    store: &mut S,
+    out: &mut K,
+) -> u8
+    ensures { Finishes K.Sink (MayReply S.Store store.old store.new
+        (Some (c.host name.now calls.now (seen_taken taken.entry))))
+        out.old out.new result }
+{
+    match read_host_files(alloc, store, name, calls, taken) {
+        Ok(files) => run_text(
+            alloc,
+            Caller::Host(files.calls.as_slice()),
+            &files.run,
+            taken.budgets,
+            out,
+        ),
         Err(error) => finish_reply(out, not_had(alloc, error)),
     }
 }
@@ -239,6 +304,7 @@ fn reply_to_command<S: Store, K: Sink>(
         Command::Run(name, taken) => reply_to_run(alloc, name, taken, store, out),
         Command::C(name, taken) => reply_to_c(alloc, name, taken, store, out),
         Command::Load(functions) => load(alloc, functions, out),
+        Command::Host(name, calls, taken) => reply_to_host(alloc, name, calls, taken, store, out),
     }
 }
 

@@ -2,9 +2,10 @@
 
 ghost use Rattle.std.specs.Prelude.{◌<◌, ◌≤◌, ◌^◌, [], ◌∷◌, Some, IfErr, IfOk, IfSome, option_map};
 ghost use Rattle.vlt_base.specs.declared.limits.TheConstants as limits;
-ghost use Rattle.vaultc_core.specs.Sources.{MayRead, IsOver, numbers_in, run_sources};
-ghost use Rattle.vaultc_core.specs.Shown.{AreShort, IsNumbered, seen_file, seen_files};
+ghost use Rattle.vaultc_core.specs.Sources.{MayRead, IsOver, numbers_in, run_sources, sources_of};
+ghost use Rattle.vaultc_core.specs.Shown.{AreShort, AreShortForHost, IsNumbered, seen_file, seen_files, seen_host_files};
 ghost use Rattle.vlt_base.specs.Limits.{limit_of};
+ghost use Rattle.vaultc_core.specs.Commands as c;
 ghost use Rattle.vaultc_core.specs.View.{seen_taken};
 
 use crate::words::Taken;
@@ -98,5 +99,39 @@ pub fn read_run_files<'a, S: Store>(
         text,
         input,
         answers,
+    })
+}
+
+/// The bytes of the files of a run for a host.
+#[derive(Drop)]
+pub struct HostFiles {
+    pub run: RunFiles,
+    pub calls: Vec<u8>,
+}
+
+/// Reads the files of a run for a host, one after another: the text, the calls, and the files of numbers.
+pub fn read_host_files<'a, S: Store>(
+    alloc: Global,
+    store: &mut S,
+    file: &'a str,
+    calls: &'a str,
+    taken: Taken<'a>,
+) -> Result<HostFiles, FileError<'a>>
+    ensures read { IfSome (seen_host_files result) (MayRead S.Store store.old store.new
+        (sources_of (c.host file.now calls.now (seen_taken taken.entry)))) }
+    ensures short { IfOk result AreShortForHost }
+    ensures numbered { IfErr result IsNumbered }
+{
+    let text = read_file(alloc, store, file, SOURCE_BYTES)?;
+    let calls = read_file(alloc, store, calls, SOURCE_BYTES)?;
+    let input = read_numbers(alloc, store, taken.input)?;
+    let answers = read_numbers(alloc, store, taken.answers)?;
+    Ok(HostFiles {
+        run: RunFiles {
+            text,
+            input,
+            answers,
+        },
+        calls,
     })
 }

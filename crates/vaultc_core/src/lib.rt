@@ -14,11 +14,12 @@ ghost use Rattle.vaultc_core.specs.declared.status.TheConstants.{DONE, NO_COMMAN
 ghost use Rattle.vaultc_core.specs.Texts.{AreReadInOneWay};
 ghost use Rattle.vaultc_core.specs.Programs.{IsProgramOf};
 ghost use Rattle.vaultc_core.specs.Replies.{HasOneReply, HasSomeReply, IsReplyTo, IsInside, IsUnread, MayReply};
-ghost use Rattle.vaultc_core.specs.Sources.{IsOneRead, c_text_in, text_in};
+ghost use Rattle.vaultc_core.specs.Sources.{IsOneRead, MayRead, c_text_in, had, sources_of, text_in};
 ghost use Rattle.vaultc_core.specs.Finishes.{Finishes, WrotePart, WroteReply};
 ghost use Rattle.vaultc_core.specs.Promised.{IsPromised};
 ghost use Rattle.vaultc_core.specs.Compiled.{IsCompiled};
 ghost use Rattle.vaultc_core.specs.Verified.{IsVerified};
+ghost use Rattle.vaultc_core.specs.Hosted.{IsHosted, IsOfARun};
 
 mod c_runs;
 mod commands;
@@ -26,6 +27,7 @@ mod emit;
 mod explain;
 mod files;
 mod generated;
+mod host_runs;
 mod kept;
 mod lines;
 mod load;
@@ -48,6 +50,7 @@ use cert_verify_laws::{
 };
 use std::alloc::Global;
 use vlt_check_laws::first_fault_has_witness;
+use vlt_host_laws::hosts_of_accepted_programs_go_right;
 use vlt_io::{Sink, Store};
 use vlt_sound::accepted_programs_go_right;
 use vlt_verdict::{
@@ -80,6 +83,16 @@ pub fn vaultc<S: Store, K: Sink>(alloc: Global, words: &[String], store: &mut S,
         command_of (map string_bytes words.now) ≡ Some (commands.verify file) → result ≡ DONE →
         (bytes : List ℕ) × IsOneRead S.Store store.old store.new (c_text_in file) bytes
         × IsVerified (S.files store.old) file bytes (K.written out.old) (K.written out.new) }
+    // `host` has the status of a run only for bytes of such a program and of calls: what it writes is what these calls come to, and no host
+    // makes the program go wrong.
+    ensures hosted { (file calls : List ℕ) (taken : commands.Taken) →
+        command_of (map string_bytes words.now) ≡ Some (commands.host file calls taken) →
+        IsOfARun result →
+        (contents : List (List ℕ))
+        × MayRead S.Store store.old store.new (sources_of (commands.host file calls taken))
+        (had contents)
+        × IsHosted (S.files store.old) file calls taken contents result
+        (K.written out.old) (K.written out.new) }
     // With the file there, its bytes those of an accepted program, and no fault, `check` gives 0 unless memory is wanting.
     ensures accepts { (files : Files) (file bytes : List ℕ) (p : Program) →
         S.files store.old ≡ Some files →
@@ -130,6 +143,7 @@ pub fn vaultc<S: Store, K: Sink>(alloc: Global, words: &[String], store: &mut S,
     emitted_files_verify();
     texts_verify_in_one_way();
     verified_files_keep_their_promise();
+    hosts_of_accepted_programs_go_right();
     commands::carry_out(alloc, words, store, out)
 }
 
@@ -151,6 +165,7 @@ pub fn a_command_has_some_reply()
     a_tree_has_some_verdict();
     programs_are_fit();
     accepted_programs_go_right();
+    hosts_of_accepted_programs_go_right();
     first_fault_has_witness();
     texts_have_text_trees();
     texts_are_read_in_one_way();

@@ -5,7 +5,7 @@ ghost use Rattle.vlt_syntax.specs.View.{tree_of};
 ghost use Rattle.vlt_printer.specs.Layout.{layout};
 ghost use Rattle.vaultc_core.specs.declared.status.TheConstants.{OUT_OF_NUMBERS};
 ghost use Rattle.vaultc_core.specs.Lines as l;
-ghost use Rattle.vaultc_core.specs.Lines.{reply, over_reply, place_reply, numbers_reply, bad_answer_line};
+ghost use Rattle.vaultc_core.specs.Lines.{reply, over_reply, place_reply, numbers_reply, bad_answer_line, bad_call_line};
 ghost use Rattle.vaultc_core.specs.Texts.{AreRefused, IsTooLong, refusal_reply};
 ghost use Rattle.vlt_core.specs.Core.{Func};
 ghost use Rattle.vlt_core.specs.View.{program_of};
@@ -32,7 +32,7 @@ use vlt_verdict::Verdict;
 
 /// What is written where the words are no command.
 pub const USAGE: &str =
-    "usage: vaultc check F | explain F | fmt F | emit F | verify F | load N | run F OPTIONS | crun F OPTIONS\n";
+    "usage: vaultc check F | explain F | fmt F | emit F | verify F | load N | run F OPTIONS | crun F OPTIONS | host F H OPTIONS\n";
 
 /// There is more of something than the limit of this number allows.
 pub fn over_limit(alloc: Global, number: u8) -> Result<Reply, AllocError>
@@ -94,6 +94,17 @@ pub fn bad_answer(alloc: Global, position: u32) -> Result<Reply, AllocError>
     Ok(Reply {
         status: OUT_OF_NUMBERS,
         text: format!(in alloc; "answer {position} bad\n")?.into_bytes(),
+    })
+}
+
+/// The call at a position isn't permitted.
+pub fn bad_call(alloc: Global, position: u32) -> Result<Reply, AllocError>
+    ensures { IfOk result (λ r.
+        shown_reply r ≡ reply OUT_OF_NUMBERS (bad_call_line position)) }
+{
+    Ok(Reply {
+        status: OUT_OF_NUMBERS,
+        text: format!(in alloc; "call {position} bad\n")?.into_bytes(),
     })
 }
 

@@ -21,6 +21,15 @@ use vlt_io::Sink;
 use vlt_ops::TrapKind;
 use vlt_steps::{RunEnd, Stop};
 
+/// Who calls the functions of a program that is run.
+#[derive(Clone, Copy, Debug)]
+pub enum Caller<'a> {
+    /// `main` is called, and nothing else.
+    Main,
+    /// A host makes the calls of a calls file that has these bytes.
+    Host(&'a [u8]),
+}
+
 /// Writes the line behind the events of a run that stopped so, and gives the status.
 pub fn finish_stop<K: Sink>(alloc: Global, out: &mut K, stop: Stop) -> u8
     ensures { StopsRun K.Sink stop out.old out.new result }

@@ -5,7 +5,7 @@ ghost use Rattle.std.specs.Option.{option_and_then};
 ghost use Rattle.std.specs.List.{list_all};
 ghost use Rattle.std.specs.Char.{is_ascii_digit};
 ghost use Rattle.vaultc_core.specs.Commands as c;
-ghost use Rattle.vaultc_core.specs.Commands.{command_of, budgets_of, is_file_word, file_word, number_within, setting_of, with_setting, settings_of, nothing_set, taken_by, without_options};
+ghost use Rattle.vaultc_core.specs.Commands.{command_of, budgets_of, is_file_word, file_word, number_within, setting_of, with_setting, settings_of, nothing_set, taken_by, without_options, host_of};
 ghost use Rattle.vaultc_core.specs.View.{seen_command, seen_text, seen_setting, seen_settings, seen_taken};
 
 use crate::generated::{Functions, MOST_FUNCTIONS};
@@ -62,6 +62,8 @@ pub enum Command<'a> {
     C(&'a str, Taken<'a>),
     /// Makes a program of so many functions, compiles it and runs it.
     Load(Functions),
+    /// Makes the calls of the second file on the program of a text.
+    Host(&'a str, &'a str, Taken<'a>),
 }
 
 /// An option with its value.
@@ -264,6 +266,18 @@ fn read_load<'a>(number: &str, options: &[String]) -> Option<Command<'a>>
     without_options(Command::Load(functions), options)
 }
 
+/// `host` with this file, where the next word names the file of the calls, and the others set options.
+fn read_host<'a>(file: &'a str, words: &'a [String]) -> Option<Command<'a>>
+    ensures { option_map seen_command result ≡ host_of file.now (map string_bytes words.now) }
+{
+    let [calls, options @ ..] = words else {
+        return None;
+    };
+    let calls = read_name(calls.as_str())?;
+    let settings = read_settings(options)?;
+    Some(Command::Host(file, calls, settings.taken()))
+}
+
 /// The command that the words are, if they are one.
 pub fn read_command(words: &[String]) -> Option<Command<'_>>
     ensures { option_map seen_command result ≡ command_of (map string_bytes words.now) }
@@ -289,6 +303,7 @@ pub fn read_command(words: &[String]) -> Option<Command<'_>>
             Some(Command::C(file.as_str(), settings.taken()))
         }
         "load" => read_load(file.as_str(), options),
+        "host" => read_host(file.as_str(), options),
         _ => None,
     }
 }

@@ -87,6 +87,7 @@ impl Transcript {
         if let Some(piece) = line.strip_prefix("* ") {
             return push_piece(alloc, &mut self.bytes, piece);
         }
+        let line = line.strip_prefix("| ").unwrap_or(line);
         self.bytes.extend_from_slice(line.as_bytes())?;
         self.bytes.push(b'\n')?;
         Ok(())

@@ -1,6 +1,6 @@
 //! Calls files: bytes go in, a host's calls come out, or the first bad line.
 //! Read `specs/CallsFile.antt` first: what a file says.
-//! Used by: nothing yet; the command `host` is to read its calls file by it.
+//! Used by: the command `host` of `vaultc`.
 #![tactic(auto)]
 
 ghost use Rattle.std.specs.Prelude.{◌≡◌, ℕ, ◌-◌, ◌^◌, ◌<◌, length, IfOk, Ok, Err};

@@ -1,6 +1,6 @@
 //! Laws on what a run comes to that began with a host's call: nothing goes in and nothing comes out.
 //! Read `vlt_host_laws/specs/Calls.antt` first, then `vlt_host_machine/specs/Callable.antt` and `specs/Started.antt`.
-//! Used by: nothing yet; the command `host` is to open the machine that a host calls (`vlt_host_machine`) by them.
+//! Used by: the command `host`, which opens the machine that a host calls (`vlt_host_machine`) by them.
 #![tactic(auto)]
 
 ghost use Rattle.vlt_core.specs.Core.{Program};

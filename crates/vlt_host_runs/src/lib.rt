@@ -1,6 +1,6 @@
 //! A core program, a host's calls, files of numbers and budgets in; how its run for the host ends out, its text going to a sink.
 //! Read `vlt_host_meaning/specs/HostRun.antt` first, then `specs/Ends.antt` (EndsAs).
-//! Used by: nothing yet; the command `host` is to run its calls by it.
+//! Used by: the command `host` of `vaultc`.
 #![tactic(auto)]
 
 mod calls;

@@ -1,6 +1,6 @@
 //! A program, a host's calls, the bytes of its files of numbers and budgets in; how the run ends out, its text going to a sink.
 //! Read `specs/Ends.antt` (EndsAs) first.
-//! Used by: nothing yet; the command `host` is to run its calls by it.
+//! Used by: the command `host` of `vaultc`.
 
 ghost use Rattle.std.specs.Prelude.{◌<◌, ◌-◌, ◌^◌, length};
 ghost use Rattle.vlt_numbers.specs.HostAnswers.{lists_of};

@@ -1,10 +1,9 @@
 -- What a raised module gives is what the module gives, raised; and what is refused in it is refused so much further on.
-use Rattle.std.proofs.Common.{◌≡◌, ℕ, ◌+◌, ◌==◌, Bool, true, false, not, ◌&&◌, ◌||◌, cond, if◌then◌else◌, List, [], ◌∷◌, ◌++◌, map, Option, Some, None, option_map, unwrap_or, refl, sym, ap, ap₂, ◌∙◌, arith}
+use Rattle.std.proofs.Common.{◌≡◌, ℕ, ◌+◌, ◌==◌, Bool, true, false, not, ◌&&◌, ◌||◌, if◌then◌else◌, List, [], ◌∷◌, ◌++◌, map, Option, Some, None, option_map, refl, sym, ap, ap₂, ◌∙◌, arith}
 use Rattle.std.specs.Prelude.{nat_lt, length, Result, Ok, Err}
 use Rattle.vlt_base.specs.Limits.{limit_of}
 use Rattle.vlt_base.specs.declared.limits.TheConstants.{DECLARATIONS}
-use Rattle.std.specs.List.{find, list_any}
-use Rattle.std.specs.Str.{bytes_eq}
+use Rattle.std.specs.List.{find}
 use Rattle.std.proofs.lemmas.List.{map-append}
 use Rattle.vlt_syntax.specs.Tree as s
 use Rattle.vlt_syntax.specs.Tree.{Name, States, KeyStates, Named, Ty, HeaderKey, Entry, ResultType, Parameter, Head, Decl, Tree}
@@ -13,73 +12,15 @@ use Rattle.vlt_kinds_types.specs.Names.Refusals.{refusal, refuse_if, of_each, is
 use Rattle.vlt_syntax_copies.specs.Raised as r
 use Rattle.vlt_iface.specs.declared.places.TheConstants.{RAISE}
 use Rattle.vlt_iface.specs.Told.{Told, broken, exceeded, when_few, unless_in, view_told}
-use Rattle.vlt_iface.specs.View.{View, viewed, gives, with_given, is_placed, others, view_decls, origin_of, origins_in}
+use Rattle.vlt_iface.specs.View.{View, viewed, gives}
 use Rattle.vlt_iface.specs.declared.rules.TheConstants as rule
 use Rattle.vlt_iface.specs.Rules as rules
 use Rattle.vlt_iface.specs.Rules.{body_refused, given_refused_by, given_refused, is_filled, view_refused}
+use Rattle.vlt_iface.proofs.Giving.{found_mapped}
 
 module _ (by : ℕ) where
-  -- ---- what is given
-
-  pub gives_raised : (i d : Decl) → gives i (r.raised by d) ≡ gives i d
-  gives_raised (s.stateset n ss at) (s.stateset k ks kat) = refl
-  gives_raised (s.stateset n ss at) (s.abstract k ks kat) = refl
-  gives_raised (s.stateset n ss at) (s.struct k qs ks gs us kat) = refl
-  gives_raised (s.stateset n ss at) (s.variant k qs ds kat) = refl
-  gives_raised (s.stateset n ss at) (s.extern g kat) = refl
-  gives_raised (s.stateset n ss at) (s.function g c kat) = refl
-  gives_raised (s.abstract n ss at) (s.stateset k ks kat) = refl
-  gives_raised (s.abstract n ss at) (s.abstract k ks kat) = refl
-  gives_raised (s.abstract n ss at) (s.struct k qs ks gs us kat) = refl
-  gives_raised (s.abstract n ss at) (s.variant k qs ds kat) = refl
-  gives_raised (s.abstract n ss at) (s.extern g kat) = refl
-  gives_raised (s.abstract n ss at) (s.function g c kat) = refl
-  gives_raised (s.struct n ps ss fs rs at) (s.stateset k ks kat) = refl
-  gives_raised (s.struct n ps ss fs rs at) (s.abstract k ks kat) = refl
-  gives_raised (s.struct n ps ss fs rs at) (s.struct k qs ks gs us kat) = refl
-  gives_raised (s.struct n ps ss fs rs at) (s.variant k qs ds kat) = refl
-  gives_raised (s.struct n ps ss fs rs at) (s.extern g kat) = refl
-  gives_raised (s.struct n ps ss fs rs at) (s.function g c kat) = refl
-  gives_raised (s.variant n ps cs at) (s.stateset k ks kat) = refl
-  gives_raised (s.variant n ps cs at) (s.abstract k ks kat) = refl
-  gives_raised (s.variant n ps cs at) (s.struct k qs ks gs us kat) = refl
-  gives_raised (s.variant n ps cs at) (s.variant k qs ds kat) = refl
-  gives_raised (s.variant n ps cs at) (s.extern g kat) = refl
-  gives_raised (s.variant n ps cs at) (s.function g c kat) = refl
-  gives_raised (s.extern h at) (s.stateset k ks kat) = refl
-  gives_raised (s.extern h at) (s.abstract k ks kat) = refl
-  gives_raised (s.extern h at) (s.struct k qs ks gs us kat) = refl
-  gives_raised (s.extern h at) (s.variant k qs ds kat) = refl
-  gives_raised (s.extern h at) (s.extern g kat) = refl
-  gives_raised (s.extern h at) (s.function g c kat) = refl
-  gives_raised (s.function h b at) (s.stateset k ks kat) = refl
-  gives_raised (s.function h b at) (s.abstract k ks kat) = refl
-  gives_raised (s.function h b at) (s.struct k qs ks gs us kat) = refl
-  gives_raised (s.function h b at) (s.variant k qs ds kat) = refl
-  gives_raised (s.function h b at) (s.extern g kat) = refl
-  gives_raised (s.function h b at) (s.function g c kat) = refl
-
-  pub found_raised : (i : Decl) (ms : List Decl) → find (gives i) (map (r.raised by) ms) ≡ option_map (r.raised by) (find (gives i) ms)
-  found_raised i [] = refl
-  found_raised i (m ∷ ms) = ap₂ (λ b o. cond b (Some (r.raised by m)) o) (gives_raised i m) (found_raised i ms) ∙ go (gives i m)
-    where
-      go : (b : Bool) → cond b (Some (r.raised by m)) (option_map (r.raised by) (find (gives i) ms)) ≡ option_map (r.raised by) (cond b (Some m) (find (gives i) ms))
-      go true = refl
-      go false = refl
-
-  any_raised : (i : Decl) (ms : List Decl) → list_any (gives i) (map (r.raised by) ms) ≡ list_any (gives i) ms
-  any_raised i [] = refl
-  any_raised i (m ∷ ms) = ap₂ (λ x y. x || y) (gives_raised i m) (any_raised i ms)
-
-  pub placed_raised : (is before : List Decl) (d : Decl) → is_placed is (map (r.raised by) before) (r.raised by d) ≡ is_placed is before d
-  placed_raised [] before d = refl
-  placed_raised (i ∷ is) before d = ap₂ (λ x y. x || y) (ap₂ (λ x y. x && not y) (gives_raised i d) (any_raised i before)) (placed_raised is before d)
-
-  -- one more of the others, or not
-  pub others_step : (is before : List Decl) (d : Decl) (ds : List Decl) → others is (map (r.raised by) before) (map (r.raised by) (d ∷ ds)) ≡
-      (if is_placed is before d then others is (map (r.raised by) (before ++ d ∷ [])) (map (r.raised by) ds) else r.raised by d ∷ others is (map (r.raised by) (before ++ d ∷ [])) (map (r.raised by) ds))
-  others_step is before d ds =
-      ap₂ (λ (b : Bool) xs. if b then others is xs (map (r.raised by) ds) else r.raised by d ∷ others is xs (map (r.raised by) ds)) (placed_raised is before d) (sym (map-append (r.raised by) before (d ∷ [])))
+  found_raised : (i : Decl) (ms : List Decl) → find (gives i) (map (r.raised by) ms) ≡ option_map (r.raised by) (find (gives i) ms)
+  found_raised = found_mapped (r.raised_span by)
 
   -- ---- heads
 

@@ -1,5 +1,5 @@
 -- The least of the names that clash, and places.
-use Rattle.std.proofs.Common.{◌≡◌, ◌⊎◌, inl, inr, ℕ, ◌+◌, ◌-◌, ◌<◌, Bool, true, false, true≢false, if◌then◌else◌, List, [], ◌∷◌, Option, Some, None, refl, sym, ap, ap₂, ◌∙◌, subst, arith}
+use Rattle.std.proofs.Common.{◌≡◌, ◌⊎◌, inl, inr, ℕ, ◌+◌, ◌-◌, ◌<◌, Bool, true, false, true≢false, if◌then◌else◌, List, [], ◌∷◌, Some, None, refl, sym, ap, ◌∙◌, subst, arith}
 use Rattle.std.specs.Prelude.{nat_lt}
 use Rattle.std.specs.Ordering.{nat_cmp, is_lt, ordering_reverse}
 use Rattle.std.specs.declared.cmp.Ordering.{Ordering}
@@ -11,7 +11,7 @@ use Rattle.vlt_syntax.specs.Tree.{Name}
 use Rattle.vlt_syntax.specs.Lists.{Each}
 use Rattle.vlt_iface.specs.declared.places.TheConstants.{RAISE}
 use Rattle.vlt_iface.specs.Least.{IsNamed, IsLeast}
-use Rattle.vlt_iface.specs.Told.{Place, place_of, is_less, lesser_name, least_name_from, least_name}
+use Rattle.vlt_iface.specs.Told.{place_of, is_less, least_name_from, least_name}
 
 abbrev Text : Type 0
 Text = List ℕ

@@ -1,12 +1,15 @@
 //! Laws of views.
 
-ghost use Rattle.std.specs.Prelude.{◌≡◌, ◌+◌, ◌<◌, ℕ, [], List, Some, None, Ok};
+ghost use Rattle.std.specs.Prelude.{◌≡◌, ◌+◌, ◌<◌, ◌≤◌, ℕ, [], List, length, Some, None, Ok};
+ghost use Rattle.vlt_base.specs.Limits.{limit_of};
+ghost use Rattle.vlt_base.specs.declared.limits.TheConstants.{DECLARATIONS};
 ghost use Rattle.vlt_syntax.specs.Tree.{Name, Decl, Tree};
 ghost use Rattle.vlt_iface.specs.declared.places.TheConstants.{RAISE};
 ghost use Rattle.vlt_iface.specs.Rules.{view_refused};
-ghost use Rattle.vlt_iface.specs.Told.{place_of, least_name, view_told};
+ghost use Rattle.vlt_iface.specs.Clash.{clashing};
+ghost use Rattle.vlt_iface.specs.Told.{place_of, least_name, view_told, joined_told};
 ghost use Rattle.vlt_iface.specs.Least.{IsLeast};
-ghost use Rattle.vlt_iface.specs.View.{View, viewed, view_decls};
+ghost use Rattle.vlt_iface.specs.View.{View, viewed, view_decls, joined};
 
 /// With a module that declares nothing the interface stays as it is.
 pub fn empty_modules_change_nothing()
@@ -37,4 +40,16 @@ pub fn places_of_modules()
 pub fn told_views_are_views()
     ensures { (i m : Tree) (v : View) → view_told i m ≡ Ok v →
         (view_refused i m ≡ None) × (viewed i m ≡ v) }
+{}
+
+/// A view that is told has no more declarations than a tree may have.
+pub fn told_views_are_few()
+    ensures { (i m : Tree) (v : View) → view_told i m ≡ Ok v →
+        length v.tree.decls ≤ limit_of DECLARATIONS }
+{}
+
+/// A tree that is told of two modules is the joined one, no names clash, and it has no more declarations than a tree may have.
+pub fn told_joins_are_joined()
+    ensures { (i f g t : Tree) → joined_told i f g ≡ Ok t →
+        (joined i f g ≡ t) × (clashing f g ≡ []) × (length t.decls ≤ limit_of DECLARATIONS) }
 {}

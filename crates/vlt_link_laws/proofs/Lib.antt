@@ -27,5 +27,6 @@ pub mod Hosting
 pub mod Clashing
 pub mod Veils
 pub mod Texts
+pub mod JoinedTokens
 pub mod Kinding
 pub mod Passing

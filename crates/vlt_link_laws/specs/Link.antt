@@ -1,9 +1,10 @@
 -- Two views of an interface that are accepted link: the joined tree is accepted.
-use Rattle.std.specs.Prelude.{◌≡◌, ◌≤◌, Bool, true, false, [], length, None, Ok}
+use Rattle.std.specs.Prelude.{◌≡◌, ◌≤◌, ◌++◌, Bool, true, false, [], length, None, Ok, Contains}
 use Rattle.vlt_base.specs.Limits.{limit_of}
 use Rattle.vlt_base.specs.declared.limits.TheConstants.{DECLARATIONS}
 use Rattle.vlt_syntax.specs.Tree.{Tree}
 use Rattle.vlt_syntax.specs.Lists.{Each}
+use Rattle.vlt_syntax.specs.Spelling.{spelling}
 use Rattle.vlt_syntax.specs.Grammar.{IsTree, language}
 use Rattle.vlt_syntax_laws.specs.Ticks.{HasTicks}
 use Rattle.vlt_core.specs.Core.{Program}
@@ -53,3 +54,8 @@ ViewProgramsAreKinded = (i m : Tree) → IsText i → IsText m →
     (with_main : Bool) (kinds : Kinds) (p : Program) → view_kinds_told (viewed i m) ≡ Ok kinds →
     view_elaborated (viewed i m) kinds with_main ≡ Ok p →
     HasKindedParts p × (with_main ≡ true → IsKinded p)
+
+-- Each token that a joined tree is spelled with is one of those that its three files are spelled with.
+abbrev pub JoinedTokensAreThoseOfFiles : Type 0
+JoinedTokensAreThoseOfFiles = (i f g : Tree) →
+    Each (Contains (spelling i ++ (spelling f ++ spelling g))) (spelling (joined i f g))

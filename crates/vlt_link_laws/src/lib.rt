@@ -3,7 +3,7 @@
 //! Used by: the commands for modules. What is accepted in both views is accepted in the joined program.
 #![tactic(auto)]
 
-ghost use Rattle.vlt_link_laws.specs.Link.{AcceptedViewsLink, ViewProgramsAreKinded};
+ghost use Rattle.vlt_link_laws.specs.Link.{AcceptedViewsLink, ViewProgramsAreKinded, JoinedTokensAreThoseOfFiles};
 
 /// Let the view of an interface with one module pass all rules but the one on `main`, that with another module pass all rules,
 /// and both be accepted. Where no names clash and there are no more declarations than a tree may have, the joined tree is one of
@@ -15,4 +15,9 @@ pub fn accepted_views_link()
 /// The program of a view breaks none of the core's rules, but perhaps the one on `main` where that wasn't tested.
 pub fn view_programs_are_kinded()
     ensures { ViewProgramsAreKinded }
+{}
+
+/// Each token that a joined tree is spelled with is one of those that its three files are spelled with.
+pub fn joined_tokens_are_those_of_files()
+    ensures { JoinedTokensAreThoseOfFiles }
 {}

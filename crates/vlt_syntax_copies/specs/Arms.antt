@@ -1,7 +1,7 @@
--- An arm whose places all lie so much further on, as the view of the code gives it.
-use Rattle.std.specs.Prelude.{ℕ}
+-- An arm with a function applied to each of its spans, as the view of the code gives it.
+use Rattle.vlt_base.specs.declared.places.Span.{Span}
 use Rattle.vlt_syntax.specs.View.{ArmView}
-use Rattle.vlt_syntax_copies.specs.Raised.{raised_name, raised_names, raised_block, raised_span}
+use Rattle.vlt_syntax_copies.specs.Mapped.{mapped_name, mapped_names, mapped_block}
 
-abbrev pub raised_arm : (by : ℕ) → ArmView → ArmView
-raised_arm by a = (raised_name by a.0, raised_names by a.1, raised_block by a.2, raised_span by a.3)
+abbrev pub mapped_arm : (Span → Span) → ArmView → ArmView
+mapped_arm go a = (mapped_name go a.0, mapped_names go a.1, mapped_block go a.2, go a.3)

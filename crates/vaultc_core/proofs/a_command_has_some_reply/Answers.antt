@@ -8,6 +8,7 @@ returns c = some_of_read (record {
   verdicts = c.a_tree_has_some_verdict.ensures;
   witnesses = c.first_fault_has_witness.ensures;
   never = c.accepted_programs_go_right.ensures.never;
+  never_for_hosts = c.hosts_of_accepted_programs_go_right.ensures.never;
   c_texts = c.texts_are_read_in_one_way.ensures;
   certificates = c.accepted_texts_have_one.ensures;
   verified = c.c_files_verify_in_some_way.ensures;

@@ -4,6 +4,7 @@ use Rattle.vaultc_core.specs.Commands.{command_of}
 use Rattle.vaultc_core.proofs.Promises.{GoRight, promised, accepts}
 use Rattle.vaultc_core.proofs.Compiles.{Laws, compiled}
 use Rattle.vaultc_core.proofs.Verifies.{verified}
+use Rattle.vaultc_core.proofs.Hosts.{GoRightForHosts, hosted}
 use Rattle.vaultc_core.proofs.Told.{told, memory, complete, no_fault, usage, unread_told}
 use Rattle.vaultc_core.proofs.vaultc.Goals as goal
 
@@ -43,6 +44,16 @@ returns-clause-compiled g c =
 pub returns-clause-verified : goal.returns-clause-verified
 returns-clause-verified g c =
     verified c.verified_files_keep_their_promise.ensures g.S.Store g.K.Sink c.args.store.now c.carry_out.new.store c.args.out.now c.carry_out.new.out
+    (command_of (map string_bytes c.args.words.now)) c.carry_out.result c.carry_out.ensures.finishes
+
+pub returns-clause-hosted : goal.returns-clause-hosted
+returns-clause-hosted g c =
+    let right : GoRightForHosts = record {
+      never = c.hosts_of_accepted_programs_go_right.ensures.never;
+      keeps = c.hosts_of_accepted_programs_go_right.ensures.keeps;
+      leaves = c.hosts_of_accepted_programs_go_right.ensures.leaves;
+    } in
+    hosted c.programs_are_fit.ensures c.texts_have_text_trees.ensures right g.S.Store c.args.store.now c.carry_out.new.store g.K.Sink c.args.out.now c.carry_out.new.out
     (command_of (map string_bytes c.args.words.now)) c.carry_out.result c.carry_out.ensures.finishes
 
 pub returns-clause-accepts : goal.returns-clause-accepts

@@ -35,3 +35,8 @@ returns-in-Load g c =
     subst (λ k. Finishes g.K.Sink (MayReply g.S.Store store store (Some (seen_command k))) c.args.out.now c.load.new.out c.load.result) (sym c.in-Load.is)
     (finishes_as g.K.Sink (IsReplyToMade n (generated_text n)) (MayReply g.S.Store store store (Some (load n))) c.args.out.now c.load.new.out c.load.result
     (λ r is. (had [], (refl, refl), is)) c.load.ensures)
+
+pub returns-in-Host : goal.returns-in-Host
+returns-in-Host g c =
+    subst (λ k. Finishes g.K.Sink (MayReply g.S.Store c.args.store.now c.reply_to_host.new.store (Some (seen_command k))) c.args.out.now c.reply_to_host.new.out c.reply_to_host.result)
+    (sym c.in-Host.is) c.reply_to_host.ensures

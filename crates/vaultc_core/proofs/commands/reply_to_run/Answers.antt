@@ -1,6 +1,9 @@
 use Rattle.std.proofs.Common.{[], ◌∷◌, Some}
 use Rattle.vaultc_core.specs.Commands.{run}
 use Rattle.vlt_numbers.specs.Given.Given.{given_by}
+use Rattle.vlt_core.specs.Core.{Program}
+use Rattle.vaultc_core.specs.Lines.{Reply}
+use Rattle.vaultc_core.specs.Runs.{IsReplyToProgram}
 use Rattle.vaultc_core.specs.Replies.{IsReplyToRunText, MayReply}
 use Rattle.vaultc_core.specs.Shown.{IsReplyOf, error_seen}
 use Rattle.vaultc_core.specs.Sources.{had}
@@ -15,7 +18,8 @@ pub returns-in-Ok : goal.returns-in-Ok
 returns-in-Ok g c =
     let files = c.in-Ok.files in
     let command = run c.args.name.now (seen_taken c.args.taken) in
-    finishes_as g.K.Sink (IsReplyToRunText files.text.items (given_by files.input.items files.answers.items) c.args.taken.budgets)
+    let P : Program → Reply → Type 0 = λ p r. IsReplyToProgram p (given_by files.input.items files.answers.items) c.args.taken.budgets r in
+    finishes_as g.K.Sink (IsReplyToRunText P files.text.items)
     (MayReply g.S.Store c.args.store.now c.read_run_files.new.store (Some command)) c.args.out.now c.run_text.new.out c.run_text.result
     (λ r is. (had (files.text.items ∷ files.input.items ∷ files.answers.items ∷ []), c.in-Ok.ensures.read, is)) c.run_text.ensures
 
