@@ -31,7 +31,7 @@ fn flow_of(alloc: Global, p: &Program, f: &Func) -> Result<FlowBlock, Stop>
         (λ x. block_view x ≡ core.body_flow (program_of p.now) (func_of f.now))
         (IsUnlessMemory (HasNoFlow (program_of p.now) (func_of f.now))) }
 {
-    match body_flow(alloc, p, f) {
+    match body_flow(alloc, p, f, None) {
         Ok(flow) => Ok(flow),
         Err(RowError::Unfit) => Err(Stop::Unfit),
         Err(RowError::Memory) => Err(Stop::Memory),
@@ -44,7 +44,7 @@ fn start_of(alloc: Global, p: &Program, f: &Func) -> Result<Held, Stop>
         (λ h. map_of h ≡ start_map (program_of p.now) (func_of f.now))
         (IsUnlessMemory (HasNoStart (program_of p.now) (func_of f.now))) }
 {
-    match start_map_of(alloc, p, f) {
+    match start_map_of(alloc, p, f, None) {
         Ok(held) => Ok(held),
         Err(RowError::Unfit) => Err(Stop::Unfit),
         Err(RowError::Memory) => Err(Stop::Memory),

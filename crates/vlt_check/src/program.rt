@@ -75,7 +75,7 @@ fn check_func(alloc: Global, p: &Program, f: &Func, fn_id: FnId) -> Result<Optio
     if f.external {
         return Ok(None);
     }
-    match walk(alloc, p, f) {
+    match walk(alloc, p, f, None) {
         Ok(kept) => Ok(Some(kept)),
         Err(Stop::Refused) => Err(refusal(alloc, p, f, fn_id)),
         Err(Stop::Unfit) => Err(CheckError::Unfit),

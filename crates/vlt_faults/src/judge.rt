@@ -60,8 +60,8 @@ pub fn fault_in(
         ((a : Notes) → IsLocalIn (program_of p.now) (func_of f.now) a → ⊥) → ⊥) }
     ensures unfit { IfErr result (UnfitBy (IsUntold (program_of p.now) (func_of f.now))) }
 {
-    let flow = body_flow(alloc, p, f)?;
-    let start = start_map_of(alloc, p, f)?;
+    let flow = body_flow(alloc, p, f, None)?;
+    let start = start_map_of(alloc, p, f, None)?;
     match judge(alloc, &flow, &start)? {
         None => Ok(None),
         Some(blame) => Ok(Some(fault_of(fn_id, blame))),

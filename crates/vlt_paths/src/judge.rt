@@ -22,7 +22,7 @@ use crate::point::{Hunt, Point, Sought};
 use crate::together::meet_stmts;
 use vlt_base::{FnId, KeyId, VarId};
 use vlt_core::{Choice, Entry, FaultKind, FlowFault, Func, Mode, Program, Tok, Wanted};
-use vlt_rows::side_states;
+use vlt_rows::states_before;
 
 /// Whether a key of this mode is held where the body begins.
 fn is_held(mode: Mode) -> bool
@@ -48,7 +48,7 @@ fn key_start(p: &Program, f: &Func, key: KeyId) -> Comes
 {
     for e in f.clause.as_slice() {
         if is_of_key(*e, key) {
-            return Comes::Held(Numbers::of(side_states(p, f, e.key, e.before)));
+            return Comes::Held(Numbers::of(states_before(p, f, None, *e)));
         }
     }
     Comes::Absent

@@ -268,7 +268,7 @@ fn past_handed_back<'a>(
         point.entry result }
 {
     let mut passing = Passing { hunt, at, point };
-    let _all = give_handed_back(p, f, value, &mut passing);
+    let _all = give_handed_back(p, f, None, value, &mut passing);
     passing.point
 }
 

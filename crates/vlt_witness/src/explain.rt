@@ -256,8 +256,8 @@ fn paths_in(
     ensures unfit { IfErr result
         (UnfitBy (IsUnfit (program_of p.now) (func_of f.now))) }
 {
-    let flow = body_flow(alloc, p, f)?;
-    let start = start_map_of(alloc, p, f)?;
+    let flow = body_flow(alloc, p, f, None)?;
+    let start = start_map_of(alloc, p, f, None)?;
     let ones = start_ones(&start, fault.tok);
     match paths_of(alloc, fault, &flow, ones)? {
         None => Ok(None),

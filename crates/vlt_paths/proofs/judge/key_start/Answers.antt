@@ -9,7 +9,7 @@ pub returns-then-is_of_key : goal.returns-then-is_of_key
 returns-then-is_of_key c =
     subst (Starts (Held c.of.result))
     (looked_held (program_of c.args.p.now) (func_of c.args.f.now) entry_of c.args.f.now.clause c.args.key.0 c.loop-e.e-index c.e-item.result (omega (arith, c.loop-e-test.true, ap length c.as_slice-e-items.ensures)) (rw c.as_slice-e-items.ensures at c.e-item.is) c.loop-e.invariant (sym c.is_of_key.ensures ∙ c.if-is_of_key.true))
-    (starts_held c.of.result (before_set (program_of c.args.p.now) (func_of c.args.f.now) (entry_of c.e-item.result)) (c.of.ensures ∙ c.side_states.ensures))
+    (starts_held c.of.result (before_set (program_of c.args.p.now) (func_of c.args.f.now) (entry_of c.e-item.result)) (c.of.ensures ∙ c.states_before.ensures))
 
 pub loop-e-preserved : goal.loop-e-preserved
 loop-e-preserved c =
