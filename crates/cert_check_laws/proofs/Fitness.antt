@@ -1,8 +1,8 @@
 -- The notes of a certificate aren't unfit, and they have an answer, where no entry is bound.
-use Rattle.std.proofs.Common.{◌≡◌, ◌<◌, ◌≤◌, ◌+◌, ◌^◌, ℕ, suc, Bool, false, List, [], ◌∷◌, length, Some, slice_get, refl, sym, ap, ◌∙◌, subst, arith}
+use Rattle.std.proofs.Common.{◌≡◌, ◌<◌, ◌≤◌, ◌+◌, ◌^◌, ℕ, zero, suc, Bool, false, List, [], ◌∷◌, length, Option, Some, None, slice_get, refl, sym, ap, ◌∙◌, subst, arith}
 use Rattle.vlt_core.specs.Core.{Func, Program}
 use Rattle.vlt_core.specs.Bodies.{body_flow}
-use Rattle.vlt_core.specs.Instances.{HasNoBounds}
+use Rattle.vlt_core.specs.Instances.{HasNoBounds, bound_in, instance, origins}
 use Rattle.vlt_core.specs.Kinded.{IsKinded, HasKindedParts}
 use Rattle.vlt_core.specs.View.{program_of}
 use Rattle.vlt_core.specs.declared.program.Program.{Program as CodeProgram}
@@ -21,7 +21,7 @@ use Rattle.cert_fit_laws.proofs.Masked.{IsMaskedFunc}
 use Rattle.cert_fit_laws.proofs.MaskedCode.{code_masked}
 use Rattle.cert_fit_laws.proofs.Proper.{no_bounds}
 use Rattle.cert_fit_laws.proofs.States.{have_states}
-use Rattle.cert_check.specs.Unfit.{IsUnfitBody, disordered, no_flow, no_start, many_statements, lost_jump, IsUnfitFunc, bound, body, IsUnfit, other_count, external_body, unfit_func}
+use Rattle.cert_check.specs.Unfit.{IsUnfitBody, disordered, no_flow, no_start, many_statements, lost_jump, IsUnfitFunc, no_instance, body, IsUnfit, other_count, external_body, unfit_func}
 use Rattle.cert_check.specs.Unfit as unfit
 use Rattle.cert_check.proofs.Functions.{first_next}
 use Rattle.cert_check_laws.specs.Laws.{HasFewStatements, UnboundArentUnfit, UnboundHaveAnAnswer, CertificatesArentUnfit, CertificatesHaveAnAnswer}
@@ -36,6 +36,22 @@ same_count o p [] [] h = refl
 same_count o p [] (notes ∷ all) h = absurd h
 same_count o p (f ∷ fs) [] h = absurd h
 same_count o p (f ∷ fs) (notes ∷ all) h = ap (λ n. suc n) (same_count o p fs all h.1)
+
+-- a function without a bound entry is its only instance
+alone : (p : Program) (f : Func) → bound_in f.clause ≡ None → origins p f ≡ None ∷ []
+alone p f plain = rw plain refl
+
+some_left : {X : Type 0} {x : X} {xs : List X} → x ∷ xs ≡ [] → ⊥
+some_left e = cc
+
+none_left : {X : Type 0} {x : X} → (let o : Option X = None in o ≡ Some x) → ⊥
+none_left e = cc
+
+same_origin : {x y : Option ℕ} → Some x ≡ Some y → x ≡ y
+same_origin e = cc
+
+one_only : (o : ℕ) → None ≡ Some o → ⊥
+one_only o e = cc
 
 too_many : (n : ℕ) → n < 2 ^ 62 → 2 ^ 62 ≤ n → ⊥
 too_many n few many = omega (arith, few, many)
@@ -52,11 +68,10 @@ module _ (o : Bool) (p : CodeProgram) (all : List (List Note)) (fits : FitsCerti
     kinded = parts;
     states = have_states p is_formed kinded;
     arms = λ g f at. have_arms (program_of p) g f is_formed.some_cases (is_formed.blank g f at) kinded at;
-    plain = plain;
   }
 
   jumping : (g : ℕ) (f : Func) → slice_get (program_of p).fns g ≡ Some f → f.external ≡ false → IsJumpingBlock false (body_flow (program_of p) f)
-  jumping g f there own = (formed_body (program_of p) g f well there own).fit.jumping
+  jumping g f there own = (formed_body (program_of p) g f well there own (plain g f there)).fit.jumping
 
   -- the function's notes are those that fit it
   own_notes : (g : ℕ) (f : Func) (notes : List Note) → slice_get (program_of p).fns g ≡ Some f → slice_get all g ≡ Some notes → FitsFunction o (program_of p) f notes
@@ -77,8 +92,13 @@ module _ (o : Bool) (p : CodeProgram) (all : List (List Note)) (fits : FitsCerti
     body_fit g f notes there at own (lost_jump t) = not_lost (program_of p) f notes (jumping g f there own) t
 
     func_fits : (g : ℕ) (f : Func) (notes : List Note) → slice_get (program_of p).fns g ≡ Some f → slice_get all g ≡ Some notes → f.external ≡ false → IsUnfitFunc (program_of p) f notes → ⊥
-    func_fits g f notes there at own (bound never) = never (plain g f there)
-    func_fits g f notes there at own (body u) = body_fit g f notes there at own u
+    func_fits g f notes there at own (no_instance none) = some_left (sym (alone (program_of p) f (plain g f there)) ∙ none)
+    func_fits g f notes there at own (body i o listed u) = by i o (ap (λ os. slice_get os i) (sym (alone (program_of p) f (plain g f there))) ∙ listed) u
+      where
+        by : (i : ℕ) (o : Option ℕ) → slice_get (None ∷ []) i ≡ Some o → IsUnfitBody (program_of p) (instance (program_of p) f o) notes i → ⊥
+        by zero None is u = body_fit g f notes there at own u
+        by zero (Some o) is u = one_only o (same_origin is)
+        by (suc i) o is u = none_left is
 
     all_fit : IsUnfit (program_of p) all → ⊥
     all_fit (other_count never) = never (same_count o (program_of p) (program_of p).fns all fits.functions)

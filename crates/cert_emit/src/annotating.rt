@@ -29,7 +29,7 @@ fn annotations_of(
     if f.external {
         return Ok(own);
     }
-    own.push(annotate(alloc, p, f)?)?;
+    own.push(annotate(alloc, p, f, None)?)?;
     Ok(own)
 }
 

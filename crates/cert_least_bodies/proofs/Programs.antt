@@ -1,11 +1,10 @@
 -- An accepted program within the limits surely has a least certificate.
-use Rattle.std.proofs.Common.{◌≡◌, ◌<◌, ◌≤◌, ◌+◌, ℕ, suc, nat_lt, Bool, true, false, true≢false, if◌then◌else◌, List, [], ◌∷◌, map, length, Option, Some, None, slice_get, option_map, refl, sym, ap, subst, ◌∙◌, arith}
-use Rattle.std.specs.List.{flat_map}
+use Rattle.std.proofs.Common.{◌≡◌, ◌≤◌, ◌+◌, ℕ, suc, Bool, true, false, true≢false, if◌then◌else◌, List, [], ◌∷◌, length, Option, Some, None, slice_get, refl, sym, subst, ◌∙◌, arith}
 use Rattle.vlt_base.specs.Sure.{Surely}
 use Rattle.vlt_base.proofs.Surely.{sure, surely, so}
 use Rattle.vlt_core.specs.Core.{SetDecl, TypeDecl, an_abstract, a_struct, a_variant, VarDecl, Func, Program}
-use Rattle.vlt_core.specs.Derives.{IsAccepted, IsAcceptedFunc}
-use Rattle.vlt_core.specs.Instances.{bound_in}
+use Rattle.vlt_core.specs.Derives.{IsAccepted}
+use Rattle.vlt_core.specs.Instances.{HasNoBounds}
 use Rattle.vlt_core.specs.Kinded.{IsKinded, HasKindedParts}
 use Rattle.vlt_core.specs.KindedHeads.{type_broken, head_broken}
 use Rattle.vlt_core.specs.KindedBodies.{first_ids, stmts_rows}
@@ -13,14 +12,13 @@ use Rattle.vlt_core.specs.Lookups.{set_in, count_in, fields_in, fields_of, cases
 use Rattle.vlt_core_laws.specs.Fit.{IsWellFormed}
 use Rattle.vlt_core_laws.proofs.Formed.{formed_body, own_instance}
 use Rattle.vlt_core_laws.proofs.Headed.{kinded_parts, function_empty, head_empty, each_at, ranged_keys, entries_fit}
-use Rattle.vlt_core_laws.proofs.Unbroken.{EachEmpty, some_not_none}
-use Rattle.cert_rows.specs.Parts.{All}
+use Rattle.vlt_core_laws.proofs.Unbroken.{EachEmpty}
 use Rattle.cert_format.specs.Notes.{Note}
 use Rattle.cert_fit_laws.specs.Limits.{IsLimitedSet, IsLimitedType, IsLimitedFunc, IsLimitedProgram}
 use Rattle.cert_fit_laws.proofs.Listed.{all_at}
 use Rattle.cert_fit_laws.proofs.NarrowNumbers.{Bounds}
 use Rattle.cert_fit_laws.proofs.Tables.{count_from, sets_there}
-use Rattle.cert_least_laws.specs.LeastNotes.{HasLeastNotes, HaveLeastNotes, IsLeastCertificate}
+use Rattle.cert_least_laws.specs.LeastNotes.{HasLeastNotes, HaveLeastNotes}
 use Rattle.cert_least_bodies.specs.Programs.{AcceptedProgramsHaveOne}
 use Rattle.cert_least_bodies.proofs.Making.{body_notes, made_least}
 use Rattle.cert_least_bodies.proofs.Tables.{surely_shown}
@@ -74,15 +72,15 @@ module _ (p : Program) (is : IsLimitedProgram p) where
 
 -- ---- functions
 
-module _ (p : Program) (kinded : IsKinded p) (is : IsLimitedProgram p) (well : IsWellFormed p) (sets : HasNarrow p) (accepted : IsAccepted p) where
+module _ (p : Program) (kinded : IsKinded p) (is : IsLimitedProgram p) (well : IsWellFormed p) (unbound : HasNoBounds p) (sets : HasNarrow p) (accepted : IsAccepted p) where
   parts : HasKindedParts p
   parts = kinded_parts p kinded
 
   body_sure : (g : ℕ) (f : Func) → slice_get p.fns g ≡ Some f → f.external ≡ false → Surely ((notes : List Note) × HasLeastNotes p f notes)
   body_sure g f there own =
       let head = head_empty p g f parts there in
-      let fit = formed_body p g f well there own in
-      let plain = well.plain g f there in
+      let plain = unbound g f there in
+      let fit = formed_body p g f well there own plain in
       let b = bounds p is head.0 f parts head.1 (all_at IsLimitedFunc p.fns g f is.fns there) in
       let rows = subst (λ x. EachEmpty (if x then [] else stmts_rows p f (record { jumps = false; returns = true }) (first_ids p f) false f.body)) own (function_empty p g f parts there).1.1 in
       so (surely_shown p f fit (accepted g f None there own (own_instance p f plain))) (λ shown. (
@@ -107,4 +105,4 @@ module _ (p : Program) (kinded : IsKinded p) (is : IsLimitedProgram p) (well : I
       surely (function_sure own.0 f own.1) (λ x. so (all_sure fs (λ i h at. there (suc i) h at)) (λ y. (x.0 ∷ y.0, (x.1, y.1))))
 
 pub have_one : AcceptedProgramsHaveOne
-have_one p kinded is well sets accepted = all_sure p kinded is well sets accepted p.fns (λ i f at. (i, at))
+have_one p kinded is well unbound sets accepted = all_sure p kinded is well unbound sets accepted p.fns (λ i f at. (i, at))

@@ -140,8 +140,8 @@ with_certificate p text (Err e) least said = tt
 -- of an accepted program no body is refused
 pub not_refused : (p : Program) → IsCompilable p → HasRefused p → ⊥
 not_refused p h r =
-    let fit = formed_body p r.number r.func h.well_formed r.there r.with_body in
-    let own = own_instance p r.func (h.well_formed.plain r.number r.func r.there) in
+    let fit = formed_body p r.number r.func h.well_formed r.there r.with_body (h.plain r.number r.func r.there) in
+    let own = own_instance p r.func (h.plain r.number r.func r.there) in
     let some = annotated (body_flow p r.func) (start_map p r.func) fit.fit.jumping (h.accepted r.number r.func None r.there r.with_body own) in
     r.holds some.0 some.1
 

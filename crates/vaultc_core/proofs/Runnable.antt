@@ -45,7 +45,7 @@ runnable laws t p tree is =
     let states = x.well_formed.states in
     record {
       never = laws.never p kinded is.1 x.sizes states x.narrow;
-      own = laws.own p kinded (λ i f at. few_vars (length f.vars) (x.few.vars i f at)) x.blank x.well_formed.plain;
+      own = laws.own p kinded (λ i f at. few_vars (length f.vars) (x.few.vars i f at)) x.blank x.plain;
       calls = laws.calls p kinded is.1 x.sizes states x.narrow;
     }
 
@@ -60,7 +60,7 @@ runnable_for_hosts laws t p tree is =
     let x = fit_program laws.fit t p tree is.0 in
     let states = x.well_formed.states in
     record {
-      callable = laws.callable p x.kinded is.1 x.sizes states x.narrow (λ i f at. few_vars (length f.vars) (x.few.vars i f at)) x.blank x.well_formed.plain;
+      callable = laws.callable p x.kinded is.1 x.sizes states x.narrow (λ i f at. few_vars (length f.vars) (x.few.vars i f at)) x.blank x.plain;
       never = laws.never p x.kinded is.1 x.sizes states x.narrow;
       few = few_functions (length p.fns) x.few.functions;
     }

@@ -1,6 +1,7 @@
 -- Programs that `emit` compiles.
 use Rattle.std.specs.Prelude.{◌≡◌, false}
 use Rattle.vlt_core.specs.Core.{Program}
+use Rattle.vlt_core.specs.Instances.{HasNoBounds}
 use Rattle.vlt_core.specs.Derives.{IsAccepted}
 use Rattle.vlt_core_laws.specs.Fit.{IsWellFormed}
 use Rattle.c_lower_glue.specs.ManyCases.{gives_many_cases}
@@ -11,4 +12,5 @@ pub record IsCompilable (p : Program) : Type 0 where
   pub texts : IsProgramOfTexts p
   pub accepted : IsAccepted p
   pub well_formed : IsWellFormed p
+  pub plain : HasNoBounds p
   pub few_cases : gives_many_cases p ≡ false

@@ -42,8 +42,8 @@ fit laws t kinds p x told gives =
         kinded = kinded_parts p (laws.kinded t kinds p e);
         states = laws.states t kinds p e;
         arms = laws.arms t kinds p e;
-        plain = laws.plain t kinds p e;
       };
+      plain = laws.plain t kinds p e;
       sizes = laws.small t.decls p x.tree.0 (laws.sets t kinds p e);
       narrow = laws.narrow t.decls p (passed_of t kinds p e) (declared_of t kinds p e) (externals_of t kinds p e);
       few = record {

@@ -4,6 +4,7 @@ use Rattle.vlt_syntax.specs.Tree.{Tree}
 use Rattle.vlt_syntax.specs.Lists.{Each}
 use Rattle.vlt_syntax.specs.Grammar.{IsTree, language}
 use Rattle.vlt_core.specs.Core.{done, Func, Program}
+use Rattle.vlt_core.specs.Instances.{HasNoBounds}
 use Rattle.vlt_core.specs.Kinded.{IsKinded}
 use Rattle.vlt_core.specs.Proper.{HasProperBodies}
 use Rattle.vlt_core.specs.Lookups.{fields_of}
@@ -36,6 +37,7 @@ pub record IsJudgeable (p : Program) : Type 0 where
 pub record IsFitProgram (p : Program) : Type 0 where
   pub kinded : IsKinded p
   pub well_formed : IsWellFormed p
+  pub plain : HasNoBounds p
   pub sizes : HasSizes p
   pub narrow : HasNarrowHeads p
   pub few : HasFewParts p

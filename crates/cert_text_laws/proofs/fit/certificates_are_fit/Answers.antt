@@ -12,8 +12,8 @@ returns c = λ ordered p all fits kinded plain.
         kinded = kinded_parts (program_of p) kinded;
         states = c.certificates_have_states.ensures ordered p all fits kinded;
         arms = λ g f at. c.certificates_have_arms.ensures ordered (program_of p) all fits kinded g f at;
-        plain = plain;
       };
+      plain = plain;
       sizes = record { most = formed.few_states };
       narrow = narrow_heads p;
       few = record { fields = formed.few_fields; vars = formed.few_vars; keys = formed.few_keys; functions = formed.few_functions };

@@ -7,5 +7,5 @@ returns c = λ p is accepted.
     let fit = c.programs_are_fit.ensures is.tree is.kinds p (text_tree p is) is.elaborated.told is.elaborated.gives in
     record {
       named = c.texts_have_text_names.ensures p is;
-      annotated = not_refused p fit.well_formed accepted;
+      annotated = not_refused p fit.well_formed fit.plain accepted;
     }
