@@ -24,7 +24,7 @@ use Rattle.vlt_host_runs.specs.declared.stop.HostStop.TheVariants as host
 use Rattle.vaultc_core.specs.declared.status.TheConstants.{UNREAD, SINK_FAILED, NO_MEMORY}
 use Rattle.vaultc_core.specs.Finishes.{Finishes}
 use Rattle.vaultc_core.specs.Lines.{Reply, over_reply, numbers_reply, behind}
-use Rattle.vaultc_core.specs.HostRuns.{bad_call_reply, host_last_of, IsReplyToCallsOver, IsReplyToCalls, IsReplyToHost}
+use Rattle.vaultc_core.specs.HostRuns.{bad_call_reply, bad_calls_reply, host_last_of, IsReplyToCallsOver, IsReplyToCalls, IsReplyToHost}
 use Rattle.vaultc_core.specs.Shown.{EndsHost}
 use Rattle.vaultc_core.proofs.Ended.{Says, cut_off, came_to_end}
 use Rattle.vaultc_core.proofs.Own.{own_host_outcome}
@@ -138,6 +138,6 @@ calls_ended g p asked calls input answers input' answers' b old mid new end resu
     (over_given g p calls (given_by input answers) b old mid new end result never x f)))
 
 -- the first line that is no call is told
-pub bad_calls : (p : Program) (asked : Result (List HostCall) ℕ) (line : ℕ) (given : Given) (b : Budgets) (r : Reply) → asked ≡ Err line
-    → r ≡ numbers_reply (codes "calls") line → IsReplyToHost p asked given b r
-bad_calls p asked line given b r is same = subst (λ c. IsReplyToHost p c given b r) (sym is) same
+pub bad_calls_told : {K : Type 0} (g : Ghosts K) (p : Program) (asked : Result (List HostCall) ℕ) (line : ℕ) (given : Given) (b : Budgets) (old new : K) (result : ℕ) → asked ≡ Err line
+    → Finishes g (λ r. r ≡ bad_calls_reply line) old new result → Finishes g (IsReplyToHost p asked given b) old new result
+bad_calls_told g p asked line given b old new result is f = subst (λ c. Finishes g (IsReplyToHost p c given b) old new result) (sym is) f

@@ -1,5 +1,6 @@
 -- What stands behind the statuses of a run for a host.
 use Rattle.std.proofs.Common.{◌≡◌, ◌⊎◌, inl, inr, ℕ, ℤ, ◌≤◌, List, [], ◌∷◌, Option, Some, None, Result, Ok, Err, refl, sym, ap, ◌∙◌, subst, arith}
+use Rattle.std.specs.Option.{option_map}
 use Rattle.vlt_core.specs.Core.{Program}
 use Rattle.vlt_io.specs.Outside.{Files, Grew}
 use Rattle.vlt_io.specs.declared.sink.Sink as sink
@@ -21,7 +22,7 @@ use Rattle.vaultc_core.specs.Finishes.{Finishes}
 use Rattle.vaultc_core.specs.Lines.{Reply, reply}
 use Rattle.vaultc_core.specs.Texts.{IsTooLong, IsTextOf, Refusal, unlexed, unparsed, refusal_reply}
 use Rattle.vaultc_core.specs.Verdicts.{check_reply}
-use Rattle.vaultc_core.specs.Sources.{Source, IsOver, Read, had, unread, too_long, with_bytes, text_in, sources_of, read_in, MayRead}
+use Rattle.vaultc_core.specs.Sources.{Source, IsOver, Read, had, unread, too_long, with_bytes, text_in, numbers_in, sources_of, read_in, MayRead}
 use Rattle.vaultc_core.specs.HostRuns.{IsReplyToCalls, IsReplyToHost}
 use Rattle.vaultc_core.specs.Replies.{IsReplyToVerdict, IsReplyToRunText, bytes_at, IsReplyToContents, MayReply}
 use Rattle.vaultc_core.specs.Hosted.{IsOfARun, IsHosted}
@@ -159,7 +160,8 @@ module _ (law : ProgramsAreFit) (trees : TextsHaveTextTrees) (right : GoRightFor
         contents,
         may,
         of_contents law trees right (g.files early) file calls taken contents status text old new run grew
-            (first_short g early late (text_in file) _ contents may)
+            (first_short g early late (text_in file)
+            (Some (numbers_in calls) ∷ option_map numbers_in taken.input ∷ option_map numbers_in taken.answers ∷ []) contents may)
             (λ told tells. all_told (g.faults early) (g.faults late) told sources contents (told_as g early late told sources (had contents) tells may)) is,
       )
 

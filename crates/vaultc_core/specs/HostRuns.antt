@@ -16,6 +16,10 @@ use Rattle.vaultc_core.specs.Runs.{last_of}
 abbrev pub bad_call_reply : (position : ℕ) → Reply
 bad_call_reply n = reply OUT_OF_NUMBERS (bad_call_line n)
 
+-- the line of a calls file that is no call
+abbrev pub bad_calls_reply : (line : ℕ) → Reply
+bad_calls_reply line = numbers_reply (codes "calls") line
+
 -- the last line of each outcome, with the status; the line of what is held at the end is part of the text
 abbrev pub host_last_of : HostOutcome → Option Reply
 host_last_of (ended o) = last_of o
@@ -44,4 +48,4 @@ IsReplyToCalls p calls (bad_answers line) b r = r ≡ numbers_reply (codes "answ
 -- over what the calls file says: its calls, or its first line that is none
 abbrev pub IsReplyToHost : Program → Result (List HostCall) ℕ → Given → Budgets → Reply → Type 0
 IsReplyToHost p (Ok calls) given b r = IsReplyToCalls p calls given b r
-IsReplyToHost p (Err line) given b r = r ≡ numbers_reply (codes "calls") line
+IsReplyToHost p (Err line) given b r = r ≡ bad_calls_reply line

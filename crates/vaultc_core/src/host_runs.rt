@@ -1,4 +1,4 @@
-//! Runs of accepted programs for hosts, and the lines behind what they write.
+//! Runs of accepted programs for hosts, and the lines after what they write.
 
 ghost use Rattle.std.specs.Prelude.{◌≡◌};
 ghost use Rattle.vlt_base.specs.declared.limits.TheConstants.{SOURCE_BYTES};
@@ -6,7 +6,7 @@ ghost use Rattle.vlt_core.specs.View.{program_of};
 ghost use Rattle.vlt_numbers.specs.Given.Given.{given_by};
 ghost use Rattle.vlt_host.specs.CallsFile.{calls_of};
 ghost use Rattle.vaultc_core.specs.Callable.{IsRunnableForHosts};
-ghost use Rattle.vaultc_core.specs.HostRuns.{IsReplyToHost};
+ghost use Rattle.vaultc_core.specs.HostRuns.{IsReplyToHost, bad_calls_reply};
 ghost use Rattle.vaultc_core.specs.Finishes.{Finishes};
 ghost use Rattle.vaultc_core.specs.Sources.{IsOver};
 ghost use Rattle.vaultc_core.specs.Shown.{AreShort, EndsHost, StopsHost};
@@ -24,7 +24,7 @@ use vlt_host_runs::{HostStop, run_for_host};
 use vlt_io::Sink;
 use vlt_steps::RunEnd;
 
-/// Writes the line behind what a run wrote that stopped so, and gives the status.
+/// Writes the line after what a run wrote that stopped so, and gives the status.
 fn finish_stop<K: Sink>(alloc: Global, out: &mut K, stop: HostStop) -> u8
     ensures { StopsHost K.Sink stop out.old out.new result }
 {
@@ -47,6 +47,13 @@ fn finish_end<K: Sink>(alloc: Global, end: RunEnd<HostStop>, out: &mut K) -> u8
     }
 }
 
+/// Says of a line of the calls file that it is no call, and gives the status.
+fn finish_bad_calls<K: Sink>(alloc: Global, out: &mut K, line: u32) -> u8
+    ensures { Finishes K.Sink (λ r. r ≡ bad_calls_reply line) out.old out.new result }
+{
+    finish_reply(out, bad_numbers(alloc, "calls", line))
+}
+
 /// Makes the calls of a calls file on an accepted program, over the numbers of the run's files within the budgets, and gives
 /// the status.
 pub fn run_host<K: Sink>(
@@ -66,7 +73,7 @@ pub fn run_host<K: Sink>(
 {
     let calls = match read_calls(alloc, calls) {
         Ok(calls) => calls,
-        Err(CallsError::Bad(line)) => return finish_reply(out, bad_numbers(alloc, "calls", line)),
+        Err(CallsError::Bad(line)) => return finish_bad_calls(alloc, out, line),
         Err(CallsError::Memory) => return NO_MEMORY,
     };
     let input = files.input.as_slice();

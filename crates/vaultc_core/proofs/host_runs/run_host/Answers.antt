@@ -1,14 +1,11 @@
-use Rattle.std.proofs.Common.{◌≡◌, Err, codes, ap, ◌∙◌, rules}
-use Rattle.vlt_host.specs.declared.error.CallsError.TheVariants.{Bad}
+use Rattle.std.proofs.Common.{Err, ap, ◌∙◌}
 use Rattle.vlt_core.specs.View.{program_of}
 use Rattle.vlt_numbers.specs.Given.Given.{given_by}
 use Rattle.vlt_host.specs.CallsFile.{calls_of}
 use Rattle.vlt_host_meaning.specs.Tables.{calls_in}
-use Rattle.vaultc_core.specs.Lines.{numbers_reply}
 use Rattle.vaultc_core.specs.HostRuns.{IsReplyToHost}
-use Rattle.vaultc_core.specs.Shown.{IsReplyOf}
-use Rattle.vaultc_core.proofs.Finished.{finishes_as, none_written, reply_is}
-use Rattle.vaultc_core.proofs.HostEnded.{calls_ended, bad_calls}
+use Rattle.vaultc_core.proofs.Finished.{none_written}
+use Rattle.vaultc_core.proofs.HostEnded.{calls_ended, bad_calls_told}
 use Rattle.vaultc_core.proofs.host_runs.run_host.Goals as goal
 
 pub returns-in-Err-Bad : goal.returns-in-Err-Bad
@@ -17,10 +14,8 @@ returns-in-Err-Bad g c =
     let asked = calls_of c.args.calls.now in
     let given = given_by c.args.files.now.input.items c.args.files.now.answers.items in
     let line = c.in-Err-Bad.line in
-    let same : c.in-Err-Bad.field-0 ≡ Bad line = search rules in
-    finishes_as g.K.Sink (IsReplyOf c.bad_numbers.result) (λ r. IsReplyToHost p asked given c.args.budgets r) c.args.out.now c.finish_reply.new.out c.finish_reply.result
-    (λ r is. bad_calls p asked line given c.args.budgets r (c.read_calls.ensures.bad line (c.in-Err-Bad.is ∙ ap (λ e. Err e) same))
-    (reply_is (λ q. q ≡ numbers_reply (codes "calls") line) c.bad_numbers.result r c.bad_numbers.ensures is)) c.finish_reply.ensures
+    bad_calls_told g.K.Sink p asked line given c.args.budgets c.args.out.now c.finish_bad_calls.new.out c.finish_bad_calls.result
+    (c.read_calls.ensures.bad line (c.in-Err-Bad.is ∙ ap (λ e. Err e) c.in-Err-Bad.field-0-is)) c.finish_bad_calls.ensures
 
 pub returns-in-Err-Memory : goal.returns-in-Err-Memory
 returns-in-Err-Memory g c =
