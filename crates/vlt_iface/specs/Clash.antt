@@ -54,6 +54,7 @@ abbrev mutual
 abbrev pub entry_key : Entry → Name
 entry_key (s.held k) = k.key
 entry_key (s.changed k before after) = k
+entry_key (s.bound k v b) = k
 entry_key (s.taken k at) = k.key
 entry_key (s.given k at) = k.key
 entry_key (s.fresh k at) = k.key

@@ -55,7 +55,7 @@ fn key_of(entry: &Entry) -> &Name
 {
     match entry {
         Entry::Held(key) => &key.key,
-        Entry::Changed { key, .. } => key,
+        Entry::Changed { key, .. } | Entry::Bound { key, .. } => key,
         Entry::Taken(key, _) => &key.key,
         Entry::Given(key, _) => &key.key,
         Entry::Fresh(key, _) => &key.key,

@@ -64,6 +64,13 @@ core_entry_in keys known (s.changed k before after) = record {
   before = states_named known (Some before);
   after = states_named known (Some after);
 }
+-- one with a bound is refused as not built, so what it becomes isn't met
+core_entry_in keys known (s.bound k v b) = record {
+  mode = core.kept;
+  key = key_number keys k.text;
+  before = None;
+  after = None;
+}
 core_entry_in keys known (s.taken k at) = record {
   mode = core.taken;
   key = key_number keys k.key.text;

@@ -120,6 +120,12 @@ impl HeadKeys<'_> {
                     after: Some(after),
                 })
             }
+            vlt_syntax::Entry::Bound { key, .. } => Ok(Entry {
+                mode: Mode::Kept,
+                key: self.key_id(key),
+                before: None,
+                after: None,
+            }),
             vlt_syntax::Entry::Taken(states, _) => {
                 let before = states_named(alloc, known, &states.states)?;
                 Ok(Entry {

@@ -61,7 +61,7 @@ pub fn entry_key(entry: &Entry) -> &Name
 {
     match entry {
         Entry::Held(states) => &states.key,
-        Entry::Changed { key, .. } => key,
+        Entry::Changed { key, .. } | Entry::Bound { key, .. } => key,
         Entry::Taken(states, _) | Entry::Given(states, _) | Entry::Fresh(states, _) => &states.key,
     }
 }
@@ -81,6 +81,7 @@ pub fn first_states(entry: &Entry) -> Option<&States>
     match entry {
         Entry::Held(states) => states.states.as_ref(),
         Entry::Changed { before, .. } => Some(before),
+        Entry::Bound { .. } => None,
         Entry::Taken(states, _) | Entry::Given(states, _) | Entry::Fresh(states, _) => states
             .states
             .as_ref(),

@@ -4,7 +4,7 @@ use Rattle.std.specs.Option.{option_map}
 use Rattle.std.specs.List.{list_any, position}
 use Rattle.std.specs.Str.{bytes_eq}
 use Rattle.vlt_syntax.specs.Tree as s
-use Rattle.vlt_syntax.specs.Tree.{Name, Ty, HeaderKey, Case, Decl}
+use Rattle.vlt_syntax.specs.Tree.{Name, Ty, SetState, HeaderKey, Case, Decl}
 use Rattle.vlt_core.specs.Core.{States, SetDecl}
 use Rattle.vlt_kinds_types.specs.Names.Refusals.{of_each}
 use Rattle.vlt_kinds_types.specs.Names.Globals.{Globals, global_in, globals_of}
@@ -98,12 +98,12 @@ shapes_in known _ = []
 
 -- ---- the file
 
-abbrev pub texts : List Name → List (List ℕ)
-texts = map (λ n. n.text)
+abbrev pub state_texts : List SetState → List (List ℕ)
+state_texts = map (λ x. x.name.text)
 
 -- the set that is declared here, if it is one
 abbrev pub sets_in : Decl → List SetDecl
-sets_in (s.stateset n ss at) = record { name = n.text; states = texts ss; links = [] } ∷ []
+sets_in (s.stateset n ss at) = record { name = n.text; states = state_texts ss; links = [] } ∷ []
 sets_in _ = []
 
 -- Sets and types are numbered in the order of their declarations.

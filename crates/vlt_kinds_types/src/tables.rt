@@ -17,7 +17,7 @@ use crate::shapes::{self, Shape};
 use std::alloc::{AllocError, Global};
 use vlt_base::Items;
 use vlt_core::SetDecl;
-use vlt_syntax::{Decl, Name};
+use vlt_syntax::{Decl, Name, SetState};
 
 impl File<'_> {
     /// The number of the type of this name.
@@ -46,31 +46,31 @@ impl File<'_> {
     }
 }
 
-fn texts(alloc: Global, names: &[Name]) -> Result<Items<Items<u8>>, AllocError>
+fn state_texts(alloc: Global, states: &[SetState]) -> Result<Items<Items<u8>>, AllocError>
     ensures texts { IfOk result (λ texts. map (λ n. n) texts
-        ≡ f.texts (view.names_of names.now)) }
-    ensures len { IfOk result (λ texts. length texts ≡ length names.now) }
+        ≡ f.state_texts (map view.set_state_of states.now)) }
+    ensures len { IfOk result (λ texts. length texts ≡ length states.now) }
 {
     let mut texts = Items::new(alloc);
-    for name in names {
-        texts.push(Items::from_slice(alloc, name.text.as_slice())?)?;
+    for state in states {
+        texts.push(Items::from_slice(alloc, state.name.text.as_slice())?)?;
     }
     Ok(texts)
 }
 
-fn set_of(alloc: Global, name: &Name, states: &[Name]) -> Result<SetDecl, AllocError>
+fn set_of(alloc: Global, name: &Name, states: &[SetState]) -> Result<SetDecl, AllocError>
     requires some { 1 ≤ length states.now }
     requires few { length states.now ≤ 32 }
     ensures set { IfOk result (λ set. core_view.set_of set
         ≡ record {
           name = (view.name_of name.now).text;
-          states = f.texts
-              (view.names_of states.now);
+          states = f.state_texts
+              (map view.set_state_of states.now);
           links = [];
         }) }
     ensures small { IfOk result IsSmallSet }
 {
-    let states = texts(alloc, states)?;
+    let states = state_texts(alloc, states)?;
     let name = Items::from_slice(alloc, name.text.as_slice())?;
     Ok(SetDecl {
         name,

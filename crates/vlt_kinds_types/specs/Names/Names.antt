@@ -74,7 +74,7 @@ unfoldable pub variant_refused : Globals → List HeaderKey → List Case → Li
 variant_refused known ps cs = header_refused known ps ++ repeated_parts (map (λ c. c.name) cs)
 
 abbrev pub decl_refused : Globals → Decl → List Refusal
-decl_refused known (s.stateset n ss at) = repeated_parts ss
+decl_refused known (s.stateset n ss at) = repeated_parts (map (λ x. x.name) ss)
 decl_refused known (s.abstract n ss at) = set_refused known ss
 decl_refused known (s.struct n ps ss fs r at) = struct_refused known ps ss fs
 decl_refused known (s.variant n ps cs at) = variant_refused known ps cs

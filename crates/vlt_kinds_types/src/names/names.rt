@@ -13,7 +13,7 @@ use crate::names::found::LeastRefusal;
 use crate::names::globals::{self, Entity, Globals};
 use std::alloc::{AllocError, Global};
 use vlt_core::rules;
-use vlt_syntax::{Case, Decl, Field, Head, HeaderKey, Name};
+use vlt_syntax::{Case, Decl, Field, Head, HeaderKey, Name, SetState};
 
 /// The name of the function that a program begins with.
 const MAIN: &[u8] = b"main";
@@ -31,6 +31,14 @@ impl HasName for Name {
 
     fn name(&self) -> &Name {
         self
+    }
+}
+
+impl HasName for SetState {
+    ghost name = { λ x. (view.set_state_of x).name };
+
+    fn name(&self) -> &Name {
+        &self.name
     }
 }
 
