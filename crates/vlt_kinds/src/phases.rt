@@ -144,7 +144,7 @@ pub fn table_of<'a>(
 }
 
 /// What a file declares, where no rule refuses it.
-#[tactic(auto, using(crate::proofs::Told::types_refuse, crate::proofs::Told::heads_refuse, crate::proofs::Told::nothing_refuses))]
+#[tactic(auto, using(crate::proofs::Told::types_refuse, crate::proofs::Told::heads_refuse, crate::proofs::Told::unbuilt_refuse, crate::proofs::Told::nothing_refuses))]
 pub fn kinds_of<'a>(alloc: Global, decls: &'a [Decl]) -> Result<Kinds<'a>, KindError>
     requires language { Each (IsDecl language) (map view.decl_of decls.now) }
     requires few { length decls.now < 2 ^ 32 - 1 }

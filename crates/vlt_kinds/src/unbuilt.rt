@@ -43,6 +43,7 @@ fn check_entries(entries: &[Entry], found: &mut LeastRefusal)
     }
 }
 
+#[tactic(auto, using(vlt_kinds_types::proofs::OfNames::Least::each_is))]
 fn check_head(head: &Head, found: &mut LeastRefusal)
     ensures { found.new.least ≡ least_from found.old.least
         (u.clause_refused (view.head_of head.now).clause) }
@@ -63,7 +64,17 @@ fn check_decl(decl: &Decl, found: &mut LeastRefusal)
     }
 }
 
+fn check_decls(decls: &[Decl], found: &mut LeastRefusal)
+    ensures { found.new.least ≡ found_each u.decl_refused
+        (map view.decl_of decls.now) found.old.least }
+{
+    for decl in decls {
+        check_decl(decl, found);
+    }
+}
+
 /// Nothing, unless a declaration has such a form.
+#[tactic(auto, using(vlt_kinds_types::proofs::OfNames::Least::each_is), unfolding(crate::specs::Unbuilt::unbuilt_refused))]
 pub fn check_built(decls: &[Decl]) -> Result<(), KindError>
     ensures ok { IfOk result
         (λ _. least (u.unbuilt_refused (map view.decl_of decls.now)) ≡ None) }
@@ -71,8 +82,6 @@ pub fn check_built(decls: &[Decl]) -> Result<(), KindError>
         (λ x. least (u.unbuilt_refused (map view.decl_of decls.now)) ≡ Some x) }
 {
     let mut found = LeastRefusal { least: None };
-    for decl in decls {
-        check_decl(decl, &mut found);
-    }
+    check_decls(decls, &mut found);
     told(found)
 }

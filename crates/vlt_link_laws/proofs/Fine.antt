@@ -64,7 +64,7 @@ module _ (m : Moves) (a b : Kinds) (sees : Sees m a b) where
   OwnStates d = Unit {0}
 
   pub typed_fine : (d : Decl) → OwnStates d → type_refused a.file d ≡ [] → type_refused b.file d ≡ []
-  typed_fine (s.stateset n ss at) own none = refl
+  typed_fine (s.stateset n ss at) own none = none
   typed_fine (s.abstract n ss at) own none = refl
   typed_fine (s.struct n ps ss fs r at) own none = struct_fine m a b sees n ps fs r own none
   typed_fine (s.variant n ps cs at) own none = variant_fine m a b sees ps cs none

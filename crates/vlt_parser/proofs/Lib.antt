@@ -1,5 +1,5 @@
 pub mod Sequences
-pub mod Chains
+pub mod Sets
 pub mod Declarations
 pub mod Places
 pub mod Functions

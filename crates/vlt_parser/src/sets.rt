@@ -41,7 +41,7 @@ fn state_link(tokens: &[Token<'_>], at: usize) -> Result<(bool, usize), ParseErr
 }
 
 /// The states of a set, up to the closing brace.
-#[tactic(auto, using(crate::proofs::Chains::states_end, crate::proofs::Chains::states_full, crate::proofs::Chains::states_refused))]
+#[tactic(auto, using(crate::proofs::Sets::states_end, crate::proofs::Sets::states_full, crate::proofs::Sets::states_refused))]
 pub fn set_states(
     alloc: Global,
     tokens: &[Token<'_>],

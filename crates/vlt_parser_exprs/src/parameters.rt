@@ -53,11 +53,7 @@ struct StateBound {
 }
 
 /// A bound, behind its opening parenthesis.
-fn state_bound(
-    alloc: Global,
-    tokens: &[Token<'_>],
-    at: usize,
-) -> Result<(StateBound, usize), ParseError>
+fn state_bound(alloc: Global, tokens: &[Token<'_>], at: usize) -> Result<(StateBound, usize), ParseError>
     ensures spelled { IfOk result (λ x. tokens_from tokens.now at ≡
         bound_then (name_of x.0.variable) (name_of x.0.state) (tokens_from tokens.now x.1)) }
     ensures placed { IfOk result (λ x. Stands bound_at tokens.now at

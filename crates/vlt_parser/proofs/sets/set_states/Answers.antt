@@ -10,7 +10,7 @@ use Rattle.vlt_parser_exprs.specs.Reading.{tokens_from}
 use Rattle.vlt_parser_exprs.proofs.Placings.{stands_on, stands_whole}
 use Rattle.vlt_parser_exprs.proofs.Separated.{pushed, some-pushed}
 use Rattle.vlt_parser.proofs.Sequences.{still_few}
-use Rattle.vlt_parser.proofs.Chains.{state, begins_on, begins_whole, states_go_on, states_closed, state_stands, state_more}
+use Rattle.vlt_parser.proofs.Sets.{state, begins_on, begins_whole, states_go_on, states_closed, state_stands, state_more}
 use Rattle.vlt_parser.proofs.sets.set_states.Goals as goal
 
 pub loop-states-init : goal.loop-states-init

@@ -8,7 +8,7 @@ use Rattle.vlt_parser.specs.Declarations.{states_left}
 use Rattle.vlt_parser_exprs.specs.Ahead.{lexemes_from}
 use Rattle.vlt_parser_exprs.specs.Reading.{tokens_from}
 use Rattle.vlt_parser_exprs.proofs.Placings.{StandsOn}
-use Rattle.vlt_parser.proofs.Chains.{BeginsOn, StatesGoOn}
+use Rattle.vlt_parser.proofs.Sets.{BeginsOn, StatesGoOn}
 use Rattle.vlt_parser.proofs.sets.set_states.Given as goal
 
 abbrev pub invariant-loop-states : goal.invariant-loop-states
