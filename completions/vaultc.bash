@@ -3,7 +3,7 @@ _vaultc() {
     local word=${COMP_WORDS[COMP_CWORD]} before=${COMP_WORDS[COMP_CWORD - 1]} command=${COMP_WORDS[1]}
     COMPREPLY=()
     if [ "$COMP_CWORD" -eq 1 ]; then
-        mapfile -t COMPREPLY < <(compgen -W "check explain fmt run host emit verify crun load" -- "$word")
+        mapfile -t COMPREPLY < <(compgen -W "check explain fmt run host module link emit verify crun load" -- "$word")
         return
     fi
     case $before in

@@ -1,6 +1,6 @@
 //! Laws on the programs of modules that link: nothing goes in and nothing comes out.
 //! Read `specs/Link.antt`; what is asked of texts is `IsProgramOfTexts` of `cert_text_laws`.
-//! Used by: nothing yet. So what is promised of compiled texts is promised of two modules together.
+//! Used by: the command that links. So what is promised of compiled texts is promised of two modules together.
 #![tactic(auto)]
 
 ghost use Rattle.cert_link_laws.specs.Link.{JoinedProgramsAreOfTexts};

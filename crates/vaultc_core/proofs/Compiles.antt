@@ -58,8 +58,8 @@ use Rattle.vaultc_core.specs.Compilable.{IsCompilable}
 use Rattle.vaultc_core.specs.Compiled.{IsCompiled}
 use Rattle.vaultc_core.specs.Shown.{shown_reply}
 use Rattle.vaultc_core.specs.declared.reply.Reply.{Reply as CodeReply}
-use Rattle.vaultc_core.specs.Sources.{had, unread, too_long, text_in, IsOneRead}
-use Rattle.vaultc_core.specs.Replies.{IsReplyToText, bytes_at, MayReply}
+use Rattle.vaultc_core.specs.Sources.{had, unread, too_long, text_in, IsOneRead, bytes_at}
+use Rattle.vaultc_core.specs.Replies.{IsReplyToText, MayReply}
 use Rattle.vaultc_core.proofs.Promises.{not_zero, status_of, no_refusal}
 use Rattle.vaultc_core.proofs.Read.{text_tree}
 use Rattle.vaultc_core.proofs.Reading.{one_read, read_there}
@@ -152,7 +152,7 @@ not_cases p e is cause few = true≢false (sym (subst (Refuses p) is cause) ∙ 
 -- ---- status 0
 
 -- a reply of status 0 that is a file or a limit is the file
-text_there : (b : Bool) (text of : List ℕ) → nat_lt (limit_of C_BYTES) (length of) ≡ b → reply DONE text ≡ (if b then over_reply C_BYTES else reply DONE of) →
+pub text_there : (b : Bool) (text of : List ℕ) → nat_lt (limit_of C_BYTES) (length of) ≡ b → reply DONE text ≡ (if b then over_reply C_BYTES else reply DONE of) →
     (text ≡ of) × (length of ≤ limit_of C_BYTES)
 text_there true text of is e = absurd (not_zero 4 (status_of text _ e))
 text_there false text of is e = (ap (λ r. r.text) e, not_less (limit_of C_BYTES) (length of) is)
@@ -169,7 +169,7 @@ pub record Laws : Type 0 where
   pub verify : EmittedFilesVerify
 
 -- the certificate comes after the C text, so both are read
-certified : (p : Program) (notes : List (List Note)) → ReadsAs (c_text p) (lowered p) → IsCProgramOf (c_file p notes) (lowered p)
+pub certified : (p : Program) (notes : List (List Note)) → ReadsAs (c_text p) (lowered p) → IsCProgramOf (c_file p notes) (lowered p)
     (Some (record { from = length (c_text p); to = length (c_file p notes) }))
 certified p notes again =
     let q = unplaced_program p in
@@ -212,7 +212,7 @@ module _ (laws : Laws) where
       MayReply g early late (Some (emit file)) (reply DONE text) → Grew old new text →
       (bytes : List ℕ) × IsOneRead g early late (text_in file) bytes × IsCompiled (g.files early) file bytes old new
   of_may g early late file text old new (unread name, may, same) grew = absurd (not_zero 1 (status_of text _ same))
-  of_may g early late file text old new (too_long n, may, same) grew = absurd (not_zero 4 (status_of text _ same))
+  of_may g early late file text old new (too_long name n, may, same) grew = absurd (not_zero 4 (status_of text _ same))
   of_may g early late file text old new (had contents, may, is) grew =
       let one = one_read g early late (text_in file) contents may in
       let at_first : IsReplyToText (emit file) one.0 (reply DONE text) = subst (λ cs. IsReplyToText (emit file) (bytes_at cs 0) (reply DONE text)) one.1 is in

@@ -22,9 +22,9 @@ use Rattle.vaultc_core.specs.Finishes.{Finishes}
 use Rattle.vaultc_core.specs.Lines.{Reply, reply}
 use Rattle.vaultc_core.specs.Texts.{IsTooLong, IsTextOf, Refusal, unlexed, unparsed, refusal_reply}
 use Rattle.vaultc_core.specs.Verdicts.{check_reply}
-use Rattle.vaultc_core.specs.Sources.{Source, IsOver, Read, had, unread, too_long, with_bytes, text_in, numbers_in, sources_of, read_in, MayRead}
+use Rattle.vaultc_core.specs.Sources.{Source, IsOver, Read, had, unread, too_long, with_bytes, text_in, numbers_in, sources_of, read_in, MayRead, bytes_at}
 use Rattle.vaultc_core.specs.HostRuns.{IsReplyToCalls, IsReplyToHost}
-use Rattle.vaultc_core.specs.Replies.{IsReplyToVerdict, IsReplyToRunText, bytes_at, IsReplyToContents, MayReply}
+use Rattle.vaultc_core.specs.Replies.{IsReplyToVerdict, IsReplyToRunText, IsReplyToContents, MayReply}
 use Rattle.vaultc_core.specs.Hosted.{IsOfARun, IsHosted}
 use Rattle.vaultc_core.proofs.Read.{text_tree}
 use Rattle.vaultc_core.proofs.Reading.{IsToldAs, told_as}
@@ -60,8 +60,8 @@ no_run_refusal bytes (unparsed ended) is = no_run 6 (omega arith) (omega arith) 
 had_unread : (cs : List (List ℕ)) (name : List ℕ) → had cs ≡ unread name → ⊥
 had_unread cs name e = cc
 
-had_long : (cs : List (List ℕ)) (n : ℕ) → had cs ≡ too_long n → ⊥
-had_long cs n e = cc
+had_long : (cs : List (List ℕ)) (name : List ℕ) (n : ℕ) → had cs ≡ too_long name n → ⊥
+had_long cs name n e = cc
 
 first_bytes : (contents : List (List ℕ)) (bytes : List ℕ) (rest : Read) → had contents ≡ with_bytes bytes rest → bytes_at contents 0 ≡ bytes
 first_bytes contents bytes (had cs) e = ap (λ l. bytes_at l 0) (same contents (bytes ∷ cs) e)
@@ -69,18 +69,18 @@ first_bytes contents bytes (had cs) e = ap (λ l. bytes_at l 0) (same contents (
     same : (xs ys : List (List ℕ)) → had xs ≡ had ys → xs ≡ ys
     same xs ys h = cc
 first_bytes contents bytes (unread name) e = absurd (had_unread contents name e)
-first_bytes contents bytes (too_long n) e = absurd (had_long contents n e)
+first_bytes contents bytes (too_long name n) e = absurd (had_long contents name n e)
 
 -- where all files are had, the first isn't too long
 first_short : {S : Type 0} (g : Ghosts S) (old new : S) (f : Source) (fs : List (Option Source)) (contents : List (List ℕ)) →
     MayRead g old new (Some f ∷ fs) (had contents) → IsOver f.limit (bytes_at contents 0) → ⊥
 first_short g old new f fs contents (inl (fails, e)) long = had_unread contents f.name e
-first_short g old new f fs contents (inr (bytes, mid, read, inl (over, same, e))) long = had_long contents f.limit e
+first_short g old new f fs contents (inr (bytes, mid, read, inl (over, same, e))) long = had_long contents f.name f.limit e
 first_short g old new f fs contents (inr (bytes, mid, read, inr (short, (rest, may, e)))) long =
     short (subst (IsOver f.limit) (first_bytes contents bytes rest e) long)
 
 -- where files are told, all bytes are those of the files
-all_told : (before after : ℕ) (files : Files) (fs : List (Option Source)) (contents : List (List ℕ)) → IsToldAs before after files fs (had contents) → read_in files fs ≡ had contents
+pub all_told : (before after : ℕ) (files : Files) (fs : List (Option Source)) (contents : List (List ℕ)) → IsToldAs before after files fs (had contents) → read_in files fs ≡ had contents
 all_told before after files fs contents (inl same) = sym same
 all_told before after files fs contents (inr (name, same, rose)) = absurd (had_unread contents name same)
 
@@ -153,7 +153,7 @@ module _ (law : ProgramsAreFit) (trees : TextsHaveTextTrees) (right : GoRightFor
       (contents : List (List ℕ)) × MayRead g early late (sources_of (host file calls taken)) (had contents) × IsHosted (g.files early) file calls taken contents status old new
   of_may file calls taken status text old new run (unread name, may, same) grew =
       absurd (no_run_of status 2 (status_is status text _ same) (omega arith) (omega arith) run)
-  of_may file calls taken status text old new run (too_long n, may, same) grew =
+  of_may file calls taken status text old new run (too_long name n, may, same) grew =
       absurd (no_run_of status 5 (status_is status text _ same) (omega arith) (omega arith) run)
   of_may file calls taken status text old new run (had contents, may, is) grew =
       let sources = sources_of (host file calls taken) in (

@@ -24,11 +24,12 @@ use Rattle.c_reader.specs.declared.error.CError.{CError}
 use Rattle.c_reader.specs.declared.error.CError.TheVariants as error
 use Rattle.c_interp.specs.declared.runs.end.CEnd.{CEnd}
 use Rattle.c_interp.specs.declared.runs.end.CEnd.TheVariants.{Unread, Ended}
+use Rattle.vaultc_core.specs.Sources.{bytes_at}
 use Rattle.vaultc_core.specs.declared.status.TheConstants.{DONE, NO_COMMAND, UNREAD}
 use Rattle.vaultc_core.specs.CRuns.{IsReplyToC, c_refusal, stop_reply, end_reply}
-use Rattle.vaultc_core.specs.Commands.{Command, check, explain, run, fmt, emit, verify, crun, load, host}
+use Rattle.vaultc_core.specs.Commands.{Command, check, explain, run, fmt, emit, verify, crun, load, host, modules, link}
 use Rattle.vaultc_core.specs.Lines.{Reply, reply, over_reply}
-use Rattle.vaultc_core.specs.Replies.{IsReplyToVerdict, IsReplyToTree, IsReplyToText, IsReplyToRunText, IsReplyToMade, IsReplyToContents, bytes_at}
+use Rattle.vaultc_core.specs.Replies.{IsReplyToVerdict, IsReplyToTree, IsReplyToText, IsReplyToRunText, IsReplyToMade, IsReplyToContents}
 use Rattle.vaultc_core.specs.Runs.{last_of, IsReplyOverNumbers, IsReplyToProgram}
 use Rattle.vaultc_core.specs.HostRuns.{host_last_of, IsReplyToCallsOver, IsReplyToCalls, IsReplyToHost}
 use Rattle.vaultc_core.specs.Texts.{Refusal, unlexed, unparsed, refusal_reply}
@@ -36,6 +37,9 @@ use Rattle.vaultc_core.specs.Verdicts.{check_reply, IsExplained}
 use Rattle.vaultc_core.specs.Emitted.{c_file, IsReplyToCompiled}
 use Rattle.vaultc_core.specs.Verifying.{unread_reply, unverified_reply, IsReplyToVerify}
 use Rattle.cert_verify.specs.Refusals as unverified
+use Rattle.vlt_iface.specs.View.{View}
+use Rattle.vlt_iface.specs.Told as told
+use Rattle.vaultc_core.specs.Modules.{File, file_with, module_line, IsReplyByTreeIn, IsReplyToNoView, IsReplyToViewVerdict, IsReplyToView, IsReplyToModule, IsReplyToJoined, IsReplyToLink}
 use Rattle.vaultc_core.specs.Loads.{load_reply, Then, run_alone, IsReplyAfterEmit, IsReplyToLoaded}
 use Rattle.vlt_load.specs.Generated.{generated_text}
 
@@ -150,6 +154,8 @@ own_tree (emit file) text t r (v, judged, is) = own_emitted text v r is
 own_tree (crun file taken) text t r is = absurd is
 own_tree (load n) text t r is = absurd is
 own_tree (host file calls taken) text t r is = absurd is
+own_tree (modules interface file) text t r is = absurd is
+own_tree (link interface first second) text t r is = absurd is
 
 own_text : (command : Command) (text : List ℕ) (r : Reply) → IsReplyToText command text r → IsOwn r.status
 own_text command text r (inl (e, refused, is)) = own_as r _ is (own_refusal text e)
@@ -240,6 +246,52 @@ own_made : (n : ℕ) (text : List ℕ) (r : Reply) → IsReplyToMade n text r �
 own_made n text r (inl (e, refused, is)) = own_as r _ is (own_refusal text e)
 own_made n text r (inr (t, reads, (v, judged, is))) = own_loaded n text v r is
 
+-- ---- modules
+
+own_by_tree_in : (f : File) (P : Tree → Reply → Type 0) → ((t : Tree) (r : Reply) → P t r → IsOwn r.status) → (r : Reply) → IsReplyByTreeIn f P r → IsOwn r.status
+own_by_tree_in f P own_of r (inl (e, refused, is)) = own_as r _ is (own_refusal f.bytes e)
+own_by_tree_in f P own_of r (inr (t, reads, is)) = own_of t r is
+
+own_no_view : (i m : File) (e : told.Told) (r : Reply) → IsReplyToNoView i m e r → IsOwn r.status
+own_no_view i m (told.broken rule place) r is = own_as r _ is (own 7 (omega arith))
+own_no_view i m (told.exceeded n) r is = own_as r _ is (own 5 (omega arith))
+own_no_view i m (told.clash name) r is = absurd is
+
+own_view_verdict : (i m : File) (P : Program → Reply → Type 0) → ((p : Program) (r : Reply) → P p r → IsOwn r.status) → (v : Verdict) (r : Reply) → IsReplyToViewVerdict i m P v r → IsOwn r.status
+own_view_verdict i m P own_of (verdict.refused (broken rule at)) r is = own_as r _ is (own 7 (omega arith))
+own_view_verdict i m P own_of (verdict.refused (exceeded n)) r is = own_as r _ is (own 5 (omega arith))
+own_view_verdict i m P own_of (verdict.faulty p f x) r is = own_as r _ is (own 8 (omega arith))
+own_view_verdict i m P own_of (verdict.accepted p) r is = own_of p r is
+
+own_view : (i m : File) (with_main : Bool) (P : Program → Reply → Type 0) → ((p : Program) (r : Reply) → P p r → IsOwn r.status) → (x : Result View told.Told) (r : Reply) →
+    IsReplyToView i m with_main P x r → IsOwn r.status
+own_view i m with_main P own_of (Err e) r is = own_no_view i m e r is
+own_view i m with_main P own_of (Ok v) r (w, of_view, is) = own_view_verdict i m P own_of w r is
+
+own_module : (i m : File) (r : Reply) → IsReplyToModule i m r → IsOwn r.status
+own_module i m r is =
+    let Counted : Program → Reply → Type 0 = λ p q. q ≡ reply DONE (module_line p) in
+    let OfView : Tree → Tree → Reply → Type 0 = λ t u q. IsReplyToView i m false Counted (told.view_told t u) q in
+    own_by_tree_in i (λ t q. IsReplyByTreeIn m (OfView t) q)
+    (λ t q at_i. own_by_tree_in m (OfView t) (λ u a at_m. own_view i m false Counted (λ p b same. own_as b (reply DONE (module_line p)) same own_zero) (told.view_told t u) a at_m) q at_i) r is
+
+own_joined : (x : Result Tree told.Told) (r : Reply) → IsReplyToJoined x r → IsOwn r.status
+own_joined (Err (told.clash name)) r is = own_as r _ is (own 7 (omega arith))
+own_joined (Err (told.exceeded n)) r is = own_as r _ is (own 5 (omega arith))
+own_joined (Err (told.broken rule place)) r is = absurd is
+own_joined (Ok t) r (p, gives, (notes, least, is)) = own_as r _ is (own_text_or_limit (nat_lt (limit_of C_BYTES) (length (c_file p notes))) (c_file p notes))
+
+own_link : (i f g : File) (r : Reply) → IsReplyToLink i f g r → IsOwn r.status
+own_link i f g r is =
+    let Joined : Tree → Tree → Tree → Program → Reply → Type 0 = λ t u v p q. IsReplyToJoined (told.joined_told t u v) q in
+    let Second : Tree → Tree → Tree → Program → Reply → Type 0 = λ t u v p q. IsReplyToView i g true (Joined t u v) (told.view_told t v) q in
+    let First : Tree → Tree → Tree → Reply → Type 0 = λ t u v q. IsReplyToView i f false (Second t u v) (told.view_told t u) q in
+    own_by_tree_in i (λ t q. IsReplyByTreeIn f (λ u a. IsReplyByTreeIn g (λ v b. First t u v b) a) q)
+    (λ t q at_i. own_by_tree_in f (λ u a. IsReplyByTreeIn g (λ v b. First t u v b) a)
+    (λ u a at_f. own_by_tree_in g (λ v b. First t u v b)
+    (λ v b at_g. own_view i f false (Second t u v)
+    (λ p c first. own_view i g true (Joined t u v) (λ o d second. own_joined (told.joined_told t u v) d second) (told.view_told t v) c first) (told.view_told t u) b at_g) a at_f) q at_i) r is
+
 -- ---- commands
 
 pub own_reply : (command : Command) (contents : List (List ℕ)) (r : Reply) → IsReplyToContents command contents r → IsOwn r.status
@@ -254,3 +306,6 @@ own_reply (crun file taken) contents r is = own_c (bytes_at contents 0) (bytes_a
 own_reply (load n) contents r is = own_made n (generated_text n) r is
 own_reply (host file calls taken) contents r is =
     own_host_text (calls_of (bytes_at contents 1)) (given_by (bytes_at contents 2) (bytes_at contents 3)) taken.budgets (bytes_at contents 0) r is
+own_reply (modules interface file) contents r is = own_module (file_with interface (bytes_at contents 0)) (file_with file (bytes_at contents 1)) r is
+own_reply (link interface first second) contents r is =
+    own_link (file_with interface (bytes_at contents 0)) (file_with first (bytes_at contents 1)) (file_with second (bytes_at contents 2)) r is

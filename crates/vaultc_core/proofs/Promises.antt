@@ -27,8 +27,8 @@ use Rattle.vaultc_core.specs.Lines.{Reply, reply}
 use Rattle.vaultc_core.specs.Texts.{IsTooLong, IsTextOf, Refusal, unlexed, unparsed, refusal_reply}
 use Rattle.vaultc_core.specs.Programs.{IsProgramOf}
 use Rattle.vaultc_core.specs.Verdicts.{check_reply}
-use Rattle.vaultc_core.specs.Sources.{had, unread, too_long, text_in, read_before, read_in, IsOneRead}
-use Rattle.vaultc_core.specs.Replies.{IsReplyToText, bytes_at, IsReplyToRead, IsReplyToCommand, MayReply}
+use Rattle.vaultc_core.specs.Sources.{had, unread, too_long, text_in, read_before, read_in, IsOneRead, bytes_at}
+use Rattle.vaultc_core.specs.Replies.{IsReplyToText, IsReplyToRead, IsReplyToCommand, MayReply}
 use Rattle.vaultc_core.specs.Promised.{IsPromised}
 use Rattle.vaultc_core.proofs.Read.{text_tree}
 use Rattle.vaultc_core.proofs.Single.{Laws}
@@ -85,7 +85,7 @@ module _ (law : ProgramsAreFit) (trees : TextsHaveTextTrees) (right : GoRight) w
       MayReply g early late (Some (check file)) (reply DONE text) → Grew old new text →
       (bytes : List ℕ) × IsOneRead g early late (text_in file) bytes × IsPromised (g.files early) file bytes old new
   of_may g early late file text old new (unread name, may, same) grew = absurd (not_zero 1 (status_of text _ same))
-  of_may g early late file text old new (too_long n, may, same) grew = absurd (not_zero 4 (status_of text _ same))
+  of_may g early late file text old new (too_long name n, may, same) grew = absurd (not_zero 4 (status_of text _ same))
   of_may g early late file text old new (had contents, may, is) grew =
       let one = one_read g early late (text_in file) contents may in
       let at_first : IsReplyToText (check file) one.0 (reply DONE text) = subst (λ cs. IsReplyToText (check file) (bytes_at cs 0) (reply DONE text)) one.1 is in

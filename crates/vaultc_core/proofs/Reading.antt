@@ -18,12 +18,12 @@ rose_after a b c counted (inr last) = inr last
 abbrev pub IsCut : Read → Type 0
 IsCut (had contents) = ⊥
 IsCut (unread name) = Unit {0}
-IsCut (too_long n) = Unit {0}
+IsCut (too_long name n) = Unit {0}
 
 had_cut : (x : Read) (contents : List (List ℕ)) → IsCut x → x ≡ had contents → ⊥
 had_cut (had cs) contents cut e = cut
 had_cut (unread name) contents cut e = cc
-had_cut (too_long n) contents cut e = cc
+had_cut (too_long name n) contents cut e = cc
 
 one_had : (x rest : Read) (bytes : List ℕ) → rest ≡ had [] → x ≡ with_bytes bytes rest → x ≡ had (bytes ∷ [])
 one_had x rest bytes empty e = e ∙ ap (with_bytes bytes) empty
@@ -41,8 +41,8 @@ same_bytes a b e = cc
 had_unread : (cs : List (List ℕ)) (name : List ℕ) → had cs ≡ unread name → ⊥
 had_unread cs name e = cc
 
-had_long : (cs : List (List ℕ)) (n : ℕ) → had cs ≡ too_long n → ⊥
-had_long cs n e = cc
+had_long : (cs : List (List ℕ)) (name : List ℕ) (n : ℕ) → had cs ≡ too_long name n → ⊥
+had_long cs name n e = cc
 
 -- a file is had, and those behind it are read
 pub read_then : {S : Type 0} (g : Ghosts S) (old mid new : S) (o : Option Source) (fs : List (Option Source)) (bytes : List ℕ) (x : Read)
@@ -51,7 +51,7 @@ read_then g old mid new None fs bytes x (rest, (same, empty), e) more =
     let none : bytes ≡ [] = same_bytes bytes [] (one_had (had (bytes ∷ [])) rest [] empty e) in
     (x, subst (λ s. MayRead g s new fs x) same more, ap (λ b. with_bytes b x) none)
 read_then g old mid new (Some f) fs bytes x (inl (fails, e)) more = absurd (had_unread (bytes ∷ []) f.name e)
-read_then g old mid new (Some f) fs bytes x (inr (b, m, read, inl (long, same, e))) more = absurd (had_long (bytes ∷ []) f.limit e)
+read_then g old mid new (Some f) fs bytes x (inr (b, m, read, inl (long, same, e))) more = absurd (had_long (bytes ∷ []) f.name f.limit e)
 read_then g old mid new (Some f) fs bytes x (inr (b, m, read, inr (short, (rest, (same, empty), e)))) more =
     let is : bytes ≡ b = same_bytes bytes b (one_had (had (bytes ∷ [])) rest b empty e) in
     inr (b, m, read, inr (short, (x, subst (λ s. MayRead g s new fs x) same more, ap (λ c. with_bytes c x) is)))
@@ -60,7 +60,7 @@ read_then g old mid new (Some f) fs bytes x (inr (b, m, read, inr (short, (rest,
 pub one_read : {S : Type 0} (g : Ghosts S) (old new : S) (f : Source) (contents : List (List ℕ)) → MayRead g old new (Some f ∷ []) (had contents)
     → (bytes : List ℕ) × (contents ≡ bytes ∷ []) × IsOneRead g old new f bytes × (IsOver f.limit bytes → ⊥)
 one_read g old new f contents (inl (fails, e)) = absurd (had_unread contents f.name e)
-one_read g old new f contents (inr (bytes, mid, read, inl (long, same, e))) = absurd (had_long contents f.limit e)
+one_read g old new f contents (inr (bytes, mid, read, inl (long, same, e))) = absurd (had_long contents f.name f.limit e)
 one_read g old new f contents (inr (bytes, mid, read, inr (short, (rest, (same, empty), e)))) =
     (bytes, same_contents contents (bytes ∷ []) (one_had (had contents) rest bytes empty e), subst (λ s. IsOneRead g old s f bytes) (sym same) read, short)
   where
@@ -93,7 +93,7 @@ read_there store files f bytes read short tells =
 
 -- ---- files that are told
 
-fits : (n : ℕ) (bytes : List ℕ) → (IsOver n bytes → ⊥) → length bytes ≤ limit_of n
+pub fits : (n : ℕ) (bytes : List ℕ) → (IsOver n bytes → ⊥) → length bytes ≤ limit_of n
 fits n bytes short = elim (leb_tells (length bytes) (limit_of n)) [
   | inl within ↦ within.1
   | inr above ↦ absurd (short (omega (arith, above.1)))
@@ -103,17 +103,17 @@ pub short_before : (f : Source) (bytes : List ℕ) (rest : Read) → (IsOver f.l
 short_before f bytes rest short =
     let le : length bytes ≤ limit_of f.limit = fits f.limit bytes short in
     let test : nat_lt (limit_of f.limit) (length bytes) ≡ false = grind (arith, nat_tests) in
-    ap (λ b. if b then too_long f.limit else with_bytes bytes rest) test
+    ap (λ b. if b then too_long f.name f.limit else with_bytes bytes rest) test
 
-long_before : (f : Source) (bytes : List ℕ) (rest : Read) → IsOver f.limit bytes → read_before f (Some bytes) rest ≡ too_long f.limit
+long_before : (f : Source) (bytes : List ℕ) (rest : Read) → IsOver f.limit bytes → read_before f (Some bytes) rest ≡ too_long f.name f.limit
 long_before f bytes rest long =
     let test : nat_lt (limit_of f.limit) (length bytes) ≡ true = grind (arith, nat_tests) in
-    ap (λ b. if b then too_long f.limit else with_bytes bytes rest) test
+    ap (λ b. if b then too_long f.name f.limit else with_bytes bytes rest) test
 
 front_short : (f : Source) (o : Option (List ℕ)) (bytes : List ℕ) (rest : Read) → IsFrontOf o (limit_of f.limit) bytes → (IsOver f.limit bytes → ⊥) → read_before f o rest ≡ with_bytes bytes rest
 front_short f o bytes rest front short = ap (λ x. read_before f x rest) (front_there f.limit o bytes front short) ∙ short_before f bytes rest short
 
-front_long : (f : Source) (o : Option (List ℕ)) (bytes : List ℕ) (rest : Read) → IsFrontOf o (limit_of f.limit) bytes → IsOver f.limit bytes → read_before f o rest ≡ too_long f.limit
+front_long : (f : Source) (o : Option (List ℕ)) (bytes : List ℕ) (rest : Read) → IsFrontOf o (limit_of f.limit) bytes → IsOver f.limit bytes → read_before f o rest ≡ too_long f.name f.limit
 front_long f None bytes rest front long = absurd front
 front_long f (Some whole) bytes rest front long = long_before f whole rest (long_whole f.limit whole bytes front long)
 
@@ -148,13 +148,13 @@ told_as g old new files (Some f ∷ fs) x tells (inr (bytes, mid, read, inr (sho
 unread_behind : (name bytes : List ℕ) (rest : Read) → unread name ≡ with_bytes bytes rest → rest ≡ unread name
 unread_behind name bytes (had contents) e = cc
 unread_behind name bytes (unread other) e = sym e
-unread_behind name bytes (too_long n) e = cc
+unread_behind name bytes (too_long other n) e = cc
 
 same_name : (a b : List ℕ) → unread a ≡ unread b → a ≡ b
 same_name a b e = cc
 
-long_unread : (name : List ℕ) (n : ℕ) → unread name ≡ too_long n → ⊥
-long_unread name n e = cc
+long_unread : (name other : List ℕ) (n : ℕ) → unread name ≡ too_long other n → ⊥
+long_unread name other n e = cc
 
 -- reading it failed, or it is missing
 pub may_fail : {S : Type 0} (g : Ghosts S) (old new : S) (fs : List (Option Source)) (name : List ℕ) → MayRead g old new fs (unread name)
@@ -162,7 +162,7 @@ pub may_fail : {S : Type 0} (g : Ghosts S) (old new : S) (fs : List (Option Sour
 may_fail g old new [] name (same, e) = absurd (had_unread [] name (sym e))
 may_fail g old new (None ∷ fs) name (rest, may, e) = may_fail g old new fs name (subst (MayRead g old new fs) (unread_behind name [] rest e) may)
 may_fail g old new (Some f ∷ fs) name (inl (fails, e)) = subst (λ n. MayFail (g.files old) n (g.faults old) (g.faults new)) (sym (same_name name f.name e)) fails
-may_fail g old new (Some f ∷ fs) name (inr (bytes, mid, read, inl (long, same, e))) = absurd (long_unread name f.limit e)
+may_fail g old new (Some f ∷ fs) name (inr (bytes, mid, read, inl (long, same, e))) = absurd (long_unread name f.name f.limit e)
 may_fail g old new (Some f ∷ fs) name (inr (bytes, mid, read, inr (short, (rest, may, e)))) =
     earlier (may_fail g mid new fs name (subst (MayRead g mid new fs) (unread_behind name bytes rest e) may))
   where

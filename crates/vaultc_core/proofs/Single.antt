@@ -15,8 +15,8 @@ use Rattle.vlt_host.specs.CallsFile.{calls_of}
 use Rattle.vlt_verdict.specs.Verdicts.{Verdict, IsVerdictOf}
 use Rattle.vlt_verdict.specs.Laws.{HasOneVerdict}
 use Rattle.vlt_verdict.specs.Verdicts as verdict
-use Rattle.vaultc_core.specs.Commands.{Command, check, explain, run, fmt, emit, verify, crun, load, host}
-use Rattle.vaultc_core.specs.Sources.{Read, had, unread, too_long, sources_of, read_in}
+use Rattle.vaultc_core.specs.Commands.{Command, check, explain, run, fmt, emit, verify, crun, load, host, modules, link}
+use Rattle.vaultc_core.specs.Sources.{Read, had, unread, too_long, sources_of, read_in, bytes_at}
 use Rattle.vaultc_core.specs.Lines.{Reply, reply, behind}
 use Rattle.vaultc_core.specs.Texts.{IsTextOf, refusal_reply}
 use Rattle.vaultc_core.specs.declared.status.TheConstants.{NOT_ACCEPTED}
@@ -27,13 +27,16 @@ use Rattle.vaultc_core.specs.Loads.{IsReplyToLoaded}
 use Rattle.cert_least_laws.specs.Laws.{LeastCertificatesAreOne}
 use Rattle.vaultc_core.specs.Runs.{IsReplyToRan, IsReplyOverNumbers, IsReplyToProgram}
 use Rattle.vaultc_core.specs.HostRuns.{IsReplyToHostRan, IsReplyToCallsOver, IsReplyToCalls, IsReplyToHost}
-use Rattle.vaultc_core.specs.Replies.{IsReplyToVerdict, IsReplyToTree, IsReplyByTree, IsReplyToText, IsReplyToRunText, IsReplyToMade, bytes_at, IsReplyToContents, IsReplyToRead, IsReplyToCommand, GoesOn, AreAlike}
+use Rattle.vaultc_core.specs.Replies.{IsReplyToVerdict, IsReplyToTree, IsReplyByTree, IsReplyToText, IsReplyToRunText, IsReplyToMade, IsReplyToContents, IsReplyToRead, IsReplyToCommand, GoesOn, AreAlike}
 use Rattle.c_reader_laws.specs.Laws.{IsReadInOneWay}
 use Rattle.cert_verify.specs.Laws.{VerifiesInOneWay}
 use Rattle.vaultc_core.proofs.CReplies.{one_c_reply}
 use Rattle.vaultc_core.proofs.VReplies.{one_verify_reply}
 use Rattle.vaultc_core.proofs.Loads.{one_emitted, one_loaded}
 use Rattle.vaultc_core.proofs.Read.{text_tree, one_text, refusals_alike, text_not_refused}
+use Rattle.vlt_view_verdict.specs.Laws.{ViewsHaveOneVerdict}
+use Rattle.vaultc_core.specs.Modules.{file_with}
+use Rattle.vaultc_core.proofs.OneModules.{one_module, one_link}
 
 -- ---- replies to a tree
 
@@ -100,6 +103,8 @@ same_alike (verify file) x r q e = e
 same_alike (crun file taken) x r q e = e
 same_alike (load n) x r q e = e
 same_alike (host file calls taken) x r q e = e
+same_alike (modules interface file) x r q e = e
+same_alike (link interface first second) x r q e = e
 
 alike_status : (command : Command) (x : Read) (r q : Reply) → AreAlike command x r q → r.status ≡ q.status
 alike_status (check file) x r q e = ap (λ z. z.status) e
@@ -112,6 +117,8 @@ alike_status (verify file) x r q e = ap (λ z. z.status) e
 alike_status (crun file taken) x r q e = ap (λ z. z.status) e
 alike_status (load n) x r q e = ap (λ z. z.status) e
 alike_status (host file calls taken) x r q e = ap (λ z. z.status) e
+alike_status (modules interface file) x r q e = ap (λ z. z.status) e
+alike_status (link interface first second) x r q e = ap (λ z. z.status) e
 
 goes_on : (line more : List ℕ) (r : Reply) → r ≡ reply NOT_ACCEPTED (line ++ more) → GoesOn (reply NOT_ACCEPTED line) r
 goes_on line more r e = (ap (λ z. z.status) e, (more, ap (λ z. z.text) e))
@@ -125,13 +132,14 @@ explained_alike file contents t (verdict.faulty p f x) r q reads is (first, seco
     let line = check_reply (bytes_at contents 0) (verdict.faulty p f x) in
     inr (line, inr (t, reads, (verdict.faulty p f x, is, refl)), refl, goes_on line.text _ r a, goes_on line.text _ q b)
 
--- what is known of trees, of texts and by the verdicts on them, of C texts, of certificates, and of C files that have one
+-- what is known of trees, of texts and by the verdicts on them, of C texts, of certificates, of C files that have one, and of views
 pub record Laws : Type 0 where
   pub one : HasOneVerdict
   pub trees : TextsHaveTextTrees
   pub c_texts : (text : List ℕ) → IsReadInOneWay text
   pub certificates : LeastCertificatesAreOne
   pub verified : (text : List ℕ) → VerifiesInOneWay text
+  pub views : ViewsHaveOneVerdict
 
 module _ (laws : Laws) where
   one_of_tree : (command : Command) (contents : List (List ℕ)) (t : Tree) (r q : Reply) → IsTextOf t (bytes_at contents 0) → IsTextTree t →
@@ -150,6 +158,8 @@ module _ (laws : Laws) where
   one_of_tree (crun file taken) contents t r q reads tree is_r is_q = absurd is_r
   one_of_tree (load n) contents t r q reads tree is_r is_q = absurd is_r
   one_of_tree (host file calls taken) contents t r q reads tree is_r is_q = absurd is_r
+  one_of_tree (modules interface file) contents t r q reads tree is_r is_q = absurd is_r
+  one_of_tree (link interface first second) contents t r q reads tree is_r is_q = absurd is_r
 
   -- ---- commands
 
@@ -205,12 +215,16 @@ module _ (laws : Laws) where
   one_of_contents (load n) contents r q is_r is_q = one_of_load n (generated_text n) r q is_r is_q
   one_of_contents (host file calls taken) contents r q is_r is_q =
       one_of_host_text (calls_of (bytes_at contents 1)) (given_by (bytes_at contents 2) (bytes_at contents 3)) taken.budgets (bytes_at contents 0) r q is_r is_q
+  one_of_contents (modules interface file) contents r q is_r is_q =
+      one_module laws.views laws.trees (file_with interface (bytes_at contents 0)) (file_with file (bytes_at contents 1)) r q is_r is_q
+  one_of_contents (link interface first second) contents r q is_r is_q =
+      one_link laws.views laws.trees laws.certificates (file_with interface (bytes_at contents 0)) (file_with first (bytes_at contents 1)) (file_with second (bytes_at contents 2)) r q is_r is_q
 
   -- a command has one reply to what it read
   pub one_of_read : (command : Command) (x : Read) (r q : Reply) → IsReplyToRead command x r → IsReplyToRead command x q → AreAlike command x r q
   one_of_read command (had contents) r q is_r is_q = one_of_contents command contents r q is_r is_q
   one_of_read command (unread name) r q is_r is_q = same_alike command (unread name) r q (is_r ∙ sym is_q)
-  one_of_read command (too_long n) r q is_r is_q = same_alike command (too_long n) r q (is_r ∙ sym is_q)
+  one_of_read command (too_long name n) r q is_r is_q = same_alike command (too_long name n) r q (is_r ∙ sym is_q)
 
   -- words have replies of one status for a store's files
   pub one_status : (command : Option Command) (files : Files) (r q : Reply) → IsReplyToCommand command files r → IsReplyToCommand command files q →

@@ -32,18 +32,18 @@ use Rattle.vlt_verdict.specs.Verdicts.{Verdict, refused, faulty, accepted, IsVer
 use Rattle.vlt_verdict.specs.Laws.{HasSomeVerdict}
 use Rattle.vlt_check_laws.specs.Shown.{HasWitness}
 use Rattle.vaultc_core.specs.declared.status.TheConstants.{DONE, NOT_ACCEPTED}
-use Rattle.vaultc_core.specs.Commands.{Command, check, explain, run, fmt, emit, verify, crun, load, host}
-use Rattle.vaultc_core.specs.Lines.{Reply, reply, over_reply, unread_reply, numbers_reply, behind}
+use Rattle.vaultc_core.specs.Commands.{Command, check, explain, run, fmt, emit, verify, crun, load, host, modules, link, names_files}
+use Rattle.vaultc_core.specs.Lines.{Reply, reply, over_reply, long_reply, unread_reply, numbers_reply, behind}
 use Rattle.vaultc_core.specs.Runs.{IsReplyToRan, IsReplyOverNumbers, IsReplyToProgram}
 use Rattle.vaultc_core.specs.HostRuns.{IsReplyToHostRan, IsReplyToCallsOver, IsReplyToCalls, IsReplyToHost}
-use Rattle.vaultc_core.specs.Sources.{had, unread, too_long}
+use Rattle.vaultc_core.specs.Sources.{had, unread, too_long, bytes_at}
 use Rattle.vaultc_core.specs.Texts.{IsTextOf, refusal_reply}
 use Rattle.cert_least_texts.specs.Texts.{AcceptedTextsHaveOne}
 use Rattle.vaultc_core.specs.Verdicts.{check_reply, IsExplained}
 use Rattle.vaultc_core.specs.Emitted.{c_file, file_reply, IsReplyToCompiled}
 use Rattle.vlt_load.specs.Generated.{generated_text}
 use Rattle.vaultc_core.specs.Loads.{IsReplyToLoaded, IsReplyToLoad}
-use Rattle.vaultc_core.specs.Replies.{IsReplyToCheck, IsReplyToExplain, IsReplyToEmit, IsReplyToVerdict, IsReplyToRun, IsReplyByTree, IsReplyToRunText, bytes_at, IsReplyToContents, HasSomeReply}
+use Rattle.vaultc_core.specs.Replies.{IsReplyToCheck, IsReplyToExplain, IsReplyToEmit, IsReplyToVerdict, IsReplyToRun, IsReplyByTree, IsReplyToRunText, IsReplyToContents, HasSomeReply}
 use Rattle.c_reader_laws.specs.Laws.{IsReadInOneWay}
 use Rattle.vaultc_core.proofs.OfTexts.{program_of_text}
 use Rattle.cert_verify.specs.Laws.{VerifiesInSomeWay}
@@ -54,8 +54,12 @@ use Rattle.vaultc_core.proofs.Read.{text_tree, read_in_one_way}
 use Rattle.vaultc_core.proofs.RunEnded.{last_there}
 use Rattle.vaultc_core.proofs.HostEnded.{host_last_there}
 use Rattle.vaultc_core.proofs.Runnable.{OfAccepted}
+use Rattle.vlt_view_verdict.specs.Laws.{ViewsHaveSomeVerdict}
+use Rattle.vaultc_core.specs.Modules.{file_with}
+use Rattle.vaultc_core.proofs.Linked.{LinkLaws, linked}
+use Rattle.vaultc_core.proofs.SomeModules.{some_module, some_link}
 
--- what is known of the trees of texts, of C texts, of certificates, and of C files that have one
+-- what is known of the trees of texts, of C texts, of certificates, of C files that have one, and of views
 pub record Laws : Type 0 where
   pub trees : TextsHaveTextTrees
   pub fit : ProgramsAreFit
@@ -66,6 +70,8 @@ pub record Laws : Type 0 where
   pub c_texts : (text : List ℕ) → IsReadInOneWay text
   pub certificates : AcceptedTextsHaveOne
   pub verified : (text : List ℕ) → VerifiesInSomeWay text
+  pub views : ViewsHaveSomeVerdict
+  pub linked : LinkLaws
 
 -- ---- runs of programs that never go wrong
 
@@ -193,8 +199,15 @@ module _ (laws : Laws) where
   some_of_contents (load n) contents = let text = generated_text n in by_tree (IsReplyToLoad n text) text (some_of_load n text)
   some_of_contents (host file calls taken) contents =
       some_of_host_text (calls_of (bytes_at contents 1)) (given_by (bytes_at contents 2) (bytes_at contents 3)) taken.budgets (bytes_at contents 0)
+  some_of_contents (modules interface file) contents =
+      some_module laws.trees laws.views (file_with interface (bytes_at contents 0)) (file_with file (bytes_at contents 1))
+  some_of_contents (link interface first second) contents =
+      some_link laws.trees laws.views (file_with interface (bytes_at contents 0)) (file_with first (bytes_at contents 1)) (file_with second (bytes_at contents 2))
+      (λ t u v z of_i of_f of_g one two told.
+      let x = linked laws.linked t u v z (bytes_at contents 0) (bytes_at contents 1) (bytes_at contents 2) of_i of_f of_g one two told in
+      so (laws.certificates x.program x.texts x.accepted) (λ n. (file_reply (c_file x.program n.0), (x.program, x.gives, (n.0, n.1, refl)))))
 
   pub some_of_read : HasSomeReply
   some_of_read command (had contents) = some_of_contents command contents
   some_of_read command (unread name) = sure (unread_reply name, refl)
-  some_of_read command (too_long n) = sure (over_reply n, refl)
+  some_of_read command (too_long name n) = sure (long_reply (names_files command) name n, refl)

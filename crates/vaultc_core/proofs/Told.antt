@@ -1,15 +1,15 @@
 -- What a store that tells its files, and one that tells none, have in common.
-use Rattle.std.proofs.Common.{◌≡◌, ◌⊎◌, inl, inr, ℕ, List, [], Option, Some, None, refl, ap, subst, arith}
+use Rattle.std.proofs.Common.{◌≡◌, ◌⊎◌, inl, inr, ℕ, Bool, true, false, List, [], Option, Some, None, refl, ap, subst, arith}
 use Rattle.std.proofs.lemmas.Bool.Decides.{eqb_tells}
 use Rattle.std.specs.Prelude.{◌≢◌}
 use Rattle.vlt_io.specs.Outside.{Files, Rose, Grew}
 use Rattle.vlt_io.specs.declared.sink.Sink as sink
 use Rattle.vlt_io.specs.declared.store.Store.{Ghosts}
 use Rattle.vaultc_core.specs.declared.status.TheConstants.{NO_COMMAND, UNREAD, SINK_FAILED, NO_MEMORY}
-use Rattle.vaultc_core.specs.Commands.{Command}
+use Rattle.vaultc_core.specs.Commands.{Command, names_files}
 use Rattle.vaultc_core.specs.Sources.{Read, had, unread, too_long, sources_of, read_in, MayRead}
 use Rattle.vaultc_core.specs.Finishes.{WroteReply, WrotePart, Finishes}
-use Rattle.vaultc_core.specs.Lines.{Reply, reply}
+use Rattle.vaultc_core.specs.Lines.{Reply, reply, long_reply}
 use Rattle.vaultc_core.specs.Replies.{IsReplyToRead, IsReplyToCommand, IsInside, MayReply, IsUnread}
 use Rattle.vaultc_core.proofs.Reading.{IsToldAs, told_as, may_fail}
 use Rattle.vaultc_core.proofs.Own.{own_reply}
@@ -83,11 +83,15 @@ complete laws g k old new before after command status files r f tells is store_s
 
 -- ---- statuses that tell one thing
 
+long_status : (names : Bool) (name : List ℕ) (n : ℕ) → (long_reply names name n).status ≡ 5
+long_status false name n = refl
+long_status true name n = refl
+
 -- no command's own reply has the status of words that are none
 no_command_of : (command : Command) (x : Read) (r : Reply) → IsReplyToRead command x r → r.status ≡ NO_COMMAND → ⊥
 no_command_of command (had contents) r is one = (own_reply command contents r is).0 one
 no_command_of command (unread name) r is one = omega (arith, one, ap (λ q. q.status) is)
-no_command_of command (too_long n) r is one = omega (arith, one, ap (λ q. q.status) is)
+no_command_of command (too_long name n) r is one = omega (arith, one, ap (λ q. q.status) is, long_status (names_files command) name n)
 
 none_at_one : {S : Type 0} (g : Ghosts S) (old new : S) (command : Option Command) (r : Reply) → MayReply g old new command r → r.status ≡ NO_COMMAND → command ≡ None
 none_at_one g old new None r is one = refl
@@ -103,7 +107,7 @@ unread_of : {S : Type 0} (g : Ghosts S) (old new : S) (command : Command) (x : R
     → IsUnread g old new command r
 unread_of g old new command (had contents) r may is two = absurd ((own_reply command contents r is).1 two)
 unread_of g old new command (unread name) r may is two = (name, may, may_fail g old new (sources_of command) name may, is)
-unread_of g old new command (too_long n) r may is two = absurd (omega (arith, two, ap (λ q. q.status) is))
+unread_of g old new command (too_long name n) r may is two = absurd (omega (arith, two, ap (λ q. q.status) is, long_status (names_files command) name n))
 
 -- the command that the words are, whose file wasn't read
 abbrev pub IsUnreadOf : {S K : Type 0} (g : Ghosts S) (k : sink.Ghosts K) (old new : S) (before after : K) → Option Command → Type 0

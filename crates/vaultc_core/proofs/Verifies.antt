@@ -13,8 +13,8 @@ use Rattle.vaultc_core.specs.declared.status.TheConstants.{DONE}
 use Rattle.vaultc_core.specs.Commands.{Command, verify}
 use Rattle.vaultc_core.specs.Finishes.{Finishes}
 use Rattle.vaultc_core.specs.Lines.{Reply, reply}
-use Rattle.vaultc_core.specs.Sources.{had, unread as not_had, too_long, c_text_in, IsOneRead, IsOver}
-use Rattle.vaultc_core.specs.Replies.{bytes_at, MayReply}
+use Rattle.vaultc_core.specs.Sources.{had, unread as not_had, too_long, c_text_in, IsOneRead, IsOver, bytes_at}
+use Rattle.vaultc_core.specs.Replies.{MayReply}
 use Rattle.vaultc_core.specs.Verifying.{verified_line, unread_reply, unverified_reply, IsReplyToVerify}
 use Rattle.vaultc_core.specs.Verified.{IsVerified}
 use Rattle.vaultc_core.proofs.Promises.{not_zero, status_of}
@@ -52,7 +52,7 @@ module _ (keep : VerifiedFilesKeepTheirPromise) where
       MayReply g early late (Some (verify file)) (reply DONE text) → Grew old new text →
       (bytes : List ℕ) × IsOneRead g early late (c_text_in file) bytes × IsVerified (g.files early) file bytes old new
   of_may g early late file text old new (not_had name, may, same) grew = absurd (not_zero 1 (status_of text _ same))
-  of_may g early late file text old new (too_long n, may, same) grew = absurd (not_zero 4 (status_of text _ same))
+  of_may g early late file text old new (too_long name n, may, same) grew = absurd (not_zero 4 (status_of text _ same))
   of_may g early late file text old new (had contents, may, is) grew =
       let one = one_read g early late (c_text_in file) contents may in
       let at_first : IsReplyToVerify one.0 (reply DONE text) = subst (λ cs. IsReplyToVerify (bytes_at cs 0) (reply DONE text)) one.1 is in

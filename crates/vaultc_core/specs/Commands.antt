@@ -1,5 +1,5 @@
 -- The commands, as words.
-use Rattle.std.specs.Prelude.{ℕ, ◌==◌, nat_le, ◌^◌, ◌-◌, Bool, false, not, ◌&&◌, if◌then◌else◌, List, [], ◌∷◌, length, Option, Some, None, codes}
+use Rattle.std.specs.Prelude.{ℕ, ◌==◌, nat_le, ◌^◌, ◌-◌, Bool, true, false, not, ◌&&◌, if◌then◌else◌, List, [], ◌∷◌, length, Option, Some, None, codes}
 use Rattle.std.specs.List.{list_all}
 use Rattle.std.specs.Char.{is_ascii_digit}
 use Rattle.std.specs.Option.{unwrap_or, option_map, option_and_then}
@@ -26,6 +26,9 @@ pub data Command : Type 0 where
   load : (functions : ℕ) → Command
   -- with the file of a host's calls
   host : (file calls : List ℕ) → Taken → Command
+  -- an interface with a module, and with two
+  modules : (interface file : List ℕ) → Command
+  link : (interface first second : List ℕ) → Command
 
 -- a file word is not empty and doesn't begin with `-`
 abbrev pub is_file_word : List ℕ → Bool
@@ -116,6 +119,17 @@ host_of file [] = None
 host_of file (word ∷ options) =
     option_and_then (λ calls. option_map (λ s. host file calls (taken_by s)) (settings_of options nothing_set)) (file_word word)
 
+-- `module` with an interface, where the next word names the module
+abbrev pub modules_of : (interface : List ℕ) → List (List ℕ) → Option Command
+modules_of interface (file ∷ []) = option_map (λ f. modules interface f) (file_word file)
+modules_of interface _ = None
+
+-- `link` with an interface, where the next two words name modules
+abbrev pub link_of : (interface : List ℕ) → List (List ℕ) → Option Command
+link_of interface (first ∷ second ∷ []) =
+    option_and_then (λ f. option_map (λ g. link interface f g) (file_word second)) (file_word first)
+link_of interface _ = None
+
 -- the command that the words are, if they are one
 abbrev pub command_of : List (List ℕ) → Option Command
 command_of (word ∷ file ∷ options) =
@@ -129,5 +143,13 @@ command_of (word ∷ file ∷ options) =
     else if bytes_eq word (codes "crun") then option_map (λ s. crun file (taken_by s)) (settings_of options nothing_set)
     else if bytes_eq word (codes "load") then option_and_then (λ n. without_options (load n) options) (number_within 1 MOST_FUNCTIONS file)
     else if bytes_eq word (codes "host") then host_of file options
+    else if bytes_eq word (codes "module") then modules_of file options
+    else if bytes_eq word (codes "link") then link_of file options
     else None
 command_of _ = None
+
+-- a command on modules says of which file a line is
+abbrev pub names_files : Command → Bool
+names_files (modules interface file) = true
+names_files (link interface first second) = true
+names_files command = false

@@ -2,6 +2,7 @@
 use Rattle.std.specs.Prelude.{◌≡◌, ◌≢◌, ◌⊎◌, ℕ, List, []}
 use Rattle.vlt_io.specs.Outside.{Rose, Grew, GrewByPart}
 use Rattle.vlt_io.specs.declared.sink.Sink.{Ghosts}
+use Rattle.vlt_io.specs.declared.store.Store as store
 use Rattle.vaultc_core.specs.declared.status.TheConstants.{UNREAD, SINK_FAILED, NO_MEMORY}
 use Rattle.vaultc_core.specs.Lines.{Reply, reply}
 
@@ -25,3 +26,8 @@ pub record Finishes {K : Type 0} (g : Ghosts K) (Replies : Reply → Type 0) (ol
   pub failed : status ≡ SINK_FAILED → Rose (g.faults old) (g.faults new)
   pub part : status ≡ SINK_FAILED → WrotePart g Replies old new
   pub memory : status ≡ NO_MEMORY → Grew (g.written old) (g.written new) [] ⊎ WrotePart g (Inside Replies) old new
+
+-- where no read and no write failed, this is so
+abbrev pub WithoutFault : {S K : Type 0} (g : store.Ghosts S) (k : Ghosts K) (early late : S) (before after : K) (P : Type 0) → Type 0
+WithoutFault g k early late before after P =
+    (Rose (g.faults early) (g.faults late) → ⊥) → (Rose (k.faults before) (k.faults after) → ⊥) → P

@@ -10,11 +10,10 @@ use Rattle.vlt_host.specs.CallsFile.{calls_of}
 use Rattle.vlt_host_laws.specs.Promise.{NeverGoesWrongForHosts, KeepsClauses, LeavesOnlyTheHosts}
 use Rattle.vaultc_core.specs.declared.status.TheConstants.{DONE, TRAPPED, OUT_OF_BUDGET, OUT_OF_NUMBERS}
 use Rattle.vaultc_core.specs.Commands.{Taken, host}
-use Rattle.vaultc_core.specs.Sources.{had, sources_of, read_in}
+use Rattle.vaultc_core.specs.Sources.{had, sources_of, read_in, bytes_at}
 use Rattle.vaultc_core.specs.Lines.{Reply, reply}
 use Rattle.vaultc_core.specs.Programs.{IsProgramOf}
 use Rattle.vaultc_core.specs.HostRuns.{IsReplyToHostRan}
-use Rattle.vaultc_core.specs.Replies.{bytes_at}
 
 -- a run came to its end, in one way or another
 abbrev pub IsOfARun : (status : ℕ) → Type 0

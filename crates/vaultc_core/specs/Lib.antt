@@ -11,13 +11,16 @@ pub mod HostRuns
 pub mod Verifying
 pub mod Loads
 pub mod Loading
+pub mod Modules
 pub mod Replies
 pub mod Promised
 pub mod Compiled
 pub mod Verified
 pub mod Hosted
+pub mod Linked
 pub mod Finishes
 pub mod View
 pub mod Shown
 pub mod Compilable
 pub mod Callable
+pub mod ModuleSteps

@@ -1,5 +1,5 @@
 -- What is written: a status with its text, and the lines of the texts.
-use Rattle.std.specs.Prelude.{ℕ, List, ◌++◌, codes}
+use Rattle.std.specs.Prelude.{ℕ, ◌-◌, Bool, true, false, List, ◌++◌, take, length, codes}
 use Rattle.std.specs.Fmt.{decimal}
 use Rattle.vlt_base.specs.Limits.{limit_of}
 use Rattle.vlt_base.specs.Place.{line_of, column_of}
@@ -18,7 +18,7 @@ reply status text = record { status = status; text = text }
 -- ---- lines
 
 abbrev pub usage : List ℕ
-usage = codes "usage: vaultc check F | explain F | fmt F | emit F | verify F | load N | run F OPTIONS | crun F OPTIONS | host F H OPTIONS\n"
+usage = codes "usage: vaultc check F | explain F | fmt F | emit F | verify F | load N | run F OPTIONS | crun F OPTIONS | host F H OPTIONS | module I F | link I F G\n"
 
 abbrev pub read_line : List ℕ → List ℕ
 read_line name = codes "read " ++ name ++ codes "\n"
@@ -48,6 +48,15 @@ unread_reply name = reply UNREAD (read_line name)
 -- more than the limit of this number allows
 abbrev pub over_reply : ℕ → Reply
 over_reply n = reply OVER_LIMIT (limit_line n)
+
+-- A line of one of several files says which one it is, at its end.
+abbrev pub in_file : (name : List ℕ) → Reply → Reply
+in_file name r = reply r.status (take (length r.text - 1) r.text ++ codes " in " ++ name ++ codes "\n")
+
+-- a file of this name has more bytes than the limit of this number allows
+abbrev pub long_reply : (names_files : Bool) → (name : List ℕ) → ℕ → Reply
+long_reply false name n = over_reply n
+long_reply true name n = in_file name (over_reply n)
 
 -- something is wrong with a text at a byte
 abbrev pub place_reply : (what text : List ℕ) → ℕ → Reply

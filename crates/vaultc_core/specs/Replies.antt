@@ -1,13 +1,13 @@
 -- What each command replies, in the order in which commands refuse: the words, the files with their sizes, the text, the program, the run.
-use Rattle.std.specs.Prelude.{◌≡◌, ◌≢◌, ℕ, List, [], ◌++◌, slice_index_or, Option, Some, None, ◌⊎◌}
+use Rattle.std.specs.Prelude.{◌≡◌, ◌≢◌, ℕ, Bool, List, [], ◌++◌, Option, Some, None, ◌⊎◌}
 use Rattle.vlt_io.specs.Outside.{Files, MayFail}
 use Rattle.vlt_io.specs.declared.store.Store.{Ghosts}
 use Rattle.vlt_syntax.specs.Tree.{Tree}
 use Rattle.vlt_printer.specs.Layout.{layout}
 use Rattle.vaultc_core.specs.declared.status.TheConstants.{DONE, UNREAD, SINK_FAILED, NO_MEMORY, NOT_ACCEPTED}
-use Rattle.vaultc_core.specs.Commands.{Command, check, explain, run, fmt, emit, verify, crun, load, host, command_of}
-use Rattle.vaultc_core.specs.Sources.{Read, had, unread, too_long, sources_of, read_in, MayRead}
-use Rattle.vaultc_core.specs.Lines.{Reply, reply, usage_reply, unread_reply, over_reply}
+use Rattle.vaultc_core.specs.Commands.{Command, check, explain, run, fmt, emit, verify, crun, load, host, modules, link, command_of, names_files}
+use Rattle.vaultc_core.specs.Sources.{Read, had, unread, too_long, sources_of, read_in, MayRead, bytes_at}
+use Rattle.vaultc_core.specs.Lines.{Reply, reply, usage_reply, unread_reply, long_reply}
 use Rattle.vaultc_core.specs.Texts.{Refusal, AreRefused, IsTextOf, refusal_reply}
 use Rattle.vlt_base.specs.Sure.{Surely}
 use Rattle.vlt_verdict.specs.Verdicts.{Verdict, accepted, IsVerdictOf}
@@ -22,6 +22,7 @@ use Rattle.vaultc_core.specs.HostRuns.{IsReplyToHost}
 use Rattle.vaultc_core.specs.Verifying.{IsReplyToVerify}
 use Rattle.vlt_load.specs.Generated.{generated_text}
 use Rattle.vaultc_core.specs.Loads.{IsReplyToLoad}
+use Rattle.vaultc_core.specs.Modules.{file_with, IsReplyToModule, IsReplyToLink}
 
 -- ---- a tree, with the text that it stands in
 
@@ -53,6 +54,8 @@ IsReplyToTree (run file taken) text t r = ⊥
 IsReplyToTree (crun file taken) text t r = ⊥
 IsReplyToTree (load n) text t r = ⊥
 IsReplyToTree (host file calls taken) text t r = ⊥
+IsReplyToTree (modules interface file) text t r = ⊥
+IsReplyToTree (link interface first second) text t r = ⊥
 
 -- ---- bytes
 
@@ -70,10 +73,6 @@ IsReplyToRunText P bytes r = IsReplyByTree (IsReplyToRun P bytes) bytes r
 abbrev pub IsReplyToMade : (n : ℕ) → List ℕ → Reply → Type 0
 IsReplyToMade n bytes r = IsReplyByTree (IsReplyToLoad n bytes) bytes r
 
--- the bytes of the file at a position
-abbrev pub bytes_at : List (List ℕ) → ℕ → List ℕ
-bytes_at contents n = slice_index_or contents n []
-
 -- what a command replies to the bytes of its files; `load` has none, and makes its text
 abbrev pub IsReplyToContents : Command → List (List ℕ) → Reply → Type 0
 IsReplyToContents (verify file) contents r = IsReplyToVerify (bytes_at contents 0) r
@@ -86,16 +85,20 @@ IsReplyToContents (host file calls taken) contents r =
     IsReplyToRunText
     (λ p q. IsReplyToHost p (calls_of (bytes_at contents 1)) (given_by (bytes_at contents 2) (bytes_at contents 3)) taken.budgets q)
     (bytes_at contents 0) r
+IsReplyToContents (modules interface file) contents r =
+    IsReplyToModule (file_with interface (bytes_at contents 0)) (file_with file (bytes_at contents 1)) r
+IsReplyToContents (link interface first second) contents r =
+    IsReplyToLink (file_with interface (bytes_at contents 0)) (file_with first (bytes_at contents 1)) (file_with second (bytes_at contents 2)) r
 IsReplyToContents command contents r = IsReplyToText command (bytes_at contents 0) r
 
 -- what is replied to what reading files came to, where these are the replies to the bytes of all
-abbrev pub IsReplyOver : (List (List ℕ) → Reply → Type 0) → Read → Reply → Type 0
-IsReplyOver Replies (had contents) r = Replies contents r
-IsReplyOver Replies (unread name) r = r ≡ unread_reply name
-IsReplyOver Replies (too_long n) r = r ≡ over_reply n
+abbrev pub IsReplyOver : (names_files : Bool) → (List (List ℕ) → Reply → Type 0) → Read → Reply → Type 0
+IsReplyOver names Replies (had contents) r = Replies contents r
+IsReplyOver names Replies (unread name) r = r ≡ unread_reply name
+IsReplyOver names Replies (too_long name n) r = r ≡ long_reply names name n
 
 abbrev pub IsReplyToRead : Command → Read → Reply → Type 0
-IsReplyToRead command x r = IsReplyOver (IsReplyToContents command) x r
+IsReplyToRead command x r = IsReplyOver (names_files command) (IsReplyToContents command) x r
 
 -- ---- one reply
 

@@ -3,7 +3,7 @@ use Rattle.std.specs.Prelude.{ℕ, List}
 use Rattle.std.specs.Option.{option_map}
 use Rattle.vaultc_core.specs.Commands as commands
 use Rattle.vaultc_core.specs.declared.words.Command.{Command}
-use Rattle.vaultc_core.specs.declared.words.Command.TheVariants.{Text, Verify, Run, C, Load, Host}
+use Rattle.vaultc_core.specs.declared.words.Command.TheVariants.{Text, Verify, Run, C, Load, Host, Module, Link}
 use Rattle.vaultc_core.specs.declared.words.TextCommand.{TextCommand}
 use Rattle.vaultc_core.specs.declared.words.TextCommand.TheVariants.{Check, Explain, Fmt, Emit}
 use Rattle.vaultc_core.specs.declared.words.Setting.{Setting}
@@ -47,3 +47,5 @@ seen_command (Run file taken) = commands.run file.now (seen_taken taken)
 seen_command (C file taken) = commands.crun file.now (seen_taken taken)
 seen_command (Load functions) = commands.load functions.count
 seen_command (Host file calls taken) = commands.host file.now calls.now (seen_taken taken)
+seen_command (Module interface file) = commands.modules interface.now file.now
+seen_command (Link interface first second) = commands.link interface.now first.now second.now

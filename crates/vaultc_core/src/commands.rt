@@ -16,15 +16,20 @@ ghost use Rattle.vaultc_core.specs.Texts.{IsTooLong, IsTextOf};
 ghost use Rattle.vaultc_core.specs.Replies.{IsReplyToText, IsReplyToRunText, MayReply};
 ghost use Rattle.vaultc_core.specs.Finishes.{Finishes};
 ghost use Rattle.vaultc_core.specs.View.{seen_command, seen_taken, seen_text};
-ghost use Rattle.vaultc_core.specs.Shown.{AreShort, IsJudged, IsReplyToCaller, IsShortCaller, is_accepted, shown_reply};
+ghost use Rattle.vaultc_core.specs.Shown.{AreShort, IsJudged, IsReplyToCaller, IsShortCaller, is_accepted, shown_reply, AreShortModules, AreShortLinked};
+ghost use Rattle.vaultc_core.specs.Modules.{file_with, IsReplyToModule, IsReplyToLink};
 
 use crate::c_runs::run_c;
 use crate::emit::{accepted, compiled};
 use crate::explain::explained;
-use crate::files::{RunFiles, read_file, read_host_files, read_run_files};
+use crate::files::{
+    LinkFiles, ModuleFiles, RunFiles, read_file, read_host_files, read_link_files,
+    read_module_files, read_run_files,
+};
 use crate::host_runs::run_host;
-use crate::lines::{USAGE, laid_out, not_had, refusal, verdict};
+use crate::lines::{USAGE, laid_out, not_had, not_had_in, refusal, verdict};
 use crate::load::load;
+use crate::modules::{NamedText, link_reply, module_reply};
 use crate::reply::Reply;
 use crate::runs::{Caller, run_program};
 use crate::source::read_tree;
@@ -287,6 +292,95 @@ fn reply_to_c<S: Store, K: Sink>(
     }
 }
 
+/// What `module` says of these files.
+fn module_of(
+    alloc: Global,
+    interface: &str,
+    own: &str,
+    files: &ModuleFiles,
+) -> Result<Reply, AllocError>
+    requires { AreShortModules files.now }
+    ensures { IfOk result (λ r. IsReplyToModule
+        (file_with interface.now files.now.interface.items)
+        (file_with own.now files.now.own.items) (shown_reply r)) }
+{
+    let interface = NamedText {
+        name: interface,
+        bytes: files.interface.as_slice(),
+    };
+    let own = NamedText {
+        name: own,
+        bytes: files.own.as_slice(),
+    };
+    module_reply(alloc, interface, own)
+}
+
+/// Reads the files of an interface and a module, and tests these.
+fn reply_to_module<S: Store, K: Sink>(
+    alloc: Global,
+    interface: &str,
+    own: &str,
+    store: &mut S,
+    out: &mut K,
+) -> u8
+    ensures { Finishes K.Sink
+        (MayReply S.Store store.old store.new (Some (c.modules interface.now own.now)))
+        out.old out.new result }
+{
+    match read_module_files(alloc, store, interface, own) {
+        Ok(files) => finish_reply(out, module_of(alloc, interface, own, &files)),
+        Err(error) => finish_reply(out, not_had_in(alloc, error)),
+    }
+}
+
+/// What `link` says of these files.
+fn link_of(
+    alloc: Global,
+    interface: &str,
+    first: &str,
+    second: &str,
+    files: &LinkFiles,
+) -> Result<Reply, AllocError>
+    requires { AreShortLinked files.now }
+    ensures { IfOk result (λ r. IsReplyToLink
+        (file_with interface.now files.now.interface.items)
+        (file_with first.now files.now.first.items)
+        (file_with second.now files.now.second.items) (shown_reply r)) }
+{
+    let interface = NamedText {
+        name: interface,
+        bytes: files.interface.as_slice(),
+    };
+    let first = NamedText {
+        name: first,
+        bytes: files.first.as_slice(),
+    };
+    let second = NamedText {
+        name: second,
+        bytes: files.second.as_slice(),
+    };
+    link_reply(alloc, interface, first, second)
+}
+
+/// Reads the files of an interface and two modules, and links these.
+fn reply_to_link<S: Store, K: Sink>(
+    alloc: Global,
+    interface: &str,
+    first: &str,
+    second: &str,
+    store: &mut S,
+    out: &mut K,
+) -> u8
+    ensures { Finishes K.Sink
+        (MayReply S.Store store.old store.new (Some (c.link interface.now first.now second.now)))
+        out.old out.new result }
+{
+    match read_link_files(alloc, store, interface, first, second) {
+        Ok(files) => finish_reply(out, link_of(alloc, interface, first, second, &files)),
+        Err(error) => finish_reply(out, not_had_in(alloc, error)),
+    }
+}
+
 /// Reads the files of a command, and carries the command out.
 fn reply_to_command<S: Store, K: Sink>(
     alloc: Global,
@@ -305,6 +399,10 @@ fn reply_to_command<S: Store, K: Sink>(
         Command::C(name, taken) => reply_to_c(alloc, name, taken, store, out),
         Command::Load(functions) => load(alloc, functions, out),
         Command::Host(name, calls, taken) => reply_to_host(alloc, name, calls, taken, store, out),
+        Command::Module(interface, own) => reply_to_module(alloc, interface, own, store, out),
+        Command::Link(interface, first, second) => {
+            reply_to_link(alloc, interface, first, second, store, out)
+        }
     }
 }
 

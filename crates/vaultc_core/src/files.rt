@@ -3,7 +3,7 @@
 ghost use Rattle.std.specs.Prelude.{◌<◌, ◌≤◌, ◌^◌, [], ◌∷◌, Some, IfErr, IfOk, IfSome, option_map};
 ghost use Rattle.vlt_base.specs.declared.limits.TheConstants as limits;
 ghost use Rattle.vaultc_core.specs.Sources.{MayRead, IsOver, numbers_in, run_sources, sources_of};
-ghost use Rattle.vaultc_core.specs.Shown.{AreShort, AreShortForHost, IsNumbered, seen_file, seen_files, seen_host_files};
+ghost use Rattle.vaultc_core.specs.Shown.{AreShort, AreShortForHost, IsNumbered, seen_file, seen_files, seen_host_files, seen_module_files, seen_link_files, AreShortModules, AreShortLinked};
 ghost use Rattle.vlt_base.specs.Limits.{limit_of};
 ghost use Rattle.vaultc_core.specs.Commands as c;
 ghost use Rattle.vaultc_core.specs.View.{seen_taken};
@@ -20,9 +20,9 @@ pub enum FileError<'a> {
     /// There is no file of this name, or reading it failed.
     #[error("the file isn't read")]
     Unread(&'a str),
-    /// A file has more bytes than the limit of this number allows.
+    /// The file of this name has more bytes than the limit of this number allows.
     #[error("the file is too long")]
-    TooLong(u8),
+    TooLong(&'a str, u8),
     #[error("there was no memory for the file")]
     Memory,
 }
@@ -44,7 +44,7 @@ pub fn read_file<'a, S: Store>(
 {
     let most = limit(number) as usize;
     match store.read(alloc, name, most) {
-        Ok(bytes) if bytes.len() > most => Err(FileError::TooLong(number)),
+        Ok(bytes) if bytes.len() > most => Err(FileError::TooLong(name, number)),
         Ok(bytes) => Ok(bytes),
         Err(StoreError::Failed) => Err(FileError::Unread(name)),
         Err(StoreError::Memory) => Err(FileError::Memory),
@@ -133,5 +133,60 @@ pub fn read_host_files<'a, S: Store>(
             answers,
         },
         calls,
+    })
+}
+
+/// The bytes of the files of `module`.
+#[derive(Drop)]
+pub struct ModuleFiles {
+    pub interface: Vec<u8>,
+    pub own: Vec<u8>,
+}
+
+/// Reads the files of an interface and a module, one after another.
+pub fn read_module_files<'a, S: Store>(
+    alloc: Global,
+    store: &mut S,
+    interface: &'a str,
+    file: &'a str,
+) -> Result<ModuleFiles, FileError<'a>>
+    ensures read { IfSome (seen_module_files result) (MayRead S.Store store.old store.new
+        (sources_of (c.modules interface.now file.now))) }
+    ensures short { IfOk result AreShortModules }
+    ensures numbered { IfErr result IsNumbered }
+{
+    let interface = read_file(alloc, store, interface, SOURCE_BYTES)?;
+    let own = read_file(alloc, store, file, SOURCE_BYTES)?;
+    Ok(ModuleFiles { interface, own })
+}
+
+/// The bytes of the files of `link`.
+#[derive(Drop)]
+pub struct LinkFiles {
+    pub interface: Vec<u8>,
+    pub first: Vec<u8>,
+    pub second: Vec<u8>,
+}
+
+/// Reads the files of an interface and two modules, one after another.
+pub fn read_link_files<'a, S: Store>(
+    alloc: Global,
+    store: &mut S,
+    interface: &'a str,
+    first: &'a str,
+    second: &'a str,
+) -> Result<LinkFiles, FileError<'a>>
+    ensures read { IfSome (seen_link_files result) (MayRead S.Store store.old store.new
+        (sources_of (c.link interface.now first.now second.now))) }
+    ensures short { IfOk result AreShortLinked }
+    ensures numbered { IfErr result IsNumbered }
+{
+    let interface = read_file(alloc, store, interface, SOURCE_BYTES)?;
+    let first = read_file(alloc, store, first, SOURCE_BYTES)?;
+    let second = read_file(alloc, store, second, SOURCE_BYTES)?;
+    Ok(LinkFiles {
+        interface,
+        first,
+        second,
     })
 }

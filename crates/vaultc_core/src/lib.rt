@@ -14,12 +14,13 @@ ghost use Rattle.vaultc_core.specs.declared.status.TheConstants.{DONE, NO_COMMAN
 ghost use Rattle.vaultc_core.specs.Texts.{AreReadInOneWay};
 ghost use Rattle.vaultc_core.specs.Programs.{IsProgramOf};
 ghost use Rattle.vaultc_core.specs.Replies.{HasOneReply, HasSomeReply, IsReplyTo, IsInside, IsUnread, MayReply};
-ghost use Rattle.vaultc_core.specs.Sources.{IsOneRead, MayRead, c_text_in, had, sources_of, text_in};
-ghost use Rattle.vaultc_core.specs.Finishes.{Finishes, WrotePart, WroteReply};
+ghost use Rattle.vaultc_core.specs.Sources.{AllRead, IsOneRead, c_text_in, text_in};
+ghost use Rattle.vaultc_core.specs.Finishes.{Finishes, WithoutFault, WrotePart, WroteReply};
 ghost use Rattle.vaultc_core.specs.Promised.{IsPromised};
 ghost use Rattle.vaultc_core.specs.Compiled.{IsCompiled};
 ghost use Rattle.vaultc_core.specs.Verified.{IsVerified};
 ghost use Rattle.vaultc_core.specs.Hosted.{IsHosted, IsOfARun};
+ghost use Rattle.vaultc_core.specs.Linked.{IsLinked};
 
 mod c_runs;
 mod commands;
@@ -31,6 +32,7 @@ mod host_runs;
 mod kept;
 mod lines;
 mod load;
+mod modules;
 mod reply;
 mod runs;
 mod source;
@@ -44,6 +46,7 @@ use c_lower_printed::accepted_texts_are_read_again;
 use c_reader_laws::texts_are_read_in_one_way;
 use cert_least_laws::least_certificates_are_one;
 use cert_least_texts::accepted_texts_have_one;
+use cert_link_laws::joined_programs_are_of_texts;
 use cert_verify::texts_verify_in_one_way;
 use cert_verify_laws::{
     c_files_verify_in_some_way, emitted_files_verify, verified_files_keep_their_promise,
@@ -56,77 +59,79 @@ use vlt_sound::accepted_programs_go_right;
 use vlt_verdict::{
     a_tree_has_one_verdict, a_tree_has_some_verdict, programs_are_fit, texts_have_text_trees,
 };
+use vlt_view_verdict::{a_view_has_one_verdict, a_view_has_some_verdict, accepted_modules_link};
 
 /// Carries out the command that the words are, and gives its status.
 ///
-/// It reads files from the store and writes all its lines to the sink.
+/// It reads files from the store and writes all its lines to the sink. What its clauses say:
+///
+/// - `every_store`: whatever the store, the status and the text are a reply to what reading the command's files came to, one after another.
+/// - `told`: of a store that tells its files, they are the reply to its files.
+/// - `promised`: `check` gives 0 only for bytes of a program that follows the rules, and no run of that one goes wrong.
+/// - `compiled`: `emit` gives 0 only for bytes of such a program, and the C text that it writes stands for a program that does the same.
+/// - `verified`: `verify` gives 0 only for bytes of a C file whose certificate says such a program, of which its C text is the lowering.
+/// - `hosted`: `host` has the status of a run only for bytes of such a program and of calls: what it writes is what these calls come to, and no host makes the
+///   program go wrong.
+/// - `linked`: `link` gives 0 only for the texts of an interface and two modules that are together such a program; it writes of it what `emit` writes.
+/// - `accepts`: with the file there, its bytes those of an accepted program, and no fault, `check` gives 0 unless memory runs out.
+/// - `no_fault`: with no fault, a reply to the store's files is written whole, unless memory runs out.
+/// - `complete`: with no fault, the status is that of the reply, unless memory runs out.
+/// - `usage`, `no_command`: 1 is for words that are no command; they have the usage line, or a part of it where the sink failed.
+/// - `unread`: 2 is for a file of the command that wasn't read, and that is written.
+/// - `failed`: 3 is for a sink that failed.
+/// - `memory`: after 4 nothing was written, or a part of a reply to the store's files.
 pub fn vaultc<S: Store, K: Sink>(alloc: Global, words: &[String], store: &mut S, out: &mut K) -> u8
-    // Whatever the store: the status and the text are a reply to what reading the command's files came to, one after another.
     ensures every_store { Finishes K.Sink
         (MayReply S.Store store.old store.new (command_of (map string_bytes words.now)))
         out.old out.new result }
-    // Of a store that tells its files, the status and the text are the reply to its files.
     ensures told { (files : Files) → S.files store.old ≡ Some files → IsInside result →
         WroteReply K.Sink (IsReplyTo (map string_bytes words.now) files) out.old out.new result }
-    // `check` gives 0 only for bytes of a program that follows the rules, and no run of that one goes wrong.
     ensures promised { (file : List ℕ) →
         command_of (map string_bytes words.now) ≡ Some (commands.check file) → result ≡ DONE →
         (bytes : List ℕ) × IsOneRead S.Store store.old store.new (text_in file) bytes
         × IsPromised (S.files store.old) file bytes (K.written out.old) (K.written out.new) }
-    // `emit` gives 0 only for bytes of such a program, and the C text that it writes stands for a program that does the same.
     ensures compiled { (file : List ℕ) →
         command_of (map string_bytes words.now) ≡ Some (commands.emit file) → result ≡ DONE →
         (bytes : List ℕ) × IsOneRead S.Store store.old store.new (text_in file) bytes
         × IsCompiled (S.files store.old) file bytes (K.written out.old) (K.written out.new) }
-    // `verify` gives 0 only for bytes of a C file whose certificate says such a program, of which its C text is the lowering.
     ensures verified { (file : List ℕ) →
         command_of (map string_bytes words.now) ≡ Some (commands.verify file) → result ≡ DONE →
         (bytes : List ℕ) × IsOneRead S.Store store.old store.new (c_text_in file) bytes
         × IsVerified (S.files store.old) file bytes (K.written out.old) (K.written out.new) }
-    // `host` has the status of a run only for bytes of such a program and of calls: what it writes is what these calls come to, and no host
-    // makes the program go wrong.
     ensures hosted { (file calls : List ℕ) (taken : commands.Taken) →
         command_of (map string_bytes words.now) ≡ Some (commands.host file calls taken) →
-        IsOfARun result →
-        (contents : List (List ℕ))
-        × MayRead S.Store store.old store.new (sources_of (commands.host file calls taken))
-        (had contents)
-        × IsHosted (S.files store.old) file calls taken contents result
-        (K.written out.old) (K.written out.new) }
-    // With the file there, its bytes those of an accepted program, and no fault, `check` gives 0 unless memory is wanting.
+        IsOfARun result → AllRead S.Store store.old store.new (commands.host file calls taken)
+        (λ contents. IsHosted (S.files store.old) file calls taken contents result
+        (K.written out.old) (K.written out.new)) }
+    ensures linked { (interface first second : List ℕ) →
+        command_of (map string_bytes words.now) ≡ Some (commands.link interface first second) →
+        result ≡ DONE →
+        AllRead S.Store store.old store.new (commands.link interface first second)
+        (λ contents. IsLinked (S.files store.old) (commands.link interface first second) contents
+        (K.written out.old) (K.written out.new)) }
     ensures accepts { (files : Files) (file bytes : List ℕ) (p : Program) →
         S.files store.old ≡ Some files →
         command_of (map string_bytes words.now) ≡ Some (commands.check file) →
-        files file ≡ Some bytes →
-        IsProgramOf bytes p → IsAccepted p →
-        ¬ (Rose (S.faults store.old) (S.faults store.new)) →
-        ¬ (Rose (K.faults out.old) (K.faults out.new)) → (result ≡ DONE) ⊎ (result ≡ NO_MEMORY) }
-    // With no fault, a reply to the store's files is written whole, unless memory is wanting.
+        files file ≡ Some bytes → IsProgramOf bytes p → IsAccepted p →
+        WithoutFault S.Store K.Sink store.old store.new out.old out.new
+        ((result ≡ DONE) ⊎ (result ≡ NO_MEMORY)) }
     ensures no_fault { (files : Files) → S.files store.old ≡ Some files →
-        ¬ (Rose (S.faults store.old) (S.faults store.new)) →
-        ¬ (Rose (K.faults out.old) (K.faults out.new)) →
-        WroteReply K.Sink (IsReplyTo (map string_bytes words.now) files) out.old out.new result
-        ⊎ (result ≡ NO_MEMORY) }
-    // With no fault, the status is that of the reply, unless memory is wanting.
+        WithoutFault S.Store K.Sink store.old store.new out.old out.new
+        (WroteReply K.Sink (IsReplyTo (map string_bytes words.now) files) out.old out.new result
+        ⊎ (result ≡ NO_MEMORY)) }
     ensures complete { (files : Files) (r : lines.Reply) → S.files store.old ≡ Some files →
         IsReplyTo (map string_bytes words.now) files r →
-        ¬ (Rose (S.faults store.old) (S.faults store.new)) →
-        ¬ (Rose (K.faults out.old) (K.faults out.new)) →
-        (result ≡ r.status) ⊎ (result ≡ NO_MEMORY) }
-    // The words are no command.
+        WithoutFault S.Store K.Sink store.old store.new out.old out.new
+        ((result ≡ r.status) ⊎ (result ≡ NO_MEMORY)) }
     ensures usage { result ≡ NO_COMMAND → command_of (map string_bytes words.now) ≡ None }
-    // Words that are no command have the usage line, or a part of it where the sink failed.
     ensures no_command { command_of (map string_bytes words.now) ≡ None →
         ((result ≡ NO_COMMAND) × Grew (K.written out.old) (K.written out.new) lines.usage)
         ⊎ ((result ≡ SINK_FAILED) ×
         GrewByPart (K.written out.old) (K.written out.new) lines.usage) }
-    // A file of the command wasn't read, and that is written.
     ensures unread { result ≡ UNREAD →
         (command : commands.Command) × (command_of (map string_bytes words.now) ≡ Some command)
         × WroteReply K.Sink (IsUnread S.Store store.old store.new command) out.old out.new UNREAD }
-    // The sink failed.
     ensures failed { result ≡ SINK_FAILED → Rose (K.faults out.old) (K.faults out.new) }
-    // Memory was wanting: nothing was written, or a part of a reply to the store's files.
     ensures memory { (files : Files) → S.files store.old ≡ Some files →
         result ≡ NO_MEMORY → Grew (K.written out.old) (K.written out.new) [] ⊎
         WrotePart K.Sink (IsReplyTo (map string_bytes words.now) files) out.old
@@ -144,6 +149,9 @@ pub fn vaultc<S: Store, K: Sink>(alloc: Global, words: &[String], store: &mut S,
     texts_verify_in_one_way();
     verified_files_keep_their_promise();
     hosts_of_accepted_programs_go_right();
+    a_view_has_one_verdict();
+    accepted_modules_link();
+    joined_programs_are_of_texts();
     commands::carry_out(alloc, words, store, out)
 }
 
@@ -152,6 +160,7 @@ pub fn a_command_has_one_reply()
     ensures { HasOneReply }
 {
     a_tree_has_one_verdict();
+    a_view_has_one_verdict();
     texts_have_text_trees();
     texts_are_read_in_one_way();
     least_certificates_are_one();
@@ -163,6 +172,9 @@ pub fn a_command_has_some_reply()
     ensures { HasSomeReply }
 {
     a_tree_has_some_verdict();
+    a_view_has_some_verdict();
+    accepted_modules_link();
+    joined_programs_are_of_texts();
     programs_are_fit();
     accepted_programs_go_right();
     hosts_of_accepted_programs_go_right();

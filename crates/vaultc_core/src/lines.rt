@@ -1,6 +1,6 @@
 //! The lines: a reply for each refusal, each verdict and each layout.
 
-ghost use Rattle.std.specs.Prelude.{◌≡◌, ◌<◌, ◌≤◌, ◌^◌, ◌-◌, length, IfOk, IfSome, MatchOption, Some, option_map};
+ghost use Rattle.std.specs.Prelude.{◌≡◌, ◌<◌, ◌≤◌, ◌^◌, ◌-◌, length, IfOk, IfSome, MatchOption, Some, false, true, option_map};
 ghost use Rattle.vlt_syntax.specs.View.{tree_of};
 ghost use Rattle.vlt_printer.specs.Layout.{layout};
 ghost use Rattle.vaultc_core.specs.declared.status.TheConstants.{OUT_OF_NUMBERS};
@@ -32,7 +32,7 @@ use vlt_verdict::Verdict;
 
 /// What is written where the words are no command.
 pub const USAGE: &str =
-    "usage: vaultc check F | explain F | fmt F | emit F | verify F | load N | run F OPTIONS | crun F OPTIONS | host F H OPTIONS\n";
+    "usage: vaultc check F | explain F | fmt F | emit F | verify F | load N | run F OPTIONS | crun F OPTIONS | host F H OPTIONS | module I F | link I F G\n";
 
 /// There is more of something than the limit of this number allows.
 pub fn over_limit(alloc: Global, number: u8) -> Result<Reply, AllocError>
@@ -51,15 +51,39 @@ pub fn over_limit(alloc: Global, number: u8) -> Result<Reply, AllocError>
 pub fn not_had(alloc: Global, error: FileError<'_>) -> Result<Reply, AllocError>
     requires { IsNumbered error }
     ensures { IfOk result (λ r. MatchOption (error_seen error.entry) ⊥ (λ x.
-        IsReplyOver (λ _ _. ⊥) x (shown_reply r))) }
+        IsReplyOver false (λ _ _. ⊥) x (shown_reply r))) }
 {
     match error {
         FileError::Unread(name) => Ok(Reply {
             status: UNREAD,
             text: format!(in alloc; "read {name}\n")?.into_bytes(),
         }),
-        FileError::TooLong(number) => over_limit(alloc, number),
+        FileError::TooLong(_, number) => over_limit(alloc, number),
         FileError::Memory => Err(AllocError),
+    }
+}
+
+/// The reply, whose line says at its end of which file it is.
+pub fn in_file(reply: Reply, name: &str) -> Result<Reply, AllocError>
+    ensures { IfOk result (λ r. shown_reply r ≡ l.in_file name.now (shown_reply reply)) }
+{
+    let Reply { status, mut text } = reply;
+    text.pop();
+    text.extend_from_slice(b" in ")?;
+    text.extend_from_slice(name.as_bytes())?;
+    text.push(b'\n')?;
+    Ok(Reply { status, text })
+}
+
+/// The bytes of files of modules aren't had, for this reason.
+pub fn not_had_in(alloc: Global, error: FileError<'_>) -> Result<Reply, AllocError>
+    requires { IsNumbered error }
+    ensures { IfOk result (λ r. MatchOption (error_seen error.entry) ⊥ (λ x.
+        IsReplyOver true (λ _ _. ⊥) x (shown_reply r))) }
+{
+    match error {
+        FileError::TooLong(name, number) => in_file(over_limit(alloc, number)?, name),
+        other => not_had(alloc, other),
     }
 }
 

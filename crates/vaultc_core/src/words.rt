@@ -5,7 +5,7 @@ ghost use Rattle.std.specs.Option.{option_and_then};
 ghost use Rattle.std.specs.List.{list_all};
 ghost use Rattle.std.specs.Char.{is_ascii_digit};
 ghost use Rattle.vaultc_core.specs.Commands as c;
-ghost use Rattle.vaultc_core.specs.Commands.{command_of, budgets_of, is_file_word, file_word, number_within, setting_of, with_setting, settings_of, nothing_set, taken_by, without_options, host_of};
+ghost use Rattle.vaultc_core.specs.Commands.{command_of, budgets_of, is_file_word, file_word, number_within, setting_of, with_setting, settings_of, nothing_set, taken_by, without_options, host_of, modules_of, link_of};
 ghost use Rattle.vaultc_core.specs.View.{seen_command, seen_text, seen_setting, seen_settings, seen_taken};
 
 use crate::generated::{Functions, MOST_FUNCTIONS};
@@ -64,6 +64,10 @@ pub enum Command<'a> {
     Load(Functions),
     /// Makes the calls of the second file on the program of a text.
     Host(&'a str, &'a str, Taken<'a>),
+    /// Tests an interface with a module.
+    Module(&'a str, &'a str),
+    /// Joins an interface and two modules, and compiles what they are.
+    Link(&'a str, &'a str, &'a str),
 }
 
 /// An option with its value.
@@ -278,6 +282,30 @@ fn read_host<'a>(file: &'a str, words: &'a [String]) -> Option<Command<'a>>
     Some(Command::Host(file, calls, settings.taken()))
 }
 
+/// `module` with this interface, where the next word names the module.
+fn read_modules<'a>(interface: &'a str, words: &'a [String]) -> Option<Command<'a>>
+    ensures { option_map seen_command result
+        ≡ modules_of interface.now (map string_bytes words.now) }
+{
+    let [file] = words else {
+        return None;
+    };
+    Some(Command::Module(interface, read_name(file.as_str())?))
+}
+
+/// `link` with this interface, where the next two words name modules.
+fn read_link<'a>(interface: &'a str, words: &'a [String]) -> Option<Command<'a>>
+    ensures { option_map seen_command result
+        ≡ link_of interface.now (map string_bytes words.now) }
+{
+    let [first, second] = words else {
+        return None;
+    };
+    let first = read_name(first.as_str())?;
+    let second = read_name(second.as_str())?;
+    Some(Command::Link(interface, first, second))
+}
+
 /// The command that the words are, if they are one.
 pub fn read_command(words: &[String]) -> Option<Command<'_>>
     ensures { option_map seen_command result ≡ command_of (map string_bytes words.now) }
@@ -304,6 +332,8 @@ pub fn read_command(words: &[String]) -> Option<Command<'_>>
         }
         "load" => read_load(file.as_str(), options),
         "host" => read_host(file.as_str(), options),
+        "module" => read_modules(file.as_str(), options),
+        "link" => read_link(file.as_str(), options),
         _ => None,
     }
 }

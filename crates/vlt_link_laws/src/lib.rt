@@ -1,6 +1,6 @@
 //! Laws of joined modules: nothing goes in and nothing comes out.
 //! Read `specs/Link.antt` first; `vlt_views/specs` has the kinds and the program of a view.
-//! Used by: verdicts on views. What is accepted in both views is accepted in the joined program.
+//! Used by: verdicts on views, and the commands for modules. What is accepted in both views is accepted in the joined program.
 #![tactic(auto)]
 
 ghost use Rattle.vlt_link_laws.specs.Link.{AcceptedViewsLink, JoinedTokensAreThoseOfFiles, TestedViewsLink, ToldJoinsAreTextTrees, ToldViewsAreTrees, ViewProgramsAreJudgeable, ViewProgramsAreKinded};

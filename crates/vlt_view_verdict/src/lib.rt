@@ -1,6 +1,6 @@
 //! Verdicts on views: the view of an interface with a module goes in, what it is as a program comes out.
 //! Read `specs/Verdicts.antt` first, and `vlt_verdict/specs/Verdicts.antt`.
-//! Used by: nothing yet; commands on modules will reply by it. By its two laws a view of texts has one verdict.
+//! Used by: the replies of `module` and `link`. By its two laws a view of texts has one verdict.
 #![tactic(auto)]
 
 ghost use Rattle.std.specs.Prelude.{IfOk};

@@ -12,4 +12,10 @@ returns c = some_of_read (record {
   c_texts = c.texts_are_read_in_one_way.ensures;
   certificates = c.accepted_texts_have_one.ensures;
   verified = c.c_files_verify_in_some_way.ensures;
+  views = c.a_view_has_some_verdict.ensures;
+  linked = record {
+    trees = c.texts_have_text_trees.ensures;
+    link = c.accepted_modules_link.ensures;
+    texts = c.joined_programs_are_of_texts.ensures;
+  };
 })

@@ -5,6 +5,8 @@ use Rattle.vaultc_core.proofs.Promises.{GoRight, promised, accepts}
 use Rattle.vaultc_core.proofs.Compiles.{Laws, compiled}
 use Rattle.vaultc_core.proofs.Verifies.{verified}
 use Rattle.vaultc_core.proofs.Hosts.{GoRightForHosts, hosted}
+use Rattle.vaultc_core.proofs.Linked.{LinkLaws}
+use Rattle.vaultc_core.proofs.Links.{linked}
 use Rattle.vaultc_core.proofs.Told.{told, memory, complete, no_fault, usage, unread_told}
 use Rattle.vaultc_core.proofs.vaultc.Goals as goal
 
@@ -14,7 +16,7 @@ returns-clause-told g c = λ files.
 
 pub returns-clause-complete : goal.returns-clause-complete
 returns-clause-complete g c = λ files r.
-    complete (record { one = c.a_tree_has_one_verdict.ensures; trees = c.texts_have_text_trees.ensures; c_texts = c.texts_are_read_in_one_way.ensures; certificates = c.least_certificates_are_one.ensures; verified = c.texts_verify_in_one_way.ensures }) g.S.Store g.K.Sink c.args.store.now c.carry_out.new.store c.args.out.now c.carry_out.new.out (command_of (map string_bytes c.args.words.now)) c.carry_out.result files r c.carry_out.ensures.finishes
+    complete (record { one = c.a_tree_has_one_verdict.ensures; trees = c.texts_have_text_trees.ensures; c_texts = c.texts_are_read_in_one_way.ensures; certificates = c.least_certificates_are_one.ensures; verified = c.texts_verify_in_one_way.ensures; views = c.a_view_has_one_verdict.ensures }) g.S.Store g.K.Sink c.args.store.now c.carry_out.new.store c.args.out.now c.carry_out.new.out (command_of (map string_bytes c.args.words.now)) c.carry_out.result files r c.carry_out.ensures.finishes
 
 pub returns-clause-memory : goal.returns-clause-memory
 returns-clause-memory g c = λ files.
@@ -56,9 +58,30 @@ returns-clause-hosted g c =
     hosted c.programs_are_fit.ensures c.texts_have_text_trees.ensures right g.S.Store c.args.store.now c.carry_out.new.store g.K.Sink c.args.out.now c.carry_out.new.out
     (command_of (map string_bytes c.args.words.now)) c.carry_out.result c.carry_out.ensures.finishes
 
+pub returns-clause-linked : goal.returns-clause-linked
+returns-clause-linked g c =
+    let right : GoRight = record {
+      never = c.accepted_programs_go_right.ensures.never;
+      leaves = c.accepted_programs_go_right.ensures.leaves;
+    } in
+    let laws : Laws = record {
+      trees = c.texts_have_text_trees.ensures;
+      alike = c.trees_are_lowered_rightly.ensures.alike;
+      defined = c.trees_are_lowered_rightly.ensures.defined;
+      again = c.accepted_texts_are_read_again.ensures;
+      verify = c.emitted_files_verify.ensures;
+    } in
+    let modules : LinkLaws = record {
+      trees = c.texts_have_text_trees.ensures;
+      link = c.accepted_modules_link.ensures;
+      texts = c.joined_programs_are_of_texts.ensures;
+    } in
+    linked c.programs_are_fit.ensures right laws modules g.S.Store g.K.Sink c.args.store.now c.carry_out.new.store c.args.out.now c.carry_out.new.out
+    (command_of (map string_bytes c.args.words.now)) c.carry_out.result c.carry_out.ensures.finishes
+
 pub returns-clause-accepts : goal.returns-clause-accepts
 returns-clause-accepts g c =
-    accepts (record { one = c.a_tree_has_one_verdict.ensures; trees = c.texts_have_text_trees.ensures; c_texts = c.texts_are_read_in_one_way.ensures; certificates = c.least_certificates_are_one.ensures; verified = c.texts_verify_in_one_way.ensures }) g.S.Store g.K.Sink c.args.store.now c.carry_out.new.store c.args.out.now c.carry_out.new.out
+    accepts (record { one = c.a_tree_has_one_verdict.ensures; trees = c.texts_have_text_trees.ensures; c_texts = c.texts_are_read_in_one_way.ensures; certificates = c.least_certificates_are_one.ensures; verified = c.texts_verify_in_one_way.ensures; views = c.a_view_has_one_verdict.ensures }) g.S.Store g.K.Sink c.args.store.now c.carry_out.new.store c.args.out.now c.carry_out.new.out
     (command_of (map string_bytes c.args.words.now)) c.carry_out.result c.carry_out.ensures.finishes
 
 pub returns-clause-no_fault : goal.returns-clause-no_fault

@@ -40,3 +40,13 @@ pub returns-in-Host : goal.returns-in-Host
 returns-in-Host g c =
     subst (λ k. Finishes g.K.Sink (MayReply g.S.Store c.args.store.now c.reply_to_host.new.store (Some (seen_command k))) c.args.out.now c.reply_to_host.new.out c.reply_to_host.result)
     (sym c.in-Host.is) c.reply_to_host.ensures
+
+pub returns-in-Module : goal.returns-in-Module
+returns-in-Module g c =
+    subst (λ k. Finishes g.K.Sink (MayReply g.S.Store c.args.store.now c.reply_to_module.new.store (Some (seen_command k))) c.args.out.now c.reply_to_module.new.out c.reply_to_module.result)
+    (sym c.in-Module.is) c.reply_to_module.ensures
+
+pub returns-in-Link : goal.returns-in-Link
+returns-in-Link g c =
+    subst (λ k. Finishes g.K.Sink (MayReply g.S.Store c.args.store.now c.reply_to_link.new.store (Some (seen_command k))) c.args.out.now c.reply_to_link.new.out c.reply_to_link.result)
+    (sym c.in-Link.is) c.reply_to_link.ensures

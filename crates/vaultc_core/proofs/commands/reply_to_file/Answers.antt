@@ -1,10 +1,10 @@
-use Rattle.std.proofs.Common.{Some}
+use Rattle.std.proofs.Common.{Some, false}
 use Rattle.std.specs.Prelude.{MatchOption}
 use Rattle.vaultc_core.specs.Replies.{IsReplyToText, IsReplyOver, MayReply}
 use Rattle.vaultc_core.specs.Shown.{IsReplyOf, error_seen}
 use Rattle.vaultc_core.specs.View.{seen_text}
 use Rattle.vaultc_core.proofs.Finished.{finishes_as, reply_is}
-use Rattle.vaultc_core.proofs.Replied.{text_reply, text_sources, error_reply}
+use Rattle.vaultc_core.proofs.Replied.{text_reply, text_sources, error_reply, text_names}
 use Rattle.vaultc_core.proofs.commands.reply_to_file.Goals as goal
 
 pub returns-in-Ok : goal.returns-in-Ok
@@ -25,4 +25,4 @@ returns-in-Err g c =
     let e = c.in-Err.error in
     finishes_as g.K.Sink (IsReplyOf c.not_had.result) (MayReply g.S.Store store late (Some command)) c.args.out.now c.finish_reply.new.out c.finish_reply.result
     (λ r is. error_reply g.S.Store store late command e r (text_sources g.S.Store store late c.args.command c.args.name.now e c.in-Err.ensures.read)
-    (reply_is (λ q. MatchOption (error_seen e) ⊥ (λ x. IsReplyOver (λ _ _. ⊥) x q)) c.not_had.result r c.not_had.ensures is)) c.finish_reply.ensures
+    false (text_names c.args.command c.args.name.now) (reply_is (λ q. MatchOption (error_seen e) ⊥ (λ x. IsReplyOver false (λ _ _. ⊥) x q)) c.not_had.result r c.not_had.ensures is)) c.finish_reply.ensures

@@ -1,4 +1,4 @@
-use Rattle.std.proofs.Common.{[], ◌∷◌, Some, subst}
+use Rattle.std.proofs.Common.{false, [], ◌∷◌, Some, refl, subst}
 use Rattle.std.specs.Prelude.{MatchOption}
 use Rattle.vlt_core.specs.Core.{Program}
 use Rattle.vlt_numbers.specs.Given.Given.{given_by}
@@ -31,5 +31,5 @@ returns-in-Err g c =
     let command = host c.args.name.now c.args.calls.now (seen_taken c.args.taken) in
     let e = c.in-Err.error in
     finishes_as g.K.Sink (IsReplyOf c.not_had.result) (MayReply g.S.Store c.args.store.now c.read_host_files.new.store (Some command)) c.args.out.now c.finish_reply.new.out c.finish_reply.result
-    (λ r is. error_reply g.S.Store c.args.store.now c.read_host_files.new.store command e r c.in-Err.ensures.read
-    (reply_is (λ q. MatchOption (error_seen e) ⊥ (λ x. IsReplyOver (λ _ _. ⊥) x q)) c.not_had.result r c.not_had.ensures is)) c.finish_reply.ensures
+    (λ r is. error_reply g.S.Store c.args.store.now c.read_host_files.new.store command e r c.in-Err.ensures.read false refl
+    (reply_is (λ q. MatchOption (error_seen e) ⊥ (λ x. IsReplyOver false (λ _ _. ⊥) x q)) c.not_had.result r c.not_had.ensures is)) c.finish_reply.ensures

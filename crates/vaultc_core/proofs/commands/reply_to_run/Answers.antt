@@ -1,4 +1,4 @@
-use Rattle.std.proofs.Common.{[], ◌∷◌, Some}
+use Rattle.std.proofs.Common.{[], ◌∷◌, Some, false, refl}
 use Rattle.vaultc_core.specs.Commands.{run}
 use Rattle.vlt_numbers.specs.Given.Given.{given_by}
 use Rattle.vlt_core.specs.Core.{Program}
@@ -28,5 +28,5 @@ returns-in-Err g c =
     let command = run c.args.name.now (seen_taken c.args.taken) in
     let e = c.in-Err.error in
     finishes_as g.K.Sink (IsReplyOf c.not_had.result) (MayReply g.S.Store c.args.store.now c.read_run_files.new.store (Some command)) c.args.out.now c.finish_reply.new.out c.finish_reply.result
-    (λ r is. error_reply g.S.Store c.args.store.now c.read_run_files.new.store command e r c.in-Err.ensures.read
-    (reply_is (λ q. MatchOption (error_seen e) ⊥ (λ x. IsReplyOver (λ _ _. ⊥) x q)) c.not_had.result r c.not_had.ensures is)) c.finish_reply.ensures
+    (λ r is. error_reply g.S.Store c.args.store.now c.read_run_files.new.store command e r c.in-Err.ensures.read false refl
+    (reply_is (λ q. MatchOption (error_seen e) ⊥ (λ x. IsReplyOver false (λ _ _. ⊥) x q)) c.not_had.result r c.not_had.ensures is)) c.finish_reply.ensures

@@ -1,4 +1,4 @@
-use Rattle.std.proofs.Common.{[], ◌∷◌, Some, subst}
+use Rattle.std.proofs.Common.{[], ◌∷◌, Some, subst, false, refl}
 use Rattle.std.specs.Prelude.{MatchOption}
 use Rattle.vaultc_core.specs.Commands.{verify}
 use Rattle.vaultc_core.specs.Replies.{IsReplyOver, MayReply}
@@ -25,5 +25,5 @@ returns-in-Err g c =
     let command = verify c.args.name.now in
     let e = c.in-Err.error in
     finishes_as g.K.Sink (IsReplyOf c.not_had.result) (MayReply g.S.Store c.args.store.now c.read_file.new.store (Some command)) c.args.out.now c.finish_reply-in-Err.new.out c.finish_reply-in-Err.result
-    (λ r is. error_reply g.S.Store c.args.store.now c.read_file.new.store command e r c.in-Err.ensures.read
-    (reply_is (λ q. MatchOption (error_seen e) ⊥ (λ x. IsReplyOver (λ _ _. ⊥) x q)) c.not_had.result r c.not_had.ensures is)) c.finish_reply-in-Err.ensures
+    (λ r is. error_reply g.S.Store c.args.store.now c.read_file.new.store command e r c.in-Err.ensures.read false refl
+    (reply_is (λ q. MatchOption (error_seen e) ⊥ (λ x. IsReplyOver false (λ _ _. ⊥) x q)) c.not_had.result r c.not_had.ensures is)) c.finish_reply-in-Err.ensures
