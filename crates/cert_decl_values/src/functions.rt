@@ -1,74 +1,48 @@
 //! Rows of functions and externals, without their statements.
 
-ghost use Rattle.std.specs.Prelude.{◌≡◌, ◌∷◌, ◌++◌, [], map, option_map, if◌then◌else◌, true, IfOk};
-ghost use Rattle.serde_json.specs.Data.{string};
-ghost use Rattle.serde_json.specs.View.{view};
-ghost use Rattle.vlt_core.specs.View.{ty_of, entry_of, func_of};
-ghost use Rattle.cert_rows.specs.Parts.{list, nat};
-ghost use Rattle.cert_rows.specs.Values.{entry as entry_part, tagged_list};
+ghost use Rattle.std.specs.Prelude.{◌≡◌, if◌then◌else◌, true, OnOk};
+ghost use Rattle.vlt_core.specs.View.{func_of};
+ghost use Rattle.cert_rows.specs.Values.{tagged_list};
 ghost use Rattle.cert_rows.specs.Rows as row;
-ghost use Rattle.cert_rows.specs.Rows.{result_data, fn_fields};
+ghost use Rattle.cert_rows.specs.Rows.{fn_fields};
 ghost use Rattle.cert_format.specs.Certificate.{fn_row};
 ghost use Rattle.cert_values.specs.Heads.{plain_data};
+ghost use Rattle.cert_values.specs.Laid.{laid};
 ghost use Rattle.cert_decl_values.specs.Names.{HasTextFunc, IsNamed};
 
-use crate::heads::{clause_value, keys_value, result_value, vars_value};
-use crate::names::{Unwritten, name_value};
-use cert_values::{array_of, more, start, two_more};
-use serde_json::Value;
-use std::alloc::{AllocError, Global};
-use vlt_core::{Entry, Func, Ty};
-
-/// The items of a function's row before its keys.
-fn first_items(
-    alloc: Global,
-    tag: &str,
-    name: Value,
-    ty: &Option<Ty>,
-    params: u32,
-    clause: &[Entry],
-) -> Result<Vec<Value>, AllocError>
-    ensures { IfOk result (λ items. map view items.items ≡ string tag.now ∷ view name
-        ∷ result_data (option_map ty_of ty.now) ∷ nat params
-        ∷ list (map (entry_part true).data_of (map entry_of clause.now)) ∷ []) }
-{
-    let ty = result_value(alloc, ty)?;
-    let items = start(alloc, tag)?;
-    let items = two_more(items, name, ty)?;
-    let clause = clause_value(alloc, clause)?;
-    two_more(items, Value::from(params), clause)
-}
-
-fn whole_row(items: Vec<Value>, keys: Value, vars: Value, count: usize) -> Result<Value, AllocError>
-    ensures { IfOk result (λ v. view v
-        ≡ list (map view items.items ++ view keys ∷ view vars ∷ nat count ∷ [])) }
-{
-    let items = two_more(items, keys, vars)?;
-    Ok(array_of(more(items, Value::from(count))?))
-}
+use crate::heads::{put_clause, put_keys, put_result, put_vars};
+use crate::names::{Unwritten, put_name};
+use cert_values::CertText;
+use vlt_core::Func;
 
 #[tactic(auto, using(crate::proofs::Counts::count_made))]
-fn tagged_value(alloc: Global, tag: &str, f: &Func) -> Result<Value, Unwritten>
-    ensures value { IfOk result (λ v. view v ≡ tagged_list tag.now ((fn_fields true).items
-        (fn_row (func_of f.now)))) }
+fn put_tagged(out: &mut CertText, tag: &str, f: &Func) -> Result<(), Unwritten>
+    ensures value { OnOk result (out.new ≡ laid (tagged_list tag.now ((fn_fields true).items
+        (fn_row (func_of f.now)))) out.old) }
     ensures named { HasTextFunc (func_of f.now) → IsNamed result }
 {
-    let name = name_value(alloc, f.name.as_slice())?;
-    let items = first_items(alloc, tag, name, &f.result, f.params, f.clause.as_slice())?;
-    let keys = keys_value(alloc, f.keys.as_slice())?;
-    let vars = vars_value(alloc, f.vars.as_slice())?;
-    Ok(whole_row(items, keys, vars, f.body.len())?)
+    out.tag(tag)?;
+    put_name(out, f.name.as_slice())?;
+    put_result(out, &f.result)?;
+    out.number(f.params as u64)?;
+    put_clause(out, f.clause.as_slice())?;
+    put_keys(out, f.keys.as_slice())?;
+    put_vars(out, f.vars.as_slice())?;
+    out.number(f.body.len() as u64)?;
+    out.end()?;
+    Ok(())
 }
 
-/// The row of a function or an external, without its statements.
-pub fn fn_value(alloc: Global, f: &Func) -> Result<Value, Unwritten>
-    ensures value { IfOk result (λ v. view v ≡ plain_data (if f.now.external
-        then row.external (fn_row (func_of f.now)) else row.function (fn_row (func_of f.now)))) }
+/// Writes the row of a function or an external, without its statements.
+pub fn put_fn(out: &mut CertText, f: &Func) -> Result<(), Unwritten>
+    ensures value { OnOk result (out.new ≡ laid (plain_data (if f.now.external
+        then row.external (fn_row (func_of f.now)) else row.function (fn_row (func_of f.now))))
+        out.old) }
     ensures named { HasTextFunc (func_of f.now) → IsNamed result }
 {
     if f.external {
-        tagged_value(alloc, "extern", f)
+        put_tagged(out, "extern", f)
     } else {
-        tagged_value(alloc, "fn", f)
+        put_tagged(out, "fn", f)
     }
 }

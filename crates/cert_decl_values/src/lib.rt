@@ -1,4 +1,4 @@
-//! Declarations of a core program in, the values of JSON that a certificate has of their rows out.
+//! Declarations of a core program in, the text that a certificate has of their rows out.
 //! Read `cert_rows/specs/Rows.antt` first, then `specs/Names.antt`.
 //! Used by: `cert_write`.
 #![tactic(auto)]
@@ -9,7 +9,7 @@ mod names;
 mod sets;
 mod types;
 
-pub use functions::fn_value;
+pub use functions::put_fn;
 pub use names::Unwritten;
-pub use sets::set_value;
+pub use sets::put_set;
 pub use types::put_type;

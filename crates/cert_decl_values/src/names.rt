@@ -1,16 +1,15 @@
 //! Names, and why there is no text of a program.
 
-ghost use Rattle.std.specs.Prelude.{◌≡◌, ◌∷◌, [], map, IfOk};
+ghost use Rattle.std.specs.Prelude.{◌≡◌, map, OnOk};
 ghost use Rattle.std.specs.Str.{IsUtf8};
 ghost use Rattle.serde_json.specs.Data.{string};
-ghost use Rattle.serde_json.specs.View.{view};
 ghost use Rattle.cert_rows.specs.Parts.{list, All};
+ghost use Rattle.cert_values.specs.Laid.{laid};
 ghost use Rattle.cert_decl_values.specs.declared.names.Unwritten.TheVariants.{Memory};
 ghost use Rattle.cert_decl_values.specs.Names.{IsNamed};
 
-use cert_values::array_of;
-use serde_json::{Value, json};
-use std::alloc::{AllocError, AllocFailed, Global};
+use cert_values::CertText;
+use std::alloc::{AllocError, AllocFailed};
 use thiserror::Error;
 use vlt_base::Items;
 
@@ -40,25 +39,30 @@ impl<T: Drop> From<AllocFailed<T>> for Unwritten {
     }
 }
 
-/// A name, as a string.
-pub fn name_value(alloc: Global, name: &[u8]) -> Result<Value, Unwritten>
-    ensures value { IfOk result (λ v. view v ≡ string name.now) }
+/// Writes a name, as a string.
+pub fn put_name(out: &mut CertText, name: &[u8]) -> Result<(), Unwritten>
+    ensures value { OnOk result (out.new ≡ laid (string name.now) out.old) }
     ensures named { IsUtf8 name.now → IsNamed result }
 {
     match str::from_utf8(name) {
-        Ok(text) => Ok(json!(in alloc; text)?),
+        Ok(text) => {
+            out.string(text)?;
+            Ok(())
+        }
         Err(_) => Err(Unwritten::Name),
     }
 }
 
-/// Names, one after another.
-pub fn names_value(alloc: Global, names: &[Items<u8>]) -> Result<Value, Unwritten>
-    ensures value { IfOk result (λ v. view v ≡ list (map string (map (λ n. n) names.now))) }
+/// Writes names, one after another.
+pub fn put_names(out: &mut CertText, names: &[Items<u8>]) -> Result<(), Unwritten>
+    ensures value { OnOk result (out.new
+        ≡ laid (list (map string (map (λ n. n) names.now))) out.old) }
     ensures named { All IsUtf8 (map (λ n. n) names.now) → IsNamed result }
 {
-    let mut out = Vec::new(alloc);
+    out.begin()?;
     for name in names {
-        out.push(name_value(alloc, name.as_slice())?)?;
+        put_name(out, name.as_slice())?;
     }
-    Ok(array_of(out))
+    out.end()?;
+    Ok(())
 }

@@ -1,61 +1,54 @@
 //! Rows of state sets.
 
-ghost use Rattle.std.specs.Prelude.{◌≡◌, ◌∷◌, [], map, codes, None, IfOk};
-ghost use Rattle.serde_json.specs.View.{view};
+ghost use Rattle.std.specs.Prelude.{◌≡◌, map, None, OnOk};
 ghost use Rattle.vlt_core.specs.View.{link_of, set_of};
 ghost use Rattle.cert_rows.specs.Parts.{list};
-ghost use Rattle.cert_rows.specs.Values.{tagged_list};
 ghost use Rattle.cert_rows.specs.Rows as row;
 ghost use Rattle.cert_rows.specs.Rows.{row_data, link as link_part};
 ghost use Rattle.cert_format.specs.Certificate.{shape};
+ghost use Rattle.cert_values.specs.Laid.{laid};
 ghost use Rattle.cert_decl_values.specs.Names.{HasTextSet, IsNamed};
 
-use crate::names::{Unwritten, name_value, names_value};
-use cert_values::{array_of, pair, tagged_three, tagged_two};
-use serde_json::Value;
-use std::alloc::{AllocError, Global};
+use crate::names::{Unwritten, put_name, put_names};
+use cert_values::CertText;
+use std::alloc::AllocError;
 use vlt_core::{Link, SetDecl};
 
-fn link_value(alloc: Global, link: Link) -> Result<Value, AllocError>
-    ensures { IfOk result (λ v. view v ≡ link_part.data_of (link_of link)) }
+fn put_link(out: &mut CertText, link: Link) -> Result<(), AllocError>
+    ensures { OnOk result (out.new ≡ laid (link_part.data_of (link_of link)) out.old) }
 {
-    pair(alloc, Value::from(link.lower), Value::from(link.upper))
+    out.begin()?;
+    out.number(link.lower as u64)?;
+    out.number(link.upper as u64)?;
+    out.end()
 }
 
-fn links_value(alloc: Global, links: &[Link]) -> Result<Value, AllocError>
-    ensures { IfOk result (λ v. view v ≡ list (map link_part.data_of (map link_of links.now))) }
+fn put_links(out: &mut CertText, links: &[Link]) -> Result<(), AllocError>
+    ensures { OnOk result (out.new
+        ≡ laid (list (map link_part.data_of (map link_of links.now))) out.old) }
 {
-    let mut out = Vec::new(alloc);
+    out.begin()?;
     for link in links {
-        out.push(link_value(alloc, *link)?)?;
+        put_link(out, *link)?;
     }
-    Ok(array_of(out))
+    out.end()
 }
 
-fn linked_row(
-    alloc: Global,
-    name: Value,
-    states: Value,
-    links: &[Link],
-) -> Result<Value, AllocError>
-    ensures { IfOk result (λ v. view v ≡ tagged_list (codes "states") (view name ∷ view states
-        ∷ list (map link_part.data_of (map link_of links.now)) ∷ [])) }
-{
-    let links = links_value(alloc, links)?;
-    tagged_three(alloc, "states", name, states, links)
-}
-
-/// The row of a state set, with its links if it is of version 2.
-pub fn set_value(alloc: Global, ordered: bool, set: &SetDecl) -> Result<Value, Unwritten>
-    ensures value { IfOk result (λ v. view v ≡ row_data (shape ordered None)
-        (row.states (set_of set.now))) }
+/// Writes the row of a state set, with its links if it is of version 2.
+pub fn put_set(out: &mut CertText, ordered: bool, set: &SetDecl) -> Result<(), Unwritten>
+    ensures value { OnOk result (out.new ≡ laid (row_data (shape ordered None)
+        (row.states (set_of set.now))) out.old) }
     ensures named { HasTextSet (set_of set.now) → IsNamed result }
 {
-    let name = name_value(alloc, set.name.as_slice())?;
-    let states = names_value(alloc, set.states.as_slice())?;
+    out.tag("states")?;
+    put_name(out, set.name.as_slice())?;
+    put_names(out, set.states.as_slice())?;
     if ordered {
-        Ok(linked_row(alloc, name, states, set.links.as_slice())?)
+        put_links(out, set.links.as_slice())?;
+        out.end()?;
+        Ok(())
     } else {
-        Ok(tagged_two(alloc, "states", name, states)?)
+        out.end()?;
+        Ok(())
     }
 }

@@ -1,2 +1,4 @@
 pub mod Masks
 pub mod Lengths
+pub mod Fine
+pub mod Each

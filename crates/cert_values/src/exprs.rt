@@ -1,17 +1,15 @@
 //! Expressions, operands before their operator, and operands of statements.
 
-ghost use Rattle.std.specs.Prelude.{◌≡◌, ◌∷◌, ◌++◌, [], map, codes, if◌then◌else◌, IfOk, OnOk};
-ghost use Rattle.serde_json.specs.View.{view};
+ghost use Rattle.std.specs.Prelude.{◌≡◌, ◌∷◌, [], map, codes, if◌then◌else◌, OnOk};
 ghost use Rattle.cert_rows.specs.Parts.{nat, list};
 ghost use Rattle.cert_rows.specs.Values.{tagged_list};
-ghost use Rattle.cert_rows.specs.Expressions.{expr, expr_items, magnitude as magnitude_of, operand as operand_part, operator_data};
+ghost use Rattle.cert_rows.specs.Expressions.{expr, magnitude as magnitude_of, operand as operand_part, operator_data};
 ghost use Rattle.vlt_core.specs.View.{expr_of, operand_of};
+ghost use Rattle.cert_values.specs.Laid.{laid, expr_laid};
 
-use crate::arrays::{array_of, tagged, tagged_two};
-use crate::parts::mask_value;
-use serde_json::Value;
-use std::alloc::{AllocError, Global};
-use vlt_base::VarId;
+use crate::parts::put_mask;
+use crate::text::CertText;
+use std::alloc::AllocError;
 use vlt_core::{Expr, Operand};
 use vlt_ops::{Op, row};
 
@@ -28,91 +26,97 @@ fn flag_number(truth: bool) -> u64
     if truth { 1 } else { 0 }
 }
 
-/// Writes an item.
-fn put(out: &mut Vec<Value>, item: Value) -> Result<(), AllocError>
-    ensures { OnOk result (map view out.new.items ≡ map view out.old.items ++ view item ∷ []) }
+/// Writes a tag with a number.
+pub fn put_numbered(out: &mut CertText, tag: &str, number: u64) -> Result<(), AllocError>
+    ensures { OnOk result (out.new ≡ laid (tagged_list tag.now (nat number ∷ [])) out.old) }
 {
-    out.push(item)?;
-    Ok(())
+    out.tag(tag)?;
+    out.number(number)?;
+    out.end()
 }
 
-/// Writes an item that is a tag with a number.
-fn put_number(alloc: Global, tag: &str, number: u64, out: &mut Vec<Value>) -> Result<(), AllocError>
-    ensures { OnOk result (map view out.new.items ≡ map view out.old.items
-        ++ tagged_list tag.now (nat number ∷ []) ∷ []) }
+/// Writes a tag with two numbers.
+pub fn put_numbered_two(
+    out: &mut CertText,
+    tag: &str,
+    first: u64,
+    second: u64,
+) -> Result<(), AllocError>
+    ensures { OnOk result (out.new
+        ≡ laid (tagged_list tag.now (nat first ∷ nat second ∷ [])) out.old) }
 {
-    put(out, tagged(alloc, tag, Value::from(number))?)
+    out.tag(tag)?;
+    out.number(first)?;
+    out.number(second)?;
+    out.end()
 }
 
-fn put_field(alloc: Global, x: VarId, field: u32, out: &mut Vec<Value>) -> Result<(), AllocError>
-    ensures { OnOk result (map view out.new.items ≡ map view out.old.items
-        ++ tagged_list (codes "f") (nat x.0 ∷ nat field ∷ []) ∷ []) }
+fn put_op(out: &mut CertText, op: Op) -> Result<(), AllocError>
+    ensures { OnOk result (out.new ≡ laid (operator_data op) out.old) }
 {
-    put(
-        out,
-        tagged_two(alloc, "f", Value::from(x.0), Value::from(field))?,
-    )
-}
-
-fn put_op(alloc: Global, op: Op, out: &mut Vec<Value>) -> Result<(), AllocError>
-    ensures { OnOk result (map view out.new.items ≡ map view out.old.items
-        ++ operator_data op ∷ []) }
-{
-    put_number(alloc, "o", row(op).number as u64, out)
+    put_numbered(out, "o", row(op).number as u64)
 }
 
 /// Writes the items of an expression.
-fn put_expr(alloc: Global, e: &Expr, out: &mut Vec<Value>) -> Result<(), AllocError>
-    ensures { OnOk result (map view out.new.items
-        ≡ map view out.old.items ++ expr_items (expr_of e.now)) }
+fn put_items(out: &mut CertText, e: &Expr) -> Result<(), AllocError>
+    ensures { OnOk result (out.new ≡ expr_laid (expr_of e.now) out.old) }
 {
     match e {
-        Expr::Number(number) => put_number(alloc, "n", magnitude(*number), out),
-        Expr::Bool(truth) => put_number(alloc, "b", flag_number(*truth), out),
-        Expr::Var(v) => put_number(alloc, "v", v.0 as u64, out),
-        Expr::Field(x, field) => put_field(alloc, *x, *field, out),
+        Expr::Number(number) => put_numbered(out, "n", magnitude(*number)),
+        Expr::Bool(truth) => put_numbered(out, "b", flag_number(*truth)),
+        Expr::Var(v) => put_numbered(out, "v", v.0 as u64),
+        Expr::Field(x, field) => put_numbered_two(out, "f", x.0 as u64, *field as u64),
         Expr::Un(op, a) => {
-            put_expr(alloc, a.get(), out)?;
-            put_op(alloc, *op, out)
+            put_items(out, a.get())?;
+            put_op(out, *op)
         }
         Expr::Bin(op, a, b) => {
-            put_expr(alloc, a.get(), out)?;
-            put_expr(alloc, b.get(), out)?;
-            put_op(alloc, *op, out)
+            put_items(out, a.get())?;
+            put_items(out, b.get())?;
+            put_op(out, *op)
         }
     }
 }
 
-/// An expression, as an array of its parts.
-pub fn expr_value(alloc: Global, e: &Expr) -> Result<Value, AllocError>
-    ensures { IfOk result (λ v. view v ≡ expr.data_of (expr_of e.now)) }
+/// Writes an expression, as an array of its parts.
+#[tactic(auto, using(crate::proofs::Each::expr_items_laid))]
+pub fn put_expr(out: &mut CertText, e: &Expr) -> Result<(), AllocError>
+    ensures { OnOk result (out.new ≡ laid (expr.data_of (expr_of e.now)) out.old) }
 {
-    let mut out = Vec::new(alloc);
-    put_expr(alloc, e, &mut out)?;
-    Ok(array_of(out))
+    out.begin()?;
+    put_items(out, e)?;
+    out.end()
 }
 
-/// What is handed over.
-pub fn operand_value(alloc: Global, operand: &Operand) -> Result<Value, AllocError>
-    ensures { IfOk result (λ v. view v ≡ operand_part.data_of (operand_of operand.now)) }
+/// Writes what is handed over.
+pub fn put_operand(out: &mut CertText, operand: &Operand) -> Result<(), AllocError>
+    ensures { OnOk result (out.new
+        ≡ laid (operand_part.data_of (operand_of operand.now)) out.old) }
 {
     match operand {
-        Operand::Pure(e) => tagged(alloc, "e", expr_value(alloc, e)?),
-        Operand::Move(v) => tagged(alloc, "m", Value::from(v.0)),
+        Operand::Pure(e) => {
+            out.tag("e")?;
+            put_expr(out, e)?;
+            out.end()
+        }
+        Operand::Move(v) => put_numbered(out, "m", v.0 as u64),
         Operand::Pack(x, states) => {
-            tagged_two(alloc, "p", Value::from(x.0), mask_value(*states))
+            out.tag("p")?;
+            out.number(x.0 as u64)?;
+            put_mask(out, *states)?;
+            out.end()
         }
     }
 }
 
-/// All that is handed over.
-pub fn operands_value(alloc: Global, operands: &[Operand]) -> Result<Value, AllocError>
-    ensures { IfOk result (λ v. view v ≡ list (map operand_part.data_of
-        (map operand_of operands.now))) }
+/// Writes all that is handed over.
+pub fn put_operands(out: &mut CertText, operands: &[Operand]) -> Result<(), AllocError>
+    ensures { OnOk result (out.new ≡ laid (list (map operand_part.data_of
+        (map operand_of operands.now))) out.old) }
 {
-    let mut out = Vec::new(alloc);
+    out.begin()?;
     for item in operands {
-        out.push(operand_value(alloc, item)?)?;
+        put_operand(out, item)?;
     }
-    Ok(array_of(out))
+    out.end()
 }

@@ -1,85 +1,81 @@
 //! Numbers, sets of states, tokens, and lists of them.
 
-ghost use Rattle.std.specs.Prelude.{◌≡◌, map, if◌then◌else◌, IfOk};
-ghost use Rattle.serde_json.specs.View.{view};
+ghost use Rattle.std.specs.Prelude.{◌≡◌, map, OnOk};
 ghost use Rattle.cert_rows.specs.Parts.{nat, list, minus_data};
 ghost use Rattle.cert_rows.specs.Values.{flag as flag_part, mask, token, ids};
 ghost use Rattle.vlt_base.specs.States.{has_state};
 ghost use Rattle.vlt_core.specs.View.{tok_of, keys_of, vars_of};
+ghost use Rattle.cert_values.specs.Laid.{laid};
 
-use crate::arrays::array_of;
-use serde_json::Value;
-use std::alloc::{AllocError, Global};
+use crate::text::CertText;
+use std::alloc::AllocError;
 use vlt_base::{KeyId, StateSet, VarId};
 use vlt_core::Tok;
 
-/// 1 for true, 0 for false.
-pub fn flag_value(flag: bool) -> Value
-    ensures { view result ≡ flag_part.data_of flag }
+/// Writes 1 for true, 0 for false.
+pub fn put_flag(out: &mut CertText, flag: bool) -> Result<(), AllocError>
+    ensures { OnOk result (out.new ≡ laid (flag_part.data_of flag) out.old) }
 {
-    if flag {
-        Value::from(1u32)
-    } else {
-        Value::from(0u32)
-    }
+    if flag { out.number(1) } else { out.number(0) }
 }
 
-/// A number, or -1 where there is none.
-pub fn number_or_minus(number: Option<u32>) -> Value
-    ensures { view result ≡ minus_data nat number }
+/// Writes a number, or -1 where there is none.
+pub fn put_number_or_minus(out: &mut CertText, number: Option<u32>) -> Result<(), AllocError>
+    ensures { OnOk result (out.new ≡ laid (minus_data nat number) out.old) }
 {
     match number {
-        None => Value::from(-1i32),
-        Some(number) => Value::from(number),
+        None => out.minus_one(),
+        Some(number) => out.number(number as u64),
     }
 }
 
-/// The number whose bits are the states.
-pub fn mask_value(states: StateSet) -> Value
-    ensures { view result ≡ mask.data_of (has_state states) }
+/// Writes the number whose bits are the states.
+pub fn put_mask(out: &mut CertText, states: StateSet) -> Result<(), AllocError>
+    ensures { OnOk result (out.new ≡ laid (mask.data_of (has_state states)) out.old) }
 {
-    Value::from(states.mask())
+    out.number(states.mask() as u64)
 }
 
-/// The number of a key, and for a variable 256 more than its number.
-pub fn tok_value(tok: Tok) -> Value
-    ensures { view result ≡ token.data_of (tok_of tok) }
+/// Writes the number of a key, and for a variable 256 more than its number.
+pub fn put_tok(out: &mut CertText, tok: Tok) -> Result<(), AllocError>
+    ensures { OnOk result (out.new ≡ laid (token.data_of (tok_of tok)) out.old) }
 {
     match tok {
-        Tok::Key(key) => Value::from(key.0),
-        Tok::Var(var) => Value::from(256 + var.0 as u64),
+        Tok::Key(key) => out.number(key.0 as u64),
+        Tok::Var(var) => out.number(256 + var.0 as u64),
     }
 }
 
-/// The numbers of keys.
-pub fn ids_value(alloc: Global, keys: &[KeyId]) -> Result<Value, AllocError>
-    ensures { IfOk result (λ v. view v ≡ ids.data_of (keys_of keys.now)) }
+/// Writes the numbers of keys.
+pub fn put_ids(out: &mut CertText, keys: &[KeyId]) -> Result<(), AllocError>
+    ensures { OnOk result (out.new ≡ laid (ids.data_of (keys_of keys.now)) out.old) }
 {
-    let mut out = Vec::new(alloc);
+    out.begin()?;
     for key in keys {
-        out.push(Value::from(key.0))?;
+        out.number(key.0 as u64)?;
     }
-    Ok(array_of(out))
+    out.end()
 }
 
-/// The numbers of variables.
-pub fn vars_value(alloc: Global, vars: &[VarId]) -> Result<Value, AllocError>
-    ensures { IfOk result (λ v. view v ≡ ids.data_of (vars_of vars.now)) }
+/// Writes the numbers of variables.
+pub fn put_vars(out: &mut CertText, vars: &[VarId]) -> Result<(), AllocError>
+    ensures { OnOk result (out.new ≡ laid (ids.data_of (vars_of vars.now)) out.old) }
 {
-    let mut out = Vec::new(alloc);
+    out.begin()?;
     for var in vars {
-        out.push(Value::from(var.0))?;
+        out.number(var.0 as u64)?;
     }
-    Ok(array_of(out))
+    out.end()
 }
 
-/// The tokens that a block binds.
-pub fn toks_value(alloc: Global, toks: &[Tok]) -> Result<Value, AllocError>
-    ensures { IfOk result (λ v. view v ≡ list (map token.data_of (map tok_of toks.now))) }
+/// Writes the tokens that a block binds.
+pub fn put_toks(out: &mut CertText, toks: &[Tok]) -> Result<(), AllocError>
+    ensures { OnOk result (out.new
+        ≡ laid (list (map token.data_of (map tok_of toks.now))) out.old) }
 {
-    let mut out = Vec::new(alloc);
+    out.begin()?;
     for tok in toks {
-        out.push(tok_value(*tok))?;
+        put_tok(out, *tok)?;
     }
-    Ok(array_of(out))
+    out.end()
 }

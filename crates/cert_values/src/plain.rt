@@ -1,64 +1,89 @@
 //! Rows of statements without blocks.
 
-ghost use Rattle.std.specs.Prelude.{◌≡◌, map, option_map, IfOk, IfSome, is_some};
-ghost use Rattle.serde_json.specs.View.{view};
+ghost use Rattle.std.specs.Prelude.{◌≡◌, ◌∷◌, [], map, option_map, OnOk, IfSome, is_some};
 ghost use Rattle.vlt_core.specs.Core as core;
 ghost use Rattle.vlt_core.specs.View.{expr_of, operand_of, keys_of, vars_of, form_of};
+ghost use Rattle.cert_rows.specs.Parts.{nat};
+ghost use Rattle.cert_rows.specs.Values.{tagged_list};
 ghost use Rattle.cert_rows.specs.Rows as row;
 ghost use Rattle.cert_values.specs.Heads.{plain_row, plain_data};
+ghost use Rattle.cert_values.specs.Laid.{laid};
 
-use crate::arrays::{tagged, tagged_four, tagged_three, tagged_two};
-use crate::exprs::{expr_value, operand_value, operands_value};
-use crate::parts::{flag_value, ids_value, number_or_minus, vars_value};
-use serde_json::Value;
-use std::alloc::{AllocError, Global};
+use crate::exprs::{put_expr, put_numbered, put_numbered_two, put_operand, put_operands};
+use crate::parts::{put_flag, put_ids, put_number_or_minus, put_vars};
+use crate::text::CertText;
+use std::alloc::AllocError;
 use vlt_base::{FnId, KeyId, VarId};
 use vlt_core::{Expr, Form, Operand};
 
-fn set_value(alloc: Global, v: VarId, e: &Expr) -> Result<Value, AllocError>
-    ensures { IfOk result (λ r. view r ≡ plain_data (row.simple (core.set v.0
-        (expr_of e.now)))) }
+fn put_set(out: &mut CertText, v: VarId, e: &Expr) -> Result<(), AllocError>
+    ensures { OnOk result (out.new ≡ laid (plain_data (row.simple (core.set v.0
+        (expr_of e.now)))) out.old) }
 {
-    let e = expr_value(alloc, e)?;
-    tagged_two(alloc, "set", Value::from(v.0), e)
+    out.tag("set")?;
+    out.number(v.0 as u64)?;
+    put_expr(out, e)?;
+    out.end()
 }
 
-fn print_value(alloc: Global, e: &Expr) -> Result<Value, AllocError>
-    ensures { IfOk result (λ r. view r ≡ plain_data (row.simple (core.print (expr_of e.now)))) }
+fn put_input(out: &mut CertText, v: VarId, more: bool) -> Result<(), AllocError>
+    ensures { OnOk result (out.new ≡ laid (plain_data (row.simple (core.input v.0 more))) out.old) }
 {
-    tagged(alloc, "print", expr_value(alloc, e)?)
+    out.tag("input")?;
+    out.number(v.0 as u64)?;
+    put_flag(out, more)?;
+    out.end()
 }
 
-fn put_value(alloc: Global, x: VarId, field: u32, e: &Expr) -> Result<Value, AllocError>
-    ensures { IfOk result (λ r. view r ≡ plain_data (row.simple (core.put x.0 field
-        (expr_of e.now)))) }
+fn put_print(out: &mut CertText, e: &Expr) -> Result<(), AllocError>
+    ensures { OnOk result (out.new
+        ≡ laid (plain_data (row.simple (core.print (expr_of e.now)))) out.old) }
 {
-    let e = expr_value(alloc, e)?;
-    tagged_three(alloc, "put", Value::from(x.0), Value::from(field), e)
+    out.tag("print")?;
+    put_expr(out, e)?;
+    out.end()
 }
 
-fn new_value(alloc: Global, x: VarId, args: &[Operand]) -> Result<Value, AllocError>
-    ensures { IfOk result (λ r. view r ≡ plain_data (row.simple (core.make x.0
-        (map operand_of args.now)))) }
+fn put_put(out: &mut CertText, x: VarId, field: u32, e: &Expr) -> Result<(), AllocError>
+    ensures { OnOk result (out.new ≡ laid (plain_data (row.simple (core.put x.0 field
+        (expr_of e.now)))) out.old) }
 {
-    let args = operands_value(alloc, args)?;
-    tagged_two(alloc, "new", Value::from(x.0), args)
+    out.tag("put")?;
+    out.number(x.0 as u64)?;
+    out.number(field as u64)?;
+    put_expr(out, e)?;
+    out.end()
 }
 
-fn own_value(alloc: Global, v: VarId, value: &Operand) -> Result<Value, AllocError>
-    ensures { IfOk result (λ r. view r ≡ plain_data (row.simple (core.own v.0
-        (operand_of value.now)))) }
+fn put_new(out: &mut CertText, x: VarId, args: &[Operand]) -> Result<(), AllocError>
+    ensures { OnOk result (out.new ≡ laid (plain_data (row.simple (core.make x.0
+        (map operand_of args.now)))) out.old) }
 {
-    let value = operand_value(alloc, value)?;
-    tagged_two(alloc, "own", Value::from(v.0), value)
+    out.tag("new")?;
+    out.number(x.0 as u64)?;
+    put_operands(out, args)?;
+    out.end()
 }
 
-fn build_value(alloc: Global, v: VarId, case: u8, args: &[Operand]) -> Result<Value, AllocError>
-    ensures { IfOk result (λ r. view r ≡ plain_data (row.simple (core.build v.0 case
-        (map operand_of args.now)))) }
+fn put_own(out: &mut CertText, v: VarId, value: &Operand) -> Result<(), AllocError>
+    ensures { OnOk result (out.new ≡ laid (plain_data (row.simple (core.own v.0
+        (operand_of value.now)))) out.old) }
 {
-    let args = operands_value(alloc, args)?;
-    tagged_three(alloc, "build", Value::from(v.0), Value::from(case), args)
+    out.tag("own")?;
+    out.number(v.0 as u64)?;
+    put_operand(out, value)?;
+    out.end()
+}
+
+fn put_build(out: &mut CertText, v: VarId, case: u8, args: &[Operand]) -> Result<(), AllocError>
+    ensures { OnOk result (out.new ≡ laid (plain_data (row.simple (core.build v.0 case
+        (map operand_of args.now)))) out.old) }
+{
+    out.tag("build")?;
+    out.number(v.0 as u64)?;
+    out.number(case as u64)?;
+    put_operands(out, args)?;
+    out.end()
 }
 
 fn var_number(v: Option<VarId>) -> Option<u32>
@@ -67,38 +92,71 @@ fn var_number(v: Option<VarId>) -> Option<u32>
     Some(v?.0)
 }
 
-fn call_value(
-    alloc: Global,
+fn put_call(
+    out: &mut CertText,
     f: FnId,
     target: Option<VarId>,
     keys: &[KeyId],
     args: &[Operand],
-) -> Result<Value, AllocError>
-    ensures { IfOk result (λ r. view r ≡ plain_data (row.call f.0 (option_map (λ v. v.0) target)
-        (keys_of keys.now) (map operand_of args.now))) }
+) -> Result<(), AllocError>
+    ensures { OnOk result (out.new ≡ laid (plain_data (row.call f.0
+        (option_map (λ v. v.0) target) (keys_of keys.now) (map operand_of args.now))) out.old) }
 {
-    let keys = ids_value(alloc, keys)?;
-    let args = operands_value(alloc, args)?;
-    let target = number_or_minus(var_number(target));
-    tagged_four(alloc, "call", Value::from(f.0), target, keys, args)
+    out.tag("call")?;
+    out.number(f.0 as u64)?;
+    put_number_or_minus(out, var_number(target))?;
+    put_ids(out, keys)?;
+    put_operands(out, args)?;
+    out.end()
 }
 
-fn open_value(alloc: Global, x: VarId, into: &[VarId]) -> Result<Value, AllocError>
-    ensures { IfOk result (λ r. view r ≡ plain_data (row.simple (core.open_into x.0
-        (vars_of into.now)))) }
+fn put_three(
+    out: &mut CertText,
+    tag: &str,
+    first: u32,
+    second: u32,
+    third: u32,
+) -> Result<(), AllocError>
+    ensures { OnOk result (out.new
+        ≡ laid (tagged_list tag.now (nat first ∷ nat second ∷ nat third ∷ [])) out.old) }
 {
-    let into = vars_value(alloc, into)?;
-    tagged_two(alloc, "open", Value::from(x.0), into)
+    out.tag(tag)?;
+    out.number(first as u64)?;
+    out.number(second as u64)?;
+    out.number(third as u64)?;
+    out.end()
 }
 
-fn return_value(alloc: Global, value: &Option<Operand>) -> Result<Value, AllocError>
-    ensures { IfOk result (λ r. view r ≡ plain_data (row.return
-        (option_map operand_of value.now))) }
+fn put_open(out: &mut CertText, x: VarId, into: &[VarId]) -> Result<(), AllocError>
+    ensures { OnOk result (out.new ≡ laid (plain_data (row.simple (core.open_into x.0
+        (vars_of into.now)))) out.old) }
+{
+    out.tag("open")?;
+    out.number(x.0 as u64)?;
+    put_vars(out, into)?;
+    out.end()
+}
+
+fn put_return(out: &mut CertText, value: &Option<Operand>) -> Result<(), AllocError>
+    ensures { OnOk result (out.new ≡ laid (plain_data (row.return
+        (option_map operand_of value.now))) out.old) }
 {
     match value {
-        None => tagged(alloc, "return", Value::from(0u32)),
-        Some(operand) => tagged(alloc, "return", operand_value(alloc, operand)?),
+        None => put_numbered(out, "return", 0),
+        Some(operand) => {
+            out.tag("return")?;
+            put_operand(out, operand)?;
+            out.end()
+        }
     }
+}
+
+fn put_jump(out: &mut CertText, continues: bool) -> Result<(), AllocError>
+    ensures { OnOk result (out.new ≡ laid (plain_data (row.jump continues)) out.old) }
+{
+    out.tag("jump")?;
+    put_flag(out, continues)?;
+    out.end()
 }
 
 /// Whether the statement has no block.
@@ -115,44 +173,34 @@ pub fn is_plain(form: &Form) -> bool
     }
 }
 
-/// The row of a statement without blocks; of another one nothing is said.
-pub fn plain_value(alloc: Global, form: &Form) -> Result<Value, AllocError>
-    ensures { IfOk result (λ v. IfSome (plain_row (form_of form.now)) (λ r. view v
-        ≡ plain_data r)) }
+/// Writes the row of a statement without blocks; of another one nothing is said.
+pub fn put_plain(out: &mut CertText, form: &Form) -> Result<(), AllocError>
+    ensures { OnOk result (IfSome (plain_row (form_of form.now)) (λ r. out.new
+        ≡ laid (plain_data r) out.old)) }
 {
     match form {
-        Form::Set { v, e } => set_value(alloc, *v, e),
-        Form::Input { v, more } => {
-            tagged_two(alloc, "input", Value::from(v.0), flag_value(*more))
-        }
-        Form::Print { e } => print_value(alloc, e),
-        Form::Put { x, field, e } => put_value(alloc, *x, *field, e),
-        Form::New { x, args } => new_value(alloc, *x, args.as_slice()),
-        Form::Become { x, state } => {
-            tagged_two(alloc, "become", Value::from(x.0), Value::from(*state))
-        }
-        Form::Release { x } => tagged(alloc, "release", Value::from(x.0)),
-        Form::Drop { v } => tagged(alloc, "drop", Value::from(v.0)),
-        Form::Own { v, value } => own_value(alloc, *v, value),
-        Form::Unpack { x, v } => { tagged_two(alloc, "unpack", Value::from(x.0), Value::from(v.0)) }
-        Form::Build { v, case, args } => build_value(alloc, *v, *case, args.as_slice()),
+        Form::Set { v, e } => put_set(out, *v, e),
+        Form::Input { v, more } => put_input(out, *v, *more),
+        Form::Print { e } => put_print(out, e),
+        Form::Put { x, field, e } => put_put(out, *x, *field, e),
+        Form::New { x, args } => put_new(out, *x, args.as_slice()),
+        Form::Become { x, state } => { put_numbered_two(out, "become", x.0 as u64, *state as u64) }
+        Form::Release { x } => put_numbered(out, "release", x.0 as u64),
+        Form::Drop { v } => put_numbered(out, "drop", v.0 as u64),
+        Form::Own { v, value } => put_own(out, *v, value),
+        Form::Unpack { x, v } => put_numbered_two(out, "unpack", x.0 as u64, v.0 as u64),
+        Form::Build { v, case, args } => put_build(out, *v, *case, args.as_slice()),
         Form::Call {
             f,
             target,
             keys,
             args,
-        } => call_value(alloc, *f, *target, keys.as_slice(), args.as_slice()),
-        Form::Swap { x, field, v } => {
-            let (x, field, v) = (Value::from(x.0), Value::from(*field), Value::from(v.0));
-            tagged_three(alloc, "swap", x, field, v)
-        }
-        Form::Open { x, into } => open_value(alloc, *x, into.as_slice()),
-        Form::Adopt { y, x, r } => {
-            let (y, x, r) = (Value::from(y.0), Value::from(x.0), Value::from(r.0));
-            tagged_three(alloc, "adopt", y, x, r)
-        }
-        Form::Return { value } => return_value(alloc, value),
-        Form::Jump { continues } => tagged(alloc, "jump", flag_value(*continues)),
-        _ => Ok(Value::Null),
+        } => put_call(out, *f, *target, keys.as_slice(), args.as_slice()),
+        Form::Swap { x, field, v } => put_three(out, "swap", x.0, *field, v.0),
+        Form::Open { x, into } => put_open(out, *x, into.as_slice()),
+        Form::Adopt { y, x, r } => put_three(out, "adopt", y.0, x.0, r.0),
+        Form::Return { value } => put_return(out, value),
+        Form::Jump { continues } => put_jump(out, *continues),
+        _ => Ok(()),
     }
 }

@@ -1,5 +1,5 @@
 -- The text of a program's rows is its certificate, where it has one.
-use Rattle.std.proofs.Common.{◌≡◌, ◌≤◌, ℕ, Bool, true, false, if◌then◌else◌, List, [], ◌∷◌, map, None, refl, sym, ap, ◌∙◌, subst, arith}
+use Rattle.std.proofs.Common.{◌≡◌, ◌≤◌, ℕ, Bool, true, false, if◌then◌else◌, List, [], ◌∷◌, map, None, Result, Ok, Err, IfOk, refl, sym, ap, ◌∙◌, subst, arith}
 use Rattle.std.specs.List.{list_any, flat_map}
 use Rattle.serde_json.specs.Data.{Data}
 use Rattle.serde_json.specs.Written.{compact_text}
@@ -65,8 +65,13 @@ written_version law false p all h = subst (λ o. FitsCertificate o p all) (sym (
 
 -- ---- the certificate
 
-pub certified : CertificatesAreWritten → HasWrittenVersion → (p : Program) (all : List (List Note)) (text : List ℕ) →
+certified : CertificatesAreWritten → HasWrittenVersion → (p : Program) (all : List (List Note)) (text : List ℕ) →
     IsTextOfRows (program_data (is_ordered p) p all) text → (o : Bool) → FitsCertificate o p all → IsCertificateOf text p all
 certified written version p all text t o fits =
     subst (λ s. IsCertificateOf s p all) (sym t.compact)
     ((written (is_ordered p) p all (written_version version o p all fits)).certificate (compact_text (list (program_data (is_ordered p) p all))) t.written)
+
+pub all_certified : {A E : Type 0} → CertificatesAreWritten → HasWrittenVersion → (p : Program) (all : List (List Note)) (bytes : A → List ℕ) (r : Result A E) →
+    IfOk r (λ text. IsTextOfRows (program_data (is_ordered p) p all) (bytes text)) → IfOk r (λ text. (o : Bool) → FitsCertificate o p all → IsCertificateOf (bytes text) p all)
+all_certified written version p all bytes (Ok text) h = certified written version p all (bytes text) h
+all_certified written version p all bytes (Err e) h = tt

@@ -1,7 +1,6 @@
 -- The rows of a program nest little, and their numbers are whole.
-use Rattle.std.proofs.Common.{◌≡◌, ◌≤◌, Bool, false, ◌||◌, List, [], ◌∷◌, map, None, refl, ap, ◌∙◌, arith}
+use Rattle.std.proofs.Common.{◌≤◌, Bool, List, [], ◌∷◌, map, None, arith}
 use Rattle.serde_json.specs.Data.{Data, depth, items_depth}
-use Rattle.serde_json.specs.Written.{items_have_float}
 use Rattle.serde_json.specs.View.{items_of}
 use Rattle.vlt_core.specs.Core.{Func, Program}
 use Rattle.cert_rows.specs.Parts.{list}
@@ -19,10 +18,6 @@ items_shallow (d ∷ ds) h = let a = h.0.nests in let b = items_shallow ds h.1 i
 
 pub shallow : (ds : List Data) → AreExact ds → depth (list ds) ≤ 127
 shallow ds h = let a = items_shallow ds h in omega (arith, a)
-
-pub whole : (ds : List Data) → AreExact ds → items_have_float (items_of ds) ≡ false
-whole [] h = refl
-whole (d ∷ ds) h = ap (λ x. x || items_have_float (items_of ds)) h.0.whole ∙ whole ds h.1
 
 module _ (exact : RowsAreExact) where
   rows_exact : (w : Shape) (rows : List Row) → AreExact (map (row_data w) rows)

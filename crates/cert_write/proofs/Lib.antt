@@ -10,3 +10,4 @@ pub mod Functions
 pub mod Tables
 pub mod Certified
 pub mod Same
+pub mod Whole

@@ -3,8 +3,7 @@
 use Rattle.std.specs.Prelude.{◌≡◌, ◌<◌, ◌≤◌, ◌+◌, ℕ, Bool, true, false, if◌then◌else◌, List, [], ◌∷◌, ◌++◌, map, take, drop, length, codes, None, is_some}
 use Rattle.std.specs.List.{flat_map}
 use Rattle.serde_json.specs.Data.{Data}
-use Rattle.serde_json.specs.View.{view}
-use Rattle.serde_json.specs.declared.value.Value.{Value}
+use Rattle.json.specs.Token.{Token}
 use Rattle.vlt_core.specs.Core as core
 use Rattle.vlt_core.specs.KindedBodies.{ends}
 use Rattle.vlt_core.specs.Instances.{bound_in}
@@ -20,6 +19,7 @@ use Rattle.cert_format.specs.Notes.{MapNotes, join_of}
 use Rattle.cert_format.specs.Bodies.{count, count_block}
 use Rattle.cert_format.specs.Certificate.{shape, type_rows, fn_row}
 use Rattle.cert_values.specs.Heads.{plain_data, head_of, heads_of}
+use Rattle.cert_values.specs.Laid.{each_laid}
 use Rattle.cert_write.specs.Notes.{number_of, maps_in}
 use Rattle.cert_write.specs.declared.cursor.Cursor.{Cursor}
 
@@ -85,18 +85,17 @@ AreBefore n notes = All (λ x. number_of x < n) notes
 abbrev pub AreAllBefore : List Annotation → Cursor → Type 0
 AreAllBefore annotations p = All (λ a. AreBefore p.next (take p.at a.maps)) annotations
 
--- a walk that has written so many rows may stand at the cursor
-pub record IsReady (annotations : List Annotation) (rows : ℕ) (p : Cursor) : Type 0 where
+-- a walk may stand at the cursor
+pub record IsReady (annotations : List Annotation) (p : Cursor) : Type 0 where
   pub before : AreAllBefore annotations p
   pub early : p.at ≤ p.next
-  pub room : p.next ≤ rows
 
--- From the statement of number n rows of so many statements were written after the old ones.
+-- From the statement of number n the rows of so many statements were written behind the old tokens.
 pub record IsPut (annotations : List Annotation) (n size : ℕ) (rows : List Data)
-    (old new : List Value) (to : Cursor) : Type 0 where
-  pub written : map view new ≡ map view old ++ rows
+    (old new : List Token) (to : Cursor) : Type 0 where
+  pub written : new ≡ each_laid rows old
   pub next : to.next ≡ n + size
-  pub ready : IsReady annotations (length new) to
+  pub ready : IsReady annotations to
 
 -- the values nest at most 5 deep, and their numbers are whole
 abbrev pub AreExact : List Data → Type 0

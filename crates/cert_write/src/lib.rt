@@ -11,7 +11,6 @@ mod notes;
 mod ordered;
 mod own;
 mod program;
-mod text;
 mod walk;
 
 pub use cert_decl_values::Unwritten;

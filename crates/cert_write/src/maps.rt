@@ -1,177 +1,180 @@
 //! The maps of a statement: one of each annotation.
 
-ghost use Rattle.std.specs.Prelude.{◌≡◌, [], map, take, false, Some, IfOk};
-ghost use Rattle.serde_json.specs.View.{view};
+ghost use Rattle.std.specs.Prelude.{◌≡◌, [], map, take, false, Some, OnOk};
+ghost use Rattle.cert_rows.specs.Parts.{list};
 ghost use Rattle.cert_rows.specs.Values.{map_part};
+ghost use Rattle.cert_values.specs.Laid.{laid};
 ghost use Rattle.cert_write.specs.Notes.{note_at as note_of, around_in, behind_in, maps_in};
 ghost use Rattle.cert_write.specs.Rows.{AreBefore, AreAllBefore, maps_data, join_data};
 
 use crate::cursor::Cursor;
 use crate::notes::note_at;
-use cert_values::map_value;
-use serde_json::Value;
-use std::alloc::{AllocError, Global};
+use cert_values::{CertText, put_map};
+use std::alloc::AllocError;
 use vlt_core::{Annotation, Note};
 
-fn no_map(alloc: Global) -> Value
-    ensures { view result ≡ map_part.data_of [] }
+fn put_no_map(out: &mut CertText) -> Result<(), AllocError>
+    ensures { OnOk result (out.new ≡ laid (map_part.data_of []) out.old) }
 {
-    Value::Array(Vec::new(alloc))
+    out.begin()?;
+    out.end()
 }
 
-fn note_around(alloc: Global, note: &Note) -> Result<Value, AllocError>
-    ensures { IfOk result (λ v. view v ≡ map_part.data_of (around_in (Some note.now))) }
-{
-    match note {
-        Note::Loop { around, .. } => map_value(alloc, around),
-        Note::Join { .. } => Ok(no_map(alloc)),
-    }
-}
-
-fn note_behind(alloc: Global, note: &Note) -> Result<Value, AllocError>
-    ensures { IfOk result (λ v. view v ≡ map_part.data_of (behind_in (Some note.now))) }
+fn put_note_around(out: &mut CertText, note: &Note) -> Result<(), AllocError>
+    ensures { OnOk result (out.new
+        ≡ laid (map_part.data_of (around_in (Some note.now))) out.old) }
 {
     match note {
-        Note::Loop { exit, .. } => map_value(alloc, exit),
-        Note::Join { map, .. } => map_value(alloc, map),
+        Note::Loop { around, .. } => put_map(out, around),
+        Note::Join { .. } => put_no_map(out),
     }
 }
 
-fn around_at(alloc: Global, notes: &[Note], from: Cursor) -> Result<Value, AllocError>
+fn put_note_behind(out: &mut CertText, note: &Note) -> Result<(), AllocError>
+    ensures { OnOk result (out.new
+        ≡ laid (map_part.data_of (behind_in (Some note.now))) out.old) }
+{
+    match note {
+        Note::Loop { exit, .. } => put_map(out, exit),
+        Note::Join { map, .. } => put_map(out, map),
+    }
+}
+
+fn put_around(out: &mut CertText, notes: &[Note], from: Cursor) -> Result<(), AllocError>
     requires { AreBefore from.next (take from.at notes.now) }
-    ensures { IfOk result (λ v. view v
-        ≡ map_part.data_of (around_in (note_of notes.now from.next))) }
+    ensures { OnOk result (out.new
+        ≡ laid (map_part.data_of (around_in (note_of notes.now from.next))) out.old) }
 {
     match note_at(notes, from) {
-        Some(note) => note_around(alloc, note),
-        None => Ok(no_map(alloc)),
+        Some(note) => put_note_around(out, note),
+        None => put_no_map(out),
     }
 }
 
-fn behind_at(alloc: Global, notes: &[Note], from: Cursor) -> Result<Value, AllocError>
+fn put_behind(out: &mut CertText, notes: &[Note], from: Cursor) -> Result<(), AllocError>
     requires { AreBefore from.next (take from.at notes.now) }
-    ensures { IfOk result (λ v. view v
-        ≡ map_part.data_of (behind_in (note_of notes.now from.next))) }
+    ensures { OnOk result (out.new
+        ≡ laid (map_part.data_of (behind_in (note_of notes.now from.next))) out.old) }
 {
     match note_at(notes, from) {
-        Some(note) => note_behind(alloc, note),
-        None => Ok(no_map(alloc)),
+        Some(note) => put_note_behind(out, note),
+        None => put_no_map(out),
     }
 }
 
-fn each_around(
-    alloc: Global,
+fn put_each_around(
+    out: &mut CertText,
     annotations: &[Annotation],
     from: Cursor,
-) -> Result<Vec<Value>, AllocError>
+) -> Result<(), AllocError>
     requires { AreAllBefore annotations.now from }
-    ensures { IfOk result (λ out. map view out.items
-        ≡ map map_part.data_of ((maps_in annotations.now).around from.next)) }
+    ensures { OnOk result (out.new ≡ laid (list (map map_part.data_of
+        ((maps_in annotations.now).around from.next))) out.old) }
 {
-    let mut out = Vec::new(alloc);
+    out.begin()?;
     for annotation in annotations {
-        out.push(around_at(alloc, annotation.maps.as_slice(), from)?)?;
+        put_around(out, annotation.maps.as_slice(), from)?;
     }
-    Ok(out)
+    out.end()
 }
 
-fn each_behind(
-    alloc: Global,
+fn put_each_behind(
+    out: &mut CertText,
     annotations: &[Annotation],
     from: Cursor,
-) -> Result<Vec<Value>, AllocError>
+) -> Result<(), AllocError>
     requires { AreAllBefore annotations.now from }
-    ensures { IfOk result (λ out. map view out.items
-        ≡ map map_part.data_of ((maps_in annotations.now).behind from.next)) }
+    ensures { OnOk result (out.new ≡ laid (list (map map_part.data_of
+        ((maps_in annotations.now).behind from.next))) out.old) }
 {
-    let mut out = Vec::new(alloc);
+    out.begin()?;
     for annotation in annotations {
-        out.push(behind_at(alloc, annotation.maps.as_slice(), from)?)?;
+        put_behind(out, annotation.maps.as_slice(), from)?;
     }
-    Ok(out)
+    out.end()
 }
 
-fn first_around(
-    alloc: Global,
+fn put_first_around(
+    out: &mut CertText,
     annotations: &[Annotation],
     from: Cursor,
-) -> Result<Value, AllocError>
+) -> Result<(), AllocError>
     requires { AreAllBefore annotations.now from }
-    ensures { IfOk result (λ v. view v
-        ≡ maps_data false ((maps_in annotations.now).around from.next)) }
+    ensures { OnOk result (out.new
+        ≡ laid (maps_data false ((maps_in annotations.now).around from.next)) out.old) }
 {
     match annotations.first() {
-        Some(annotation) => around_at(alloc, annotation.maps.as_slice(), from),
-        None => Ok(no_map(alloc)),
+        Some(annotation) => put_around(out, annotation.maps.as_slice(), from),
+        None => put_no_map(out),
     }
 }
 
-fn first_behind(
-    alloc: Global,
+fn put_first_behind(
+    out: &mut CertText,
     annotations: &[Annotation],
     from: Cursor,
-) -> Result<Value, AllocError>
+) -> Result<(), AllocError>
     requires { AreAllBefore annotations.now from }
-    ensures { IfOk result (λ v. view v
-        ≡ maps_data false ((maps_in annotations.now).behind from.next)) }
+    ensures { OnOk result (out.new
+        ≡ laid (maps_data false ((maps_in annotations.now).behind from.next)) out.old) }
 {
     match annotations.first() {
-        Some(annotation) => behind_at(alloc, annotation.maps.as_slice(), from),
-        None => Ok(no_map(alloc)),
+        Some(annotation) => put_behind(out, annotation.maps.as_slice(), from),
+        None => put_no_map(out),
     }
 }
 
-/// The maps at the head of the next statement, a loop. With a bound entry they stand in an array.
-pub fn maps_around(
-    alloc: Global,
+/// Writes the maps at the head of the next statement, a loop. With a bound entry they stand in an array.
+pub fn put_maps_around(
+    out: &mut CertText,
     bound: bool,
     annotations: &[Annotation],
     from: Cursor,
-) -> Result<Value, AllocError>
+) -> Result<(), AllocError>
     requires { AreAllBefore annotations.now from }
-    ensures { IfOk result (λ v. view v
-        ≡ maps_data bound ((maps_in annotations.now).around from.next)) }
+    ensures { OnOk result (out.new
+        ≡ laid (maps_data bound ((maps_in annotations.now).around from.next)) out.old) }
 {
     if bound {
-        Ok(Value::Array(each_around(alloc, annotations, from)?))
+        put_each_around(out, annotations, from)
     } else {
-        first_around(alloc, annotations, from)
+        put_first_around(out, annotations, from)
     }
 }
 
-/// The maps after the next statement, a loop or a choice.
-pub fn maps_behind(
-    alloc: Global,
+/// Writes the maps after the next statement, a loop or a choice.
+pub fn put_maps_behind(
+    out: &mut CertText,
     bound: bool,
     annotations: &[Annotation],
     from: Cursor,
-) -> Result<Value, AllocError>
+) -> Result<(), AllocError>
     requires { AreAllBefore annotations.now from }
-    ensures { IfOk result (λ v. view v
-        ≡ maps_data bound ((maps_in annotations.now).behind from.next)) }
+    ensures { OnOk result (out.new
+        ≡ laid (maps_data bound ((maps_in annotations.now).behind from.next)) out.old) }
 {
     if bound {
-        Ok(Value::Array(each_behind(alloc, annotations, from)?))
+        put_each_behind(out, annotations, from)
     } else {
-        first_behind(alloc, annotations, from)
+        put_first_behind(out, annotations, from)
     }
 }
 
-/// What stands in place of the maps after the next statement, a choice: 0 where it ends.
-pub fn join_value(
-    alloc: Global,
+/// Writes what stands in place of the maps after the next statement, a choice: 0 where it ends.
+pub fn put_join(
+    out: &mut CertText,
     bound: bool,
     annotations: &[Annotation],
     from: Cursor,
     ends: bool,
-) -> Result<Value, AllocError>
+) -> Result<(), AllocError>
     requires { AreAllBefore annotations.now from }
-    ensures { IfOk result (λ v. view v
-        ≡ join_data bound (maps_in annotations.now) from.next ends) }
+    ensures { OnOk result (out.new
+        ≡ laid (join_data bound (maps_in annotations.now) from.next ends) out.old) }
 {
     if ends {
-        Ok(Value::from(0u32))
+        out.number(0)
     } else {
-        maps_behind(alloc, bound, annotations, from)
+        put_maps_behind(out, bound, annotations, from)
     }
 }

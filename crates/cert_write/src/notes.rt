@@ -1,12 +1,13 @@
 //! The note of a statement. Notes stand in the order of their statements, so the note at a walk's cursor is the one that
 //! is wanted; where it isn't, all are looked through.
 
-ghost use Rattle.std.specs.Prelude.{◌≡◌, ◌+◌, ◌<◌, ◌≤◌, take, IsTrue, OnSome};
+ghost use Rattle.std.specs.Prelude.{◌≡◌, ◌+◌, take, IsTrue, IfOk, OnSome};
 ghost use Rattle.std.specs.Option.{option_copied};
 ghost use Rattle.cert_write.specs.Notes.{number_of, note_at as note_of};
 ghost use Rattle.cert_write.specs.Rows.{AreBefore, AreAllBefore, IsReady};
 
 use crate::cursor::Cursor;
+use std::alloc::AllocError;
 use vlt_core::{Annotation, Note};
 
 fn number(note: &Note) -> usize
@@ -68,21 +69,22 @@ fn are_next(annotations: &[Annotation], from: Cursor) -> bool
     true
 }
 
-/// The cursor after a statement's own row. So many rows were written, that one among them: so its number has room.
-pub fn after(annotations: &[Annotation], from: Cursor, rows: usize) -> Cursor
-    requires before { AreAllBefore annotations.now from }
-    requires early { from.at ≤ from.next }
-    requires room { from.next < rows }
-    ensures next { result.next ≡ from.next + 1 }
-    ensures ready { IsReady annotations.now rows result }
+/// The cursor after a statement's own row. There is none behind the last number of a `usize`, nor memory for so many statements.
+pub fn after(annotations: &[Annotation], from: Cursor) -> Result<Cursor, AllocError>
+    requires { IsReady annotations.now from }
+    ensures next { IfOk result (λ to. to.next ≡ from.next + 1) }
+    ensures ready { IfOk result (λ to. IsReady annotations.now to) }
 {
+    if from.next == usize::MAX {
+        return Err(AllocError);
+    }
     let at = if are_next(annotations, from) {
         from.at + 1
     } else {
         from.at
     };
-    Cursor {
+    Ok(Cursor {
         next: from.next + 1,
         at,
-    }
+    })
 }

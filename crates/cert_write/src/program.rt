@@ -1,77 +1,69 @@
 //! The rows of a program, and their text.
 
-ghost use Rattle.std.specs.Prelude.{◌≡◌, ◌∷◌, ◌++◌, [], Bool, map, drop, None, IfOk, OnOk, is_some};
-ghost use Rattle.serde_json.specs.View.{view};
+ghost use Rattle.std.specs.Prelude.{◌≡◌, ◌∷◌, [], Bool, map, drop, None, IfOk, OnOk, is_some};
 ghost use Rattle.vlt_core.specs.Instances.{bound_in};
 ghost use Rattle.vlt_core.specs.View.{set_of, type_of, func_of, program_of};
-ghost use Rattle.cert_rows.specs.Parts.{All};
+ghost use Rattle.cert_rows.specs.Parts.{list, All};
 ghost use Rattle.cert_rows.specs.Rows as row;
 ghost use Rattle.cert_rows.specs.Rows.{row_data};
 ghost use Rattle.cert_format.specs.Places.{unplaced_program};
 ghost use Rattle.cert_format.specs.Certificate.{shape, program_data, FitsCertificate, IsCertificateOf};
 ghost use Rattle.cert_format_laws.specs.Versions.{is_ordered as is_ordered_program};
+ghost use Rattle.cert_values.specs.Laid.{laid, each_laid};
 ghost use Rattle.cert_decl_values.specs.Names.{HasTextSet, HasTextType, HasTextFunc, HasTextNames, IsNamed, IfNameless};
 ghost use Rattle.cert_write.specs.Notes.{notes_in};
 ghost use Rattle.cert_write.specs.Texts.{IsTextOfRows};
-ghost use Rattle.cert_write.specs.Rows.{head_data, body_data, fn_data, first_annotations as first_of, fns_data, sets_data, types_data, rows_data};
+ghost use Rattle.cert_write.specs.Rows.{head_data, body_data, fn_data, first_annotations as first_of, fns_data, sets_data, types_data, rows_data, AreExact};
 
 use crate::cursor::Cursor;
 use crate::ordered::is_ordered;
-use crate::text::text_of;
 use crate::walk::put_stmts;
-use cert_decl_values::{Unwritten, fn_value, put_type, set_value};
+use cert_decl_values::{Unwritten, put_fn as put_fn_row, put_set, put_type};
 use cert_format_laws::{certificates_are_written, programs_have_a_written_version};
 use cert_rows::rows_are_exact;
-use serde_json::{Value, json};
+use cert_values::CertText;
 use std::alloc::{AllocError, Global};
 use vlt_base::Items;
 use vlt_core::{Annotation, Func, Program, SetDecl, TypeDecl};
 
 /// Writes the first row.
-fn put_version(alloc: Global, ordered: bool, out: &mut Vec<Value>) -> Result<(), AllocError>
-    ensures { OnOk result (map view out.new.items ≡ map view out.old.items
-        ++ row_data (shape ordered None) (row.version ordered) ∷ []) }
+fn put_version(out: &mut CertText, ordered: bool) -> Result<(), AllocError>
+    ensures { OnOk result (out.new
+        ≡ laid (row_data (shape ordered None) (row.version ordered)) out.old) }
 {
-    let version = if ordered { 2u32 } else { 1u32 };
-    out.push(json!(in alloc; ["vault", version])?)?;
-    Ok(())
+    out.tag("vault")?;
+    out.number(if ordered { 2 } else { 1 })?;
+    out.end()
 }
 
-fn put_sets(
-    alloc: Global,
-    ordered: bool,
-    sets: &[SetDecl],
-    out: &mut Vec<Value>,
-) -> Result<(), Unwritten>
-    ensures rows { OnOk result (map view out.new.items ≡ map view out.old.items
-        ++ sets_data ordered (map set_of sets.now)) }
+fn put_sets(out: &mut CertText, ordered: bool, sets: &[SetDecl]) -> Result<(), Unwritten>
+    ensures rows { OnOk result (out.new
+        ≡ each_laid (sets_data ordered (map set_of sets.now)) out.old) }
     ensures named { All HasTextSet (map set_of sets.now) → IsNamed result }
 {
     for set in sets {
-        out.push(set_value(alloc, ordered, set)?)?;
+        put_set(out, ordered, set)?;
     }
     Ok(())
 }
 
-fn put_types(alloc: Global, types: &[TypeDecl], out: &mut Vec<Value>) -> Result<(), Unwritten>
-    ensures rows { OnOk result (map view out.new.items ≡ map view out.old.items
-        ++ types_data (map type_of types.now)) }
+fn put_types(out: &mut CertText, types: &[TypeDecl]) -> Result<(), Unwritten>
+    ensures rows { OnOk result (out.new
+        ≡ each_laid (types_data (map type_of types.now)) out.old) }
     ensures named { All HasTextType (map type_of types.now) → IsNamed result }
 {
     for declared in types {
-        put_type(alloc, declared, out)?;
+        put_type(out, declared)?;
     }
     Ok(())
 }
 
 /// Writes the row of a function.
-fn put_head(alloc: Global, f: &Func, out: &mut Vec<Value>) -> Result<(), Unwritten>
-    ensures rows { OnOk result (map view out.new.items ≡ map view out.old.items
-        ++ head_data (func_of f.now) ∷ []) }
+fn put_head(out: &mut CertText, f: &Func) -> Result<(), Unwritten>
+    ensures rows { OnOk result (out.new ≡ laid (head_data (func_of f.now)) out.old) }
     ensures named { HasTextFunc (func_of f.now) → IsNamed result }
 {
-    out.push(fn_value(alloc, f)?)?;
-    Ok(())
+    put_fn_row(out, f)
 }
 
 fn has_bound(f: &Func) -> bool
@@ -81,39 +73,22 @@ fn has_bound(f: &Func) -> bool
 }
 
 /// Writes the rows of a function's statements.
-fn put_body(
-    alloc: Global,
-    f: &Func,
-    annotations: &[Annotation],
-    out: &mut Vec<Value>,
-) -> Result<(), AllocError>
-    ensures { OnOk result (map view out.new.items ≡ map view out.old.items
-        ++ body_data (func_of f.now) annotations.now) }
+fn put_body(out: &mut CertText, f: &Func, annotations: &[Annotation]) -> Result<(), AllocError>
+    ensures { OnOk result (out.new
+        ≡ each_laid (body_data (func_of f.now) annotations.now) out.old) }
 {
     let start = Cursor { next: 0, at: 0 };
-    let _end = put_stmts(
-        alloc,
-        has_bound(f),
-        annotations,
-        f.body.as_slice(),
-        start,
-        out,
-    )?;
+    let _end = put_stmts(out, has_bound(f), annotations, f.body.as_slice(), start)?;
     Ok(())
 }
 
-fn put_fn(
-    alloc: Global,
-    f: &Func,
-    annotations: &[Annotation],
-    out: &mut Vec<Value>,
-) -> Result<(), Unwritten>
-    ensures rows { OnOk result (map view out.new.items ≡ map view out.old.items
-        ++ fn_data (func_of f.now) annotations.now) }
+fn put_fn(out: &mut CertText, f: &Func, annotations: &[Annotation]) -> Result<(), Unwritten>
+    ensures rows { OnOk result (out.new
+        ≡ each_laid (fn_data (func_of f.now) annotations.now) out.old) }
     ensures named { HasTextFunc (func_of f.now) → IsNamed result }
 {
-    put_head(alloc, f, out)?;
-    put_body(alloc, f, annotations, out)?;
+    put_head(out, f)?;
+    put_body(out, f, annotations)?;
     Ok(())
 }
 
@@ -128,41 +103,56 @@ fn next_annotations(notes: &[Items<Annotation>]) -> (&[Annotation], &[Items<Anno
     }
 }
 
-fn put_fns(
-    alloc: Global,
-    fns: &[Func],
-    notes: &[Items<Annotation>],
-    out: &mut Vec<Value>,
-) -> Result<(), Unwritten>
-    ensures rows { OnOk result (map view out.new.items ≡ map view out.old.items
-        ++ fns_data (map func_of fns.now) notes.now) }
+fn put_fns(out: &mut CertText, fns: &[Func], notes: &[Items<Annotation>]) -> Result<(), Unwritten>
+    ensures rows { OnOk result (out.new
+        ≡ each_laid (fns_data (map func_of fns.now) notes.now) out.old) }
     ensures named { All HasTextFunc (map func_of fns.now) → IsNamed result }
 {
     let mut left = notes;
     for f in fns {
         let (annotations, rest) = next_annotations(left);
-        put_fn(alloc, f, annotations, out)?;
+        put_fn(out, f, annotations)?;
         left = rest;
     }
     Ok(())
 }
 
-fn rows_of(
+/// Writes the rows of a program, in an array.
+#[tactic(auto, using(crate::proofs::Whole::rows_laid))]
+fn put_rows(
+    out: &mut CertText,
+    ordered: bool,
+    p: &Program,
+    notes: &[Items<Annotation>],
+) -> Result<(), Unwritten>
+    ensures rows { OnOk result (out.new
+        ≡ laid (list (rows_data ordered (program_of p.now) notes.now)) out.old) }
+    ensures named { HasTextNames (program_of p.now) → IsNamed result }
+{
+    out.begin()?;
+    put_version(out, ordered)?;
+    put_sets(out, ordered, p.sets.as_slice())?;
+    put_types(out, p.types.as_slice())?;
+    put_fns(out, p.fns.as_slice(), notes)?;
+    out.end()?;
+    Ok(())
+}
+
+/// The rows of a program, as an array between the marks.
+fn rows_text(
     alloc: Global,
     ordered: bool,
     p: &Program,
     notes: &[Items<Annotation>],
-) -> Result<Vec<Value>, Unwritten>
-    ensures rows { IfOk result (λ out. map view out.items
-        ≡ rows_data ordered (program_of p.now) notes.now) }
+) -> Result<Vec<u8>, Unwritten>
+    requires { AreExact (rows_data ordered (program_of p.now) notes.now) }
+    ensures text { IfOk result (λ text. IsTextOfRows
+        (rows_data ordered (program_of p.now) notes.now) text.items) }
     ensures named { HasTextNames (program_of p.now) → IsNamed result }
 {
-    let mut out = Vec::new(alloc);
-    put_version(alloc, ordered, &mut out)?;
-    put_sets(alloc, ordered, p.sets.as_slice(), &mut out)?;
-    put_types(alloc, p.types.as_slice(), &mut out)?;
-    put_fns(alloc, p.fns.as_slice(), notes, &mut out)?;
-    Ok(out)
+    let mut out = CertText::new(alloc)?;
+    put_rows(&mut out, ordered, p, notes)?;
+    Ok(out.finish()?)
 }
 
 /// The text of a program's certificate, from its mark to the closing one. `notes` has for each function its annotations,
@@ -187,6 +177,5 @@ pub fn to_text(
     rows_are_exact();
     certificates_are_written();
     programs_have_a_written_version();
-    let rows = rows_of(alloc, is_ordered(p), p, notes)?;
-    Ok(text_of(alloc, rows)?)
+    rows_text(alloc, is_ordered(p), p, notes)
 }

@@ -8,8 +8,8 @@ use Rattle.cert_write.proofs.program.put_fns.Goals as goal
 pub loop-f-preserved : goal.loop-f-preserved
 loop-f-preserved c =
     let lt : c.loop-f.f-index < length c.args.fns.now = omega (arith, c.loop-f-test.true) in
-    fns_more c.args.fns.now c.args.notes.now c.args.out.now.items c.loop-f.f-index c.loop-f.left.now c.next_annotations.result.1.now c.next_annotations.result.0.now
-    c.loop-f.out.items c.put_fn.new.out.items c.f-item.result lt c.f-item.is c.next_annotations.ensures.first c.next_annotations.ensures.rest
+    fns_more c.args.fns.now c.args.notes.now c.args.out.now c.loop-f.f-index c.loop-f.left.now c.next_annotations.result.1.now c.next_annotations.result.0.now
+    c.loop-f.out c.put_fn.new.out c.f-item.result lt c.f-item.is c.next_annotations.ensures.first c.next_annotations.ensures.rest
     c.loop-f.invariant c.in_ok-put_fn.ensures.rows
 
 pub returns-in_err-put_fn-clause-named : goal.returns-in_err-put_fn-clause-named

@@ -4,8 +4,8 @@ use Rattle.cert_decl_values.specs.Names.{HasTextSet}
 use Rattle.cert_decl_values.proofs.Each.{all_at}
 use Rattle.cert_write.proofs.program.put_sets.Goals as goal
 
-pub returns-in_err-set_value-clause-named : goal.returns-in_err-set_value-clause-named
-returns-in_err-set_value-clause-named c = λ all.
+pub returns-in_err-put_set-clause-named : goal.returns-in_err-put_set-clause-named
+returns-in_err-put_set-clause-named c = λ all.
     let lt : c.loop-set.set-index < length c.args.sets.now = omega (arith, c.loop-set-test.true) in
     let own : HasTextSet (set_of c.set-item.result) = all_at HasTextSet set_of c.args.sets.now c.loop-set.set-index c.set-item.result lt c.set-item.is all in
     search (rules, own)

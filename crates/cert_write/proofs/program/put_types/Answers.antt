@@ -8,7 +8,7 @@ use Rattle.cert_write.proofs.program.put_types.Goals as goal
 pub loop-declared-preserved : goal.loop-declared-preserved
 loop-declared-preserved c =
     let lt : c.loop-declared.declared-index < length c.args.types.now = omega (arith, c.loop-declared-test.true) in
-    types_more c.args.types.now c.args.out.now.items c.loop-declared.declared-index c.loop-declared.out.items c.put_type.new.out.items c.declared-item.result lt c.declared-item.is c.loop-declared.invariant c.in_ok-put_type.ensures.rows
+    types_more c.args.types.now c.args.out.now c.loop-declared.declared-index c.loop-declared.out c.put_type.new.out c.declared-item.result lt c.declared-item.is c.loop-declared.invariant c.in_ok-put_type.ensures.rows
 
 pub returns-in_err-put_type-clause-named : goal.returns-in_err-put_type-clause-named
 returns-in_err-put_type-clause-named c = λ all.

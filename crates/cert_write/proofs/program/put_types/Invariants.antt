@@ -2,4 +2,4 @@ use Rattle.cert_write.proofs.Tables.{TypesGoing}
 use Rattle.cert_write.proofs.program.put_types.Given as goal
 
 abbrev pub invariant-loop-declared : goal.invariant-loop-declared
-invariant-loop-declared l = TypesGoing l.types l.fn.out.items l.declared-index l.out.items
+invariant-loop-declared l = TypesGoing l.types l.fn.out l.declared-index l.out

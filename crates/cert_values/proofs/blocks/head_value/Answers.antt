@@ -1,5 +1,0 @@
-use Rattle.cert_values.proofs.Lengths.{head_parts}
-use Rattle.cert_values.proofs.blocks.head_value.Goals as goal
-
-pub returns : goal.returns
-returns c = rw (head_parts c.args.block.now) (rw (c.len.ensures, c.as_slice.ensures) at c.counted_value.ensures)
