@@ -7,12 +7,8 @@ pub mod Shallow
 pub mod Simple
 pub mod Bodies
 pub mod Declarations
+pub mod Bounds
 pub mod Functions
 pub mod Main
 pub mod Limited
-pub mod Unordered
-pub mod ListedMaps
-pub mod Annotated
-pub mod Holding
-pub mod Verifying
 pub mod NarrowHeads

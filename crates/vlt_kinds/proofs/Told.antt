@@ -9,7 +9,8 @@ use Rattle.vlt_kinds_types.specs.Files.{File, file_of}
 use Rattle.vlt_kinds_decls.specs.Decls.{types_refused}
 use Rattle.vlt_kinds_decls.specs.Made.{core_types}
 use Rattle.vlt_kinds_heads.specs.Phase.{heads_refused, core_heads}
-use Rattle.vlt_kinds.specs.Tables.{unless, kinds_of, heads_told, types_told, names_told}
+use Rattle.vlt_kinds.specs.Unbuilt.{unbuilt_refused}
+use Rattle.vlt_kinds.specs.Tables.{unless, kinds_of, built_told, heads_told, types_told, names_told}
 
 -- the rules on names refuse nothing
 past_names : (ds : List Decl) → least (names_refused ds) ≡ None → names_told ds ≡ types_told ds
@@ -32,7 +33,17 @@ types_refuse ds f x is named refused =
 pub heads_refuse : (ds : List Decl) (f : File) (ts : List TypeDecl) (x : Refusal) → f ≡ file_of ds → least (names_refused ds) ≡ None
     → ts ≡ core_types f ds → least (types_refused f ds) ≡ None → least (heads_refused f ts ds) ≡ Some x → names_told ds ≡ Err x
 heads_refuse ds f ts x is named made typed refused =
-    past_names ds named ∙ past_types ds f is typed ∙ ap (λ o. unless o (Ok (kinds_of ds))) (same_heads ds f ts is made ∙ refused)
+    past_names ds named ∙ past_types ds f is typed ∙ ap (λ o. unless o (built_told ds)) (same_heads ds f ts is made ∙ refused)
+
+-- nor do those on heads
+past_heads : (ds : List Decl) (f : File) (ts : List TypeDecl) → f ≡ file_of ds → ts ≡ core_types f ds → least (heads_refused f ts ds) ≡ None → heads_told ds ≡ built_told ds
+past_heads ds f ts is made bound = ap (λ o. unless o (built_told ds)) (same_heads ds f ts is made ∙ bound)
+
+pub unbuilt_refuse : (ds : List Decl) (f : File) (ts : List TypeDecl) (x : Refusal) → f ≡ file_of ds → least (names_refused ds) ≡ None
+    → ts ≡ core_types f ds → least (types_refused f ds) ≡ None → least (heads_refused f ts ds) ≡ None → least (unbuilt_refused ds) ≡ Some x
+    → names_told ds ≡ Err x
+unbuilt_refuse ds f ts x is named made typed bound unbuilt =
+    past_names ds named ∙ past_types ds f is typed ∙ past_heads ds f ts is made bound ∙ ap (λ o. unless o (Ok (kinds_of ds))) unbuilt
 
 pub same_kinds : (ds : List Decl) (f : File) (ts : List TypeDecl) (hs : List Func) → f ≡ file_of ds → ts ≡ core_types f ds → hs ≡ core_heads f ds
     → kinds_of ds ≡ record { file = f; types = ts; heads = hs }
@@ -43,8 +54,8 @@ same_kinds ds f ts hs is made headed =
 
 pub nothing_refuses : (ds : List Decl) (f : File) (ts : List TypeDecl) (hs : List Func) → f ≡ file_of ds → least (names_refused ds) ≡ None
     → ts ≡ core_types f ds → least (types_refused f ds) ≡ None → hs ≡ core_heads f ds → least (heads_refused f ts ds) ≡ None
-    → names_told ds ≡ Ok (record { file = f; types = ts; heads = hs })
-nothing_refuses ds f ts hs is named made typed headed bound =
-    past_names ds named ∙ past_types ds f is typed
-    ∙ ap (λ o. unless o (Ok (kinds_of ds))) (same_heads ds f ts is made ∙ bound)
+    → least (unbuilt_refused ds) ≡ None → names_told ds ≡ Ok (record { file = f; types = ts; heads = hs })
+nothing_refuses ds f ts hs is named made typed headed bound built =
+    past_names ds named ∙ past_types ds f is typed ∙ past_heads ds f ts is made bound
+    ∙ ap (λ o. unless o (Ok (kinds_of ds))) built
     ∙ ap Ok (same_kinds ds f ts hs is made headed)

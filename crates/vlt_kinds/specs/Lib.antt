@@ -1,3 +1,4 @@
 pub mod Kinds
+pub mod Unbuilt
 pub mod Tables
 pub mod Seen

@@ -10,6 +10,7 @@ use Rattle.vlt_kinds_decls.specs.Decls.{types_refused}
 use Rattle.vlt_kinds_decls.specs.Made.{core_types}
 use Rattle.vlt_kinds_heads.specs.Phase.{heads_refused, core_heads}
 use Rattle.vlt_kinds.specs.Kinds.{Kinds}
+use Rattle.vlt_kinds.specs.Unbuilt.{unbuilt_refused}
 use Rattle.vlt_kinds.specs.declared.error.KindError.{KindError}
 use Rattle.vlt_kinds.specs.declared.error.KindError.TheVariants.{Rule}
 
@@ -24,9 +25,13 @@ abbrev pub unless : {A : Type 0} → Option Refusal → Result A Refusal → Res
 unless None go = go
 unless (Some r) go = Err r
 
--- Rules on names come first, then those on types, then those on heads; in each phase the least refusal is told.
+-- Rules on names come first, then those on types, then those on heads; in each phase the least refusal is told. What isn't built
+-- yet is refused behind them.
+abbrev pub built_told : List Decl → Result Kinds Refusal
+built_told ds = unless (least (unbuilt_refused ds)) (Ok (kinds_of ds))
+
 abbrev pub heads_told : List Decl → Result Kinds Refusal
-heads_told ds = unless (least (heads_refused (file_of ds) (core_types (file_of ds) ds) ds)) (Ok (kinds_of ds))
+heads_told ds = unless (least (heads_refused (file_of ds) (core_types (file_of ds) ds) ds)) (built_told ds)
 
 abbrev pub types_told : List Decl → Result Kinds Refusal
 types_told ds = unless (least (types_refused (file_of ds) ds)) (heads_told ds)

@@ -13,6 +13,7 @@ mod error;
 mod kinds;
 mod lookups;
 pub mod phases;
+pub mod unbuilt;
 
 pub use error::KindError;
 pub use kinds::Kinds;

@@ -20,6 +20,7 @@ ghost use Rattle.vlt_kinds.specs.Seen.{kinds_seen};
 
 use crate::error::KindError;
 use crate::kinds::Kinds;
+use crate::unbuilt::check_built;
 use std::alloc::Global;
 use vlt_base::Items;
 use vlt_core::{Func, TypeDecl};
@@ -143,7 +144,7 @@ pub fn table_of<'a>(
 }
 
 /// What a file declares, where no rule refuses it.
-#[tactic(auto, using(crate::proofs::Told::types_refuse, crate::proofs::Told::heads_refuse, crate::proofs::Told::nothing_refuses))]
+#[tactic(auto, using(crate::proofs::Told::types_refuse, crate::proofs::Told::heads_refuse, crate::proofs::Told::unbuilt_refuse, crate::proofs::Told::nothing_refuses))]
 pub fn kinds_of<'a>(alloc: Global, decls: &'a [Decl]) -> Result<Kinds<'a>, KindError>
     requires language { Each (IsDecl language) (map view.decl_of decls.now) }
     requires few { length decls.now < 2 ^ 32 - 1 }
@@ -154,6 +155,7 @@ pub fn kinds_of<'a>(alloc: Global, decls: &'a [Decl]) -> Result<Kinds<'a>, KindE
     let file = file_table(alloc, decls)?;
     let types = type_table(alloc, &file, decls)?;
     let heads = head_table(alloc, &file, types.as_slice(), decls)?;
+    check_built(decls)?;
     let kinds = table_of(alloc, file, types, heads)?;
     Ok(kinds)
 }

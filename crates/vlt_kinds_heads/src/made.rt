@@ -1,11 +1,14 @@
 //! What heads become.
 
-ghost use Rattle.std.specs.Prelude.{◌≡◌, ◌≤◌, [], map, option_map, length, IfOk};
+ghost use Rattle.std.specs.Prelude.{◌≡◌, ◌≤◌, [], None, map, option_map, length, IfOk};
 ghost use Rattle.vlt_base.specs.States.{has_state};
 ghost use Rattle.vlt_syntax.specs.View as view;
 ghost use Rattle.vlt_core.specs.View as core_view;
 ghost use Rattle.vlt_core.specs.Core as core;
+ghost use Rattle.vlt_kinds_types.specs.Files.{number_of};
+ghost use Rattle.vlt_kinds_types.specs.Types.{known_states};
 ghost use Rattle.vlt_kinds_types.specs.Seen.{file_seen, states_seen};
+ghost use Rattle.vlt_kinds_heads.specs.Places as p;
 ghost use Rattle.vlt_kinds_heads.specs.Phase as q;
 ghost use Rattle.vlt_kinds_heads.specs.Seen.{keys_seen};
 
@@ -82,11 +85,40 @@ fn states_named(
     }
 }
 
+/// The name that stands for the state of a bound entry's object; empty where the clause has no such entry.
+fn state_variable(alloc: Global, clause: &[vlt_syntax::Entry]) -> Result<Items<u8>, AllocError>
+    ensures { IfOk result (λ name. name ≡ q.state_variable (map view.entry_of clause.now)) }
+{
+    for entry in clause {
+        if let vlt_syntax::Entry::Bound { variable, .. } = entry {
+            return Items::from_slice(alloc, variable.text.as_slice());
+        }
+    }
+    Ok(Items::new(alloc))
+}
+
 impl HeadKeys<'_> {
     fn key_id(&self, key: &Name) -> KeyId
         ensures { result.0 ≡ q.key_number (keys_seen self.now) (view.name_of key.now).text }
     {
         KeyId(number_in(self.find(key.text.as_slice())))
+    }
+
+    fn bound_entry(&self, known: &StateNames<'_>, key: &Name, state: &Name) -> Entry
+        ensures { core_view.entry_of result ≡ record {
+          mode = core.up_to (number_of (known_states (states_seen known.now))
+              (view.name_of state.now));
+          key = q.key_number (keys_seen self.now) (view.name_of key.now).text;
+          before = None;
+          after = None;
+        } }
+    {
+        Entry {
+            mode: Mode::Bound(known.number(state).unwrap_or(0)),
+            key: self.key_id(key),
+            before: None,
+            after: None,
+        }
     }
 
     fn core_entry_in(
@@ -120,6 +152,7 @@ impl HeadKeys<'_> {
                     after: Some(after),
                 })
             }
+            vlt_syntax::Entry::Bound { key, state, .. } => Ok(self.bound_entry(known, key, state)),
             vlt_syntax::Entry::Taken(states, _) => {
                 let before = states_named(alloc, known, &states.states)?;
                 Ok(Entry {
@@ -240,9 +273,11 @@ impl HeadKeys<'_> {
         head: &Head,
     ) -> Result<Func, AllocError>
         requires { length head.now.parameters ≤ 16 }
-        ensures { IfOk result (λ func. core_view.func_of func
+        ensures head { IfOk result (λ func. core_view.func_of func
             ≡ q.core_head (file_seen file.now) external (view.head_of head.now)
             (keys_seen self.now)) }
+        ensures variable { IfOk result (λ func. func.state_var
+            ≡ q.state_variable (p.clause_in (view.head_of head.now).clause)) }
     {
         let name = Items::from_slice(alloc, head.name.text.as_slice())?;
         let clause = self.core_clause(alloc, file, clause_in(&head.clause))?;
@@ -257,7 +292,7 @@ impl HeadKeys<'_> {
             result,
             params,
             clause,
-            state_var: Items::new(alloc),
+            state_var: state_variable(alloc, clause_in(&head.clause))?,
             keys,
             vars,
             body,

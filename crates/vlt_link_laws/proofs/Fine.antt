@@ -1,22 +1,25 @@
 -- A declaration that isn't refused in a view isn't refused in the joined program.
-use Rattle.std.proofs.Common.{◌≡◌, ℕ, Bool, true, false, if◌then◌else◌, List, [], ◌∷◌, filter, Some, slice_get, refl, ap, ◌∙◌}
+use Rattle.std.proofs.Common.{◌≡◌, ℕ, Bool, true, false, if◌then◌else◌, List, [], ◌∷◌, filter, Option, Some, None, slice_get, refl, ap, ◌∙◌}
 use Rattle.vlt_syntax.specs.Tree as s
-use Rattle.vlt_syntax.specs.Tree.{Name, HeaderKey, Head, Decl}
+use Rattle.vlt_syntax.specs.Tree.{Name, HeaderKey, Entry, Head, Decl}
+use Rattle.vlt_syntax.specs.Lists.{Each}
 use Rattle.vlt_core.specs.Core.{Func}
 use Rattle.vlt_core.specs.declared.rules.TheConstants as rule
 use Rattle.vlt_core_moves.specs.Moves.{Moves, moved_func}
 use Rattle.vlt_kinds_types.specs.Names.Globals.{is_global}
 use Rattle.vlt_kinds_types.specs.Names.Names as nam
-use Rattle.vlt_kinds_types.specs.Names.Refusals.{refuse}
+use Rattle.vlt_kinds_types.specs.Names.Refusals.{refusal, refuse, of_each}
 use Rattle.vlt_kinds_decls.specs.Decls.{type_refused}
+use Rattle.vlt_kinds_heads.specs.Places.{clause_in}
 use Rattle.vlt_kinds_heads.specs.Keys.{keys_of}
 use Rattle.vlt_kinds_heads.specs.Heads.{head_refused}
 use Rattle.vlt_kinds_heads.specs.Phase.{extern_refused, heads_refused_in, core_head}
 use Rattle.vlt_kinds.specs.Kinds.{Kinds}
+use Rattle.vlt_kinds.specs.Unbuilt as unbuilt
 use Rattle.vlt_resolve.specs.Elaboration.{walk_function}
 use Rattle.vlt_resolve_moves.specs.Sees.{Sees, AreFree}
 use Rattle.vlt_resolve_moves.proofs.Empty.{cons_not_nil, no_left, no_right, none_of_both}
-use Rattle.vlt_resolve_moves.proofs.HeadRules.{head_fine}
+use Rattle.vlt_resolve_moves.proofs.HeadRules.{IsFreeVariable, head_fine}
 use Rattle.vlt_resolve_moves.proofs.Decls.{SameOwn, struct_fine, variant_fine}
 use Rattle.vlt_link_laws.proofs.Parts.{IsFreeDecl, IsHosted}
 use Rattle.vlt_link_laws.proofs.Known.{set_fine}
@@ -64,21 +67,39 @@ module _ (m : Moves) (a b : Kinds) (sees : Sees m a b) where
   OwnStates d = Unit {0}
 
   pub typed_fine : (d : Decl) → OwnStates d → type_refused a.file d ≡ [] → type_refused b.file d ≡ []
-  typed_fine (s.stateset n ss at) own none = refl
+  typed_fine (s.stateset n ss at) own none = none
   typed_fine (s.abstract n ss at) own none = refl
   typed_fine (s.struct n ps ss fs r at) own none = struct_fine m a b sees n ps fs r own none
   typed_fine (s.variant n ps cs at) own none = variant_fine m a b sees ps cs none
   typed_fine (s.extern h at) own none = refl
   typed_fine (s.function h x at) own none = refl
 
-  pub headed_fine : (d : Decl) → IsFreeDecl a b d → IsHosted b d → heads_refused_in a.file a.types d ≡ [] → heads_refused_in b.file b.types d ≡ []
+  -- as long as no bound entry is built, there is no state variable
+  free_variables : (es : List Entry) → of_each unbuilt.entry_refused es ≡ [] → Each (IsFreeVariable a b) es
+  free_variables [] none = tt
+  free_variables (e ∷ es) none = (by e (no_left (unbuilt.entry_refused e) _ none), free_variables es (no_right (unbuilt.entry_refused e) _ none))
+    where
+      by : (e : Entry) → unbuilt.entry_refused e ≡ [] → IsFreeVariable a b e
+      by (s.held k) none = tt
+      by (s.changed k before after) none = tt
+      by (s.bound k v state) none = absurd (cons_not_nil (refusal unbuilt.not_built k.at.from) [] none)
+      by (s.taken k at) none = tt
+      by (s.given k at) none = tt
+      by (s.fresh k at) none = tt
+
+  free_clause : (o : Option (List Entry)) → unbuilt.clause_refused o ≡ [] → Each (IsFreeVariable a b) (clause_in o)
+  free_clause None none = tt
+  free_clause (Some es) none = free_variables es none
+
+  pub headed_fine : (d : Decl) → IsFreeDecl a b d → IsHosted b d → unbuilt.decl_refused d ≡ [] → heads_refused_in a.file a.types d ≡ [] → heads_refused_in b.file b.types d ≡ []
   unfolding extern_refused
-  headed_fine (s.stateset n ss at) free hosted none = refl
-  headed_fine (s.abstract n ss at) free hosted none = refl
-  headed_fine (s.struct n ps ss fs r at) free hosted none = refl
-  headed_fine (s.variant n ps cs at) free hosted none = refl
-  headed_fine (s.extern h at) free hosted none = none_of_both _ _ (head_fine m a b sees h free (no_left (head_refused a.file h) _ none)) hosted
-  headed_fine (s.function h x at) free hosted none = head_fine m a b sees h free.0 none
+  headed_fine (s.stateset n ss at) free hosted built none = refl
+  headed_fine (s.abstract n ss at) free hosted built none = refl
+  headed_fine (s.struct n ps ss fs r at) free hosted built none = refl
+  headed_fine (s.variant n ps cs at) free hosted built none = refl
+  headed_fine (s.extern h at) free hosted built none =
+      none_of_both _ _ (head_fine m a b sees h free (free_clause h.clause built) (no_left (head_refused a.file h) _ none)) hosted
+  headed_fine (s.function h x at) free hosted built none = head_fine m a b sees h free.0 (free_clause h.clause built) none
 
   pub becomes_moves : (fs : List Func) (d : Decl) → IsFreeDecl a b d → heads_refused_in a.file a.types d ≡ [] → Becomes a (IsOf a fs) d → Becomes b (ComesFrom m fs) d
   becomes_moves fs (s.stateset n ss at) free none x = tt

@@ -178,6 +178,7 @@ module _ (file : File) where
       by : (e : Entry) → (entry_name e).text ≡ (entry_key e).text
       by (s.held k) = refl
       by (s.changed k before after) = refl
+      by (s.bound k v b) = refl
       by (s.taken k at) = refl
       by (s.given k at) = refl
       by (s.fresh k at) = refl

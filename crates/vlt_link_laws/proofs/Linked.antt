@@ -19,11 +19,12 @@ use Rattle.vlt_kinds_types.specs.Files.{file_of}
 use Rattle.vlt_kinds_decls.specs.Decls.{type_refused}
 use Rattle.vlt_kinds_heads.specs.Phase.{heads_refused_in}
 use Rattle.vlt_kinds.specs.Kinds.{Kinds}
+use Rattle.vlt_kinds.specs.Unbuilt as unbuilt
 use Rattle.vlt_kinds.specs.Tables.{kinds_of}
 use Rattle.vlt_resolve.specs.Elaboration.{walk_decls}
 use Rattle.vlt_resolve_moves.specs.Joins.{Joins, befores, afters, moves_of}
 use Rattle.vlt_resolve_moves.specs.Sees.{Sees}
-use Rattle.vlt_link_laws.proofs.Given.{IfSome, none_each, each_both, each_map, each_before}
+use Rattle.vlt_link_laws.proofs.Given.{IfSome, each_none, none_each, each_both, each_map, each_before}
 use Rattle.vlt_link_laws.proofs.Known.{FineDecl}
 use Rattle.vlt_link_laws.proofs.Seen.{own, same_cases, keeps_program}
 use Rattle.vlt_link_laws.proofs.External.{hosted}
@@ -43,6 +44,7 @@ pub record IsDone (ds : List Decl) (Q : Func → Type 0) (d : Decl) : Type 0 whe
   pub named : nam.decl_refused (globals_of ds) d ≡ []
   pub typed : type_refused (file_of ds) d ≡ []
   pub headed : heads_refused_in (file_of ds) (kinds_of ds).types d ≡ []
+  pub built : unbuilt.decl_refused d ≡ []
   pub becomes : Becomes (kinds_of ds) Q d
 
 module _ (js : Joins) (fs : List Func) (main : ℕ) (part : IsPart js fs main) where
@@ -58,6 +60,9 @@ module _ (js : Joins) (fs : List Func) (main : ℕ) (part : IsPart js fs main) w
   abbrev pub sees : Sees (moves_of js) (kinds_of (befores js)) (kinds_of (afters js))
   sees = see.sees js seeing
 
+  all_built : Each (λ j. IfSome (λ d. unbuilt.decl_refused d ≡ []) j.before) js
+  all_built = each_before (λ d. unbuilt.decl_refused d ≡ []) js (each_none unbuilt.decl_refused (befores js) part.built)
+
   all_become : Each (λ j. IfSome (Becomes (kinds_of (befores js)) (IsOf (kinds_of (befores js)) fs)) j.before) js
   all_become = each_before (Becomes (kinds_of (befores js)) (IsOf (kinds_of (befores js)) fs)) js (walked (kinds_of (befores js)) (befores js) fs part.walked).0
 
@@ -69,23 +74,27 @@ module _ (js : Joins) (fs : List Func) (main : ℕ) (part : IsPart js fs main) w
   own_states (s.extern h at) fine = tt
   own_states (s.function h x at) fine = tt
 
-  done : (d : Decl) → FineDecl (file_of (befores js)) d → heads_refused_in (file_of (befores js)) (kinds_of (befores js)).types d ≡ [] → Becomes (kinds_of (befores js)) (IsOf (kinds_of (befores js)) fs) d →
+  done : (d : Decl) → FineDecl (file_of (befores js)) d → heads_refused_in (file_of (befores js)) (kinds_of (befores js)).types d ≡ [] → unbuilt.decl_refused d ≡ [] → Becomes (kinds_of (befores js)) (IsOf (kinds_of (befores js)) fs) d →
       IsFreeDecl (kinds_of (befores js)) (kinds_of (afters js)) d → HostStays (moves_of js) (kinds_of (befores js)) (kinds_of (afters js)) d → IsDone (afters js) (ComesFrom (moves_of js) fs) d
-  done d fine headed becomes free stays = record {
+  done d fine headed built becomes free stays = record {
     named = named_fine (moves_of js) (kinds_of (befores js)) (kinds_of (afters js)) sees d free fine.named;
     typed = typed_fine (moves_of js) (kinds_of (befores js)) (kinds_of (afters js)) sees d (own_states d fine) fine.typed;
-    headed = headed_fine (moves_of js) (kinds_of (befores js)) (kinds_of (afters js)) sees d free (hosted (moves_of js) (kinds_of (befores js)) (kinds_of (afters js)) sees (same_cases js part.fits part.joined all_fine) d headed stays) headed;
+    headed = headed_fine (moves_of js) (kinds_of (befores js)) (kinds_of (afters js)) sees d free (hosted (moves_of js) (kinds_of (befores js)) (kinds_of (afters js)) sees (same_cases js part.fits part.joined all_fine) d headed stays) built headed;
+    built = built;
     becomes = becomes_moves (moves_of js) (kinds_of (befores js)) (kinds_of (afters js)) sees fs d free headed becomes;
   }
 
   abbrev HeadsIn : Option Decl → Type 0
   HeadsIn o = IfSome (λ d. heads_refused_in (file_of (befores js)) (kinds_of (befores js)).types d ≡ []) o
 
+  abbrev BuiltIn : Option Decl → Type 0
+  BuiltIn o = IfSome (λ d. unbuilt.decl_refused d ≡ []) o
+
   abbrev FuncIn : Option Decl → Type 0
   FuncIn o = IfSome (Becomes (kinds_of (befores js)) (IsOf (kinds_of (befores js)) fs)) o
 
   abbrev Known : Option Decl → Type 0
-  Known o = IfSome (FineDecl (file_of (befores js))) o × HeadsIn o × FuncIn o
+  Known o = IfSome (FineDecl (file_of (befores js))) o × HeadsIn o × BuiltIn o × FuncIn o
 
   abbrev Bound : Option Decl → Decl → Type 0
   Bound o e = (o ≡ Some e → IsFreeDecl (kinds_of (befores js)) (kinds_of (afters js)) e) × (o ≡ Some e → HostStays (moves_of js) (kinds_of (befores js)) (kinds_of (afters js)) e)
@@ -94,14 +103,15 @@ module _ (js : Joins) (fs : List Func) (main : ℕ) (part : IsPart js fs main) w
   pub all_done : Each (λ j. IsSame j → IsDone (afters js) (ComesFrom (moves_of js) fs) j.after) js
   all_done =
       each_both {P = λ j. Known j.before} {Q = λ j. Bound j.before j.after} {R = λ j. IsSame j → IsDone (afters js) (ComesFrom (moves_of js) fs) j.after} (λ j x y. one j.before j.after x y) js
-      (each_both {P = λ j. IfSome (FineDecl (file_of (befores js))) j.before} {Q = λ j. HeadsIn j.before × FuncIn j.before} {R = λ j. Known j.before} (λ j x y. (x, y.0, y.1)) js all_fine
-      (each_both {P = λ j. HeadsIn j.before} {Q = λ j. FuncIn j.before} {R = λ j. HeadsIn j.before × FuncIn j.before} (λ j x y. (x, y)) js all_heads all_become))
+      (each_both {P = λ j. IfSome (FineDecl (file_of (befores js))) j.before} {Q = λ j. HeadsIn j.before × BuiltIn j.before × FuncIn j.before} {R = λ j. Known j.before} (λ j x y. (x, y.0, y.1, y.2)) js all_fine
+      (each_both {P = λ j. HeadsIn j.before} {Q = λ j. BuiltIn j.before × FuncIn j.before} {R = λ j. HeadsIn j.before × BuiltIn j.before × FuncIn j.before} (λ j x y. (x, y.0, y.1)) js all_heads
+      (each_both {P = λ j. BuiltIn j.before} {Q = λ j. FuncIn j.before} {R = λ j. BuiltIn j.before × FuncIn j.before} (λ j x y. (x, y)) js all_built all_become)))
       (each_both {P = λ j. IsSame j → IsFreeDecl (kinds_of (befores js)) (kinds_of (afters js)) j.after} {Q = λ j. IsSame j → HostStays (moves_of js) (kinds_of (befores js)) (kinds_of (afters js)) j.after} {R = λ j. Bound j.before j.after} (λ j x y. (x, y)) js part.free part.hosted)
     where
       one : (o : Option Decl) (e : Decl) → Known o → Bound o e → o ≡ Some e → IsDone (afters js) (ComesFrom (moves_of js) fs) e
       one None e x y same = absurd (none-some e same)
       one (Some d) e x y same = let is = same_Some d e same in
-          done e (subst (FineDecl (file_of (befores js))) is x.0) (subst (λ d. heads_refused_in (file_of (befores js)) (kinds_of (befores js)).types d ≡ []) is x.1) (subst (Becomes (kinds_of (befores js)) (IsOf (kinds_of (befores js)) fs)) is x.2) (y.0 same) (y.1 same)
+          done e (subst (FineDecl (file_of (befores js))) is x.0) (subst (λ d. heads_refused_in (file_of (befores js)) (kinds_of (befores js)).types d ≡ []) is x.1) (subst (λ d. unbuilt.decl_refused d ≡ []) is x.2) (subst (Becomes (kinds_of (befores js)) (IsOf (kinds_of (befores js)) fs)) is x.3) (y.0 same) (y.1 same)
 
   -- ---- rows
 
@@ -147,13 +157,14 @@ becomes_map k P Q go (s.extern h at) x = (x.0, x.1, go x.0 x.2)
 becomes_map k P Q go (s.function h y at) x = (x.0, x.1, go x.0 x.2)
 
 done_map : (ds : List Decl) (P Q : Func → Type 0) → ((f : Func) → P f → Q f) → (d : Decl) → IsDone ds P d → IsDone ds Q d
-done_map ds P Q go d x = record { named = x.named; typed = x.typed; headed = x.headed; becomes = becomes_map (kinds_of ds) P Q go d x.becomes }
+done_map ds P Q go d x = record { named = x.named; typed = x.typed; headed = x.headed; built = x.built; becomes = becomes_map (kinds_of ds) P Q go d x.becomes }
 
 -- what the joined program is
 pub record IsJoinedProgram (es : List Decl) (main : ℕ) : Type 0 where
   pub named : of_each (nam.decl_refused (globals_of es)) es ≡ []
   pub typed : of_each (type_refused (file_of es)) es ≡ []
   pub headed : of_each (heads_refused_in (file_of es) (kinds_of es).types) es ≡ []
+  pub built : of_each unbuilt.decl_refused es ≡ []
   pub fns : List Func
   pub walked : walk_decls (kinds_of es) (kinds_of es).heads es ≡ Ok fns
   pub accepted : IsAccepted (program_of es fns main)
@@ -168,6 +179,7 @@ linked js ks covers fs gs i k first second main =
       named = none_each (nam.decl_refused (globals_of (afters js))) (afters js) (each_map {P = IsDone (afters js) (From js ks fs gs)} {R = λ d. nam.decl_refused (globals_of (afters js)) d ≡ []} (λ d x. x.named) (afters js) all);
       typed = none_each (type_refused (file_of (afters js))) (afters js) (each_map {P = IsDone (afters js) (From js ks fs gs)} {R = λ d. type_refused (file_of (afters js)) d ≡ []} (λ d x. x.typed) (afters js) all);
       headed = none_each (heads_refused_in (file_of (afters js)) (kinds_of (afters js)).types) (afters js) (each_map {P = IsDone (afters js) (From js ks fs gs)} {R = λ d. heads_refused_in (file_of (afters js)) (kinds_of (afters js)).types d ≡ []} (λ d x. x.headed) (afters js) all);
+      built = none_each unbuilt.decl_refused (afters js) (each_map {P = IsDone (afters js) (From js ks fs gs)} {R = λ d. unbuilt.decl_refused d ≡ []} (λ d x. x.built) (afters js) all);
       fns = g.0;
       walked = g.1;
       accepted = λ n f o there body origin. accept g.0 g.1 f body (each_get (From js ks fs gs) g.0 g.2 n f there) o origin;

@@ -82,6 +82,7 @@ part_of js fs main fits new v = record {
   named = v.named;
   typed = v.typed;
   headed = v.headed;
+  built = v.built;
   walked = v.walked;
   unbroken = v.unbroken;
   accepted = v.accepted;

@@ -19,6 +19,7 @@ use Rattle.vlt_kinds_types.specs.Names.Refusals.{of_each}
 use Rattle.vlt_kinds_types.specs.Files.{file_of}
 use Rattle.vlt_kinds_decls.specs.Decls.{type_refused}
 use Rattle.vlt_kinds_heads.specs.Phase.{heads_refused_in}
+use Rattle.vlt_kinds.specs.Unbuilt as unbuilt
 use Rattle.vlt_kinds.specs.Tables.{kinds_of}
 use Rattle.vlt_resolve.specs.Elaboration.{walk_decls, main_of}
 use Rattle.vlt_syntax_copies.specs.Raised.{raised}
@@ -122,6 +123,7 @@ pub record Facts (ds : List Decl) (fs : List Func) (main : ℕ) : Type 0 where
   pub named : of_each (nam.decl_refused (globals_of ds)) ds ≡ []
   pub typed : of_each (type_refused (file_of ds)) ds ≡ []
   pub headed : of_each (heads_refused_in (file_of ds) (kinds_of ds).types) ds ≡ []
+  pub built : of_each unbuilt.decl_refused ds ≡ []
   pub walked : walk_decls (kinds_of ds) (kinds_of ds).heads ds ≡ Ok fs
   pub unbroken : (n : ℕ) (f : Func) → slice_get fs n ≡ Some f → first_broken 0 (function_rows (program_of ds fs main) (n, f)) ≡ None
   pub accepted : IsAccepted (program_of ds fs main)
@@ -144,6 +146,7 @@ module _ (i m : Tree) (text_i : IsTextTree i) (text_m : IsTextTree m) (with_main
     named = fine.0.named;
     typed = fine.0.typed;
     headed = fine.0.headed;
+    built = fine.0.built;
     walked = walked.walked;
     unbroken = unbroken (program_of decls walked.fns (main_of (kinds_of decls).heads)) (subst HasKindedParts (sym walked.is) (kinded_part i m text_i text_m with_main passed.kinds passed.program passed.told passed.gives));
     accepted = subst IsAccepted (sym walked.is) passed.accepted;
@@ -385,6 +388,7 @@ module _ (i f g : Tree) (text_i : IsTextTree i) (text_f : IsTextTree f) (text_g 
     named = first_facts.named;
     typed = first_facts.typed;
     headed = first_facts.headed;
+    built = first_facts.built;
     walked = first_facts.walked;
     unbroken = first_facts.unbroken;
     accepted = first_facts.accepted;
@@ -397,6 +401,7 @@ module _ (i f g : Tree) (text_i : IsTextTree i) (text_f : IsTextTree f) (text_g 
     named = second_facts.named;
     typed = second_facts.typed;
     headed = second_facts.headed;
+    built = second_facts.built;
     walked = second_facts.walked;
     unbroken = second_facts.unbroken;
     accepted = second_facts.accepted;

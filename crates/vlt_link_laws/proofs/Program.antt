@@ -11,7 +11,9 @@ use Rattle.vlt_kinds_types.specs.Names.Refusals.{refuse_if, of_each, least}
 use Rattle.vlt_kinds_types.specs.Files.{file_of}
 use Rattle.vlt_kinds_decls.specs.Decls as decls
 use Rattle.vlt_kinds_heads.specs.Phase.{heads_refused_in, heads_refused}
-use Rattle.vlt_kinds.specs.Tables.{kinds_of, unless, heads_told, types_told, kinds_told}
+use Rattle.vlt_kinds.specs.Unbuilt as unbuilt
+use Rattle.vlt_kinds.specs.Unbuilt.{unbuilt_refused}
+use Rattle.vlt_kinds.specs.Tables.{kinds_of, unless, built_told, heads_told, types_told, kinds_told}
 use Rattle.vlt_resolve.specs.Walk.Walk.{then_do}
 use Rattle.vlt_resolve.specs.Elaboration.{main_of, with_told}
 use Rattle.vlt_resolve_moves.specs.Joins.{Joins, befores, afters}
@@ -52,10 +54,11 @@ unfolding nam.no_main
 has_main js fits none =
     ap (λ x. refuse_if (not x) rule.NO_MAIN 0) (main_stays js fits (not_false (list_any nam.is_main (befores js)) (not_broken (not (list_any nam.is_main (befores js))) rule.NO_MAIN 0 none)))
 
-told : (es : List Decl) → nam.names_refused es ≡ [] → decls.types_refused (file_of es) es ≡ [] → heads_refused (file_of es) (kinds_of es).types es ≡ [] → kinds_told (record { decls = es }) ≡ Ok (kinds_of es)
-told es one two three =
+told : (es : List Decl) → nam.names_refused es ≡ [] → decls.types_refused (file_of es) es ≡ [] → heads_refused (file_of es) (kinds_of es).types es ≡ [] → unbuilt_refused es ≡ [] → kinds_told (record { decls = es }) ≡ Ok (kinds_of es)
+told es one two three four =
     ap (λ rs. unless (least rs) (types_told es)) one ∙
-    (ap (λ rs. unless (least rs) (heads_told es)) two ∙ ap (λ rs. unless (least rs) (Ok (kinds_of es))) three)
+    (ap (λ rs. unless (least rs) (heads_told es)) two ∙
+    (ap (λ rs. unless (least rs) (built_told es)) three ∙ ap (λ rs. unless (least rs) (Ok (kinds_of es))) four))
 
 named : (es : List Decl) → nam.no_main es ≡ [] → nam.names_again es ≡ [] → of_each (nam.decl_refused (globals_of es)) es ≡ [] → nam.names_refused es ≡ []
 unfolding nam.names_refused
@@ -69,13 +72,17 @@ headed : (es : List Decl) → of_each (heads_refused_in (file_of es) (kinds_of e
 unfolding heads_refused
 headed es none = none
 
+built : (es : List Decl) → of_each unbuilt.decl_refused es ≡ [] → unbuilt_refused es ≡ []
+unfolding unbuilt_refused
+built es none = none
+
 pub views_link : (js ks : Joins) → Covers js ks → (fs gs : List Func) (i k : ℕ) → IsPart js fs i → IsPart ks gs k →
     nam.no_main (befores ks) ≡ [] → nam.names_again (afters js) ≡ [] → IsLinked (afters js)
 views_link js ks covers fs gs i k first second main once =
     let same = sym (same_afters js ks covers) in
     let p = linked js ks covers fs gs i k first second (main_of (kinds_of (afters js)).heads) in
     record {
-      kinds = told (afters js) (named (afters js) (ap nam.no_main (sym same) ∙ has_main ks second.fits main) once p.named) (typed (afters js) p.typed) (headed (afters js) p.headed);
+      kinds = told (afters js) (named (afters js) (ap nam.no_main (sym same) ∙ has_main ks second.fits main) once p.named) (typed (afters js) p.typed) (headed (afters js) p.headed) (built (afters js) p.built);
       program = program_of (afters js) p.fns (main_of (kinds_of (afters js)).heads);
       is = ap (λ r. with_told (then_do r (λ fs. Ok (program_of (afters js) fs (main_of (kinds_of (afters js)).heads))))) p.walked;
       accepted = p.accepted;

@@ -13,6 +13,7 @@ use Rattle.vlt_kinds_types.specs.Names.Refusals.{of_each}
 use Rattle.vlt_kinds_types.specs.Files.{file_of}
 use Rattle.vlt_kinds_decls.specs.Decls.{type_refused}
 use Rattle.vlt_kinds_heads.specs.Phase.{heads_refused_in}
+use Rattle.vlt_kinds.specs.Unbuilt as unbuilt
 use Rattle.vlt_kinds.specs.Tables.{kinds_of}
 use Rattle.vlt_resolve.specs.Elaboration.{walk_decls}
 use Rattle.vlt_iface.specs.View.{gives, others}
@@ -62,6 +63,7 @@ pub record IsView (js : Joins) (fs : List Func) (main : ℕ) : Type 0 where
   pub named : of_each (nam.decl_refused (globals_of (befores js))) (befores js) ≡ []
   pub typed : of_each (type_refused (file_of (befores js))) (befores js) ≡ []
   pub headed : of_each (heads_refused_in (file_of (befores js)) (kinds_of (befores js)).types) (befores js) ≡ []
+  pub built : of_each unbuilt.decl_refused (befores js) ≡ []
   pub walked : walk_decls (kinds_of (befores js)) (kinds_of (befores js)).heads (befores js) ≡ Ok fs
   pub unbroken : (n : ℕ) (f : Func) → slice_get fs n ≡ Some f → first_broken 0 (function_rows (program_of (befores js) fs main) (n, f)) ≡ None
   pub accepted : IsAccepted (program_of (befores js) fs main)

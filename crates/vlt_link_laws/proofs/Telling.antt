@@ -16,7 +16,9 @@ use Rattle.vlt_kinds_types.specs.Files.{file_of}
 use Rattle.vlt_kinds_decls.specs.Decls.{type_refused, types_refused}
 use Rattle.vlt_kinds_heads.specs.Phase.{heads_refused_in, heads_refused}
 use Rattle.vlt_kinds.specs.Kinds.{Kinds}
-use Rattle.vlt_kinds.specs.Tables.{kinds_of, unless}
+use Rattle.vlt_kinds.specs.Unbuilt as unbuilt
+use Rattle.vlt_kinds.specs.Unbuilt.{unbuilt_refused}
+use Rattle.vlt_kinds.specs.Tables.{kinds_of, unless, built_told}
 use Rattle.vlt_resolve.specs.Elaboration.{walk_decls, main_of, walk_tree, Told, broken, told_of, with_told}
 use Rattle.vlt_syntax_copies.specs.Raised.{raised}
 use Rattle.vlt_iface.specs.declared.places.TheConstants.{RAISE}
@@ -47,13 +49,15 @@ pub record ViewFine (os : List ℕ) (ds : List Decl) : Type 0 where
   pub typed : of_each (type_refused (file_of ds)) ds ≡ []
   pub headed : of_each (heads_refused_in (file_of ds) (kinds_of ds).types) ds ≡ []
   pub own : own_refused (hidden_names os ds) (kinds_of ds).types (file_of ds) os ds ≡ []
+  pub built : of_each unbuilt.decl_refused ds ≡ []
 
 pub view_fine : (os : List ℕ) (ds : List Decl) (kinds : Kinds) → view_names_told os ds ≡ Ok kinds → ViewFine os ds × (kinds_of ds ≡ kinds)
-unfolding types_refused heads_refused
+unfolding types_refused heads_refused unbuilt_refused
 view_fine os ds kinds e =
     let one = went (least (nam.other_names_refused ds)) (view_types_told os ds) kinds e in
     let two = went (least (types_refused (file_of ds) ds)) (view_heads_told os ds) kinds one.1 in
-    let three = went (least (view_heads_refused (file_of ds) (kinds_of ds).types os ds)) (Ok (kinds_of ds)) kinds two.1 in
+    let three = went (least (view_heads_refused (file_of ds) (kinds_of ds).types os ds)) (built_told ds) kinds two.1 in
+    let four = went (least (unbuilt_refused ds)) (Ok (kinds_of ds)) kinds three.1 in
     let names = no_least (nam.other_names_refused ds) one.0 in
     let heads = no_least (view_heads_refused (file_of ds) (kinds_of ds).types os ds) three.0 in (
       record {
@@ -62,8 +66,9 @@ view_fine os ds kinds e =
         typed = no_least (types_refused (file_of ds) ds) two.0;
         headed = no_left (heads_refused (file_of ds) (kinds_of ds).types ds) _ heads;
         own = no_right (heads_refused (file_of ds) (kinds_of ds).types ds) _ heads;
+        built = no_least (unbuilt_refused ds) four.0;
       },
-      same_ok (kinds_of ds) kinds three.1,
+      same_ok (kinds_of ds) kinds four.1,
     )
 
 -- ---- programs

@@ -19,7 +19,8 @@ use Rattle.vlt_kinds_heads.specs.Heads.{head_refused}
 use Rattle.vlt_kinds_heads.specs.Externals.{external_refused}
 use Rattle.vlt_kinds_heads.specs.Phase.{extern_refused, heads_refused_in, heads_refused, core_heads_in}
 use Rattle.vlt_kinds.specs.Kinds.{Kinds}
-use Rattle.vlt_kinds.specs.Tables.{kinds_of, unless, heads_told, types_told, names_told}
+use Rattle.vlt_kinds.specs.Unbuilt.{unbuilt_refused}
+use Rattle.vlt_kinds.specs.Tables.{kinds_of, unless, built_told, heads_told, types_told, names_told}
 use Rattle.vlt_resolve_laws.proofs.OfKindsLaws.Empty.{no_left, no_right, not_broken}
 use Rattle.vlt_resolve_exprs.specs.declared.limits.TheConstants.{TOO_MANY_VARIABLES, TOO_MANY_KEYS}
 use Rattle.vlt_resolve.specs.Walk.Walk.{then_do, walk_stmts}
@@ -34,6 +35,7 @@ pub record IsTold (ds : List Decl) (kinds : Kinds) : Type 0 where
   pub names : names_refused ds ≡ []
   pub types : types_refused (file_of ds) ds ≡ []
   pub heads : heads_refused (file_of ds) (core_types (file_of ds) ds) ds ≡ []
+  pub built : unbuilt_refused ds ≡ []
   pub same : kinds_of ds ≡ kinds
 
 unless_told : {A : Type 0} (o : Option Refusal) (go : Result A Refusal) (a : A) → unless o go ≡ Ok a → (o ≡ None) × (go ≡ Ok a)
@@ -47,12 +49,14 @@ pub told : (ds : List Decl) (kinds : Kinds) → names_told ds ≡ Ok kinds → I
 told ds kinds e =
     let a = unless_told (least (names_refused ds)) (types_told ds) kinds e in
     let b = unless_told (least (types_refused (file_of ds) ds)) (heads_told ds) kinds a.1 in
-    let c = unless_told (least (heads_refused (file_of ds) (core_types (file_of ds) ds) ds)) (Ok (kinds_of ds)) kinds b.1 in
+    let c = unless_told (least (heads_refused (file_of ds) (core_types (file_of ds) ds) ds)) (built_told ds) kinds b.1 in
+    let d = unless_told (least (unbuilt_refused ds)) (Ok (kinds_of ds)) kinds c.1 in
     record {
       names = (least_none None (names_refused ds) a.0).1;
       types = (least_none None (types_refused (file_of ds) ds) b.0).1;
       heads = (least_none None (heads_refused (file_of ds) (core_types (file_of ds) ds) ds) c.0).1;
-      same = same_ok (kinds_of ds) kinds c.1;
+      built = (least_none None (unbuilt_refused ds) d.0).1;
+      same = same_ok (kinds_of ds) kinds d.1;
     }
 
 -- ---- the functions

@@ -10,7 +10,8 @@ use Rattle.vlt_kinds_decls.specs.Decls.{types_refused}
 use Rattle.vlt_kinds_decls.specs.Made.{core_types}
 use Rattle.vlt_kinds_heads.specs.Phase.{core_heads}
 use Rattle.vlt_kinds.specs.Kinds.{Kinds}
-use Rattle.vlt_kinds.specs.Tables.{unless, kinds_of}
+use Rattle.vlt_kinds.specs.Unbuilt.{unbuilt_refused}
+use Rattle.vlt_kinds.specs.Tables.{unless, kinds_of, built_told}
 use Rattle.vlt_kinds.proofs.Told.{same_kinds}
 use Rattle.vlt_views.specs.Views.{view_heads_refused, view_heads_told, view_types_told, view_names_told}
 
@@ -35,12 +36,23 @@ types_refuse os ds f x is named refused =
 pub heads_refuse : (os : List ℕ) (ds : List Decl) (f : File) (ts : List TypeDecl) (x : Refusal) → f ≡ file_of ds → least (other_names_refused ds) ≡ None
     → ts ≡ core_types f ds → least (types_refused f ds) ≡ None → least (view_heads_refused f ts os ds) ≡ Some x → view_names_told os ds ≡ Err x
 heads_refuse os ds f ts x is named made typed refused =
-    past_names os ds named ∙ past_types os ds f is typed ∙ ap (λ o. unless o (Ok (kinds_of ds))) (same_heads os ds f ts is made ∙ refused)
+    past_names os ds named ∙ past_types os ds f is typed ∙ ap (λ o. unless o (built_told ds)) (same_heads os ds f ts is made ∙ refused)
+
+-- nor do those on heads
+past_heads : (os : List ℕ) (ds : List Decl) (f : File) (ts : List TypeDecl) → f ≡ file_of ds → ts ≡ core_types f ds
+    → least (view_heads_refused f ts os ds) ≡ None → view_heads_told os ds ≡ built_told ds
+past_heads os ds f ts is made bound = ap (λ o. unless o (built_told ds)) (same_heads os ds f ts is made ∙ bound)
+
+pub unbuilt_refuse : (os : List ℕ) (ds : List Decl) (f : File) (ts : List TypeDecl) (x : Refusal) → f ≡ file_of ds → least (other_names_refused ds) ≡ None
+    → ts ≡ core_types f ds → least (types_refused f ds) ≡ None → least (view_heads_refused f ts os ds) ≡ None → least (unbuilt_refused ds) ≡ Some x
+    → view_names_told os ds ≡ Err x
+unbuilt_refuse os ds f ts x is named made typed bound unbuilt =
+    past_names os ds named ∙ past_types os ds f is typed ∙ past_heads os ds f ts is made bound ∙ ap (λ o. unless o (Ok (kinds_of ds))) unbuilt
 
 pub nothing_refuses : (os : List ℕ) (ds : List Decl) (f : File) (ts : List TypeDecl) (hs : List Func) (kinds : Kinds) → f ≡ file_of ds
     → least (other_names_refused ds) ≡ None → ts ≡ core_types f ds → least (types_refused f ds) ≡ None → hs ≡ core_heads f ds
-    → least (view_heads_refused f ts os ds) ≡ None → kinds ≡ record { file = f; types = ts; heads = hs } → view_names_told os ds ≡ Ok kinds
-nothing_refuses os ds f ts hs kinds is named made typed headed bound table =
-    past_names os ds named ∙ past_types os ds f is typed
-    ∙ ap (λ o. unless o (Ok (kinds_of ds))) (same_heads os ds f ts is made ∙ bound)
+    → least (view_heads_refused f ts os ds) ≡ None → least (unbuilt_refused ds) ≡ None → kinds ≡ record { file = f; types = ts; heads = hs } → view_names_told os ds ≡ Ok kinds
+nothing_refuses os ds f ts hs kinds is named made typed headed bound built table =
+    past_names os ds named ∙ past_types os ds f is typed ∙ past_heads os ds f ts is made bound
+    ∙ ap (λ o. unless o (Ok (kinds_of ds))) built
     ∙ ap Ok (same_kinds ds f ts hs is made headed ∙ sym table)

@@ -1,5 +1,5 @@
 -- The kinds of a view and its core program, or what refuses them.
-use Rattle.std.specs.Prelude.{ℕ, Bool, not, ◌&&◌, if◌then◌else◌, List, ◌++◌, Result, Ok, Err}
+use Rattle.std.specs.Prelude.{ℕ, Bool, not, ◌&&◌, if◌then◌else◌, List, ◌++◌, Result, Err}
 use Rattle.std.specs.List.{list_any}
 use Rattle.vlt_syntax.specs.Tree.{Decl}
 use Rattle.vlt_core.specs.Core.{TypeDecl, Program}
@@ -11,7 +11,7 @@ use Rattle.vlt_kinds_types.specs.Files.{File, file_of}
 use Rattle.vlt_kinds_decls.specs.Decls.{types_refused}
 use Rattle.vlt_kinds_heads.specs.Phase.{heads_refused}
 use Rattle.vlt_kinds.specs.Kinds.{Kinds}
-use Rattle.vlt_kinds.specs.Tables.{kinds_of, unless}
+use Rattle.vlt_kinds.specs.Tables.{kinds_of, unless, built_told}
 use Rattle.vlt_resolve.specs.Elaboration.{Told, broken, elaborated}
 use Rattle.vlt_iface.specs.declared.places.TheConstants.{RAISE}
 use Rattle.vlt_iface.specs.View.{View}
@@ -23,10 +23,10 @@ abbrev pub view_heads_refused : File → List TypeDecl → (origins : List ℕ) 
 view_heads_refused file types os ds =
     heads_refused file types ds ++ own_refused (hidden_names os ds) types file os ds
 
--- In each phase the least refusal is told.
+-- In each phase the least refusal is told. What isn't built yet is refused behind them.
 abbrev pub view_heads_told : (origins : List ℕ) → List Decl → Result Kinds Refusal
 view_heads_told os ds =
-    unless (least (view_heads_refused (file_of ds) (kinds_of ds).types os ds)) (Ok (kinds_of ds))
+    unless (least (view_heads_refused (file_of ds) (kinds_of ds).types os ds)) (built_told ds)
 
 abbrev pub view_types_told : (origins : List ℕ) → List Decl → Result Kinds Refusal
 view_types_told os ds = unless (least (types_refused (file_of ds) ds)) (view_heads_told os ds)

@@ -19,6 +19,7 @@ use std::alloc::Global;
 use vlt_base::Items;
 use vlt_core::{Func, TypeDecl};
 use vlt_kinds::phases::{table_of, told, type_table};
+use vlt_kinds::unbuilt::check_built;
 use vlt_kinds::{KindError, Kinds};
 use vlt_kinds_heads::check_heads;
 use vlt_kinds_types::{File, LeastRefusal, check_other_names, file_of};
@@ -67,7 +68,7 @@ fn head_table(
 }
 
 /// What a view declares, where no rule refuses it.
-#[tactic(auto, using(crate::proofs::Told::types_refuse, crate::proofs::Told::heads_refuse, crate::proofs::Told::nothing_refuses))]
+#[tactic(auto, using(crate::proofs::Told::types_refuse, crate::proofs::Told::heads_refuse, crate::proofs::Told::unbuilt_refuse, crate::proofs::Told::nothing_refuses))]
 pub fn kinds_of<'a>(
     alloc: Global,
     decls: &'a [Decl],
@@ -83,6 +84,7 @@ pub fn kinds_of<'a>(
     let file = file_table(alloc, decls)?;
     let types = type_table(alloc, &file, decls)?;
     let heads = head_table(alloc, &file, types.as_slice(), decls, origins)?;
+    check_built(decls)?;
     let kinds = table_of(alloc, file, types, heads)?;
     Ok(kinds)
 }

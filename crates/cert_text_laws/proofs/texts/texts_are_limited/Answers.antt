@@ -1,3 +1,4 @@
+use Rattle.cert_text_laws.proofs.Bounds.{unbound_known}
 use Rattle.cert_text_laws.proofs.CNames.{text_names}
 use Rattle.cert_text_laws.proofs.Counting.{few_statements}
 use Rattle.cert_text_laws.proofs.Limited.{limited}
@@ -10,5 +11,6 @@ returns c = λ p is.
     (record {
       keys = λ g f at. c.elaborated_programs_have_few_keys.ensures is.tree is.kinds p is.elaborated g f at;
       vars = λ g f at. c.elaborated_programs_have_few_variables.ensures is.tree is.kinds p is.elaborated g f at;
+      bounds = λ g f at. unbound_known p f (c.elaborated_programs_have_no_bounds.ensures is.tree is.kinds p is.elaborated g f at);
       blank = λ g f at. c.elaborated_programs_have_blank_externals.ensures is.tree is.kinds p is.elaborated g f at;
     })
