@@ -14,3 +14,5 @@ pub mod Pointing
 pub mod Rowing
 pub mod Sequences
 pub mod Telling
+pub mod Sizes
+pub mod Instances

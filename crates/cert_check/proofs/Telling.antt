@@ -1,20 +1,19 @@
 -- The answers for functions and for all of them.
-use Rattle.std.proofs.Common.{◌≡◌, ◌<◌, ◌≤◌, ◌+◌, ◌^◌, ℕ, zero, suc, true, false, true≢false, List, [], ◌∷◌, map, length, get_or, Option, Some, None, Result, Ok, Err, OnOk, refl, sym, ap, ◌∙◌, subst, arith, ⊎_elim, inl, inr, ◌⊎◌}
-use Rattle.std.specs.Prelude.{slice_get, option_map}
+use Rattle.std.proofs.Common.{◌≡◌, ◌<◌, ◌≤◌, ◌+◌, ◌^◌, ℕ, zero, suc, true, false, true≢false, List, [], ◌∷◌, map, length, get_or, Option, Some, None, Result, Ok, Err, OnOk, refl, sym, ap, ◌∙◌, subst, arith, ⊎_elim, ◌⊎◌}
+use Rattle.std.specs.Prelude.{slice_get}
 use Rattle.std.specs.Result.{IsErrAnd}
 use Rattle.vlt_core.specs.Core as core
 use Rattle.vlt_core.specs.Core.{done}
 use Rattle.vlt_core.specs.Flow.{Block, block, size_block}
 use Rattle.vlt_core.specs.Bodies.{body_flow, flow_of_stmts}
-use Rattle.vlt_core.specs.Instances.{bound_in}
 use Rattle.vlt_core.specs.Least.{first_number}
 use Rattle.vlt_core.specs.View.{stmts_of}
 use Rattle.vlt_core.specs.declared.program.Stmt.{Stmt}
 use Rattle.cert_format.specs.Notes.{Note}
-use Rattle.cert_fit_laws.specs.Annotation.{annotation, IsLocalCertificate}
-use Rattle.cert_check.specs.Tests.{Test, Hold, FirstFails, refused, body_tests, function_tests}
+use Rattle.cert_fit_laws.specs.Annotation.{IsLocalCertificate}
+use Rattle.cert_check.specs.Tests.{Test, Hold, FirstFails, refused, function_tests}
 use Rattle.cert_check.specs.Outcomes.{refusal_of, HasOutcomeUnless, AreTestedUnless}
-use Rattle.cert_check.specs.Unfit.{IsUnfitBody, IsUnfitFunc, body, IsUnfit}
+use Rattle.cert_check.specs.Unfit.{IsUnfitFunc, IsUnfit}
 use Rattle.cert_check.specs.Unfit as why
 use Rattle.cert_check.specs.Whole.{ProgramRefusal, refusal_in, HoldAt, IsRefusedAt, IsFirstRefusal, IfRefused, IfUnfit}
 use Rattle.cert_check.specs.Results.{IsOutcomeAt, IsTestedAt, IsOutcome, IsTested}
@@ -24,25 +23,9 @@ use Rattle.cert_check.specs.declared.errors.Stop.TheVariants as stop
 use Rattle.cert_check.specs.declared.whole.LocalRefusal.{LocalRefusal}
 use Rattle.cert_check.specs.declared.whole.LocalError.{LocalError}
 use Rattle.cert_check.specs.declared.whole.LocalError.TheVariants as error
-use Rattle.cert_check.proofs.Deciding.{unless_wider}
-use Rattle.cert_check.proofs.Functions.{one_instance, first_next, holds_local, none_refused, one_refused}
-
--- ---- what a function of options gives
-
-pub some_of : {A B : Type 0} (go : A → B) (o : Option A) (a : A) (x : Option B) → o ≡ Some a → option_map go o ≡ x → x ≡ None → ⊥
-some_of {A} {B} go o a x e q n = never (go a) (subst (λ o. option_map go o ≡ x) e q ∙ n)
-  where
-    never : (b : B) → (let y : Option B = Some b in y ≡ None) → ⊥
-    never b e = cc
-
-pub none_of : {A B : Type 0} (go : A → B) (o : Option A) (x : Option B) → o ≡ None → option_map go o ≡ x → x ≡ None
-none_of go o x e q = sym (subst (λ o. option_map go o ≡ x) e q)
+use Rattle.cert_check.proofs.Functions.{first_next, holds_local, none_refused, one_refused}
 
 -- ---- functions
-
-pub func_told : (p : core.Program) (f : core.Func) (notes : List Note) (r : Result ℕ Stop) (P : ℕ → Type 0) → bound_in f.clause ≡ None →
-    AreTestedUnless (IsUnfitBody p f notes 0) r (body_tests p f (annotation notes 0)) P → AreTestedUnless (IsUnfitFunc p f notes) r (function_tests p f notes) P
-func_told p f notes r P plain told = subst (λ ts. AreTestedUnless (IsUnfitFunc p f notes) r ts P) (sym (one_instance p f notes plain)) (unless_wider r _ _ _ told body (λ n q. q))
 
 pub get_at : {A B : Type 0} (go : A → B) (xs : List A) (i : ℕ) (x : A) → i < length xs → x ≡ get_or xs i x → slice_get (map go xs) i ≡ Some (go x)
 get_at go [] i x lt read = absurd (none lt)

@@ -1,11 +1,11 @@
 -- Why notes aren't tested: a program or notes as no certificate has them.
-use Rattle.std.specs.Prelude.{◌≡◌, ◌≤◌, ◌<◌, ◌^◌, ◌⊎◌, ℕ, true, false, List, [], ◌∷◌, length, Option, Some, None, slice_get}
+use Rattle.std.specs.Prelude.{◌≡◌, ◌≤◌, ◌<◌, ◌^◌, ℕ, true, false, List, [], ◌∷◌, length, Option, Some, slice_get}
 use Rattle.vlt_core.specs.Core.{done, Func, Program}
 use Rattle.vlt_core.specs.Maps.{Status, absent}
 use Rattle.vlt_core.specs.Flow.{size_block}
 use Rattle.vlt_core.specs.Bodies.{body_flow}
 use Rattle.vlt_core.specs.Least.{first_number}
-use Rattle.vlt_core.specs.Instances.{bound_in}
+use Rattle.vlt_core.specs.Instances.{instance, origins}
 use Rattle.vlt_keyset.specs.Pairs.{IsBefore}
 use Rattle.vlt_rows.specs.Unfit.{HasNoFlow}
 use Rattle.vlt_flow.specs.Unfit.{HasNoStart}
@@ -63,10 +63,11 @@ pub data IsUnfitBody (p : Program) (f : Func) (notes : List Note) (instance : �
 
 -- ---- programs
 
--- A function with a bound entry has several instances, and notes are tested in none of them yet.
 pub data IsUnfitFunc (p : Program) (f : Func) (notes : List Note) : Type 0 where
-  bound : (bound_in f.clause ≡ None → ⊥) → IsUnfitFunc p f notes
-  body : IsUnfitBody p f notes 0 → IsUnfitFunc p f notes
+  -- the bound of its clause is no state of its key, so that it has no instance
+  no_instance : origins p f ≡ [] → IsUnfitFunc p f notes
+  -- in some instance the body or the notes are unfit
+  body : (i : ℕ) (o : Option ℕ) → slice_get (origins p f) i ≡ Some o → IsUnfitBody p (instance p f o) notes i → IsUnfitFunc p f notes
 
 pub data IsUnfit (p : Program) (all : List (List Note)) : Type 0 where
   -- there isn't one list of notes for each function

@@ -2,6 +2,7 @@
 
 ghost use Rattle.std.specs.Prelude.{◌≡◌, ◌≤◌, ◌<◌, ◌^◌, ◌+◌, None, MatchBool, MatchResult};
 ghost use Rattle.vlt_core.specs.View.{program_of, func_of};
+ghost use Rattle.vlt_core.specs.Instances.{instance};
 ghost use Rattle.vlt_core.specs.Bodies as core;
 ghost use Rattle.vlt_core.specs.Derives.{start_map};
 ghost use Rattle.vlt_core.specs.Flow.{size_block};
@@ -26,12 +27,14 @@ use vlt_flow::{count_block, start_map_of};
 use vlt_keyset::Held;
 use vlt_rows::{FlowBlock, RowError, body_flow};
 
-fn flow_of(alloc: Global, p: &Program, f: &Func) -> Result<FlowBlock, Stop>
+fn flow_of(alloc: Global, p: &Program, f: &Func, origin: Option<u8>) -> Result<FlowBlock, Stop>
     ensures { MatchResult result
-        (λ x. block_view x ≡ core.body_flow (program_of p.now) (func_of f.now))
-        (IsUnlessMemory (HasNoFlow (program_of p.now) (func_of f.now))) }
+        (λ x. block_view x ≡ core.body_flow (program_of p.now)
+        (instance (program_of p.now) (func_of f.now) origin))
+        (IsUnlessMemory (HasNoFlow (program_of p.now)
+        (instance (program_of p.now) (func_of f.now) origin))) }
 {
-    match body_flow(alloc, p, f) {
+    match body_flow(alloc, p, f, origin) {
         Ok(flow) => Ok(flow),
         Err(RowError::Unfit) => Err(Stop::Unfit),
         Err(RowError::Memory) => Err(Stop::Memory),
@@ -39,12 +42,14 @@ fn flow_of(alloc: Global, p: &Program, f: &Func) -> Result<FlowBlock, Stop>
     }
 }
 
-fn start_of(alloc: Global, p: &Program, f: &Func) -> Result<Held, Stop>
+fn start_of(alloc: Global, p: &Program, f: &Func, origin: Option<u8>) -> Result<Held, Stop>
     ensures { MatchResult result
-        (λ h. map_of h ≡ start_map (program_of p.now) (func_of f.now))
-        (IsUnlessMemory (HasNoStart (program_of p.now) (func_of f.now))) }
+        (λ h. map_of h ≡ start_map (program_of p.now)
+        (instance (program_of p.now) (func_of f.now) origin))
+        (IsUnlessMemory (HasNoStart (program_of p.now)
+        (instance (program_of p.now) (func_of f.now) origin))) }
 {
-    match start_map_of(alloc, p, f) {
+    match start_map_of(alloc, p, f, origin) {
         Ok(held) => Ok(held),
         Err(RowError::Unfit) => Err(Stop::Unfit),
         Err(RowError::Memory) => Err(Stop::Memory),
@@ -84,27 +89,31 @@ fn test_flow(given: &Given<'_>, start: Held, flow: &FlowBlock) -> Result<usize, 
     Ok(count)
 }
 
-/// Tests the notes of a function, each by its map for this instance, in the function's body, as if it had no bound entry;
-/// and gives how many statements the body has.
+/// Tests the notes of a function, each by its map for the instance of this number and origin, in the function's body; and gives
+/// how many statements the body has.
 pub fn test_body(
     alloc: Global,
     p: &Program,
     f: &Func,
+    origin: Option<u8>,
     notes: &[MapsNote],
-    instance: usize,
+    number: usize,
 ) -> Result<usize, Stop>
     ensures { AreTestedUnless
-        (IsUnfitBody (program_of p.now) (func_of f.now) (plain_notes notes.now) instance) result
-        (body_tests (program_of p.now) (func_of f.now) (given_by notes.now instance))
-        (λ n. (n ≡ size_block (core.body_flow (program_of p.now) (func_of f.now)))
+        (IsUnfitBody (program_of p.now) (instance (program_of p.now) (func_of f.now) origin)
+        (plain_notes notes.now) number) result
+        (body_tests (program_of p.now) (instance (program_of p.now) (func_of f.now) origin)
+        (given_by notes.now number))
+        (λ n. (n ≡ size_block (core.body_flow (program_of p.now)
+        (instance (program_of p.now) (func_of f.now) origin)))
         × (n < 2 ^ 62)) }
 {
-    let flow = flow_of(alloc, p, f)?;
-    let start = start_of(alloc, p, f)?;
+    let flow = flow_of(alloc, p, f, origin)?;
+    let start = start_of(alloc, p, f, origin)?;
     let given = Given {
         alloc,
         notes,
-        instance,
+        instance: number,
     };
     test_flow(&given, start, &flow)
 }

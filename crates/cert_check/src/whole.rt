@@ -1,11 +1,10 @@
 //! The tests of a program's notes, function by function.
 
-ghost use Rattle.std.specs.Prelude.{◌≡◌, ◌<◌, ◌+◌, ◌^◌, map, length, option_map, OnOk};
-ghost use Rattle.vlt_core.specs.View.{program_of, func_of, entry_of};
-ghost use Rattle.vlt_core.specs.LookupViews.{bound_view};
+ghost use Rattle.std.specs.Prelude.{◌≡◌, ◌<◌, ◌+◌, ◌^◌, length, OnOk};
+ghost use Rattle.vlt_core.specs.View.{program_of, func_of};
 ghost use Rattle.vlt_core.specs.Bodies.{body_flow};
 ghost use Rattle.vlt_core.specs.Flow.{size_block};
-ghost use Rattle.vlt_core.specs.Instances.{bound_in};
+ghost use Rattle.vlt_core.specs.Instances.{origins};
 ghost use Rattle.vlt_core.specs.Least.{first_number};
 ghost use Rattle.cert_fit_laws.specs.Annotation.{IsLocalCertificate};
 ghost use Rattle.cert_check.specs.Tests.{function_tests};
@@ -21,7 +20,8 @@ use cert_read_bodies::MapsNote;
 use std::alloc::Global;
 use thiserror::Error;
 use vlt_base::Items;
-use vlt_core::{Bound, Entry, Func, Mode, Program, Status, Tok, Wanted};
+use vlt_core::{Func, Program, Status, Tok, Wanted};
+use vlt_rows::origins;
 
 /// The first test that notes fail: in this function, a token isn't as a row or a map of the statement wants it. Statements
 /// are counted from 0 over the whole program, each before those inside it.
@@ -39,23 +39,37 @@ pub struct LocalRefusal {
 pub enum LocalError {
     #[error("a token isn't as it is wanted")]
     Refused(LocalRefusal),
-    /// The program or its notes are as no certificate has them, or a clause has a bound entry (`IsUnfit`).
+    /// The program or its notes are as no certificate has them (`IsUnfit`).
     #[error("the notes aren't those of a certificate's program")]
     Unfit,
     #[error("out of memory")]
     Memory,
 }
 
-/// The bound entry of a clause, if it has one.
-fn bound_in(clause: &[Entry]) -> Option<Bound>
-    ensures { option_map bound_view result ≡ bound_in (map entry_of clause.now) }
+/// Tests the notes of a function with a body in each of its instances, whose origins these are, and gives how many statements
+/// the body has.
+fn test_instances(
+    alloc: Global,
+    p: &Program,
+    f: &Func,
+    notes: &[MapsNote],
+    list: &[Option<u8>],
+) -> Result<usize, Stop>
+    requires { list.now ≡ origins (program_of p.now) (func_of f.now) }
+    ensures { AreTestedUnless
+        (IsUnfitFunc (program_of p.now) (func_of f.now) (plain_notes notes.now)) result
+        (function_tests (program_of p.now) (func_of f.now) (plain_notes notes.now))
+        (λ n. (n ≡ size_block (body_flow (program_of p.now) (func_of f.now)))
+        × (n < 2 ^ 62)) }
 {
-    for e in clause {
-        if let Mode::Bound(state) = e.mode {
-            return Some(Bound { key: e.key, state });
-        }
+    let mut count = None;
+    for i in 0..list.len() {
+        count = Some(test_body(alloc, p, f, list[i], notes, i)?);
     }
-    None
+    match count {
+        Some(count) => Ok(count),
+        None => Err(Stop::Unfit),
+    }
 }
 
 /// Tests the notes of a function with a body, and gives how many statements the body has.
@@ -66,10 +80,8 @@ fn test_func(alloc: Global, p: &Program, f: &Func, notes: &[MapsNote]) -> Result
         (λ n. (n ≡ size_block (body_flow (program_of p.now) (func_of f.now)))
         × (n < 2 ^ 62)) }
 {
-    match bound_in(f.clause.as_slice()) {
-        Some(_) => Err(Stop::Unfit),
-        None => test_body(alloc, p, f, notes, 0),
-    }
+    let origins = origins(alloc, p, f)?;
+    test_instances(alloc, p, f, notes, origins.as_slice())
 }
 
 /// A refusal in the function g, whose first statement has the number `first`.

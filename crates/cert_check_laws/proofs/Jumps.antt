@@ -11,7 +11,7 @@ use Rattle.cert_check.specs.Tests.{Test, lost, FirstFails, row_tests, below_test
 pub record IsFound (ts : List Test) : Type 0 where
   pub never : FirstFails ts lost → ⊥
 
-both : (xs ys : List Test) → IsFound xs → IsFound ys → IsFound (xs ++ ys)
+pub both : (xs ys : List Test) → IsFound xs → IsFound ys → IsFound (xs ++ ys)
 both xs ys a b = record { never = by xs a.never }
   where
     by : (xs : List Test) → (FirstFails xs lost → ⊥) → FirstFails (xs ++ ys) lost → ⊥

@@ -7,10 +7,11 @@ use Rattle.std.proofs.lemmas.List.Concat.{flat_map-cons}
 use Rattle.vlt_ops.specs.Operator.{row_of}
 use Rattle.vlt_core.specs.Core as core
 use Rattle.vlt_core.specs.Core.{States, Ty, int, bool, tracked, owning, guarded, variant, owning_variant, FieldDecl, Tok, a_key, a_var, Expr, Operand, pure, move, pack, Mode, Entry, Func, Program}
-use Rattle.vlt_core.specs.Lookups.{Reference, first_state, all_states, state_count, permitted_in, field_states_in, fields_of, owning_states, states_of_type, key_type, states_or_all, after_set, is_held_before, is_held_after, is_new, is_given_back, is_owning, is_owning_var, tracked_in, reference_of, guarded_of, var_type, variant_of}
+use Rattle.vlt_core.specs.Lookups.{Reference, first_state, all_states, state_count, permitted_in, field_states_in, fields_of, owning_states, states_of_type, key_type, up_to_in, key_states_up_to, states_or_all, after_set, is_held_before, is_held_after, is_new, is_given_back, is_owning, is_owning_var, tracked_in, reference_of, guarded_of, var_type, variant_of}
 use Rattle.vlt_core.specs.Maps.{Wanted, wants_absent, wants_held, wants_in, wants_lent, After, becomes_absent, becomes_held, stays, becomes_lent, comes_back, Row, away_row}
 use Rattle.vlt_core.specs.Rows.{row, on_option, on_key, end_row, empty_row, fill_rows, touch_rows, expr_rows, operand_rows, operands_rows, key_row, simple_rows, held_in, entry_row, called_row, called_rows, target_rows, returned_row, new_rows, given_back_rows, return_rows, tokens_of, rows_of, arm_rows, focus_end_rows}
-use Rattle.vlt_core.specs.Instances.{bound_at, or_else, bound_in, HasNoBounds}
+use Rattle.vlt_core.specs.Instances.{clause_of_instance, instance}
+use Rattle.vlt_core.specs.Kinded.{IsKinded}
 use Rattle.vlt_core.specs.Types.{decl_of, with_keys}
 use Rattle.vlt_core.specs.KindedHeads.{Rules, unless, when_some, has, new_keys, argument_broken, type_broken, state_broken, parameters_of}
 use Rattle.vlt_core.specs.KindedScopes.{Ids, own_key, use_broken, binding_broken, target_broken}
@@ -21,12 +22,14 @@ use Rattle.vlt_core.specs.declared.rules.TheConstants as rule
 use Rattle.vlt_core_laws.proofs.Good.{AllRows, all_both, all_key, all_mapped, all_filled}
 use Rattle.vlt_core_laws.proofs.Simple.{option_rows, case_keys_rows}
 use Rattle.vlt_core_laws.proofs.Unbroken.{filled_not_empty, left_empty, right_empty, unless_holds, some_not_none, some_same}
+use Rattle.vlt_sound.specs.Sizes.{HasSizes}
 use Rattle.vlt_rows.specs.Unfit.{WantsWide, LeavesWide, HasWide}
 use Rattle.cert_rows.specs.Parts.{All}
 use Rattle.cert_fit_laws.proofs.Masked.{IsMaskedOperand, IsMaskedSimple}
 use Rattle.cert_fit_laws.proofs.NarrowNumbers.{Bounds, use_there, type_at}
 use Rattle.cert_fit_laws.proofs.NarrowParts.{tracked_there, struct_go}
 use Rattle.cert_fit_laws.proofs.Types.{when_at, declared, key_rule, there_type}
+use Rattle.cert_check_laws.proofs.Callers.{typed_key}
 use Rattle.cert_check_laws.proofs.Sets.{IsSaid, one_said, first_said, mask_said, HasSaid}
 
 -- the sets that a row names are said
@@ -92,30 +95,27 @@ module _ (p : Program) (sets : HasSaid p) where
     left = leaves_known (is_held_after e) (states_or_all p f k e.after) (side_said f k e.after after);
   }
 
-  called_known : (f : Func) (k : ℕ) (e : Entry) → bound_at e.key e.mode ≡ None → IfSome e.before IsSaid → IfSome e.after IsSaid → IsKnown (called_row p f k e)
-  called_known f k e plain before after = by e.mode plain
+  called_known : (f : Func) (k : ℕ) (e : Entry) → ((b : ℕ) → e.mode ≡ core.up_to b → IsSaid (key_states_up_to p f k b)) → IfSome e.before IsSaid → IfSome e.after IsSaid → IsKnown (called_row p f k e)
+  called_known f k e bound before after = by e.mode bound
     where
-      by : (m : Mode) → bound_at e.key m ≡ None → IsKnown (called_row p f k (record e { mode = m }))
+      by : (m : Mode) → ((b : ℕ) → m ≡ core.up_to b → IsSaid (key_states_up_to p f k b)) → IsKnown (called_row p f k (record e { mode = m }))
       by core.kept n = entry_known f k (record e { mode = core.kept }) before after
       by core.taken n = entry_known f k (record e { mode = core.taken }) before after
       by core.given n = entry_known f k (record e { mode = core.given }) before after
       by core.fresh n = entry_known f k (record e { mode = core.fresh }) before after
-      by (core.up_to b) n = absurd (some_not_none _ n)
+      by (core.up_to b) n = record { wanted = (n b refl).never; left = nothing }
 
-  clause_known : (f : Func) (keys : List ℕ) (es : List Entry) → bound_in es ≡ None → ((i : ℕ) (e : Entry) → slice_get es i ≡ Some e → IfSome e.before IsSaid × IfSome e.after IsSaid) → AreKnown (called_rows p f keys es)
-  clause_known f keys [] plain each = tt
-  clause_known f keys (e ∷ es) plain each =
-      let parts = by (bound_at e.key e.mode) plain in
-      joined _ (called_rows p f keys es) (option_rows IsKnown (slice_get keys e.key) _ (λ k at. (called_known f k e parts.0 (each 0 e refl).0 (each 0 e refl).1, tt)))
-      (clause_known f keys es parts.1 (λ i d at. each (suc i) d at))
-    where
-      by : (o : _) → or_else o (bound_in es) ≡ None → (o ≡ None) × (bound_in es ≡ None)
-      by None n = (refl, n)
-      by (Some b) n = absurd (some_not_none b n)
+  clause_known : (f : Func) (keys : List ℕ) (es : List Entry) →
+      ((i : ℕ) (e : Entry) (b k : ℕ) → slice_get es i ≡ Some e → e.mode ≡ core.up_to b → slice_get keys e.key ≡ Some k → IsSaid (key_states_up_to p f k b)) →
+      ((i : ℕ) (e : Entry) → slice_get es i ≡ Some e → IfSome e.before IsSaid × IfSome e.after IsSaid) → AreKnown (called_rows p f keys es)
+  clause_known f keys [] bounds each = tt
+  clause_known f keys (e ∷ es) bounds each =
+      joined _ (called_rows p f keys es) (option_rows IsKnown (slice_get keys e.key) _ (λ k at. (called_known f k e (λ b mode. bounds 0 e b k refl mode at) (each 0 e refl).0 (each 0 e refl).1, tt)))
+      (clause_known f keys es (λ i d b k at mode stands. bounds (suc i) d b k at mode stands) (λ i d at. each (suc i) d at))
 
 -- ---- the rows of a function
 
-module _ (p : Program) (g : ℕ) (f : Func) (there : slice_get p.fns g ≡ Some f) (b : Bounds p f) (sets : HasSaid p) (plain : HasNoBounds p) where
+module _ (p : Program) (g : ℕ) (f : Func) (there : slice_get p.fns g ≡ Some f) (b : Bounds p f) (sets : HasSaid p) (kinded : IsKinded p) (sizes : HasSizes p) where
   -- ---- touches
 
   field_known : (t i : ℕ) (o : Option FieldDecl) → slice_get (fields_of p t) i ≡ o → (o ≡ None → ⊥) → IsSaid (permitted_in p t i)
@@ -293,8 +293,15 @@ module _ (p : Program) (g : ℕ) (f : Func) (there : slice_get p.fns g ≡ Some 
   call_known ids c target keys os left m e =
       joined _ (target_rows f target)
       (joined (operands_rows p f os) _ (call_arguments ids c target keys os m e)
-      (option_rows IsKnown (slice_get p.fns c) _ (λ h at. clause_known p sets f keys h.clause (plain c h at) (λ i d from. (sets.before c h i d at from, sets.after c h i d at from)))))
+      (option_rows IsKnown (slice_get p.fns c) _ (λ h at. clause_known p sets f keys h.clause (bounds_said h at) (λ i d from. (sets.before c h i d at from, sets.after c h i d at from)))))
       (option_rows IsKnown target _ (λ v at. fill_known f (v ∷ [])))
+    where
+      -- the caller's key has the type of the callee's
+      bounds_said : (h : Func) → slice_get p.fns c ≡ Some h → (i : ℕ) (d : Entry) (b k : ℕ) → slice_get h.clause i ≡ Some d → d.mode ≡ core.up_to b → slice_get keys d.key ≡ Some k → IsSaid (key_states_up_to p f k b)
+      bounds_said h at i d b k from mode stands =
+          let x = sets.bounds c h i d b at from mode in
+          let typed = typed_key p kinded sizes g f there c h at ids target keys os (subst (λ o. call_broken p f ids o target keys os ≡ []) at e) d i b x.type k from mode x.typed stands in
+          subst (λ t. IsSaid (up_to_in p t b)) (sym typed) x.below
 
   -- ---- returns
 
@@ -360,13 +367,15 @@ module _ (p : Program) (g : ℕ) (f : Func) (there : slice_get p.fns g ≡ Some 
   value_operand ids None (Some o) m r = absurd (filled_not_empty rule.WRONG_RETURN _ r)
   value_operand ids (Some ty) (Some o) m r = typed_operand ids ty o m r
 
-  pub return_known : (ids : Ids) (value : Option Operand) → IfSome value IsMaskedOperand → return_broken p f ids f.result value ≡ [] → AreKnown (return_rows p f value)
-  return_known ids value m r =
+  -- of an instance, whose clause says its states
+  pub return_known : (o : Option ℕ) → ((i : ℕ) (e : Entry) → slice_get (clause_of_instance p f o f.clause) i ≡ Some e → IfSome e.after IsSaid) →
+      (ids : Ids) (value : Option Operand) → IfSome value IsMaskedOperand → return_broken p f ids f.result value ≡ [] → AreKnown (return_rows p (instance p f o) value)
+  return_known o each ids value m r =
       joined _ (map away_row (tokens_of f))
-      (joined _ (given_back_rows p f)
-      (joined (on_option value (operand_rows p f)) (new_rows p f value) (value_operand ids f.result value m r)
-      (entries_known (returned_row p f value) f.clause (λ e s. returned_known value e s) (λ i e at. sets.after g f i e there at) is_new))
-      (mapped_known (λ e. row (a_key e.key) (wants_in (after_set p f e)) becomes_absent) f.clause (λ e s. record { wanted = (after_said e s).never; left = nothing }) (λ i e at. sets.after g f i e there at) is_given_back))
+      (joined _ (given_back_rows p (instance p f o))
+      (joined (on_option value (operand_rows p f)) (new_rows p (instance p f o) value) (value_operand ids f.result value m r)
+      (entries_known (returned_row p f value) (clause_of_instance p f o f.clause) (λ e s. returned_known value e s) each is_new))
+      (mapped_known (λ e. row (a_key e.key) (wants_in (after_set p f e)) becomes_absent) (clause_of_instance p f o f.clause) (λ e s. record { wanted = (after_said e s).never; left = nothing }) each is_given_back))
       (away_known (tokens_of f))
 
   -- ---- statements with blocks

@@ -2,6 +2,8 @@ pub mod Failing
 pub mod Jumps
 pub mod Order
 pub mod Sets
+pub mod Callers
+pub mod Entries
 pub mod KnownRows
 pub mod KnownBodies
 pub mod Limits

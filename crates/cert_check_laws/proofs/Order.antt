@@ -1,20 +1,19 @@
 -- The notes of a certificate are in order: the numbers of statements ascend, and so do the tokens of each map.
-use Rattle.std.proofs.Common.{◌≡◌, ◌≤◌, ◌<◌, ◌+◌, ◌-◌, ℕ, suc, nat_lt, nat_le, Bool, true, false, if◌then◌else◌, List, [], ◌∷◌, map, Option, Some, None, refl, sym, ap, ◌∙◌, subst, arith}
+use Rattle.std.proofs.Common.{◌≡◌, ◌≤◌, ◌<◌, ◌+◌, ◌-◌, ℕ, zero, suc, nat_lt, nat_le, Bool, true, false, if◌then◌else◌, List, [], ◌∷◌, map, Option, Some, None, refl, sym, ap, ◌∙◌, subst, arith}
 use Rattle.std.proofs.lemmas.Bool.{and_parts}
 use Rattle.std.proofs.lemmas.Bool.Decides.{nat_tests}
 use Rattle.vlt_core.specs.Core.{Tok, a_key, a_var, Func, Program}
 use Rattle.vlt_core.specs.Maps.{Status, absent, held, lent, full}
-use Rattle.vlt_core.specs.Instances.{bound_in}
 use Rattle.vlt_core.specs.Least.{Noted, a_loop, a_join}
 use Rattle.vlt_keyset.specs.Pairs.{IsBefore}
 use Rattle.cert_rows.specs.Parts.{All}
-use Rattle.cert_rows.specs.Values.{TokenStatus, ListedMap, token, number_of_tok, tok_of_number, kind_number, token_status, ascends, maps_part}
+use Rattle.cert_rows.specs.Values.{TokenStatus, ListedMap, token, number_of_tok, tok_of_number, kind_number, token_status, ascends, map_part, maps_part}
 use Rattle.cert_rows.specs.Rows.{Row, Maps, FitsRow}
 use Rattle.cert_format.specs.Notes.{Note, at_loop, at_join, MapNotes, maps_of, join_note}
 use Rattle.cert_format.specs.Drafts.{Draft, plain, choose, loop, switch, focus, scope, Block, block, Drafts, done, next, Arms, no_arms, arm, draft_rows, block_rows, list_rows, arms_rows}
 use Rattle.cert_format.specs.Bodies.{size, size_block, notes_of, block_notes, list_notes, arms_notes, count_list}
 use Rattle.cert_format.specs.Bounds.{instances}
-use Rattle.cert_format.specs.Certificate.{shape, body_draft, function_rows, FitsFunction}
+use Rattle.cert_format.specs.Certificate.{shape, body_draft, FitsFunction}
 use Rattle.cert_format_laws.proofs.Decoding.{all_left, all_right, all_joined}
 use Rattle.cert_fit_laws.specs.Complete.{named_by, FitsNote}
 use Rattle.cert_fit_laws.proofs.Named as named
@@ -76,36 +75,47 @@ map_in_order least (x ∷ xs) fits up =
       map_in_order (suc (number_of_tok x.0)) xs fits.1 parts.1,
     )
 
-maps_in_order : (maps : Maps) → (maps_part None).Fits maps → IsMapInOrder (map_at maps 0)
-maps_in_order [] fits = tt
-maps_in_order (m ∷ ms) fits = map_in_order 0 m fits.0.0 fits.0.1
+-- of each instance, or past the last one
+all_in_order : (maps : Maps) → All map_part.Fits maps → (i : ℕ) → IsMapInOrder (map_at maps i)
+all_in_order [] fits i = tt
+all_in_order (m ∷ ms) fits zero = map_in_order 0 m fits.0.0 fits.0.1
+all_in_order (m ∷ ms) fits (suc i) = all_in_order ms fits.1 i
 
-note_in_order : (x : Note) → FitsNote x → HasMapsInOrder 0 x
-note_in_order (at_loop n around exit) fits = (maps_in_order around fits.0, maps_in_order exit fits.1)
-note_in_order (at_join n maps) fits = maps_in_order maps fits
+maps_in_order : (many : Option ℕ) (maps : Maps) → (maps_part many).Fits maps → (i : ℕ) → IsMapInOrder (map_at maps i)
+maps_in_order None [] fits i = tt
+maps_in_order None (m ∷ []) fits i = all_in_order (m ∷ []) (fits.0, tt) i
+maps_in_order None (m ∷ k ∷ ms) fits i = absurd (never fits.1)
+  where
+    never : m ∷ [] ≡ m ∷ k ∷ ms → ⊥
+    never e = cc
+maps_in_order (Some n) maps fits i = all_in_order maps fits.0 i
+
+note_in_order : (many : Option ℕ) (i : ℕ) (x : Note) → FitsNote many x → HasMapsInOrder i x
+note_in_order many i (at_loop n around exit) fits = (maps_in_order many around fits.0 i, maps_in_order many exit fits.1 i)
+note_in_order many i (at_join n maps) fits = maps_in_order many maps fits i
 
 -- ---- the maps of rows fit
 
-module _ (o : Bool) where
+module _ (o : Bool) (many : Option ℕ) where
   abbrev Fit : List Row → Type 0
-  Fit rs = All (FitsRow (shape o None)) rs
+  Fit rs = All (FitsRow (shape o many)) rs
 
-  join_fits : (n : ℕ) (m : Option Maps) → ((k : Maps) → m ≡ Some k → (maps_part None).Fits k) → All FitsNote (join_note n m)
+  join_fits : (n : ℕ) (m : Option Maps) → ((k : Maps) → m ≡ Some k → (maps_part many).Fits k) → All (FitsNote many) (join_note n m)
   join_fits n None each = tt
   join_fits n (Some m) each = (each m refl, tt)
 
   mutual
-    draft_fits : (n : ℕ) (d : Draft) → Fit (draft_rows d) → All FitsNote (notes_of n d)
+    draft_fits : (n : ℕ) (d : Draft) → Fit (draft_rows d) → All (FitsNote many) (notes_of n d)
     draft_fits n (plain r) fits = tt
     draft_fits n (choose e a b None) fits =
         let more = fits.1 in
-        all_joined FitsNote (block_notes (n + 1) a) (block_notes (n + 1 + size_block a) b)
-        (block_fits (n + 1) a (all_left (FitsRow (shape o None)) (block_rows a) (block_rows b) more)) (block_fits (n + 1 + size_block a) b (all_right (FitsRow (shape o None)) (block_rows a) (block_rows b) more))
+        all_joined (FitsNote many) (block_notes (n + 1) a) (block_notes (n + 1 + size_block a) b)
+        (block_fits (n + 1) a (all_left (FitsRow (shape o many)) (block_rows a) (block_rows b) more)) (block_fits (n + 1 + size_block a) b (all_right (FitsRow (shape o many)) (block_rows a) (block_rows b) more))
     draft_fits n (choose e a b (Some m)) fits =
         let more = fits.1 in (
           fits.0.3.0,
-          all_joined FitsNote (block_notes (n + 1) a) (block_notes (n + 1 + size_block a) b)
-              (block_fits (n + 1) a (all_left (FitsRow (shape o None)) (block_rows a) (block_rows b) more)) (block_fits (n + 1 + size_block a) b (all_right (FitsRow (shape o None)) (block_rows a) (block_rows b) more)),
+          all_joined (FitsNote many) (block_notes (n + 1) a) (block_notes (n + 1 + size_block a) b)
+              (block_fits (n + 1) a (all_left (FitsRow (shape o many)) (block_rows a) (block_rows b) more)) (block_fits (n + 1 + size_block a) b (all_right (FitsRow (shape o many)) (block_rows a) (block_rows b) more)),
         )
     draft_fits n (loop e a m k) fits = ((fits.0.2, fits.0.3), block_fits (n + 1) a fits.1)
     draft_fits n (switch v arms None) fits = arms_fit (n + 1) arms fits.1
@@ -113,20 +123,20 @@ module _ (o : Bool) where
     draft_fits n (focus y z a) fits = block_fits (n + 1) a fits.1
     draft_fits n (scope a) fits = block_fits (n + 1) a fits.1
 
-    block_fits : (n : ℕ) (b : Block) → Fit (block_rows b) → All FitsNote (block_notes n b)
+    block_fits : (n : ℕ) (b : Block) → Fit (block_rows b) → All (FitsNote many) (block_notes n b)
     block_fits n (block c bound ss) fits = list_fits n ss fits
 
-    list_fits : (n : ℕ) (ss : Drafts) → Fit (list_rows ss) → All FitsNote (list_notes n ss)
+    list_fits : (n : ℕ) (ss : Drafts) → Fit (list_rows ss) → All (FitsNote many) (list_notes n ss)
     list_fits n done fits = tt
     list_fits n (next f rest) fits =
-        all_joined FitsNote (notes_of n f) (list_notes (n + size f) rest)
-        (draft_fits n f (all_left (FitsRow (shape o None)) (draft_rows f) (list_rows rest) fits)) (list_fits (n + size f) rest (all_right (FitsRow (shape o None)) (draft_rows f) (list_rows rest) fits))
+        all_joined (FitsNote many) (notes_of n f) (list_notes (n + size f) rest)
+        (draft_fits n f (all_left (FitsRow (shape o many)) (draft_rows f) (list_rows rest) fits)) (list_fits (n + size f) rest (all_right (FitsRow (shape o many)) (draft_rows f) (list_rows rest) fits))
 
-    arms_fit : (n : ℕ) (arms : Arms) → Fit (arms_rows arms) → All FitsNote (arms_notes n arms)
+    arms_fit : (n : ℕ) (arms : Arms) → Fit (arms_rows arms) → All (FitsNote many) (arms_notes n arms)
     arms_fit n no_arms fits = tt
     arms_fit n (arm c vs b rest) fits =
-        all_joined FitsNote (block_notes n b) (arms_notes (n + size_block b) rest)
-        (block_fits n b (all_left (FitsRow (shape o None)) (block_rows b) (arms_rows rest) fits)) (arms_fit (n + size_block b) rest (all_right (FitsRow (shape o None)) (block_rows b) (arms_rows rest) fits))
+        all_joined (FitsNote many) (block_notes n b) (arms_notes (n + size_block b) rest)
+        (block_fits n b (all_left (FitsRow (shape o many)) (block_rows b) (arms_rows rest) fits)) (arms_fit (n + size_block b) rest (all_right (FitsRow (shape o many)) (block_rows b) (arms_rows rest) fits))
 
 -- ---- numbers
 
@@ -155,23 +165,19 @@ below_all n m k (x ∷ xs) less c = (
     further : (n m i : ℕ) → n < m → m ≤ i → n < suc i
     further n m i less le = omega (arith, less, le)
 
-in_order : (m k : ℕ) (xs : List Note) → Climbs m k (map named_by xs) → All FitsNote xs → AreInOrder 0 xs
-in_order m k [] c fits = tt
-in_order m k (x ∷ xs) c fits = (
-  note_in_order x fits.0,
-  subst (λ i. IsBelowAll i xs) (same_number x) (below_all (named.number_of (named_by x)) (suc (named.number_of (named_by x))) k xs (one_more (named.number_of (named_by x))) c.1),
-  in_order (suc (named.number_of (named_by x))) k xs c.1 fits.1,
+in_order : (many : Option ℕ) (i m k : ℕ) (xs : List Note) → Climbs m k (map named_by xs) → All (FitsNote many) xs → AreInOrder i xs
+in_order many i m k [] c fits = tt
+in_order many i m k (x ∷ xs) c fits = (
+  note_in_order many i x fits.0,
+  subst (λ j. IsBelowAll j xs) (same_number x) (below_all (named.number_of (named_by x)) (suc (named.number_of (named_by x))) k xs (one_more (named.number_of (named_by x))) c.1),
+  in_order many i (suc (named.number_of (named_by x))) k xs c.1 fits.1,
 )
 
 -- ---- functions
 
-no_instances : (p : Program) (f : Func) → bound_in f.clause ≡ None → instances p f ≡ None
-no_instances p f unbound = rw unbound refl
-
-pub notes_in_order : (o : Bool) (p : Program) (f : Func) (notes : List Note) → FitsFunction o p f notes → bound_in f.clause ≡ None → AreInOrder 0 notes
-notes_in_order o p f notes fits unbound =
+pub notes_in_order : (o : Bool) (p : Program) (f : Func) (notes : List Note) → FitsFunction o p f notes → (i : ℕ) → AreInOrder i notes
+notes_in_order o p f notes fits i =
     let a = maps_of notes in
-    let rows = subst (λ n. All (FitsRow (shape o n)) (function_rows f notes)) (no_instances p f unbound) fits.rows in
     let names : map named_by notes ≡ list_noted 0 f.body = ap (map named_by) (fits.listed ∙ read_list a 0 f.body) ∙ names_back a (list_noted 0 f.body) in
-    in_order 0 (0 + count_list f.body) notes (subst (Climbs 0 (0 + count_list f.body)) (sym names) (climb_list 0 f.body))
-    (subst (All FitsNote) (sym fits.listed) (list_fits o 0 (body_draft f notes) rows.1))
+    in_order (instances p f) i 0 (0 + count_list f.body) notes (subst (Climbs 0 (0 + count_list f.body)) (sym names) (climb_list 0 f.body))
+    (subst (All (FitsNote (instances p f))) (sym fits.listed) (list_fits o (instances p f) 0 (body_draft f notes) fits.rows.1))

@@ -1,8 +1,7 @@
 -- What is so of the notes of certificates.
-use Rattle.std.specs.Prelude.{◌⊎◌, ◌<◌, ◌^◌, ℕ, Bool, false, List, length}
+use Rattle.std.specs.Prelude.{◌⊎◌, ◌<◌, ◌^◌, ℕ, Bool, List, length}
 use Rattle.vlt_base.specs.Sure.{Surely}
 use Rattle.vlt_core.specs.Core.{Program}
-use Rattle.vlt_core.specs.Instances.{HasNoBounds}
 use Rattle.vlt_core.specs.Kinded.{IsKinded}
 use Rattle.vlt_core.specs.Least.{first_number}
 use Rattle.vlt_core.specs.View.{program_of}
@@ -25,34 +24,21 @@ TextsHaveMoreBytes =
     (text : List ℕ) (p : Program) (all : List (List Note)) → IsCertificateOf text p all →
     (g : ℕ) → first_number p g < length text
 
--- ---- notes, where the program breaks no rule on names and types and has no bound entry
+-- ---- notes, where the program breaks no rule on names and types
 
 -- They aren't unfit to be tested.
-abbrev pub UnboundArentUnfit : Type 0
-UnboundArentUnfit =
+abbrev pub CertificatesArentUnfit : Type 0
+CertificatesArentUnfit =
     (ordered : Bool) (p : CodeProgram) (all : List (List Note)) →
     FitsCertificate ordered (program_of p) all → IsKinded (program_of p) →
-    HasNoBounds (program_of p) → HasFewStatements (program_of p) →
-    IsUnfit (program_of p) all → ⊥
+    HasFewStatements (program_of p) → IsUnfit (program_of p) all → ⊥
 
 -- The notes hold, or a test of them refuses first.
 abbrev pub HasAnswer : Program → List (List Note) → Type 0
 HasAnswer p all = IsLocalCertificate p all ⊎ ((x : ProgramRefusal) × IsFirstRefusal p all x)
 
-abbrev pub UnboundHaveAnAnswer : Type 0
-UnboundHaveAnAnswer =
-    (ordered : Bool) (p : CodeProgram) (all : List (List Note)) →
-    FitsCertificate ordered (program_of p) all → IsKinded (program_of p) →
-    HasNoBounds (program_of p) → Surely (HasAnswer (program_of p) all)
-
--- ---- the same in version 1, where no entry is bound
-
-abbrev pub CertificatesArentUnfit : Type 0
-CertificatesArentUnfit =
-    (p : CodeProgram) (all : List (List Note)) → FitsCertificate false (program_of p) all →
-    IsKinded (program_of p) → HasFewStatements (program_of p) → IsUnfit (program_of p) all → ⊥
-
 abbrev pub CertificatesHaveAnAnswer : Type 0
 CertificatesHaveAnAnswer =
-    (p : CodeProgram) (all : List (List Note)) → FitsCertificate false (program_of p) all →
-    IsKinded (program_of p) → Surely (HasAnswer (program_of p) all)
+    (ordered : Bool) (p : CodeProgram) (all : List (List Note)) →
+    FitsCertificate ordered (program_of p) all → IsKinded (program_of p) →
+    Surely (HasAnswer (program_of p) all)

@@ -1,6 +1,7 @@
 -- Why there is no certificate of a program.
-use Rattle.std.specs.Prelude.{◌≡◌, ℕ, false, ◌⊎◌, length, Some, slice_get, Result, Err}
+use Rattle.std.specs.Prelude.{◌≡◌, ℕ, false, ◌⊎◌, length, Option, Some, slice_get, Result, Err}
 use Rattle.vlt_core.specs.Core.{Func, Program}
+use Rattle.vlt_core.specs.Instances.{instance, IsOrigin}
 use Rattle.vlt_core.specs.Local.{Notes, IsLocalIn}
 use Rattle.vlt_core.specs.Bodies.{body_flow}
 use Rattle.vlt_core.specs.Derives.{start_map}
@@ -28,13 +29,19 @@ IsUnfit p f =
     walk.IsUnfit p f ⊎
     IsUnnoted (length f.keys) (length f.vars) (body_flow p f) (start_map p f)
 
--- a function with a body of which this holds
+-- an instance of the function of which this holds
+pub record HasInstance (p : Program) (f : Func) (P : Func → Type 0) : Type 0 where
+  pub origin : Option ℕ
+  pub is : IsOrigin p f origin
+  pub holds : P (instance p f origin)
+
+-- a function with a body, and such an instance of it
 pub record HasBody (p : Program) (P : Func → Type 0) : Type 0 where
   pub number : ℕ
   pub func : Func
   pub there : slice_get p.fns number ≡ Some func
   pub with_body : func.external ≡ false
-  pub holds : P func
+  pub in_some : HasInstance p func P
 
 abbrev pub HasRefused : Program → Type 0
 HasRefused p = HasBody p (IsRefused p)

@@ -149,33 +149,43 @@ held_back (Some s) is = ap (λ b. if b then None else Some (is_bit (mask_of s)))
 zero_fits : side.Fits (Some 0)
 zero_fits = (omega arith, refl)
 
-made_fits : (m : Mode) (k : ℕ) (before after : Option States) → IsRuled m before after → IsId k → IfSome before mask.Fits → IfSome after mask.Fits
-    → (entry false).Fits (record { mode = m; key = k; before = before; after = after })
-made_fits core.kept k None None is key b a = (((omega arith, key, tt, tt), refl), refl)
-made_fits core.kept k (Some s) (Some t) is key b a = (
+-- the bound has 8 bits
+abbrev pub IsByteBound : Mode → Type 0
+IsByteBound (core.up_to b) = b ≤ 255
+IsByteBound m = Unit {0}
+
+made_fits : (m : Mode) (k : ℕ) (before after : Option States) → IsRuled m before after → IsByteBound m → IsId k → IfSome before mask.Fits → IfSome after mask.Fits
+    → (entry true).Fits (record { mode = m; key = k; before = before; after = after })
+made_fits core.kept k None None is small key b a = (((omega arith, key, tt, tt), refl), refl)
+made_fits core.kept k (Some s) (Some t) is small key b a = (
   ((omega arith, key, held_fits (Some s) b, held_fits (Some t) a), ap (λ z. (not z && not (mask_of t == 0)) && true) (not_zero s b) ∙ ap (λ z. (true && not z) && true) (not_zero t a)),
   ap (λ x. record { mode = core.kept; key = k; before = x; after = side_states (held_number (Some t)) }) (held_back (Some s) b)
       ∙ ap (λ x. record { mode = core.kept; key = k; before = Some s; after = x }) (held_back (Some t) a),
 )
-made_fits core.kept k None (Some t) is key b a = absurd is
-made_fits core.kept k (Some s) None is key b a = absurd is
-made_fits core.taken k before None is key b a = (
+made_fits core.kept k None (Some t) is small key b a = absurd is
+made_fits core.kept k (Some s) None is small key b a = absurd is
+made_fits core.taken k before None is small key b a = (
   ((omega arith, key, held_fits before b, zero_fits), ap (λ z. not z && true) (held_said before b)),
   ap (λ x. record { mode = core.taken; key = k; before = x; after = None }) (held_back before b),
 )
-made_fits core.taken k before (Some t) is key b a = absurd is
-made_fits core.given k None after is key b a = (
+made_fits core.taken k before (Some t) is small key b a = absurd is
+made_fits core.given k None after is small key b a = (
   ((omega arith, key, zero_fits, held_fits after a), ap (λ z. true && not z) (held_said after a)),
   ap (λ x. record { mode = core.given; key = k; before = None; after = x }) (held_back after a),
 )
-made_fits core.given k (Some s) after is key b a = absurd is
-made_fits core.fresh k None after is key b a = (
+made_fits core.given k (Some s) after is small key b a = absurd is
+made_fits core.fresh k None after is small key b a = (
   ((omega arith, key, zero_fits, held_fits after a), ap (λ z. true && not z) (held_said after a)),
   ap (λ x. record { mode = core.fresh; key = k; before = None; after = x }) (held_back after a),
 )
-made_fits core.fresh k (Some s) after is key b a = absurd is
-made_fits (core.up_to n) k before after is key b a = absurd is
+made_fits core.fresh k (Some s) after is small key b a = absurd is
+made_fits (core.up_to n) k None None is small key b a = (((omega arith, key, (wide n small, refl), tt), ap (λ z. z && true) (le-leb n 255 small)), refl)
+  where
+    wide : (n : ℕ) → n ≤ 255 → n ≤ 4294967295
+    wide n few = omega (arith, few)
+made_fits (core.up_to n) k None (Some s) is small key b a = absurd is
+made_fits (core.up_to n) k (Some s) after is small key b a = absurd is
 
-pub entries_fit : (es : List Entry) → All IsRuledEntry es → All IsNarrowEntry es → (several (entry false)).Fits es
-entries_fit [] is narrow = tt
-entries_fit (e ∷ es) is narrow = (made_fits e.mode e.key e.before e.after is.0 narrow.0.0 narrow.0.1 narrow.0.2, entries_fit es is.1 narrow.1)
+pub entries_fit : (es : List Entry) → All IsRuledEntry es → All (λ e. IsByteBound e.mode) es → All IsNarrowEntry es → (several (entry true)).Fits es
+entries_fit [] is small narrow = tt
+entries_fit (e ∷ es) is small narrow = (made_fits e.mode e.key e.before e.after is.0 small.0 narrow.0.0 narrow.0.1 narrow.0.2, entries_fit es is.1 small.1 narrow.1)

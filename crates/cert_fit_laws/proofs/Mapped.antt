@@ -1,5 +1,5 @@
 -- A tool of the proof: bodies whose statements have maps that fit their rows.
-use Rattle.std.specs.Prelude.{◌≡◌, ℕ, ◌+◌, List, None}
+use Rattle.std.specs.Prelude.{◌≡◌, ℕ, ◌+◌, List, Option}
 use Rattle.vlt_core.specs.Core as core
 use Rattle.vlt_core.specs.Core.{Form, Block, Stmts, Arms, Func, Program}
 use Rattle.vlt_core.specs.KindedBodies.{ends}
@@ -9,13 +9,13 @@ use Rattle.cert_format.specs.Notes.{MapNotes, join_of, Note, maps_of}
 use Rattle.cert_format.specs.Bodies.{count, count_block, list_notes}
 use Rattle.cert_format.specs.Certificate.{body_draft}
 
-module _ (a : MapNotes) where
+module _ (i : Option ℕ) (a : MapNotes) where
   abbrev mutual
     pub HasMaps : ℕ → Form → Type 0
     HasMaps n (core.choose e x y) =
-        (zero_or (maps_part None)).Fits (join_of (ends (core.choose e x y)) (a.behind n)) × BlockHasMaps (n + 1) x × BlockHasMaps (n + 1 + count_block x) y
-    HasMaps n (core.loop e x) = (maps_part None).Fits (a.around n) × (maps_part None).Fits (a.behind n) × BlockHasMaps (n + 1) x
-    HasMaps n (core.switch v arms end) = (zero_or (maps_part None)).Fits (join_of (ends (core.switch v arms end)) (a.behind n)) × ArmsHaveMaps (n + 1) arms
+        (zero_or (maps_part i)).Fits (join_of (ends (core.choose e x y)) (a.behind n)) × BlockHasMaps (n + 1) x × BlockHasMaps (n + 1 + count_block x) y
+    HasMaps n (core.loop e x) = (maps_part i).Fits (a.around n) × (maps_part i).Fits (a.behind n) × BlockHasMaps (n + 1) x
+    HasMaps n (core.switch v arms end) = (zero_or (maps_part i)).Fits (join_of (ends (core.switch v arms end)) (a.behind n)) × ArmsHaveMaps (n + 1) arms
     HasMaps n (core.focus y z x) = BlockHasMaps (n + 1) x
     HasMaps n (core.scope x) = BlockHasMaps (n + 1) x
     HasMaps n _ = Unit {0}
@@ -31,6 +31,6 @@ module _ (a : MapNotes) where
     ArmsHaveMaps n core.no_arms = Unit {0}
     ArmsHaveMaps n (core.arm c vs b rest) = BlockHasMaps n b × ArmsHaveMaps (n + count_block b) rest
 
-pub record HasNotes (f : Func) (notes : List Note) : Type 0 where
-  pub maps : HaveMaps (maps_of notes) 0 f.body
+pub record HasNotes (i : Option ℕ) (f : Func) (notes : List Note) : Type 0 where
+  pub maps : HaveMaps i (maps_of notes) 0 f.body
   pub listed : notes ≡ list_notes 0 (body_draft f notes)

@@ -1,14 +1,15 @@
--- What a certificate of version 1 asks of a program beside the rules on names and types. Its numbers
--- then are as wide as those of rows.
-use Rattle.std.specs.Prelude.{◌≡◌, ◌≤◌, ℕ, suc, ◌+◌, nat_le, nat_lt, Bool, true, [], length, Option, Some, None}
+-- What a certificate asks of a program beside the rules on names and types. Its numbers then are as
+-- wide as those of rows.
+use Rattle.std.specs.Prelude.{◌≡◌, ◌≤◌, ℕ, suc, ◌+◌, nat_le, nat_lt, Bool, true, length, Option, Some, None, slice_get}
 use Rattle.vlt_core.specs.Core as core
 use Rattle.vlt_core.specs.Core.{Expr, Form, Block, Stmts, Arms, Mode, kept, taken, given, fresh, up_to, States, Entry, SetDecl, CaseDecl, TypeDecl, Func, Program}
 use Rattle.vlt_core.specs.Proper.{AllPass, HasProperBodies}
 use Rattle.cert_rows.specs.Parts.{All}
 use Rattle.cert_rows.specs.Expressions.{depth, most_expression_depth}
-use Rattle.cert_rows.specs.Rows.{is_c_name, is_filled}
+use Rattle.cert_rows.specs.Rows.{is_c_name, is_filled, has_own_links}
 use Rattle.cert_format.specs.Drafts.{most_block_depth}
 use Rattle.cert_format.specs.Bodies.{length_of}
+use Rattle.cert_format.specs.Bounds.{are_bounds_known}
 use Rattle.cert_format.specs.Certificate.{main_from, most_declarations}
 
 -- ---- bodies
@@ -50,8 +51,8 @@ abbrev mutual
 
 -- ---- declarations
 
--- States are where the mode has them: on both sides or neither, before alone, or after alone. No
--- entry is bound.
+-- States are where the mode has them: on both sides or neither, before alone, or after alone. A bound
+-- entry has its bound alone.
 abbrev pub IsRuled : Mode → (before after : Option States) → Type 0
 IsRuled kept None None = Unit {0}
 IsRuled kept (Some a) (Some b) = Unit {0}
@@ -63,16 +64,19 @@ IsRuled given None after = Unit {0}
 IsRuled given (Some a) after = ⊥
 IsRuled fresh None after = Unit {0}
 IsRuled fresh (Some a) after = ⊥
-IsRuled (up_to b) before after = ⊥
+IsRuled (up_to b) None None = Unit {0}
+IsRuled (up_to b) None (Some a) = ⊥
+IsRuled (up_to b) (Some a) after = ⊥
 
 abbrev pub IsRuledEntry : Entry → Type 0
 IsRuledEntry e = IsRuled e.mode e.before e.after
 
--- version 1 has no links
+-- its links are of its own states
 pub record IsLimitedSet (d : SetDecl) : Type 0 where
   pub filled : is_filled d.states ≡ true
   pub few : length d.states ≤ 32
-  pub plain : d.links ≡ []
+  pub few_links : length d.links ≤ 31
+  pub own_links : has_own_links d ≡ true
 
 abbrev pub IsLimitedCase : CaseDecl → Type 0
 IsLimitedCase c = length c.payload ≤ 8
@@ -100,6 +104,8 @@ pub record IsLimitedProgram (p : Program) : Type 0 where
   pub sets : All IsLimitedSet p.sets
   pub types : All IsLimitedType p.types
   pub fns : All IsLimitedFunc p.fns
+  -- each bound is a state of the set of its key's type
+  pub bounds : (g : ℕ) (f : Func) → slice_get p.fns g ≡ Some f → are_bounds_known p f ≡ true
   pub proper : HasProperBodies p
   pub shallow : AllPass is_shallow p
   pub main : p.main ≡ main_from 0 p.fns

@@ -1,15 +1,17 @@
 -- The names of an elaborated program are those of its text, or none.
-use Rattle.std.proofs.Common.{◌≡◌, ℕ, Bool, true, false, if◌then◌else◌, List, [], ◌∷◌, map, Option, Ok, IsUtf8, refl, sym, ap, ◌∙◌, subst}
+use Rattle.std.specs.List.{list_any}
+use Rattle.std.specs.Str.{bytes_eq}
+use Rattle.std.proofs.Common.{◌≡◌, ℕ, Bool, true, false, if◌then◌else◌, List, [], ◌∷◌, ◌++◌, map, Option, Ok, IsUtf8, refl, sym, ap, ◌∙◌, subst}
 use Rattle.vlt_syntax.specs.Tokens.{Token}
 use Rattle.vlt_syntax.specs.Tree as s
-use Rattle.vlt_syntax.specs.Tree.{Name, HeaderKey, Field, Case, Parameter, Head, Block, Decl, Tree}
+use Rattle.vlt_syntax.specs.Tree.{SetState, HeaderKey, Field, Case, Parameter, Head, Block, Decl, Tree}
 use Rattle.vlt_syntax.specs.Lists.{Each, each_then}
-use Rattle.vlt_syntax.specs.Spelling.{name_then, field_then, case_then, block_then, decl_then, spelling}
-use Rattle.vlt_syntax_laws.proofs.Tokenwise.{Spells, each_listed, after_name, after_marked_name, after_ty, after_field, after_header, after_case, after_head, after_decl}
+use Rattle.vlt_syntax.specs.Spelling.{further_states_then, set_states_then, field_then, case_then, block_then, decl_then, spelling}
+use Rattle.vlt_syntax_laws.proofs.Tokenwise.{Spells, each_listed, after_marked_name, after_ty, after_field, after_header, after_case, after_head, after_decl}
 use Rattle.vlt_core.specs.Core as core
 use Rattle.vlt_core.specs.Core.{Func, Form, Program}
 use Rattle.vlt_kinds_types.specs.Names.Refusals.{of_each, least}
-use Rattle.vlt_kinds_types.specs.Files.{File, texts, sets_in, file_of, state_names, shape_named}
+use Rattle.vlt_kinds_types.specs.Files.{File, with_text, texts_behind, state_texts, sets_in, file_of, state_names, shape_named}
 use Rattle.vlt_kinds_decls.specs.Made.{core_field, core_struct, core_case, core_variant, core_types_in, core_types}
 use Rattle.vlt_kinds_heads.specs.Keys.{Keys, keys_of}
 use Rattle.vlt_kinds_heads.specs.Phase.{key_decl, core_parameter, core_head, core_heads_in}
@@ -26,18 +28,31 @@ use Rattle.cert_decl_values.specs.Names.{HasTextSet, HasTextType, HasTextFunc, H
 use Rattle.cert_text_laws.specs.Texts.{IsInText}
 use Rattle.cert_text_laws.proofs.InTexts.{each_has}
 use Rattle.cert_json_names.proofs.Characters.{HasText, texts_have_text}
-use Rattle.cert_json_names.proofs.Uses.{IsNamed, names_named, all_more, IsKeyed, IsHeadNamed, head_named}
+use Rattle.cert_json_names.proofs.Uses.{IsNamed, all_more, IsKeyed, IsHeadNamed, head_named}
 use Rattle.cert_json_names.proofs.Scopes.{HasTextKey, HasTextVar, HasTextScope, begun_text, stmts_text}
 
 -- ---- state sets
 
-texts_text : (ns : List Name) → All IsNamed ns → All IsUtf8 (texts ns)
-texts_text [] h = tt
-texts_text (n ∷ ns) h = (h.0, texts_text ns h.1)
+with_named : (known : List (List ℕ)) (text : List ℕ) → All IsUtf8 known → IsUtf8 text → All IsUtf8 (with_text known text)
+with_named known text named h = by (list_any (bytes_eq text) known)
+  where
+    by : (b : Bool) → All IsUtf8 (if b then known else known ++ text ∷ [])
+    by true = named
+    by false = all_more IsUtf8 known (text ∷ []) named (h, tt)
+
+further_text : (known : List (List ℕ)) (xs : List SetState) (rest : List Token) → All IsUtf8 known → Each HasText (further_states_then xs rest) →
+    All IsUtf8 (texts_behind known xs)
+further_text known [] rest named h = named
+further_text known (x ∷ xs) rest named h =
+    further_text (with_text known x.name.text) xs rest (with_named known x.name.text named h.1.0) h.1.1
+
+states_text : (xs : List SetState) (rest : List Token) → Each HasText (set_states_then xs rest) → All IsUtf8 (state_texts xs)
+states_text [] rest h = tt
+states_text (x ∷ xs) rest h = further_text (with_text [] x.name.text) xs rest (with_named [] x.name.text tt h.0) h.1
 
 set_text : (d : Decl) (rest : List Token) → Each HasText (decl_then d rest) → All HasTextSet (sets_in d)
 set_text (s.stateset n ss at) rest h =
-    ((h.1.0, texts_text ss (names_named ss (each_listed HasText name_then (after_name HasText) _ ss rest h.1.1.1))), tt)
+    ((h.1.0, states_text ss rest h.1.1.1), tt)
 set_text (s.abstract n ss at) rest h = tt
 set_text (s.struct n ps ss fs r at) rest h = tt
 set_text (s.variant n ps cs at) rest h = tt

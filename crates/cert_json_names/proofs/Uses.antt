@@ -84,6 +84,7 @@ IsEntered e = IsNamed (entry_key e)
 entry_named : (e : Entry) (rest : List Token) → Each HasText (entry_then e rest) → IsEntered e
 entry_named (s.held k) rest h = h.0
 entry_named (s.changed k a b) rest h = h.0
+entry_named (s.bound k v b) rest h = h.0
 entry_named (s.taken k at) rest h = h.1.0
 entry_named (s.given k at) rest h = h.1.0
 entry_named (s.fresh k at) rest h = h.1.0

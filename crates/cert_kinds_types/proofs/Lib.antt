@@ -1,4 +1,3 @@
 pub mod Smallest
-pub mod Rounds
 pub mod Zips
 pub mod Marked

@@ -1,28 +1,28 @@
 -- An accepted program within the limits surely has a least certificate.
-use Rattle.std.proofs.Common.{◌≡◌, ◌<◌, ◌≤◌, ◌+◌, ℕ, suc, nat_lt, Bool, true, false, true≢false, if◌then◌else◌, List, [], ◌∷◌, map, length, Option, Some, None, slice_get, option_map, refl, sym, ap, subst, ◌∙◌, arith}
-use Rattle.std.specs.List.{flat_map}
+use Rattle.std.proofs.Common.{◌≡◌, ◌≤◌, ◌+◌, ℕ, suc, Bool, true, false, true≢false, if◌then◌else◌, List, [], ◌∷◌, length, Option, Some, None, slice_get, refl, sym, subst, ◌∙◌, arith}
 use Rattle.vlt_base.specs.Sure.{Surely}
 use Rattle.vlt_base.proofs.Surely.{sure, surely, so}
 use Rattle.vlt_core.specs.Core.{SetDecl, TypeDecl, an_abstract, a_struct, a_variant, VarDecl, Func, Program}
-use Rattle.vlt_core.specs.Derives.{IsAccepted, IsAcceptedFunc}
-use Rattle.vlt_core.specs.Instances.{bound_in}
+use Rattle.vlt_core.specs.Derives.{IsAccepted}
+use Rattle.vlt_core.specs.Instances.{instance, IsOrigin, origins}
 use Rattle.vlt_core.specs.Kinded.{IsKinded, HasKindedParts}
 use Rattle.vlt_core.specs.KindedHeads.{type_broken, head_broken}
 use Rattle.vlt_core.specs.KindedBodies.{first_ids, stmts_rows}
 use Rattle.vlt_core.specs.Lookups.{set_in, count_in, fields_in, fields_of, cases_in, cases_of}
 use Rattle.vlt_core_laws.specs.Fit.{IsWellFormed}
-use Rattle.vlt_core_laws.proofs.Formed.{formed_body, own_instance}
+use Rattle.vlt_core_laws.proofs.Formed.{formed_bodies}
 use Rattle.vlt_core_laws.proofs.Headed.{kinded_parts, function_empty, head_empty, each_at, ranged_keys, entries_fit}
-use Rattle.vlt_core_laws.proofs.Unbroken.{EachEmpty, some_not_none}
-use Rattle.cert_rows.specs.Parts.{All}
+use Rattle.vlt_core_laws.proofs.Origins.{origin_is}
+use Rattle.vlt_core_laws.proofs.Unbroken.{EachEmpty}
 use Rattle.cert_format.specs.Notes.{Note}
 use Rattle.cert_fit_laws.specs.Limits.{IsLimitedSet, IsLimitedType, IsLimitedFunc, IsLimitedProgram}
 use Rattle.cert_fit_laws.proofs.Listed.{all_at}
+use Rattle.cert_fit_laws.proofs.MappedBodies.{same_noted}
 use Rattle.cert_fit_laws.proofs.NarrowNumbers.{Bounds}
 use Rattle.cert_fit_laws.proofs.Tables.{count_from, sets_there}
-use Rattle.cert_least_laws.specs.LeastNotes.{HasLeastNotes, HaveLeastNotes, IsLeastCertificate}
+use Rattle.cert_least_laws.specs.LeastNotes.{HasLeastNotes, HaveLeastNotes}
 use Rattle.cert_least_bodies.specs.Programs.{AcceptedProgramsHaveOne}
-use Rattle.cert_least_bodies.proofs.Making.{body_notes, made_least}
+use Rattle.cert_least_bodies.proofs.Making.{IsMade, AreMade, body_notes, made_least, made_one}
 use Rattle.cert_least_bodies.proofs.Tables.{surely_shown}
 use Rattle.cert_least_bodies.specs.Narrow.{HasNarrow}
 use Rattle.cert_least_bodies.proofs.Typed.{types_of_vars}
@@ -78,20 +78,31 @@ module _ (p : Program) (kinded : IsKinded p) (is : IsLimitedProgram p) (well : I
   parts : HasKindedParts p
   parts = kinded_parts p kinded
 
-  body_sure : (g : ℕ) (f : Func) → slice_get p.fns g ≡ Some f → f.external ≡ false → Surely ((notes : List Note) × HasLeastNotes p f notes)
-  body_sure g f there own =
-      let head = head_empty p g f parts there in
-      let fit = formed_body p g f well there own in
-      let plain = well.plain g f there in
-      let b = bounds p is head.0 f parts head.1 (all_at IsLimitedFunc p.fns g f is.fns there) in
-      let rows = subst (λ x. EachEmpty (if x then [] else stmts_rows p f (record { jumps = false; returns = true }) (first_ids p f) false f.body)) own (function_empty p g f parts there).1.1 in
-      so (surely_shown p f fit (accepted g f None there own (own_instance p f plain))) (λ shown. (
-        body_notes p g f there b sets (ranged_keys p head.0 f head.1) (entries_fit p head.0 f head.1) rows fit shown,
-        record {
-          none = λ e. absurd (true≢false (sym e ∙ own));
-          body = λ e. made_least p g f there b sets (ranged_keys p head.0 f head.1) (entries_fit p head.0 f head.1) rows fit shown plain;
-        },
-      ))
+  module _ (g : ℕ) (f : Func) (there : slice_get p.fns g ≡ Some f) (own : f.external ≡ false) where
+    head : (m : ℕ) × (head_broken p m f ≡ [])
+    head = head_empty p g f parts there
+
+    f_bounds : Bounds p f
+    f_bounds = bounds p is head.0 f parts head.1 (all_at IsLimitedFunc p.fns g f is.fns there)
+
+    rows : EachEmpty (stmts_rows p f (record { jumps = false; returns = true }) (first_ids p f) false f.body)
+    rows = subst (λ x. EachEmpty (if x then [] else stmts_rows p f (record { jumps = false; returns = true }) (first_ids p f) false f.body)) own (function_empty p g f parts there).1.1
+
+    instance_sure : (o : Option ℕ) → IsOrigin p f o → Surely (IsMade p f o)
+    instance_sure o origin =
+        let fit = formed_bodies p g f o well there own origin in
+        so (surely_shown p (instance p f o) fit (accepted g f o there own origin)) (λ shown.
+        made_one p g f there f_bounds sets (ranged_keys p head.0 f head.1) (entries_fit p head.0 f head.1) rows o (same_noted p g f kinded (all_at IsLimitedFunc p.fns g f is.fns there).blank there (well.arms g f there) o) fit shown)
+
+    instances_sure : (os : List (Option ℕ)) → ((i : ℕ) (o : Option ℕ) → slice_get os i ≡ Some o → IsOrigin p f o) → Surely (AreMade p f os)
+    instances_sure [] each = sure tt
+    instances_sure (o ∷ os) each = surely (instance_sure o (each 0 o refl)) (λ x. so (instances_sure os (λ i q at. each (suc i) q at)) (λ y. (x, y)))
+
+    body_sure : Surely ((notes : List Note) × HasLeastNotes p f notes)
+    body_sure = so (instances_sure (origins p f) (origin_is p f)) (λ are. (
+      body_notes p f f_bounds are,
+      record { none = λ e. absurd (true≢false (sym e ∙ own)); body = λ e. made_least p f f_bounds are },
+    ))
 
   function_sure : (g : ℕ) (f : Func) → slice_get p.fns g ≡ Some f → Surely ((notes : List Note) × HasLeastNotes p f notes)
   function_sure g f there = by f.external refl

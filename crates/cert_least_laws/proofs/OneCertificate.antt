@@ -8,8 +8,8 @@ use Rattle.vlt_core.specs.Least.{Noted, a_loop, a_join}
 use Rattle.cert_rows.specs.Parts.{All}
 use Rattle.cert_format.specs.Notes.{Note, at_loop, at_join}
 use Rattle.cert_format.specs.Bounds.{instances}
-use Rattle.cert_fit_laws.specs.Complete.{named_by}
-use Rattle.cert_least_laws.specs.LeastNotes.{map_at, note_at, FitsRowOf, AreLeastNotes, HasLeastNotes, HaveLeastNotes}
+use Rattle.cert_fit_laws.specs.Complete.{named_by, FitsNote}
+use Rattle.cert_least_laws.specs.LeastNotes.{map_at, note_at, AreLeastNotes, HasLeastNotes, HaveLeastNotes}
 use Rattle.cert_least_laws.specs.Laws.{LeastCertificatesAreOne}
 use Rattle.cert_least_laws.proofs.Listing.{many, same_maps}
 use Rattle.cert_least_laws.proofs.Origins.{origin_at}
@@ -36,7 +36,7 @@ join_same : (n m : ℕ) (a b : HeldMap) → least.at_join n a ≡ least.at_join 
 join_same n m a b same = cc
 
 module _ (p : Program) (f : Func) where
-  same_note : (x y : Note) → named_by x ≡ named_by y → FitsRowOf p f x → FitsRowOf p f y → ((i : ℕ) → i < many (instances p f) → note_at i x ≡ note_at i y) → x ≡ y
+  same_note : (x y : Note) → named_by x ≡ named_by y → FitsNote (instances p f) x → FitsNote (instances p f) y → ((i : ℕ) → i < many (instances p f) → note_at i x ≡ note_at i y) → x ≡ y
   same_note (at_loop n a e) (at_loop m b g) named u v same =
       let one = same_maps (instances p f) a b u.0 v.0 (λ i w. around_same n m (map_at i a) (map_at i b) (map_at i e) (map_at i g) (same i w)) in
       let two = same_maps (instances p f) e g u.1 v.1 (λ i w. exit_same n m (map_at i a) (map_at i b) (map_at i e) (map_at i g) (same i w)) in
@@ -59,7 +59,7 @@ none_some : {A : Type 0} (b : A) (ds : List A) → [] ≡ b ∷ ds → ⊥
 none_some b ds e = cc
 
 module _ (p : Program) (f : Func) where
-  same_list : (xs ys : List Note) → map named_by xs ≡ map named_by ys → All (FitsRowOf p f) xs → All (FitsRowOf p f) ys →
+  same_list : (xs ys : List Note) → map named_by xs ≡ map named_by ys → All (FitsNote (instances p f)) xs → All (FitsNote (instances p f)) ys →
       ((i : ℕ) → i < many (instances p f) → map (note_at i) xs ≡ map (note_at i) ys) → xs ≡ ys
   same_list [] [] named u v same = refl
   same_list [] (y ∷ ys) named u v same = absurd (none_some (named_by y) (map named_by ys) named)

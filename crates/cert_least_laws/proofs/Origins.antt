@@ -16,6 +16,11 @@ lookup (x ∷ xs) (suc i) within = lookup xs i (less i (length xs) within)
     less : (i n : ℕ) → suc i < suc n → i < n
     less i n h = omega (arith, h)
 
+-- one map stands by itself, else there are so many in an array
+abbrev pub IsCount : Option ℕ → ℕ → Type 0
+IsCount None n = n ≡ 1
+IsCount (Some k) n = n ≡ k
+
 -- the only origin of a function without a bound entry
 only_at : (i : ℕ) → i < 1 → (o : Option ℕ) × (slice_get (None ∷ []) i ≡ Some o)
 only_at zero within = (None, refl)
@@ -29,14 +34,22 @@ module _ (p : Program) (f : Func) where
   counted_by None = None
   counted_by (Some b) = Some (length (origins p f))
 
-  pub alone_origins : bound_in f.clause ≡ None → origins p f ≡ None ∷ []
+  alone_origins : bound_in f.clause ≡ None → origins p f ≡ None ∷ []
   alone_origins plain = rw plain refl
 
-  pub alone_instances : bound_in f.clause ≡ None → instances p f ≡ None
+  alone_instances : bound_in f.clause ≡ None → instances p f ≡ None
   alone_instances plain = rw plain refl
 
   bound_instances : (b : Bound) → bound_in f.clause ≡ Some b → instances p f ≡ Some (length (origins p f))
   bound_instances b is = ap counted_by is
+
+  -- a note has a map for each origin
+  pub instances_counted : IsCount (instances p f) (length (origins p f))
+  instances_counted = by (bound_in f.clause) refl
+    where
+      by : (b : Option Bound) → bound_in f.clause ≡ b → IsCount (instances p f) (length (origins p f))
+      by None is = subst (λ n. IsCount n (length (origins p f))) (sym (alone_instances is)) (ap length (alone_origins is))
+      by (Some b) is = subst (λ n. IsCount n (length (origins p f))) (sym (bound_instances b is)) refl
 
   pub origin_at : (i : ℕ) → i < many (instances p f) → (o : Option ℕ) × (slice_get (origins p f) i ≡ Some o)
   origin_at i within = by (bound_in f.clause) refl

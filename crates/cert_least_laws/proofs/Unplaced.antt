@@ -11,7 +11,9 @@ use Rattle.cert_format.specs.Notes.{Note, at_loop, at_join}
 use Rattle.cert_format.specs.Places.{unplaced_func, unplaced_program}
 use Rattle.cert_format_laws.specs.Places.{PlacesDontCount}
 use Rattle.cert_format_laws.proofs.Flows.{bare, bare_block, bare_stmts, bare_arms, sizes, block_sizes, passing_block, passing_arms, bodies}
-use Rattle.cert_least_laws.specs.LeastNotes.{note_at, FitsRowOf, HasLeastNotes, HaveLeastNotes}
+use Rattle.cert_format.specs.Bounds.{instances}
+use Rattle.cert_fit_laws.specs.Complete.{FitsNote}
+use Rattle.cert_least_laws.specs.LeastNotes.{note_at, HasLeastNotes, HaveLeastNotes}
 
 -- ---- the statements that have a note
 
@@ -58,12 +60,12 @@ module _ (p : Program) (places : PlacesDontCount p) where
   }
 
   module _ (f : Func) where
-    fit_without : (xs : List Note) → All (FitsRowOf p f) xs → All (FitsRowOf (unplaced_program p) (unplaced_func f)) xs
+    fit_without : (xs : List Note) → All (FitsNote (instances p f)) xs → All (FitsNote (instances (unplaced_program p) (unplaced_func f))) xs
     fit_without [] fit = tt
     fit_without (at_loop n around exit ∷ xs) fit = (fit.0, fit_without xs fit.1)
     fit_without (at_join n maps ∷ xs) fit = (fit.0, fit_without xs fit.1)
 
-    fit_with : (xs : List Note) → All (FitsRowOf (unplaced_program p) (unplaced_func f)) xs → All (FitsRowOf p f) xs
+    fit_with : (xs : List Note) → All (FitsNote (instances (unplaced_program p) (unplaced_func f))) xs → All (FitsNote (instances p f)) xs
     fit_with [] fit = tt
     fit_with (at_loop n around exit ∷ xs) fit = (fit.0, fit_with xs fit.1)
     fit_with (at_join n maps ∷ xs) fit = (fit.0, fit_with xs fit.1)

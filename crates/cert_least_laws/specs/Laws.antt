@@ -1,7 +1,6 @@
 -- What is so of least certificates.
 use Rattle.std.specs.Prelude.{◌≡◌, ◌↔◌, ℕ, true, List, Some, slice_get}
 use Rattle.vlt_core.specs.Core.{done, Func, Program}
-use Rattle.vlt_core.specs.Instances.{HasNoBounds}
 use Rattle.cert_format.specs.Notes.{Note}
 use Rattle.cert_format.specs.Places.{unplaced_program}
 use Rattle.cert_fit_laws.specs.Annotation.{IsLocalCertificate}
@@ -24,11 +23,11 @@ abbrev pub HasBlankExternals : Program → Type 0
 HasBlankExternals p =
     (g : ℕ) (f : Func) → slice_get p.fns g ≡ Some f → f.external ≡ true → f.body ≡ done
 
--- In a program without bound entries its notes are complete, and fit rows of version 1.
+-- Its notes are complete, and fit rows.
 abbrev pub LeastCertificatesAreComplete : Type 0
 LeastCertificatesAreComplete =
-    (p : Program) (all : List (List Note)) → HasNoBounds p → HasBlankExternals p →
-    IsLeastCertificate p all → AreComplete p p.fns all
+    (p : Program) (all : List (List Note)) → HasBlankExternals p → IsLeastCertificate p all →
+    AreComplete p p.fns all
 
 -- It is the same one without the program's places.
 abbrev pub LeastCertificatesHaveNoPlaces : Type 0

@@ -7,12 +7,11 @@ use Rattle.vlt_core.specs.Instances.{instance, origins}
 use Rattle.vlt_core.specs.Least as least
 use Rattle.vlt_core.specs.Least.{noted_block, IsLeast}
 use Rattle.cert_rows.specs.Parts.{All}
-use Rattle.cert_rows.specs.Values.{maps_part}
 use Rattle.cert_rows.specs.Rows.{Maps}
 use Rattle.cert_format.specs.Notes.{Note, at_loop, at_join}
 use Rattle.cert_format.specs.Bounds.{instances}
 use Rattle.cert_fit_laws.specs.Annotation.{held_map, map_or_empty}
-use Rattle.cert_fit_laws.specs.Complete.{named_by}
+use Rattle.cert_fit_laws.specs.Complete.{named_by, FitsNote}
 
 -- ---- the notes of one instance, by ascending origin
 
@@ -25,18 +24,11 @@ note_at i (at_join n maps) = least.at_join n (map_at i maps)
 
 -- ---- functions
 
--- The maps of the note fit a row of the function: there is one for each instance, and in each one
--- tokens ascend and none is absent.
-abbrev pub FitsRowOf : Program → Func → Note → Type 0
-FitsRowOf p f (at_loop n around exit) =
-    (maps_part (instances p f)).Fits around × (maps_part (instances p f)).Fits exit
-FitsRowOf p f (at_join n maps) = (maps_part (instances p f)).Fits maps
-
--- The notes of a body: those of each loop and each choice that can be passed, in order. In each
--- instance of the function they hold, and lie below each annotation that does.
+-- The notes of a body: those of each loop and each choice that can be passed, in order. Their maps fit
+-- rows of the function. In each of its instances they hold, and lie below each annotation that does.
 pub record AreLeastNotes (p : Program) (f : Func) (notes : List Note) : Type 0 where
   pub names : map named_by notes ≡ noted_block 0 (body_flow p f)
-  pub fit : All (FitsRowOf p f) notes
+  pub fit : All (FitsNote (instances p f)) notes
   pub least : (i : ℕ) (o : Option ℕ) → slice_get (origins p f) i ≡ Some o →
       IsLeast p (instance p f o) (map (note_at i) notes)
 

@@ -14,7 +14,7 @@ pub fn least_certificates_are_local()
     ensures { LeastCertificatesAreLocal }
 {}
 
-/// In a program without bound entries they are complete, and fit the rows of a certificate.
+/// They are complete, and fit the rows of a certificate.
 pub fn least_certificates_are_complete()
     ensures { LeastCertificatesAreComplete }
 {}

@@ -1,2 +1,4 @@
+pub mod Readings
+pub mod ListedMaps
 pub mod Annotating
 pub mod Narrow

@@ -1,5 +1,5 @@
 -- An accepted program of a text surely has a least certificate, which fits, verifies and is read back.
-use Rattle.std.specs.Prelude.{◌≡◌, ℕ, false, List}
+use Rattle.std.specs.Prelude.{◌≡◌, ℕ, List}
 use Rattle.vlt_base.specs.Sure.{Surely}
 use Rattle.vlt_core.specs.Core.{Program}
 use Rattle.vlt_core.specs.Derives.{IsAccepted}
@@ -26,12 +26,11 @@ AcceptedTextsHaveOne =
     (p : Program) → IsProgramOfTexts p → IsAccepted p →
     Surely ((all : List (List Note)) × IsLeastCertificate p all)
 
--- Without its places the program has a certificate of version 1 with these notes. The program breaks
--- no rule on names and types, the notes hold in its bodies, and it has the same C program as with
--- its places.
+-- Without its places the program has a certificate with these notes, in the version that is written:
+-- 1 without links and bound entries, else 2. The program breaks no rule on names and types, the notes
+-- hold in its bodies, and it has the same C program as with its places.
 pub record IsCertified (p : Program) (all : List (List Note)) : Type 0 where
-  pub version : is_ordered (unplaced_program p) ≡ false
-  pub fits : FitsCertificate false (unplaced_program p) all
+  pub fits : FitsCertificate (is_ordered (unplaced_program p)) (unplaced_program p) all
   pub verified : IsVerified (unplaced_program p) all
   pub same_c : lowered (unplaced_program p) ≡ lowered p
 

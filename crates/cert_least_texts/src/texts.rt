@@ -9,11 +9,10 @@ use cert_least_laws::{
     least_certificates_are_complete, least_certificates_are_local,
     least_certificates_have_no_places,
 };
-use cert_text_laws::{texts_are_limited, texts_are_unordered};
+use cert_text_laws::texts_are_limited;
 use vlt_resolve_laws::{
     elaborated_programs_are_kinded, elaborated_programs_have_arms,
-    elaborated_programs_have_narrow_states, elaborated_programs_have_no_bounds,
-    elaborated_programs_have_states,
+    elaborated_programs_have_narrow_states, elaborated_programs_have_states,
 };
 
 /// It can't be that an accepted program of a text has no least certificate.
@@ -25,7 +24,6 @@ pub fn accepted_texts_have_one()
     elaborated_programs_have_arms();
     elaborated_programs_have_states();
     elaborated_programs_have_narrow_states();
-    elaborated_programs_have_no_bounds();
     accepted_programs_have_one();
 }
 
@@ -34,9 +32,7 @@ pub fn least_certificates_verify()
     ensures { LeastCertificatesVerify }
 {
     texts_are_limited();
-    texts_are_unordered();
     elaborated_programs_are_kinded();
-    elaborated_programs_have_no_bounds();
     least_certificates_are_complete();
     least_certificates_are_local();
     least_certificates_have_no_places();

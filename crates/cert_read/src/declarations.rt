@@ -131,7 +131,7 @@ fn struct_type(row: StructRow) -> TypeDecl
 }
 
 /// The function of a row, with this body.
-fn function(alloc: Global, external: bool, row: FnRow, body: Items<Stmt>) -> Func
+fn function(external: bool, row: FnRow, body: Items<Stmt>) -> Func
     ensures { func_of result ≡ pieces.func_of external (fn_of row) (stmts_of body) }
 {
     Func {
@@ -140,7 +140,6 @@ fn function(alloc: Global, external: bool, row: FnRow, body: Items<Stmt>) -> Fun
         result: row.result,
         params: row.params,
         clause: row.lists.clause,
-        state_var: Items::new(alloc),
         keys: row.lists.keys,
         vars: row.lists.vars,
         body,
@@ -192,7 +191,7 @@ fn add_external(
     if !are_bounds_known(&read.tables, row.get()) {
         return Ok(Next::Nothing);
     }
-    let f = function(alloc, true, row.into_inner(), Items::new(alloc));
+    let f = function(true, row.into_inner(), Items::new(alloc));
     read.fns.push(f)?;
     read.notes.push(Items::new(alloc))?;
     read.phase = Phase::Functions;
@@ -215,8 +214,7 @@ fn add_body(
         list: Items::new(alloc),
     };
     let body = stmts(alloc, drafts, &mut notes)?;
-    read.fns
-        .push(function(alloc, false, row.into_inner(), body))?;
+    read.fns.push(function(false, row.into_inner(), body))?;
     read.notes.push(notes.list)?;
     Ok(())
 }

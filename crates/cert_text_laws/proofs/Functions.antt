@@ -41,6 +41,7 @@ kept_ruled known (Some ss) = tt
 in_ruled : (keys : Keys) (known : Option (List (List ℕ))) (e : Entry) → IsRuledEntry (core_entry_in keys known e)
 in_ruled keys known (s.held k) = kept_ruled known k.states
 in_ruled keys known (s.changed k before after) = tt
+in_ruled keys known (s.bound k v b) = tt
 in_ruled keys known (s.taken k at) = tt
 in_ruled keys known (s.given k at) = tt
 in_ruled keys known (s.fresh k at) = tt

@@ -7,12 +7,9 @@ pub mod Shallow
 pub mod Simple
 pub mod Bodies
 pub mod Declarations
+pub mod Objects
+pub mod Bounds
 pub mod Functions
 pub mod Main
 pub mod Limited
-pub mod Unordered
-pub mod ListedMaps
-pub mod Annotated
-pub mod Holding
-pub mod Verifying
 pub mod NarrowHeads

@@ -14,6 +14,7 @@ use Rattle.vlt_resolve_laws.specs.Elaborated.{IsElaborated}
 use Rattle.vlt_resolve_laws.proofs.Made.{told, all_walked}
 use Rattle.vlt_resolve_laws.proofs.Whole.{fine_of}
 use Rattle.cert_rows.specs.Parts.{All}
+use Rattle.cert_format.specs.Bounds.{are_bounds_known}
 use Rattle.cert_format.specs.Certificate.{main_from}
 use Rattle.cert_fit_laws.specs.Limits.{IsLimitedSet, IsLimitedType, IsLimitedFunc, IsLimitedProgram}
 use Rattle.cert_fit_laws.proofs.Listed.{all_at, all_from}
@@ -58,6 +59,7 @@ pub record IsBounded (p : Program) : Type 0 where
   pub keys : (g : ℕ) (f : Func) → slice_get p.fns g ≡ Some f → length f.keys ≤ 256
   pub vars : (g : ℕ) (f : Func) → slice_get p.fns g ≡ Some f → length f.vars ≤ 256
   pub blank : (g : ℕ) (f : Func) → slice_get p.fns g ≡ Some f → f.external ≡ true → f.body ≡ done
+  pub bounds : (g : ℕ) (f : Func) → slice_get p.fns g ≡ Some f → are_bounds_known p f ≡ true
 
 pub limited : (t : Tree) (kinds : Kinds) (p : Program) → Each IsNamed t.decls → Each (DeclIsFew most) t.decls → IsElaborated t kinds p → HasProperBodies p → IsBounded p → IsLimitedProgram p
 limited t kinds p named few e proper bounded =
@@ -67,6 +69,7 @@ limited t kinds p named few e proper bounded =
       sets = is.sets;
       types = is.types;
       fns = all_from IsLimitedFunc p.fns (λ g f at. function g f at (all_at IsSmallFunc p.fns g f is.fns at));
+      bounds = bounded.bounds;
       proper = proper;
       shallow = all_shallow t kinds p e;
       main = is.main;

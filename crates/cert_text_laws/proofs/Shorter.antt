@@ -3,9 +3,9 @@ use Rattle.std.proofs.Common.{◌≤◌, ℕ, suc, List, [], ◌∷◌, length, 
 use Rattle.vlt_lexer.specs.declared.token.Mark.{Mark}
 use Rattle.vlt_syntax.specs.Tokens.{Token}
 use Rattle.vlt_syntax.specs.Tree as s
-use Rattle.vlt_syntax.specs.Tree.{Name, States, KeyStates, Named, Ty, Expr, Build, Call, Init, Right, Returned, Stmt, Block, If, Else, Stmts, Arms, HeaderKey, Field, Case, Entry, ResultType, Parameter, Head, Decl}
+use Rattle.vlt_syntax.specs.Tree.{Name, States, KeyStates, Named, Ty, Expr, Build, Call, Init, Right, Returned, Stmt, Block, If, Else, Stmts, Arms, SetState, HeaderKey, Field, Case, Entry, ResultType, Parameter, Head, Decl}
 use Rattle.vlt_syntax.specs.Lists.{each_then, further_then, listed_then, enclosed_then}
-use Rattle.vlt_syntax.specs.Spelling.{name_then, marked_name_then, states_then, at_states_then, key_states_then, named_then, ty_then, expr_then, build_then, call_then, init_then, owner_then, right_then, returned_then, condition_then, stmt_then, block_then, if_then, else_then, stmts_then, arms_then, header_key_then, header_then, field_then, release_then, case_then, entry_then, result_type_then, parameter_then, clause_then, head_then, decl_then}
+use Rattle.vlt_syntax.specs.Spelling.{name_then, marked_name_then, states_then, at_states_then, key_states_then, named_then, ty_then, expr_then, build_then, call_then, init_then, owner_then, right_then, returned_then, condition_then, stmt_then, block_then, if_then, else_then, stmts_then, arms_then, further_states_then, set_states_then, header_key_then, header_then, field_then, release_then, case_then, entry_then, result_type_then, parameter_then, clause_then, head_then, decl_then}
 
 abbrev pub Leaves : {X : Type 0} → (X → List Token → List Token) → Type 0
 Leaves {X} spell = (x : X) (rest : List Token) → length rest ≤ length (spell x rest)
@@ -157,6 +157,14 @@ mutual
 
 -- ---- declarations
 
+after_further_states : Leaves further_states_then
+after_further_states [] rest = more (same _)
+after_further_states (x ∷ xs) rest = more (more (after_further_states xs rest))
+
+after_set_states : Leaves set_states_then
+after_set_states [] rest = more (same _)
+after_set_states (x ∷ xs) rest = more (after_further_states xs rest)
+
 pub after_header_key : Leaves header_key_then
 after_header_key p rest = more (after_marked_name _ p.key_type rest)
 
@@ -176,6 +184,7 @@ after_case c rest = more (over (after_enclosed key_states_then after_key_states 
 pub after_entry : Leaves entry_then
 after_entry (s.held k) rest = after_key_states k rest
 after_entry (s.changed k a b) rest = more (more (over (more (after_states b rest)) (after_states a _)))
+after_entry (s.bound k v b) rest = more (more (more (more (more (more (more (same _)))))))
 after_entry (s.taken k at) rest = more (after_key_states k rest)
 after_entry (s.given k at) rest = more (after_key_states k rest)
 after_entry (s.fresh k at) rest = more (after_key_states k rest)
@@ -195,7 +204,7 @@ pub after_head : Leaves head_then
 after_head h rest = over (more (more (over (after_clause h.clause rest) (after_listed parameter_then after_parameter _ h.parameters _)))) (after_result_type h.result_type _)
 
 pub after_decl : Leaves decl_then
-after_decl (s.stateset n ss at) rest = more (more (more (after_listed name_then after_name _ ss rest)))
+after_decl (s.stateset n ss at) rest = more (more (more (after_set_states ss rest)))
 after_decl (s.abstract n ss at) rest = more (more (one (after_marked_name _ ss _)))
 after_decl (s.struct n ps ss fs r at) rest =
     more (more (over (over (more (over (over (more (same _)) (after_release r _)) (after_each field_then after_field fs _))) (after_marked_name _ ss _)) (after_header ps _)))

@@ -1,6 +1,5 @@
 -- Programs of certificates are all that the laws on checks, runs and C programs ask for.
-use Rattle.std.specs.Prelude.{Bool, false, List}
-use Rattle.vlt_core.specs.Instances.{HasNoBounds}
+use Rattle.std.specs.Prelude.{Bool, List}
 use Rattle.vlt_core.specs.Kinded.{IsKinded}
 use Rattle.vlt_core.specs.View.{program_of}
 use Rattle.vlt_core.specs.declared.program.Program.{Program}
@@ -10,19 +9,12 @@ use Rattle.cert_format.specs.Notes.{Note}
 use Rattle.cert_format.specs.Certificate.{FitsCertificate}
 use Rattle.cert_fit_laws.specs.Annotation.{IsVerified}
 
--- Of a program of the code that breaks no rule on names and types. A fit program has no bound entry,
--- as long as no text has one.
+-- Of a program of the code that breaks no rule on names and types.
 abbrev pub CertificatesAreFit : Type 0
 CertificatesAreFit =
     (ordered : Bool) (p : Program) (all : List (List Note)) →
     FitsCertificate ordered (program_of p) all → IsKinded (program_of p) →
-    HasNoBounds (program_of p) → IsFitProgram (program_of p)
-
--- no program of version 1 has one
-abbrev pub FirstVersionIsFit : Type 0
-FirstVersionIsFit =
-    (p : Program) (all : List (List Note)) → FitsCertificate false (program_of p) all →
-    IsKinded (program_of p) → IsFitProgram (program_of p)
+    IsFitProgram (program_of p)
 
 -- ---- programs whose certificate verifies, of both versions
 

@@ -1,4 +1,2 @@
-pub mod Annotations
 pub mod Texts
-pub mod Verified
 pub mod Fit

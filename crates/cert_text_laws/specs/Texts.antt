@@ -1,5 +1,5 @@
--- Accepted programs of texts have certificates.
-use Rattle.std.specs.Prelude.{◌≡◌, ◌≤◌, ◌⊎◌, ℕ, false, List, [], ◌∷◌, map, length, Option}
+-- Programs of texts keep the limits of certificates.
+use Rattle.std.specs.Prelude.{◌≡◌, ◌≤◌, ◌⊎◌, ℕ, List, [], ◌∷◌, length}
 use Rattle.vlt_base.specs.Limits.{limit_of}
 use Rattle.vlt_lexer.specs.Reading.{Lexeme}
 use Rattle.vlt_lexer.specs.Text.{IsTokensOf}
@@ -9,19 +9,9 @@ use Rattle.vlt_syntax.specs.Lists.{Each}
 use Rattle.vlt_syntax.specs.Spelling.{decl_then, spelling}
 use Rattle.vlt_syntax_laws.specs.Numbers.{HasNumbers}
 use Rattle.vlt_core.specs.Core.{Program}
-use Rattle.vlt_core.specs.View.{program_of}
-use Rattle.vlt_core.specs.declared.notes.Note.{Note as CodeNote}
-use Rattle.vlt_core.specs.declared.program.Program.{Program as CodeProgram}
 use Rattle.vlt_kinds.specs.Kinds.{Kinds}
 use Rattle.vlt_resolve_laws.specs.Elaborated.{IsElaborated}
-use Rattle.cert_rows.specs.Parts.{list}
-use Rattle.cert_format.specs.Places.{unplaced_program}
-use Rattle.cert_format.specs.Text.{marked}
-use Rattle.cert_format.specs.Certificate.{program_data, FitsCertificate, IsCertificateOf}
-use Rattle.cert_format_laws.specs.Texts.{IsWrittenText}
-use Rattle.cert_format_laws.specs.Versions.{is_ordered}
 use Rattle.cert_fit_laws.specs.Limits.{IsLimitedProgram}
-use Rattle.cert_text_laws.specs.Annotations.{listed_notes, AreAnnotated}
 
 -- one of these tokens
 abbrev pub IsAmong : Token → List Token → Type 0
@@ -49,33 +39,6 @@ pub record IsProgramOfTexts (p : Program) : Type 0 where
   pub numbers : HasNumbers tree
   pub elaborated : IsElaborated tree kinds p
 
--- the program of texts keeps the limits of certificates of version 1
+-- the program of texts keeps the limits of certificates
 abbrev pub TextsAreLimited : Type 0
 TextsAreLimited = (p : Program) → IsProgramOfTexts p → IsLimitedProgram p
-
--- so version 1 is the one that is written of it
-abbrev pub TextsAreUnordered : Type 0
-TextsAreUnordered =
-    (p : Program) → IsProgramOfTexts p → is_ordered (unplaced_program p) ≡ false
-
--- The program that the code makes of texts, each of whose bodies has its least annotation, has a
--- certificate of version 1, without its places, and with the notes of the annotations. An annotation
--- holds in each body, so the program is accepted.
-abbrev pub AcceptedProgramsHaveCertificates : Type 0
-AcceptedProgramsHaveCertificates =
-    (p : CodeProgram) (all : List (Option (List CodeNote))) →
-    IsProgramOfTexts (program_of p) → AreAnnotated p p.fns all →
-    FitsCertificate false (unplaced_program (program_of p)) (map listed_notes all)
-
--- the text that is written of a program without its places, and of these notes
-abbrev pub IsWrittenOf : (body : List ℕ) → CodeProgram → List (Option (List CodeNote)) → Type 0
-IsWrittenOf body p all =
-    let q = unplaced_program (program_of p) in
-    IsWrittenText body (list (program_data (is_ordered q) q (map listed_notes all)))
-
--- What is written of it is, between the marks, its certificate.
-abbrev pub AcceptedProgramsHaveTexts : Type 0
-AcceptedProgramsHaveTexts =
-    (p : CodeProgram) (all : List (Option (List CodeNote))) (body : List ℕ) →
-    IsProgramOfTexts (program_of p) → AreAnnotated p p.fns all → IsWrittenOf body p all →
-    IsCertificateOf (marked body) (unplaced_program (program_of p)) (map listed_notes all)

@@ -1,14 +1,14 @@
 //! Programs of certificates are fit for the laws on checks, runs and C programs.
 
-ghost use Rattle.cert_text_laws.specs.Fit.{CertificatesAreFit, FirstVersionIsFit, VerifiedAreAcceptedPrograms, VerifiedRunAlike, VerifiedAreDefined};
+ghost use Rattle.cert_text_laws.specs.Fit.{CertificatesAreFit, VerifiedAreAcceptedPrograms, VerifiedRunAlike, VerifiedAreDefined};
 
 use c_lower_accepted::accepted_programs_are_lowered_rightly;
 use cert_fit_laws::{
     certificates_are_accepted, certificates_are_formed, certificates_are_proper,
-    certificates_have_arms, certificates_have_states, first_version_has_no_bounds,
+    certificates_have_arms, certificates_have_states,
 };
 
-/// A program of a certificate that breaks no rule on names and types, and has no bound entry, is fit.
+/// A program of a certificate that breaks no rule on names and types is fit.
 pub fn certificates_are_fit()
     ensures { CertificatesAreFit }
 {
@@ -16,14 +16,6 @@ pub fn certificates_are_fit()
     certificates_are_proper();
     certificates_have_arms();
     certificates_have_states();
-}
-
-/// So is each one of a certificate of version 1 that breaks none.
-pub fn first_version_is_fit()
-    ensures { FirstVersionIsFit }
-{
-    certificates_are_fit();
-    first_version_has_no_bounds();
 }
 
 /// A program of the code whose certificate verifies is all that the law on C programs asks for.

@@ -1,9 +1,10 @@
 //! Expressions, operands before their operator, and operands of statements.
 
-ghost use Rattle.std.specs.Prelude.{◌≡◌, ◌∷◌, [], map, codes, if◌then◌else◌, OnOk};
+ghost use Rattle.std.specs.Prelude.{◌≡◌, ◌∷◌, [], map, if◌then◌else◌, OnOk};
 ghost use Rattle.cert_rows.specs.Parts.{nat, list};
 ghost use Rattle.cert_rows.specs.Values.{tagged_list};
-ghost use Rattle.cert_rows.specs.Expressions.{expr, magnitude as magnitude_of, operand as operand_part, operator_data};
+ghost use Rattle.cert_rows.specs.Expressions.{expr, operand as operand_part};
+ghost use Rattle.cert_rows.specs.Expressions.{magnitude as magnitude_of, operator_data};
 ghost use Rattle.vlt_core.specs.View.{expr_of, operand_of};
 ghost use Rattle.cert_values.specs.Laid.{laid, expr_laid};
 

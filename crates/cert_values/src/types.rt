@@ -1,6 +1,6 @@
 //! Types of fields, payloads, results and variables.
 
-ghost use Rattle.std.specs.Prelude.{◌≡◌, ◌∷◌, ◌++◌, [], codes, OnOk};
+ghost use Rattle.std.specs.Prelude.{◌≡◌, ◌∷◌, [], OnOk};
 ghost use Rattle.cert_rows.specs.Parts.{nat};
 ghost use Rattle.cert_rows.specs.Values.{ty as ty_part, ids, tagged_list};
 ghost use Rattle.vlt_core.specs.View.{ty_of, keys_of};

@@ -9,7 +9,6 @@ use Rattle.vlt_core.specs.Kinded.{IsKinded}
 use Rattle.vlt_core.specs.Lookups.{cases_of}
 use Rattle.vlt_core.specs.View.{program_of}
 use Rattle.vlt_core.specs.declared.program.Program.{Program as CodeProgram}
-use Rattle.cert_format.specs.Certificate.{FitsCertificate}
 use Rattle.vlt_core_laws.proofs.Unbroken.{some_same, some_not_none}
 use Rattle.c_syntax.specs.C as c
 use Rattle.c_syntax.specs.Text.{before_mark}
@@ -36,12 +35,11 @@ use Rattle.cert_kinds.specs.declared.whole.KindedError.TheVariants as kinded_err
 use Rattle.cert_check.specs.Unfit.{IsUnfit}
 use Rattle.cert_check_laws.specs.Laws.{TextsHaveMoreBytes, CertificatesArentUnfit}
 use Rattle.cert_verify.specs.Verified.{certificate_text, IsCertified}
-use Rattle.cert_verify.specs.Refusals.{IsNoCertificate, not_json, not_of_its_form, second_version, no_certificate_there}
+use Rattle.cert_verify.specs.Refusals.{not_json, not_of_its_form, no_certificate_there}
 use Rattle.cert_verify.specs.Outcomes.{IsRefusedAs}
-use Rattle.cert_verify.specs.Parts.{of_c, of_read, of_kinded, of_match, AreTested, IsOfFirstVersion, IsCertificateIn}
+use Rattle.cert_verify.specs.Parts.{of_c, of_read, of_kinded, of_match, AreTested}
 use Rattle.cert_verify.specs.declared.error.VerifyError.{VerifyError}
 use Rattle.cert_verify.specs.declared.error.VerifyError.TheVariants as error
-use Rattle.cert_verify.proofs.Version.{version_is}
 
 -- ---- the C text
 
@@ -66,32 +64,14 @@ marked_within text x cert is =
 
 -- ---- the certificate
 
-pub unread_certificate : (text : List ℕ) (e : ReadError) → read.IsReadAs text (Err e) → IsCertificateIn text (Err (of_read e))
-unread_certificate text read_error.Memory is = tt
-unread_certificate text read_error.NotJson is = not_json is
-unread_certificate text (read_error.Form n) is = not_of_its_form n is
-
-module _ (text : List ℕ) (x : Certificate) (is : read.IsReadAs text (Ok x)) where
-  version : is.0.ordered ≡ x.ordered
-  version = version_is text x.ordered (program_of x.program) (notes_of_all x.notes) is.0 is.1
-
-  pub of_second : x.ordered ≡ true → IsNoCertificate text
-  of_second e = second_version (program_of x.program) (notes_of_all x.notes) is.0 (version ∙ e)
-
-  pub of_first : x.ordered ≡ false → IsOfFirstVersion text x
-  of_first e = record { is = is.0; first = version ∙ e }
-
 module _ (text : List ℕ) (x : c.Program) (cert : Span) (reads : IsCProgramOf text x (Some cert)) where
-  pub uncertified_as : (e : VerifyError) → IsCertificateIn (certificate_text text cert) (Err e) → IsRefusedAs text e
-  uncertified_as error.Certificate is = no_certificate_there x cert reads is
-  uncertified_as error.Memory is = tt
-  uncertified_as (error.C e) is = absurd is
-  uncertified_as (error.Kind rule) is = absurd is
-  uncertified_as (error.Local first) is = absurd is
-  uncertified_as (error.NotLowered n) is = absurd is
+  pub uncertified_as : (e : ReadError) → read.IsReadAs (certificate_text text cert) (Err e) → IsRefusedAs text (of_read e)
+  uncertified_as read_error.Memory is = tt
+  uncertified_as read_error.NotJson is = no_certificate_there x cert reads (not_json is)
+  uncertified_as (read_error.Form n) is = no_certificate_there x cert reads (not_of_its_form n is)
 
-  pub certified : (y : Certificate) → IsOfFirstVersion (certificate_text text cert) y → IsCertified text x (program_of y.program) (notes_of_all y.notes)
-  certified y is = record { cert = cert; reads = reads; certificate = is.is; first_version = is.first }
+  pub certified : (y : Certificate) → read.IsReadAs (certificate_text text cert) (Ok y) → IsCertified text x (program_of y.program) (notes_of_all y.notes)
+  certified y is = record { cert = cert; reads = reads; certificate = is.0 }
 
 -- ---- programs of certificates
 
@@ -154,6 +134,6 @@ module _ (text : List ℕ) (x : c.Program) (p : Program) (all : List (List Note)
 pub testable : TextsHaveMoreBytes → CertificatesArentUnfit → (text : List ℕ) (x : c.Program) (p : CodeProgram) (all : List (List Note)) → length text < 2 ^ 32 - 1 →
     IsCertified text x (program_of p) all → IsKinded (program_of p) → IsUnfit (program_of p) all → ⊥
 testable more arent text x p all short is kinded =
-    arent p all (subst (λ o. FitsCertificate o (program_of p) all) is.first_version is.certificate.fits) kinded
+    arent is.certificate.ordered p all is.certificate.fits kinded
     (λ g. (let less = more (certificate_text text is.cert) (program_of p) all is.certificate g in
     let dropped = length-drop is.cert.from text in omega (arith, less, dropped, short)))

@@ -1,4 +1,3 @@
-pub mod Version
 pub mod Failing
 pub mod OneWay
 pub mod SomeWay

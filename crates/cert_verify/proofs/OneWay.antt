@@ -1,5 +1,5 @@
 -- A text verifies in one way, or is refused in one way.
-use Rattle.std.proofs.Common.{◌≡◌, refl, sym, ap, ◌∙◌, subst, ℕ, true, false, true≢false, List, Option, Some, None, IfSome, Result, Ok, Err}
+use Rattle.std.proofs.Common.{◌≡◌, refl, sym, ap, ◌∙◌, subst, ℕ, List, Option, Some, None, IfSome, Result, Ok, Err}
 use Rattle.vlt_base.specs.declared.places.Span.{Span}
 use Rattle.vlt_core.specs.Core.{Program}
 use Rattle.vlt_core.specs.Kinded.{breaks, IsKinded}
@@ -20,11 +20,10 @@ use Rattle.cert_check.specs.Whole.{ProgramRefusal, IsFirstRefusal}
 use Rattle.c_match.specs.Apart.{IsApartAt}
 use Rattle.c_match.specs.Laws.{ApartAtOne}
 use Rattle.cert_verify.specs.Verified.{certificate_text, IsCertified, IsVerifiedFile, body_count}
-use Rattle.cert_verify.specs.Refusals.{Refusal, unread, no_certificate, kind, local, not_lowered, IsNoCertificate, not_json, not_of_its_form, second_version, IsUncertified, no_mark, no_certificate_there, IsRefusal}
+use Rattle.cert_verify.specs.Refusals.{Refusal, unread, no_certificate, kind, local, not_lowered, IsNoCertificate, not_json, not_of_its_form, IsUncertified, no_mark, no_certificate_there, IsRefusal}
 use Rattle.cert_verify.specs.Outcomes.{refusal_of, IsAnswer, Refuses, Counts}
 use Rattle.cert_verify.specs.Laws.{VerifiesInOneWay}
 use Rattle.cert_verify.specs.declared.error.VerifyError.{VerifyError}
-use Rattle.cert_verify.proofs.Version.{one_version}
 
 -- what is known of texts, certificates and notes
 pub record Laws : Type 0 where
@@ -124,24 +123,22 @@ module _ (laws : Laws) where
     uncertified_not_unread e (no_mark x reads) b = read_not_unread x None e reads b
     uncertified_not_unread e (no_certificate_there x cert reads is) b = read_not_unread x (Some cert) e reads b
 
-    no_certificate_is : (t : List ℕ) (p : Program) (all : List (List Note)) (is : IsCertificateOf t p all) → is.ordered ≡ false →
-        IsNoCertificate t → ⊥
-    no_certificate_is t p all is first (not_json h) = absurd (named (laws.reading t (certificate p all) no_json is h))
+    no_certificate_is : (t : List ℕ) (p : Program) (all : List (List Note)) → IsCertificateOf t p all → IsNoCertificate t → ⊥
+    no_certificate_is t p all is (not_json h) = absurd (named (laws.reading t (certificate p all) no_json is h))
       where
         named : certificate p all ≡ no_json → ⊥
         named e = cc
-    no_certificate_is t p all is first (not_of_its_form n h) = absurd (named (laws.reading t (certificate p all) (wrong_row n) is h))
+    no_certificate_is t p all is (not_of_its_form n h) = absurd (named (laws.reading t (certificate p all) (wrong_row n) is h))
       where
         named : certificate p all ≡ wrong_row n → ⊥
         named e = cc
-    no_certificate_is t p all is first (second_version q b h second) = true≢false (sym second ∙ sym (one_version t p q all b is h) ∙ first)
 
     certified_not_uncertified : (x : c.Program) (p : Program) (all : List (List Note)) → IsCertified text x p all → IsUncertified text → ⊥
     certified_not_uncertified x p all s (no_mark y reads) =
         some_not_none s.cert ((laws.reads text).one_program x y (Some s.cert) None s.reads reads).1
     certified_not_uncertified x p all s (no_certificate_there y cert reads is) =
         let e = one_cert x y s.cert cert s.reads reads in
-        no_certificate_is (certificate_text text s.cert) p all s.certificate s.first_version
+        no_certificate_is (certificate_text text s.cert) p all s.certificate
         (subst (λ d. IsNoCertificate (certificate_text text d)) (sym e.1) is)
 
     found_again : (x y : c.Program) (p q : Program) (a b : List (List Note)) → (x ≡ y) × (p ≡ q) × (a ≡ b) → (r : Refusal) →

@@ -15,7 +15,7 @@ use Rattle.cert_format.specs.Readings.{Reading, certificate, not_json as no_json
 use Rattle.cert_format_laws.specs.Readings.{HasSomeReading}
 use Rattle.c_match.specs.Laws.{OthersAreApart}
 use Rattle.cert_verify.specs.Verified.{certificate_text, IsCertified}
-use Rattle.cert_verify.specs.Refusals.{unread, no_certificate, kind, local, not_lowered, not_json, not_of_its_form, second_version, no_mark, no_certificate_there}
+use Rattle.cert_verify.specs.Refusals.{unread, no_certificate, kind, local, not_lowered, not_json, not_of_its_form, no_mark, no_certificate_there}
 use Rattle.cert_verify.specs.Laws.{Verifies, IsRefused, VerifiesInSomeWay, NotesHaveAnAnswer}
 
 pub record Laws : Type 0 where
@@ -29,16 +29,13 @@ module _ (laws : Laws) (text : List ℕ) where
   Way = Verifies text ⊎ IsRefused text
 
   module _ (x : c.Program) (p : Program) (all : List (List Note)) (is : IsCertified text x p all) where
-    fits : FitsCertificate false p all
-    fits = subst (λ o. FitsCertificate o p all) is.first_version is.certificate.fits
-
     judged_program : Surely Way
     judged_program = by (breaks p) refl
       where
         by : (o : Option (ℕ × ℕ)) → breaks p ≡ o → Surely Way
         by (Some r) e =
             sure (inr (kind r.1, record { x = x; p = p; all = all; certified = is; row = r.0; breaks = e }))
-        by None kinded = surely (laws.answer p all fits kinded) (λ y. ⊎_elim
+        by None kinded = surely (laws.answer is.certificate.ordered p all is.certificate.fits kinded) (λ y. ⊎_elim
             (λ holds. surely (one_way (x ≡ lowered p)) (λ z. ⊎_elim
             (λ low. sure (inl (p, all, record { x = x; certified = is; verified = record { kinded = kinded; local = holds }; lowered = low })))
             (λ apart. so (laws.others p x apart) (λ n. inr (
@@ -66,15 +63,8 @@ module _ (laws : Laws) (text : List ℕ) where
             ))) y)
 
   module _ (x : c.Program) (cert : Span) (reads : IsCProgramOf text x (Some cert)) where
-    judged_version : (p : Program) (all : List (List Note)) (is : IsCertificateOf (certificate_text text cert) p all) →
-        (o : Bool) → is.ordered ≡ o → Surely Way
-    judged_version p all is true e =
-        sure (inr (no_certificate, no_certificate_there x cert reads (second_version p all is e)))
-    judged_version p all is false e =
-        judged_program x p all (record { cert = cert; reads = reads; certificate = is; first_version = e })
-
     judged_reading : (r : Reading) → IsReading (certificate_text text cert) r → Surely Way
-    judged_reading (certificate p all) is = judged_version p all is is.ordered refl
+    judged_reading (certificate p all) is = judged_program x p all (record { cert = cert; reads = reads; certificate = is })
     judged_reading no_json is = sure (inr (no_certificate, no_certificate_there x cert reads (not_json is)))
     judged_reading (wrong_row n) is = sure (inr (no_certificate, no_certificate_there x cert reads (not_of_its_form n is)))
 

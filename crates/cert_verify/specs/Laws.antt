@@ -1,5 +1,5 @@
 -- A text verifies in one way, or is refused in one way.
-use Rattle.std.specs.Prelude.{◌≡◌, ◌⊎◌, ℕ, false, List}
+use Rattle.std.specs.Prelude.{◌≡◌, ◌⊎◌, ℕ, Bool, List}
 use Rattle.vlt_base.specs.Sure.{Surely}
 use Rattle.vlt_core.specs.Core.{Program}
 use Rattle.vlt_core.specs.Kinded.{IsKinded}
@@ -28,12 +28,13 @@ IsRefused text = (r : Refusal) × IsRefusal text r
 abbrev pub VerifiesInSomeWay : List ℕ → Type 0
 VerifiesInSomeWay text = Surely (Verifies text ⊎ IsRefused text)
 
--- It can't be that the notes of a certificate of version 1, whose program breaks no rule on names and
--- types, neither hold nor are refused. A premise here, which `cert_verify_laws` proves.
+-- It can't be that the notes of a certificate, whose program breaks no rule on names and types, neither
+-- hold nor are refused. A premise here, which `cert_verify_laws` proves.
 abbrev pub NotesHaveAnAnswer : Type 0
 NotesHaveAnAnswer =
-    (p : Program) (all : List (List Note)) → FitsCertificate false p all → IsKinded p →
-    Surely (IsLocalCertificate p all ⊎ ((first : ProgramRefusal) × IsFirstRefusal p all first))
+    (ordered : Bool) (p : Program) (all : List (List Note)) → FitsCertificate ordered p all →
+    IsKinded p → Surely (IsLocalCertificate p all ⊎
+    ((first : ProgramRefusal) × IsFirstRefusal p all first))
 
 abbrev pub TextsVerifyInSomeWay : Type 0
 TextsVerifyInSomeWay = NotesHaveAnAnswer → (text : List ℕ) → VerifiesInSomeWay text

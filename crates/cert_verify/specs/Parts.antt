@@ -1,5 +1,5 @@
 -- What the parts of `verify` give. Private contracts alone cite this.
-use Rattle.std.specs.Prelude.{◌≡◌, ℕ, false, List, Result, Ok, Err}
+use Rattle.std.specs.Prelude.{ℕ, List, Result, Ok, Err}
 use Rattle.vlt_core.specs.View.{program_of}
 use Rattle.c_syntax.specs.View as c_view
 use Rattle.c_reader.specs.declared.error.CError.{CError}
@@ -9,16 +9,13 @@ use Rattle.c_match.specs.declared.error.MatchError.TheVariants as match_error
 use Rattle.vlt_core.specs.Core.{Program}
 use Rattle.cert_format.specs.Notes.{Note}
 use Rattle.cert_fit_laws.specs.Annotation.{IsLocalCertificate}
-use Rattle.cert_format.specs.Certificate.{IsCertificateOf}
 use Rattle.cert_read.specs.Declarations.{notes_of_all}
-use Rattle.cert_read.specs.declared.read.Certificate.{Certificate}
 use Rattle.cert_read.specs.declared.error.ReadError.{ReadError}
 use Rattle.cert_read.specs.declared.error.ReadError.TheVariants as read_error
 use Rattle.cert_kinds.specs.declared.whole.KindedError.{KindedError}
 use Rattle.cert_kinds.specs.declared.whole.KindedError.TheVariants as kinded_error
 use Rattle.cert_check.specs.Whole.{refusal_in, IsFirstRefusal}
 use Rattle.cert_verify.specs.Verified.{IsCertified}
-use Rattle.cert_verify.specs.Refusals.{IsNoCertificate}
 use Rattle.cert_verify.specs.Outcomes.{IsRefusedAs}
 use Rattle.cert_verify.specs.declared.error.VerifyError.{VerifyError}
 use Rattle.cert_verify.specs.declared.error.VerifyError.TheVariants as error
@@ -41,19 +38,6 @@ of_kinded kinded_error.Memory = error.Memory
 abbrev pub of_match : MatchError → VerifyError
 of_match (match_error.Differs statement) = error.NotLowered statement
 of_match match_error.Memory = error.Memory
-
--- ---- the certificate
-
-pub record IsOfFirstVersion (text : List ℕ) (c : Certificate) : Type 0 where
-  pub is : IsCertificateOf text (program_of c.program) (notes_of_all c.notes)
-  pub first : is.ordered ≡ false
-
--- the text is a certificate of version 1, or it is none
-abbrev pub IsCertificateIn : List ℕ → Result Certificate VerifyError → Type 0
-IsCertificateIn text (Ok c) = IsOfFirstVersion text c
-IsCertificateIn text (Err error.Certificate) = IsNoCertificate text
-IsCertificateIn text (Err error.Memory) = Unit {0}
-IsCertificateIn text (Err e) = ⊥
 
 -- ---- the C program and the certificate
 

@@ -1,6 +1,6 @@
 -- Why a C file doesn't verify: the first part of its verification that fails. The parts are the C
 -- text, the certificate, the rules on names and types, the notes, and the lowering, in this order.
-use Rattle.std.specs.Prelude.{◌≡◌, ℕ, true, List, Some, None}
+use Rattle.std.specs.Prelude.{◌≡◌, ℕ, List, Some, None}
 use Rattle.vlt_base.specs.declared.places.Span.{Span}
 use Rattle.vlt_core.specs.Core.{Program}
 use Rattle.vlt_core.specs.Kinded as kinds
@@ -12,7 +12,6 @@ use Rattle.c_reader.specs.Reads.{IsUnread}
 use Rattle.c_lower.specs.Lowering.{lowered}
 use Rattle.c_match.specs.Apart.{IsApartAt}
 use Rattle.cert_format.specs.Notes.{Note}
-use Rattle.cert_format.specs.Certificate.{IsCertificateOf}
 use Rattle.cert_format.specs.Readings.{IsNotJson, IsFormRefusal}
 use Rattle.cert_fit_laws.specs.Annotation.{IsVerified}
 use Rattle.cert_check.specs.Whole.{ProgramRefusal, IsFirstRefusal}
@@ -25,12 +24,10 @@ pub data Refusal : Type 0 where
   local : ProgramRefusal → Refusal
   not_lowered : (statement : ℕ) → Refusal
 
--- The text is no certificate of version 1. One of version 2 is none yet.
+-- The text is no certificate.
 pub data IsNoCertificate (text : List ℕ) : Type 0 where
   not_json : IsNotJson text → IsNoCertificate text
   not_of_its_form : (row : ℕ) → IsFormRefusal text row → IsNoCertificate text
-  second_version : (p : Program) (all : List (List Note)) (is : IsCertificateOf text p all) →
-      is.ordered ≡ true → IsNoCertificate text
 
 -- The text stands for a C program. It has no mark of a certificate, or what it has from there on is
 -- none.

@@ -1,5 +1,5 @@
 -- Which texts of C files verify, and how many functions with a body they have.
-use Rattle.std.specs.Prelude.{◌≡◌, ℕ, not, false, List, length, filter, drop, Some}
+use Rattle.std.specs.Prelude.{◌≡◌, ℕ, not, List, length, filter, drop, Some}
 use Rattle.vlt_base.specs.declared.places.Span.{Span}
 use Rattle.vlt_core.specs.Core.{Program}
 use Rattle.c_syntax.specs.C as c
@@ -14,13 +14,12 @@ abbrev pub certificate_text : List ℕ → Span → List ℕ
 certificate_text text cert = drop cert.from text
 
 -- The text stands for the C program x, and its certificate is that of the program p and of these
--- notes, in version 1.
+-- notes.
 pub record IsCertified (text : List ℕ) (x : c.Program) (p : Program)
     (all : List (List Note)) : Type 0 where
   pub cert : Span
   pub reads : IsCProgramOf text x (Some cert)
   pub certificate : IsCertificateOf (certificate_text text cert) p all
-  pub first_version : certificate.ordered ≡ false
 
 -- The C text of the file is the lowering of the program that its certificate says. That program
 -- breaks no rule on names and types, and the notes hold in each of its bodies.

@@ -16,8 +16,8 @@ pub enum VerifyError {
     /// The text stands for no C program. It isn't for want of memory, which is `Memory`.
     #[error("the text stands for no C program")]
     C(CError),
-    /// There is no mark of a certificate, or no certificate of version 1 from there on.
-    #[error("there is no certificate of version 1")]
+    /// There is no mark of a certificate, or no certificate from there on.
+    #[error("there is no certificate")]
     Certificate,
     /// The least rule that the first broken row of the certificate's program breaks.
     #[error("the certificate's program breaks rule {rule}")]

@@ -1,12 +1,12 @@
 //! A C file: its C program, and the program and the notes of its certificate.
 
 ghost use Rattle.std.specs.Prelude.{◌≡◌, ◌<◌, ◌≤◌, ◌-◌, ◌^◌, drop, length};
-ghost use Rattle.cert_verify.specs.Parts.{IsCertificateIn, IsOpened};
+ghost use Rattle.cert_verify.specs.Parts.{IsOpened};
 
 use crate::error::VerifyError;
 use c_reader::{CFile, read_c};
 use c_syntax::CProgram;
-use cert_read::{Certificate, from_text};
+use cert_read::from_text;
 use cert_read_bodies::MapsNote;
 use std::alloc::Global;
 use vlt_base::Items;
@@ -28,17 +28,6 @@ fn text_from(text: &[u8], from: u32) -> &[u8]
     &text[from as usize..]
 }
 
-/// Reads the text of a certificate of version 1.
-fn first_version(alloc: Global, text: &[u8]) -> Result<Certificate, VerifyError>
-    ensures { IsCertificateIn text.now result }
-{
-    let certificate = from_text(alloc, text)?;
-    if certificate.ordered {
-        return Err(VerifyError::Certificate);
-    }
-    Ok(certificate)
-}
-
 /// Reads a C text and its certificate.
 pub fn certified_file(alloc: Global, text: &[u8]) -> Result<CertifiedFile, VerifyError>
     requires { length text.now < 2 ^ 32 - 1 }
@@ -48,7 +37,7 @@ pub fn certified_file(alloc: Global, text: &[u8]) -> Result<CertifiedFile, Verif
     let Some(span) = file.cert else {
         return Err(VerifyError::Certificate);
     };
-    let certificate = first_version(alloc, text_from(text, span.from))?;
+    let certificate = from_text(alloc, text_from(text, span.from))?;
     Ok(CertifiedFile {
         c_program: file.program,
         program: certificate.program,

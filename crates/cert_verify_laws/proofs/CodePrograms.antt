@@ -325,7 +325,6 @@ code_func f is =
         result = result.0;
         params = f.params;
         clause = clause.0;
-        state_var = [];
         keys = keys.0;
         vars = vars.0;
         body = body.0;

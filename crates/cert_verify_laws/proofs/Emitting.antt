@@ -15,9 +15,9 @@ use Rattle.c_lower.specs.Lowering.{lowered}
 use Rattle.c_lower_accepted.specs.Texts.{IsAcceptedTree}
 use Rattle.cert_rows.specs.Parts.{list}
 use Rattle.cert_format.specs.Places.{unplaced_func, unplaced_program}
-use Rattle.cert_format.specs.Text.{marked, closing}
+use Rattle.cert_format.specs.Text.{closing}
 use Rattle.cert_format.specs.Notes.{Note}
-use Rattle.cert_format.specs.Certificate.{program_data, FitsCertificate, IsCertificateOf}
+use Rattle.cert_format.specs.Certificate.{program_data, IsCertificateOf}
 use Rattle.cert_format_laws.specs.Texts.{IsWrittenText, CertificatesAreWritten}
 use Rattle.cert_format_laws.specs.Versions.{is_ordered}
 use Rattle.cert_text_laws.specs.Texts.{IsProgramOfTexts}
@@ -51,21 +51,6 @@ accepted_tree p is accepted = record {
 
 -- ---- certificates
 
--- the text is the certificate, in version 1
-abbrev IsFirst : List ℕ → Program → List (List Note) → Type 0
-IsFirst text q all = (is : IsCertificateOf text q all) × (is.ordered ≡ false)
-
-first : CertificatesAreWritten → (q : Program) (all : List (List Note)) (body : List ℕ) → FitsCertificate false q all → IsWrittenText body (list (program_data false q all)) → IsFirst (marked body) q all
-first written q all body fits text = (
-  record {
-    ordered = false;
-    json = record { body = body; marks = refl; utf8 = text.utf8; value = text.reads_back };
-    plain = ((written false q all fits).certificate body text).plain;
-    fits = fits;
-  },
-  refl,
-)
-
 behind : (xs ys : List ℕ) → drop (length xs) (xs ++ ys) ≡ ys
 behind [] ys = refl
 behind (x ∷ xs) ys = behind xs ys
@@ -85,24 +70,20 @@ module _ (p : Program) (all : List (List Note)) (fit : least.IsCertified p all) 
       let more = compact_text (list (program_data (is_ordered q) q all)) ++ closing in
       subst (λ l. IsCProgramOf l (lowered p) (Some (record { from = length front; to = length l }))) (append_assoc front mark more) (again.certified more)
 
-  certificate : CertificatesAreWritten → IsWrittenText (compact_text (list (program_data false q all))) (list (program_data false q all)) → IsFirst (drop (length front) file) q all
+  certificate : CertificatesAreWritten → IsWrittenText (compact_text (list (program_data (is_ordered q) q all))) (list (program_data (is_ordered q) q all)) → IsCertificateOf (drop (length front) file) q all
   certificate written text =
-      subst (λ t. IsFirst t q all) (sym (behind front (certificate_of p all)))
-      (subst (λ o. IsFirst (marked (compact_text (list (program_data o q all)))) q all) (sym fit.version) (first written q all _ fit.fits text))
+      subst (λ t. IsCertificateOf t q all) (sym (behind front (certificate_of p all))) ((written (is_ordered q) q all fit.fits).certificate (compact_text (list (program_data (is_ordered q) q all))) text)
 
 pub emitted : CertificatesAreWritten → (p : Program) (all : List (List Note)) → least.IsCertified p all →
-    IsWrittenText (compact_text (list (program_data false (unplaced_program p) all))) (list (program_data false (unplaced_program p) all)) →
+    (let q = unplaced_program p in IsWrittenText (compact_text (list (program_data (is_ordered q) q all))) (list (program_data (is_ordered q) q all))) →
     ReadsAs (canonical_text (lowered p)) (lowered p) → IsVerifiedFile (canonical_text (lowered p) ++ certificate_of p all) (unplaced_program p) all
-emitted written p all fit text again =
-    let is = certificate p all fit written text in
-    record {
-      x = lowered p;
-      certified = record {
-        cert = record { from = length (front p all fit); to = length (file p all fit) };
-        reads = read p all fit again;
-        certificate = is.0;
-        first_version = is.1;
-      };
-      verified = fit.verified;
-      lowered = sym fit.same_c;
-    }
+emitted written p all fit text again = record {
+  x = lowered p;
+  certified = record {
+    cert = record { from = length (front p all fit); to = length (file p all fit) };
+    reads = read p all fit again;
+    certificate = certificate p all fit written text;
+  };
+  verified = fit.verified;
+  lowered = sym fit.same_c;
+}

@@ -15,9 +15,10 @@ use Rattle.vaultc_core.proofs.Read.{text_tree}
 pub compilable : ProgramsAreFit → TextsHaveTextTrees → (bytes : List ℕ) (t : Tree) (p : Program) → IsTextOf t bytes → IsVerdictOf t (accepted p) → IsCompilable p
 compilable fit trees bytes t p reads is =
     let tree = text_tree trees bytes t reads in
+    let fits = fit_program fit t p tree is.0 in
     record {
       texts = program_of_text bytes t p reads tree is.0;
       accepted = is.1;
-      well_formed = (fit_program fit t p tree is.0).well_formed;
+      well_formed = fits.well_formed;
       few_cases = few_cases fit t p (accepted_tree t p tree is);
     }

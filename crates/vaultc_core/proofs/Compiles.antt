@@ -10,7 +10,8 @@ use Rattle.vlt_core.specs.Core.{Ty, int, bool, tracked, owning, guarded, variant
 use Rattle.vlt_core.specs.Lookups.{cases_of}
 use Rattle.vlt_core.specs.Bodies.{body_flow}
 use Rattle.vlt_core.specs.Derives.{start_map}
-use Rattle.vlt_core_laws.proofs.Formed.{own_instance, formed_body}
+use Rattle.vlt_core.specs.Instances.{instance}
+use Rattle.vlt_core_laws.proofs.Formed.{formed_bodies}
 use Rattle.vlt_core_laws.proofs.Deriving.{annotated}
 use Rattle.vlt_io.specs.Outside.{Files, IsRead, Grew}
 use Rattle.vlt_io.specs.declared.sink.Sink as sink
@@ -140,10 +141,11 @@ with_certificate p text (Err e) least said = tt
 -- of an accepted program no body is refused
 pub not_refused : (p : Program) → IsCompilable p → HasRefused p → ⊥
 not_refused p h r =
-    let fit = formed_body p r.number r.func h.well_formed r.there r.with_body in
-    let own = own_instance p r.func (h.well_formed.plain r.number r.func r.there) in
-    let some = annotated (body_flow p r.func) (start_map p r.func) fit.fit.jumping (h.accepted r.number r.func None r.there r.with_body own) in
-    r.holds some.0 some.1
+    let o = r.in_some.origin in
+    let f = instance p r.func o in
+    let fit = formed_bodies p r.number r.func o h.well_formed r.there r.with_body r.in_some.is in
+    let some = annotated (body_flow p f) (start_map p f) fit.fit.jumping (h.accepted r.number r.func o r.there r.with_body r.in_some.is) in
+    r.in_some.holds some.0 some.1
 
 -- a program without a variant of many cases isn't refused for one
 pub not_cases : (p : Program) (e : LowerError) → e ≡ error.Cases → Refuses p e → gives_many_cases p ≡ false → ⊥

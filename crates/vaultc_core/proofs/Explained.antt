@@ -15,7 +15,7 @@ use Rattle.vlt_core.specs.declared.notes.Choice.{Choice}
 use Rattle.vlt_core.specs.FaultView.{kind_of}
 use Rattle.vlt_check.specs.Checks.{fault_of}
 use Rattle.vlt_verdict.specs.FitLaws.Fit.{IsTextTree, ProgramsAreFit}
-use Rattle.vlt_reports.specs.Reports.{fault_line, paths_text}
+use Rattle.vlt_reports.specs.Reports.{fault_line, instance_text, paths_text}
 use Rattle.vlt_syntax.specs.Tree.{Tree}
 use Rattle.vlt_verdict.proofs.Single.{fit_program}
 use Rattle.vlt_verdict.specs.declared.Verdict as shown
@@ -25,7 +25,8 @@ use Rattle.vlt_verdict.specs.Verdicts.{Verdict, faulty, IsVerdictOf}
 use Rattle.vaultc_core.specs.declared.status.TheConstants.{NOT_ACCEPTED}
 use Rattle.vaultc_core.specs.Lines.{Reply, reply}
 use Rattle.vaultc_core.specs.Shown.{IsShowable}
-use Rattle.vaultc_core.specs.Verdicts.{check_reply, IsExplained}
+use Rattle.vaultc_core.specs.Variables.{variable_in}
+use Rattle.vaultc_core.specs.Verdicts.{check_reply, explained_reply, IsExplained}
 
 -- ---- faults
 
@@ -44,27 +45,27 @@ same_func : (p : Program) (n : ℕ) (f g : Func) → slice_get p.fns n ≡ Some 
 same_func p n f g a b = cc
 
 -- the line of the fault and its paths are what `explain` says of it
-pub fault_explained : (text : List ℕ) (p : Program) (f g : Func) (x : FlowFault) (first : List w.Choice) (second : Option (List w.Choice)) (line paths out : List ℕ) →
+pub fault_explained : (text : List ℕ) (t : Tree) (p : Program) (f g : Func) (x : FlowFault) (first : List w.Choice) (second : Option (List w.Choice)) (line paths out : List ℕ) →
     slice_get p.fns x.function ≡ Some f → slice_get p.fns x.function ≡ Some g → IsWitness p x first second →
-    line ≡ fault_line text p f x.at x.tok x.kind → paths ≡ paths_text text p f first second → out ≡ line ++ paths →
-    IsExplained text (faulty p g x) (reply NOT_ACCEPTED out)
-fault_explained text p f g x first second line paths out there also shows is_line is_paths is_out =
+    line ≡ fault_line text p f x.at x.tok x.kind → paths ≡ paths_text text p f (instance_text p f (variable_in t x.function) x.origin) first second → out ≡ line ++ paths →
+    IsExplained text t (faulty p g x) (reply NOT_ACCEPTED out)
+fault_explained text t p f g x first second line paths out there also shows is_line is_paths is_out =
     let same : f ≡ g = same_func p x.function f g there also in
-    let whole : out ≡ fault_line text p f x.at x.tok x.kind ++ paths_text text p f first second = is_out ∙ ap₂ (λ a b. a ++ b) is_line is_paths in
-    (first, second, shows, ap (reply NOT_ACCEPTED) (subst (λ h. out ≡ fault_line text p h x.at x.tok x.kind ++ paths_text text p h first second) same whole))
+    let whole : reply NOT_ACCEPTED out ≡ explained_reply text (variable_in t x.function) p f x first second = ap (reply NOT_ACCEPTED) (is_out ∙ ap₂ (λ a b. a ++ b) is_line is_paths) in
+    (first, second, shows, subst (λ h. reply NOT_ACCEPTED out ≡ explained_reply text (variable_in t x.function) p h x first second) same whole)
 
 -- ---- verdicts
 
-no_fault : (text : List ℕ) (v s : Verdict) (r : Reply) → s ≡ v → IsExplained text v r → IsExplained text s r
-no_fault text v s r same is = subst (λ v. IsExplained text v r) (sym same) is
+no_fault : (text : List ℕ) (t : Tree) (v s : Verdict) (r : Reply) → s ≡ v → IsExplained text t v r → IsExplained text t s r
+no_fault text t v s r same is = subst (λ v. IsExplained text t v r) (sym same) is
 
 -- what is said of a verdict without a fault is what `check` says
-pub check_explains : (text : List ℕ) (v : shown.Verdict) (s : Verdict) (r : Reply) → ((p : core.Program) (x : code.FlowFault) → v ≡ Faulty p x → ⊥) → IsSeenAs v s →
-    r ≡ check_reply text s → IsExplained text s r
-check_explains text (Broken rule at) s r no_faulty seen e = no_fault text _ s r seen (e ∙ ap (check_reply text) seen)
-check_explains text (Exceeded n) s r no_faulty seen e = no_fault text _ s r seen (e ∙ ap (check_reply text) seen)
-check_explains text (Faulty p x) s r no_faulty seen e = absurd (no_faulty p x refl)
-check_explains text (Accepted p) s r no_faulty seen e = no_fault text _ s r seen (e ∙ ap (check_reply text) seen)
+pub check_explains : (text : List ℕ) (t : Tree) (v : shown.Verdict) (s : Verdict) (r : Reply) → ((p : core.Program) (x : code.FlowFault) → v ≡ Faulty p x → ⊥) → IsSeenAs v s →
+    r ≡ check_reply text s → IsExplained text t s r
+check_explains text t (Broken rule at) s r no_faulty seen e = no_fault text t _ s r seen (e ∙ ap (check_reply text) seen)
+check_explains text t (Exceeded n) s r no_faulty seen e = no_fault text t _ s r seen (e ∙ ap (check_reply text) seen)
+check_explains text t (Faulty p x) s r no_faulty seen e = absurd (no_faulty p x refl)
+check_explains text t (Accepted p) s r no_faulty seen e = no_fault text t _ s r seen (e ∙ ap (check_reply text) seen)
 
 -- the fault of a verdict on a text's tree can be shown
 pub showable : ProgramsAreFit → (t : Tree) (v : shown.Verdict) → IsTextTree t → (s : Verdict) × IsVerdictOf t s × IsSeenAs v s → IsShowable v

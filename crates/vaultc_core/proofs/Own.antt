@@ -139,14 +139,14 @@ own_judged P owns text (verdict.refused x) r is = own_as r _ is (own_verdict tex
 own_judged P owns text (verdict.faulty p f x) r is = own_as r _ is (own_verdict text (verdict.faulty p f x))
 own_judged P owns text (verdict.accepted p) r is = owns p r is
 
-own_explained : (text : List ℕ) (v : Verdict) (r : Reply) → IsExplained text v r → IsOwn r.status
-own_explained text (verdict.refused x) r is = own_as r _ is (own_verdict text (verdict.refused x))
-own_explained text (verdict.faulty p f x) r (first, second, shows, is) = own_as r _ is (own 8 (omega arith))
-own_explained text (verdict.accepted p) r is = own_as r _ is own_zero
+own_explained : (text : List ℕ) (t : Tree) (v : Verdict) (r : Reply) → IsExplained text t v r → IsOwn r.status
+own_explained text t (verdict.refused x) r is = own_as r _ is (own_verdict text (verdict.refused x))
+own_explained text t (verdict.faulty p f x) r (first, second, shows, is) = own_as r _ is (own 8 (omega arith))
+own_explained text t (verdict.accepted p) r is = own_as r _ is own_zero
 
 own_tree : (command : Command) (text : List ℕ) (t : Tree) (r : Reply) → IsReplyToTree command text t r → IsOwn r.status
 own_tree (check file) text t r (v, judged, is) = own_as r _ is (own_verdict text v)
-own_tree (explain file) text t r (v, judged, is) = own_explained text v r is
+own_tree (explain file) text t r (v, judged, is) = own_explained text t v r is
 own_tree (verify file) text t r is = absurd is
 own_tree (run file taken) text t r is = absurd is
 own_tree (fmt file) text t r is = own_as r _ is own_zero

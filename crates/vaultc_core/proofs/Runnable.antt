@@ -3,7 +3,6 @@ use Rattle.std.proofs.Common.{◌≤◌, ◌<◌, ℕ, length, arith}
 use Rattle.std.specs.Prelude.{◌^◌}
 use Rattle.vlt_core.specs.Core.{Program}
 use Rattle.vlt_core.specs.Derives.{IsAccepted}
-use Rattle.vlt_core.specs.Instances.{HasNoBounds}
 use Rattle.vlt_core.specs.Kinded.{IsKinded}
 use Rattle.vlt_core_laws.specs.States.{HasStates}
 use Rattle.vlt_verdict.specs.FitLaws.Fit.{IsTextTree, ProgramsAreFit}
@@ -30,7 +29,7 @@ pub record RunLaws : Type 0 where
   pub fit : ProgramsAreFit
   pub never : OfAccepted NeverGoesWrong
   pub calls : OfAccepted KnowsItsCalls
-  pub own : (p : Program) → IsKinded p → HasFewVars p → HasBlankExternals p → HasNoBounds p → HasOwn p
+  pub own : (p : Program) → IsKinded p → HasFewVars p → HasBlankExternals p → HasOwn p
 
 few_vars : (n : ℕ) → n ≤ 256 → n < 2 ^ 32
 few_vars n le = omega (arith, le)
@@ -45,7 +44,7 @@ runnable laws t p tree is =
     let states = x.well_formed.states in
     record {
       never = laws.never p kinded is.1 x.sizes states x.narrow;
-      own = laws.own p kinded (λ i f at. few_vars (length f.vars) (x.few.vars i f at)) x.blank x.well_formed.plain;
+      own = laws.own p kinded (λ i f at. few_vars (length f.vars) (x.few.vars i f at)) x.blank;
       calls = laws.calls p kinded is.1 x.sizes states x.narrow;
     }
 
@@ -53,14 +52,14 @@ runnable laws t p tree is =
 pub record HostLaws : Type 0 where
   pub fit : ProgramsAreFit
   pub never : OfAccepted NeverGoesWrongForHosts
-  pub callable : (p : Program) → IsKinded p → IsAccepted p → HasSizes p → HasStates p → HasNarrowHeads p → HasFewVars p → HasBlankExternals p → HasNoBounds p → IsCallable p
+  pub callable : (p : Program) → IsKinded p → IsAccepted p → HasSizes p → HasStates p → HasNarrowHeads p → HasFewVars p → HasBlankExternals p → IsCallable p
 
 pub runnable_for_hosts : HostLaws → (t : Tree) (p : Program) → IsTextTree t → IsVerdictOf t (accepted p) → IsRunnableForHosts p
 runnable_for_hosts laws t p tree is =
     let x = fit_program laws.fit t p tree is.0 in
     let states = x.well_formed.states in
     record {
-      callable = laws.callable p x.kinded is.1 x.sizes states x.narrow (λ i f at. few_vars (length f.vars) (x.few.vars i f at)) x.blank x.well_formed.plain;
+      callable = laws.callable p x.kinded is.1 x.sizes states x.narrow (λ i f at. few_vars (length f.vars) (x.few.vars i f at)) x.blank;
       never = laws.never p x.kinded is.1 x.sizes states x.narrow;
       few = few_functions (length p.fns) x.few.functions;
     }

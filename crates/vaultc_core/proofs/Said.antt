@@ -49,7 +49,7 @@ checked_said bytes t v (Ok x) reads (s, is, seen) said = λ file. inr (t, reads,
 checked_said bytes t v (Err e) reads is said = tt
 
 pub explained_said : (bytes : List ℕ) (t : Tree) (v : shown.Verdict) (r : Result Reply AllocError) → IsTextOf t bytes →
-    (s : Verdict) × IsVerdictOf t s × IsSeenAs v s → IfOk r (λ x. (s : Verdict) → IsSeenAs v s → IsExplained bytes s (shown_reply x)) →
+    (s : Verdict) × IsVerdictOf t s × IsSeenAs v s → IfOk r (λ x. (s : Verdict) → IsSeenAs v s → IsExplained bytes t s (shown_reply x)) →
     IfOk r (λ x. (file : List ℕ) → IsReplyToText (explain file) bytes (shown_reply x))
 explained_said bytes t v (Ok x) reads (s, is, seen) said = λ file. inr (t, reads, (s, is, said s seen))
 explained_said bytes t v (Err e) reads is said = tt

@@ -125,7 +125,7 @@ goes_on line more r e = (ap (λ z. z.status) e, (more, ap (λ z. z.text) e))
 
 -- `explain` may tell the one path or the other
 explained_alike : (file : List ℕ) (contents : List (List ℕ)) (t : Tree) (v : Verdict) (r q : Reply) → IsTextOf t (bytes_at contents 0) → IsVerdictOf t v →
-    IsExplained (bytes_at contents 0) v r → IsExplained (bytes_at contents 0) v q → AreAlike (explain file) (had contents) r q
+    IsExplained (bytes_at contents 0) t v r → IsExplained (bytes_at contents 0) t v q → AreAlike (explain file) (had contents) r q
 explained_alike file contents t (verdict.refused x) r q reads is a b = inl (a ∙ sym b)
 explained_alike file contents t (verdict.accepted p) r q reads is a b = inl (a ∙ sym b)
 explained_alike file contents t (verdict.faulty p f x) r q reads is (first, second, shows, a) (first', second', shows', b) =
@@ -146,7 +146,7 @@ module _ (laws : Laws) where
       IsReplyToTree command (bytes_at contents 0) t r → IsReplyToTree command (bytes_at contents 0) t q → AreAlike command (had contents) r q
   one_of_tree (explain file) contents t r q reads tree (a, of_a, is_r) (b, of_b, is_q) =
       let text = bytes_at contents 0 in
-      explained_alike file contents t b r q reads of_b (subst (λ v. IsExplained text v r) (laws.one t a b tree of_a of_b) is_r) is_q
+      explained_alike file contents t b r q reads of_b (subst (λ v. IsExplained text t v r) (laws.one t a b tree of_a of_b) is_r) is_q
   one_of_tree (check file) contents t r q reads tree (a, of_a, is_r) (b, of_b, is_q) =
       is_r ∙ ap (check_reply (bytes_at contents 0)) (laws.one t a b tree of_a of_b) ∙ sym is_q
   one_of_tree (run file taken) contents t r q reads tree is_r is_q = absurd is_r

@@ -22,7 +22,6 @@ use Rattle.vlt_host_laws.specs.Promise.{is_host_fault, NeverGoesWrongForHosts}
 use Rattle.vlt_host_machine.specs.Callable.{slots_needed_by_host}
 use Rattle.vlt_host_runs.specs.Ends.{IsTooWideForHost}
 use Rattle.vlt_meaning.specs.World.{Ran, is_fault, event_text}
-use Rattle.vlt_reports.specs.Reports.{fault_line, paths_text}
 use Rattle.vlt_interp.specs.Runs.Ends.{IsTooWide}
 use Rattle.vlt_sound.specs.Promise.{NeverGoesWrong}
 use Rattle.vlt_base.specs.Sure.{Surely}
@@ -31,7 +30,7 @@ use Rattle.vlt_verdict.proofs.Single.{fit_program}
 use Rattle.vlt_verdict.specs.Verdicts.{Verdict, refused, faulty, accepted, IsVerdictOf}
 use Rattle.vlt_verdict.specs.Laws.{HasSomeVerdict}
 use Rattle.vlt_check_laws.specs.Shown.{HasWitness}
-use Rattle.vaultc_core.specs.declared.status.TheConstants.{DONE, NOT_ACCEPTED}
+use Rattle.vaultc_core.specs.declared.status.TheConstants.{DONE}
 use Rattle.vaultc_core.specs.Commands.{Command, check, explain, run, fmt, emit, verify, crun, load, host, modules, link, names_files}
 use Rattle.vaultc_core.specs.Lines.{Reply, reply, over_reply, long_reply, unread_reply, numbers_reply, behind}
 use Rattle.vaultc_core.specs.Runs.{IsReplyToRan, IsReplyOverNumbers, IsReplyToProgram}
@@ -39,7 +38,8 @@ use Rattle.vaultc_core.specs.HostRuns.{IsReplyToHostRan, IsReplyToCallsOver, IsR
 use Rattle.vaultc_core.specs.Sources.{had, unread, too_long, bytes_at}
 use Rattle.vaultc_core.specs.Texts.{IsTextOf, refusal_reply}
 use Rattle.cert_least_texts.specs.Texts.{AcceptedTextsHaveOne}
-use Rattle.vaultc_core.specs.Verdicts.{check_reply, IsExplained}
+use Rattle.vaultc_core.specs.Variables.{variable_in}
+use Rattle.vaultc_core.specs.Verdicts.{check_reply, explained_reply, IsExplained}
 use Rattle.vaultc_core.specs.Emitted.{c_file, file_reply, IsReplyToCompiled}
 use Rattle.vlt_load.specs.Generated.{generated_text}
 use Rattle.vaultc_core.specs.Loads.{IsReplyToLoaded, IsReplyToLoad}
@@ -117,12 +117,12 @@ of_host p (Err line) given b never = (numbers_reply (codes "calls") line, refl)
 
 module _ (laws : Laws) where
   -- each verdict is explained in some way, since each first fault has a witness
-  explained : (text : List ℕ) (t : Tree) → IsTextTree t → (v : Verdict) → IsVerdictOf t v → (r : Reply) × IsExplained text v r
+  explained : (text : List ℕ) (t : Tree) → IsTextTree t → (v : Verdict) → IsVerdictOf t v → (r : Reply) × IsExplained text t v r
   explained text t tree (refused e) is = (check_reply text (refused e), refl)
   explained text t tree (accepted p) is = (check_reply text (accepted p), refl)
   explained text t tree (faulty p f x) is =
       let w = laws.witnesses p x (fit_program laws.fit t p tree is.0).well_formed is.1.first in
-      (reply NOT_ACCEPTED (fault_line text p f x.at x.tok x.kind ++ paths_text text p f w.first w.second), (w.first, w.second, w.shown, refl))
+      (explained_reply text (variable_in t x.function) p f x w.first w.second, (w.first, w.second, w.shown, refl))
 
   -- where each accepted program has a reply, a verdict has
   of_verdict : (P : Program → Reply → Type 0) → OfAccepted (λ p. (r : Reply) × P p r) → (text : List ℕ) (t : Tree) → IsTextTree t → (v : Verdict) → IsVerdictOf t v →

@@ -3,6 +3,7 @@ pub mod Sources
 pub mod Lines
 pub mod Texts
 pub mod Programs
+pub mod Variables
 pub mod Verdicts
 pub mod Emitted
 pub mod Runs

@@ -30,7 +30,7 @@ abbrev pub IsReplyToCheck : (text : List ℕ) → Tree → Reply → Type 0
 IsReplyToCheck text t r = (v : Verdict) × IsVerdictOf t v × (r ≡ check_reply text v)
 
 abbrev pub IsReplyToExplain : (text : List ℕ) → Tree → Reply → Type 0
-IsReplyToExplain text t r = (v : Verdict) × IsVerdictOf t v × IsExplained text v r
+IsReplyToExplain text t r = (v : Verdict) × IsVerdictOf t v × IsExplained text t v r
 
 abbrev pub IsReplyToEmit : (text : List ℕ) → Tree → Reply → Type 0
 IsReplyToEmit text t r = (v : Verdict) × IsVerdictOf t v × IsReplyToCompiled text v r

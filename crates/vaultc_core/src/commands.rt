@@ -73,7 +73,7 @@ fn reply_to_explain(alloc: Global, bytes: &[u8]) -> Result<Reply, AllocError>
     match read_tree(alloc, bytes) {
         Ok(tree) => {
             let judged = judge(alloc, &tree)?;
-            explained(alloc, bytes, &judged)
+            explained(alloc, bytes, &tree, &judged)
         }
         Err(error) => refusal(alloc, bytes, error),
     }

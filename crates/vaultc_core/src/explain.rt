@@ -9,6 +9,7 @@ ghost use Rattle.vlt_core.specs.Witness.{IsWitness};
 ghost use Rattle.vlt_core.specs.FaultView.{choices_of};
 ghost use Rattle.vlt_check.specs.Checks.{fault_of};
 ghost use Rattle.vlt_core_laws.specs.Fit.{IsWellFormed};
+ghost use Rattle.vlt_syntax.specs.View.{tree_of};
 ghost use Rattle.vlt_verdict.specs.Verdicts as v;
 ghost use Rattle.vlt_verdict.specs.Seen.{IsFaultyFunction, IsSeenAs, IsTellable};
 ghost use Rattle.vaultc_core.specs.Verdicts.{IsExplained};
@@ -17,9 +18,11 @@ ghost use Rattle.vaultc_core.specs.Shown.{IsShowable, shown_reply};
 use crate::lines::verdict;
 use crate::reply::Reply;
 use crate::status::NOT_ACCEPTED;
+use crate::variables::variable_in;
 use std::alloc::{AllocError, Global};
 use vlt_core::{FlowFault, Program, Witness};
 use vlt_reports as reports;
+use vlt_syntax::Tree;
 use vlt_verdict::Verdict;
 use vlt_witness::witness;
 
@@ -41,6 +44,7 @@ fn paths_of(alloc: Global, program: &Program, fault: &FlowFault) -> Result<Witne
 fn shown_fault(
     alloc: Global,
     text: &[u8],
+    tree: &Tree,
     program: &Program,
     fault: FlowFault,
 ) -> Result<Reply, AllocError>
@@ -49,8 +53,8 @@ fn shown_fault(
     requires well_formed { IsWellFormed (program_of program.now) }
     requires first { IsFirstFault (program_of program.now) (fault_of fault) }
     ensures { IfOk result (λ r. (f : Func) → IsFaultyFunction program.now fault f →
-        IsExplained text.now (v.faulty (program_of program.now) f (fault_of fault))
-        (shown_reply r)) }
+        IsExplained text.now (tree_of tree.now)
+        (v.faulty (program_of program.now) f (fault_of fault)) (shown_reply r)) }
 {
     let found = paths_of(alloc, program, &fault)?;
     match program.fns.as_slice().get(fault.fn_id.0 as usize) {
@@ -58,7 +62,15 @@ fn shown_fault(
             let mut lines = reports::fault(
                 alloc, text, program, f, fault.at, fault.tok, fault.kind,
             )?;
-            let paths = reports::path_lines(alloc, text, program, f, &found)?;
+            let paths = reports::path_lines(
+                alloc,
+                text,
+                program,
+                f,
+                variable_in(tree, fault.fn_id.0),
+                fault.origin,
+                &found,
+            )?;
             lines.extend_from_slice(paths.as_slice())?;
             Ok(Reply {
                 status: NOT_ACCEPTED,
@@ -69,16 +81,21 @@ fn shown_fault(
     }
 }
 
-/// What `explain` says of a verdict on a text.
-pub fn explained(alloc: Global, text: &[u8], judged: &Verdict) -> Result<Reply, AllocError>
+/// What `explain` says of a verdict on a text and its tree.
+pub fn explained(
+    alloc: Global,
+    text: &[u8],
+    tree: &Tree,
+    judged: &Verdict,
+) -> Result<Reply, AllocError>
     requires size { length text.now < 2 ^ 32 - 1 }
     requires tellable { IsTellable judged.now }
     requires showable { IsShowable judged.now }
     ensures { IfOk result (λ r. (t : v.Verdict) →
-        IsSeenAs judged.now t → IsExplained text.now t (shown_reply r)) }
+        IsSeenAs judged.now t → IsExplained text.now (tree_of tree.now) t (shown_reply r)) }
 {
     match judged {
-        Verdict::Faulty(program, fault) => shown_fault(alloc, text, program, *fault),
+        Verdict::Faulty(program, fault) => shown_fault(alloc, text, tree, program, *fault),
         _ => verdict(alloc, text, judged),
     }
 }

@@ -37,6 +37,7 @@ mod reply;
 mod runs;
 mod source;
 pub mod status;
+mod variables;
 mod verify;
 mod words;
 mod write;

@@ -1,3 +1,4 @@
+pub mod Like
 pub mod Standing
 pub mod Callees
 pub mod Naming

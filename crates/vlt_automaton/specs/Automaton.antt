@@ -94,9 +94,13 @@ pub data Symbol : Type 0 where
   arm : ℕ → Symbol
   arms : ℕ → Symbol
   entry_states : Symbol
+  -- behind the `@` of an entry that begins with its key
+  behind_entry_at : Symbol
   arrow_states : Symbol
   clause : Symbol
   head : Symbol
+  -- further states of a set, each behind a comma or a `<`, and the closing brace
+  further_states : Left → Symbol
   fields : Left → Symbol
   -- behind the last field
   behind_fields : Symbol
@@ -355,11 +359,17 @@ start_entry (t.keyword word.New) = take (thing a_key ∷ [])
 start_entry (t.name text) = take (entry_states ∷ [])
 start_entry _ = refuse
 
+-- states, and others behind an arrow, or a bound in parentheses
+abbrev pub react_entry_at : Token → Reaction
+react_entry_at x =
+    on_sign mark.OpenParen x (take (name ∷ sign mark.LessEqual ∷ name ∷ sign mark.CloseParen ∷ []))
+    (with_behind (start_states x) (arrow_states ∷ []))
+
 abbrev pub header : Bounds → Symbol
 header b = enclosed a_param mark.Less mark.Greater (parameters_left b)
 
 abbrev pub behind_stateset : Bounds → List Symbol
-behind_stateset b = name ∷ sign mark.OpenBrace ∷ name ∷ further a_name mark.CloseBrace (Some (record { limit = 5; more = b.states - 1 })) ∷ []
+behind_stateset b = name ∷ sign mark.OpenBrace ∷ name ∷ further_states (record { limit = 5; more = b.states - 1 }) ∷ []
 
 abbrev pub behind_abstract : List Symbol
 behind_abstract = name ∷ marked_name mark.At ∷ sign mark.Semicolon ∷ []
@@ -424,6 +434,15 @@ one_more k closing (Some left) = if left.more == 0 then exceed left.limit else t
 abbrev pub react_further : Thing → Mark → Option Left → Token → Reaction
 react_further k closing left x = on_sign closing x (take []) (on_sign mark.Comma x (one_more k closing left) refuse)
 
+-- a sign before one more state, where it is allowed
+abbrev pub one_more_state : Left → Reaction
+one_more_state left = if left.more == 0 then exceed left.limit else take (name ∷ further_states (record { limit = left.limit; more = left.more - 1 }) ∷ [])
+
+abbrev pub react_further_states : Left → Token → Reaction
+react_further_states left x =
+    on_sign mark.CloseBrace x (take [])
+    (on_sign mark.Comma x (one_more_state left) (on_sign mark.Less x (one_more_state left) refuse))
+
 -- ---- the automaton
 
 abbrev pub reaction : Bounds → Symbol → Token → Reaction
@@ -456,10 +475,12 @@ reaction b (otherwise room) x = on_keyword word.Else x (take (behind_else room �
 reaction b (behind_else room) x = on_keyword word.If x (enter (room - 1) (behind_if (room - 1))) (start_block room x)
 reaction b (arm room) x = start_arm room x
 reaction b (arms room) x = on_sign mark.CloseBrace x (take []) (with_behind (start_arm room x) (arms room ∷ []))
-reaction b entry_states x = on_sign mark.At x (take (states ∷ arrow_states ∷ [])) skip
+reaction b entry_states x = on_sign mark.At x (take (behind_entry_at ∷ [])) skip
+reaction b behind_entry_at x = react_entry_at x
 reaction b arrow_states x = on_sign mark.Arrow x (take (states ∷ [])) skip
 reaction b clause x = on_sign mark.OpenBracket x (take (listed an_entry mark.CloseBracket None ∷ [])) skip
 reaction b head x = start_head b x
+reaction b (further_states left) x = react_further_states left x
 reaction b (fields left) x = or_else (within_count left (start_ty x) (λ rest. name ∷ at_states ∷ sign mark.Semicolon ∷ fields rest ∷ [])) (react_behind_fields x)
 reaction b behind_fields x = react_behind_fields x
 reaction b (decls left) x = within_count left (start_decl b x) (λ rest. decls rest ∷ [])

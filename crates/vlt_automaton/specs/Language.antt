@@ -4,7 +4,7 @@ use Rattle.vlt_lexer.specs.Reading.{Lexeme}
 use Rattle.vlt_syntax.specs.Tokens.{Token}
 use Rattle.vlt_syntax.specs.Grammar.{language}
 use Rattle.vlt_automaton.specs.Automaton as a
-pub use Rattle.vlt_automaton.specs.Automaton.{Located, Left, Thing, Pending, Symbol, Reaction, Next, a_name, a_param, a_ty, a_key, a_case, a_parameter, an_entry, an_expr, an_init, a_result_type, a_simple, a_stmt, a_decl, level_from, right_of, prefixed, tick, sign, keyword, thing, further, listed, enclosed, marked_name, states, at_states, named, behind_tracked, behind_type_name, operand, behind_name, operations, close_group, end_expr, owner, right, behind_right_name, returned, block, stmts, behind_stmt_name, otherwise, behind_else, arm, arms, entry_states, arrow_states, clause, head, fields, behind_fields, decls, take, skip, refuse, exceed, to, unexpected, over, located_of, name, with_behind, or_else, is_sign, is_keyword, is_name, is_tick, on_sign, on_keyword, on_name, on_tick, start_name, start_tick, named_rest, start_states, start_key, start_ty, react_tracked, react_type_name, depth_limit, behind_operand, behind_variable, if_deeper, lowest, start_operand, whole_depth, climb, climb_by, react_operations, start_build, enter, behind_if, declaration_tail, start_simple, start_stmt, react_stmt_name, start_block, start_arm, start_result_type, start_entry, behind_abstract, behind_extern, within_count, react_behind_fields, less, one_more, react_further, depth_read, next_after, may_skip, may_end, Verdict, go_on_with}
+pub use Rattle.vlt_automaton.specs.Automaton.{Located, Left, Thing, Pending, Symbol, Reaction, Next, a_name, a_param, a_ty, a_key, a_case, a_parameter, an_entry, an_expr, an_init, a_result_type, a_simple, a_stmt, a_decl, level_from, right_of, prefixed, tick, sign, keyword, thing, further, listed, enclosed, marked_name, states, at_states, named, behind_tracked, behind_type_name, operand, behind_name, operations, close_group, end_expr, owner, right, behind_right_name, returned, block, stmts, behind_stmt_name, otherwise, behind_else, arm, arms, entry_states, behind_entry_at, arrow_states, clause, head, further_states, fields, behind_fields, decls, take, skip, refuse, exceed, to, unexpected, over, located_of, name, with_behind, or_else, is_sign, is_keyword, is_name, is_tick, on_sign, on_keyword, on_name, on_tick, start_name, start_tick, named_rest, start_states, start_key, start_ty, react_tracked, react_type_name, depth_limit, behind_operand, behind_variable, if_deeper, lowest, start_operand, whole_depth, climb, climb_by, react_operations, start_build, enter, behind_if, declaration_tail, start_simple, start_stmt, react_stmt_name, start_block, start_arm, start_result_type, start_entry, react_entry_at, behind_abstract, behind_extern, within_count, react_behind_fields, less, one_more, react_further, one_more_state, react_further_states, depth_read, next_after, may_skip, may_end, Verdict, go_on_with}
 pub use Rattle.vlt_syntax.specs.Refusals.{Refusal, unexpected_at, over_limit, ended}
 
 abbrev pub whole_expr : List Pending

@@ -1,7 +1,8 @@
 -- What the check of a program says.
-use Rattle.std.specs.Prelude.{◌≡◌, ℕ, true, false, List, [], ◌∷◌, Option, None, Some, slice_get, Result}
+use Rattle.std.specs.Prelude.{◌≡◌, ℕ, false, MatchBool, List, [], ◌∷◌, Option, Some, slice_get, Result}
 use Rattle.vlt_base.specs.Refusals as refusals
 use Rattle.vlt_core.specs.Core.{Func, Program}
+use Rattle.vlt_core.specs.Instances.{instance, IsOrigin, origins}
 use Rattle.vlt_core.specs.Local.{Notes, IsLocalIn}
 use Rattle.vlt_flow.specs.Walks.{Marks, IsLeastIn}
 use Rattle.vlt_core.specs.Faults as faults
@@ -19,24 +20,35 @@ OnRefused r P = refusals.OnRefused Refused r P
 abbrev pub fault_of : FlowFault → faults.FlowFault
 fault_of x = record { function = x.fn_id.0; origin = x.origin; at = x.at; tok = tok_of x.tok; kind = kind_of x.kind }
 
--- a function with a body has its least maps, an external has none
-abbrev pub IsLeastOf : Program → Func → Option Marks → Type 0
-IsLeastOf p f None = f.external ≡ true
-IsLeastOf p f (Some k) = (f.external ≡ false) × IsLeastIn p f k
+-- the least maps of these instances
+abbrev pub AreLeastIn : Program → Func → List (Option ℕ) → List Marks → Type 0
+AreLeastIn p f [] [] = Unit {0}
+AreLeastIn p f (o ∷ os) (k ∷ ks) = IsLeastIn p (instance p f o) k × AreLeastIn p f os ks
+AreLeastIn p f _ _ = ⊥
+
+-- a function with a body has the least maps of each of its instances, an external has none
+abbrev pub IsLeastOf : Program → Func → List Marks → Type 0
+IsLeastOf p f ks = MatchBool f.external (ks ≡ []) (AreLeastIn p f (origins p f) ks)
 
 -- each function has what it should
-abbrev pub AreLeast : Program → List Func → List (Option Marks) → Type 0
+abbrev pub AreLeast : Program → List Func → List (List Marks) → Type 0
 AreLeast p [] [] = Unit {0}
-AreLeast p (f ∷ fs) (k ∷ ks) = IsLeastOf p f k × AreLeast p fs ks
+AreLeast p (f ∷ fs) (ks ∷ all) = IsLeastOf p f ks × AreLeast p fs all
 AreLeast p _ _ = ⊥
 
-pub record IsChecked (p : Program) (all : List (Option Marks)) : Type 0 where
+pub record IsChecked (p : Program) (all : List (List Marks)) : Type 0 where
   pub each : AreLeast p p.fns all
 
--- a body in which no annotation holds
+-- in the body of some instance no annotation holds
+pub record IsRefusedInstance (p : Program) (f : Func) : Type 0 where
+  pub origin : Option ℕ
+  pub is : IsOrigin p f origin
+  pub none : (a : Notes) → IsLocalIn p (instance p f origin) a → ⊥
+
+-- the function has such a body
 pub record IsRefusedIn (p : Program) (f : Func) : Type 0 where
   pub with_body : f.external ≡ false
-  pub none : (a : Notes) → IsLocalIn p f a → ⊥
+  pub in_some : IsRefusedInstance p f
 
 -- the function of this number has such a body
 pub record HasRefused (p : Program) (number : ℕ) : Type 0 where

@@ -22,9 +22,9 @@ use vlt_base::Items;
 use vlt_core::Program;
 use vlt_flow::Kept;
 
-/// The least maps of each function with a body, in the order of the text; `Refused` where the rules on keys are broken,
-/// with the first fault; `Unfit` where the program is (`IsUnfit`).
-pub fn check(alloc: Global, p: &Program) -> Result<Items<Option<Kept>>, CheckError>
+/// The least maps of each function with a body in each of its instances, in the order of the text and by ascending origin;
+/// `Refused` where the rules on keys are broken, with the first fault; `Unfit` where the program is (`IsUnfit`).
+pub fn check(alloc: Global, p: &Program) -> Result<Items<Items<Kept>>, CheckError>
     ensures checked { IfOk result (IsChecked (program_of p.now)) }
     ensures accepted { OnOk result (IsWellFormed (program_of p.now) →
         IsAccepted (program_of p.now)) }

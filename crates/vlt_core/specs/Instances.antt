@@ -22,7 +22,7 @@ abbrev pub bound_in : List Entry → Option Bound
 bound_in [] = None
 bound_in (e ∷ es) = or_else (bound_at e.key e.mode) (bound_in es)
 
--- no function of the program has a bound entry, as long as no text has one
+-- no function of the program has a bound entry
 abbrev pub HasNoBounds : Program → Type 0
 HasNoBounds p = (i : ℕ) (f : Func) → slice_get p.fns i ≡ Some f → bound_in f.clause ≡ None
 

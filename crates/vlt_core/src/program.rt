@@ -104,9 +104,6 @@ pub struct Func {
     /// So many of the first variables are the parameters.
     pub params: u32,
     pub clause: Items<Entry>,
-    /// The name that the clause's bound entry gives the state; empty without one, and in a program that comes from a
-    /// certificate.
-    pub state_var: Items<u8>,
     /// The keys, in order of binding.
     pub keys: Items<KeyDecl>,
     /// The variables, in order of binding.

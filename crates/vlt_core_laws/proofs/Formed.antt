@@ -1,8 +1,7 @@
 -- What is so of functions without a bound entry: they are their own only instance.
 use Rattle.std.proofs.Common.{◌≡◌, ℕ, false, Option, Some, None, refl, sym, subst, slice_get}
-use Rattle.vlt_core.specs.Core.{Tok, Func, Program}
+use Rattle.vlt_core.specs.Core.{Func, Program}
 use Rattle.vlt_core.specs.Instances.{bound_in, instance, IsOriginOf, IsOrigin}
-use Rattle.vlt_core.specs.Faults.{FaultKind, IsFaultIn, IsFirstIn, IsFirstOfAll}
 use Rattle.vlt_core_laws.specs.Fit.{IsFitBody, IsWellFormed}
 use Rattle.vlt_core_laws.proofs.Starting.{fit_body}
 
@@ -21,18 +20,10 @@ pub formed_bodies : (p : Program) (n : ℕ) (f : Func) (o : Option ℕ) → IsWe
     IsOrigin p f o → IsFitBody p (instance p f o)
 formed_bodies p n f o well there body origin = fit_body p n f well.states there well.kinded o origin (well.arms n f there) body
 
-pub formed_body : (p : Program) (n : ℕ) (f : Func) → IsWellFormed p → slice_get p.fns n ≡ Some f → f.external ≡ false → IsFitBody p f
-formed_body p n f well there body = formed_bodies p n f None well there body (own_instance p f (well.plain n f there))
-
--- of a function without a bound entry the first fault in its body is the first of all
-pub first_alone : (p : Program) (f : Func) (o : Option ℕ) (at : ℕ) (t : Tok) (kind : FaultKind) → bound_in f.clause ≡ None → o ≡ None →
-    IsFirstIn p f at t kind → IsFirstOfAll p f o at t kind
-first_alone p f o at t kind plain none first = subst (λ o. IsFirstOfAll p f o at t kind) (sym none) (record {
-  is = own_instance p f plain;
-  first = first;
-  least = λ o q u origin fault. first.first q u (subst (λ o. IsFaultIn p (instance p f o) q u) (only_instance p f o plain origin) fault);
-  origins = λ o origin fault. tt;
-})
+-- of a function without a bound entry the body is fit as it stands
+pub formed_body : (p : Program) (n : ℕ) (f : Func) → IsWellFormed p → slice_get p.fns n ≡ Some f → f.external ≡ false → bound_in f.clause ≡ None →
+    IsFitBody p f
+formed_body p n f well there body plain = formed_bodies p n f None well there body (own_instance p f plain)
 
 -- what is so of it is so of each of its instances
 pub of_instance : (p : Program) (f : Func) (o : Option ℕ) (P : Func → Type 0) → bound_in f.clause ≡ None → IsOrigin p f o → P f → P (instance p f o)

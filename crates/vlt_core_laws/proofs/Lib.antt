@@ -34,3 +34,4 @@ pub mod Counting
 pub mod Dropping
 pub mod Formed
 pub mod Proper
+pub mod Origins

@@ -377,26 +377,29 @@ bound_is (x ∷ xs) few (suc i) e b at is = by x.mode (λ few. bound_is xs few i
     by fresh more few = more few
     by (up_to c) more few = absurd (two few)
 
+-- an entry of an instance is made from one of the function
+pub made_at : (p : Program) (f : Func) (o : ℕ) (es : List Entry) (i : ℕ) (e : Entry) → slice_get (map (entry_of_instance p f o) es) i ≡ Some e →
+    (d : Entry) × (slice_get es i ≡ Some d) × (entry_of_instance p f o d ≡ e)
+made_at p f o [] i e at = absurd (some_not_none e (sym at))
+made_at p f o (x ∷ xs) zero e at = (x, refl, some_same (entry_of_instance p f o x) e at)
+made_at p f o (x ∷ xs) (suc i) e at = made_at p f o xs i e at
+
 module _ (p : Program) (n : ℕ) (f : Func) (h : HasStates p) (there : slice_get p.fns n ≡ Some f) (kinded : HasKindedParts p) where
   head_of_f : (m : ℕ) × (head_broken p m f ≡ [])
   head_of_f = head_empty p n f kinded there
 
-  within_origin : (o : ℕ) → IsOrigin p f (Some o) → (i : ℕ) (e : Entry) → slice_get f.clause i ≡ Some e → (b : ℕ) → e.mode ≡ up_to b → IsTrue (key_states_up_to p f e.key b o)
+  -- an origin is within the bound of the entry that is bound
+  pub within_origin : (o : ℕ) → IsOrigin p f (Some o) → (i : ℕ) (e : Entry) → slice_get f.clause i ≡ Some e → (b : ℕ) → e.mode ≡ up_to b → IsTrue (key_states_up_to p f e.key b o)
   within_origin o origin i e at b is =
       subst (λ x. IsOriginOf p f x (Some o)) (bound_is f.clause (few (length (filter is_bound_entry f.clause)) (one_bound p head_of_f.0 f head_of_f.1)) i e b at is) origin
     where
       few : (n : ℕ) → nat_le n 1 ≡ true → n ≤ 1
       few n e = grind (arith, nat_tests)
 
-  made_at : (o : ℕ) (es : List Entry) (i : ℕ) (e : Entry) → slice_get (map (entry_of_instance p f o) es) i ≡ Some e → (d : Entry) × (slice_get es i ≡ Some d) × (entry_of_instance p f o d ≡ e)
-  made_at o [] i e at = absurd (some_not_none e (sym at))
-  made_at o (x ∷ xs) zero e at = (x, refl, some_same (entry_of_instance p f o x) e at)
-  made_at o (x ∷ xs) (suc i) e at = made_at o xs i e at
-
   filled_start : (o : Option ℕ) → IsOrigin p f o → IsFilledStart p (instance p f o)
   filled_start None origin i e at = side_filled p n f h there e.key e.before (h.before n f i e there at)
   filled_start (Some o) origin i e at =
-      let d = made_at o f.clause i e at in
+      let d = made_at p f o f.clause i e at in
       subst (λ e. IsFilledSet (before_set p f e)) d.2
       (made_filled p n f h there o d.0 (within_origin o origin i d.0 d.1) (h.before n f i d.0 there d.1))
 

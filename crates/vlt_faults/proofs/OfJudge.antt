@@ -12,3 +12,5 @@ pub mod Clean
 pub mod Overs
 pub mod Whole
 pub mod Unfitting
+pub mod Instances
+pub mod Order

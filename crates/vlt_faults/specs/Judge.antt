@@ -3,3 +3,4 @@ pub mod Blames
 pub mod Judging
 pub mod Extents
 pub mod Overs
+pub mod Instances

@@ -1,5 +1,5 @@
 -- The map that a body begins with.
-use Rattle.std.proofs.Common.{◌≡◌, ◌<◌, ◌≤◌, ◌+◌, ◌==◌, ℕ, Bool, true, false, ◌&&◌, ◌||◌, nat_lt, if◌then◌else◌, List, [], ◌∷◌, map, length, drop, drop-cons, add-one, get_or, suc, zero, refl, sym, ap, ◌∙◌, subst, arith, true≢false, ◌⊎◌, inl, inr, Option, None, Some, slice_get, ◌^◌, Result, Ok, Err, IfErr}
+use Rattle.std.proofs.Common.{◌≡◌, ◌<◌, ◌≤◌, ◌+◌, ◌==◌, ℕ, Bool, true, false, IsTrue, ◌&&◌, ◌||◌, nat_lt, if◌then◌else◌, List, [], ◌∷◌, map, length, drop, drop-cons, add-one, get_or, suc, zero, refl, sym, ap, ◌∙◌, subst, arith, true≢false, ◌⊎◌, inl, inr, Option, None, Some, slice_get, ◌^◌, Result, Ok, Err, IfErr}
 use Rattle.std.specs.Option.{option_map}
 use Rattle.std.specs.Result.{IsErrAnd}
 use Rattle.std.proofs.lemmas.List.{drop_all}
@@ -9,6 +9,8 @@ use Rattle.vlt_core.specs.Core.{States, Entry, VarDecl, Func, Program, Tok, a_ke
 use Rattle.vlt_core.specs.Lookups.{is_held_before, before_set, is_owning_var}
 use Rattle.vlt_core.specs.Maps.{HeldMap, Status, absent, held, lent, full, kind_of, is_absent, becomes_held, becomes_full, wants_absent, row_passed}
 use Rattle.vlt_core.specs.Rows.{row}
+use Rattle.vlt_core.specs.Instances.{entry_of_instance, entry_in, instance}
+use Rattle.vlt_core.specs.HeldView.{IsSetOf}
 use Rattle.vlt_core.specs.Derives.{status_at_start, start_map}
 use Rattle.vlt_core.specs.Flow.{Block}
 use Rattle.vlt_core.specs.Bodies.{body_flow}
@@ -18,7 +20,8 @@ use Rattle.vlt_keyset.specs.Held.{Statuses, HasPlace, IsSameRange}
 use Rattle.vlt_rows.specs.declared.sink.RowError.{RowError}
 use Rattle.vlt_rows.specs.declared.sink.RowError.TheVariants.{Unfit}
 use Rattle.vlt_rows.specs.Unfit.{UnfitBy}
-use Rattle.vlt_flow.specs.Unfit.{IsUnfitEntry, stray_entry, HasNoStart, many_keys, many_vars, unfit_entry}
+use Rattle.vlt_rows.proofs.Instanced.{held_before_in}
+use Rattle.vlt_flow.specs.Unfit.{IsUnfitEntry, wide_entry, stray_entry, HasNoStart, many_keys, many_vars, unfit_entry}
 use Rattle.vlt_flow.specs.Starts.{IsGiven, IsThere, IsStarted, Started, or_else, HasRange, HasKeys, HasVars}
 
 pub absent_kind : (s : Status) → kind_of s ≡ is_absent → s ≡ absent
@@ -114,6 +117,14 @@ pub given_started : (p : Program) (f : Func) (e : Entry) (states : States) (h k 
     IsGiven (a_key e.key) (becomes_held states) h k ⊎ IsThere (a_key e.key) h k → IsStarted p f e h k
 given_started p f e states h k before same (inl g) = rw before (inl (record { absent = g.absent; passed = g.passed ∙ ap (λ s. row_passed (row (a_key e.key) wants_absent (becomes_held s)) h) same }))
 given_started p f e states h k before same (inr g) = rw before (inr g)
+
+-- the same of an entry as it stands in the instance of an origin
+pub started_in : (p : Program) (f : Func) (o : Option ℕ) (e : Entry) (states : States) (h k : HeldMap) → is_held_before e ≡ true →
+    states ≡ before_set p f (entry_in p f o e) → IsGiven (a_key e.key) (becomes_held states) h k ⊎ IsThere (a_key e.key) h k →
+    IsStarted p (instance p f o) (entry_in p f o e) h k
+started_in p f None e states h k before same q = given_started p f e states h k before same q
+started_in p f (Some o) e states h k before same q =
+    given_started p (instance p f (Some o)) (entry_of_instance p f o e) states h k (held_before_in p f (Some o) e ∙ before) same q
 
 -- ---- the loop over the entries
 
@@ -224,11 +235,22 @@ pub handed_unfit : {T A : Type 0} (r : Result T RowError) (d : RowError) → IsE
 handed_unfit (Ok x) d gives is a = absurd gives
 handed_unfit (Err x) d gives is a = inr (gives ∙ is, a)
 
-pub stray_key : (p : Program) (f : Func) (e : Entry) (h : Statuses) → HasRange f h → (HasPlace h (a_key e.key) → ⊥) → IsUnfitEntry p f e
-stray_key p f e h r never = stray_entry (subst (λ n. n ≤ e.key) r.keys (above (length h.keys) e.key never))
-  where
-    above : (n k : ℕ) → (k < n → ⊥) → n ≤ k
-    above n k never = grind (arith, never)
+above : (n k : ℕ) → (k < n → ⊥) → n ≤ k
+above n k never = grind (arith, never)
+
+-- an entry as it stands in the instance of an origin: its key has no place
+pub stray_in : (p : Program) (f : Func) (o : Option ℕ) (e : Entry) (h : Statuses) → HasRange f h → (HasPlace h (a_key e.key) → ⊥) →
+    IsUnfitEntry p (instance p f o) (entry_in p f o e)
+stray_in p f None e h r never = stray_entry (subst (λ n. n ≤ e.key) r.keys (above (length h.keys) e.key never))
+stray_in p f (Some o) e h r never = stray_entry (subst (λ n. n ≤ e.key) r.keys (above (length h.keys) e.key never))
+
+-- or there is no set of its states
+pub wide_in : (p : Program) (f : Func) (o : Option ℕ) (e : Entry) (states : States) → IsSetOf states None → states ≡ before_set p f (entry_in p f o e) →
+    IsUnfitEntry p (instance p f o) (entry_in p f o e)
+wide_in p f o e states none is = wide_entry (subst (λ s. IsSetOf s None) is none)
+
+pub not_so : (b : Bool) → b ≡ false → IsTrue b → ⊥
+not_so b e h = true≢false (sym h ∙ e)
 
 pub many_tokens : (p : Program) (f : Func) → (2 ^ 32 ≤ length f.keys) ⊎ (2 ^ 32 ≤ length f.vars) → HasNoStart p f
 many_tokens p f (inl q) = many_keys q

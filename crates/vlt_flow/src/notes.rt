@@ -13,6 +13,7 @@ ghost use Rattle.vlt_flow.specs.Notes.Listed.{note_of, AreListed};
 ghost use Rattle.vlt_flow.specs.Notes.Noted.{AreNotes, IsUnnoted};
 ghost use Rattle.vlt_flow.specs.Unfit.{IfUnfit, IsUnfit};
 ghost use Rattle.vlt_core.specs.Bodies.{body_flow};
+ghost use Rattle.vlt_core.specs.Instances.{instance};
 ghost use Rattle.vlt_core.specs.Derives.{start_map};
 
 mod listing;
@@ -55,22 +56,28 @@ pub fn annotate_block(
     }
 }
 
-/// The least annotation of a function's body; `Refused` where none holds in it. Statements are counted from 0 in the function,
-/// each before those inside it, and each map is listed in ascending order, keys first, without absent tokens. `Unfit` where the
-/// body is (`IsUnfit`), or where it has no notes (`IsUnnoted`).
-pub fn annotate(alloc: Global, p: &Program, f: &Func) -> Result<Annotation, Stop>
-    ensures least { IfOk result (λ a. IsLeast (program_of p.now) (func_of f.now)
-        (map note_of a.maps)) }
+/// The least annotation of a function's body in the instance of this origin; `Refused` where none holds in it. Statements are
+/// counted from 0 in the function, each before those inside it, and each map is listed in ascending order, keys first, without
+/// absent tokens. `Unfit` where the body is (`IsUnfit`), or where it has no notes (`IsUnnoted`).
+pub fn annotate(
+    alloc: Global,
+    p: &Program,
+    f: &Func,
+    origin: Option<u8>,
+) -> Result<Annotation, Stop>
+    ensures least { IfOk result (λ a. IsLeast (program_of p.now)
+        (instance (program_of p.now) (func_of f.now) origin) (map note_of a.maps)) }
     ensures order { IfOk result (λ a. AreListed (length f.now.keys) (length f.now.vars) a.maps) }
     ensures refused { IfRefused result ((a : Notes) →
-        IsLocalIn (program_of p.now) (func_of f.now) a → ⊥) }
-    ensures unfit { IfUnfit result (IsUnfit (program_of p.now) (func_of f.now) ⊎
+        IsLocalIn (program_of p.now) (instance (program_of p.now) (func_of f.now) origin) a → ⊥) }
+    ensures unfit { IfUnfit result (IsUnfit (program_of p.now)
+        (instance (program_of p.now) (func_of f.now) origin) ⊎
         IsUnnoted (length f.now.keys) (length f.now.vars)
-        (body_flow (program_of p.now) (func_of f.now))
-        (start_map (program_of p.now) (func_of f.now))) }
+        (body_flow (program_of p.now) (instance (program_of p.now) (func_of f.now) origin))
+        (start_map (program_of p.now) (instance (program_of p.now) (func_of f.now) origin))) }
 {
-    let flow = body_flow(alloc, p, f)?;
-    let start = start_map_of(alloc, p, f)?;
+    let flow = body_flow(alloc, p, f, origin)?;
+    let start = start_map_of(alloc, p, f, origin)?;
     match TokenCounts::of(f) {
         Some(counts) => annotate_block(alloc, start, &flow, counts),
         None => Err(Stop::Unfit),

@@ -5,6 +5,7 @@ ghost use Rattle.vlt_core.specs.View.{program_of, func_of, tok_of, mode_of, entr
 ghost use Rattle.vlt_core.specs.HeldView.{after_of};
 ghost use Rattle.vlt_core.specs.Lookups.{is_before, is_held_before};
 ghost use Rattle.vlt_core.specs.Derives.{start_map};
+ghost use Rattle.vlt_core.specs.Instances.{instance, entry_in};
 ghost use Rattle.vlt_core.specs.Maps.{absent};
 ghost use Rattle.vlt_keyset.specs.Held.{map_of, HasPlace, IsSameRange};
 ghost use Rattle.vlt_rows.specs.Unfit.{UnfitBy};
@@ -16,7 +17,7 @@ use std::alloc::Global;
 use vlt_base::VarId;
 use vlt_core::{After, Entry, Func, Mode, Program, Row, Tok, Wanted};
 use vlt_keyset::Held;
-use vlt_rows::RowError;
+use vlt_rows::{RowError, states_before};
 
 /// Whether the key is held before the call.
 fn is_before(mode: Mode) -> bool
@@ -46,18 +47,27 @@ fn give(held: &mut Held, tok: Tok, after: After)
 }
 
 /// The key of an entry is held, if it is so before the call. Of two entries with one key the first counts.
-fn give_key(held: &mut Held, p: &Program, f: &Func, e: Entry) -> Result<(), RowError>
+fn give_key(
+    held: &mut Held,
+    p: &Program,
+    f: &Func,
+    origin: Option<u8>,
+    e: Entry,
+) -> Result<(), RowError>
     requires { HasRange (func_of f.now) held.old }
-    ensures started { OnOk result (IsStarted (program_of p.now) (func_of f.now) (entry_of e)
+    ensures started { OnOk result (IsStarted (program_of p.now)
+        (instance (program_of p.now) (func_of f.now) origin)
+        (entry_in (program_of p.now) (func_of f.now) origin (entry_of e))
         (map_of held.old) (map_of held.new)) }
     ensures range { IsSameRange held.old held.new }
     ensures unfit { IfErr result (λ x. (x ≡ Unfit) × (is_held_before (entry_of e) ≡ true) ×
-        IsUnfitEntry (program_of p.now) (func_of f.now) (entry_of e)) }
+        IsUnfitEntry (program_of p.now) (instance (program_of p.now) (func_of f.now) origin)
+        (entry_in (program_of p.now) (func_of f.now) origin (entry_of e))) }
 {
     if !is_before(e.mode) {
         return Ok(());
     }
-    let Some(states) = p.states_or_all(f, e.key, e.before) else {
+    let Some(states) = states_before(p, f, origin, e).set() else {
         return Err(RowError::Unfit);
     };
     if !held.has(Tok::Key(e.key)) {
@@ -91,28 +101,37 @@ fn absent_map(alloc: Global, f: &Func) -> Result<Held, RowError>
     }
 }
 
-/// The keys of the clause are held, all else is absent.
-fn start_keys(alloc: Global, p: &Program, f: &Func) -> Result<Held, RowError>
-    ensures keys { IfOk result (λ h. HasKeys (program_of p.now) (func_of f.now) (map_of h)) }
+/// The keys of the instance's clause are held, all else is absent.
+fn start_keys(alloc: Global, p: &Program, f: &Func, origin: Option<u8>) -> Result<Held, RowError>
+    ensures keys { IfOk result (λ h. HasKeys (program_of p.now)
+        (instance (program_of p.now) (func_of f.now) origin) (map_of h)) }
     ensures range { IfOk result (HasRange (func_of f.now)) }
-    ensures unfit { IfErr result (UnfitBy (HasNoStart (program_of p.now) (func_of f.now))) }
+    ensures unfit { IfErr result (UnfitBy (HasNoStart (program_of p.now)
+        (instance (program_of p.now) (func_of f.now) origin))) }
 {
     let mut held = absent_map(alloc, f)?;
     for e in f.clause.as_slice() {
-        give_key(&mut held, p, f, *e)?;
+        give_key(&mut held, p, f, origin, *e)?;
     }
     Ok(held)
 }
 
-/// The map that a body begins with. `Unfit` where there are more keys or variables than numbers, or where an entry of the
-/// clause names a key that the function doesn't have, or states of which there is no set.
-pub fn start_map_of(alloc: Global, p: &Program, f: &Func) -> Result<Held, RowError>
+/// The map that a body begins with in the instance of this origin. `Unfit` where there are more keys or variables than numbers,
+/// or where an entry of the clause names a key that the function doesn't have, or states of which there is no set.
+pub fn start_map_of(
+    alloc: Global,
+    p: &Program,
+    f: &Func,
+    origin: Option<u8>,
+) -> Result<Held, RowError>
     ensures map { MatchResult result
-        (λ h. map_of h ≡ start_map (program_of p.now) (func_of f.now))
-        (UnfitBy (HasNoStart (program_of p.now) (func_of f.now))) }
+        (λ h. map_of h ≡ start_map (program_of p.now)
+        (instance (program_of p.now) (func_of f.now) origin))
+        (UnfitBy (HasNoStart (program_of p.now)
+        (instance (program_of p.now) (func_of f.now) origin))) }
     ensures range { IfOk result (HasRange (func_of f.now)) }
 {
-    let mut held = start_keys(alloc, p, f)?;
+    let mut held = start_keys(alloc, p, f, origin)?;
     for v in 0..f.params {
         if f.is_owning_var(VarId(v)) {
             give(&mut held, Tok::Var(VarId(v)), After::Full);

@@ -1,12 +1,15 @@
 -- The body of a permitted call begins.
-use Rattle.std.proofs.Common.{◌≡◌, ℕ, zero, suc, ◌<◌, ◌≤◌, ◌+◌, ◌-◌, ◌*◌, ◌^◌, Bool, true, false, ◌&&◌, ℤ, List, [], ◌∷◌, ◌++◌, map, length, take, drop, Option, Some, None, Ok, Err, refl, sym, ap, ◌∙◌, subst, arith, slice_get, reverse}
+use Rattle.std.proofs.Common.{◌≡◌, ℕ, zero, suc, ◌<◌, ◌≤◌, ◌+◌, ◌-◌, ◌*◌, ◌^◌, Bool, true, false, ◌&&◌, ℤ, List, [], ◌∷◌, ◌++◌, map, length, take, drop, Option, Some, None, Ok, Err, refl, sym, ap, ◌∙◌, subst, arith, slice_get, reverse, if◌then◌else◌}
 use Rattle.std.specs.Vec.{vec_capacity}
 use Rattle.std.specs.Borrow.{Bor}
+use Rattle.std.specs.Option.{option_map, option_and_then}
+use Rattle.std.proofs.Math.Path.{fun_ext}
 use Rattle.std.proofs.lemmas.Bool.{false≢true}
 use Rattle.std.proofs.lemmas.List.{nil_from_length, length-map}
 use Rattle.vlt_core.specs.declared.program.Stmt.{Stmt}
 use Rattle.vlt_core.specs.View.{func_of, stmts_of, program_of}
 use Rattle.vlt_core.specs.Core.{VarDecl, Func, Program}
+use Rattle.vlt_core.specs.Instances.{bound_in}
 use Rattle.vlt_core.specs.KindedHeads.{parameters_of}
 use Rattle.vlt_numbers.specs.HostAnswers.{lists_of}
 use Rattle.vlt_heap.specs.Shown as heaps
@@ -14,19 +17,21 @@ use Rattle.vlt_heap.specs.Shown.{heap_of}
 use Rattle.vlt_meaning.specs.World.{World, Frame, Object, is_fault}
 use Rattle.vlt_meaning.specs.Found.{Found}
 use Rattle.vlt_meaning.specs.Step.{Step, with_found}
-use Rattle.vlt_meaning.specs.Calls.{passed_objects, callee_frame, handed_over}
+use Rattle.vlt_meaning.specs.Calls.{state_under, passed_objects, callee_frame, handed_over}
 use Rattle.vlt_meaning.specs.Run.{Setup, ran_of}
 use Rattle.vlt_meaning.specs.Does.{does}
 use Rattle.vlt_meaning_laws.specs.Machine.Machine as m
-use Rattle.vlt_meaning_laws.specs.Machine.Machine.{moves, first_conf}
+use Rattle.vlt_meaning_laws.specs.Machine.Machine.{first_conf}
 use Rattle.vlt_meaning_laws.specs.Machine.Laws.{LeadsTo}
 use Rattle.vlt_meaning_laws.proofs.OfMachine.Theorem.{machine_is_the_run}
 use Rattle.vlt_acts.specs.declared.values.values.Values.{Values}
 use Rattle.vlt_acts.specs.Values.Shown.{ShowsFrame, ShowObjects}
-use Rattle.vlt_acts.specs.Frames.Frames.{frame_end, IsRunning as HasFrame}
+use Rattle.vlt_acts.specs.Frames.Frames.{IsLike, frame_end, IsRunning as HasFrame}
+use Rattle.vlt_acts.proofs.OfFrames.Like.{instance_like, running_like}
 use Rattle.vlt_acts.proofs.OfValues.Touching.{OrFault}
 use Rattle.vlt_acts.proofs.OfFrames.Callees.{handed_shown}
 use Rattle.vlt_acts.proofs.OfHosts.Writing.{silent}
+use Rattle.vlt_externals.proofs.OfHostCalls.Instances.{same_new}
 use Rattle.vlt_externals.proofs.OfHostCalls.Calling.{passed_fault}
 use Rattle.vlt_steps.specs.Writing.{Outside}
 use Rattle.vlt_interp.specs.declared.rooms.start.Start.{Start}
@@ -37,9 +42,9 @@ use Rattle.vlt_interp.specs.Tasks.Sizes.{frame_slots, IsWide}
 use Rattle.vlt_interp.specs.Tasks.Own.{IsOwnFunc}
 use Rattle.vlt_interp.specs.Tasks.Shown.{tasks_left, ShowsTasks, ShowsConf, setup_of}
 use Rattle.vlt_interp.specs.Tasks.Moves as moving
-use Rattle.vlt_interp.specs.Calls.Known.{KnowsNext}
 use Rattle.vlt_interp.specs.Going.{setup_in}
 use Rattle.vlt_interp.specs.Running.{IsUnderWay, IsRunning, HasGoal}
+use Rattle.vlt_interp.proofs.Likeness.{of_itself, of_instance}
 use Rattle.vlt_interp.proofs.Fitting.{frame_fits}
 use Rattle.vlt_host_meaning.specs.Calls.{Argument, value_of_argument}
 use Rattle.vlt_host_meaning.specs.Tables.{argument_of}
@@ -47,7 +52,6 @@ use Rattle.vlt_host_meaning.specs.HostFrame.{host_frame}
 use Rattle.vlt_host_meaning.specs.Permitted.{arguments_fit, host_keys}
 use Rattle.vlt_host_meaning.specs.OneCall.{host_instance, instance_does, body_does, without_events, world_inside, spent}
 use Rattle.vlt_host_laws.specs.Calls.{GoesRight}
-use Rattle.vlt_host_laws.proofs.Unbound.{called_itself}
 use Rattle.vlt_permits.specs.declared.held.Held.{Held}
 use Rattle.vlt_permits.specs.declared.hosted.Hosted.{Hosted}
 use Rattle.vlt_permits.specs.Held.{IsSound}
@@ -142,7 +146,7 @@ module _ (c : Calling) (start : Start) (held : Held) (fuel : ℕ) (s : Supply) (
 
   pub frame_room : frame_end start.values.width 0 f ≤ vec_capacity start.values.slots
   frame_room =
-      let k = frame_fits p start.values.width f (record { position = first_allowed.number; at = first_allowed.at }) in
+      let k = frame_fits p start.values.width f (of_itself p first_allowed.number f first_allowed.at) in
       let all = can.room.values.parts in
       let more : (c.budgets.depth + 1) * frame_slots p start.values.width ≡ c.budgets.depth * frame_slots p start.values.width + frame_slots p start.values.width = omega arith in
       omega (arith, k, all, more)
@@ -201,78 +205,87 @@ module _ (c : Calling) (start : Start) (held : Held) (fuel : ℕ) (s : Supply) (
       goes : GoesRight r f (args_in c) w
       goes = can.callable.takes.goes r w allowed.number f (args_in c) refl q.objects.left allowed.at allowed.permitted
 
-      itself : host_instance p f (args_in c) w.objects ≡ f
-      itself = called_itself p f (args_in c) w.objects (can.callable.own.plain allowed.number f allowed.at)
+      -- the origin of the instance that runs
+      abbrev origin : Option ℕ
+      origin = option_map (λ b. state_under (host_keys f (args_in c) w.objects) (host_frame w.objects) w.objects b.key) (bound_in f.clause)
+
+      abbrev i : Func
+      i = host_instance p f (args_in c) w.objects
+
+      like : IsLike f i
+      like = instance_like p f origin
 
       abbrev goal : Step
       goal = body_does r f (args_in c) (spent w)
 
-      goal_itself : goal ≡ instance_does r f (args_in c) (spent w)
-      goal_itself = ap (λ g. instance_does r g (args_in c) (spent w)) itself
-
-      body_is : IsBody r f (args_in c) (spent w)
-      body_is = body_of r f (args_in c) (spent w) (subst (λ x. is_fault (ran_of x).outcome ≡ false) goal_itself goes.right)
+      body_is : IsBody r i (args_in c) (spent w)
+      body_is = body_of r i (args_in c) (spent w) goes.right
 
       abbrev frame : Frame
-      frame = callee_frame f (host_keys f (args_in c) w.objects) (map value_of_argument (args_in c)) (host_frame w.objects)
+      frame = callee_frame i (host_keys i (args_in c) w.objects) (map value_of_argument (args_in c)) (host_frame w.objects)
+
+      -- the frame is that of the function itself
+      same_frame : callee_frame f (host_keys f (args_in c) w.objects) (map value_of_argument (args_in c)) (host_frame w.objects) ≡ frame
+      same_frame =
+          let keys = host_keys f (args_in c) w.objects in
+          ap {A = ℕ → Option ℕ} {B = Frame} (λ names. record { depth = suc (host_frame w.objects).depth; vars = slice_get (map value_of_argument (args_in c)); keys = names })
+          (fun_ext (λ j. ap (λ b. if b then None else option_and_then (host_frame w.objects).keys (slice_get keys j)) (sym (same_new p f origin j))))
 
       abbrev inside : World
-      inside = world_inside f (args_in c) (spent w)
+      inside = world_inside i (args_in c) (spent w)
 
       fit : arguments_fit w.objects (parameters_of f) (args_in c) ≡ true
       fit = (is_fit p allowed.number f (args_in c) w.objects allowed.permitted).fit
 
-      begun_shown : ShowsConf begun (first_conf f frame inside)
+      begun_shown : ShowsConf begun (first_conf i frame inside)
       begun_shown = record {
         items = q.objects.shows.items;
         holds = q.objects.shows.holds;
-        func = refl;
-        shown = subst (λ l. ShowsTasks q.objects.shows.items values values.base 1 l (m.list f.body ∷ [])) (sym left) (ap stmts_of did.body_is, (did.base, refl));
+        func = like;
+        shown = subst (λ l. ShowsTasks q.objects.shows.items values values.base 1 l (m.list i.body ∷ [])) (sym left) (ap stmts_of did.body_is, (did.base, refl));
         step = record {
           objects =
-              handed_shown q.objects.shows.items values.width p f (host_keys f (args_in c) w.objects) (host_frame w.objects) w.objects f.clause body_is.numbers body_is.passed
+              handed_shown q.objects.shows.items values.width p i (host_keys i (args_in c) w.objects) (host_frame w.objects) w.objects i.clause body_is.numbers body_is.passed
               (subst (λ n. ShowObjects q.objects.shows.items n w.objects) (q.objects.wide ∙ sym did.width) q.objects.shows.shown);
-          frame_shown = did.shows w.objects q.objects.shows fit;
-          names = λ k n e. (called_key f (args_in c) w.objects k n e).within;
-          running = did.running;
+          frame_shown = subst (ShowsFrame q.objects.shows.items values) same_frame (did.shows w.objects q.objects.shows fit);
+          names = λ k n e. (called_key i (args_in c) w.objects k n e).within;
+          running = running_like values f i 0 like did.running;
           depth = refl;
           hosts = record { input = q.input; answers = q.answers; taken = q.taken };
           fuel = q.fuel;
         };
       }
 
-      begun_way : IsUnderWay r (first_conf f frame inside)
+      begun_way : IsUnderWay r (first_conf i frame inside)
       begun_way = record {
-        func = f;
-        position = allowed.number;
-        at = allowed.at;
+        func = i;
+        of = of_instance p f origin (of_itself p allowed.number f allowed.at);
         frame = frame;
         first = refl;
         world = inside;
         count = 0;
         is = refl;
-        knows = λ n. subst (λ g. KnowsNext p (moves r n (first_conf g (callee_frame g (host_keys g (args_in c) w.objects) (map value_of_argument (args_in c)) (host_frame w.objects)) (world_inside g (args_in c) (spent w))))) itself
-            (can.callable.knows r w allowed.number f (args_in c) refl q.objects.left allowed.at allowed.permitted n);
+        knows = λ n. can.callable.knows r w allowed.number f (args_in c) refl q.objects.left allowed.at allowed.permitted n;
       }
 
-      begun_leads : LeadsTo r (first_conf f frame inside) goal
-      begun_leads = subst (LeadsTo r (first_conf f frame inside)) (sym (goal_itself ∙ body_is.is)) (machine_is_the_run r f frame inside)
+      begun_leads : LeadsTo r (first_conf i frame inside) goal
+      begun_leads = subst (LeadsTo r (first_conf i frame inside)) (sym body_is.is) (machine_is_the_run r i frame inside)
 
-      begun_running : (b : Outside) → IsRunning (rules_for c) goal inside b b begun
+      begun_running : (b : Outside) → IsRunning (rules_for c) goal (world_inside f (args_in c) (spent w)) b b begun
       begun_running b = record {
         own = can.callable.own;
         deep = deep;
         room = begun_room;
-        conf = first_conf f frame inside;
+        conf = first_conf i frame inside;
         shown = begun_shown;
-        under_way = subst (λ t. IsUnderWay t (first_conf f frame inside)) (sym same_setup) begun_way;
-        leads = subst (λ t. LeadsTo t (first_conf f frame inside) goal) (sym same_setup) begun_leads;
+        under_way = subst (λ t. IsUnderWay t (first_conf i frame inside)) (sym same_setup) begun_way;
+        leads = subst (λ t. LeadsTo t (first_conf i frame inside) goal) (sym same_setup) begun_leads;
         right = goes.right;
-        wrote = silent inside inside b refl;
+        wrote = silent (world_inside f (args_in c) (spent w)) inside b refl;
       }
 
-      pub begins : (b : Outside) → IsRunning (rules_for c) goal inside b b run
-      begins b = subst (IsRunning (rules_for c) goal inside b b) (sym did.run_is) (begun_running b)
+      pub begins : (b : Outside) → IsRunning (rules_for c) goal (world_inside f (args_in c) (spent w)) b b run
+      begins b = subst (IsRunning (rules_for c) goal (world_inside f (args_in c) (spent w)) b b) (sym did.run_is) (begun_running b)
 
   -- ---- some world
 

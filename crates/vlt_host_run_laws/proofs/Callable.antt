@@ -2,7 +2,6 @@
 use Rattle.vlt_core.specs.Core.{Program}
 use Rattle.vlt_core.specs.Kinded.{IsKinded}
 use Rattle.vlt_core.specs.Derives.{IsAccepted}
-use Rattle.vlt_core.specs.Instances.{HasNoBounds}
 use Rattle.vlt_core_laws.specs.States.{HasStates}
 use Rattle.vlt_sound.specs.Sizes.{HasSizes}
 use Rattle.vlt_sound.specs.Narrow.{HasNarrowHeads}
@@ -14,9 +13,9 @@ use Rattle.vlt_host_machine.specs.Callable.{IsCallable}
 use Rattle.vlt_host_run_laws.proofs.StartedLaws.{knows_started_calls}
 use Rattle.vlt_host_run_laws.proofs.ClauseKeys.{have_clause_keys}
 
-pub callable : (p : Program) → IsKinded p → IsAccepted p → HasSizes p → HasStates p → HasNarrowHeads p → HasFewVars p → HasBlankExternals p → HasNoBounds p → IsCallable p
-callable p kinded accepted sizes filled narrow few blank plain = record {
-  own = names_own p kinded few blank plain;
+pub callable : (p : Program) → IsKinded p → IsAccepted p → HasSizes p → HasStates p → HasNarrowHeads p → HasFewVars p → HasBlankExternals p → IsCallable p
+callable p kinded accepted sizes filled narrow few blank = record {
+  own = names_own p kinded few blank;
   keys = have_clause_keys p kinded;
   takes = takes_calls p kinded accepted sizes filled narrow;
   results = gives_results p kinded accepted sizes filled narrow;

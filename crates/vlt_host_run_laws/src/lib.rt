@@ -9,7 +9,6 @@ ghost use Rattle.vlt_core.specs.Derives.{IsAccepted};
 ghost use Rattle.vlt_core_laws.specs.States.{HasStates};
 ghost use Rattle.vlt_sound.specs.Sizes.{HasSizes};
 ghost use Rattle.vlt_sound.specs.Narrow.{HasNarrowHeads};
-ghost use Rattle.vlt_core.specs.Instances.{HasNoBounds};
 ghost use Rattle.vlt_run_laws.specs.Blank.{HasBlankExternals, HasFewVars};
 ghost use Rattle.vlt_host_machine.specs.Callable.{IsCallable};
 ghost use Rattle.vlt_host_machine.specs.Started.{KnowsStartedCalls};
@@ -28,9 +27,8 @@ pub fn accepted_programs_know_started_calls()
         HasNarrowHeads p → KnowsStartedCalls p }
 {}
 
-/// A machine can be opened for hosts of an accepted program in which no function has a bound entry.
+/// A machine can be opened for hosts of an accepted program.
 pub fn accepted_programs_are_callable()
     ensures { (p : Program) → IsKinded p → IsAccepted p → HasSizes p → HasStates p →
-        HasNarrowHeads p → HasFewVars p → HasBlankExternals p → HasNoBounds p →
-        IsCallable p }
+        HasNarrowHeads p → HasFewVars p → HasBlankExternals p → IsCallable p }
 {}

@@ -1,5 +1,5 @@
 -- Names by their texts: what lists of statements and arms bind, and which names a set has.
-use Rattle.std.proofs.Common.{◌≡◌, ◌<◌, ◌≤◌, ◌+◌, ℕ, length, drop, get_or, Bool, true, false, ◌||◌, cond, if◌then◌else◌, List, [], ◌∷◌, ◌++◌, map, filter, Option, None, refl, sym, ap, ap₂, ◌∙◌}
+use Rattle.std.proofs.Common.{◌≡◌, ◌<◌, ◌≤◌, ◌+◌, ℕ, length, drop, get_or, Bool, true, false, ◌||◌, cond, if◌then◌else◌, List, [], ◌∷◌, ◌++◌, map, filter, Option, Some, None, refl, sym, ap, ap₂, ◌∙◌}
 use Rattle.std.specs.List.{flat_map}
 use Rattle.std.specs.Str.{bytes_eq}
 use Rattle.std.specs.Borrow.{Bor}
@@ -16,11 +16,11 @@ use Rattle.vlt_syntax.specs.declared.tree.Block.{Block}
 use Rattle.vlt_syntax.specs.declared.tree.Stmt.TheVariants.{Switch}
 use Rattle.vlt_syntax_copies.proofs.Made.{block_seen, switch_seen}
 use Rattle.vlt_kinds_types.specs.Names.Globals.{decl_name}
-use Rattle.vlt_iface.specs.Clash.{keys_in, bound_names, block_bound, stmts_bound, arms_bound, result_keys, clause_keys, head_bound, decl_bound, is_among, globals_in, names_in, clashing}
+use Rattle.vlt_iface.specs.Clash.{keys_in, bound_names, block_bound, stmts_bound, arms_bound, entry_key, entry_variables, result_keys, clause_names, head_bound, decl_bound, is_among, globals_in, names_in, clashing}
 use Rattle.vlt_iface.specs.Told.{lesser_name, least_name_from, least_name}
 use Rattle.vlt_iface.proofs.Standing.{bytes_swap}
 use Rattle.vlt_iface.proofs.Tables.{split_at}
-use Rattle.vlt_iface.specs.Texts.{texts_of, texts_seen, has_text, AreTextsOf, parameter_texts, stmt_texts, arm_texts, decl_texts}
+use Rattle.vlt_iface.specs.Texts.{texts_of, texts_seen, has_text, AreTextsOf, parameter_texts, variable_texts, stmt_texts, arm_texts, decl_texts}
 
 -- ---- what is bound
 
@@ -51,27 +51,38 @@ block_texts b = ap (λ x. texts_of (block_bound x)) (block_seen b) ∙ stmts_tex
 pub switch_texts : (x : Name) (arms : List Arm) (at : Span) → stmt_texts (stmt_of (Switch x arms at)) ≡ flat_map arm_texts (map arm_of arms)
 switch_texts x arms at = ap stmt_texts (switch_seen x arms at) ∙ arms_texts (map arm_of arms)
 
-head_texts : (h : s.Head) → texts_of (head_bound h) ≡ texts_of (result_keys h.result_type) ++ (flat_map parameter_texts h.parameters ++ texts_of (clause_keys h.clause))
+head_texts : (h : s.Head) → texts_of (head_bound h) ≡ texts_of (result_keys h.result_type) ++ (flat_map parameter_texts h.parameters ++ texts_of (clause_names h.clause))
 head_texts h =
     let each = flat_map (λ p. keys_in p.ty ++ p.name ∷ []) h.parameters in
-    map-append (λ n. n.text) (result_keys h.result_type) (each ++ clause_keys h.clause) ∙
+    map-append (λ n. n.text) (result_keys h.result_type) (each ++ clause_names h.clause) ∙
     ap (λ ts. texts_of (result_keys h.result_type) ++ ts)
-    (map-append (λ n. n.text) each (clause_keys h.clause) ∙
-    ap (λ ts. ts ++ texts_of (clause_keys h.clause)) (flat_texts (λ p. keys_in p.ty ++ p.name ∷ []) h.parameters))
+    (map-append (λ n. n.text) each (clause_names h.clause) ∙
+    ap (λ ts. ts ++ texts_of (clause_names h.clause)) (flat_texts (λ p. keys_in p.ty ++ p.name ∷ []) h.parameters))
 
 module_texts : (ds : List Decl) → texts_of (map decl_name ds ++ flat_map decl_bound ds) ≡ texts_of (map decl_name ds) ++ flat_map decl_texts ds
 module_texts ds =
     map-append (λ n. n.text) (map decl_name ds) (flat_map decl_bound ds) ∙
     ap (λ ts. texts_of (map decl_name ds) ++ ts) (flat_texts decl_bound ds)
 
+-- the texts of a clause, its keys before its state variables
+pub clause_made : (es : List s.Entry) (old some made : List (List ℕ)) → some ≡ old ++ texts_of (map entry_key es) → made ≡ some ++ flat_map variable_texts es → made ≡ old ++ texts_of (clause_names (Some es))
+clause_made es old some made first second =
+    let keys = map entry_key es in
+    second ∙
+    (ap (λ ts. ts ++ flat_map variable_texts es) first ∙
+    (append_assoc old (texts_of keys) (flat_map variable_texts es) ∙
+    ap (λ ts. old ++ ts)
+    (ap (λ ts. texts_of keys ++ ts) (sym (flat_texts entry_variables es)) ∙
+    sym (map-append (λ n. n.text) keys (flat_map entry_variables es)))))
+
 -- the texts of a head, part after part
 pub head_made : (h : s.Head) (old some more made : List (List ℕ)) (ps : List s.Parameter) →
-    some ≡ old ++ texts_of (result_keys h.result_type) → more ≡ some ++ flat_map parameter_texts ps → ps ≡ h.parameters → made ≡ more ++ texts_of (clause_keys h.clause) →
+    some ≡ old ++ texts_of (result_keys h.result_type) → more ≡ some ++ flat_map parameter_texts ps → ps ≡ h.parameters → made ≡ more ++ texts_of (clause_names h.clause) →
     made ≡ old ++ texts_of (head_bound h)
 head_made h old some more made ps first second is third =
     let results = texts_of (result_keys h.result_type) in
     let parameters = flat_map parameter_texts h.parameters in
-    let clauses = texts_of (clause_keys h.clause) in
+    let clauses = texts_of (clause_names h.clause) in
     third ∙
     (ap (λ xs. xs ++ clauses) (second ∙ ap₂ (λ xs ys. xs ++ flat_map parameter_texts ys) first is) ∙
     (append_assoc (old ++ results) parameters clauses ∙

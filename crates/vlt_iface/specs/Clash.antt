@@ -54,22 +54,28 @@ abbrev mutual
 abbrev pub entry_key : Entry → Name
 entry_key (s.held k) = k.key
 entry_key (s.changed k before after) = k
+entry_key (s.bound k v b) = k
 entry_key (s.taken k at) = k.key
 entry_key (s.given k at) = k.key
 entry_key (s.fresh k at) = k.key
+
+-- the state variable of a bound entry
+abbrev pub entry_variables : Entry → List Name
+entry_variables (s.bound k v b) = v ∷ []
+entry_variables _ = []
 
 abbrev pub result_keys : ResultType → List Name
 result_keys (s.void at) = []
 result_keys (s.value t) = keys_in t
 
-abbrev pub clause_keys : Option (List Entry) → List Name
-clause_keys None = []
-clause_keys (Some es) = map entry_key es
+abbrev pub clause_names : Option (List Entry) → List Name
+clause_names None = []
+clause_names (Some es) = map entry_key es ++ flat_map entry_variables es
 
 abbrev pub head_bound : Head → List Name
 head_bound h =
     result_keys h.result_type ++
-    (flat_map (λ p. keys_in p.ty ++ p.name ∷ []) h.parameters ++ clause_keys h.clause)
+    (flat_map (λ p. keys_in p.ty ++ p.name ∷ []) h.parameters ++ clause_names h.clause)
 
 abbrev pub decl_bound : Decl → List Name
 decl_bound (s.struct n ps ss fs r at) = map (λ p. p.key) ps

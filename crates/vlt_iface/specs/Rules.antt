@@ -56,6 +56,7 @@ same_ty _ _ = false
 abbrev pub same_entry : Entry → Entry → Bool
 same_entry (s.held k) (s.held j) = same_key_states k j
 same_entry (s.changed k b a) (s.changed j c d) = same_name k j && (same_states b c && same_states a d)
+same_entry (s.bound k v b) (s.bound j w c) = same_name k j && (same_name v w && same_name b c)
 same_entry (s.taken k at) (s.taken j bt) = same_key_states k j
 same_entry (s.given k at) (s.given j bt) = same_key_states k j
 same_entry (s.fresh k at) (s.fresh j bt) = same_key_states k j

@@ -3,9 +3,9 @@ use Rattle.std.specs.Prelude.{◌≡◌, ℕ, Bool, List, [], ◌∷◌, ◌++�
 use Rattle.std.specs.List.{list_any}
 use Rattle.std.specs.Str.{bytes_eq}
 use Rattle.std.specs.Borrow.{Bor}
-use Rattle.vlt_syntax.specs.Tree.{Name, Stmt, Parameter, Decl}
+use Rattle.vlt_syntax.specs.Tree.{Name, Stmt, Entry, Parameter, Decl}
 use Rattle.vlt_syntax.specs.View.{ArmView}
-use Rattle.vlt_iface.specs.Clash.{keys_in, bound_names, block_bound, decl_bound}
+use Rattle.vlt_iface.specs.Clash.{keys_in, bound_names, block_bound, entry_variables, decl_bound}
 
 abbrev pub texts_of : List Name → List (List ℕ)
 texts_of = map (λ n. n.text)
@@ -25,10 +25,13 @@ has_text ts n = list_any (bytes_eq n) ts
 abbrev pub AreTextsOf : (texts set : List (List ℕ)) → Type 0
 AreTextsOf texts set = (n : List ℕ) → has_text set n ≡ has_text texts n
 
--- ---- what a parameter, a statement, an arm and a declaration bind
+-- ---- what a parameter, an entry beside its key, a statement, an arm and a declaration bind
 
 abbrev pub parameter_texts : Parameter → List (List ℕ)
 parameter_texts p = texts_of (keys_in p.ty ++ p.name ∷ [])
+
+abbrev pub variable_texts : Entry → List (List ℕ)
+variable_texts e = texts_of (entry_variables e)
 
 abbrev pub stmt_texts : Stmt → List (List ℕ)
 stmt_texts x = texts_of (bound_names x)

@@ -1,10 +1,10 @@
 //! The names that a module's declarations bind, by their texts.
 
-ghost use Rattle.std.specs.Prelude.{◌≡◌, ◌++◌, ◌∷◌, [], map, option_map, OnOk};
+ghost use Rattle.std.specs.Prelude.{◌≡◌, ◌++◌, ◌∷◌, [], map, Some, option_map, OnOk};
 ghost use Rattle.std.specs.List.{flat_map};
 ghost use Rattle.vlt_syntax.specs.View as view;
 ghost use Rattle.vlt_iface.specs.Clash as c;
-ghost use Rattle.vlt_iface.specs.Texts.{texts_of, texts_seen, stmt_texts, arm_texts, parameter_texts};
+ghost use Rattle.vlt_iface.specs.Texts.{texts_of, texts_seen, stmt_texts, arm_texts, parameter_texts, variable_texts};
 
 use std::alloc::AllocError;
 use vlt_base::Items;
@@ -55,14 +55,14 @@ fn key_of(entry: &Entry) -> &Name
 {
     match entry {
         Entry::Held(key) => &key.key,
-        Entry::Changed { key, .. } => key,
+        Entry::Changed { key, .. } | Entry::Bound { key, .. } => key,
         Entry::Taken(key, _) => &key.key,
         Entry::Given(key, _) => &key.key,
         Entry::Fresh(key, _) => &key.key,
     }
 }
 
-fn add_entries<'a>(entries: &'a [Entry], texts: &mut Items<&'a [u8]>) -> Result<(), AllocError>
+fn add_entry_keys<'a>(entries: &'a [Entry], texts: &mut Items<&'a [u8]>) -> Result<(), AllocError>
     ensures { OnOk result (texts_seen texts.new ≡ texts_seen texts.old
         ++ texts_of (map c.entry_key (map view.entry_of entries.now))) }
 {
@@ -72,12 +72,41 @@ fn add_entries<'a>(entries: &'a [Entry], texts: &mut Items<&'a [u8]>) -> Result<
     Ok(())
 }
 
+/// The state variable of a bound entry.
+fn add_variable<'a>(entry: &'a Entry, texts: &mut Items<&'a [u8]>) -> Result<(), AllocError>
+    ensures { OnOk result (texts_seen texts.new
+        ≡ texts_seen texts.old ++ variable_texts (view.entry_of entry.now)) }
+{
+    if let Entry::Bound { variable, .. } = entry {
+        texts.push(variable.text.as_slice())?;
+    }
+    Ok(())
+}
+
+fn add_variables<'a>(entries: &'a [Entry], texts: &mut Items<&'a [u8]>) -> Result<(), AllocError>
+    ensures { OnOk result (texts_seen texts.new ≡ texts_seen texts.old
+        ++ flat_map variable_texts (map view.entry_of entries.now)) }
+{
+    for entry in entries {
+        add_variable(entry, texts)?;
+    }
+    Ok(())
+}
+
+fn add_entries<'a>(entries: &'a [Entry], texts: &mut Items<&'a [u8]>) -> Result<(), AllocError>
+    ensures { OnOk result (texts_seen texts.new ≡ texts_seen texts.old
+        ++ texts_of (c.clause_names (Some (map view.entry_of entries.now)))) }
+{
+    add_entry_keys(entries, texts)?;
+    add_variables(entries, texts)
+}
+
 fn add_clause<'a>(
     clause: &'a Option<Items<Entry>>,
     texts: &mut Items<&'a [u8]>,
 ) -> Result<(), AllocError>
     ensures { OnOk result (texts_seen texts.new ≡ texts_seen texts.old
-        ++ texts_of (c.clause_keys (option_map (map view.entry_of) clause.now))) }
+        ++ texts_of (c.clause_names (option_map (map view.entry_of) clause.now))) }
 {
     match clause {
         None => Ok(()),

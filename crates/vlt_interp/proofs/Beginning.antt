@@ -48,6 +48,8 @@ use Rattle.vlt_interp.specs.Reached.{IsRunnable}
 use Rattle.vlt_interp.specs.Going.{setup_in}
 use Rattle.vlt_interp.specs.Running.{start_of, goal_of, IsUnderWay, IsRunning, HasGoal, ComesOrEnds, or_done, IsFinished}
 use Rattle.vlt_interp.specs.Start.{run_within, EndsAs}
+use Rattle.vlt_acts.proofs.OfFrames.Like.{like_itself}
+use Rattle.vlt_interp.proofs.Likeness.{of_itself}
 use Rattle.vlt_interp.proofs.Fitting.{frame_fits}
 use Rattle.vlt_interp.proofs.Running.{finished}
 
@@ -72,7 +74,7 @@ no_depth p b input answers x none =
 module _ (b : Budgets) (s : Start) (input : Bor (List ℤ)) (answers : Bor Answers) (program : Bor CodeProgram) (runnable : IsRunnable (program_of program.now)) (set : IsSet (program_of program.now) b s) (deep : 1 ≤ b.depth)
     (main : Bor CodeFunc) (is_main : slice_get (program_of program.now).fns (program_of program.now).main ≡ Some (func_of main.now)) where
   main_wide : frame_end s.values.width 0 (func_of main.now) ≤ frame_slots (program_of program.now) s.values.width
-  main_wide = let k = frame_fits (program_of program.now) s.values.width (func_of main.now) (record { position = (program_of program.now).main; at = is_main }) in omega (arith, k)
+  main_wide = let k = frame_fits (program_of program.now) s.values.width (func_of main.now) (of_itself (program_of program.now) (program_of program.now).main (func_of main.now) is_main) in omega (arith, k)
 
   pub start_room : frame_end s.values.width 0 (func_of main.now) ≤ vec_capacity s.values.slots
   start_room =
@@ -113,7 +115,7 @@ module _ (b : Budgets) (s : Start) (input : Bor (List ℤ)) (answers : Bor Answe
     begun_shown = record {
       items = [];
       holds = set.no_objects;
-      func = refl;
+      func = like_itself (func_of main.now);
       shown = subst (λ l. ShowsTasks [] values values.base 1 l (m.list (func_of main.now).body ∷ [])) (sym left) (ap stmts_of body_is, (base, refl));
       step = record {
         objects = record { long = refl; each = λ n x o there. absurd (none-some x there) };
@@ -132,8 +134,7 @@ module _ (b : Budgets) (s : Start) (input : Bor (List ℤ)) (answers : Bor Answe
     begun_way : IsUnderWay (setup_in rules begun) (first_conf (func_of main.now) (first_frame 1) (start_of begun))
     begun_way = record {
       func = func_of main.now;
-      position = (program_of program.now).main;
-      at = is_main;
+      of = of_itself (program_of program.now) (program_of program.now).main (func_of main.now) is_main;
       frame = first_frame 1;
       first = refl;
       world = start_of begun;

@@ -14,10 +14,13 @@ use Rattle.vlt_interp.specs.Tasks.Own.{IsOf}
 use Rattle.vlt_interp.specs.Tasks.Shown.{IsCaller, base_behind, depth_behind, ShowsTasks}
 use Rattle.vlt_interp.proofs.OfTasks.Sizes.{greatest_at}
 use Rattle.vlt_interp.specs.Owned.{HoldOf}
+use Rattle.vlt_interp.proofs.Likeness.{of_all}
 
 -- a frame of the program's functions is no wider than the widest
 pub frame_fits : (p : Program) (width : ℕ) (f : Func) → IsOf p f → length f.vars * width + length f.keys ≤ frame_slots p width
-frame_fits p width f o = let k = greatest_at (frame_end width 0) p.fns o.position f o.at in omega (arith, k)
+frame_fits p width f o =
+    let k = of_all p (λ f. frame_end width 0 f ≤ frame_slots p width) (λ i f at. greatest_at (frame_end width 0) p.fns i f at) f o (λ h. h) in
+    omega (arith, k)
 
 -- the frame of the function at a depth begins behind those of the functions below
 pub record IsLow (base depth slots : ℕ) : Type 0 where
@@ -30,7 +33,7 @@ module _ (p : Program) (L : Func → Stmts → Type 0) (F : Func → Form → Ty
 
   called : (base depth : ℕ) (w : Waiting) (k : Caller) → IsCaller items values base depth w k → IsOf p k.func → IsLow w.base (depth - 1) slots → IsLow base depth slots
   called base depth w k h o l =
-      let ends : frame_end values.width w.base k.func ≡ base = subst (λ f. frame_end values.width w.base f ≡ base) (ap (λ c. c.func) h.waits.is) h.waits.below.ends in
+      let ends : frame_end values.width w.base k.func ≡ base = subst (λ f. frame_end values.width w.base f ≡ base) h.waits.func.is h.waits.below.ends in
       let wide = frame_fits p values.width k.func o in
       let more : (depth - 1) * slots ≡ (depth - 1 - 1) * slots + slots = one_more (depth - 1) slots l.some in
       record { some = omega (arith, h.depth); low = omega (arith, ends, wide, more, l.low) }

@@ -1,11 +1,11 @@
 -- What holds of all statements that are left holds of them after each move.
-use Rattle.std.proofs.Common.{◌≡◌, ℕ, ◌==◌, nat_lt, Bool, true, false, if◌then◌else◌, List, [], ◌∷◌, length, map, Option, Some, None, Ok, Err, slice_get, refl, sym, ap, subst}
+use Rattle.std.proofs.Common.{◌≡◌, ℕ, ◌==◌, nat_lt, Bool, true, false, if◌then◌else◌, List, [], ◌∷◌, length, map, Option, Some, None, Ok, Err, slice_get, refl, ap}
 use Rattle.std.specs.Option.{option_map}
 use Rattle.vlt_ops.specs.Operator.{is_true}
 use Rattle.vlt_core.specs.Core.{Operand, Expr, Form, Block, block, Stmts, done, next, Arms, no_arms, arm, simple, call, choose, loop, switch, focus, scope, return, jump, Func, Program}
-use Rattle.vlt_core.specs.Instances.{bound_in, instance, HasNoBounds}
+use Rattle.vlt_core.specs.Instances.{bound_in}
 use Rattle.vlt_core.specs.Lookups.{reference_of, guarded_of, variant_of, case_keys}
-use Rattle.vlt_meaning.specs.World.{Value, one, Object, World, Frame, missing, Reason}
+use Rattle.vlt_meaning.specs.World.{Value, one, World, Frame, missing, Reason}
 use Rattle.vlt_meaning.specs.Found.{Found, or_fault}
 use Rattle.vlt_meaning.specs.Values.{held_object, guarded_object, number_of}
 use Rattle.vlt_meaning.specs.Step.{Step, goes, jumps, leaves, ends}
@@ -17,6 +17,7 @@ use Rattle.vlt_meaning_laws.specs.Machine.Got.{Got, got, stopped, operands_got, 
 use Rattle.vlt_meaning_laws.specs.Machine.Machine.{Task, list, closing, turn, unfocus, back, Conf, at, when_found, when_got, when_so, spending, enter_block, enter_arm, enter_body, enter_by, enter, turn_on, act, list_moves, turn_moves, moved_in, after_move}
 use Rattle.vlt_interp.specs.Tasks.Own.{IsOf}
 use Rattle.vlt_interp.specs.Owned.{HoldsIn}
+use Rattle.vlt_interp.proofs.Likeness.{of_itself, of_instance}
 
 found_is : (x : Option Func) (g : Func) → or_fault missing x ≡ Ok g → x ≡ Some g
 found_is None g e = absurd (err-ok e)
@@ -25,7 +26,7 @@ found_is (Some y) g e = ap Some (same_ok y g e)
     same_ok : (y g : Func) → ◌≡◌ {A = Found Func} (Ok y) (Ok g) → y ≡ g
     same_ok y g e = cc
 
--- where it holds of a statement it holds of the parts, and it holds of the body of each function
+-- where it holds of a statement it holds of the parts, and it holds of the body of each function and of its instances
 pub record IsClosed (p : Program) (L : Func → Stmts → Type 0) (F : Func → Form → Type 0) (B : Func → Block → Type 0) (A : Func → Arms → Type 0) : Type 0 where
   pub first_of : (f : Func) (place : ℕ) (form : Form) (rest : Stmts) → L f (next place form rest) → F f form
   pub rest_of : (f : Func) (place : ℕ) (form : Form) (rest : Stmts) → L f (next place form rest) → L f rest
@@ -38,8 +39,7 @@ pub record IsClosed (p : Program) (L : Func → Stmts → Type 0) (F : Func → 
   pub arms_in : (f : Func) (c : ℕ) (vs : List ℕ) (b : Block) (rest : Arms) → A f (arm c vs b rest) → A f rest
   pub focus_in : (f : Func) (y z : ℕ) (b : Block) → F f (focus y z b) → B f b
   pub scope_in : (f : Func) (b : Block) → F f (scope b) → B f b
-  pub body_of : (i : ℕ) (f : Func) → slice_get p.fns i ≡ Some f → L f f.body
-  pub plain : HasNoBounds p
+  pub body_of : (f : Func) → IsOf p f → L f f.body
 
 module _ (r : Setup) (L : Func → Stmts → Type 0) (F : Func → Form → Type 0) (B : Func → Block → Type 0) (A : Func → Arms → Type 0) (k : IsClosed r.program L F B A) where
   abbrev In : Func → List Task → Type 0
@@ -92,7 +92,7 @@ module _ (r : Setup) (L : Func → Stmts → Type 0) (F : Func → Form → Type
   body_holds f target keys g args ts frame w s o =
       if_holds (nat_lt frame.depth r.depth) _ _
       (found_holds (passed_objects r.program g keys frame w.objects g.clause) f ts w _ s (λ ns is.
-      record { func = o; tasks = (k.body_of o.position g o.at, (s.func, s.tasks)) }))
+      record { func = o; tasks = (k.body_of g o, (s.func, s.tasks)) }))
       s
 
   by_holds : (external : Bool) (f : Func) (target : Option ℕ) (keys : List ℕ) (g : Func) (args : List Value) (ts : List Task) (frame : Frame) (w : World) → In f ts → IsOf r.program g → Holds (enter_by external r f target keys g args ts frame w)
@@ -100,22 +100,18 @@ module _ (r : Setup) (L : Func → Stmts → Type 0) (F : Func → Form → Type
   by_holds true f target keys g args ts frame w s o = s
   by_holds false f target keys g args ts frame w s o = body_holds f target keys g args ts frame w s o
 
-  -- a function without a bound entry is its own instance
-  itself : (g : Func) → bound_in g.clause ≡ None → (keys : List ℕ) (frame : Frame) (os : List Object) → called_instance r.program g keys frame os ≡ g
-  itself g none keys frame os = ap (λ q. instance r.program g (option_map (λ b. state_under keys frame os b.key) q)) none
-
   call_holds : (f : Func) (target : Option ℕ) (keys : List ℕ) (g : Func) (args : List Operand) (ts : List Task) (frame : Frame) (w : World) → In f ts → IsOf r.program g → Holds (enter r f target keys g args ts frame w)
   unfolding enter
   call_holds f target keys g args ts frame w s o =
       so_holds (length args == g.params) missing f ts w _ s
       (got_holds (operands_got r.program f args frame w) f ts _ s (λ values frame2 v. spend_holds f ts v _ s (λ u.
-      subst (λ h. Holds (enter_by g.external r f target keys h values ts frame2 u)) (sym (itself g (k.plain o.position g o.at) keys frame2 u.objects))
-      (by_holds g.external f target keys g values ts frame2 u s o))))
+      by_holds g.external f target keys (called_instance r.program g keys frame2 u.objects) values ts frame2 u s
+      (of_instance r.program g (option_map (λ b. state_under keys frame2 u.objects b.key) (bound_in g.clause)) o))))
 
   act_holds : (f : Func) (form : Form) (ts : List Task) (frame : Frame) (w : World) → In f ts → F f form → Holds (act r f form ts frame w)
   act_holds f (simple x) ts frame w s h = s
   act_holds f (call g target keys args) ts frame w s h =
-      found_holds (or_fault missing (slice_get r.program.fns g)) f ts w _ s (λ x is. call_holds f target keys x args ts frame w s (record { position = g; at = found_is (slice_get r.program.fns g) x is }))
+      found_holds (or_fault missing (slice_get r.program.fns g)) f ts w _ s (λ x is. call_holds f target keys x args ts frame w s (of_itself r.program g x (found_is (slice_get r.program.fns g) x is)))
   act_holds f (choose x a b) ts frame w s h =
       found_holds (number_of r.program f x frame w.objects) f ts w _ s (λ z is.
       if_holds (is_true z) _ _ (block_holds f a ts frame w s (k.yes_in f x a b h)) (block_holds f b ts frame w s (k.no_in f x a b h)))
@@ -170,5 +166,5 @@ module _ (r : Setup) (L : Func → Stmts → Type 0) (F : Func → Form → Type
   moved_holds c h = move_holds c.func c.tasks c.step h
 
   -- and it holds where a function begins
-  pub first_holds : (i : ℕ) (f : Func) → slice_get r.program.fns i ≡ Some f → In f (list f.body ∷ [])
-  first_holds i f at = record { func = record { position = i; at = at }; tasks = (k.body_of i f at, tt) }
+  pub first_holds : (f : Func) → IsOf r.program f → In f (list f.body ∷ [])
+  first_holds f of = record { func = of; tasks = (k.body_of f of, tt) }

@@ -1,3 +1,4 @@
+pub mod Likeness
 pub mod Keeping
 pub mod Later
 pub mod Fitting

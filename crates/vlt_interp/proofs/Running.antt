@@ -5,7 +5,7 @@ use Rattle.std.proofs.lemmas.List.{nil_from_length, length-reverse}
 use Rattle.std.proofs.lemmas.Option.{none-some, same_Some}
 use Rattle.vlt_core.specs.View.{program_of}
 use Rattle.vlt_core.specs.Core.{Func, Program}
-use Rattle.vlt_meaning.specs.World.{line_of, World, is_fault}
+use Rattle.vlt_meaning.specs.World.{line_of, World, Frame, is_fault}
 use Rattle.vlt_meaning.specs.Step.{Step, goes, jumps, leaves, ends}
 use Rattle.vlt_meaning.specs.Run.{Setup, ran_of}
 use Rattle.vlt_meaning_laws.specs.Keeping.{world_after}
@@ -26,7 +26,7 @@ use Rattle.vlt_interp.specs.declared.tasks.task.At.TheVariants.{Goes as GoesOn, 
 use Rattle.vlt_interp.specs.declared.tasks.task.Task.{Task}
 use Rattle.vlt_interp.specs.declared.tasks.task.Rules.{Rules}
 use Rattle.vlt_interp.specs.declared.tasks.task.Run.{Run}
-use Rattle.vlt_interp.specs.Tasks.Own.{HasOwn, IsOwn, AreOwn, IsOwnBlock, AreOwnArms}
+use Rattle.vlt_interp.specs.Tasks.Own.{HasOwn, IsOf, IsOwn, AreOwn, IsOwnBlock, AreOwnArms}
 use Rattle.vlt_interp.specs.Tasks.Shown.{setup_of, tasks_left, ShowsStep, ShowsWith, ShowsConf}
 use Rattle.vlt_interp.specs.Tasks.Moves.{Keeps, world_in, GoneOn, CameTo, IsRight}
 use Rattle.vlt_steps.proofs.Writing as writing
@@ -37,6 +37,7 @@ use Rattle.vlt_interp.specs.Running.{IsUnderWay, IsRunning, HasCome, HasHalted, 
 use Rattle.vlt_interp.specs.Calls.Known.{KnowsNext}
 use Rattle.vlt_interp.proofs.Keeping.{IsClosed, moved_holds, first_holds}
 use Rattle.vlt_interp.proofs.Later.{Adds, ending_adds, moved_end, ends_there}
+use Rattle.vlt_interp.proofs.Likeness.{of_all, own_func}
 use Rattle.vlt_interp.proofs.Fitting.{as_many}
 use Rattle.vlt_interp.proofs.Fronts.{not_ended}
 use Rattle.vlt_interp.proofs.Weighing.{size_of, IsSmallList, IsSmall, IsSmallBlock, AreSmallArms, small_closed, tasks_weight, most_left, measure, weighs, moved_falls}
@@ -60,9 +61,14 @@ own_closed p h = record {
   arms_in = λ f c vs b rest k. k.2;
   focus_in = λ f y z b k. k.1;
   scope_in = λ f b k. k;
-  body_of = λ i f at. (h.all i f at).body;
-  plain = h.plain;
+  body_of = λ f of. (own_func p h f of).body;
 }
+
+-- the stack suffices where a function begins
+first_fit : (r : Setup) (f : Func) → IsOf r.program f → (frame : Frame) (w : World) → frame.depth ≡ 1 → 1 ≤ r.depth → Fits r (first_conf f frame w)
+first_fit r f of frame w first deep =
+    of_all r.program (λ f. Fits r (first_conf f frame w)) (λ i f at. first_fits r f i frame w at first deep) f of
+    (λ h. record { reach = h.reach; within = h.within; step = h.step; callers = h.callers })
 
 module _ (r : Setup) (c : Conf) (way : IsUnderWay r c) where
   -- what holds at the start and after each move
@@ -77,17 +83,17 @@ module _ (r : Setup) (c : Conf) (way : IsUnderWay r c) where
   own_there h =
       let k = own_closed r.program h in
       along (IsOwnConf r.program) (moved_holds r (AreOwn r.program) (IsOwn r.program) (IsOwnBlock r.program) (AreOwnArms r.program) k)
-      (first_holds r (AreOwn r.program) (IsOwn r.program) (IsOwnBlock r.program) (AreOwnArms r.program) k way.position way.func way.at)
+      (first_holds r (AreOwn r.program) (IsOwn r.program) (IsOwnBlock r.program) (AreOwnArms r.program) k way.func way.of)
 
   small_there : HasOwn r.program → HoldsIn (IsSmallList (size_of r.program)) (IsSmall (size_of r.program)) r.program c.func c.tasks
   small_there h =
       let n = size_of r.program in
-      let k = small_closed r.program h.plain in
+      let k = small_closed r.program in
       along (λ d. HoldsIn (IsSmallList n) (IsSmall n) r.program d.func d.tasks) (moved_holds r (IsSmallList n) (IsSmall n) (IsSmallBlock n) (AreSmallArms n) k)
-      (first_holds r (IsSmallList n) (IsSmall n) (IsSmallBlock n) (AreSmallArms n) k way.position way.func way.at)
+      (first_holds r (IsSmallList n) (IsSmall n) (IsSmallBlock n) (AreSmallArms n) k way.func way.of)
 
   fits_there : 1 ≤ r.depth → Fits r c
-  fits_there deep = along (Fits r) (λ d h. (suffices r d h).next) (first_fits r way.func way.position way.frame way.world way.at way.first deep)
+  fits_there deep = along (Fits r) (λ d h. (suffices r d h).next) (first_fit r way.func way.of way.frame way.world way.first deep)
 
   knows_there : KnowsNext r.program c
   knows_there = subst (KnowsNext r.program) way.is (way.knows way.count)
@@ -95,8 +101,7 @@ module _ (r : Setup) (c : Conf) (way : IsUnderWay r c) where
   way_on : IsUnderWay r (after_move r c)
   way_on = record {
     func = way.func;
-    position = way.position;
-    at = way.at;
+    of = way.of;
     frame = way.frame;
     first = way.first;
     world = way.world;

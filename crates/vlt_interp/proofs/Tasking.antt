@@ -27,6 +27,8 @@ use Rattle.vlt_interp.specs.Tasks.Sizes.{frame_slots}
 use Rattle.vlt_interp.specs.Tasks.Own.{IsOwn, AreOwn, IsOf}
 use Rattle.vlt_interp.specs.Tasks.Shown.{tasks_left, Runs, ShowsWith, ShowsConf}
 use Rattle.vlt_interp.specs.Tasks.Moves.{world_in, CameTo}
+use Rattle.vlt_acts.proofs.OfFrames.Like.{like_back}
+use Rattle.vlt_interp.proofs.Likeness.{of_like}
 use Rattle.vlt_interp.proofs.OfTasks.Staying.{keeps_all}
 use Rattle.vlt_interp.proofs.OfTasks.Coming.{Came}
 use Rattle.vlt_interp.specs.Going.{setup_in, IsFine, CanDoTask, GoesTask}
@@ -99,7 +101,7 @@ module _ (rules : Rules) (r : Run) (t : Task) (f : Func) (u : m.Task) (us : List
       let all : r.depth * frame_slots p r.values.width ≤ rules.depth * frame_slots p r.values.width = mul-le-mul_right (frame_slots p r.values.width) deeper in
       let one : (r.depth - 1) * frame_slots p r.values.width + frame_slots p r.values.width ≡ r.depth * frame_slots p r.values.width = one_less r.depth (frame_slots p r.values.width) below.some in
       record {
-        func = subst (IsOf p) (sym q.func) fine.own.func;
+        func = of_like p f (func_of r.func.now) fine.own.func (like_back (func_of r.func.now) f q.func);
         tasks = omega (arith, few, many, long);
         values = omega (arith, end, here, wide, below.low, one, all);
       }

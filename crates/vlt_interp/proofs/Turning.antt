@@ -7,7 +7,7 @@ use Rattle.std.proofs.lemmas.Bool.{false≢true}
 use Rattle.vlt_core.specs.declared.program.Stmt.{Stmt}
 use Rattle.vlt_core.specs.declared.program.Expr.{Expr as CodeExpr}
 use Rattle.vlt_core.specs.declared.program.Block.{Block as CodeBlock}
-use Rattle.vlt_core.specs.View.{program_of, stmts_of, form_of, expr_of, block_of}
+use Rattle.vlt_core.specs.View.{func_of, program_of, stmts_of, form_of, expr_of, block_of}
 use Rattle.vlt_core.proofs.Views.{stmt_parts}
 use Rattle.vlt_core.specs.Core.{Expr, loop, Block, next, Func}
 use Rattle.vlt_meaning.specs.World.{Frame, World, fault, no_return}
@@ -19,6 +19,7 @@ use Rattle.vlt_meaning_laws.specs.Machine.Machine.{Conf, at, turn_moves, turn_on
 use Rattle.vlt_acts.specs.declared.frames.waiting.Waiting.{Waiting}
 use Rattle.vlt_steps.specs.Writing.{Outside}
 use Rattle.vlt_steps.specs.declared.stop.Stop.{Stop}
+use Rattle.vlt_acts.proofs.OfFrames.Like.{like_back, moved}
 use Rattle.vlt_interp.specs.declared.tasks.task.At.TheVariants.{Goes as GoesOn, Jumps, Leaves}
 use Rattle.vlt_interp.specs.declared.tasks.task.Task.{Task}
 use Rattle.vlt_interp.specs.declared.tasks.task.Task.TheVariants.{List as Listed, Turn, Back}
@@ -79,7 +80,7 @@ module _ (rules : Rules) (old mid : Run) (ss rest : Bor (List Stmt)) (x : Stmt) 
           tasks = omega (arith, fit.tasks, l, n);
           values = fit.values;
         };
-        own = subst (λ g. IsOwn (program_of rules.program.now) g (form_of x.form)) (sym q.func) fine.own.tasks.0.0;
+        own = moved (λ g. IsOwn (program_of rules.program.now) g (form_of x.form)) f (func_of old.func.now) (like_back (func_of old.func.now) f q.func) fine.own.tasks.0.0;
         func = f;
         tasks = m.list (stmts_of rest.now) ∷ us;
         frame = frame;
@@ -137,7 +138,7 @@ module _ (rules : Rules) (r : Run) (e : Bor CodeExpr) (b : Bor CodeBlock) (can :
         tasks = let n = fit.tasks in omega (arith, n);
         values = fit.values;
       };
-      own = subst (λ g. IsOwn (program_of rules.program.now) g (loop (expr_of e.now) (block_of b.now))) (sym q.func) (own_turn f d body t own);
+      own = moved (λ g. IsOwn (program_of rules.program.now) g (loop (expr_of e.now) (block_of b.now))) f (func_of r.func.now) (like_back (func_of r.func.now) f q.func) (own_turn f d body t own);
       right = record {
         func = f;
         tasks = us;

@@ -3,7 +3,6 @@ use Rattle.std.proofs.Common.{◌≡◌, ◌⊎◌, ⊎_elim, ◌<◌, ◌≤◌
 use Rattle.std.proofs.Math.Nat.{mul-le-mul_right}
 use Rattle.vlt_core.specs.View.{stmts_of}
 use Rattle.vlt_core.specs.Core.{Form, choose, loop, switch, focus, scope, simple, call, return, jump, Block, block, Stmts, done, next, Arms, no_arms, arm, Func, Program}
-use Rattle.vlt_core.specs.Instances.{HasNoBounds}
 use Rattle.vlt_core.specs.Widths.{greatest}
 use Rattle.vlt_heap.specs.Items.{Items}
 use Rattle.vlt_meaning.specs.Run.{Setup}
@@ -17,6 +16,7 @@ use Rattle.vlt_interp.specs.declared.tasks.task.Task.TheVariants.{List as Listed
 use Rattle.vlt_interp.specs.Tasks.Shown.{ShowsTasks}
 use Rattle.vlt_interp.specs.Owned.{HoldOf, HoldsIn}
 use Rattle.vlt_interp.proofs.OfTasks.Sizes.{greatest_at}
+use Rattle.vlt_interp.proofs.Likeness.{of_all}
 use Rattle.vlt_interp.proofs.Keeping.{IsClosed}
 
 -- ---- how large statements are, bodies of loops included
@@ -82,8 +82,8 @@ module _ (n : ℕ) where
   abbrev pub AreSmallArms : Func → Arms → Type 0
   AreSmallArms f arms = arms_size arms ≤ n
 
-pub small_closed : (p : Program) → HasNoBounds p → IsClosed p (IsSmallList (size_of p)) (IsSmall (size_of p)) (IsSmallBlock (size_of p)) (AreSmallArms (size_of p))
-small_closed p plain = record {
+pub small_closed : (p : Program) → IsClosed p (IsSmallList (size_of p)) (IsSmall (size_of p)) (IsSmallBlock (size_of p)) (AreSmallArms (size_of p))
+small_closed p = record {
   first_of = λ f place form rest h. omega (arith, h);
   rest_of = λ f place form rest h. omega (arith, h);
   list_in = λ f ss bound end h. omega (arith, h);
@@ -95,8 +95,7 @@ small_closed p plain = record {
   arms_in = λ f c vs b rest h. omega (arith, h);
   focus_in = λ f y z b h. omega (arith, h);
   scope_in = λ f b h. omega (arith, h);
-  body_of = λ i f at. let k = greatest_at (λ (f : Func). list_size f.body) p.fns i f at in omega (arith, k);
-  plain = plain;
+  body_of = λ f of. of_all p (λ f. list_size f.body ≤ size_of p) (λ i f at. let k = greatest_at (λ (f : Func). list_size f.body) p.fns i f at in omega (arith, k)) f of (λ h. h);
 }
 
 more_by : (a b n : ℕ) → (suc a) * n ≡ n + a * n

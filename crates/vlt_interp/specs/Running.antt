@@ -19,7 +19,7 @@ use Rattle.vlt_interp.specs.declared.tasks.task.Run.{Run}
 use Rattle.vlt_interp.specs.Tasks.Shown.{ShowsStep, ShowsConf}
 use Rattle.vlt_interp.specs.Tasks.Moves.{HasRoom, world_in}
 use Rattle.vlt_interp.specs.Calls.Known.{KnowsNext}
-use Rattle.vlt_interp.specs.Tasks.Own.{HasOwn}
+use Rattle.vlt_interp.specs.Tasks.Own.{HasOwn, IsOf}
 use Rattle.vlt_interp.specs.Going.{setup_in}
 
 -- the world that a run begins with, and the step that it comes to
@@ -29,11 +29,11 @@ start_of r = start r.fuel r.host.input.now (lists_of r.host.answers.now)
 abbrev pub goal_of : Rules → Run → Step
 goal_of rules r = main_run (setup_in rules r) r.fuel (slice_get (program_of rules.program.now).fns (program_of rules.program.now).main) (start_of r)
 
--- it was come to from where a function of the program begins in a frame of depth 1, and all that is come to so knows its next call
+-- It was come to from where a function of the program, or an instance of one, begins in a frame of depth 1, and all that is come
+-- to so knows its next call.
 pub record IsUnderWay (r : Setup) (c : Conf) : Type 0 where
   pub func : Func
-  pub position : ℕ
-  pub at : slice_get r.program.fns position ≡ Some func
+  pub of : IsOf r.program func
   pub frame : Frame
   pub first : frame.depth ≡ 1
   pub world : World

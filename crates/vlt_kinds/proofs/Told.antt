@@ -34,6 +34,10 @@ pub heads_refuse : (ds : List Decl) (f : File) (ts : List TypeDecl) (x : Refusal
 heads_refuse ds f ts x is named made typed refused =
     past_names ds named ∙ past_types ds f is typed ∙ ap (λ o. unless o (Ok (kinds_of ds))) (same_heads ds f ts is made ∙ refused)
 
+-- nor do those on heads
+past_heads : (ds : List Decl) (f : File) (ts : List TypeDecl) → f ≡ file_of ds → ts ≡ core_types f ds → least (heads_refused f ts ds) ≡ None → heads_told ds ≡ Ok (kinds_of ds)
+past_heads ds f ts is made bound = ap (λ o. unless o (Ok (kinds_of ds))) (same_heads ds f ts is made ∙ bound)
+
 pub same_kinds : (ds : List Decl) (f : File) (ts : List TypeDecl) (hs : List Func) → f ≡ file_of ds → ts ≡ core_types f ds → hs ≡ core_heads f ds
     → kinds_of ds ≡ record { file = f; types = ts; heads = hs }
 same_kinds ds f ts hs is made headed =
@@ -45,6 +49,5 @@ pub nothing_refuses : (ds : List Decl) (f : File) (ts : List TypeDecl) (hs : Lis
     → ts ≡ core_types f ds → least (types_refused f ds) ≡ None → hs ≡ core_heads f ds → least (heads_refused f ts ds) ≡ None
     → names_told ds ≡ Ok (record { file = f; types = ts; heads = hs })
 nothing_refuses ds f ts hs is named made typed headed bound =
-    past_names ds named ∙ past_types ds f is typed
-    ∙ ap (λ o. unless o (Ok (kinds_of ds))) (same_heads ds f ts is made ∙ bound)
+    past_names ds named ∙ past_types ds f is typed ∙ past_heads ds f ts is made bound
     ∙ ap Ok (same_kinds ds f ts hs is made headed)

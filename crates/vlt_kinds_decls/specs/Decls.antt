@@ -1,9 +1,11 @@
 -- Phase B, the rules on declared types: what each of them refuses, and where.
 use Rattle.std.specs.Prelude.{ℕ, Bool, true, false, not, ◌&&◌, ◌||◌, ◌==◌, if◌then◌else◌, List, [], ◌∷◌, ◌++◌, map, Option, Some, None, unwrap_or}
-use Rattle.std.specs.List.{position}
+use Rattle.std.specs.List.{list_any, position}
 use Rattle.std.specs.Str.{bytes_eq}
 use Rattle.vlt_syntax.specs.Tree as s
-use Rattle.vlt_syntax.specs.Tree.{Name, States, KeyStates, Ty, HeaderKey, Field, Case, Decl}
+use Rattle.vlt_syntax.specs.Tree.{Name, States, KeyStates, Ty, SetState, HeaderKey, Field, Case, Decl}
+use Rattle.vlt_core.specs.Core.{Link}
+use Rattle.vlt_core.specs.Lookups.{leads_up}
 use Rattle.vlt_kinds_types.specs.declared.names.found.Refusal.{Refusal}
 use Rattle.vlt_core.specs.declared.rules.TheConstants as rule
 use Rattle.vlt_kinds_types.specs.Names.Refusals.{refusal, refuse_if, of_each}
@@ -13,7 +15,7 @@ use Rattle.vlt_kinds_types.specs.declared.shapes.Sort.{Sort}
 use Rattle.vlt_kinds_types.specs.declared.shapes.Sort.TheVariants as sort
 use Rattle.vlt_kinds_types.specs.declared.shapes.Wanted.{Wanted}
 use Rattle.vlt_kinds_types.specs.declared.shapes.Wanted.TheVariants as wanted
-use Rattle.vlt_kinds_types.specs.Files.{File, wanted_in, shape_named, shape_at, state_names}
+use Rattle.vlt_kinds_types.specs.Files.{File, wanted_in, shape_named, shape_at, state_names, links_of}
 use Rattle.vlt_kinds_types.specs.Types.{is_variant, sort_in, shape_in, is_unknown_or_listed, with_listed, states_refused, owned_states_refused, ty_place, ty_refused, KeyUse, ty_uses}
 use Rattle.vlt_kinds_decls.specs.declared.parts.Part.{Part}
 use Rattle.vlt_kinds_decls.specs.declared.parts.Part.TheVariants as part
@@ -116,7 +118,7 @@ next_key_refused file ps seen k =
 abbrev pub case_keys_refused : File → List HeaderKey → List KeyStates → List Refusal
 case_keys_refused file ps = along (with_key ps) (next_key_refused file ps) []
 
--- ---- variants, and the whole phase
+-- ---- variants
 
 unfoldable pub case_refused : File → List HeaderKey → Case → List Refusal
 case_refused file ps c =
@@ -125,7 +127,18 @@ case_refused file ps c =
 unfoldable pub variant_refused : File → List HeaderKey → List Case → List Refusal
 variant_refused file ps cs = of_each (header_refused file) ps ++ of_each (case_refused file ps) cs
 
+-- ---- 45: the order of a state set leads from a state to itself
+
+abbrev pub has_loop : List Link → Bool
+has_loop ls = list_any (λ l. leads_up ls 31 l.upper l.lower) ls
+
+unfoldable pub set_refused : Name → List SetState → List Refusal
+set_refused n ss = refuse_if (has_loop (links_of ss)) rule.ORDER_LOOP n.at.from
+
+-- ---- the whole phase
+
 abbrev pub type_refused : File → Decl → List Refusal
+type_refused file (s.stateset n ss at) = set_refused n ss
 type_refused file (s.struct n ps ss fs r at) = struct_refused file n ps fs r
 type_refused file (s.variant n ps cs at) = variant_refused file ps cs
 type_refused file _ = []

@@ -1,6 +1,6 @@
-//! The rules on declared types.
+//! The rules on declared types and state sets.
 
-ghost use Rattle.std.specs.Prelude.{◌≡◌, map, option_map, OnOk};
+ghost use Rattle.std.specs.Prelude.{◌≡◌, ◌≤◌, map, option_map, length, OnOk};
 ghost use Rattle.vlt_syntax.specs.View as view;
 ghost use Rattle.vlt_syntax.specs.Lists.{Each};
 ghost use Rattle.vlt_syntax.specs.Grammar.{IsDecl, language};
@@ -10,9 +10,28 @@ ghost use Rattle.vlt_kinds_decls.specs.Decls as d;
 
 use crate::cases::check_variant;
 use crate::fields::check_struct;
+use crate::order::has_loop;
 use std::alloc::{AllocError, Global};
-use vlt_kinds_types::{File, LeastRefusal};
-use vlt_syntax::Decl;
+use vlt_core::rules;
+use vlt_kinds_types::{File, LeastRefusal, links_of};
+use vlt_syntax::{Decl, Name, SetState};
+
+#[tactic(auto, unfolding(crate::specs::Decls::set_refused))]
+fn check_set(
+    alloc: Global,
+    name: &Name,
+    states: &[SetState],
+    found: &mut LeastRefusal,
+) -> Result<(), AllocError>
+    requires some { 1 ≤ length states.now }
+    requires few { length states.now ≤ 32 }
+    ensures { OnOk result (found.new.least ≡ least_from found.old.least
+        (d.set_refused (view.name_of name.now) (map view.set_state_of states.now))) }
+{
+    let links = links_of(alloc, states)?;
+    found.add_if(has_loop(links.as_slice()), rules::ORDER_LOOP, name.at.from);
+    Ok(())
+}
 
 fn check_decl(
     alloc: Global,
@@ -25,6 +44,7 @@ fn check_decl(
         (d.type_refused (file_seen file.now) (view.decl_of decl.now))) }
 {
     match decl {
+        Decl::StateSet { name, states, .. } => check_set(alloc, name, states.as_slice(), found),
         Decl::Struct {
             name,
             params,
@@ -65,7 +85,7 @@ fn check_decls(
     Ok(())
 }
 
-/// Refuses what is wrong in the declared types of a file.
+/// Refuses what is wrong in the declared types and state sets of a file.
 #[tactic(auto, using(vlt_kinds_types::proofs::OfNames::Least::each_is), unfolding(crate::specs::Decls::types_refused))]
 pub fn check_types(
     alloc: Global,

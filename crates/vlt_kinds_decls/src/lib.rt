@@ -8,10 +8,12 @@ mod decls;
 mod fields;
 mod header;
 mod made;
+mod order;
 mod parts;
 mod queries;
 
 pub use decls::check_types;
 pub use made::core_types;
+pub use order::has_loop;
 pub use parts::Part;
 pub use queries::{Declared, is_marked, is_plain, lies_within};

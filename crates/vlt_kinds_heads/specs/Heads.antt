@@ -15,6 +15,7 @@ use Rattle.vlt_kinds_types.specs.Files.{File, shape_at}
 use Rattle.vlt_kinds_types.specs.Types.{KeyUse, ty_refused, owned_states_refused}
 use Rattle.vlt_kinds_heads.specs.Places.{result_uses, parameter_uses, clause_in, entry_key, is_fresh, first_states, second_states, HeadName, head_names}
 use Rattle.vlt_kinds_heads.specs.Keys.{Keys, facts_of, behind_entry, behind_parameters, behind_result, behind_use, fresh_typed, places_behind, keys_behind}
+use Rattle.vlt_kinds_heads.specs.Bounds.{variables_refused}
 use Rattle.vlt_kinds_types.specs.Names.Along.{along}
 use Rattle.vlt_kinds_heads.specs.declared.facts.Facts.{Facts}
 use Rattle.vlt_kinds_heads.specs.declared.facts.Typing.{Typing}
@@ -183,7 +184,8 @@ head_refused_by file h rs ps =
     ++ (typings_refused (places_behind rs ps (clause_in h.clause)) rs ps
     ++ (result_refused (keys_behind rs ps (clause_in h.clause)) rs
     ++ (of_each (entry_refused file (keys_behind rs ps (clause_in h.clause))) (clause_in h.clause)
-    ++ main_refused h)))))
+    ++ (variables_refused file.globals (keys_behind rs ps (clause_in h.clause)) h.parameters (clause_in h.clause)
+    ++ main_refused h))))))
 
 -- what the rules on heads refuse in one, the rule on externals aside
 abbrev pub head_refused : File → Head → List Refusal

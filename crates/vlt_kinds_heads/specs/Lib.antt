@@ -1,5 +1,6 @@
 pub mod Places
 pub mod Keys
+pub mod Bounds
 pub mod Heads
 pub mod Externals
 pub mod Phase

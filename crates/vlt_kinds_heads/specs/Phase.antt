@@ -9,8 +9,8 @@ use Rattle.vlt_core.specs.Core as core
 use Rattle.vlt_core.specs.Core.{TypeDecl}
 use Rattle.vlt_kinds_types.specs.declared.names.found.Refusal.{Refusal}
 use Rattle.vlt_kinds_types.specs.Names.Refusals.{of_each}
-use Rattle.vlt_kinds_types.specs.Files.{File, shape_at, state_names}
-use Rattle.vlt_kinds_types.specs.Types.{core_ty, states_listed}
+use Rattle.vlt_kinds_types.specs.Files.{File, shape_at, state_names, number_of}
+use Rattle.vlt_kinds_types.specs.Types.{core_ty, known_states, states_listed}
 use Rattle.vlt_kinds_heads.specs.Places.{clause_in, entry_key, first_states, second_states}
 use Rattle.vlt_kinds_heads.specs.Keys.{Keys, facts_of, keys_of}
 use Rattle.vlt_kinds_heads.specs.Heads.{head_refused}
@@ -64,6 +64,12 @@ core_entry_in keys known (s.changed k before after) = record {
   before = states_named known (Some before);
   after = states_named known (Some after);
 }
+core_entry_in keys known (s.bound k v b) = record {
+  mode = core.up_to (number_of (known_states known) b);
+  key = key_number keys k.text;
+  before = None;
+  after = None;
+}
 core_entry_in keys known (s.taken k at) = record {
   mode = core.taken;
   key = key_number keys k.key.text;
@@ -92,6 +98,12 @@ core_result file keys (s.value t) = Some (core_ty file (key_number keys) t)
 
 abbrev pub core_parameter : File → Keys → Parameter → core.VarDecl
 core_parameter file keys p = record { name = p.name.text; ty = core_ty file (key_number keys) p.ty }
+
+-- the name that stands for the state of a bound entry's object; none where the clause has no such entry
+abbrev pub state_variable : List Entry → List ℕ
+state_variable [] = []
+state_variable (s.bound k v b ∷ es) = v.text
+state_variable (e ∷ es) = state_variable es
 
 -- the function with an empty body; its keys are numbered by their first places, its variables are the parameters
 unfoldable pub core_head : File → (external : Bool) → Head → Keys → core.Func

@@ -21,6 +21,7 @@ clause_in (Some es) = es
 abbrev pub entry_key : Entry → Name
 entry_key (s.held k) = k.key
 entry_key (s.changed k before after) = k
+entry_key (s.bound k v b) = k
 entry_key (s.taken k at) = k.key
 entry_key (s.given k at) = k.key
 entry_key (s.fresh k at) = k.key
@@ -29,10 +30,12 @@ abbrev pub is_fresh : Entry → Bool
 is_fresh (s.fresh k at) = true
 is_fresh _ = false
 
--- the states of an entry before the call, and after it; an entry that changes nothing names one set
+-- the states of an entry before the call, and after it; an entry that changes nothing names one set, and a bound one the state
+-- that bounds it
 abbrev pub first_states : Entry → Option States
 first_states (s.held k) = k.states
 first_states (s.changed k before after) = Some before
+first_states (s.bound k v b) = Some (s.one b)
 first_states (s.taken k at) = k.states
 first_states (s.given k at) = k.states
 first_states (s.fresh k at) = k.states

@@ -1,6 +1,7 @@
 //! The rules on clauses.
 
 ghost use Rattle.std.specs.Prelude.{◌≡◌, ◌&&◌, not, Some, map, option_map, codes, OnOk};
+ghost use Rattle.vlt_syntax.specs.Tree as s;
 ghost use Rattle.vlt_syntax.specs.View as view;
 ghost use Rattle.vlt_kinds_types.specs.Names.Refusals.{least_from, found_each};
 ghost use Rattle.vlt_kinds_types.specs.Seen.{file_seen};
@@ -10,7 +11,7 @@ ghost use Rattle.vlt_kinds_heads.specs.Seen.{keys_seen};
 
 use crate::facts::Facts;
 use crate::keys::HeadKeys;
-use crate::places::{clause_in, entry_key, first_states, is_fresh, second_states};
+use crate::places::{clause_in, entry_key, is_fresh, second_states, states_said};
 use std::alloc::{AllocError, Global};
 use vlt_core::rules;
 use vlt_kinds_types::{File, LeastRefusal};
@@ -75,6 +76,48 @@ fn check_key_states(
     }
 }
 
+/// The same of the state that bounds an entry.
+fn check_key_state(
+    alloc: Global,
+    file: &File<'_>,
+    facts: &Facts,
+    state: &Name,
+    found: &mut LeastRefusal,
+) -> Result<(), AllocError>
+    ensures { OnOk result (found.new.least ≡ least_from found.old.least
+        (h.key_states_refused (file_seen file.now) facts.now facts.now.typing
+        (Some (s.one (view.name_of state.now))))) }
+{
+    match facts.typing {
+        None => {
+            found.add_if(!facts.is_left_open, rules::STATES_UNTYPED, state.at.from);
+            Ok(())
+        }
+        Some(had) => file.check_object_state(alloc, file.shape_at(had.type_id), state, found),
+    }
+}
+
+fn check_first_states(
+    alloc: Global,
+    file: &File<'_>,
+    facts: &Facts,
+    entry: &Entry,
+    found: &mut LeastRefusal,
+) -> Result<(), AllocError>
+    ensures { OnOk result (found.new.least ≡ least_from found.old.least
+        (h.key_states_refused (file_seen file.now) facts.now facts.now.typing
+        (p.first_states (view.entry_of entry.now)))) }
+{
+    match entry {
+        Entry::Held(key) => check_key_states(alloc, file, facts, states_said(key), found),
+        Entry::Changed { before, .. } => check_key_states(alloc, file, facts, Some(before), found),
+        Entry::Bound { state, .. } => check_key_state(alloc, file, facts, state, found),
+        Entry::Taken(key, _) | Entry::Given(key, _) | Entry::Fresh(key, _) => {
+            check_key_states(alloc, file, facts, states_said(key), found)
+        }
+    }
+}
+
 #[tactic(auto, using(vlt_kinds_types::proofs::OfNames::Least::least_of_both), unfolding(crate::specs::Heads::entry_states_refused))]
 fn check_entry_states(
     alloc: Global,
@@ -86,7 +129,7 @@ fn check_entry_states(
     ensures { OnOk result (found.new.least ≡ least_from found.old.least
         (h.entry_states_refused (file_seen file.now) facts.now (view.entry_of entry.now))) }
 {
-    check_key_states(alloc, file, facts, first_states(entry), found)?;
+    check_first_states(alloc, file, facts, entry, found)?;
     check_key_states(alloc, file, facts, second_states(entry), found)?;
     Ok(())
 }

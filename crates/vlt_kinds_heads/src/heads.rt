@@ -14,6 +14,7 @@ ghost use Rattle.vlt_kinds_heads.specs.Phase as q;
 ghost use Rattle.vlt_kinds_heads.specs.Seen.{keys_seen};
 
 use crate::binding::{Names, check_names};
+use crate::bounds::check_variables;
 use crate::clauses::{check_entries, check_main};
 use crate::externals::check_external;
 use crate::keys::HeadKeys;
@@ -160,7 +161,7 @@ struct HeadTables<'a> {
 }
 
 /// Notes the keys of a head. What is wrong in it is refused.
-#[tactic(auto, using(vlt_kinds_types::proofs::OfNames::Least::least_of_both, vlt_kinds_types::proofs::OfNames::Least::each_is), unfolding(crate::specs::Heads::head_refused_by, crate::specs::Keys::keys_behind))]
+#[tactic(auto, using(vlt_kinds_types::proofs::OfNames::Least::least_of_both, vlt_kinds_types::proofs::OfNames::Least::each_is, vlt_kinds_types::proofs::OfNames::Along::along_is), unfolding(crate::specs::Heads::head_refused_by, crate::specs::Keys::keys_behind))]
 fn check_head_by<'a>(
     alloc: Global,
     file: &File<'_>,
@@ -184,6 +185,13 @@ fn check_head_by<'a>(
     tables.keys.note_types(results, parameters, found)?;
     tables.keys.check_result(results, found)?;
     check_entries(alloc, file, &tables.keys, clause, found)?;
+    check_variables(
+        &file.globals,
+        &tables.keys,
+        head.parameters.as_slice(),
+        clause,
+        found,
+    );
     check_main(head, found);
     Ok(())
 }

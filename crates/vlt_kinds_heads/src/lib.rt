@@ -1,9 +1,10 @@
 //! Heads: declarations and core types in, the least refusal of the rules on heads and the heads as core functions out.
-//! Read `specs/Places.antt` first, then `Keys`, `Heads`, `Externals` and `Phase`.
+//! Read `specs/Places.antt` first, then `Keys`, `Bounds`, `Heads`, `Externals` and `Phase`.
 //! Used by: the rules on bodies.
 #![tactic(auto)]
 
 mod binding;
+mod bounds;
 mod clauses;
 mod externals;
 mod facts;

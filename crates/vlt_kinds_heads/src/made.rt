@@ -1,10 +1,12 @@
 //! What heads become.
 
-ghost use Rattle.std.specs.Prelude.{◌≡◌, ◌≤◌, [], map, option_map, length, IfOk};
+ghost use Rattle.std.specs.Prelude.{◌≡◌, ◌≤◌, [], None, map, option_map, length, IfOk};
 ghost use Rattle.vlt_base.specs.States.{has_state};
 ghost use Rattle.vlt_syntax.specs.View as view;
 ghost use Rattle.vlt_core.specs.View as core_view;
 ghost use Rattle.vlt_core.specs.Core as core;
+ghost use Rattle.vlt_kinds_types.specs.Files.{number_of};
+ghost use Rattle.vlt_kinds_types.specs.Types.{known_states};
 ghost use Rattle.vlt_kinds_types.specs.Seen.{file_seen, states_seen};
 ghost use Rattle.vlt_kinds_heads.specs.Phase as q;
 ghost use Rattle.vlt_kinds_heads.specs.Seen.{keys_seen};
@@ -89,6 +91,23 @@ impl HeadKeys<'_> {
         KeyId(number_in(self.find(key.text.as_slice())))
     }
 
+    fn bound_entry(&self, known: &StateNames<'_>, key: &Name, state: &Name) -> Entry
+        ensures { core_view.entry_of result ≡ record {
+          mode = core.up_to (number_of (known_states (states_seen known.now))
+              (view.name_of state.now));
+          key = q.key_number (keys_seen self.now) (view.name_of key.now).text;
+          before = None;
+          after = None;
+        } }
+    {
+        Entry {
+            mode: Mode::Bound(known.number(state).unwrap_or(0)),
+            key: self.key_id(key),
+            before: None,
+            after: None,
+        }
+    }
+
     fn core_entry_in(
         &self,
         alloc: Global,
@@ -120,6 +139,7 @@ impl HeadKeys<'_> {
                     after: Some(after),
                 })
             }
+            vlt_syntax::Entry::Bound { key, state, .. } => Ok(self.bound_entry(known, key, state)),
             vlt_syntax::Entry::Taken(states, _) => {
                 let before = states_named(alloc, known, &states.states)?;
                 Ok(Entry {
@@ -257,7 +277,6 @@ impl HeadKeys<'_> {
             result,
             params,
             clause,
-            state_var: Items::new(alloc),
             keys,
             vars,
             body,

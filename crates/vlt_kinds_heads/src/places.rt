@@ -10,7 +10,7 @@ use crate::names::HeadName;
 use std::alloc::{AllocError, Global};
 use vlt_base::Items;
 use vlt_kinds_types::{File, KeyUse};
-use vlt_syntax::{Entry, Head, Name, Parameter, ResultType, States};
+use vlt_syntax::{Entry, Head, KeyStates, Name, Parameter, ResultType, States};
 
 /// The keys in a result's type, in the order of the text.
 pub fn result_uses<'a>(
@@ -61,7 +61,7 @@ pub fn entry_key(entry: &Entry) -> &Name
 {
     match entry {
         Entry::Held(states) => &states.key,
-        Entry::Changed { key, .. } => key,
+        Entry::Changed { key, .. } | Entry::Bound { key, .. } => key,
         Entry::Taken(states, _) | Entry::Given(states, _) | Entry::Fresh(states, _) => &states.key,
     }
 }
@@ -73,18 +73,12 @@ pub fn is_fresh(entry: &Entry) -> bool
     matches!(entry, Entry::Fresh(..))
 }
 
-/// The states before the call; of an entry that changes nothing those that it names.
-pub fn first_states(entry: &Entry) -> Option<&States>
+/// The states that are said of a key, if any are.
+pub fn states_said(key: &KeyStates) -> Option<&States>
     ensures { option_map (λ ss. view.states_of ss.now) result
-        ≡ p.first_states (view.entry_of entry.now) }
+        ≡ (view.key_states_of key.now).states }
 {
-    match entry {
-        Entry::Held(states) => states.states.as_ref(),
-        Entry::Changed { before, .. } => Some(before),
-        Entry::Taken(states, _) | Entry::Given(states, _) | Entry::Fresh(states, _) => states
-            .states
-            .as_ref(),
-    }
+    key.states.as_ref()
 }
 
 /// The states after the call, of an entry that changes them.

@@ -1,1 +1,2 @@
 pub mod OfNames
+pub mod Sets

@@ -1,11 +1,11 @@
 -- What a file declares: its names, the states of its sets, and what the name of each type stands for.
-use Rattle.std.specs.Prelude.{ℕ, Bool, true, false, not, ◌||◌, if◌then◌else◌, List, [], ◌∷◌, ◌++◌, length, map, Option, Some, None, slice_get, option_and_then}
+use Rattle.std.specs.Prelude.{ℕ, Bool, true, false, not, ◌||◌, if◌then◌else◌, List, [], ◌∷◌, ◌++◌, length, map, Option, Some, None, slice_get, option_and_then, unwrap_or}
 use Rattle.std.specs.Option.{option_map}
 use Rattle.std.specs.List.{list_any, position}
 use Rattle.std.specs.Str.{bytes_eq}
 use Rattle.vlt_syntax.specs.Tree as s
-use Rattle.vlt_syntax.specs.Tree.{Name, Ty, HeaderKey, Case, Decl}
-use Rattle.vlt_core.specs.Core.{States, SetDecl}
+use Rattle.vlt_syntax.specs.Tree.{Name, Ty, SetState, HeaderKey, Case, Decl}
+use Rattle.vlt_core.specs.Core.{States, Link, SetDecl}
 use Rattle.vlt_kinds_types.specs.Names.Refusals.{of_each}
 use Rattle.vlt_kinds_types.specs.Names.Globals.{Globals, global_in, globals_of}
 use Rattle.vlt_kinds_types.specs.declared.names.globals.Entity.{Entity}
@@ -96,14 +96,46 @@ shapes_in known (s.variant n ps cs at) =
     record { sort = sort_of_cases known cs; header = header_in known ps; set = None } ∷ []
 shapes_in known _ = []
 
--- ---- the file
+-- ---- the states of a set
 
-abbrev pub texts : List Name → List (List ℕ)
-texts = map (λ n. n.text)
+-- the number of a state among these
+abbrev pub state_number : List (List ℕ) → Name → Option ℕ
+state_number known n = position (bytes_eq n.text) known
+
+-- Each state has its name once, at its first place.
+abbrev pub with_text : List (List ℕ) → List ℕ → List (List ℕ)
+with_text known t = if list_any (bytes_eq t) known then known else known ++ t ∷ []
+
+abbrev pub texts_behind : (known : List (List ℕ)) → List SetState → List (List ℕ)
+texts_behind known [] = known
+texts_behind known (x ∷ xs) = texts_behind (with_text known x.name.text) xs
+
+abbrev pub state_texts : List SetState → List (List ℕ)
+state_texts = texts_behind []
+
+-- the number of a state that is one of these
+abbrev pub number_of : List (List ℕ) → Name → ℕ
+number_of known n = unwrap_or (state_number known n) 0
+
+abbrev pub links_to : (lower upper : ℕ) → (above : Bool) → List Link
+links_to lower upper true = record { lower = lower; upper = upper } ∷ []
+links_to lower upper false = []
+
+-- the links to these states, each from the state before it
+abbrev pub links_behind : (known : List (List ℕ)) → (lower : ℕ) → List SetState → List Link
+links_behind known lower [] = []
+links_behind known lower (x ∷ xs) =
+    links_to lower (number_of known x.name) x.above ++ links_behind known (number_of known x.name) xs
+
+-- the links of a set as written; none leads to its first state
+abbrev pub links_of : List SetState → List Link
+links_of xs = links_behind (state_texts xs) 0 xs
+
+-- ---- the file
 
 -- the set that is declared here, if it is one
 abbrev pub sets_in : Decl → List SetDecl
-sets_in (s.stateset n ss at) = record { name = n.text; states = texts ss; links = [] } ∷ []
+sets_in (s.stateset n ss at) = record { name = n.text; states = state_texts ss; links = links_of ss } ∷ []
 sets_in _ = []
 
 -- Sets and types are numbered in the order of their declarations.
@@ -139,7 +171,3 @@ states_in (Some d) = Some d.states
 unfoldable pub state_names : File → Option Shape → Option (List (List ℕ))
 state_names file None = None
 state_names file (Some shape) = then_with shape.set (λ i. states_in (slice_get file.sets i))
-
--- the number of a state among these
-abbrev pub state_number : List (List ℕ) → Name → Option ℕ
-state_number known n = position (bytes_eq n.text) known

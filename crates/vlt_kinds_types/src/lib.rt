@@ -23,6 +23,6 @@ pub use names::{
 };
 pub use shapes::{Shape, Sort, Wanted, header_in, set_in, wanted_in};
 pub use states::StateNames;
-pub use tables::file_of;
+pub use tables::{file_of, links_of};
 pub use types::{sort_in, ty_place};
 pub use uses::KeyUse;

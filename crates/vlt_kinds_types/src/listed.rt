@@ -2,6 +2,7 @@
 
 ghost use Rattle.std.specs.Prelude.{◌≡◌, ◌<◌, ◌≤◌, ℕ, length, [], ◌∷◌, Some, map, option_map, All, IfSome, IfOk, OnOk};
 ghost use Rattle.vlt_base.specs.States.{has_state};
+ghost use Rattle.vlt_syntax.specs.Tree as s;
 ghost use Rattle.vlt_syntax.specs.View as view;
 ghost use Rattle.vlt_kinds_types.specs.Names.Refusals.{least_from};
 ghost use Rattle.vlt_kinds_types.specs.Files as f;
@@ -41,7 +42,8 @@ impl File<'_> {
     }
 }
 
-fn position_of(names: &[Items<u8>], name: &Name) -> Option<u8>
+/// The position of the name among these.
+pub fn position_of(names: &[Items<u8>], name: &Name) -> Option<u8>
     requires { length names.now ≤ 32 }
     ensures number { result ≡ f.state_number (map (λ n. n) names.now) (view.name_of name.now) }
     ensures small { IfSome result (λ i. i < 32) }
@@ -145,6 +147,20 @@ pub fn check_some_states(
         (t.states_refused (states_seen known.now) (Some (view.states_of states.now)))) }
 {
     check_listed(alloc, known, names_in_states(states), found)
+}
+
+/// The same of one state.
+#[tactic(auto, unfolding(crate::specs::Types::states_refused))]
+pub fn check_state(
+    alloc: Global,
+    known: &StateNames<'_>,
+    state: &Name,
+    found: &mut LeastRefusal,
+) -> Result<(), AllocError>
+    ensures { OnOk result (found.new.least ≡ least_from found.old.least
+        (t.states_refused (states_seen known.now) (Some (s.one (view.name_of state.now))))) }
+{
+    check_listed(alloc, known, std::slice::from_ref(state), found)
 }
 
 /// The same of states that may be left out.

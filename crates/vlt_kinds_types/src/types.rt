@@ -1,6 +1,7 @@
 //! What is refused in a type where it stands.
 
 ghost use Rattle.std.specs.Prelude.{◌≡◌, Some, map, option_map, length, OnOk};
+ghost use Rattle.vlt_syntax.specs.Tree as s;
 ghost use Rattle.vlt_syntax.specs.View as view;
 ghost use Rattle.vlt_kinds_types.specs.Names.Refusals.{least_from};
 ghost use Rattle.vlt_kinds_types.specs.Types as t;
@@ -12,7 +13,7 @@ use crate::listed;
 use crate::names::{LeastRefusal, rules};
 use crate::shapes::{Shape, Sort};
 use std::alloc::{AllocError, Global};
-use vlt_syntax::{Named, States, Ty};
+use vlt_syntax::{Name, Named, States, Ty};
 
 impl Sort {
     /// Whether it is that of a variant.
@@ -176,6 +177,26 @@ impl File<'_> {
         if has_states(sort_in(shape)) {
             let known = self.state_names(shape);
             listed::check_some_states(alloc, &known, states, found)?;
+        }
+        Ok(())
+    }
+
+    /// The same of one state.
+    #[tactic(auto, unfolding(crate::specs::Types::owned_states_refused))]
+    pub fn check_object_state(
+        &self,
+        alloc: Global,
+        shape: Option<&Shape>,
+        state: &Name,
+        found: &mut LeastRefusal,
+    ) -> Result<(), AllocError>
+        ensures { OnOk result (found.new.least
+            ≡ least_from found.old.least (t.owned_states_refused (file_seen self.now)
+            (option_map (λ s. s.now) shape.entry) (Some (s.one (view.name_of state.now))))) }
+    {
+        if has_states(sort_in(shape)) {
+            let known = self.state_names(shape);
+            listed::check_state(alloc, &known, state, found)?;
         }
         Ok(())
     }

@@ -1,7 +1,7 @@
 -- A declaration that isn't refused in a view isn't refused in the joined program.
 use Rattle.std.proofs.Common.{◌≡◌, ℕ, Bool, true, false, if◌then◌else◌, List, [], ◌∷◌, filter, Some, slice_get, refl, ap, ◌∙◌}
 use Rattle.vlt_syntax.specs.Tree as s
-use Rattle.vlt_syntax.specs.Tree.{Name, HeaderKey, Head, Decl}
+use Rattle.vlt_syntax.specs.Tree.{Name, HeaderKey, Decl}
 use Rattle.vlt_core.specs.Core.{Func}
 use Rattle.vlt_core.specs.declared.rules.TheConstants as rule
 use Rattle.vlt_core_moves.specs.Moves.{Moves, moved_func}
@@ -64,7 +64,7 @@ module _ (m : Moves) (a b : Kinds) (sees : Sees m a b) where
   OwnStates d = Unit {0}
 
   pub typed_fine : (d : Decl) → OwnStates d → type_refused a.file d ≡ [] → type_refused b.file d ≡ []
-  typed_fine (s.stateset n ss at) own none = refl
+  typed_fine (s.stateset n ss at) own none = none
   typed_fine (s.abstract n ss at) own none = refl
   typed_fine (s.struct n ps ss fs r at) own none = struct_fine m a b sees n ps fs r own none
   typed_fine (s.variant n ps cs at) own none = variant_fine m a b sees ps cs none
@@ -77,8 +77,9 @@ module _ (m : Moves) (a b : Kinds) (sees : Sees m a b) where
   headed_fine (s.abstract n ss at) free hosted none = refl
   headed_fine (s.struct n ps ss fs r at) free hosted none = refl
   headed_fine (s.variant n ps cs at) free hosted none = refl
-  headed_fine (s.extern h at) free hosted none = none_of_both _ _ (head_fine m a b sees h free (no_left (head_refused a.file h) _ none)) hosted
-  headed_fine (s.function h x at) free hosted none = head_fine m a b sees h free.0 none
+  headed_fine (s.extern h at) free hosted none =
+      none_of_both _ _ (head_fine m a b sees h free.0 free.1 (no_left (head_refused a.file h) _ none)) hosted
+  headed_fine (s.function h x at) free hosted none = head_fine m a b sees h free.0.0 free.0.1 none
 
   pub becomes_moves : (fs : List Func) (d : Decl) → IsFreeDecl a b d → heads_refused_in a.file a.types d ≡ [] → Becomes a (IsOf a fs) d → Becomes b (ComesFrom m fs) d
   becomes_moves fs (s.stateset n ss at) free none x = tt

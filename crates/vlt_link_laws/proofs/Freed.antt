@@ -5,38 +5,42 @@ use Rattle.std.proofs.lemmas.Slice.Eq.{bytes_eq-Decides}
 use Rattle.std.specs.List.{list_any, flat_map}
 use Rattle.std.specs.Str.{bytes_eq}
 use Rattle.vlt_syntax.specs.Tree as s
-use Rattle.vlt_syntax.specs.Tree.{Name, Named, Ty, Stmt, Block, If, Else, Stmts, Arms, HeaderKey, Entry, ResultType, Parameter, Head, Decl}
+use Rattle.vlt_syntax.specs.Tree.{Name, Ty, Stmt, Block, If, Else, Stmts, Arms, HeaderKey, Entry, ResultType, Parameter, Head, Decl}
 use Rattle.vlt_syntax.specs.Lists.{Each}
 use Rattle.vlt_syntax.specs.Grammar.{Bounds, IsSomeArm, IsStmt, IsBlock, IsIf, IsElse, AreStmts, AreArms, IsDecl}
 use Rattle.vlt_core.specs.Core.{TypeDecl}
 use Rattle.vlt_core.specs.declared.rules.TheConstants as rule
 use Rattle.vlt_kinds_types.specs.Names.Globals.{Globals, is_global, globals_of, decl_name, Counts, global_of, counts_after, no_counts}
 use Rattle.vlt_kinds_types.specs.Names.Names as nam
-use Rattle.vlt_kinds_types.specs.Names.Refusals.{refuse}
+use Rattle.vlt_kinds_types.specs.Names.Refusals.{refuse, of_each}
 use Rattle.vlt_kinds_types.specs.Names.Along.{along}
 use Rattle.vlt_kinds_types.specs.Files.{File, shape_named}
 use Rattle.vlt_kinds_types.specs.declared.shapes.Shape.{Shape}
 use Rattle.vlt_kinds_types.specs.declared.shapes.Wanted.{Wanted}
 use Rattle.vlt_kinds_types.specs.declared.shapes.Wanted.TheVariants as wanted
 use Rattle.vlt_kinds_types.specs.Types.{KeyUse, key_use, argument_uses, header_uses, named_uses, ty_uses}
-use Rattle.vlt_kinds_heads.specs.Places.{HeadName, used_name, entry_name, parameter_name, parameter_names, head_names, clause_in, result_uses}
-use Rattle.vlt_kinds_heads.specs.Heads.{Seen, is_repeated, with_name, name_refused, names_refused, types_refused, head_refused_by, head_refused}
+use Rattle.vlt_kinds_heads.specs.Places.{HeadName, used_name, entry_name, parameter_name, parameter_names, head_names, clause_in, result_uses, parameter_uses}
+use Rattle.vlt_kinds_heads.specs.Keys.{Keys, places_behind, keys_behind}
+use Rattle.vlt_kinds_heads.specs.Bounds.{is_key, is_parameter, is_taken, variable_refused, behind_bound, variables_refused}
+use Rattle.vlt_kinds_heads.specs.Heads.{Seen, is_repeated, with_name, name_refused, names_refused, types_refused, clause_again, typings_refused, result_refused, entry_refused, head_refused_by, head_refused}
 use Rattle.vlt_kinds_heads.specs.Phase.{extern_refused, heads_refused_in}
 use Rattle.vlt_kinds.specs.Kinds.{Kinds}
 use Rattle.vlt_kinds.specs.Tables.{kinds_of}
 use Rattle.vlt_resolve.specs.Elaboration.{stmts_in}
 use Rattle.vlt_iface.specs.View.{others, view_decls}
 use Rattle.vlt_iface.specs.Rules.{body_refused}
-use Rattle.vlt_iface.specs.Clash.{keys_in, bound_names, block_bound, if_bound, else_bound, stmts_bound, arms_bound, entry_key, result_keys, clause_keys, head_bound, decl_bound}
+use Rattle.vlt_iface.specs.Clash.{keys_in, bound_names, block_bound, if_bound, else_bound, stmts_bound, arms_bound, entry_key, entry_variables, result_keys, clause_names, head_bound, decl_bound}
 use Rattle.vlt_iface.proofs.Raising.{texts}
 use Rattle.vlt_resolve_moves.specs.Sees.{IsFree, AreFree}
 use Rattle.vlt_resolve_moves.specs.Apt.{HasArm, IsApt, IsAptBlock, IsAptIf, IsAptElse, IsAptStmts, IsAptArms}
 use Rattle.vlt_resolve_moves.proofs.Empty.{cons_not_nil, no_left, no_right, not_broken}
 use Rattle.vlt_resolve_moves.proofs.Names.{first_in, named}
 use Rattle.vlt_resolve_moves.proofs.Rights.{free_left, free_right}
-use Rattle.vlt_link_laws.proofs.Parts.{IsFreeHead, IsFreeDecl}
+use Rattle.vlt_resolve_moves.proofs.HeadRules.{IsFreeHead, IsFreeVariable}
+use Rattle.vlt_link_laws.proofs.Parts.{AreFreeNames, IsFreeDecl}
 use Rattle.vlt_link_laws.proofs.Viewing.{further, others_both}
 use Rattle.vlt_link_laws.proofs.Again.{Text, Other, name_texts, view_texts}
+use Rattle.vlt_link_laws.proofs.Placed.{each_join}
 
 -- ---- names of a list of declarations
 
@@ -148,6 +152,24 @@ header_texts (Some x) ks = by (length x.header == length ks) refl
     by true e = argument_texts x.header ks (eqb-true (length x.header) (length ks) e)
     by false e = unknown_texts ks
 
+-- those of keys and parameters, and the state variables of its clause
+abbrev head_keys : Head → List Name
+head_keys h = result_keys h.result_type ++ (flat_map (λ p. keys_in p.ty ++ p.name ∷ []) h.parameters ++ map entry_key (clause_in h.clause))
+
+abbrev variables : Head → List Name
+variables h = flat_map entry_variables (clause_in h.clause)
+
+clause_both : (c : Option (List Entry)) → clause_names c ≡ map entry_key (clause_in c) ++ flat_map entry_variables (clause_in c)
+clause_both None = refl
+clause_both (Some es) = refl
+
+head_both : (h : Head) → head_bound h ≡ head_keys h ++ variables h
+head_both h =
+    let ps = flat_map (λ p. keys_in p.ty ++ p.name ∷ []) h.parameters in
+    let ks = map entry_key (clause_in h.clause) in
+    ap (λ ns. result_keys h.result_type ++ (ps ++ ns)) (clause_both h.clause) ∙
+    (ap (λ ns. result_keys h.result_type ++ ns) (sym (further ps ks (variables h))) ∙ sym (further (result_keys h.result_type) (ps ++ ks) (variables h)))
+
 module _ (file : File) where
   ty_texts : (t : Ty) → map (λ u. u.key) (ty_uses file t) ≡ texts (keys_in t)
   unfolding named_uses
@@ -178,22 +200,19 @@ module _ (file : File) where
       by : (e : Entry) → (entry_name e).text ≡ (entry_key e).text
       by (s.held k) = refl
       by (s.changed k before after) = refl
+      by (s.bound k v b) = refl
       by (s.taken k at) = refl
       by (s.given k at) = refl
       by (s.fresh k at) = refl
 
-  clause_texts : (c : Option (List Entry)) → map (λ n. n.text) (map entry_name (clause_in c)) ≡ texts (clause_keys c)
-  clause_texts None = refl
-  clause_texts (Some es) = entry_texts es
-
-  head_texts : (h : Head) → map (λ n. n.text) (head_names file h) ≡ texts (head_bound h)
+  head_texts : (h : Head) → map (λ n. n.text) (head_names file h) ≡ texts (head_keys h)
   unfolding head_names
   head_texts h =
       map-append (λ n. n.text) (map used_name (result_uses file h.result_type)) (parameter_names file h.parameters ++ map entry_name (clause_in h.clause)) ∙
       (ap₂ (λ x y. x ++ y) (used_texts (result_uses file h.result_type) ∙ result_texts h.result_type)
       (map-append (λ n. n.text) (parameter_names file h.parameters) (map entry_name (clause_in h.clause)) ∙
-      (ap₂ (λ x y. x ++ y) (parameter_texts h.parameters) (clause_texts h.clause) ∙
-      sym (map-append (λ n. n.text) (flat_map (λ p. keys_in p.ty ++ p.name ∷ []) h.parameters) (clause_keys h.clause)))) ∙
+      (ap₂ (λ x y. x ++ y) (parameter_texts h.parameters) (entry_texts (clause_in h.clause)) ∙
+      sym (map-append (λ n. n.text) (flat_map (λ p. keys_in p.ty ++ p.name ∷ []) h.parameters) (map entry_key (clause_in h.clause))))) ∙
       sym (map-append (λ n. n.text) (result_keys h.result_type) _))
 
 -- ---- facts of texts are facts of names
@@ -260,9 +279,27 @@ module _ (a b : Kinds) (bounds : Bounds) where
   apt_body : (x : Block) → IsBlock bounds bounds.depth x → AreFree a b (block_bound x) → IsAptStmts a b (stmts_in x)
   apt_body (s.braced ss at) h free = apt_stmts (bounds.depth - 1) ss h.1 free
 
-  free_head : (h : Head) → AreFree a b (head_bound h) → IsFreeHead a b (head_names a.file h)
+  free_keys : (h : Head) → AreFree a b (head_keys h) → IsFreeHead a b (head_names a.file h)
+  free_keys h free =
+      of_texts (λ n. n.text) (IsFree a b) (head_names a.file h) (subst (Each (IsFree a b)) (sym (head_texts a.file h)) (to_texts (λ n. n.text) (IsFree a b) (head_keys h) free))
+
+  free_variables : (es : List Entry) → AreFree a b (flat_map entry_variables es) → Each (IsFreeVariable a b) es
+  free_variables [] free = tt
+  free_variables (e ∷ es) free =
+      (by e (free_left a b (entry_variables e) (flat_map entry_variables es) free), free_variables es (free_right a b (entry_variables e) (flat_map entry_variables es) free))
+    where
+      by : (e : Entry) → AreFree a b (entry_variables e) → IsFreeVariable a b e
+      by (s.held k) free = tt
+      by (s.changed k before after) free = tt
+      by (s.bound k v state) free = free.0
+      by (s.taken k at) free = tt
+      by (s.given k at) free = tt
+      by (s.fresh k at) free = tt
+
+  free_head : (h : Head) → AreFree a b (head_bound h) → AreFreeNames a b h
   free_head h free =
-      of_texts (λ n. n.text) (IsFree a b) (head_names a.file h) (subst (Each (IsFree a b)) (sym (head_texts a.file h)) (to_texts (λ n. n.text) (IsFree a b) (head_bound h) free))
+      let all = subst (AreFree a b) (head_both h) free in
+      (free_keys h (free_left a b (head_keys h) (variables h) all), free_variables (clause_in h.clause) (free_right a b (head_keys h) (variables h) all))
 
   free_names : (d : Decl) → IsDecl bounds d → AreFree a b (decl_bound d) → IsFreeDecl a b d
   free_names (s.stateset n ss at) is free = tt
@@ -303,12 +340,45 @@ names_unknown known seen (n ∷ ns) none = (
   names_unknown known (with_name seen n) ns (no_right (name_refused known seen n) _ none),
 )
 
+variables_unknown : (known : Globals) (ks : Keys) (ps : List Parameter) (again : Bool) (es : List Entry) → along behind_bound (variable_refused known ks ps) again es ≡ [] →
+    Each (λ n. Unknown known n.text) (flat_map entry_variables es)
+unfolding is_taken
+variables_unknown known ks ps again [] none = tt
+variables_unknown known ks ps again (e ∷ es) none =
+    each_join (λ n. Unknown known n.text) (entry_variables e) (flat_map entry_variables es)
+    (by e (no_left (variable_refused known ks ps again e) _ none))
+    (variables_unknown known ks ps (behind_bound again e) es (no_right (variable_refused known ks ps again e) _ none))
+  where
+    by : (e : Entry) → variable_refused known ks ps again e ≡ [] → Each (λ n. Unknown known n.text) (entry_variables e)
+    by (s.held k) none = tt
+    by (s.changed k before after) none = tt
+    by (s.bound k v state) none =
+        let other = is_key ks v.text || is_parameter ps v.text in
+        let off = not_broken (again || (is_global known v.text || other)) rule.SECOND_BOUND v.at.from none in
+        ((or_off (is_global known v.text) other (or_off again (is_global known v.text || other) off).1).0, tt)
+    by (s.taken k at) none = tt
+    by (s.given k at) none = tt
+    by (s.fresh k at) none = tt
+
 head_unknown : (file : File) (h : Head) → head_refused file h ≡ [] → Each (Unknown file.globals) (texts (head_bound h))
 unfolding head_refused_by
 head_unknown file h none =
-    subst (Each (Unknown file.globals)) (head_texts file h)
-    (to_texts (λ n. n.text) (Unknown file.globals) (head_names file h)
-    (names_unknown file.globals [] (head_names file h) (no_left (names_refused file.globals (head_names file h)) _ (no_right (types_refused file h) _ none))))
+    let rs = result_uses file h.result_type in
+    let ps = parameter_uses file h.parameters in
+    let es = clause_in h.clause in
+    let ks = keys_behind rs ps es in
+    let one = no_right (types_refused file h) _ none in
+    let two = no_right (names_refused file.globals (head_names file h)) _ one in
+    let three = no_right (clause_again rs ps es) _ two in
+    let four = no_right (typings_refused (places_behind rs ps es) rs ps) _ three in
+    let five = no_right (result_refused ks rs) _ four in
+    let six = no_right (of_each (entry_refused file ks) es) _ five in
+    subst (λ ns. Each (Unknown file.globals) (texts ns)) (sym (head_both h))
+    (to_texts (λ n. n.text) (Unknown file.globals) (head_keys h ++ variables h)
+    (each_join (λ n. Unknown file.globals n.text) (head_keys h) (variables h)
+    (of_texts (λ n. n.text) (Unknown file.globals) (head_keys h) (subst (Each (Unknown file.globals)) (head_texts file h)
+    (to_texts (λ n. n.text) (Unknown file.globals) (head_names file h) (names_unknown file.globals [] (head_names file h) (no_left (names_refused file.globals (head_names file h)) _ one)))))
+    (variables_unknown file.globals ks h.parameters false es (no_left (variables_refused file.globals ks h.parameters es) _ six))))
 
 pub unknown : (file : File) (types : List TypeDecl) (d : Decl) → body_refused d ≡ [] → nam.decl_refused file.globals d ≡ [] → heads_refused_in file types d ≡ [] →
     Each (Unknown file.globals) (texts (decl_bound d))

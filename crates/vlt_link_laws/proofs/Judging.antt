@@ -18,7 +18,7 @@ use Rattle.vlt_resolve_laws.proofs.Said.{program_says}
 use Rattle.vlt_resolve_laws.proofs.Few as variables
 use Rattle.vlt_resolve_laws.proofs.FewKeys as keys
 use Rattle.vlt_resolve_laws.proofs.FewFunctions.{few_heads, as_many}
-use Rattle.vlt_resolve_laws.proofs.Whole.{unbound, Facts, AreFine, kinded_but_main}
+use Rattle.vlt_resolve_laws.proofs.Whole.{Facts, AreFine, kinded_but_main}
 use Rattle.vlt_sound.specs.Sizes.{HasSizes}
 use Rattle.vlt_verdict.specs.FitLaws.Fit.{HasFewParts, IsJudgeable, IsTextTree}
 use Rattle.vlt_verdict.proofs.OfFitLaws.Sets.{has_sizes}
@@ -65,7 +65,6 @@ module _ (i m : Tree) (text_i : IsTextTree i) (text_m : IsTextTree m) (with_main
     kinded = kinded_but_main (kinds_of decls) q known;
     states = filled;
     arms = λ g f at. let x = made_at (kinds_of decls) (kinds_of decls).heads q.fns known.functions.made g f at in func_arms (kinds_of decls) x.head x.body f x.made;
-    plain = unbound (kinds_of decls) q known;
   }
 
   sizes : HasSizes q

@@ -1,7 +1,7 @@
 -- Two views of an interface, beside the declarations of both modules as one.
 use Rattle.std.specs.Prelude.{◌≡◌, ◌⊎◌, ℕ, true, List, [], ◌∷◌, Some, None, slice_get, Ok}
 use Rattle.vlt_syntax.specs.Tree as s
-use Rattle.vlt_syntax.specs.Tree.{Name, Named, Ty, ResultType, Decl}
+use Rattle.vlt_syntax.specs.Tree.{Name, Named, Ty, ResultType, Head, Decl}
 use Rattle.vlt_syntax.specs.Lists.{Each}
 use Rattle.vlt_core.specs.Core as core
 use Rattle.vlt_core.specs.Core.{Func, Program}
@@ -16,28 +16,29 @@ use Rattle.vlt_kinds_types.specs.Files.{file_of, shape_named}
 use Rattle.vlt_kinds_types.specs.Types.{sort_in}
 use Rattle.vlt_kinds_decls.specs.Decls.{type_refused}
 use Rattle.vlt_kinds_heads.specs.Keys.{keys_of}
-use Rattle.vlt_kinds_heads.specs.Places.{HeadName, head_names}
+use Rattle.vlt_kinds_heads.specs.Places.{clause_in, head_names}
 use Rattle.vlt_kinds_heads.specs.Externals.{cases_named, external_refused}
 use Rattle.vlt_kinds_heads.specs.Phase.{heads_refused_in}
 use Rattle.vlt_kinds.specs.Kinds.{Kinds}
 use Rattle.vlt_kinds.specs.Tables.{kinds_of, kinds_told}
 use Rattle.vlt_resolve.specs.Elaboration.{stmts_in, walk_decls, elaborated}
 use Rattle.vlt_resolve_moves.specs.Joins.{Join, Joins, befores, afters, moves_of}
-use Rattle.vlt_resolve_moves.specs.Sees.{IsFree, AreFree}
+use Rattle.vlt_resolve_moves.specs.Sees.{AreFree}
 use Rattle.vlt_resolve_moves.specs.Apt.{IsAptStmts}
 use Rattle.vlt_resolve_moves.proofs.Names.{AreJoined}
+use Rattle.vlt_resolve_moves.proofs.HeadRules.{IsFreeHead, IsFreeVariable}
 use Rattle.vlt_link_laws.proofs.Fits.{Fits}
 
--- the names of a head are free
-abbrev pub IsFreeHead : (a b : Kinds) → List HeadName → Type 0
-IsFreeHead a b = Each (λ n. IsFree a b n.text)
+-- the names that a head binds are free, and so are the state variables of its clause
+abbrev pub AreFreeNames : (a b : Kinds) → Head → Type 0
+AreFreeNames a b h = IsFreeHead a b (head_names a.file h) × Each (IsFreeVariable a b) (clause_in h.clause)
 
 -- the names that a declaration binds are free, of which the first file reads those of the head
 abbrev pub IsFreeDecl : (a b : Kinds) → Decl → Type 0
 IsFreeDecl a b (s.struct n ps ss fs r at) = AreFree a b (nam.header_keys ps)
 IsFreeDecl a b (s.variant n ps cs at) = AreFree a b (nam.header_keys ps)
-IsFreeDecl a b (s.extern h at) = IsFreeHead a b (head_names a.file h)
-IsFreeDecl a b (s.function h x at) = IsFreeHead a b (head_names a.file h) × IsAptStmts a b (stmts_in x)
+IsFreeDecl a b (s.extern h at) = AreFreeNames a b h
+IsFreeDecl a b (s.function h x at) = AreFreeNames a b h × IsAptStmts a b (stmts_in x)
 IsFreeDecl a b d = Unit {0}
 
 -- the rule on heads of externals

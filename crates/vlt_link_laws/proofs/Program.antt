@@ -55,7 +55,8 @@ has_main js fits none =
 told : (es : List Decl) → nam.names_refused es ≡ [] → decls.types_refused (file_of es) es ≡ [] → heads_refused (file_of es) (kinds_of es).types es ≡ [] → kinds_told (record { decls = es }) ≡ Ok (kinds_of es)
 told es one two three =
     ap (λ rs. unless (least rs) (types_told es)) one ∙
-    (ap (λ rs. unless (least rs) (heads_told es)) two ∙ ap (λ rs. unless (least rs) (Ok (kinds_of es))) three)
+    (ap (λ rs. unless (least rs) (heads_told es)) two ∙
+    ap (λ rs. unless (least rs) (Ok (kinds_of es))) three)
 
 named : (es : List Decl) → nam.no_main es ≡ [] → nam.names_again es ≡ [] → of_each (nam.decl_refused (globals_of es)) es ≡ [] → nam.names_refused es ≡ []
 unfolding nam.names_refused

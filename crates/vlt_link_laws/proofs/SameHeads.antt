@@ -11,7 +11,7 @@ use Rattle.vlt_core.specs.Core as core
 use Rattle.vlt_kinds_types.specs.declared.shapes.Shape.{Shape}
 use Rattle.vlt_kinds_types.specs.declared.shapes.Wanted.{Wanted}
 use Rattle.vlt_kinds_types.specs.declared.shapes.Wanted.TheVariants as wanted
-use Rattle.vlt_kinds_types.specs.Files.{File, shape_named, state_names, state_number, wanted_type, type_named}
+use Rattle.vlt_kinds_types.specs.Files.{File, shape_named, state_names, state_number, number_of, wanted_type, type_named}
 use Rattle.vlt_kinds_types.specs.Types.{KeyUse, key_use, tracked_use, argument_uses, header_uses, named_uses, ty_uses, core_ty, owned_ty, key_numbers, states_listed, listed_numbers, with_listed, set_of_numbers, known_states, type_number, is_variant_in, sort_in}
 use Rattle.vlt_kinds_heads.specs.declared.facts.Facts.{Facts}
 use Rattle.vlt_kinds_heads.specs.declared.facts.Typing.{Typing}
@@ -77,6 +77,7 @@ parameters_behind es (u ∷ us) =
 entry_behind : (es : Keys) (e : Entry) → behind_entry (flat_keys es) (placeless_entry e) ≡ flat_keys (behind_entry es e)
 entry_behind es (s.held k) = noted es k.key.text (with_entry (s.held k)) (with_entry (placeless_entry (s.held k))) (λ f. refl)
 entry_behind es (s.changed k x y) = noted es k.text (with_entry (s.changed k x y)) (with_entry (placeless_entry (s.changed k x y))) (λ f. refl)
+entry_behind es (s.bound k v b) = noted es k.text (with_entry (s.bound k v b)) (with_entry (placeless_entry (s.bound k v b))) (λ f. refl)
 entry_behind es (s.taken k at) = noted es k.key.text (with_entry (s.taken k at)) (with_entry (placeless_entry (s.taken k at))) (λ f. refl)
 entry_behind es (s.given k at) = noted es k.key.text (with_entry (s.given k at)) (with_entry (placeless_entry (s.given k at))) (λ f. refl)
 entry_behind es (s.fresh k at) = noted es k.key.text (with_entry (s.fresh k at)) (with_entry (placeless_entry (s.fresh k at))) (λ f. refl)
@@ -231,6 +232,7 @@ module _ (file : File) where
   entry_in_same es known (s.changed k x y) =
       ap₂ (λ (n : List ℕ → ℕ) x. let r : core.Entry = record { mode = core.kept; key = n k.text; before = x; after = states_named known (Some (placeless_states y)) } in r) (same_number es) (same_named_states known (Some x)) ∙
       ap (λ y. let r : core.Entry = record { mode = core.kept; key = key_number es k.text; before = states_named known (Some x); after = y } in r) (same_named_states known (Some y))
+  entry_in_same es known (s.bound k v b) = ap (λ (n : List ℕ → ℕ). let r : core.Entry = record { mode = core.up_to (number_of (known_states known) b); key = n k.text; before = None; after = None } in r) (same_number es)
   entry_in_same es known (s.taken k at) = ap₂ (λ (n : List ℕ → ℕ) x. let r : core.Entry = record { mode = core.taken; key = n k.key.text; before = x; after = None } in r) (same_number es) (same_named_states known k.states)
   entry_in_same es known (s.given k at) = ap₂ (λ (n : List ℕ → ℕ) x. let r : core.Entry = record { mode = core.given; key = n k.key.text; before = None; after = x } in r) (same_number es) (same_named_states known k.states)
   entry_in_same es known (s.fresh k at) = ap₂ (λ (n : List ℕ → ℕ) x. let r : core.Entry = record { mode = core.fresh; key = n k.key.text; before = None; after = x } in r) (same_number es) (same_named_states known k.states)
@@ -238,6 +240,7 @@ module _ (file : File) where
   entry_key_same : (e : Entry) → (entry_key (placeless_entry e)).text ≡ (entry_key e).text
   entry_key_same (s.held k) = refl
   entry_key_same (s.changed k x y) = refl
+  entry_key_same (s.bound k v b) = refl
   entry_key_same (s.taken k at) = refl
   entry_key_same (s.given k at) = refl
   entry_key_same (s.fresh k at) = refl

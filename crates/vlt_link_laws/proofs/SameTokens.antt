@@ -96,26 +96,41 @@ flat_ty (s.plain n1) (s.plain n2) e = ap s.plain (flat_named n1 n2 e)
 flat_entry : (x y : Entry) → same_entry x y ≡ true → placeless_entry x ≡ placeless_entry y
 flat_entry (s.held k1) (s.held k2) e = ap s.held (flat_key_states k1 k2 e)
 flat_entry (s.held k1) (s.changed k2 b2 a2) e = off e
+flat_entry (s.held k1) (s.bound k2 v2 b2) e = off e
 flat_entry (s.held k1) (s.taken k2 at2) e = off e
 flat_entry (s.held k1) (s.given k2 at2) e = off e
 flat_entry (s.held k1) (s.fresh k2 at2) e = off e
 flat_entry (s.changed k1 b1 a1) (s.held k2) e = off e
 flat_entry (s.changed k1 b1 a1) (s.changed k2 b2 a2) e = let h = both (same_name k1 k2) (same_states b1 b2 && same_states a1 a2) e in let g = both (same_states b1 b2) (same_states a1 a2) h.1 in ap (λ (x : Name × States × States). s.changed x.0 x.1 x.2) (ap₂ (λ (k : Name) (x : States × States). (k, x.0, x.1)) (flat_name k1 k2 h.0) (ap₂ (λ (x y : States). (x, y)) (flat_states b1 b2 g.0) (flat_states a1 a2 g.1)))
+flat_entry (s.changed k1 b1 a1) (s.bound k2 v2 b2) e = off e
 flat_entry (s.changed k1 b1 a1) (s.taken k2 at2) e = off e
 flat_entry (s.changed k1 b1 a1) (s.given k2 at2) e = off e
 flat_entry (s.changed k1 b1 a1) (s.fresh k2 at2) e = off e
+flat_entry (s.bound k1 v1 b1) (s.held k2) e = off e
+flat_entry (s.bound k1 v1 b1) (s.changed k2 b2 a2) e = off e
+flat_entry (s.bound k1 v1 b1) (s.bound k2 v2 b2) e =
+    let h = both (same_name k1 k2) (same_name v1 v2 && same_name b1 b2) e in
+    let g = both (same_name v1 v2) (same_name b1 b2) h.1 in
+    ap (λ (x : Name × Name × Name). s.bound x.0 x.1 x.2)
+    (ap₂ (λ (k : Name) (x : Name × Name). (k, x.0, x.1)) (flat_name k1 k2 h.0) (ap₂ (λ (v b : Name). (v, b)) (flat_name v1 v2 g.0) (flat_name b1 b2 g.1)))
+flat_entry (s.bound k1 v1 b1) (s.taken k2 at2) e = off e
+flat_entry (s.bound k1 v1 b1) (s.given k2 at2) e = off e
+flat_entry (s.bound k1 v1 b1) (s.fresh k2 at2) e = off e
 flat_entry (s.taken k1 at1) (s.held k2) e = off e
 flat_entry (s.taken k1 at1) (s.changed k2 b2 a2) e = off e
+flat_entry (s.taken k1 at1) (s.bound k2 v2 b2) e = off e
 flat_entry (s.taken k1 at1) (s.taken k2 at2) e = ap (λ k. s.taken k (placeless_span at1)) (flat_key_states k1 k2 e)
 flat_entry (s.taken k1 at1) (s.given k2 at2) e = off e
 flat_entry (s.taken k1 at1) (s.fresh k2 at2) e = off e
 flat_entry (s.given k1 at1) (s.held k2) e = off e
 flat_entry (s.given k1 at1) (s.changed k2 b2 a2) e = off e
+flat_entry (s.given k1 at1) (s.bound k2 v2 b2) e = off e
 flat_entry (s.given k1 at1) (s.taken k2 at2) e = off e
 flat_entry (s.given k1 at1) (s.given k2 at2) e = ap (λ k. s.given k (placeless_span at1)) (flat_key_states k1 k2 e)
 flat_entry (s.given k1 at1) (s.fresh k2 at2) e = off e
 flat_entry (s.fresh k1 at1) (s.held k2) e = off e
 flat_entry (s.fresh k1 at1) (s.changed k2 b2 a2) e = off e
+flat_entry (s.fresh k1 at1) (s.bound k2 v2 b2) e = off e
 flat_entry (s.fresh k1 at1) (s.taken k2 at2) e = off e
 flat_entry (s.fresh k1 at1) (s.given k2 at2) e = off e
 flat_entry (s.fresh k1 at1) (s.fresh k2 at2) e = ap (λ k. s.fresh k (placeless_span at1)) (flat_key_states k1 k2 e)

@@ -1,4 +1,5 @@
 pub mod Sequences
+pub mod StateSets
 pub mod Declarations
 pub mod Places
 pub mod Functions

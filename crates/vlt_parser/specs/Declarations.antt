@@ -36,7 +36,10 @@ abbrev pub can_begin : (Token → Reaction) → List Located → Bool
 can_begin start [] = false
 can_begin start (x ∷ xs) = takes (start x.token)
 
--- what is left of the limits on fields and on declarations behind so many
+-- what is left of the limits on states, on fields and on declarations behind so many
+abbrev pub states_left : ℕ → Left
+states_left n = record { limit = 5; more = language.states - n }
+
 abbrev pub fields_left : ℕ → Left
 fields_left n = record { limit = 6; more = language.fields - n }
 

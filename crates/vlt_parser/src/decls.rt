@@ -17,8 +17,9 @@ ghost use Rattle.vlt_parser.specs.Declarations.{fields_left, decls_left, can_beg
 ghost use Rattle.vlt_parser_exprs.specs.Promises.{Advances, Holds, Lies, MayAdvance, MayBe, Spells, Takes};
 
 use crate::heads::head;
+use crate::sets::set_states;
 use std::alloc::Global;
-use vlt_base::{CASES, DECLARATIONS, DEPTH, FIELDS, Items, STATES, limit};
+use vlt_base::{CASES, DECLARATIONS, DEPTH, FIELDS, Items, limit};
 use vlt_lexer::{Mark, Token, TokenKind, Word};
 use vlt_parser_exprs::ParseError;
 use vlt_parser_exprs::headers::header;
@@ -141,7 +142,7 @@ fn release(
     Ok((Some(found), next))
 }
 
-/// `stateset s { a, b }`
+/// `stateset s { a < b, c }`
 fn stateset(alloc: Global, tokens: &[Token<'_>], at: usize) -> Result<(Decl, usize), ParseError>
     ensures spelled { Spells decl_of decl_then tokens.now at result }
     ensures placed { Lies decl_of decl_at tokens.now at result }
@@ -153,8 +154,7 @@ fn stateset(alloc: Global, tokens: &[Token<'_>], at: usize) -> Result<(Decl, usi
     let next = keyword(tokens, at, Word::Stateset)?;
     let (name, next) = name(alloc, tokens, next)?;
     let next = sign(tokens, next, Mark::OpenBrace)?;
-    let most = Some(bound(STATES));
-    let (states, next) = some_listed(alloc, tokens, next, Mark::CloseBrace, most)?;
+    let (states, next) = set_states(alloc, tokens, next)?;
     let at = span(tokens, at, next);
     Ok((Decl::StateSet { name, states, at }, next))
 }

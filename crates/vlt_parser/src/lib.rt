@@ -11,6 +11,7 @@ ghost use Rattle.vlt_parser.specs.Refusals.{IsRefusedFor};
 
 mod decls;
 mod heads;
+mod sets;
 
 use std::alloc::Global;
 use vlt_lexer::Token;

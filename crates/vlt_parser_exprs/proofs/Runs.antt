@@ -124,6 +124,14 @@ entry_takes (t.keyword word.New) = refl
 entry_takes (t.name text) = refl
 entry_takes _ = refl
 
+-- a sign or a keyword, or else another thing
+if_takes : (b : Bool) (r other : Reaction) → is_skip r ≡ false → is_skip other ≡ false → is_skip (if b then r else other) ≡ false
+if_takes true r other e f = e
+if_takes false r other e f = f
+
+pub states_takes : (x : Token) → is_skip (m.start_states x) ≡ false
+states_takes x = if_takes (m.is_sign mark.OpenBrace x) _ _ refl (name_takes x)
+
 deeper_takes : (depth room : ℕ) (xs : List Symbol) → is_skip (m.if_deeper depth room xs) ≡ false
 deeper_takes depth room xs = by_cases (nat_lt depth room)
   where
@@ -140,11 +148,6 @@ operand_takes room fs (t.sign mark.OpenParen) = deeper_takes 1 room _
 operand_takes room fs (t.sign mark.Minus) = deeper_takes 1 room _
 operand_takes room fs (t.sign mark.Not) = deeper_takes 1 room _
 operand_takes room fs _ = refl
-
--- a keyword or else another thing
-if_takes : (b : Bool) (r other : Reaction) → is_skip r ≡ false → is_skip other ≡ false → is_skip (if b then r else other) ≡ false
-if_takes true r other e f = e
-if_takes false r other e f = f
 
 pub result_type_takes : (x : Token) → is_skip (m.start_result_type x) ≡ false
 result_type_takes x = if_takes (m.is_keyword word.Void x) _ _ refl (ty_takes x)

@@ -1,3 +1,4 @@
 pub mod Reading
 pub mod Ahead
 pub mod Promises
+pub mod Bounds

@@ -1,21 +1,24 @@
 //! Parameters of functions, and entries of their clauses.
 
-ghost use Rattle.std.specs.Prelude.{◌∷◌, []};
+ghost use Rattle.std.specs.Prelude.{◌≡◌, ◌∷◌, [], IfOk};
+ghost use Rattle.vlt_lexer.specs.declared.token.Mark.TheVariants.{CloseParen, LessEqual};
 ghost use Rattle.vlt_syntax.specs.Tree.{Entry as SeenEntry, Parameter as SeenParameter};
 ghost use Rattle.vlt_syntax.specs.Spelling.{entry_then, parameter_then};
 ghost use Rattle.vlt_syntax.specs.Grammar.{IsEntry, IsParameter};
 ghost use Rattle.vlt_syntax.specs.Places.{entry_at, parameter_at};
-ghost use Rattle.vlt_syntax.specs.View.{entry_of, parameter_of};
+ghost use Rattle.vlt_syntax.specs.View.{entry_of, name_of, parameter_of};
 ghost use Rattle.vlt_automaton.specs.Language as automaton;
+ghost use Rattle.vlt_parser_exprs.specs.Bounds.{bound_at, bound_then};
 ghost use Rattle.vlt_parser_exprs.specs.Promises.{Advances, Holds, Lies, Spells, Takes};
+ghost use Rattle.vlt_parser_exprs.specs.Reading.{Stands, tokens_from};
 
 use crate::error::ParseError;
 use crate::lists::Part;
-use crate::tokens::{behind_sign, kind, name, span};
+use crate::tokens::{behind_sign, kind, name, sign, span};
 use crate::types::{key_states, states, ty};
 use std::alloc::Global;
 use vlt_lexer::{Mark, Token, TokenKind, Word};
-use vlt_syntax::{Entry, KeyStates, Parameter};
+use vlt_syntax::{Entry, KeyStates, Name, Parameter};
 
 impl Part for Parameter {
     ghost Seen = { SeenParameter };
@@ -42,8 +45,36 @@ impl Part for Parameter {
     }
 }
 
+/// A bound: the variable for the states up to it, and the state.
+#[derive(Drop)]
+struct StateBound {
+    variable: Name,
+    state: Name,
+}
+
+/// A bound, behind its opening parenthesis.
+fn state_bound(
+    alloc: Global,
+    tokens: &[Token<'_>],
+    at: usize,
+) -> Result<(StateBound, usize), ParseError>
+    ensures spelled { IfOk result (λ x. tokens_from tokens.now at ≡
+        bound_then (name_of x.0.variable) (name_of x.0.state) (tokens_from tokens.now x.1)) }
+    ensures placed { IfOk result (λ x. Stands bound_at tokens.now at
+        (name_of x.0.variable, name_of x.0.state) x.1) }
+    ensures moves { Advances tokens.now at result }
+    ensures takes { Takes (automaton.name ∷ automaton.sign LessEqual ∷ automaton.name ∷
+        automaton.sign CloseParen ∷ []) tokens.now at result }
+{
+    let (variable, next) = name(alloc, tokens, at)?;
+    let next = sign(tokens, next, Mark::LessEqual)?;
+    let (state, next) = name(alloc, tokens, next)?;
+    let next = sign(tokens, next, Mark::CloseParen)?;
+    Ok((StateBound { variable, state }, next))
+}
+
 /// An entry that begins with its key.
-#[tactic(auto, using(crate::proofs::Functions::entry_at, crate::proofs::Functions::entry_alone, crate::proofs::Functions::entry_changes, crate::proofs::Functions::entry_stays))]
+#[tactic(auto, using(crate::proofs::Functions::entry_at, crate::proofs::Functions::entry_alone, crate::proofs::Functions::entry_bound, crate::proofs::Functions::entry_states, crate::proofs::Functions::entry_changes, crate::proofs::Functions::entry_stays))]
 fn held_entry(alloc: Global, tokens: &[Token<'_>], at: usize) -> Result<(Entry, usize), ParseError>
     ensures spelled { Spells entry_of entry_then tokens.now at result }
     ensures placed { Lies entry_of entry_at tokens.now at result }
@@ -55,6 +86,17 @@ fn held_entry(alloc: Global, tokens: &[Token<'_>], at: usize) -> Result<(Entry, 
     let Some(next) = behind_sign(tokens, next, Mark::At) else {
         return Ok((Entry::Held(KeyStates { key, states: None }), next));
     };
+    if let Some(inside) = behind_sign(tokens, next, Mark::OpenParen) {
+        let (StateBound { variable, state }, next) = state_bound(alloc, tokens, inside)?;
+        return Ok((
+            Entry::Bound {
+                key,
+                variable,
+                state,
+            },
+            next,
+        ));
+    }
     let (before, next) = states(alloc, tokens, next)?;
     match behind_sign(tokens, next, Mark::Arrow) {
         Some(next) => {

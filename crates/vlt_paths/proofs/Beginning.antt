@@ -1,9 +1,8 @@
 -- Where a path begins, and what it shows.
-use Rattle.std.proofs.Common.{◌≡◌, ◌∙◌, ◌↔◌, ◌<◌, ◌≤◌, ℕ, ◌+◌, ◌&&◌, ◌==◌, if◌then◌else◌, Bool, true, false, IsTrue, List, [], ◌∷◌, map, drop, drop-cons, add-one, get_or, suc, length, Option, Some, None, slice_get, sym, ap, subst, inl, inr, ⊎_elim, rules, arith}
+use Rattle.std.proofs.Common.{◌≡◌, ◌∙◌, ◌↔◌, ◌<◌, ◌≤◌, ℕ, ◌+◌, ◌&&◌, ◌==◌, if◌then◌else◌, Bool, true, false, IsTrue, List, [], ◌∷◌, map, drop, drop-cons, add-one, get_or, suc, length, Option, Some, None, slice_get, refl, sym, ap, subst, inl, inr, ⊎_elim, rules, arith}
 use Rattle.vlt_core.specs.Core.{States, Tok, Entry, Func, Program}
-use Rattle.vlt_core.specs.Instances.{IsOrigin, HasNoBounds}
+use Rattle.vlt_core.specs.Instances.{instance, clause_of_instance, entry_in, IsOrigin}
 use Rattle.vlt_core.specs.Bodies.{flow_of_stmts}
-use Rattle.vlt_core_laws.proofs.Formed.{own_instance, only_instance, of_instance, in_instance}
 use Rattle.vlt_core.specs.Derives.{start_map, status_at_start}
 use Rattle.vlt_core.specs.Found.{One, one_absent, one_held, one_lent, one_full, Has}
 use Rattle.std.proofs.lemmas.List.{drop_all}
@@ -11,6 +10,7 @@ use Rattle.vlt_core.specs.Faults.{Spot, IsPresent, FlowFault, at_row, at_join}
 use Rattle.vlt_core.specs.Lookups.{is_held_before, before_set}
 use Rattle.vlt_core.specs.Maps.{Status, Wanted, absent, held, full}
 use Rattle.vlt_core.specs.Witness.{Choice, Refuses, NoJoin, NoRow, IsJoin, PathMeets, IsWitness, IsWitnessIn}
+use Rattle.vlt_rows.proofs.Instanced.{clause_in, held_before_in}
 use Rattle.vlt_paths.specs.declared.numbers.Numbers.{Numbers}
 use Rattle.vlt_paths.specs.Numbers.{holds}
 use Rattle.vlt_paths.specs.declared.comes.Comes.{Comes}
@@ -18,7 +18,7 @@ use Rattle.vlt_paths.specs.declared.comes.Comes.TheVariants as c
 use Rattle.vlt_paths.specs.Comes.{Brings}
 use Rattle.vlt_paths.specs.Along.{Sought, State, GoesStmts}
 use Rattle.vlt_paths.specs.Pairs.{Two, Sees, IsGone, InStmts, Meet}
-use Rattle.vlt_paths.specs.Shown.{join_fault}
+use Rattle.vlt_paths.specs.Shown.{join_fault, ShowsIn}
 use Rattle.vlt_core.specs.Found.{Exit}
 
 never : IsTrue false → ⊥
@@ -63,6 +63,16 @@ module _ {X : Type 0} (p : Program) (f : Func) (g : X → Entry) (es : List X) (
   pub looked_more : (is_held_before (g e) && k == (g e).key) ≡ false → Looked p f g es k (i + 1)
   looked_more t = record { same = ap (λ b. if b then held (before_set p f (g e)) else status_at_start p f (map g (drop (i + 1) es)) k) (sym t) ∙ at_entry }
 
+-- the clause of an instance, entry by entry
+pub looked_in : {X : Type 0} (p : Program) (f : Func) (o : Option ℕ) (g : X → Entry) (es : List X) (k : ℕ) →
+    status_at_start p (instance p f o) (map (λ e. entry_in p f o (g e)) es) k ≡ status_at_start p (instance p f o) (clause_of_instance p f o (map g es)) k
+looked_in p f o g es k = ap (λ es. status_at_start p (instance p f o) es k) (clause_in p f o g es)
+
+pub is_of_in : (p : Program) (f : Func) (o : Option ℕ) (e : Entry) (k : ℕ) →
+    (is_held_before (entry_in p f o e) && k == (entry_in p f o e).key) ≡ (is_held_before e && k == e.key)
+is_of_in p f None e k = refl
+is_of_in p f (Some o) e k = ap (λ b. b && k == e.key) (held_before_in p f (Some o) e)
+
 -- ---- what a path shows
 
 pub shown_row : (p : Program) (f : Func) (t : Tok) (P : Sought) (v u : State) (r : Option Exit) → v.met ≡ false → ((o : One) → v.brings o ↔ Has (start_map p f t) o) → GoesStmts P t (flow_of_stmts p f [] f.body) v u r → IsTrue u.met ↔ PathMeets p f t P NoJoin v.left
@@ -87,18 +97,30 @@ module _ (p : Program) (f : Func) (t : Tok) where
 pub looked_all : {X : Type 0} (p : Program) (f : Func) (g : X → Entry) (es : List X) (k i : ℕ) → length es ≤ i → Looked p f g es k i → absent ≡ status_at_start p f (map g es) k
 looked_all p f g es k i past l = ap (λ xs. status_at_start p f (map g xs) k) (sym (drop_all i es past)) ∙ l.same
 
--- of a function with a body; and of one without
-pub row_shown : (p : Program) (f : Func) (g : ℕ) (o : Option ℕ) (at : ℕ) (t : Tok) (found : Status) (wanted : Wanted) (first : List Choice) (b : Bool) → f.external ≡ false → (IsTrue b ↔ PathMeets p f t (Refuses t at wanted) NoJoin first) → IsTrue b ↔ ((f.external ≡ false) × IsWitnessIn p f (record { function = g; origin = o; at = at; tok = t; kind = at_row found wanted }) first None)
-row_shown p f g o at t found wanted first b body e = (λ h. (body, e.0 h), λ x. e.1 x.1)
+-- of a function with a body and such an instance; and of another one
+pub row_shown : (p : Program) (f : Func) (g : ℕ) (o : Option ℕ) (at : ℕ) (t : Tok) (found : Status) (wanted : Wanted) (first : List Choice) (b : Bool) →
+    (f.external ≡ false) × IsOrigin p f o → (IsTrue b ↔ PathMeets p (instance p f o) t (Refuses t at wanted) NoJoin first) →
+    IsTrue b ↔ ShowsIn p f (record { function = g; origin = o; at = at; tok = t; kind = at_row found wanted }) first None
+row_shown p f g o at t found wanted first b has e = (λ h. (has, e.0 h), λ x. e.1 x.1)
 
-pub join_shown : (p : Program) (f : Func) (g : ℕ) (o : Option ℕ) (at : ℕ) (t : Tok) (present : Status) (first second : List Choice) (b : Bool) → f.external ≡ false → (IsTrue b ↔ IsWitnessIn p f (join_fault t at) first (Some second)) → IsTrue b ↔ ((f.external ≡ false) × IsWitnessIn p f (record { function = g; origin = o; at = at; tok = t; kind = at_join present }) first (Some second))
-join_shown p f g o at t present first second b body e = (λ h. (body, e.0 h), λ x. e.1 x.1)
+pub join_shown : (p : Program) (f : Func) (g : ℕ) (o : Option ℕ) (at : ℕ) (t : Tok) (present : Status) (first second : List Choice) (b : Bool) →
+    (f.external ≡ false) × IsOrigin p f o → (IsTrue b ↔ IsWitnessIn p (instance p f o) (join_fault t at) first (Some second)) →
+    IsTrue b ↔ ShowsIn p f (record { function = g; origin = o; at = at; tok = t; kind = at_join present }) first (Some second)
+join_shown p f g o at t present first second b has e = (λ h. (has, e.0 h), λ x. e.1 x.1)
 
-pub not_shown : (p : Program) (f : Func) (x : FlowFault) (first : List Choice) (second : Option (List Choice)) → (IsWitnessIn p f x first second → ⊥) → IsTrue false ↔ ((f.external ≡ false) × IsWitnessIn p f x first second)
+pub not_shown : (p : Program) (f : Func) (x : FlowFault) (first : List Choice) (second : Option (List Choice)) → (IsWitnessIn p (instance p f x.origin) x first second → ⊥) →
+    IsTrue false ↔ ShowsIn p f x first second
 not_shown p f x first second none = (λ h. absurd (never h), λ y. absurd (none y.1))
 
-pub no_body : (p : Program) (f : Func) (x : FlowFault) (first : List Choice) (second : Option (List Choice)) → f.external ≡ true → IsTrue false ↔ ((f.external ≡ false) × IsWitnessIn p f x first second)
-no_body p f x first second e = (λ h. absurd (never h), λ y. absurd (never (subst IsTrue (sym e ∙ y.0) (search rules))))
+pub no_instance : (p : Program) (f : Func) (x : FlowFault) (first : List Choice) (second : Option (List Choice)) → ((f.external ≡ false) × IsOrigin p f x.origin → ⊥) →
+    IsTrue false ↔ ShowsIn p f x first second
+no_instance p f x first second none = (λ h. absurd (never h), λ y. absurd (none y.0))
+
+pub is_so : (b : Bool) (P : Type 0) → (IsTrue b ↔ P) → b ≡ true → P
+is_so b P h e = h.0 (subst IsTrue (sym e) (search rules))
+
+pub is_not : (b : Bool) (P : Type 0) → (IsTrue b ↔ P) → b ≡ false → P → ⊥
+is_not b P h e x = never (subst IsTrue e (h.1 x))
 
 some_same : (f g : Func) → Some f ≡ Some g → f ≡ g
 some_same f g e = grind arith
@@ -106,31 +128,11 @@ some_same f g e = grind arith
 none_some : (f : Func) → None ≡ Some f → ⊥
 none_some f e = grind arith
 
--- with an origin none is shown, and without one what is shown in the body
-pub shown_alone : (o : Option ℕ) (P : Type 0) (b : Bool) → o ≡ None → (IsTrue b ↔ P) → IsTrue b ↔ ((o ≡ None) × P)
-shown_alone o P b none h = (λ t. (none, h.0 t), λ z. h.1 z.1)
-
-pub not_alone : (o : Option ℕ) (n : ℕ) (P : Type 0) → o ≡ Some n → IsTrue false ↔ ((o ≡ None) × P)
-not_alone o n P is = (λ t. absurd (never t), λ z. absurd (apart (sym z.0 ∙ is)))
-  where
-    apart : None ≡ Some n → ⊥
-    apart e = grind arith
-
-pub judged : (p : Program) (f : Func) (x : FlowFault) (first : List Choice) (second : Option (List Choice)) (b : Bool) → HasNoBounds p → slice_get p.fns x.function ≡ Some f →
-    (IsTrue b ↔ ((x.origin ≡ None) × ((f.external ≡ false) × IsWitnessIn p f x first second))) → IsTrue b ↔ IsWitness p x first second
-judged p f x first second b plain there h = (
-  λ t. let z = h.0 t in
-      let own = subst (λ o. IsOrigin p f o) (sym z.0) (own_instance p f (plain x.function f there)) in
-      record { func = f; there = there; with_body = z.1.0; origin = own; shows = of_instance p f x.origin (λ f. IsWitnessIn p f x first second) (plain x.function f there) own z.1.1 },
-  λ w. let same : w.func ≡ f = some_same w.func f (sym w.there ∙ there) in
-      let bound = plain x.function w.func w.there in
-      h.1 (
-        only_instance p w.func x.origin bound w.origin,
-        (
-          subst (λ f. f.external ≡ false) same w.with_body,
-          subst (λ f. IsWitnessIn p f x first second) same (in_instance p w.func x.origin (λ f. IsWitnessIn p f x first second) bound w.origin w.shows),
-        ),
-      ),
+pub judged : (p : Program) (f : Func) (x : FlowFault) (first : List Choice) (second : Option (List Choice)) (b : Bool) → slice_get p.fns x.function ≡ Some f →
+    (IsTrue b ↔ ShowsIn p f x first second) → IsTrue b ↔ IsWitness p x first second
+judged p f x first second b there h = (
+  λ t. let z = h.0 t in record { func = f; there = there; with_body = z.0.0; origin = z.0.1; shows = z.1 },
+  λ w. h.1 (subst (λ f. ShowsIn p f x first second) (some_same w.func f (sym w.there ∙ there)) ((w.with_body, w.origin), w.shows)),
 )
 
 pub judged_none : (p : Program) (x : FlowFault) (first : List Choice) (second : Option (List Choice)) → None ≡ slice_get p.fns x.function → IsTrue false ↔ IsWitness p x first second

@@ -8,6 +8,7 @@ ghost use Rattle.vlt_core.specs.Flow.{loop, jump};
 ghost use Rattle.vlt_core.specs.Bodies.{flow_of, flow_of_block, flow_of_stmts};
 ghost use Rattle.vlt_core.specs.Maps.{is_tok};
 ghost use Rattle.vlt_core.specs.Rows.{expr_rows, in_order};
+ghost use Rattle.vlt_core.specs.Instances.{instance};
 ghost use Rattle.vlt_core.specs.View.{program_of, func_of, tok_of, expr_of, form_of, block_of, stmts_of, arms_of};
 ghost use Rattle.vlt_core.specs.HeldView.{toks_of};
 ghost use Rattle.vlt_core.specs.FaultView.{choices_of};
@@ -87,7 +88,8 @@ pub fn go_form<'a>(
     point: Point<'a>,
 ) -> Went<'a>
     ensures { (ts : List core.Tok) → IsBound hunt ts left →
-        AlongForm hunt (flow_of (program_of p.now) (func_of f.now) ts
+        AlongForm hunt (flow_of (program_of p.now)
+        (instance (program_of p.now) (func_of f.now) hunt.origin) ts
         (form_of form.now)) at point.entry result }
 {
     match form {
@@ -138,7 +140,9 @@ fn go_step<'a>(
 ) -> Went<'a>
     requires { is_step (form_of form.now) ≡ true }
     ensures { (ts : List core.Tok) → AlongForm hunt
-        (flow_of (program_of p.now) (func_of f.now) ts (form_of form.now)) at point.entry result }
+        (flow_of (program_of p.now)
+        (instance (program_of p.now) (func_of f.now) hunt.origin) ts
+        (form_of form.now)) at point.entry result }
 {
     Went {
         out: Out::Next,
@@ -182,7 +186,8 @@ pub fn go_turn<'a>(
     point: Point<'a>,
 ) -> Went<'a>
     ensures along { AlongTurn hunt (expr_rows (program_of p.now) (func_of f.now) (expr_of cond.now))
-        (flow_of_block (program_of p.now) (func_of f.now) []
+        (flow_of_block (program_of p.now)
+        (instance (program_of p.now) (func_of f.now) hunt.origin) []
         (block_of body.now)) at point.entry result }
     ensures fewer { result.out ≡ Continue →
         length (choices_of result.point.rest.now) < length (choices_of point.entry.rest.now) }
@@ -244,7 +249,8 @@ fn go_while<'a>(
     point: Point<'a>,
 ) -> Went<'a>
     ensures { AlongForm hunt (loop (expr_rows (program_of p.now) (func_of f.now) (expr_of cond.now))
-        (flow_of_block (program_of p.now) (func_of f.now) []
+        (flow_of_block (program_of p.now)
+        (instance (program_of p.now) (func_of f.now) hunt.origin) []
         (block_of body.now))) at point.entry result }
 {
     let mut head = point;
@@ -275,7 +281,8 @@ fn go_switch<'a>(
     point: Point<'a>,
 ) -> Went<'a>
     ensures { (end : ℕ) (ts : List core.Tok) → IsBound hunt ts left →
-        AlongForm hunt (flow_of (program_of p.now) (func_of f.now) ts
+        AlongForm hunt (flow_of (program_of p.now)
+        (instance (program_of p.now) (func_of f.now) hunt.origin) ts
         (core.switch v.0 (arms_of arms.now) end)) at point.entry result }
 {
     let behind = past_switch(f, hunt, at, v, point);
@@ -326,7 +333,8 @@ fn go_focus<'a>(
     point: Point<'a>,
 ) -> Went<'a>
     ensures { (ts : List core.Tok) → IsBound hunt ts left →
-        AlongForm hunt (flow_of (program_of p.now) (func_of f.now) ts
+        AlongForm hunt (flow_of (program_of p.now)
+        (instance (program_of p.now) (func_of f.now) hunt.origin) ts
         (core.focus y.0 z.0 (block_of body.now))) at point.entry result }
 {
     let inside = past_focus(p, f, hunt, at, y, z, point);
@@ -353,7 +361,8 @@ pub fn go_block<'a>(
     point: Point<'a>,
 ) -> Went<'a>
     ensures { (ts : List core.Tok) → IsBound hunt ts left →
-        AlongBlock hunt (flow_of_block (program_of p.now) (func_of f.now) ts
+        AlongBlock hunt (flow_of_block (program_of p.now)
+        (instance (program_of p.now) (func_of f.now) hunt.origin) ts
         (block_of block.now)) point.entry result }
 {
     let inside = is_bound(hunt, left, block.bound.as_slice());
@@ -377,7 +386,8 @@ pub fn go_stmts<'a>(
     point: Point<'a>,
 ) -> Went<'a>
     ensures { (ts : List core.Tok) → IsBound hunt ts left →
-        AlongStmts hunt (flow_of_stmts (program_of p.now) (func_of f.now) ts
+        AlongStmts hunt (flow_of_stmts (program_of p.now)
+        (instance (program_of p.now) (func_of f.now) hunt.origin) ts
         (stmts_of stmts.now)) point.entry result }
 {
     let mut here = point;
@@ -405,7 +415,8 @@ pub fn go_on<'a>(
     point: Point<'a>,
 ) -> Point<'a>
     ensures { (ts : List core.Tok) → IsBound hunt ts left → Led (Onward (tok_of hunt.tok) at
-        (flow_of (program_of p.now) (func_of f.now) ts (form_of form.now)))
+        (flow_of (program_of p.now)
+        (instance (program_of p.now) (func_of f.now) hunt.origin) ts (form_of form.now)))
         (state_of point.entry) (state_of result) }
 {
     go_form(p, f, hunt, left, form, at, point).next()

@@ -1,6 +1,6 @@
 //! Whether a path shows a fault.
 
-ghost use Rattle.std.specs.Prelude.{◌≡◌, ◌↔◌, ◌&&◌, ◌==◌, nat_lt, false, IsTrue, None, Some, slice_get};
+ghost use Rattle.std.specs.Prelude.{◌≡◌, ◌↔◌, ◌&&◌, ◌==◌, nat_lt, IsTrue, None, Some, slice_get};
 ghost use Rattle.std.specs.Option.{option_map, option_copied};
 ghost use Rattle.vlt_core.specs.Core.{a_key};
 ghost use Rattle.vlt_core.specs.Derives.{start_map};
@@ -9,10 +9,10 @@ ghost use Rattle.vlt_core.specs.FaultView.{choices_of};
 ghost use Rattle.vlt_core.specs.HeldView.{wanted_of};
 ghost use Rattle.vlt_core.specs.Lookups.{is_before, is_held_before, is_owning_var};
 ghost use Rattle.vlt_core.specs.View.{program_of, func_of, tok_of, mode_of, entry_of};
-ghost use Rattle.vlt_core.specs.Instances.{HasNoBounds};
+ghost use Rattle.vlt_core.specs.Instances.{instance};
 ghost use Rattle.vlt_core.specs.Witness.{IsWitness, IsWitnessIn, PathMeets, Refuses, NoJoin};
 ghost use Rattle.vlt_paths.specs.Comes.{Brings};
-ghost use Rattle.vlt_paths.specs.Shown.{fault_view, join_fault};
+ghost use Rattle.vlt_paths.specs.Shown.{fault_view, join_fault, ShowsIn};
 
 use crate::along::go_stmts;
 use crate::comes::{Comes, Wants};
@@ -22,7 +22,7 @@ use crate::point::{Hunt, Point, Sought};
 use crate::together::meet_stmts;
 use vlt_base::{FnId, KeyId, VarId};
 use vlt_core::{Choice, Entry, FaultKind, FlowFault, Func, Mode, Program, Tok, Wanted};
-use vlt_rows::side_states;
+use vlt_rows::{has_instance, states_before};
 
 /// Whether a key of this mode is held where the body begins.
 fn is_held(mode: Mode) -> bool
@@ -41,14 +41,14 @@ fn is_of_key(e: Entry, key: KeyId) -> bool
     is_held(e.mode) && key.0 == e.key.0
 }
 
-/// What a key comes with where the body begins.
-fn key_start(p: &Program, f: &Func, key: KeyId) -> Comes
-    ensures { (o : One) → Brings result o
-        ↔ Has (start_map (program_of p.now) (func_of f.now) (a_key key.0)) o }
+/// What a key comes with where the body begins in the instance of this origin.
+fn key_start(p: &Program, f: &Func, origin: Option<u8>, key: KeyId) -> Comes
+    ensures { (o : One) → Brings result o ↔ Has (start_map (program_of p.now)
+        (instance (program_of p.now) (func_of f.now) origin) (a_key key.0)) o }
 {
     for e in f.clause.as_slice() {
         if is_of_key(*e, key) {
-            return Comes::Held(Numbers::of(side_states(p, f, e.key, e.before)));
+            return Comes::Held(Numbers::of(states_before(p, f, origin, *e)));
         }
     }
     Comes::Absent
@@ -61,13 +61,13 @@ fn is_full(f: &Func, v: VarId) -> bool
     v.0 < f.params && f.is_owning_var(v)
 }
 
-/// What a token comes with where the body begins.
-fn start(p: &Program, f: &Func, tok: Tok) -> Comes
-    ensures { (o : One) → Brings result o
-        ↔ Has (start_map (program_of p.now) (func_of f.now) (tok_of tok)) o }
+/// What a token comes with where the body begins in the instance of this origin.
+fn start(p: &Program, f: &Func, origin: Option<u8>, tok: Tok) -> Comes
+    ensures { (o : One) → Brings result o ↔ Has (start_map (program_of p.now)
+        (instance (program_of p.now) (func_of f.now) origin) (tok_of tok)) o }
 {
     match tok {
-        Tok::Key(key) => key_start(p, f, key),
+        Tok::Key(key) => key_start(p, f, origin, key),
         Tok::Var(v) => {
             if is_full(f, v) {
                 Comes::Full
@@ -78,9 +78,18 @@ fn start(p: &Program, f: &Func, tok: Tok) -> Comes
     }
 }
 
-/// Whether the path comes to such a row.
-fn shows_row(p: &Program, f: &Func, tok: Tok, at: u32, wanted: Wanted, path: &[Choice]) -> bool
-    ensures { IsTrue result ↔ PathMeets (program_of p.now) (func_of f.now) (tok_of tok)
+/// Whether the path comes to such a row in the instance of this origin.
+fn shows_row(
+    p: &Program,
+    f: &Func,
+    origin: Option<u8>,
+    tok: Tok,
+    at: u32,
+    wanted: Wanted,
+    path: &[Choice],
+) -> bool
+    ensures { IsTrue result ↔ PathMeets (program_of p.now)
+        (instance (program_of p.now) (func_of f.now) origin) (tok_of tok)
         (Refuses (tok_of tok) at (wanted_of wanted)) NoJoin (choices_of path.now) }
 {
     let row = Some(Sought {
@@ -88,39 +97,34 @@ fn shows_row(p: &Program, f: &Func, tok: Tok, at: u32, wanted: Wanted, path: &[C
         wants: Wants::of(wanted),
     });
     let begin = Point {
-        comes: start(p, f, tok),
+        comes: start(p, f, origin, tok),
         rest: path,
         met: false,
     };
-    let end = go_stmts(p, f, Hunt { tok, row }, false, f.body.as_slice(), begin);
+    let end = go_stmts(
+        p,
+        f,
+        Hunt { origin, tok, row },
+        false,
+        f.body.as_slice(),
+        begin,
+    );
     end.point.met
 }
 
-/// Whether the path shows the fault in the function.
+/// Whether the path shows the fault in its instance of the function.
 pub fn is_shown_in(p: &Program, f: &Func, fault: &FlowFault, path: &[Choice]) -> bool
-    ensures { IsTrue result ↔ (((func_of f.now).external ≡ false) ×
-        IsWitnessIn (program_of p.now) (func_of f.now) (fault_view fault.now)
-        (choices_of path.now) None) }
+    ensures { IsTrue result ↔ ShowsIn (program_of p.now) (func_of f.now) (fault_view fault.now)
+        (choices_of path.now) None }
 {
-    if f.external {
+    if !has_instance(p, f, fault.origin) {
         return false;
     }
     match fault.kind {
-        FaultKind::Row { wanted, .. } => shows_row(p, f, fault.tok, fault.at, wanted, path),
+        FaultKind::Row { wanted, .. } => {
+            shows_row(p, f, fault.origin, fault.tok, fault.at, wanted, path)
+        }
         FaultKind::Join { .. } => false,
-    }
-}
-
-/// The same, where the function has no bound entry: its faults have no origin.
-pub fn is_shown_alone(p: &Program, f: &Func, fault: &FlowFault, path: &[Choice]) -> bool
-    ensures { IsTrue result ↔
-        ((fault.now.origin ≡ None) × (((func_of f.now).external ≡ false) ×
-        IsWitnessIn (program_of p.now) (func_of f.now) (fault_view fault.now)
-        (choices_of path.now) None)) }
-{
-    match fault.origin {
-        None => is_shown_in(p, f, fault, path),
-        Some(_) => false,
     }
 }
 
@@ -131,12 +135,22 @@ pub fn func_at(p: &Program, fn_id: FnId) -> Option<&Func>
     p.fns.get(fn_id.0 as usize)
 }
 
-/// Whether both paths come to one join of this place, the first without the token and the second with it.
-fn shows_join(p: &Program, f: &Func, tok: Tok, at: u32, first: &[Choice], second: &[Choice]) -> bool
-    ensures { IsTrue result ↔ IsWitnessIn (program_of p.now) (func_of f.now)
+/// Whether both paths come to one join of this place in the instance of this origin, the first without the token and the
+/// second with it.
+fn shows_join(
+    p: &Program,
+    f: &Func,
+    origin: Option<u8>,
+    tok: Tok,
+    at: u32,
+    first: &[Choice],
+    second: &[Choice],
+) -> bool
+    ensures { IsTrue result ↔ IsWitnessIn (program_of p.now)
+        (instance (program_of p.now) (func_of f.now) origin)
         (join_fault (tok_of tok) at) (choices_of first.now) (Some (choices_of second.now)) }
 {
-    let comes = start(p, f, tok);
+    let comes = start(p, f, origin, tok);
     let pair = Pair {
         place: at,
         first: Point {
@@ -153,14 +167,18 @@ fn shows_join(p: &Program, f: &Func, tok: Tok, at: u32, first: &[Choice], second
     meet_stmts(
         p,
         f,
-        Hunt { tok, row: None },
+        Hunt {
+            origin,
+            tok,
+            row: None,
+        },
         false,
         f.body.as_slice(),
         pair,
     )
 }
 
-/// Whether the paths show the fault in the function.
+/// Whether the paths show the fault in its instance of the function.
 fn are_shown_in(
     p: &Program,
     f: &Func,
@@ -168,46 +186,27 @@ fn are_shown_in(
     first: &[Choice],
     second: &[Choice],
 ) -> bool
-    ensures { IsTrue result ↔ (((func_of f.now).external ≡ false) ×
-        IsWitnessIn (program_of p.now) (func_of f.now) (fault_view fault.now)
-        (choices_of first.now) (Some (choices_of second.now))) }
+    ensures { IsTrue result ↔ ShowsIn (program_of p.now) (func_of f.now) (fault_view fault.now)
+        (choices_of first.now) (Some (choices_of second.now)) }
 {
-    if f.external {
+    if !has_instance(p, f, fault.origin) {
         return false;
     }
     match fault.kind {
         FaultKind::Row { .. } => false,
-        FaultKind::Join { .. } => shows_join(p, f, fault.tok, fault.at, first, second),
-    }
-}
-
-/// The same, where the function has no bound entry: its faults have no origin.
-fn are_shown_alone(
-    p: &Program,
-    f: &Func,
-    fault: &FlowFault,
-    first: &[Choice],
-    second: &[Choice],
-) -> bool
-    ensures { IsTrue result ↔
-        ((fault.now.origin ≡ None) × (((func_of f.now).external ≡ false) ×
-        IsWitnessIn (program_of p.now) (func_of f.now) (fault_view fault.now)
-        (choices_of first.now) (Some (choices_of second.now)))) }
-{
-    match fault.origin {
-        None => are_shown_in(p, f, fault, first, second),
-        Some(_) => false,
+        FaultKind::Join { .. } => {
+            shows_join(p, f, fault.origin, fault.tok, fault.at, first, second)
+        }
     }
 }
 
 /// Whether two paths are a witness of the fault.
 pub fn is_join_witness(p: &Program, fault: &FlowFault, first: &[Choice], second: &[Choice]) -> bool
-    requires plain { HasNoBounds (program_of p.now) }
     ensures { IsTrue result ↔ IsWitness (program_of p.now) (fault_view fault.now)
         (choices_of first.now) (Some (choices_of second.now)) }
 {
     match func_at(p, fault.fn_id) {
         None => false,
-        Some(f) => are_shown_alone(p, f, fault, first, second),
+        Some(f) => are_shown_in(p, f, fault, first, second),
     }
 }

@@ -5,6 +5,7 @@ ghost use Rattle.vlt_core.specs.Core as core;
 ghost use Rattle.vlt_core.specs.Bodies.{flow_of};
 ghost use Rattle.vlt_core.specs.Rows.{expr_rows, arm_rows};
 ghost use Rattle.vlt_core.specs.Witness as w;
+ghost use Rattle.vlt_core.specs.Instances.{instance};
 ghost use Rattle.vlt_core.specs.View.{program_of, func_of, tok_of, expr_of, form_of, vars_of};
 ghost use Rattle.vlt_core.specs.FaultView.{pick_of};
 ghost use Rattle.vlt_rows.specs.Pieces.{switch_rows, focus_rows};
@@ -128,7 +129,8 @@ impl<'a> Pair<'a> {
     ) -> Pair<'a>
         ensures { (ts : List core.Tok) → IsBound hunt ts left →
             AreLed (Onward (tok_of hunt.tok) at
-            (flow_of (program_of p.now) (func_of f.now) ts (form_of form.now)))
+            (flow_of (program_of p.now)
+            (instance (program_of p.now) (func_of f.now) hunt.origin) ts (form_of form.now)))
             (two_of self.entry) (two_of result) }
     {
         Pair {

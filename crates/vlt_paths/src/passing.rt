@@ -7,6 +7,7 @@ ghost use Rattle.vlt_core.specs.Maps as maps;
 ghost use Rattle.vlt_core.specs.Maps.{is_tok, away_row};
 ghost use Rattle.vlt_core.specs.Rows.{row, expr_rows, arm_rows, focus_end_rows, return_rows, tokens_of, in_order};
 ghost use Rattle.vlt_core.specs.Core as core;
+ghost use Rattle.vlt_core.specs.Instances.{instance};
 ghost use Rattle.vlt_core.specs.View.{program_of, func_of, tok_of, expr_of, form_of, operand_of, vars_of};
 ghost use Rattle.vlt_core.specs.HeldView.{toks_of};
 ghost use Rattle.vlt_rows.specs.Pieces.{own_rows, switch_rows, focus_rows, handed_back_rows};
@@ -264,11 +265,13 @@ fn past_handed_back<'a>(
     point: Point<'a>,
 ) -> Point<'a>
     ensures { IsPast hunt at
-        (handed_back_rows (program_of p.now) (func_of f.now) (option_map operand_of value.now))
+        (handed_back_rows (program_of p.now)
+        (instance (program_of p.now) (func_of f.now) hunt.origin)
+        (option_map operand_of value.now))
         point.entry result }
 {
     let mut passing = Passing { hunt, at, point };
-    let _all = give_handed_back(p, f, value, &mut passing);
+    let _all = give_handed_back(p, f, hunt.origin, value, &mut passing);
     passing.point
 }
 
@@ -282,7 +285,9 @@ pub fn past_return<'a>(
     point: Point<'a>,
 ) -> Point<'a>
     ensures { IsPast hunt at
-        (return_rows (program_of p.now) (func_of f.now) (option_map operand_of value.now))
+        (return_rows (program_of p.now)
+        (instance (program_of p.now) (func_of f.now) hunt.origin)
+        (option_map operand_of value.now))
         point.entry result }
 {
     let behind = past_handed_back(p, f, hunt, at, value, point);

@@ -11,9 +11,10 @@ ghost use Rattle.vlt_paths.specs.Legs.{Led, Takes};
 use crate::comes::{Comes, Wants};
 use vlt_core::{Choice, Pick, Tok};
 
-/// What a path is followed for: a token, and a row that refuses it.
+/// What a path is followed for, in the instance of this origin: a token, and a row that refuses it.
 #[derive(Clone, Copy)]
 pub struct Hunt {
+    pub origin: Option<u8>,
     pub tok: Tok,
     pub row: Option<Sought>,
 }

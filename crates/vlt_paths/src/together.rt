@@ -4,6 +4,7 @@ ghost use Rattle.std.specs.Prelude.{◌≡◌, ℕ, false, List, []};
 ghost use Rattle.vlt_core.specs.Core as core;
 ghost use Rattle.vlt_core.specs.Bodies.{flow_of, flow_of_block, flow_of_stmts, flow_of_arms};
 ghost use Rattle.vlt_core.specs.Rows.{expr_rows};
+ghost use Rattle.vlt_core.specs.Instances.{instance};
 ghost use Rattle.vlt_core.specs.View.{program_of, func_of, expr_of, form_of, block_of, stmts_of, arms_of};
 ghost use Rattle.vlt_rows.specs.Pieces.{switch_rows};
 ghost use Rattle.vlt_paths.specs.declared.point.Hunt.{Hunt};
@@ -29,7 +30,8 @@ fn meet_behind(
     pair: Pair<'_>,
 ) -> bool
     ensures { (ts : List core.Tok) → IsBound hunt ts left → MeetBehind hunt
-        (flow_of (program_of p.now) (func_of f.now) ts (form_of form.now)) at end
+        (flow_of (program_of p.now)
+        (instance (program_of p.now) (func_of f.now) hunt.origin) ts (form_of form.now)) at end
         pair.entry result }
 {
     pair.go_on(p, f, hunt, left, form, at).is_join(end)
@@ -56,7 +58,9 @@ fn meet_form(
     pair: Pair<'_>,
 ) -> bool
     ensures { (ts : List core.Tok) → IsBound hunt ts left → MeetForm hunt
-        (flow_of (program_of p.now) (func_of f.now) ts (form_of form.now)) at pair.entry result }
+        (flow_of (program_of p.now)
+        (instance (program_of p.now) (func_of f.now) hunt.origin) ts
+        (form_of form.now)) at pair.entry result }
 {
     match form {
         Form::If {
@@ -102,7 +106,8 @@ fn meet_switch(
 ) -> bool
     ensures { (ts : List core.Tok) → IsBound hunt ts left → MeetSwitch hunt at
         (switch_rows (func_of f.now) v.0)
-        (flow_of_arms (program_of p.now) (func_of f.now) ts v.0 (arms_of arms.now))
+        (flow_of_arms (program_of p.now)
+        (instance (program_of p.now) (func_of f.now) hunt.origin) ts v.0 (arms_of arms.now))
         pair.entry result }
 {
     let behind = pair.past_switch(f, hunt, at, v);
@@ -132,7 +137,8 @@ fn meet_turn(
     pair: Pair<'_>,
 ) -> bool
     ensures { MeetTurn hunt at (expr_rows (program_of p.now) (func_of f.now) (expr_of cond.now))
-        (flow_of_block (program_of p.now) (func_of f.now) [] (block_of body.now))
+        (flow_of_block (program_of p.now)
+        (instance (program_of p.now) (func_of f.now) hunt.origin) [] (block_of body.now))
         pair.entry result }
 {
     let inside = pair.past_expr(p, f, hunt, at, cond).take(at, Pick::Turn);
@@ -151,7 +157,8 @@ fn meet_turns(
     pair: Pair<'_>,
 ) -> bool
     ensures { MeetTurns hunt at (expr_rows (program_of p.now) (func_of f.now) (expr_of cond.now))
-        (flow_of_block (program_of p.now) (func_of f.now) [] (block_of body.now))
+        (flow_of_block (program_of p.now)
+        (instance (program_of p.now) (func_of f.now) hunt.origin) [] (block_of body.now))
         pair.entry result }
 {
     let mut here = pair;
@@ -179,7 +186,8 @@ fn meet_loop(
     pair: Pair<'_>,
 ) -> bool
     ensures { MeetLoop hunt at (expr_rows (program_of p.now) (func_of f.now) (expr_of cond.now))
-        (flow_of_block (program_of p.now) (func_of f.now) [] (block_of body.now))
+        (flow_of_block (program_of p.now)
+        (instance (program_of p.now) (func_of f.now) hunt.origin) [] (block_of body.now))
         pair.entry result }
 {
     let mut here = pair;
@@ -198,7 +206,8 @@ fn meet_loop(
 #[cycle(together)]
 fn meet_block(p: &Program, f: &Func, hunt: Hunt, left: bool, block: &Block, pair: Pair<'_>) -> bool
     ensures { (ts : List core.Tok) → IsBound hunt ts left → MeetBlock hunt
-        (flow_of_block (program_of p.now) (func_of f.now) ts (block_of block.now))
+        (flow_of_block (program_of p.now)
+        (instance (program_of p.now) (func_of f.now) hunt.origin) ts (block_of block.now))
         pair.entry result }
 {
     let inside = is_bound(hunt, left, block.bound.as_slice());
@@ -216,7 +225,8 @@ pub fn meet_stmts(
     pair: Pair<'_>,
 ) -> bool
     ensures { (ts : List core.Tok) → IsBound hunt ts left → MeetStmts hunt
-        (flow_of_stmts (program_of p.now) (func_of f.now) ts (stmts_of stmts.now))
+        (flow_of_stmts (program_of p.now)
+        (instance (program_of p.now) (func_of f.now) hunt.origin) ts (stmts_of stmts.now))
         pair.entry result }
 {
     let mut here = pair;

@@ -1,10 +1,10 @@
 -- The layout of a tree. Each definition takes the text before a thing, and gives that text with the thing behind it.
 -- `indent` is what stands before the lines of the block around.
-use Rattle.std.specs.Prelude.{ℕ, List, [], ◌∷◌, ◌++◌, Option, Some, None, codes}
+use Rattle.std.specs.Prelude.{ℕ, Bool, true, false, List, [], ◌∷◌, ◌++◌, Option, Some, None, codes}
 use Rattle.std.specs.Fmt.{signed_decimal}
 use Rattle.vlt_ops.specs.Operator.{row_of}
 use Rattle.vlt_syntax.specs.Tree as s
-use Rattle.vlt_syntax.specs.Tree.{Name, States, KeyStates, Named, Ty, Expr, Build, Call, Init, Right, Returned, Stmt, Block, If, Else, Stmts, Arms, HeaderKey, Field, Case, Entry, ResultType, Parameter, Head, Decl, Tree}
+use Rattle.vlt_syntax.specs.Tree.{Name, States, KeyStates, Named, Ty, Expr, Build, Call, Init, Right, Returned, Stmt, Block, If, Else, Stmts, Arms, SetState, HeaderKey, Field, Case, Entry, ResultType, Parameter, Head, Decl, Tree}
 use Rattle.vlt_printer.specs.Lists.{each_after, separated_after, listed_after, enclosed_after, braced_after}
 
 abbrev pub name_after : List ℕ → Name → List ℕ
@@ -136,6 +136,20 @@ abbrev mutual
 
 -- ---- declarations
 
+-- what stands before a further state of a set
+abbrev pub state_separator : (above : Bool) → List ℕ
+state_separator true = codes " < "
+state_separator false = codes ", "
+
+abbrev pub further_states_after : List ℕ → List SetState → List ℕ
+further_states_after before [] = before
+further_states_after before (x ∷ xs) = further_states_after (name_after (before ++ state_separator x.above) x.name) xs
+
+-- the states of a set between braces on one line
+abbrev pub set_states_after : List ℕ → List SetState → List ℕ
+set_states_after before [] = before ++ codes "{}"
+set_states_after before (x ∷ xs) = further_states_after (name_after (before ++ codes "{ ") x.name) xs ++ codes " }"
+
 -- a key, and the type of its object where one is given
 abbrev pub header_key_after : List ℕ → HeaderKey → List ℕ
 header_key_after before p = key_type_after (name_after before p.key) p.key_type
@@ -174,6 +188,7 @@ cases_after before (c ∷ cs) = separated_after (codes ",\n    ") case_after (be
 abbrev pub entry_after : List ℕ → Entry → List ℕ
 entry_after before (s.held k) = key_states_after before k
 entry_after before (s.changed k a b) = states_after (states_after (name_after before k ++ codes "@") a ++ codes "->") b
+entry_after before (s.bound k v b) = name_after (name_after (name_after before k ++ codes "@(") v ++ codes " <= ") b ++ codes ")"
 entry_after before (s.taken k at) = key_states_after (before ++ codes "-") k
 entry_after before (s.given k at) = key_states_after (before ++ codes "+") k
 entry_after before (s.fresh k at) = key_states_after (before ++ codes "new ") k
@@ -194,7 +209,7 @@ abbrev pub head_after : List ℕ → Head → List ℕ
 head_after before h = clause_after (listed_after parameter_after (name_after (result_type_after before h.result_type ++ codes " ") h.name ++ codes "(") h.parameters ++ codes ")") h.clause
 
 abbrev pub decl_after : List ℕ → Decl → List ℕ
-decl_after before (s.stateset n ss at) = braced_after name_after (name_after (before ++ codes "stateset ") n ++ codes " ") ss
+decl_after before (s.stateset n ss at) = set_states_after (name_after (before ++ codes "stateset ") n ++ codes " ") ss
 decl_after before (s.abstract n ss at) = at_name_after (name_after (before ++ codes "abstract ") n) ss ++ codes ";"
 decl_after before (s.struct n ps ss fs r at) = fields_after (at_name_after (header_after (name_after (before ++ codes "struct ") n) ps) ss ++ codes " ") fs r
 decl_after before (s.variant n ps cs at) = cases_after (header_after (name_after (before ++ codes "variant ") n) ps ++ codes " ") cs

@@ -1,18 +1,18 @@
 //! Declarations.
 
-ghost use Rattle.std.specs.Prelude.{◌≡◌, map, OnOk, option_map};
+ghost use Rattle.std.specs.Prelude.{◌≡◌, ◌++◌, map, OnOk, option_map};
 ghost use Rattle.vlt_syntax.specs.Tree.{HeaderKey as SeenHeaderKey, Field as SeenField, Case as SeenCase};
-ghost use Rattle.vlt_syntax.specs.View.{states_of, header_key_of, field_of, case_of, decl_of};
+ghost use Rattle.vlt_syntax.specs.View.{states_of, set_state_of, header_key_of, field_of, case_of, decl_of};
 ghost use Rattle.vlt_printer.specs.Lists.{each_after};
-ghost use Rattle.vlt_printer.specs.Layout.{header_key_after, header_after, field_line_after, release_line_after, fields_after, case_after, cases_after, decl_after, decl_line_after};
+ghost use Rattle.vlt_printer.specs.Layout.{state_separator, further_states_after, set_states_after, header_key_after, header_after, field_line_after, release_line_after, fields_after, case_after, cases_after, decl_after, decl_line_after};
 
 use crate::heads::write_head;
-use crate::lists::{Part, write_braced, write_each, write_enclosed, write_separated, write_text};
+use crate::lists::{Part, write_each, write_enclosed, write_separated, write_text};
 use crate::stmts::write_block;
 use crate::types::{write_at_name, write_at_states, write_name, write_states, write_ty};
 use std::alloc::Global;
 use vlt_base::Memory;
-use vlt_syntax::{Case, Decl, Field, HeaderKey, States};
+use vlt_syntax::{Case, Decl, Field, HeaderKey, SetState, States};
 
 impl Part for HeaderKey {
     ghost Seen = { SeenHeaderKey };
@@ -113,6 +113,42 @@ fn write_cases(out: &mut Vec<u8>, cases: &[Case]) -> Result<(), Memory>
     write_text(out, b"\n}")
 }
 
+/// Writes what stands before a further state of a set.
+fn write_state_separator(out: &mut Vec<u8>, above: bool) -> Result<(), Memory>
+    ensures { OnOk result (out.new.items ≡ out.old.items ++ state_separator above) }
+{
+    if above {
+        write_text(out, b" < ")
+    } else {
+        write_text(out, b", ")
+    }
+}
+
+fn write_further_states(out: &mut Vec<u8>, states: &[SetState]) -> Result<(), Memory>
+    ensures { OnOk result (out.new.items ≡ further_states_after out.old.items
+        (map set_state_of states.now)) }
+{
+    for state in states {
+        write_state_separator(out, state.above)?;
+        write_name(out, &state.name)?;
+    }
+    Ok(())
+}
+
+/// Writes the states of a set between braces.
+fn write_set_states(out: &mut Vec<u8>, states: &[SetState]) -> Result<(), Memory>
+    ensures { OnOk result (out.new.items ≡ set_states_after out.old.items
+        (map set_state_of states.now)) }
+{
+    let Some((first, further)) = states.split_first() else {
+        return write_text(out, b"{}");
+    };
+    write_text(out, b"{ ")?;
+    write_name(out, &first.name)?;
+    write_further_states(out, further)?;
+    write_text(out, b" }")
+}
+
 fn write_decl(alloc: Global, out: &mut Vec<u8>, decl: &Decl) -> Result<(), Memory>
     ensures { OnOk result (out.new.items ≡ decl_after out.old.items (decl_of decl.now)) }
 {
@@ -121,7 +157,7 @@ fn write_decl(alloc: Global, out: &mut Vec<u8>, decl: &Decl) -> Result<(), Memor
             write_text(out, b"stateset ")?;
             write_name(out, name)?;
             write_text(out, b" ")?;
-            write_braced(out, states.as_slice())
+            write_set_states(out, states.as_slice())
         }
         Decl::Abstract { name, states, .. } => {
             write_text(out, b"abstract ")?;

@@ -41,6 +41,18 @@ impl Part for Entry {
                 write_text(out, b"->")?;
                 write_states(out, after)
             }
+            Entry::Bound {
+                key,
+                variable,
+                state,
+            } => {
+                write_name(out, key)?;
+                write_text(out, b"@(")?;
+                write_name(out, variable)?;
+                write_text(out, b" <= ")?;
+                write_name(out, state)?;
+                write_text(out, b")")
+            }
             Entry::Taken(held, _) => {
                 write_text(out, b"-")?;
                 held.write(out)

@@ -1,5 +1,5 @@
 -- Declarations, and whole files.
-use Rattle.std.proofs.Common.{ℕ, List, [], ◌∷◌, ◌++◌, Option, Some, None, refl}
+use Rattle.std.proofs.Common.{ℕ, Bool, true, false, List, [], ◌∷◌, ◌++◌, Option, Some, None, refl}
 use Rattle.std.specs.Prelude.{codes, IfSome}
 use Rattle.vlt_lexer.specs.declared.token.Word.TheVariants as words
 use Rattle.vlt_lexer.specs.declared.token.Mark.TheVariants as marks
@@ -7,10 +7,10 @@ use Rattle.vlt_syntax.specs.Lists.{each_then, listed_then, Each}
 use Rattle.vlt_syntax.specs.Grammar.{Bounds, IsField, IsCase, IsKeyStates, IsTy, IsEntry, IsParameter, IsHead, IsDecl}
 use Rattle.vlt_syntax.specs.Tokens.{Token, sign}
 use Rattle.vlt_syntax.specs.Tree as s
-use Rattle.vlt_syntax.specs.Tree.{Name, States, HeaderKey, Field, Case, Entry, ResultType, Parameter, Head, Decl}
-use Rattle.vlt_syntax.specs.Spelling.{name_then, key_states_then, ty_then, header_key_then, header_then, field_then, release_then, case_then, entry_then, result_type_then, parameter_then, clause_then, head_then, decl_then}
+use Rattle.vlt_syntax.specs.Tree.{Name, States, SetState, HeaderKey, Field, Case, Entry, ResultType, Parameter, Head, Decl}
+use Rattle.vlt_syntax.specs.Spelling.{name_then, state_sign, further_states_then, set_states_then, key_states_then, ty_then, header_key_then, header_then, field_then, release_then, case_then, entry_then, result_type_then, parameter_then, clause_then, head_then, decl_then}
 use Rattle.vlt_printer.specs.Lists.{each_after}
-use Rattle.vlt_printer.specs.Layout.{name_after, key_states_after, ty_after, header_key_after, header_after, field_after, field_line_after, release_line_after, fields_after, case_after, cases_after, entry_after, result_type_after, parameter_after, clause_after, head_after, decl_after, decl_line_after}
+use Rattle.vlt_printer.specs.Layout.{name_after, state_separator, further_states_after, set_states_after, key_states_after, ty_after, header_key_after, header_after, field_after, field_line_after, release_line_after, fields_after, case_after, cases_after, entry_after, result_type_after, parameter_after, clause_after, head_after, decl_after, decl_line_after}
 use Rattle.vlt_printer_laws.proofs.Following.{clear, wordy, signed, either}
 use Rattle.vlt_printer_laws.proofs.Steps.{Begins, weaker, text_begins, space, line_end, indented, word, mark}
 use Rattle.vlt_printer_laws.proofs.Sequences.{IsPrinted, each_holds, sign_stands, each_printed, some_printed, listed_printed, enclosed_printed, braced_printed}
@@ -93,6 +93,10 @@ module _ {all : List Token} {before : List ℕ} {rest : List Token} where
   entry_printed (s.changed k a b) h =
       let first = states_printed a (text_begins (mark marks.At ∷ []) refl (name_printed k h)) in
       states_printed b (text_begins (mark marks.Arrow ∷ []) refl first)
+  entry_printed (s.bound k v b) h =
+      let variable = name_printed v (text_begins (mark marks.At ∷ mark marks.OpenParen ∷ []) refl (name_printed k h)) in
+      let state = name_printed b (text_begins (space ∷ mark marks.LessEqual ∷ space ∷ []) refl variable) in
+      text_begins (mark marks.CloseParen ∷ []) refl state
   entry_printed (s.taken k at) h = key_states_printed k (text_begins (mark marks.Minus ∷ []) refl h)
   entry_printed (s.given k at) h = key_states_printed k (text_begins (mark marks.Plus ∷ []) refl h)
   entry_printed (s.fresh k at) h = key_states_printed k (text_begins (word words.New ∷ space ∷ []) refl h)
@@ -122,11 +126,27 @@ module _ {all : List Token} {before : List ℕ} {rest : List Token} where
       let listed = listed_printed parameter_then parameter_after IsParameter wordy each_parameter refl marks.CloseParen x.parameters _ _ is.parameters opened in
       clause_printed x.clause is.clause (text_begins (mark marks.CloseParen ∷ []) refl listed)
 
+state_separated : {all : List Token} (above : Bool) (before : List ℕ) (rest : List Token) → Begins all before (sign (state_sign above) ∷ rest) wordy → Begins all (before ++ state_separator above) rest signed
+state_separated true before rest h = text_begins (space ∷ mark marks.Less ∷ space ∷ []) refl h
+state_separated false before rest h = text_begins (mark marks.Comma ∷ space ∷ []) refl h
+
+further_states_printed : {all : List Token} (xs : List SetState) (before : List ℕ) (rest : List Token) → Begins all before (further_states_then xs rest) wordy
+    → Begins all (further_states_after before xs) (sign marks.CloseBrace ∷ rest) wordy
+further_states_printed [] before rest h = h
+further_states_printed (x ∷ xs) before rest h =
+    further_states_printed xs (name_after (before ++ state_separator x.above) x.name) rest (name_printed x.name (state_separated x.above before (name_then x.name (further_states_then xs rest)) h))
+
+set_states_printed : {all : List Token} (xs : List SetState) (before : List ℕ) (rest : List Token) → Begins all before (sign marks.OpenBrace ∷ set_states_then xs rest) signed → Begins all (set_states_after before xs) rest signed
+set_states_printed [] before rest h = text_begins (mark marks.OpenBrace ∷ mark marks.CloseBrace ∷ []) refl h
+set_states_printed (x ∷ xs) before rest h =
+    text_begins (space ∷ mark marks.CloseBrace ∷ []) refl
+    (further_states_printed xs (name_after (before ++ codes "{ ") x.name) rest (name_printed x.name (text_begins (mark marks.OpenBrace ∷ space ∷ []) refl h)))
+
 module _ {all : List Token} {before : List ℕ} {rest : List Token} where
   decl_printed : (b : Bounds) (d : Decl) → IsDecl b d → Begins all before (decl_then d rest) signed → Begins all (decl_after before d) rest signed
   decl_printed b (s.stateset n ss at) is h =
       let named = name_printed n (text_begins (word words.Stateset ∷ space ∷ []) refl h) in
-      braced_printed name_then name_after (λ n. Unit {0}) wordy any_name ss _ _ (each_holds ss) (text_begins (space ∷ []) refl named)
+      set_states_printed ss _ _ (text_begins (space ∷ []) refl named)
   decl_printed b (s.abstract n ss at) is h =
       let named = name_printed n (text_begins (word words.Abstract ∷ space ∷ []) refl h) in
       text_begins (mark marks.Semicolon ∷ []) refl (at_name_printed ss (weaker wordy either refl named))

@@ -3,10 +3,10 @@ use Rattle.std.proofs.Common.{◌≡◌, ℕ, ◌+◌, List, [], ◌∷◌, ◌+
 use Rattle.std.specs.Prelude.{codes}
 use Rattle.vlt_ops.specs.Operator.{row_of}
 use Rattle.vlt_syntax.specs.Tree as s
-use Rattle.vlt_syntax.specs.Tree.{Name, States, KeyStates, Named, Ty, Expr, Build, Call, Init, Right, Returned, Stmt, Block, If, Else, Stmts, Arms, HeaderKey, Field, Case, Entry, ResultType, Parameter, Head, Decl, Tree}
-use Rattle.vlt_syntax.specs.Places.{Spans, Placing, each_at, further_at, listed_at, enclosed_at, marked_at, name_at, states_at, key_states_at, named_at, ty_at, expr_at, build_at, call_at, init_at, owner_at, right_at, returned_at, stmt_at, block_at, if_at, else_at, stmts_at, arms_at, header_key_at, field_at, release_at, case_at, entry_at, result_type_at, parameter_at, clause_at, head_at, decl_at, tree_at}
+use Rattle.vlt_syntax.specs.Tree.{Name, States, KeyStates, Named, Ty, Expr, Build, Call, Init, Right, Returned, Stmt, Block, If, Else, Stmts, Arms, SetState, HeaderKey, Field, Case, Entry, ResultType, Parameter, Head, Decl, Tree}
+use Rattle.vlt_syntax.specs.Places.{Spans, Placing, each_at, further_at, listed_at, enclosed_at, marked_at, name_at, states_at, key_states_at, named_at, ty_at, expr_at, build_at, call_at, init_at, owner_at, right_at, returned_at, stmt_at, block_at, if_at, else_at, stmts_at, arms_at, set_state_at, header_key_at, field_at, release_at, case_at, entry_at, result_type_at, parameter_at, clause_at, head_at, decl_at, tree_at}
 use Rattle.vlt_printer.specs.Lists.{each_after, further_after, separated_after, listed_after, enclosed_after, braced_after}
-use Rattle.vlt_printer.specs.Layout.{name_after, at_name_after, states_after, at_states_after, key_states_after, named_after, ty_after, expr_after, build_after, call_after, init_after, owner_after, right_after, returned_after, deeper, stmt_after, block_after, stmts_after, if_after, else_after, arms_after, header_key_after, header_after, field_line_after, release_line_after, fields_after, case_after, cases_after, entry_after, result_type_after, parameter_after, clause_after, head_after, decl_after, decl_line_after, layout}
+use Rattle.vlt_printer.specs.Layout.{name_after, at_name_after, states_after, at_states_after, key_states_after, named_after, ty_after, expr_after, build_after, call_after, init_after, owner_after, right_after, returned_after, deeper, stmt_after, block_after, stmts_after, if_after, else_after, arms_after, state_separator, further_states_after, set_states_after, header_key_after, header_after, field_line_after, release_line_after, fields_after, case_after, cases_after, entry_after, result_type_after, parameter_after, clause_after, head_after, decl_after, decl_line_after, layout}
 
 abbrev Lays : {X : Type 0} → (X → Placing X) → (List ℕ → X → List ℕ) → Type 0
 Lays {X} place after = (x : X) (at : Spans) (i : ℕ) (before : List ℕ) → after before (place x at i).0 ≡ after before x
@@ -221,6 +221,7 @@ lays_entry (s.held k) at i before = lays_key_states k at i before
 lays_entry (s.changed k x y) at i before =
     let j = (states_at x at (i + 1 + 1)).1 + 1 in
     ap (λ b. states_after (b ++ codes "->") (states_at y at j).0) (lays_states x at (i + 1 + 1) (name_after before k ++ codes "@")) ∙ lays_states y at j _
+lays_entry (s.bound k v b) at i before = refl
 lays_entry (s.taken k a) at i before = lays_key_states k at (i + 1) (before ++ codes "-")
 lays_entry (s.given k a) at i before = lays_key_states k at (i + 1) (before ++ codes "+")
 lays_entry (s.fresh k a) at i before = lays_key_states k at (i + 1) (before ++ codes "new ")
@@ -244,8 +245,16 @@ lays_head h at i before =
     ∙ ap (λ b. clause_after (b ++ codes ")") (clause_at h.clause at k).0) (lays_separated parameter_at (codes ", ") parameter_after lays_parameter h.parameters at j (name_after (result_type_after before h.result_type ++ codes " ") h.name ++ codes "("))
     ∙ lays_clause h.clause at k _
 
+lays_further_states : Lays (further_at set_state_at) further_states_after
+lays_further_states [] at i before = refl
+lays_further_states (x ∷ xs) at i before = lays_further_states xs at (i + 1 + 1) (name_after (before ++ state_separator x.above) x.name)
+
+lays_set_states : Lays (listed_at set_state_at) set_states_after
+lays_set_states [] at i before = refl
+lays_set_states (x ∷ xs) at i before = ap (λ b. b ++ codes " }") (lays_further_states xs at (i + 1) (name_after (before ++ codes "{ ") x.name))
+
 lays_decl : Lays decl_at decl_after
-lays_decl (s.stateset n ss a) at i before = lays_braced name_at name_after lays_name ss at (i + 1 + 1 + 1) _
+lays_decl (s.stateset n ss a) at i before = lays_set_states ss at (i + 1 + 1 + 1) _
 lays_decl (s.abstract n ss a) at i before = ap (λ b. b ++ codes ";") (lays_at_name ss at (i + 1 + 1) (name_after (before ++ codes "abstract ") n))
 lays_decl (s.struct n ps ss fs r a) at i before =
     let j = (enclosed_at header_key_at ps at (i + 1 + 1)).1 in

@@ -5,6 +5,7 @@ use Rattle.std.specs.Fmt.{decimal}
 use Rattle.vlt_base.specs.Place.{line_of, column_of}
 use Rattle.vlt_core.specs.Core.{Name, States, Tok, a_key, a_var, SetDecl, CaseDecl, KeyDecl, VarDecl, Form, choose, loop, switch, focus, scope, Block, block, Stmts, done, next, Arms, no_arms, arm, Func, Program}
 use Rattle.vlt_core.specs.Lookups.{set_in, key_type, case_at, VariantOf, variant_of}
+use Rattle.vlt_core.specs.Instances.{Bound, bound_in}
 use Rattle.vlt_core.specs.Maps.{Status, absent, held, lent, full, Wanted, wants_absent, wants_held, wants_in, wants_lent, wants_full}
 use Rattle.vlt_core.specs.Faults.{FaultKind, at_row, at_join}
 use Rattle.vlt_core.specs.Witness.{Pick, then_arm, else_arm, turn, exit, case_arm, Choice}
@@ -50,6 +51,19 @@ names_of_type p (Some t) = names_of_set p (set_in (slice_get p.types t))
 abbrev pub state_names : Program → Func → Tok → Option (List Name)
 state_names p f (a_key k) = names_of_type p (key_type f k)
 state_names p f (a_var v) = None
+
+abbrev pub name_of_state : Option Name → Name
+name_of_state None = []
+name_of_state (Some name) = name
+
+abbrev pub named_state : Option (List Name) → (state : ℕ) → Name
+named_state None s = []
+named_state (Some names) s = name_of_state (slice_get names s)
+
+-- a state of the object of a function's bound entry, as the text names it
+abbrev pub bound_state : Program → Func → (state : ℕ) → Option Bound → Name
+bound_state p f s None = []
+bound_state p f s (Some b) = named_state (state_names p f (a_key b.key)) s
 
 -- ---- statuses
 
@@ -156,10 +170,18 @@ pick_text p f at (case_arm i) = tick_text p f (tick_in_stmts at i f.body)
 abbrev pub choice_text : (text : List ℕ) → Program → Func → Choice → List ℕ
 choice_text text p f c = codes " " ++ place_text text c.at ++ codes "=" ++ pick_text p f c.at c.pick
 
-abbrev pub path_line : (text : List ℕ) → Program → Func → List Choice → List ℕ
-path_line text p f cs = codes "path" ++ flat_map (choice_text text p f) cs ++ codes "\n"
+-- In which state the object of a bound entry comes, by the variable that stands for it. The instance goes by its origin; that of a
+-- function without such an entry needs no words.
+abbrev pub instance_text : Program → Func → (variable : Name) → (origin : Option ℕ) → List ℕ
+instance_text p f v None = []
+instance_text p f v (Some s) = codes " " ++ v ++ codes "=" ++ bound_state p f s (bound_in f.clause)
+
+-- the choices of a path in the instance of these words
+abbrev pub path_line : (text : List ℕ) → Program → Func → (instance : List ℕ) → List Choice → List ℕ
+path_line text p f instance cs = codes "path" ++ instance ++ flat_map (choice_text text p f) cs ++ codes "\n"
 
 -- one path, or the two to a join
-abbrev pub paths_text : (text : List ℕ) → Program → Func → (first : List Choice) → (second : Option (List Choice)) → List ℕ
-paths_text text p f first None = path_line text p f first
-paths_text text p f first (Some second) = path_line text p f first ++ path_line text p f second
+abbrev pub paths_text :
+    (text : List ℕ) → Program → Func → (instance : List ℕ) → (first : List Choice) → (second : Option (List Choice)) → List ℕ
+paths_text text p f instance first None = path_line text p f instance first
+paths_text text p f instance first (Some second) = path_line text p f instance first ++ path_line text p f instance second

@@ -1,6 +1,7 @@
 //! Names, as the text has them.
 
 ghost use Rattle.std.specs.Prelude.{◌≡◌};
+ghost use Rattle.vlt_core.specs.Instances.{bound_in};
 ghost use Rattle.vlt_core.specs.View.{program_of, func_of, tok_of};
 ghost use Rattle.vlt_reports.specs.Reports as r;
 ghost use Rattle.vlt_reports.specs.Seen.{names_known};
@@ -40,4 +41,21 @@ pub fn state_names<'a>(p: &'a Program, f: &Func, token: Tok) -> Option<&'a [Item
     };
     let d = p.sets.get(set?.0 as usize)?;
     Some(d.states.as_slice())
+}
+
+/// A state of the object of a function's bound entry, as the text names it.
+pub fn bound_state<'a>(p: &'a Program, f: &Func, state: u8) -> &'a [u8]
+    ensures { result.now ≡ r.bound_state (program_of p.now) (func_of f.now) state
+        (bound_in (func_of f.now).clause) }
+{
+    let Some(bound) = f.bound() else {
+        return &[];
+    };
+    let Some(names) = state_names(p, f, Tok::Key(bound.key)) else {
+        return &[];
+    };
+    match names.get(state as usize) {
+        None => &[],
+        Some(name) => name.as_slice(),
+    }
 }

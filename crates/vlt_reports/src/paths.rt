@@ -6,11 +6,12 @@ ghost use Rattle.std.specs.Option.{option_map, option_copied};
 ghost use Rattle.vlt_core.specs.Lookups.{variant_of};
 ghost use Rattle.vlt_core.specs.View.{program_of, func_of, case_of};
 ghost use Rattle.vlt_core.specs.FaultView.{pick_of, choice_of, choices_of};
-ghost use Rattle.vlt_reports.specs.Reports.{case_in, tick_text, pick_text, choice_text, path_line, paths_text};
+ghost use Rattle.vlt_reports.specs.Reports.{case_in, tick_text, pick_text, choice_text, instance_text, path_line, paths_text};
 ghost use Rattle.vlt_reports.specs.Seen.{tick_seen};
 ghost use Rattle.vlt_reports.specs.Writing.{Adds};
 
 use crate::lines::place_within;
+use crate::names::bound_state;
 use crate::statuses::add;
 use crate::ticks::{Tick, Wanted, tick_in_list};
 use std::alloc::{AllocError, Global};
@@ -81,20 +82,44 @@ fn add_choice(
     add_pick(out, p, f, choice)
 }
 
-/// The choices of a path.
+/// The words for the instance of a function.
+fn instance(
+    alloc: Global,
+    p: &Program,
+    f: &Func,
+    variable: &[u8],
+    origin: Option<u8>,
+) -> Result<Vec<u8>, AllocError>
+    ensures { IfOk result (λ v. v.items
+        ≡ instance_text (program_of p.now) (func_of f.now) variable.now origin) }
+{
+    let mut out = Vec::new(alloc);
+    if let Some(state) = origin {
+        add(&mut out, b" ")?;
+        add(&mut out, variable)?;
+        add(&mut out, b"=")?;
+        add(&mut out, bound_state(p, f, state))?;
+    }
+    Ok(out)
+}
+
+/// The choices of a path, behind the words for its instance.
 fn path(
     alloc: Global,
     text: &[u8],
     p: &Program,
     f: &Func,
+    instance: &[u8],
     choices: &[Choice],
 ) -> Result<Vec<u8>, AllocError>
     requires { length text.now < 2 ^ 32 - 1 }
     ensures { IfOk result (λ v. v.items
-        ≡ path_line text.now (program_of p.now) (func_of f.now) (choices_of choices.now)) }
+        ≡ path_line text.now (program_of p.now) (func_of f.now) instance.now
+        (choices_of choices.now)) }
 {
     let mut out = Vec::new(alloc);
     add(&mut out, b"path")?;
+    add(&mut out, instance)?;
     for choice in choices {
         add_choice(&mut out, alloc, text, p, f, *choice)?;
     }
@@ -102,21 +127,26 @@ fn path(
     Ok(out)
 }
 
-/// The path of a witness to a faulty row, or its two to a faulty join.
+/// The path of a witness to a faulty row, or its two to a faulty join, in the function's instance of this origin. The variable is
+/// the one that stands for the state of a bound entry's object.
 pub fn path_lines(
     alloc: Global,
     text: &[u8],
     p: &Program,
     f: &Func,
+    variable: &[u8],
+    origin: Option<u8>,
     witness: &Witness,
 ) -> Result<Vec<u8>, AllocError>
     requires { length text.now < 2 ^ 32 - 1 }
     ensures { IfOk result (λ v. v.items ≡ paths_text text.now (program_of p.now) (func_of f.now)
+        (instance_text (program_of p.now) (func_of f.now) variable.now origin)
         (choices_of witness.now.first) (option_map choices_of witness.now.second)) }
 {
-    let mut out = path(alloc, text, p, f, witness.first.as_slice())?;
+    let words = instance(alloc, p, f, variable, origin)?;
+    let mut out = path(alloc, text, p, f, &words, witness.first.as_slice())?;
     if let Some(choices) = &witness.second {
-        let second = path(alloc, text, p, f, choices.as_slice())?;
+        let second = path(alloc, text, p, f, &words, choices.as_slice())?;
         add(&mut out, second.as_slice())?;
     }
     Ok(out)

@@ -1,7 +1,6 @@
 -- Each set of states that an elaborated program says has states below 32 alone.
 use Rattle.std.proofs.Common.{◌≡◌, ℕ, zero, suc, ◌≤◌, List, [], ◌∷◌, length, Option, Some, None, refl, sym, subst, arith, slice_get}
 use Rattle.std.proofs.lemmas.Bool.{ltb-true}
-use Rattle.std.proofs.lemmas.List.{length-map}
 use Rattle.std.proofs.lemmas.Option.{none-some, same_Some}
 use Rattle.vlt_syntax.specs.Tree as s
 use Rattle.vlt_syntax.specs.Tree.{Decl, Tree}
@@ -10,8 +9,9 @@ use Rattle.vlt_syntax.specs.Grammar.{IsDecl, language}
 use Rattle.vlt_core.specs.Core.{SetDecl, Program}
 use Rattle.vlt_kinds_types.specs.Names.Refusals.{of_each}
 use Rattle.vlt_kinds_types.specs.declared.shapes.Shape.{Shape}
-use Rattle.vlt_kinds_types.specs.Files.{file_of, sets_in, texts, then_with, states_in, state_names}
+use Rattle.vlt_kinds_types.specs.Files.{file_of, sets_in, state_texts, links_of, then_with, states_in, state_names}
 use Rattle.vlt_kinds_types.specs.Types.{state_count_in}
+use Rattle.vlt_kinds_types.proofs.Sets.{few_texts}
 use Rattle.vlt_kinds.specs.Kinds.{Kinds}
 use Rattle.vlt_resolve_laws.proofs.OfKindsLaws.States.{states_fit, ListedAre}
 use Rattle.vlt_resolve_laws.specs.Narrow.{IsNarrowSet, HasNarrowStates}
@@ -22,8 +22,8 @@ use Rattle.vlt_resolve_laws.proofs.Said.{elaborated_says}
 pub few_states : (ds : List Decl) → Each (IsDecl language) ds → (i : ℕ) (d : SetDecl) → slice_get (of_each sets_in ds) i ≡ Some d → length d.states ≤ 32
 few_states [] right i d at = absurd (none-some d at)
 few_states (s.stateset n ss place ∷ ds) right zero d at =
-    subst (λ d. length d.states ≤ 32) (same_Some (record { name = n.text; states = texts ss; links = [] }) d at)
-    (subst (λ n. n ≤ 32) (sym (length-map ss (λ n. n.text))) right.0.1)
+    subst (λ d. length d.states ≤ 32) (same_Some (record { name = n.text; states = state_texts ss; links = links_of ss }) d at)
+    (few_texts ss 32 right.0.1)
 few_states (s.stateset n ss place ∷ ds) right (suc i) d at = few_states ds right.1 i d at
 few_states (s.abstract n ss place ∷ ds) right i d at = few_states ds right.1 i d at
 few_states (s.struct n ps ss fs r place ∷ ds) right i d at = few_states ds right.1 i d at

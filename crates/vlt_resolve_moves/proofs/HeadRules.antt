@@ -1,5 +1,7 @@
 -- What the rules on heads refuse, the rule on externals aside.
-use Rattle.std.proofs.Common.{◌≡◌, ℕ, ◌==◌, Bool, true, false, not, ◌||◌, List, [], ◌∷◌, ◌++◌, map, Option, Some, None, slice_get, option_map, refl, sym, ap, ap₂, ◌∙◌}
+use Rattle.std.proofs.Common.{◌≡◌, ℕ, ◌==◌, Bool, true, false, not, ◌||◌, List, [], ◌∷◌, ◌++◌, map, Option, Some, None, slice_get, option_map, is_some, true≢false, refl, sym, ap, ap₂, ◌∙◌}
+use Rattle.std.specs.Map.{lookup}
+use Rattle.std.specs.Str.{bytes_eq}
 use Rattle.vlt_syntax.specs.Tree as s
 use Rattle.vlt_syntax.specs.Tree.{Name, States, Entry, ResultType, Parameter, Head}
 use Rattle.vlt_syntax.specs.Lists.{Each}
@@ -19,19 +21,30 @@ use Rattle.vlt_kinds_heads.specs.declared.facts.Facts.{Facts}
 use Rattle.vlt_kinds_heads.specs.declared.facts.Typing.{Typing}
 use Rattle.vlt_kinds_heads.specs.Places.{result_uses, parameter_uses, clause_in, entry_key, is_fresh, first_states, second_states, HeadName, used_name, entry_name, parameter_name, parameter_names, head_names}
 use Rattle.vlt_kinds_heads.specs.Keys.{Keys, facts_of, behind_result, behind_parameters, behind_entry, behind_use, fresh_typed, places_behind, keys_behind}
+use Rattle.vlt_kinds_heads.specs.Bounds.{is_key, is_parameter, is_taken, variable_refused, behind_bound, variables_refused}
 use Rattle.vlt_kinds_heads.specs.Heads.{result_type_refused, parameter_refused, Seen, is_repeated, with_name, name_refused, names_refused, again_refused, type_rule, clash_with, clash, result_clash_with, result_clash, result_key_refused, entry_key_refused, key_states_refused, entry_states_refused, entry_refused, types_refused, clause_again, typings_refused, result_refused, head_refused_by, head_refused}
 use Rattle.vlt_resolve_moves.specs.Sees.{Sees, IsFree, moved_wanted}
 use Rattle.vlt_resolve_moves.proofs.Empty.{no_left, no_right, none_of_both, not_broken, quiet}
 use Rattle.vlt_resolve_moves.proofs.Named.{moved_use, ty_fine, uses_move, same_owned_states}
-use Rattle.vlt_resolve_moves.proofs.Heads.{moved_typing, moved_facts, moved_keys, facts_move, entry_behind, use_behind, results_behind, parameters_behind, fresh_move, places_move, keys_move, result_uses_move, parameter_uses_move}
+use Rattle.vlt_resolve_moves.proofs.Heads.{moved_typing, moved_facts, moved_keys, looked_up, facts_move, entry_behind, use_behind, results_behind, parameters_behind, fresh_move, places_move, keys_move, result_uses_move, parameter_uses_move}
 
 -- the names of a head are free
 abbrev pub IsFreeHead : (a b : Kinds) → List HeadName → Type 0
 IsFreeHead a b = Each (λ n. IsFree a b n.text)
 
+-- a state variable of a clause is free
+abbrev pub IsFreeVariable : (a b : Kinds) → Entry → Type 0
+IsFreeVariable a b (s.bound k v state) = IsFree a b v.text
+IsFreeVariable a b _ = Unit {0}
+
 neither : (x y z : Bool) → (x || y) ≡ false → (y ≡ false → z ≡ false) → (x || z) ≡ false
 neither true y z e f = e
 neither false y z e f = f e
+
+still : (again g h k p : Bool) → (again || (g || (k || p))) ≡ false → (g ≡ false → h ≡ false) → (again || (h || (k || p))) ≡ false
+still true g h k p e free = e
+still false true h k p e free = absurd (true≢false e)
+still false false h k p e free = ap (λ x. x || (k || p)) (free refl) ∙ e
 
 module _ (m : Moves) where
   -- ---- names
@@ -144,6 +157,36 @@ module _ (m : Moves) where
     entries_fine ks [] = refl
     entries_fine ks (e ∷ es) = ap₂ (λ x y. x ++ y) (entry_same ks e) (entries_fine ks es)
 
+    -- ---- 46
+
+    key_same : (ks : Keys) (t : List ℕ) → is_key (moved_keys m ks) t ≡ is_key ks t
+    key_same ks t = ap is_some (looked_up m t ks) ∙ by (lookup (bytes_eq t) ks)
+      where
+        by : (o : Option Facts) → is_some (option_map (moved_facts m) o) ≡ is_some o
+        by None = refl
+        by (Some f) = refl
+
+    variable_fine : (ks : Keys) (ps : List Parameter) (again : Bool) (e : Entry) → IsFreeVariable a b e → variable_refused a.file.globals ks ps again e ≡ []
+        → variable_refused b.file.globals (moved_keys m ks) ps again e ≡ []
+    unfolding is_taken
+    variable_fine ks ps again (s.held k) free none = refl
+    variable_fine ks ps again (s.changed k before after) free none = refl
+    variable_fine ks ps again (s.bound k v state) free none =
+        quiet (again || (is_global b.file.globals v.text || (is_key (moved_keys m ks) v.text || is_parameter ps v.text))) rule.SECOND_BOUND v.at.from
+        (ap (λ x. again || (is_global b.file.globals v.text || (x || is_parameter ps v.text))) (key_same ks v.text)
+        ∙ still again (is_global a.file.globals v.text) (is_global b.file.globals v.text) (is_key ks v.text) (is_parameter ps v.text)
+        (not_broken (again || (is_global a.file.globals v.text || (is_key ks v.text || is_parameter ps v.text))) rule.SECOND_BOUND v.at.from none) free)
+    variable_fine ks ps again (s.taken k at) free none = refl
+    variable_fine ks ps again (s.given k at) free none = refl
+    variable_fine ks ps again (s.fresh k at) free none = refl
+
+    variables_fine : (ks : Keys) (ps : List Parameter) (again : Bool) (es : List Entry) → Each (IsFreeVariable a b) es → along behind_bound (variable_refused a.file.globals ks ps) again es ≡ []
+        → along behind_bound (variable_refused b.file.globals (moved_keys m ks) ps) again es ≡ []
+    variables_fine ks ps again [] free none = refl
+    variables_fine ks ps again (e ∷ es) free none =
+        none_of_both _ _ (variable_fine ks ps again e free.0 (no_left (variable_refused a.file.globals ks ps again e) _ none))
+        (variables_fine ks ps (behind_bound again e) es free.1 (no_right (variable_refused a.file.globals ks ps again e) _ none))
+
     -- ---- 7 to 13
 
     result_type_fine : (r : ResultType) → result_type_refused a.file r ≡ [] → result_type_refused b.file r ≡ []
@@ -187,9 +230,9 @@ module _ (m : Moves) where
 
     -- ---- a head
 
-    pub head_fine : (h : Head) → IsFreeHead a b (head_names a.file h) → head_refused a.file h ≡ [] → head_refused b.file h ≡ []
+    pub head_fine : (h : Head) → IsFreeHead a b (head_names a.file h) → Each (IsFreeVariable a b) (clause_in h.clause) → head_refused a.file h ≡ [] → head_refused b.file h ≡ []
     unfolding types_refused head_refused_by
-    head_fine h free none =
+    head_fine h free variables none =
         let rs = result_uses a.file h.result_type in
         let ps = parameter_uses a.file h.parameters in
         let es = clause_in h.clause in
@@ -199,6 +242,7 @@ module _ (m : Moves) where
         let three = no_right (clause_again rs ps es) _ two in
         let four = no_right (typings_refused (places_behind rs ps es) rs ps) _ three in
         let five = no_right (result_refused (keys_behind rs ps es) rs) _ four in
+        let six = no_right (of_each (entry_refused a.file (keys_behind rs ps es)) es) _ five in
         ap₂ (λ x y. head_refused_by b.file h x y)
         (result_uses_move m a b sees h.result_type (no_left (result_type_refused a.file h.result_type) _ types))
         (parameter_uses_move m a b sees h.parameters (no_right (result_type_refused a.file h.result_type) _ types)) ∙
@@ -212,4 +256,7 @@ module _ (m : Moves) where
         (ap (λ k. result_refused k (map (moved_use m) rs)) (keys_move m rs ps es) ∙ (result_same sees.apart (keys_behind rs ps es) rs ∙ no_left (result_refused (keys_behind rs ps es) rs) _ four))
         (none_of_both _ _
         (ap (λ k. of_each (entry_refused b.file k) es) (keys_move m rs ps es) ∙ (entries_fine (keys_behind rs ps es) es ∙ no_left (of_each (entry_refused a.file (keys_behind rs ps es)) es) _ five))
-        (no_right (of_each (entry_refused a.file (keys_behind rs ps es)) es) _ five))))))
+        (none_of_both _ _
+        (ap (λ k. along behind_bound (variable_refused b.file.globals k h.parameters) false es) (keys_move m rs ps es)
+        ∙ variables_fine (keys_behind rs ps es) h.parameters false es variables (no_left (variables_refused a.file.globals (keys_behind rs ps es) h.parameters es) _ six))
+        (no_right (variables_refused a.file.globals (keys_behind rs ps es) h.parameters es) _ six)))))))

@@ -13,8 +13,8 @@ use Rattle.vlt_kinds_types.specs.Names.Refusals.{of_each}
 use Rattle.vlt_kinds_types.specs.declared.shapes.Shape.{Shape}
 use Rattle.vlt_kinds_types.specs.declared.shapes.Wanted.{Wanted}
 use Rattle.vlt_kinds_types.specs.declared.shapes.Wanted.TheVariants as wanted
-use Rattle.vlt_kinds_types.specs.Files.{shape_at, state_names}
-use Rattle.vlt_kinds_types.specs.Types.{KeyUse, ty_refused, ty_uses, core_ty}
+use Rattle.vlt_kinds_types.specs.Files.{shape_at, state_names, number_of}
+use Rattle.vlt_kinds_types.specs.Types.{KeyUse, ty_refused, ty_uses, known_states, core_ty}
 use Rattle.vlt_kinds.specs.Kinds.{Kinds}
 use Rattle.vlt_kinds_heads.specs.declared.facts.Facts.{Facts}
 use Rattle.vlt_kinds_heads.specs.declared.facts.Typing.{Typing}
@@ -38,7 +38,7 @@ module _ (m : Moves) where
 
   -- ---- tables
 
-  looked_up : (k : List ℕ) (es : Keys) → lookup (bytes_eq k) (moved_keys es) ≡ option_map moved_facts (lookup (bytes_eq k) es)
+  pub looked_up : (k : List ℕ) (es : Keys) → lookup (bytes_eq k) (moved_keys es) ≡ option_map moved_facts (lookup (bytes_eq k) es)
   looked_up k [] = refl
   looked_up k (e ∷ es) = ap (λ x. cond (bytes_eq k e.0) (Some (moved_facts e.1)) x) (looked_up k es) ∙ by (bytes_eq k e.0)
     where
@@ -184,6 +184,7 @@ module _ (m : Moves) where
     entry_in_same : (es : Keys) (known : Option (List (List ℕ))) (e : Entry) → core_entry_in (moved_keys es) known e ≡ core_entry_in es known e
     entry_in_same es known (s.held k) = ap (λ (n : List ℕ → ℕ). let r : core.Entry = record { mode = core.kept; key = n k.key.text; before = states_named known k.states; after = states_named known k.states } in r) (same_number es)
     entry_in_same es known (s.changed k before after) = ap (λ (n : List ℕ → ℕ). let r : core.Entry = record { mode = core.kept; key = n k.text; before = states_named known (Some before); after = states_named known (Some after) } in r) (same_number es)
+    entry_in_same es known (s.bound k v b) = ap (λ (n : List ℕ → ℕ). let r : core.Entry = record { mode = core.up_to (number_of (known_states known) b); key = n k.text; before = None; after = None } in r) (same_number es)
     entry_in_same es known (s.taken k at) = ap (λ (n : List ℕ → ℕ). let r : core.Entry = record { mode = core.taken; key = n k.key.text; before = states_named known k.states; after = None } in r) (same_number es)
     entry_in_same es known (s.given k at) = ap (λ (n : List ℕ → ℕ). let r : core.Entry = record { mode = core.given; key = n k.key.text; before = None; after = states_named known k.states } in r) (same_number es)
     entry_in_same es known (s.fresh k at) = ap (λ (n : List ℕ → ℕ). let r : core.Entry = record { mode = core.fresh; key = n k.key.text; before = None; after = states_named known k.states } in r) (same_number es)

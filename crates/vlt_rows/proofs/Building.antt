@@ -12,7 +12,8 @@ use Rattle.vlt_core.specs.Rows.{arm_rows}
 use Rattle.vlt_core.specs.View as view
 use Rattle.vlt_core.specs.declared.program.Stmt.{Stmt}
 use Rattle.vlt_core.specs.declared.program.Arm.{Arm, out-Arm}
-use Rattle.vlt_core.proofs.Views.{stmt_parts as core_stmt_parts, arm_parts as core_arm_parts}
+use Rattle.vlt_core.specs.declared.program.Block.{Block, out-Block}
+use Rattle.vlt_core.proofs.Views.{block_parts as core_block_parts, stmt_parts as core_stmt_parts, arm_parts as core_arm_parts}
 use Rattle.vlt_rows.specs.declared.tree.FlowStmt.{FlowStmt}
 use Rattle.vlt_rows.specs.declared.tree.FlowArm.{FlowArm}
 use Rattle.vlt_rows.specs.declared.tree.Flow.TheViews.{roll-FlowArm}
@@ -70,6 +71,10 @@ module _ (p : Program) (f : Func) (left : List Tok) where
   wide_stmt [] i x lt read h = absurd (omega arith)
   wide_stmt (y ∷ xs) zero x lt read h = inl (subst (λ z. HasPart HasWide NoArms (flow_of p f left z.1)) (sym (core_stmt_parts y)) (subst (λ z. HasPart HasWide NoArms (flow_of p f left (view.form_of z.form))) read h))
   wide_stmt (y ∷ xs) (suc i) x lt read h = inr (wide_stmt xs i x (omega arith) read h)
+
+  -- a wide row of a block's statements is one of the block's
+  pub wide_block : (b : Block) → HasPartStmts HasWide NoArms (flow_of_stmts p f (left ++ toks_of (out-Block b).bound) (view.stmts_of (out-Block b).stmts)) → HasWideRow (flow_of_block p f left (view.block_of b))
+  wide_block b h = subst (λ x. HasWideRow (flow_of_block p f left x)) (sym (core_block_parts b)) h
 
   pub building_ends : (xs : List Stmt) (i : ℕ) (ys : List FlowStmt) → length xs ≤ i → Building xs i ys → stmts_view ys ≡ flow_of_stmts p f left (view.stmts_of xs)
   building_ends xs i ys past m = ap stmts_made (mapped_ends stmt_flow stmt_view xs i ys past m) ∙ stmts_flow xs

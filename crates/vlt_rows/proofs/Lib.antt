@@ -1,5 +1,7 @@
 pub mod Taken
 pub mod Looping
+pub mod Instanced
+pub mod OfOrigins
 pub mod Fitting
 pub mod Collected
 pub mod Views

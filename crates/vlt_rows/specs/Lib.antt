@@ -3,5 +3,7 @@ pub mod Taking
 pub mod FlowView
 pub mod Unfit
 pub mod Pieces
+pub mod Sides
+pub mod Instances
 pub mod Made
 pub mod Passing

@@ -1,16 +1,18 @@
-//! The flow of a body.
+//! The flow of a body in an instance of its function.
 
 ghost use Rattle.std.specs.Prelude.{◌≡◌, ◌<◌, ◌^◌, ◌++◌, ◌∷◌, [], if◌then◌else◌, length, map, filter, IfOk, OnOk, MatchResult};
 ghost use Rattle.std.specs.List.{list_any, range_with_len};
 ghost use Rattle.vlt_core.specs.Core.{a_key};
 ghost use Rattle.vlt_core.specs.Bodies.{flow_of, flow_of_block, flow_of_stmts, flow_of_arms};
 ghost use Rattle.vlt_core.specs.Maps.{is_tok};
-ghost use Rattle.vlt_core.specs.View.{program_of, func_of, tok_of, form_of, block_of, stmts_of, arms_of};
+ghost use Rattle.vlt_core.specs.View.{func_of, tok_of, form_of, block_of, stmts_of, arms_of};
 ghost use Rattle.vlt_core.specs.HeldView.{toks_of};
 ghost use Rattle.vlt_core.specs.Rows.{tokens_of, in_order};
 ghost use Rattle.vlt_rows.specs.Unfit.{UnfitBy, HasManyTokens};
+ghost use Rattle.vlt_rows.specs.Instances.{program_in, func_in};
 ghost use Rattle.vlt_rows.specs.Made.{MakesForm, MakesBlock, MakesStmts, MakesArms};
 
+use crate::instances::Instance;
 use crate::list::{
     arm_list, expr_list, focus_end_list, focus_list, form_list, return_list, switch_list,
 };
@@ -18,7 +20,7 @@ use crate::sink::RowError;
 use crate::tree::{Flow, FlowArm, FlowBlock, FlowStmt};
 use std::alloc::{AllocError, Global};
 use vlt_base::{Items, KeyId, VarId};
-use vlt_core::{Arm, Block, Form, Func, Program, Stmt, Tok};
+use vlt_core::{Arm, Block, Form, Func, Stmt, Tok};
 
 fn is_among(t: Tok, toks: &[Tok]) -> bool
     ensures { result ≡ list_any (is_tok (tok_of t)) (toks_of toks.now) }
@@ -106,15 +108,15 @@ fn with(alloc: Global, left: &[Tok], bound: &[Tok]) -> Result<Items<Tok>, AllocE
 #[cycle(build)]
 fn flow_form(
     alloc: Global,
-    p: &Program,
-    f: &Func,
+    i: &Instance<'_>,
     tokens: &[Tok],
     left: &[Tok],
     form: &Form,
 ) -> Result<Flow, RowError>
-    requires { toks_of tokens.now ≡ tokens_of (func_of f.now) }
+    requires { toks_of tokens.now ≡ tokens_of (func_in i.now) }
     ensures { MakesForm
-        (flow_of (program_of p.now) (func_of f.now) (toks_of left.now) (form_of form.now)) result }
+        (flow_of (program_in i.now) (func_in i.now) (toks_of left.now)
+        (form_of form.now)) result }
 {
     match form {
         Form::If {
@@ -122,36 +124,36 @@ fn flow_form(
             then_block,
             else_block,
         } => Ok(Flow::If {
-            rows: expr_list(alloc, p, f, cond)?,
-            then_block: flow_block(alloc, p, f, tokens, left, then_block)?,
-            else_block: flow_block(alloc, p, f, tokens, left, else_block)?,
+            rows: expr_list(alloc, i, cond)?,
+            then_block: flow_block(alloc, i, tokens, left, then_block)?,
+            else_block: flow_block(alloc, i, tokens, left, else_block)?,
         }),
         Form::While { cond, body } => Ok(Flow::While {
-            rows: expr_list(alloc, p, f, cond)?,
-            body: flow_block(alloc, p, f, tokens, &[], body)?,
+            rows: expr_list(alloc, i, cond)?,
+            body: flow_block(alloc, i, tokens, &[], body)?,
         }),
         Form::Switch { v, arms, end } => Ok(Flow::Switch {
-            rows: switch_list(alloc, f, *v)?,
-            arms: flow_arms(alloc, p, f, tokens, left, *v, arms.as_slice())?,
+            rows: switch_list(alloc, i, *v)?,
+            arms: flow_arms(alloc, i, tokens, left, *v, arms.as_slice())?,
             end: *end,
         }),
         Form::Focus { y, z, body } => Ok(Flow::Focus {
-            rows: focus_list(alloc, p, f, *y, *z)?,
-            body: flow_block(alloc, p, f, tokens, left, body)?,
-            after: focus_end_list(alloc, p, f, *y, *z)?,
+            rows: focus_list(alloc, i, *y, *z)?,
+            body: flow_block(alloc, i, tokens, left, body)?,
+            after: focus_end_list(alloc, i, *y, *z)?,
         }),
         Form::Scope { body } => Ok(Flow::Scope {
-            body: flow_block(alloc, p, f, tokens, left, body)?,
+            body: flow_block(alloc, i, tokens, left, body)?,
         }),
         Form::Return { value } => Ok(Flow::Return {
-            rows: return_list(alloc, p, f, tokens, value)?,
+            rows: return_list(alloc, i, tokens, value)?,
         }),
         Form::Jump { continues } => Ok(Flow::Jump {
             continues: *continues,
             left: ordered(alloc, tokens, left)?,
         }),
         _ => Ok(Flow::Step {
-            rows: form_list(alloc, p, f, form)?,
+            rows: form_list(alloc, i, form)?,
         }),
     }
 }
@@ -159,26 +161,18 @@ fn flow_form(
 #[cycle(build)]
 fn flow_block(
     alloc: Global,
-    p: &Program,
-    f: &Func,
+    i: &Instance<'_>,
     tokens: &[Tok],
     left: &[Tok],
     block: &Block,
 ) -> Result<FlowBlock, RowError>
-    requires { toks_of tokens.now ≡ tokens_of (func_of f.now) }
-    ensures { MakesBlock (flow_of_block (program_of p.now) (func_of f.now) (toks_of left.now)
+    requires { toks_of tokens.now ≡ tokens_of (func_in i.now) }
+    ensures { MakesBlock (flow_of_block (program_in i.now) (func_in i.now) (toks_of left.now)
         (block_of block.now)) result }
 {
     let inside = with(alloc, left, block.bound.as_slice())?;
     Ok(FlowBlock {
-        stmts: flow_stmts(
-            alloc,
-            p,
-            f,
-            tokens,
-            inside.as_slice(),
-            block.stmts.as_slice(),
-        )?,
+        stmts: flow_stmts(alloc, i, tokens, inside.as_slice(), block.stmts.as_slice())?,
         bound: Items::from_slice(alloc, block.bound.as_slice())?,
         end: block.end,
     })
@@ -187,19 +181,18 @@ fn flow_block(
 #[cycle(build)]
 pub fn flow_stmts(
     alloc: Global,
-    p: &Program,
-    f: &Func,
+    i: &Instance<'_>,
     tokens: &[Tok],
     left: &[Tok],
     stmts: &[Stmt],
 ) -> Result<Items<FlowStmt>, RowError>
-    requires { toks_of tokens.now ≡ tokens_of (func_of f.now) }
-    ensures { MakesStmts (flow_of_stmts (program_of p.now) (func_of f.now) (toks_of left.now)
+    requires { toks_of tokens.now ≡ tokens_of (func_in i.now) }
+    ensures { MakesStmts (flow_of_stmts (program_in i.now) (func_in i.now) (toks_of left.now)
         (stmts_of stmts.now)) result }
 {
     let mut list = Items::new(alloc);
     for s in stmts {
-        let flow = flow_form(alloc, p, f, tokens, left, &s.form)?;
+        let flow = flow_form(alloc, i, tokens, left, &s.form)?;
         list.push(FlowStmt { at: s.at, flow })?;
     }
     Ok(list)
@@ -208,21 +201,20 @@ pub fn flow_stmts(
 #[cycle(build)]
 fn flow_arms(
     alloc: Global,
-    p: &Program,
-    f: &Func,
+    i: &Instance<'_>,
     tokens: &[Tok],
     left: &[Tok],
     v: VarId,
     arms: &[Arm],
 ) -> Result<Items<FlowArm>, RowError>
-    requires { toks_of tokens.now ≡ tokens_of (func_of f.now) }
-    ensures { MakesArms (flow_of_arms (program_of p.now) (func_of f.now) (toks_of left.now) v.0
+    requires { toks_of tokens.now ≡ tokens_of (func_in i.now) }
+    ensures { MakesArms (flow_of_arms (program_in i.now) (func_in i.now) (toks_of left.now) v.0
         (arms_of arms.now)) result }
 {
     let mut list = Items::new(alloc);
     for arm in arms {
-        let rows = arm_list(alloc, p, f, v, arm.case, arm.vars.as_slice())?;
-        let body = flow_block(alloc, p, f, tokens, left, &arm.body)?;
+        let rows = arm_list(alloc, i, v, arm.case, arm.vars.as_slice())?;
+        let body = flow_block(alloc, i, tokens, left, &arm.body)?;
         list.push(FlowArm { rows, body })?;
     }
     Ok(list)

@@ -6,6 +6,7 @@ ghost use Rattle.vlt_core.specs.View.{program_of, func_of, operand_of, entry_of,
 ghost use Rattle.vlt_core.specs.HeldView.{wanted_of, toks_of};
 ghost use Rattle.vlt_core.specs.Maps.{wants_in, becomes_absent};
 ghost use Rattle.vlt_core.specs.Core.{call, return};
+ghost use Rattle.vlt_core.specs.Instances.{instance, entry_in};
 ghost use Rattle.vlt_core.specs.Lookups.{is_before, is_after, is_fresh};
 ghost use Rattle.vlt_core.specs.Rows.{rows_of, operand_rows, held_in, key_row, entry_row, entry_wanted, called_row, called_rows, target_rows, new_rows, given_back_rows, return_rows, tokens_of, on_option};
 ghost use Rattle.vlt_rows.specs.Taking.{TookOrStopped};
@@ -15,7 +16,7 @@ ghost use Rattle.vlt_rows.specs.Pieces.{entry_rows, callee_rows, value_rows, new
 use crate::expr::{give_operand, give_operands};
 use crate::pieces::{give_fill, give_gone, give_left, give_row, give_wanted};
 use crate::sink::{RowError, RowSink};
-use crate::states::{States, side_states, states_up_to};
+use crate::states::{States, side_states, states_after, states_up_to};
 use vlt_base::{FnId, KeyId, StateSet, VarId};
 use vlt_core::{After, Entry, Expr, Func, Mode, Operand, Program, Row, Tok, Wanted};
 
@@ -229,12 +230,14 @@ fn give_returned<S: RowSink>(f: &Func, x: VarId, states: States, to: &mut S) -> 
 fn give_new<S: RowSink>(
     p: &Program,
     f: &Func,
+    origin: Option<u8>,
     value: &Option<Operand>,
     e: Entry,
     to: &mut S,
 ) -> Result<(), RowError>
     ensures { TookOrStopped S.takes S.stops
-        (new_row (program_of p.now) (func_of f.now) (option_map operand_of value.now) (entry_of e))
+        (new_row (program_of p.now) (func_of f.now) (option_map operand_of value.now)
+        (entry_in (program_of p.now) (func_of f.now) origin (entry_of e)))
         to.old to.new result }
 {
     if !is_new(e.mode) {
@@ -242,7 +245,7 @@ fn give_new<S: RowSink>(
     }
     match value {
         Some(Operand::Pure(Expr::Var(x))) => {
-            give_returned(f, *x, side_states(p, f, e.key, e.after), to)
+            give_returned(f, *x, states_after(p, f, origin, e), to)
         }
         _ => Ok(()),
     }
@@ -251,70 +254,89 @@ fn give_new<S: RowSink>(
 fn give_news<S: RowSink>(
     p: &Program,
     f: &Func,
+    origin: Option<u8>,
     value: &Option<Operand>,
     to: &mut S,
 ) -> Result<(), RowError>
     ensures { TookOrStopped S.takes S.stops
-        (new_rows (program_of p.now) (func_of f.now) (option_map operand_of value.now))
+        (new_rows (program_of p.now) (instance (program_of p.now) (func_of f.now) origin)
+        (option_map operand_of value.now))
         to.old to.new result }
 {
     for e in f.clause.as_slice() {
-        give_new(p, f, value, *e, to)?;
+        give_new(p, f, origin, value, *e, to)?;
     }
     Ok(())
 }
 
 /// The row of an entry whose key the caller has back.
-fn give_given_back<S: RowSink>(p: &Program, f: &Func, e: Entry, to: &mut S) -> Result<(), RowError>
+fn give_given_back<S: RowSink>(
+    p: &Program,
+    f: &Func,
+    origin: Option<u8>,
+    e: Entry,
+    to: &mut S,
+) -> Result<(), RowError>
     ensures { TookOrStopped S.takes S.stops
-        (given_back_row (program_of p.now) (func_of f.now) (entry_of e)) to.old to.new result }
+        (given_back_row (program_of p.now) (func_of f.now)
+        (entry_in (program_of p.now) (func_of f.now) origin (entry_of e))) to.old to.new result }
 {
     if !is_after(e.mode) || is_new(e.mode) {
         return Ok(());
     }
-    let states = side_states(p, f, e.key, e.after);
+    let states = states_after(p, f, origin, e);
     give_wanted(to, Tok::Key(e.key), states, After::Absent)
 }
 
-fn give_given_backs<S: RowSink>(p: &Program, f: &Func, to: &mut S) -> Result<(), RowError>
-    ensures { TookOrStopped S.takes S.stops (given_back_rows (program_of p.now) (func_of f.now))
-        to.old to.new result }
+fn give_given_backs<S: RowSink>(
+    p: &Program,
+    f: &Func,
+    origin: Option<u8>,
+    to: &mut S,
+) -> Result<(), RowError>
+    ensures { TookOrStopped S.takes S.stops (given_back_rows (program_of p.now)
+        (instance (program_of p.now) (func_of f.now) origin)) to.old to.new result }
 {
     for e in f.clause.as_slice() {
-        give_given_back(p, f, *e, to)?;
+        give_given_back(p, f, origin, *e, to)?;
     }
     Ok(())
 }
 
-/// The rows of a return before those that want the function's tokens away.
+/// The rows of a return in the instance of this origin, before those that want the function's tokens
+/// away.
 pub fn give_handed_back<S: RowSink>(
     p: &Program,
     f: &Func,
+    origin: Option<u8>,
     value: &Option<Operand>,
     to: &mut S,
 ) -> Result<(), RowError>
     ensures { TookOrStopped S.takes S.stops
-        (handed_back_rows (program_of p.now) (func_of f.now) (option_map operand_of value.now))
+        (handed_back_rows (program_of p.now) (instance (program_of p.now) (func_of f.now) origin)
+        (option_map operand_of value.now))
         to.old to.new result }
 {
     give_value(p, f, value, to)?;
-    give_news(p, f, value, to)?;
-    give_given_backs(p, f, to)
+    give_news(p, f, origin, value, to)?;
+    give_given_backs(p, f, origin, to)
 }
 
-/// The rows of a return; `tokens` has the tokens of the function.
+/// The rows of a return in the instance of this origin; `tokens` has the tokens of the function.
 pub fn give_return<S: RowSink>(
     p: &Program,
     f: &Func,
+    origin: Option<u8>,
     tokens: &[Tok],
     value: &Option<Operand>,
     to: &mut S,
 ) -> Result<(), RowError>
     requires { toks_of tokens.now ≡ tokens_of (func_of f.now) }
     ensures { TookOrStopped S.takes S.stops
-        (return_rows (program_of p.now) (func_of f.now) (option_map operand_of value.now))
+        (return_rows (program_of p.now) (instance (program_of p.now) (func_of f.now) origin)
+        (option_map operand_of value.now))
         to.old to.new result }
 {
-    give_handed_back(p, f, value, to)?;
+    give_handed_back(p, f, origin, value, to)?;
     give_gone(tokens, to)
 }

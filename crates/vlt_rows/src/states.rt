@@ -1,13 +1,15 @@
 //! The states that a row names, as many as they are.
 
-ghost use Rattle.std.specs.Prelude.{◌≡◌, ◌==◌, nat_lt, ℕ};
-ghost use Rattle.vlt_core.specs.View.{program_of, func_of, states_of};
-ghost use Rattle.vlt_core.specs.Lookups.{release_set, permitted_in, states_or_all, states_of_type, key_type, key_states_up_to};
+ghost use Rattle.std.specs.Prelude.{◌≡◌, ◌==◌, ◌&&◌, nat_lt, ℕ};
+ghost use Rattle.vlt_core.specs.View.{program_of, func_of, states_of, entry_of};
+ghost use Rattle.vlt_core.specs.Lookups.{release_set, permitted_in, states_or_all, before_set, after_set, states_of_type, key_type, key_states_up_to};
+ghost use Rattle.vlt_core.specs.Instances.{entry_in};
 ghost use Rattle.vlt_core.specs.HeldView.{IsSetOf};
 ghost use Rattle.vlt_rows.specs.Wide.{states_named};
+ghost use Rattle.vlt_rows.specs.Sides.{side_in};
 
 use vlt_base::{KeyId, StateSet, TypeId};
-use vlt_core::{Func, Program};
+use vlt_core::{Entry, Func, Mode, Program};
 
 /// States as a program says them. A set has one to 32 of them; a type may have more, and a field that isn't there has none.
 #[derive(Clone, Copy)]
@@ -116,4 +118,48 @@ pub fn one_state(s: u8) -> States
     } else {
         States::Only(s)
     }
+}
+
+/// This state, if it is one of the key's object up to the bound.
+fn state_up_to(p: &Program, f: &Func, k: KeyId, bound: u8, state: u8) -> States
+    ensures { states_named result ≡ (λ s. s == state &&
+        key_states_up_to (program_of p.now) (func_of f.now) k.0 bound s) }
+{
+    match p.key_states_up_to(f, k, bound) {
+        Some(states) => {
+            if states.has(state) {
+                one_state(state)
+            } else {
+                States::Nothing
+            }
+        }
+        None => States::Nothing,
+    }
+}
+
+/// The states that a side of an entry names in the instance of this origin, or all of the key.
+fn side_in(p: &Program, f: &Func, origin: Option<u8>, e: Entry, side: Option<StateSet>) -> States
+    ensures { states_named result ≡ states_or_all (program_of p.now) (func_of f.now) e.key.0
+        (side_in (program_of p.now) (func_of f.now) origin (entry_of e) (states_of side)) }
+{
+    match (origin, e.mode) {
+        (Some(o), Mode::Bound(bound)) => state_up_to(p, f, e.key, bound, o),
+        _ => side_states(p, f, e.key, side),
+    }
+}
+
+/// The states in which an entry's key is held before a call of the instance of this origin.
+pub fn states_before(p: &Program, f: &Func, origin: Option<u8>, e: Entry) -> States
+    ensures { states_named result ≡ before_set (program_of p.now) (func_of f.now)
+        (entry_in (program_of p.now) (func_of f.now) origin (entry_of e)) }
+{
+    side_in(p, f, origin, e, e.before)
+}
+
+/// The states in which an entry's key is held after a call of the instance of this origin.
+pub fn states_after(p: &Program, f: &Func, origin: Option<u8>, e: Entry) -> States
+    ensures { states_named result ≡ after_set (program_of p.now) (func_of f.now)
+        (entry_in (program_of p.now) (func_of f.now) origin (entry_of e)) }
+{
+    side_in(p, f, origin, e, e.after)
 }

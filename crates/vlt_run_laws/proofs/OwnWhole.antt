@@ -10,7 +10,6 @@ use Rattle.vlt_core.specs.KindedBodies.{first_ids, stmts_rows, end_broken}
 use Rattle.vlt_core_laws.proofs.Unbroken.{EachEmpty, left_empty}
 use Rattle.vlt_core_laws.proofs.Headed.{kinded_parts, function_empty, head_empty, params_fit}
 use Rattle.vlt_interp.specs.Tasks.Own.{AreOwn, HasOwn}
-use Rattle.vlt_core.specs.Instances.{HasNoBounds}
 use Rattle.vlt_run_laws.specs.Blank.{HasBlankExternals, HasFewVars}
 use Rattle.vlt_run_laws.proofs.Keys.{few_keys, own_reference}
 use Rattle.vlt_run_laws.proofs.OwnNaming.{own_stmts}
@@ -29,9 +28,8 @@ own_body p i f kinded blank at rows = by f.external refl rows
     by true is rows = subst (AreOwn p f) (sym (blank i f at is)) tt
     by false is rows = own_stmts p f (fits p kinded) f.body (record { jumps = false; returns = true }) (first_ids p f) false rows
 
-pub names_own : (p : Program) → IsKinded p → HasFewVars p → HasBlankExternals p → HasNoBounds p → HasOwn p
-names_own p kinded few blank plain = record {
-  plain = plain;
+pub names_own : (p : Program) → IsKinded p → HasFewVars p → HasBlankExternals p → HasOwn p
+names_own p kinded few blank = record {
   all = λ i f at.
       (let x = function_empty p i f (kinded_parts p kinded) at in
       let head = left_empty (head_broken p x.0 f) (end_broken p f) x.1.0 in

@@ -7,7 +7,6 @@ ghost use Rattle.vlt_core.specs.Core.{Program, Form, Func};
 ghost use Rattle.vlt_core.specs.Kinded.{IsKinded};
 ghost use Rattle.vlt_interp.specs.Tasks.Own.{HasOwn};
 ghost use Rattle.vlt_run_laws.specs.Blank.{HasBlankExternals, HasFewVars};
-ghost use Rattle.vlt_core.specs.Instances.{HasNoBounds};
 ghost use Rattle.std.specs.Prelude.{ℕ};
 ghost use Rattle.vlt_core.specs.Derives.{IsAccepted};
 ghost use Rattle.vlt_core_laws.specs.States.{HasStates};
@@ -22,8 +21,7 @@ ghost use Rattle.vlt_interp.specs.Calls.Known.{KnowsItsCalls};
 
 /// The statements of a program that breaks no rule on names and types name variables and keys of their own functions.
 pub fn kinded_programs_name_their_own()
-    ensures { (p : Program) → IsKinded p → HasFewVars p → HasBlankExternals p →
-        HasNoBounds p → HasOwn p }
+    ensures { (p : Program) → IsKinded p → HasFewVars p → HasBlankExternals p → HasOwn p }
 {}
 
 /// Each statement that a run of an accepted program comes to is known.

@@ -1,12 +1,12 @@
 -- Which trees are of the language: lists that must have one thing or more, levels of operators, limits.
-use Rattle.std.specs.Prelude.{◌≡◌, ◌≤◌, ℕ, suc, ◌-◌, max, List, length, IfSome}
+use Rattle.std.specs.Prelude.{◌≡◌, ◌≤◌, ℕ, suc, ◌-◌, max, false, List, [], ◌∷◌, length, IfSome}
 use Rattle.vlt_base.specs.Limits.{limit_of}
 use Rattle.vlt_ops.specs.declared.Op.{Op}
 use Rattle.vlt_ops.specs.Operator.{row_of}
 use Rattle.vlt_lexer.specs.Reading.{Lexeme}
 use Rattle.vlt_syntax.specs.Tokens.{Token, tokens_in}
 use Rattle.vlt_syntax.specs.Tree as s
-use Rattle.vlt_syntax.specs.Tree.{Name, States, KeyStates, Named, Ty, Expr, Build, Call, Init, Right, Returned, Stmt, Block, If, Else, Stmts, Arms, HeaderKey, Field, Case, Entry, ResultType, Parameter, Head, Decl, Tree}
+use Rattle.vlt_syntax.specs.Tree.{Name, States, KeyStates, Named, Ty, Expr, Build, Call, Init, Right, Returned, Stmt, Block, If, Else, Stmts, Arms, SetState, HeaderKey, Field, Case, Entry, ResultType, Parameter, Head, Decl, Tree}
 use Rattle.vlt_syntax.specs.Lists.{Each, IsFilled}
 use Rattle.vlt_syntax.specs.Spelling.{spelling}
 use Rattle.vlt_syntax.specs.Places.{StandsIn}
@@ -155,6 +155,11 @@ abbrev mutual
 
 -- ---- declarations
 
+-- no `<` leads to the first state
+abbrev pub BeginsChain : List SetState → Type 0
+BeginsChain [] = Unit {0}
+BeginsChain (x ∷ xs) = x.above ≡ false
+
 abbrev pub IsField : Field → Type 0
 IsField f = IsTy f.ty × IfSome f.states IsStates
 
@@ -164,6 +169,7 @@ IsCase b c = Each IsTy c.payload × AtMost b.payload c.payload × Each IsKeyStat
 abbrev pub IsEntry : Entry → Type 0
 IsEntry (s.held k) = IsKeyStates k
 IsEntry (s.changed k before after) = IsStates before × IsStates after
+IsEntry (s.bound k v b) = Unit {0}
 IsEntry (s.taken k at) = IsKeyStates k
 IsEntry (s.given k at) = IsKeyStates k
 IsEntry (s.fresh k at) = IsKeyStates k
@@ -183,7 +189,7 @@ pub record IsHead (b : Bounds) (h : Head) : Type 0 where
   pub clause : IfSome h.clause (Each IsEntry)
 
 abbrev pub IsDecl : Bounds → Decl → Type 0
-IsDecl b (s.stateset n ss at) = IsFilled ss × AtMost b.states ss
+IsDecl b (s.stateset n ss at) = IsFilled ss × AtMost b.states ss × BeginsChain ss
 IsDecl b (s.abstract n ss at) = Unit {0}
 IsDecl b (s.struct n ps ss fs r at) = AtMost b.parameters ps × Each IsField fs × AtMost b.fields fs × IfSome r IsStates
 IsDecl b (s.variant n ps cs at) = AtMost b.parameters ps × IsFilled cs × Each (IsCase b) cs × AtMost b.cases cs

@@ -4,7 +4,7 @@ use Rattle.std.specs.Prelude.{◌≡◌, ◌+◌, ◌-◌, ℕ, List, [], ◌∷
 use Rattle.vlt_base.specs.declared.places.Span.{Span}
 use Rattle.vlt_lexer.specs.Reading.{Lexeme}
 use Rattle.vlt_syntax.specs.Tree as s
-use Rattle.vlt_syntax.specs.Tree.{Name, States, KeyStates, Named, Ty, Expr, Build, Call, Init, Right, Returned, Stmt, Block, If, Else, Stmts, Arms, HeaderKey, Field, Case, Entry, ResultType, Parameter, Head, Decl, Tree}
+use Rattle.vlt_syntax.specs.Tree.{Name, States, KeyStates, Named, Ty, Expr, Build, Call, Init, Right, Returned, Stmt, Block, If, Else, Stmts, Arms, SetState, HeaderKey, Field, Case, Entry, ResultType, Parameter, Head, Decl, Tree}
 
 -- the span of the tokens from one number up to another
 abbrev pub Spans : Type 0
@@ -166,6 +166,9 @@ abbrev mutual
 
 -- ---- declarations
 
+abbrev pub set_state_at : SetState → Placing SetState
+set_state_at x = without_tokens (λ name. record { name = name; above = x.above }) ⊛ name_at x.name
+
 abbrev pub header_key_at : HeaderKey → Placing HeaderKey
 header_key_at p = without_tokens (λ key key_type. record { key = key; key_type = key_type }) ⊛ name_at p.key ⊛ marked_at name_at p.key_type
 
@@ -184,6 +187,7 @@ case_at c =
 abbrev pub entry_at : Entry → Placing Entry
 entry_at (s.held k) = without_tokens s.held ⊛ key_states_at k
 entry_at (s.changed k before after) = without_tokens s.changed ⊛ name_at k ◂ 1 ⊛ states_at before ◂ 1 ⊛ states_at after
+entry_at (s.bound k v b) = without_tokens s.bound ⊛ name_at k ◂ 2 ⊛ name_at v ◂ 1 ⊛ name_at b ◂ 1
 entry_at (s.taken k at) = with_span (without_tokens s.taken ◂ 1 ⊛ key_states_at k)
 entry_at (s.given k at) = with_span (without_tokens s.given ◂ 1 ⊛ key_states_at k)
 entry_at (s.fresh k at) = with_span (without_tokens s.fresh ◂ 1 ⊛ key_states_at k)
@@ -204,7 +208,7 @@ head_at h =
     ⊛ result_type_at h.result_type ⊛ name_at h.name ◂ 1 ⊛ listed_at parameter_at h.parameters ⊛ clause_at h.clause)
 
 abbrev pub decl_at : Decl → Placing Decl
-decl_at (s.stateset n ss at) = with_span (without_tokens s.stateset ◂ 1 ⊛ name_at n ◂ 1 ⊛ listed_at name_at ss)
+decl_at (s.stateset n ss at) = with_span (without_tokens s.stateset ◂ 1 ⊛ name_at n ◂ 1 ⊛ listed_at set_state_at ss)
 decl_at (s.abstract n ss at) = with_span (without_tokens s.abstract ◂ 1 ⊛ name_at n ⊛ marked_at name_at ss ◂ 1)
 decl_at (s.struct n ps ss fs r at) =
     with_span (without_tokens s.struct ◂ 1 ⊛ name_at n ⊛ enclosed_at header_key_at ps ⊛ marked_at name_at ss ◂ 1 ⊛ each_at field_at fs ⊛ release_at r ◂ 1)

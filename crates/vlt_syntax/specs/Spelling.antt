@@ -1,5 +1,5 @@
 -- The spelling of a tree. Each definition gives the tokens of one thing, and then others.
-use Rattle.std.specs.Prelude.{List, [], ◌∷◌, Option, Some, None}
+use Rattle.std.specs.Prelude.{Bool, true, false, List, [], ◌∷◌, Option, Some, None}
 use Rattle.vlt_ops.specs.declared.Op.{Op}
 use Rattle.vlt_ops.specs.declared.Op.TheVariants as op
 use Rattle.vlt_lexer.specs.declared.token.Word.TheVariants as word
@@ -7,7 +7,7 @@ use Rattle.vlt_lexer.specs.declared.token.Mark.{Mark}
 use Rattle.vlt_lexer.specs.declared.token.Mark.TheVariants as mark
 use Rattle.vlt_syntax.specs.Tokens.{Token, name, tick, number, keyword, sign}
 use Rattle.vlt_syntax.specs.Tree as s
-use Rattle.vlt_syntax.specs.Tree.{Name, States, KeyStates, Named, Ty, Expr, Build, Call, Init, Right, Returned, Stmt, Block, If, Else, Stmts, Arms, HeaderKey, Field, Case, Entry, ResultType, Parameter, Head, Decl, Tree}
+use Rattle.vlt_syntax.specs.Tree.{Name, States, KeyStates, Named, Ty, Expr, Build, Call, Init, Right, Returned, Stmt, Block, If, Else, Stmts, Arms, SetState, HeaderKey, Field, Case, Entry, ResultType, Parameter, Head, Decl, Tree}
 use Rattle.vlt_syntax.specs.Lists.{each_then, listed_then, enclosed_then}
 
 abbrev pub name_then : Name → List Token → List Token
@@ -184,6 +184,21 @@ abbrev mutual
 
 -- ---- declarations
 
+-- the sign before a further state of a set
+abbrev pub state_sign : (above : Bool) → Mark
+state_sign true = mark.Less
+state_sign false = mark.Comma
+
+-- further states of a set, and the closing brace
+abbrev pub further_states_then : List SetState → List Token → List Token
+further_states_then [] rest = sign mark.CloseBrace ∷ rest
+further_states_then (x ∷ xs) rest = sign (state_sign x.above) ∷ name_then x.name (further_states_then xs rest)
+
+-- the states of a set, and the closing brace: before the first nothing stands
+abbrev pub set_states_then : List SetState → List Token → List Token
+set_states_then [] rest = sign mark.CloseBrace ∷ rest
+set_states_then (x ∷ xs) rest = name_then x.name (further_states_then xs rest)
+
 abbrev pub header_key_then : HeaderKey → List Token → List Token
 header_key_then p rest = name_then p.key (marked_name_then mark.Colon p.key_type rest)
 
@@ -204,6 +219,7 @@ case_then c rest = case_name_then c.name (enclosed_then ty_then mark.OpenParen m
 abbrev pub entry_then : Entry → List Token → List Token
 entry_then (s.held k) rest = key_states_then k rest
 entry_then (s.changed k a b) rest = name_then k (sign mark.At ∷ states_then a (sign mark.Arrow ∷ states_then b rest))
+entry_then (s.bound k v b) rest = name_then k (sign mark.At ∷ sign mark.OpenParen ∷ name_then v (sign mark.LessEqual ∷ name_then b (sign mark.CloseParen ∷ rest)))
 entry_then (s.taken k at) rest = sign mark.Minus ∷ key_states_then k rest
 entry_then (s.given k at) rest = sign mark.Plus ∷ key_states_then k rest
 entry_then (s.fresh k at) rest = keyword word.New ∷ key_states_then k rest
@@ -224,7 +240,7 @@ abbrev pub head_then : Head → List Token → List Token
 head_then h rest = result_type_then h.result_type (name_then h.name (sign mark.OpenParen ∷ listed_then parameter_then mark.CloseParen h.parameters (clause_then h.clause rest)))
 
 abbrev pub decl_then : Decl → List Token → List Token
-decl_then (s.stateset n ss at) rest = keyword word.Stateset ∷ name_then n (sign mark.OpenBrace ∷ listed_then name_then mark.CloseBrace ss rest)
+decl_then (s.stateset n ss at) rest = keyword word.Stateset ∷ name_then n (sign mark.OpenBrace ∷ set_states_then ss rest)
 decl_then (s.abstract n ss at) rest = keyword word.Abstract ∷ name_then n (marked_name_then mark.At ss (semicolon_then rest))
 decl_then (s.struct n ps ss fs r at) rest = keyword word.Struct ∷ name_then n (header_then ps (marked_name_then mark.At ss (sign mark.OpenBrace ∷ each_then field_then fs (release_then r (sign mark.CloseBrace ∷ rest)))))
 decl_then (s.variant n ps cs at) rest = keyword word.Variant ∷ name_then n (header_then ps (sign mark.OpenBrace ∷ listed_then case_then mark.CloseBrace cs rest))

@@ -1,5 +1,5 @@
 -- The tree of a source text, without where it lies in memory.
-use Rattle.std.specs.Prelude.{ℕ, ℤ, List, Option}
+use Rattle.std.specs.Prelude.{ℕ, ℤ, Bool, List, Option}
 use Rattle.vlt_base.specs.declared.places.Span.{Span}
 use Rattle.vlt_ops.specs.declared.Op.{Op}
 
@@ -113,6 +113,11 @@ mutual
 
 -- ---- declarations
 
+-- a state in the declaration of its set, and whether a `<` leads to it from the one before it
+pub record SetState : Type 0 where
+  pub name : Name
+  pub above : Bool
+
 pub record HeaderKey : Type 0 where
   pub key : Name
   pub key_type : Option Name
@@ -132,6 +137,8 @@ pub record Case : Type 0 where
 pub data Entry : Type 0 where
   held : KeyStates → Entry
   changed : Name → States → States → Entry
+  -- a key, held in whatever state up to a bound, and the variable that stands for that state
+  bound : (key variable state : Name) → Entry
   taken : KeyStates → Span → Entry
   given : KeyStates → Span → Entry
   fresh : KeyStates → Span → Entry
@@ -152,7 +159,7 @@ pub record Head : Type 0 where
   pub at : Span
 
 pub data Decl : Type 0 where
-  stateset : Name → List Name → Span → Decl
+  stateset : Name → List SetState → Span → Decl
   abstract : Name → Option Name → Span → Decl
   struct : Name → List HeaderKey → Option Name → List Field → Option States → Span → Decl
   variant : Name → List HeaderKey → List Case → Span → Decl

@@ -26,6 +26,7 @@ use Rattle.vlt_syntax.specs.declared.tree.Block.{Block}
 use Rattle.vlt_syntax.specs.declared.tree.If.{If}
 use Rattle.vlt_syntax.specs.declared.tree.Else.TheOpen.{Else-F, Stmt-F, Arm-F, Block-F, If-F}
 use Rattle.vlt_syntax.specs.declared.tree.Else.TheFolds.{fold-Else, fold-Stmt, fold-Arm, fold-Block, fold-If}
+use Rattle.vlt_syntax.specs.declared.tree.SetState.{SetState}
 use Rattle.vlt_syntax.specs.declared.tree.HeaderKey.{HeaderKey}
 use Rattle.vlt_syntax.specs.declared.tree.Field.{Field}
 use Rattle.vlt_syntax.specs.declared.tree.Case.{Case}
@@ -178,6 +179,9 @@ arms_of xs = arms_made (map arm_of xs)
 
 -- ---- declarations
 
+abbrev pub set_state_of : SetState → s.SetState
+set_state_of x = record { name = name_of x.name; above = x.above }
+
 abbrev pub header_key_of : HeaderKey → s.HeaderKey
 header_key_of p = record { key = name_of p.key; key_type = option_map name_of p.key_type }
 
@@ -190,6 +194,7 @@ case_of c = record { name = name_of c.name; payload = map ty_of c.payload; keys 
 abbrev pub entry_of : Entry → s.Entry
 entry_of (entry.Held k) = s.held (key_states_of k)
 entry_of (entry.Changed k a b) = s.changed (name_of k) (states_of a) (states_of b)
+entry_of (entry.Bound k v b) = s.bound (name_of k) (name_of v) (name_of b)
 entry_of (entry.Taken k at) = s.taken (key_states_of k) at
 entry_of (entry.Given k at) = s.given (key_states_of k) at
 entry_of (entry.Fresh k at) = s.fresh (key_states_of k) at
@@ -211,7 +216,7 @@ head_of h = record {
 }
 
 abbrev pub decl_of : Decl → s.Decl
-decl_of (decl.StateSet n ss at) = s.stateset (name_of n) (names_of ss) at
+decl_of (decl.StateSet n ss at) = s.stateset (name_of n) (map set_state_of ss) at
 decl_of (decl.Abstract n ss at) = s.abstract (name_of n) (option_map name_of ss) at
 decl_of (decl.Struct n ps ss fs r at) = s.struct (name_of n) (map header_key_of ps) (option_map name_of ss) (map field_of fs) (option_map states_of r) at
 decl_of (decl.Variant n ps cs at) = s.variant (name_of n) (map header_key_of ps) (map case_of cs) at

@@ -9,6 +9,6 @@ mod tree;
 pub use name_text::NameText;
 pub use tree::{
     Arm, Block, Build, Call, Case, Decl, Else, Entry, Expr, Field, Head, HeaderKey, If, Init,
-    KeyStates, Name, Named, Operands, Parameter, ResultType, Returned, Right, States, Stmt, Tree,
-    Ty,
+    KeyStates, Name, Named, Operands, Parameter, ResultType, Returned, Right, SetState, States,
+    Stmt, Tree, Ty,
 };

@@ -21,10 +21,10 @@ pub struct Name {
 
 #[derive(Drop)]
 pub enum Decl {
-    /// `stateset name { a, b }`, with one state or more.
+    /// `stateset name { a < b, c }`, with one state or more, each as often as it is written.
     StateSet {
         name: Name,
-        states: Items<Name>,
+        states: Items<SetState>,
         at: Span,
     },
     /// `abstract name;` or `abstract name@states;`
@@ -60,6 +60,13 @@ pub enum Decl {
         body: Block,
         at: Span,
     },
+}
+
+/// A state in the declaration of its set. `above` where a `<` leads to it from the state before it, which the first has not.
+#[derive(Drop)]
+pub struct SetState {
+    pub name: Name,
+    pub above: bool,
 }
 
 /// A key in a type's header, with the type of its object where one is given: `K` or `K: T`.
@@ -134,6 +141,12 @@ pub enum Entry {
         key: Name,
         before: States,
         after: States,
+    },
+    /// `K@(s <= b)`: held in whatever state up to the bound, which the variable stands for.
+    Bound {
+        key: Name,
+        variable: Name,
+        state: Name,
     },
     /// `-K` or `-K@s`.
     Taken(KeyStates, Span),

@@ -2,9 +2,9 @@
 use Rattle.std.proofs.Common.{◌≡◌, ℕ, List, [], ◌∷◌, map, Option, Some, None, option_map, refl, ap, ap₂}
 use Rattle.vlt_base.specs.declared.places.Span.{Span}
 use Rattle.vlt_syntax.specs.Tree as s
-use Rattle.vlt_syntax.specs.Tree.{Name, States, KeyStates, Named, Ty, Expr, Build, Call, Init, Right, Returned, Stmt, Block, If, Else, Stmts, Arms, HeaderKey, Field, Case, Entry, ResultType, Parameter, Head, Decl}
+use Rattle.vlt_syntax.specs.Tree.{Name, States, KeyStates, Named, Ty, Expr, Build, Call, Init, Right, Returned, Stmt, Block, If, Else, Stmts, Arms, SetState, HeaderKey, Field, Case, Entry, ResultType, Parameter, Head, Decl}
 use Rattle.vlt_syntax_copies.specs.Mapped as m
-use Rattle.vlt_syntax.specs.Places.{Spans, Placing, each_at, further_at, listed_at, enclosed_at, marked_at, name_at, states_at, key_states_at, named_at, ty_at, expr_at, build_at, call_at, init_at, owner_at, right_at, returned_at, stmt_at, block_at, if_at, else_at, stmts_at, arms_at, header_key_at, field_at, release_at, case_at, entry_at, result_type_at, parameter_at, clause_at, head_at, decl_at}
+use Rattle.vlt_syntax.specs.Places.{Spans, Placing, each_at, further_at, listed_at, enclosed_at, marked_at, name_at, states_at, key_states_at, named_at, ty_at, expr_at, build_at, call_at, init_at, owner_at, right_at, returned_at, stmt_at, block_at, if_at, else_at, stmts_at, arms_at, set_state_at, header_key_at, field_at, release_at, case_at, entry_at, result_type_at, parameter_at, clause_at, head_at, decl_at}
 use Rattle.vlt_syntax_copies.proofs.Along.{ap₃, ap₄, ap₅, ap₆}
 
 module _ (spans : Spans) (go : Span → Span) (kept : (i j : ℕ) → go (spans i j) ≡ spans i j) where
@@ -128,6 +128,9 @@ module _ (spans : Spans) (go : Span → Span) (kept : (i j : ℕ) → go (spans 
     arms s.no_arms i = refl
     arms (s.arm tick vs b at rest) i = ap₅ s.arm (name tick _) (enclosed_kept (m.mapped_name go) name_at name vs _) (block b _) (kept _ _) (arms rest _)
 
+  set_state : (x : SetState) (i : ℕ) → m.mapped_set_state go (set_state_at x spans i).0 ≡ (set_state_at x spans i).0
+  set_state x i = ap (λ n. let made : SetState = record { name = n; above = x.above } in made) (name x.name _)
+
   header_key : (p : HeaderKey) (i : ℕ) → m.mapped_header_key go (header_key_at p spans i).0 ≡ (header_key_at p spans i).0
   header_key p i = ap₂ (λ x y. let made : HeaderKey = record { key = x; key_type = y } in made) (name p.key _) (marked_kept (m.mapped_name go) name_at name p.key_type _)
 
@@ -140,6 +143,7 @@ module _ (spans : Spans) (go : Span → Span) (kept : (i j : ℕ) → go (spans 
   entry : (e : Entry) (i : ℕ) → m.mapped_entry go (entry_at e spans i).0 ≡ (entry_at e spans i).0
   entry (s.held k) i = ap s.held (key_states k _)
   entry (s.changed k a b) i = ap₃ s.changed (name k _) (states a _) (states b _)
+  entry (s.bound k v b) i = ap₃ s.bound (name k _) (name v _) (name b _)
   entry (s.taken k at) i = ap₂ s.taken (key_states k _) (kept _ _)
   entry (s.given k at) i = ap₂ s.given (key_states k _) (kept _ _)
   entry (s.fresh k at) i = ap₂ s.fresh (key_states k _) (kept _ _)
@@ -163,7 +167,7 @@ module _ (spans : Spans) (go : Span → Span) (kept : (i j : ℕ) → go (spans 
   release (Some ss) i = ap Some (states ss _)
 
   pub decl : (d : Decl) (i : ℕ) → m.mapped_decl go (decl_at d spans i).0 ≡ (decl_at d spans i).0
-  decl (s.stateset n ss at) i = ap₃ s.stateset (name n _) (listed_kept (m.mapped_name go) name_at name ss _) (kept _ _)
+  decl (s.stateset n ss at) i = ap₃ s.stateset (name n _) (listed_kept (m.mapped_set_state go) set_state_at set_state ss _) (kept _ _)
   decl (s.abstract n ss at) i = ap₃ s.abstract (name n _) (marked_kept (m.mapped_name go) name_at name ss _) (kept _ _)
   decl (s.struct n ps ss fs rs at) i = ap₆ s.struct (name n _) (enclosed_kept (m.mapped_header_key go) header_key_at header_key ps _) (marked_kept (m.mapped_name go) name_at name ss _) (each_kept (m.mapped_field go) field_at field fs _) (release rs _) (kept _ _)
   decl (s.variant n ps cs at) i = ap₄ s.variant (name n _) (enclosed_kept (m.mapped_header_key go) header_key_at header_key ps _) (listed_kept (m.mapped_case go) case_at case cs _) (kept _ _)

@@ -2,7 +2,7 @@
 use Rattle.std.proofs.Common.{◌≡◌, List, [], ◌∷◌, map, Option, Some, None, option_map, refl, ap, ap₂}
 use Rattle.vlt_base.specs.declared.places.Span.{Span}
 use Rattle.vlt_syntax.specs.Tree as s
-use Rattle.vlt_syntax.specs.Tree.{Name, States, KeyStates, Named, Ty, Expr, Build, Call, Init, Right, Returned, Stmt, Block, If, Else, Stmts, Arms, HeaderKey, Field, Case, Entry, ResultType, Parameter, Head, Decl}
+use Rattle.vlt_syntax.specs.Tree.{Name, States, KeyStates, Named, Ty, Expr, Build, Call, Init, Right, Returned, Stmt, Block, If, Else, Stmts, Arms, SetState, HeaderKey, Field, Case, Entry, ResultType, Parameter, Head, Decl}
 use Rattle.vlt_syntax_copies.specs.Mapped as m
 use Rattle.vlt_syntax_copies.proofs.Along.{ap₃, ap₄, ap₅, ap₆}
 
@@ -111,6 +111,9 @@ module _ (go : Span → Span) (span : (at : Span) → go at ≡ at) where
     arms s.no_arms = refl
     arms (s.arm tick vs b at rest) = ap₅ s.arm (name tick) (names vs) (block b) (span at) (arms rest)
 
+  set_state : (x : SetState) → m.mapped_set_state go x ≡ x
+  set_state x = ap (λ n. let made : SetState = record { name = n; above = x.above } in made) (name x.name)
+
   header_key : (p : HeaderKey) → m.mapped_header_key go p ≡ p
   header_key p = ap₂ (λ x y. let made : HeaderKey = record { key = x; key_type = y } in made) (name p.key) (if_same (m.mapped_name go) name p.key_type)
 
@@ -123,6 +126,7 @@ module _ (go : Span → Span) (span : (at : Span) → go at ≡ at) where
   entry : (e : Entry) → m.mapped_entry go e ≡ e
   entry (s.held k) = ap s.held (key_states k)
   entry (s.changed k a b) = ap₃ s.changed (name k) (states a) (states b)
+  entry (s.bound k v b) = ap₃ s.bound (name k) (name v) (name b)
   entry (s.taken k at) = ap₂ s.taken (key_states k) (span at)
   entry (s.given k at) = ap₂ s.given (key_states k) (span at)
   entry (s.fresh k at) = ap₂ s.fresh (key_states k) (span at)
@@ -138,7 +142,7 @@ module _ (go : Span → Span) (span : (at : Span) → go at ≡ at) where
   head h = ap₅ (λ x y z u w. let made : Head = record { result_type = x; name = y; parameters = z; clause = u; at = w } in made) (result h.result_type) (name h.name) (each_same (m.mapped_parameter go) parameter h.parameters) (if_same (map (m.mapped_entry go)) (each_same (m.mapped_entry go) entry) h.clause) (span h.at)
 
   pub decl : (d : Decl) → m.mapped_decl go d ≡ d
-  decl (s.stateset n ss at) = ap₃ s.stateset (name n) (names ss) (span at)
+  decl (s.stateset n ss at) = ap₃ s.stateset (name n) (each_same (m.mapped_set_state go) set_state ss) (span at)
   decl (s.abstract n ss at) = ap₃ s.abstract (name n) (if_same (m.mapped_name go) name ss) (span at)
   decl (s.struct n ps ss fs rs at) = ap₆ s.struct (name n) (each_same (m.mapped_header_key go) header_key ps) (if_same (m.mapped_name go) name ss) (each_same (m.mapped_field go) field fs) (if_same (m.mapped_states go) states rs) (span at)
   decl (s.variant n ps cs at) = ap₄ s.variant (name n) (each_same (m.mapped_header_key go) header_key ps) (each_same (m.mapped_case go) case cs) (span at)

@@ -5,7 +5,7 @@ use Rattle.vlt_lexer.specs.declared.token.Mark.{Mark}
 use Rattle.vlt_lexer.specs.declared.token.Mark.TheVariants as mark
 use Rattle.vlt_syntax.specs.Tokens.{Token, name, tick, keyword, sign}
 use Rattle.vlt_syntax.specs.Tree as s
-use Rattle.vlt_syntax.specs.Tree.{Name, States, KeyStates, Named, Ty, Expr, Build, Call, Init, Right, Returned, Stmt, Block, If, Else, Stmts, Arms, HeaderKey, Field, Case, Entry, ResultType, Parameter, Head, Decl}
+use Rattle.vlt_syntax.specs.Tree.{Name, States, KeyStates, Named, Ty, Expr, Build, Call, Init, Right, Returned, Stmt, Block, If, Else, Stmts, Arms, SetState, HeaderKey, Field, Case, Entry, ResultType, Parameter, Head, Decl}
 use Rattle.vlt_syntax.specs.Lists.{each_then, further_then, listed_then, enclosed_then}
 use Rattle.vlt_syntax.specs.Spelling as p
 use Rattle.vlt_syntax_copies.specs.Raised as r
@@ -175,6 +175,14 @@ module _ (by : ℕ) where
 
   -- ---- declarations
 
+  further_states_same : (xs : List SetState) (rest : List Token) → p.further_states_then (map (r.raised_set_state by) xs) rest ≡ p.further_states_then xs rest
+  further_states_same [] rest = refl
+  further_states_same (x ∷ xs) rest = ap (λ ts. sign (p.state_sign x.above) ∷ (name x.name.text ∷ ts)) (further_states_same xs rest)
+
+  set_states_same : (xs : List SetState) (rest : List Token) → p.set_states_then (map (r.raised_set_state by) xs) rest ≡ p.set_states_then xs rest
+  set_states_same [] rest = refl
+  set_states_same (x ∷ xs) rest = after (name x.name.text) (further_states_same xs rest)
+
   header_key_same : (k : HeaderKey) (rest : List Token) → p.header_key_then (r.raised_header_key by k) rest ≡ p.header_key_then k rest
   header_key_same k rest = after (name k.key.text) (marked_same mark.Colon k.key_type rest)
 
@@ -199,6 +207,7 @@ module _ (by : ℕ) where
   entry_same (s.changed k a b) rest =
       ap (λ ts. name k.text ∷ (sign mark.At ∷ ts))
       (states_same a (sign mark.Arrow ∷ p.states_then (r.raised_states by b) rest) ∙ ap (λ ts. p.states_then a (sign mark.Arrow ∷ ts)) (states_same b rest))
+  entry_same (s.bound k v b) rest = refl
   entry_same (s.taken k at) rest = after (sign mark.Minus) (key_states_same k rest)
   entry_same (s.given k at) rest = after (sign mark.Plus) (key_states_same k rest)
   entry_same (s.fresh k at) rest = after (keyword word.New) (key_states_same k rest)
@@ -223,7 +232,7 @@ module _ (by : ℕ) where
 
   pub decl_same : (d : Decl) (rest : List Token) → p.decl_then (r.raised by d) rest ≡ p.decl_then d rest
   decl_same (s.stateset n ss at) rest =
-      ap (λ ts. keyword word.Stateset ∷ (name n.text ∷ (sign mark.OpenBrace ∷ ts))) (listed_same p.name_then (r.raised_name by) name_same mark.CloseBrace ss rest)
+      ap (λ ts. keyword word.Stateset ∷ (name n.text ∷ (sign mark.OpenBrace ∷ ts))) (set_states_same ss rest)
   decl_same (s.abstract n ss at) rest = ap (λ ts. keyword word.Abstract ∷ (name n.text ∷ ts)) (marked_same mark.At ss (p.semicolon_then rest))
   decl_same (s.struct n ps ss fs o at) rest =
       ap (λ ts. keyword word.Struct ∷ (name n.text ∷ ts))

@@ -4,7 +4,7 @@ use Rattle.vlt_lexer.specs.declared.token.Mark.{Mark}
 use Rattle.vlt_lexer.specs.declared.token.Mark.TheVariants as mark
 use Rattle.vlt_syntax.specs.Tokens.{Token, sign}
 use Rattle.vlt_syntax.specs.Tree as s
-use Rattle.vlt_syntax.specs.Tree.{Name, States, KeyStates, Named, Ty, Expr, Build, Call, Init, Right, Returned, Stmt, Block, If, Else, Stmts, Arms, HeaderKey, Field, Case, Entry, ResultType, Parameter, Head, Decl}
+use Rattle.vlt_syntax.specs.Tree.{Name, States, KeyStates, Named, Ty, Expr, Build, Call, Init, Right, Returned, Stmt, Block, If, Else, Stmts, Arms, SetState, HeaderKey, Field, Case, Entry, ResultType, Parameter, Head, Decl}
 use Rattle.vlt_syntax.specs.Lists.{Each, each_then, further_then, listed_then, enclosed_then}
 use Rattle.vlt_syntax.specs.Spelling as p
 
@@ -208,6 +208,14 @@ module _ (P : Token → Type 0) where
 
   -- ---- declarations
 
+  further_states_parts : (xs : List SetState) → Parts p.further_states_then xs
+  further_states_parts [] rest more h m = ((h.0, m), h.1)
+  further_states_parts (x ∷ xs) rest more h m = let tail = further_states_parts xs rest more h.1.1 m in ((h.0, (h.1.0, tail.0)), tail.1)
+
+  set_states_parts : (xs : List SetState) → Parts p.set_states_then xs
+  set_states_parts [] rest more h m = ((h.0, m), h.1)
+  set_states_parts (x ∷ xs) rest more h m = let tail = further_states_parts xs rest more h.1 m in ((h.0, tail.0), tail.1)
+
   header_key_parts : (k : HeaderKey) → Parts p.header_key_then k
   header_key_parts k rest more h m = let tail = marked_parts mark.Colon k.key_type rest more h.1 m in ((h.0, tail.0), tail.1)
 
@@ -232,6 +240,8 @@ module _ (P : Token → Type 0) where
   entry_parts (s.changed k a b) rest more h m =
       let tail = two p.states_then (λ y ts. sign mark.Arrow ∷ p.states_then y ts) a b (states_parts a) (led (sign mark.Arrow) p.states_then b (states_parts b)) rest more h.1.1 m in
       ((h.0, (h.1.0, tail.0)), tail.1)
+  entry_parts (s.bound k v b) rest more h m =
+      ((h.0, (h.1.0, (h.1.1.0, (h.1.1.1.0, (h.1.1.1.1.0, (h.1.1.1.1.1.0, (h.1.1.1.1.1.1.0, m))))))), h.1.1.1.1.1.1.1)
   entry_parts (s.taken k at) rest more h m = led (sign mark.Minus) p.key_states_then k (key_states_parts k) rest more h m
   entry_parts (s.given k at) rest more h m = led (sign mark.Plus) p.key_states_then k (key_states_parts k) rest more h m
   entry_parts (s.fresh k at) rest more h m = let tail = key_states_parts k rest more h.1 m in ((h.0, tail.0), tail.1)
@@ -259,7 +269,7 @@ module _ (P : Token → Type 0) where
 
   pub decl_parts : (d : Decl) → Parts p.decl_then d
   decl_parts (s.stateset n ss at) rest more h m =
-      let tail = listed_parts p.name_then name_parts mark.CloseBrace ss rest more h.1.1.1 m in ((h.0, (h.1.0, (h.1.1.0, tail.0))), tail.1)
+      let tail = set_states_parts ss rest more h.1.1.1 m in ((h.0, (h.1.0, (h.1.1.0, tail.0))), tail.1)
   decl_parts (s.abstract n ss at) rest more h m =
       let tail = ended (sign mark.Semicolon) (p.marked_name_then mark.At) ss (marked_parts mark.At ss) rest more h.1.1 m in ((h.0, (h.1.0, tail.0)), tail.1)
   decl_parts (s.struct n ps ss fs o at) rest more h m =

@@ -2,7 +2,7 @@
 use Rattle.std.proofs.Common.{◌≡◌, List, [], ◌∷◌, map, Option, Some, None, option_map, refl, ap, ap₂}
 use Rattle.vlt_base.specs.declared.places.Span.{Span}
 use Rattle.vlt_syntax.specs.Tree as s
-use Rattle.vlt_syntax.specs.Tree.{Name, States, KeyStates, Named, Ty, Expr, Build, Call, Init, Right, Returned, Stmt, Block, If, Else, Stmts, Arms, HeaderKey, Field, Case, Entry, ResultType, Parameter, Head, Decl}
+use Rattle.vlt_syntax.specs.Tree.{Name, States, KeyStates, Named, Ty, Expr, Build, Call, Init, Right, Returned, Stmt, Block, If, Else, Stmts, Arms, SetState, HeaderKey, Field, Case, Entry, ResultType, Parameter, Head, Decl}
 use Rattle.vlt_syntax_copies.specs.Mapped as m
 use Rattle.vlt_syntax_copies.proofs.Along.{ap₃, ap₄, ap₅, ap₆}
 
@@ -111,6 +111,9 @@ module _ (after before both : Span → Span) (span : (at : Span) → after (befo
     arms s.no_arms = refl
     arms (s.arm tick vs b at rest) = ap₅ s.arm (name tick) (names vs) (block b) (span at) (arms rest)
 
+  set_state : (x : SetState) → m.mapped_set_state after (m.mapped_set_state before x) ≡ m.mapped_set_state both x
+  set_state x = ap (λ n. let made : SetState = record { name = n; above = x.above } in made) (name x.name)
+
   header_key : (p : HeaderKey) → m.mapped_header_key after (m.mapped_header_key before p) ≡ m.mapped_header_key both p
   header_key p = ap₂ (λ x y. let made : HeaderKey = record { key = x; key_type = y } in made) (name p.key) (if_twice (m.mapped_name after) (m.mapped_name before) (m.mapped_name both) name p.key_type)
 
@@ -123,6 +126,7 @@ module _ (after before both : Span → Span) (span : (at : Span) → after (befo
   entry : (e : Entry) → m.mapped_entry after (m.mapped_entry before e) ≡ m.mapped_entry both e
   entry (s.held k) = ap s.held (key_states k)
   entry (s.changed k a b) = ap₃ s.changed (name k) (states a) (states b)
+  entry (s.bound k v b) = ap₃ s.bound (name k) (name v) (name b)
   entry (s.taken k at) = ap₂ s.taken (key_states k) (span at)
   entry (s.given k at) = ap₂ s.given (key_states k) (span at)
   entry (s.fresh k at) = ap₂ s.fresh (key_states k) (span at)
@@ -138,7 +142,7 @@ module _ (after before both : Span → Span) (span : (at : Span) → after (befo
   head h = ap₅ (λ x y z u w. let made : Head = record { result_type = x; name = y; parameters = z; clause = u; at = w } in made) (result h.result_type) (name h.name) (each_twice (m.mapped_parameter after) (m.mapped_parameter before) (m.mapped_parameter both) parameter h.parameters) (if_twice (map (m.mapped_entry after)) (map (m.mapped_entry before)) (map (m.mapped_entry both)) (each_twice (m.mapped_entry after) (m.mapped_entry before) (m.mapped_entry both) entry) h.clause) (span h.at)
 
   pub decl : (d : Decl) → m.mapped_decl after (m.mapped_decl before d) ≡ m.mapped_decl both d
-  decl (s.stateset n ss at) = ap₃ s.stateset (name n) (names ss) (span at)
+  decl (s.stateset n ss at) = ap₃ s.stateset (name n) (each_twice (m.mapped_set_state after) (m.mapped_set_state before) (m.mapped_set_state both) set_state ss) (span at)
   decl (s.abstract n ss at) = ap₃ s.abstract (name n) (if_twice (m.mapped_name after) (m.mapped_name before) (m.mapped_name both) name ss) (span at)
   decl (s.struct n ps ss fs rs at) = ap₆ s.struct (name n) (each_twice (m.mapped_header_key after) (m.mapped_header_key before) (m.mapped_header_key both) header_key ps) (if_twice (m.mapped_name after) (m.mapped_name before) (m.mapped_name both) name ss) (each_twice (m.mapped_field after) (m.mapped_field before) (m.mapped_field both) field fs) (if_twice (m.mapped_states after) (m.mapped_states before) (m.mapped_states both) states rs) (span at)
   decl (s.variant n ps cs at) = ap₄ s.variant (name n) (each_twice (m.mapped_header_key after) (m.mapped_header_key before) (m.mapped_header_key both) header_key ps) (each_twice (m.mapped_case after) (m.mapped_case before) (m.mapped_case both) case cs) (span at)

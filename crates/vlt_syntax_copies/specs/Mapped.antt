@@ -3,7 +3,7 @@ use Rattle.std.specs.Prelude.{List, map}
 use Rattle.std.specs.Option.{option_map}
 use Rattle.vlt_base.specs.declared.places.Span.{Span}
 use Rattle.vlt_syntax.specs.Tree as s
-use Rattle.vlt_syntax.specs.Tree.{Name, States, KeyStates, Named, Ty, Expr, Build, Call, Init, Right, Returned, Stmt, Block, If, Else, Stmts, Arms, HeaderKey, Field, Case, Entry, ResultType, Parameter, Head, Decl}
+use Rattle.vlt_syntax.specs.Tree.{Name, States, KeyStates, Named, Ty, Expr, Build, Call, Init, Right, Returned, Stmt, Block, If, Else, Stmts, Arms, SetState, HeaderKey, Field, Case, Entry, ResultType, Parameter, Head, Decl}
 
 module _ (go : Span → Span) where
   abbrev pub mapped_name : Name → Name
@@ -112,6 +112,9 @@ module _ (go : Span → Span) where
     mapped_arms (s.arm tick vs b at rest) =
         s.arm (mapped_name tick) (mapped_names vs) (mapped_block b) (go at) (mapped_arms rest)
 
+  abbrev pub mapped_set_state : SetState → SetState
+  mapped_set_state x = record { name = mapped_name x.name; above = x.above }
+
   abbrev pub mapped_header_key : HeaderKey → HeaderKey
   mapped_header_key p = record { key = mapped_name p.key; key_type = option_map mapped_name p.key_type }
 
@@ -134,6 +137,7 @@ module _ (go : Span → Span) where
   abbrev pub mapped_entry : Entry → Entry
   mapped_entry (s.held k) = s.held (mapped_key_states k)
   mapped_entry (s.changed k before after) = s.changed (mapped_name k) (mapped_states before) (mapped_states after)
+  mapped_entry (s.bound k v b) = s.bound (mapped_name k) (mapped_name v) (mapped_name b)
   mapped_entry (s.taken k at) = s.taken (mapped_key_states k) (go at)
   mapped_entry (s.given k at) = s.given (mapped_key_states k) (go at)
   mapped_entry (s.fresh k at) = s.fresh (mapped_key_states k) (go at)
@@ -155,7 +159,7 @@ module _ (go : Span → Span) where
   }
 
   abbrev pub mapped_decl : Decl → Decl
-  mapped_decl (s.stateset n ss at) = s.stateset (mapped_name n) (mapped_names ss) (go at)
+  mapped_decl (s.stateset n ss at) = s.stateset (mapped_name n) (map mapped_set_state ss) (go at)
   mapped_decl (s.abstract n ss at) = s.abstract (mapped_name n) (option_map mapped_name ss) (go at)
   mapped_decl (s.struct n ps ss fs r at) =
       s.struct (mapped_name n) (map mapped_header_key ps) (option_map mapped_name ss)

@@ -1,7 +1,7 @@
 -- A part of a tree whose places all lie so much further on.
 use Rattle.std.specs.Prelude.{ℕ, ◌+◌, List}
 use Rattle.vlt_base.specs.declared.places.Span.{Span}
-use Rattle.vlt_syntax.specs.Tree.{Name, States, KeyStates, Named, Ty, Expr, Build, Call, Init, Right, Returned, Stmt, Block, If, Else, Stmts, Arms, HeaderKey, Field, Case, Entry, ResultType, Parameter, Head, Decl}
+use Rattle.vlt_syntax.specs.Tree.{Name, States, KeyStates, Named, Ty, Expr, Build, Call, Init, Right, Returned, Stmt, Block, If, Else, Stmts, Arms, SetState, HeaderKey, Field, Case, Entry, ResultType, Parameter, Head, Decl}
 use Rattle.vlt_syntax_copies.specs.Mapped as m
 
 module _ (by : ℕ) where
@@ -61,6 +61,9 @@ module _ (by : ℕ) where
 
   abbrev pub raised_arms : Arms → Arms
   raised_arms = m.mapped_arms raised_span
+
+  abbrev pub raised_set_state : SetState → SetState
+  raised_set_state = m.mapped_set_state raised_span
 
   abbrev pub raised_header_key : HeaderKey → HeaderKey
   raised_header_key = m.mapped_header_key raised_span

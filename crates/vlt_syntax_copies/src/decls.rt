@@ -1,17 +1,17 @@
 //! Declarations.
 
 ghost use Rattle.std.specs.Prelude.{◌≡◌, IfOk, map};
-ghost use Rattle.vlt_syntax.specs.View.{key_states_of, ty_of, header_key_of, field_of, case_of, decl_of};
+ghost use Rattle.vlt_syntax.specs.View.{key_states_of, ty_of, set_state_of, header_key_of, field_of, case_of, decl_of};
 ghost use Rattle.vlt_syntax_copies.specs.Mapped as m;
 ghost use Rattle.vlt_syntax_copies.specs.Shifted as s;
 
 use crate::heads::shifted_head;
-use crate::names::{shifted_name, shifted_name_if, shifted_names, shifted_span};
+use crate::names::{shifted_name, shifted_name_if, shifted_span};
 use crate::statements::shifted_block;
 use crate::types::{shifted_key_states, shifted_states_if, shifted_ty};
 use std::alloc::{AllocError, Global};
 use vlt_base::Items;
-use vlt_syntax::{Case, Decl, Field, HeaderKey, KeyStates, Ty};
+use vlt_syntax::{Case, Decl, Field, HeaderKey, KeyStates, SetState, Ty};
 
 fn shifted_header_key(alloc: Global, param: &HeaderKey, by: u32) -> Result<HeaderKey, AllocError>
     ensures { IfOk result (λ p. header_key_of p
@@ -99,6 +99,24 @@ fn shifted_case(alloc: Global, case: &Case, by: u32) -> Result<Case, AllocError>
     })
 }
 
+fn shifted_set_states(
+    alloc: Global,
+    states: &[SetState],
+    by: u32,
+) -> Result<Items<SetState>, AllocError>
+    ensures { IfOk result (λ xs. map set_state_of xs
+        ≡ map (m.mapped_set_state (s.shifted_span by)) (map set_state_of states.now)) }
+{
+    let mut made = Items::new(alloc);
+    for state in states {
+        made.push(SetState {
+            name: shifted_name(alloc, &state.name, by)?,
+            above: state.above,
+        })?;
+    }
+    Ok(made)
+}
+
 fn shifted_cases(alloc: Global, cases: &[Case], by: u32) -> Result<Items<Case>, AllocError>
     ensures { IfOk result (λ cs. map case_of cs
         ≡ map (m.mapped_case (s.shifted_span by)) (map case_of cases.now)) }
@@ -121,7 +139,7 @@ pub fn shifted_decl(alloc: Global, decl: &Decl, by: u32) -> Result<Decl, AllocEr
     match decl {
         Decl::StateSet { name, states, at } => Ok(Decl::StateSet {
             name: shifted_name(alloc, name, by)?,
-            states: shifted_names(alloc, states.as_slice(), by)?,
+            states: shifted_set_states(alloc, states.as_slice(), by)?,
             at: shifted_span(*at, by),
         }),
         Decl::Abstract { name, states, at } => Ok(Decl::Abstract {

@@ -22,6 +22,15 @@ fn shifted_entry(alloc: Global, entry: &Entry, by: u32) -> Result<Entry, AllocEr
             before: shifted_states(alloc, before, by)?,
             after: shifted_states(alloc, after, by)?,
         }),
+        Entry::Bound {
+            key,
+            variable,
+            state,
+        } => Ok(Entry::Bound {
+            key: shifted_name(alloc, key, by)?,
+            variable: shifted_name(alloc, variable, by)?,
+            state: shifted_name(alloc, state, by)?,
+        }),
         Entry::Taken(key, at) => Ok(Entry::Taken(
             shifted_key_states(alloc, key, by)?,
             shifted_span(*at, by),

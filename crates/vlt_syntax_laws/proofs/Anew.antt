@@ -6,11 +6,11 @@ use Rattle.vlt_lexer.specs.declared.token.Mark.TheVariants as mark
 use Rattle.vlt_lexer.specs.Reading.{Lexeme}
 use Rattle.vlt_syntax.specs.Tokens.{Token, keyword, sign, tokens_in}
 use Rattle.vlt_syntax.specs.Tree as s
-use Rattle.vlt_syntax.specs.Tree.{Name, States, KeyStates, Named, Ty, Expr, Build, Call, Init, Right, Returned, Stmt, Block, If, Else, Stmts, Arms, HeaderKey, Field, Case, Entry, ResultType, Parameter, Head, Decl, Tree}
+use Rattle.vlt_syntax.specs.Tree.{Name, States, KeyStates, Named, Ty, Expr, Build, Call, Init, Right, Returned, Stmt, Block, If, Else, Stmts, Arms, SetState, HeaderKey, Field, Case, Entry, ResultType, Parameter, Head, Decl, Tree}
 use Rattle.vlt_syntax.specs.Lists.{each_then, further_then, listed_then, enclosed_then, Each, IsFilled}
-use Rattle.vlt_syntax.specs.Spelling.{name_then, case_name_then, marked_name_then, states_then, at_states_then, key_states_then, named_then, ty_then, sign_of, expr_then, build_then, call_then, init_then, owner_then, right_then, returned_then, stmt_then, block_then, if_then, else_then, stmts_then, arms_then, header_key_then, header_then, field_then, release_then, case_then, entry_then, result_type_then, parameter_then, clause_then, head_then, decl_then, spelling}
-use Rattle.vlt_syntax.specs.Grammar.{Bounds, language, level, depth, BindsFrom, IsStates, IsKeyStates, IsTy, IsExpr, IsInit, IsRight, IsReturned, IsSomeArm, IsStmt, IsBlock, IsIf, IsElse, AreStmts, AreArms, IsField, IsCase, IsEntry, IsResultType, IsParameter, IsHead, IsDecl, IsTree, IsPlacedTreeOf}
-use Rattle.vlt_syntax.specs.Places.{Spans, Placing, each_at, further_at, listed_at, enclosed_at, marked_at, name_at, states_at, key_states_at, named_at, ty_at, expr_at, build_at, call_at, init_at, owner_at, right_at, returned_at, stmt_at, block_at, if_at, else_at, stmts_at, arms_at, header_key_at, field_at, release_at, case_at, entry_at, result_type_at, parameter_at, clause_at, head_at, decl_at, span_in, tree_with_places}
+use Rattle.vlt_syntax.specs.Spelling.{name_then, case_name_then, marked_name_then, states_then, at_states_then, key_states_then, named_then, ty_then, sign_of, expr_then, build_then, call_then, init_then, owner_then, right_then, returned_then, stmt_then, block_then, if_then, else_then, stmts_then, arms_then, state_sign, further_states_then, set_states_then, header_key_then, header_then, field_then, release_then, case_then, entry_then, result_type_then, parameter_then, clause_then, head_then, decl_then, spelling}
+use Rattle.vlt_syntax.specs.Grammar.{Bounds, language, level, depth, BindsFrom, IsStates, IsKeyStates, IsTy, IsExpr, IsInit, IsRight, IsReturned, IsSomeArm, IsStmt, IsBlock, IsIf, IsElse, AreStmts, AreArms, BeginsChain, IsField, IsCase, IsEntry, IsResultType, IsParameter, IsHead, IsDecl, IsTree, IsPlacedTreeOf}
+use Rattle.vlt_syntax.specs.Places.{Spans, Placing, each_at, further_at, listed_at, enclosed_at, marked_at, name_at, states_at, key_states_at, named_at, ty_at, expr_at, build_at, call_at, init_at, owner_at, right_at, returned_at, stmt_at, block_at, if_at, else_at, stmts_at, arms_at, set_state_at, header_key_at, field_at, release_at, case_at, entry_at, result_type_at, parameter_at, clause_at, head_at, decl_at, span_in, tree_with_places}
 use Rattle.vlt_syntax_laws.proofs.OneTree.{one_tree}
 
 -- the thing with its places set anew
@@ -346,6 +346,7 @@ spells_entry : Spells_on entry_at entry_then
 spells_entry (s.held k) at i rest = spells_key_states k at i rest
 spells_entry (s.changed k x y) at i rest =
     ap (λ ts. name_then k (sign mark.At ∷ ts)) (spells_states x at (i + 1 + 1) _ ∙ ap (λ ts. states_then x (sign mark.Arrow ∷ ts)) (spells_states y at ((states_at x at (i + 1 + 1)).1 + 1) rest))
+spells_entry (s.bound k v b) at i rest = refl
 spells_entry (s.taken k a) at i rest = ap (λ ts. sign mark.Minus ∷ ts) (spells_key_states k at (i + 1) rest)
 spells_entry (s.given k a) at i rest = ap (λ ts. sign mark.Plus ∷ ts) (spells_key_states k at (i + 1) rest)
 spells_entry (s.fresh k a) at i rest = ap (λ ts. keyword word.New ∷ ts) (spells_key_states k at (i + 1) rest)
@@ -368,8 +369,16 @@ spells_head h at i rest =
     ∙ ap (λ ts. result_type_then h.result_type (name_then h.name (sign mark.OpenParen ∷ ts)))
     (spells_listed parameter_at parameter_then mark.CloseParen spells_parameter h.parameters at j _ ∙ ap (listed_then parameter_then mark.CloseParen h.parameters) (spells_clause h.clause at (listed_at parameter_at h.parameters at j).1 rest))
 
+spells_further_states : Spells_on (further_at set_state_at) further_states_then
+spells_further_states [] at i rest = refl
+spells_further_states (x ∷ xs) at i rest = ap (λ ts. sign (state_sign x.above) ∷ name_then x.name ts) (spells_further_states xs at (i + 1 + 1) rest)
+
+spells_set_states : Spells_on (listed_at set_state_at) set_states_then
+spells_set_states [] at i rest = refl
+spells_set_states (x ∷ xs) at i rest = ap (name_then x.name) (spells_further_states xs at (i + 1) rest)
+
 spells_decl : Spells_on decl_at decl_then
-spells_decl (s.stateset n ss a) at i rest = ap (λ ts. keyword word.Stateset ∷ name_then n (sign mark.OpenBrace ∷ ts)) (spells_names mark.CloseBrace ss at (i + 1 + 1 + 1) rest)
+spells_decl (s.stateset n ss a) at i rest = ap (λ ts. keyword word.Stateset ∷ name_then n (sign mark.OpenBrace ∷ ts)) (spells_set_states ss at (i + 1 + 1 + 1) rest)
 spells_decl (s.abstract n ss a) at i rest = ap (λ ts. keyword word.Abstract ∷ name_then n ts) (spells_marked_name mark.At ss at (i + 1 + 1) _)
 spells_decl (s.struct n ps ss fs r a) at i rest =
     let j = (enclosed_at header_key_at ps at (i + 1 + 1)).1 in
@@ -401,6 +410,7 @@ case_stays b c at i h = (
 entry_stays : Stays entry_at IsEntry
 entry_stays (s.held k) at i h = key_states_stay k at i h
 entry_stays (s.changed k x y) at i h = (states_stay x at (i + 1 + 1) h.0, states_stay y at ((states_at x at (i + 1 + 1)).1 + 1) h.1)
+entry_stays (s.bound k v b) at i h = h
 entry_stays (s.taken k a) at i h = key_states_stay k at (i + 1) h
 entry_stays (s.given k a) at i h = key_states_stay k at (i + 1) h
 entry_stays (s.fresh k a) at i h = key_states_stay k at (i + 1) h
@@ -425,8 +435,16 @@ head_stays b h at i is =
       clause = clause_stays h.clause at (listed_at parameter_at h.parameters at j).1 is.clause;
     }
 
+begins_chain : Stays (listed_at set_state_at) BeginsChain
+begins_chain [] at i h = h
+begins_chain (x ∷ xs) at i h = h
+
 decl_stays : (b : Bounds) → Stays decl_at (IsDecl b)
-decl_stays b (s.stateset n ss a) at i h = (some_stays name_at ss at (i + 1 + 1 + 1) h.0, subst (λ n. n ≤ b.states) (sym (listed_long name_at ss at (i + 1 + 1 + 1))) h.1)
+decl_stays b (s.stateset n ss a) at i h = (
+  some_stays set_state_at ss at (i + 1 + 1 + 1) h.0,
+  subst (λ n. n ≤ b.states) (sym (listed_long set_state_at ss at (i + 1 + 1 + 1))) h.1,
+  begins_chain ss at (i + 1 + 1 + 1) h.2,
+)
 decl_stays b (s.abstract n ss a) at i h = h
 decl_stays b (s.struct n ps ss fs r a) at i h =
     let k = (marked_at name_at ss at (enclosed_at header_key_at ps at (i + 1 + 1)).1).1 + 1 in (

@@ -10,12 +10,12 @@ use Rattle.vlt_lexer.specs.declared.token.Mark.TheVariants as mark
 use Rattle.vlt_syntax.specs.Tokens as t
 use Rattle.vlt_syntax.specs.Tokens.{Token}
 use Rattle.vlt_syntax.specs.Tree as s
-use Rattle.vlt_syntax.specs.Tree.{Name, States, KeyStates, Named, Ty, Expr, Init, Right, Returned, Stmt, Block, Else, Stmts, Arms, HeaderKey, Field, Case, Entry, ResultType, Parameter, Head, Decl}
+use Rattle.vlt_syntax.specs.Tree.{Name, States, KeyStates, Named, Ty, Expr, Init, Right, Returned, Stmt, Block, Else, Stmts, Arms, SetState, HeaderKey, Field, Case, Entry, ResultType, Parameter, Head, Decl}
 use Rattle.vlt_syntax.specs.Lists.{Each, each_then, further_then, listed_then, enclosed_then}
 use Rattle.vlt_base.specs.declared.places.Span.{Span}
-use Rattle.vlt_syntax.specs.Spelling.{name_then, case_name_then, marked_name_then, states_then, at_states_then, key_states_then, named_then, ty_then, init_then, owner_then, right_then, returned_then, stmt_then, block_then, else_then, stmts_then, arms_then, header_key_then, field_then, release_then, case_then, entry_then, result_type_then, parameter_then, clause_then, head_then, decl_then, expr_then, sign_of, operator_of}
+use Rattle.vlt_syntax.specs.Spelling.{name_then, case_name_then, marked_name_then, states_then, at_states_then, key_states_then, named_then, ty_then, init_then, owner_then, right_then, returned_then, stmt_then, block_then, else_then, stmts_then, arms_then, further_states_then, header_key_then, field_then, release_then, case_then, entry_then, result_type_then, parameter_then, clause_then, head_then, decl_then, expr_then, sign_of, operator_of}
 use Rattle.vlt_syntax.specs.Grammar.{BindsFrom, depth, level, IsExpr, IsTy, IsStates, IsKeyStates, IsInit, IsRight, IsReturned, IsStmt, IsBlock, IsElse, AreStmts, AreArms, IsField, IsCase, IsEntry, IsResultType, IsParameter, IsHead, IsDecl, Bounds}
-use Rattle.vlt_automaton.specs.Automaton.{Pending, level_from, right_of, prefixed, Symbol, Thing, operand, operations, behind_name, close_group, end_expr, behind_operand, behind_variable, whole_depth, Left, a_name, a_param, a_ty, a_key, a_case, a_parameter, an_entry, an_expr, an_init, a_result_type, a_simple, a_stmt, a_decl, tick, sign, keyword, thing, further, listed, enclosed, marked_name, states, at_states, named, behind_tracked, behind_type_name, owner, right, behind_right_name, returned, block, stmts, behind_stmt_name, otherwise, behind_else, arm, arms, entry_states, arrow_states, clause, head, fields, behind_fields, decls, Reaction, take, exceed, climb, climb_by, if_deeper, start_operand, react_operations}
+use Rattle.vlt_automaton.specs.Automaton.{Pending, level_from, right_of, prefixed, Symbol, Thing, operand, operations, behind_name, close_group, end_expr, behind_operand, behind_variable, whole_depth, Left, a_name, a_param, a_ty, a_key, a_case, a_parameter, an_entry, an_expr, an_init, a_result_type, a_simple, a_stmt, a_decl, tick, sign, keyword, thing, further, listed, enclosed, marked_name, states, at_states, named, behind_tracked, behind_type_name, owner, right, behind_right_name, returned, block, stmts, behind_stmt_name, otherwise, behind_else, arm, arms, entry_states, behind_entry_at, arrow_states, clause, head, further_states, fields, behind_fields, decls, Reaction, take, exceed, climb, climb_by, if_deeper, start_operand, react_operations}
 use Rattle.vlt_syntax_laws.proofs.Exprs.{depth_some, binary_low, unary_high}
 use Rattle.vlt_syntax_laws.proofs.Wider.{wider}
 
@@ -197,9 +197,11 @@ Part extra d (behind_else room) K ts = 1 ≤ room → SpelledBehind (t.keyword w
 Part extra d (arm room) K ts = 1 ≤ room → (c : Name) × (vs : List Name) × (b : Block) × (rest : List Token) × IsBlock (wider extra) room b × (ts ≡ t.keyword word.Case ∷ case_name_then c (enclosed_then name_then mark.OpenParen mark.CloseParen vs (t.sign mark.Colon ∷ block_then b rest))) × K 0 rest
 Part extra d (arms room) K ts = 1 ≤ room → Spelled Arms (AreArms (wider extra) room) (λ x rest. arms_then x (t.sign mark.CloseBrace ∷ rest)) K ts
 Part extra d entry_states K ts = (n : List ℕ) → SpelledBehind (t.name n) Entry IsEntry entry_then K ts
+Part extra d behind_entry_at K ts = (n : List ℕ) → (e : Entry) × (rest : List Token) × IsEntry e × (t.name n ∷ t.sign mark.At ∷ ts ≡ entry_then e rest) × K 0 rest
 Part extra d arrow_states K ts = (n : List ℕ) (ss : States) → IsStates ss → (e : Entry) × (rest : List Token) × IsEntry e × (t.name n ∷ t.sign mark.At ∷ states_then ss ts ≡ entry_then e rest) × K 0 rest
 Part extra d clause K ts = Spelled (Option (List Entry)) (λ c. IfSome c (Each IsEntry)) clause_then K ts
 Part extra d head K ts = Spelled Head (IsHead (wider extra)) head_then K ts
+Part extra d (further_states left) K ts = Spelled (List SetState) (λ xs. length xs ≤ left.more) further_states_then K ts
 Part extra d (fields left) K ts = (fs : List Field) × (r : Option States) × (rest : List Token) × Each IsField fs × IfSome r IsStates × (length fs ≤ left.more) × (ts ≡ each_then field_then fs (release_then r (t.sign mark.CloseBrace ∷ rest))) × K 0 rest
 Part extra d behind_fields K ts = (r : Option States) × (rest : List Token) × IfSome r IsStates × (ts ≡ release_then r (t.sign mark.CloseBrace ∷ rest)) × K 0 rest
 Part extra d (decls left) K ts = (ds : List Decl) × (rest : List Token) × Each (IsDecl (wider extra)) ds × (length ds ≤ left.more) × (ts ≡ each_then decl_then ds rest) × K 0 rest

@@ -1,5 +1,5 @@
 -- Back over a token, symbol by symbol.
-use Rattle.std.proofs.Common.{◌≡◌, ℕ, zero, suc, ◌-◌, ◌≤◌, true, false, if◌then◌else◌, ◌==◌, List, [], ◌∷◌, Some, None, refl, sym, ap, subst, ◌∙◌, arith, length}
+use Rattle.std.proofs.Common.{◌≡◌, ℕ, zero, suc, ◌-◌, ◌≤◌, Bool, true, false, if◌then◌else◌, ◌==◌, List, [], ◌∷◌, Some, None, refl, sym, ap, subst, ◌∙◌, arith, length}
 use Rattle.std.proofs.lemmas.Bool.Decides.{nat_tests}
 use Rattle.vlt_lexer.specs.declared.token.Word.{Word}
 use Rattle.vlt_lexer.specs.declared.token.Word.TheVariants as word
@@ -11,8 +11,8 @@ use Rattle.vlt_automaton.specs.Words.{word_number, same_word}
 use Rattle.vlt_syntax.specs.Tree as s
 use Rattle.vlt_syntax.specs.Tree.{If, Name, States, KeyStates, Named, Ty, Expr, HeaderKey, Case, Parameter, Entry, Init, ResultType, Stmt, Decl, Head, Block}
 use Rattle.vlt_syntax.specs.Lists.{further_then, listed_then, enclosed_then}
-use Rattle.vlt_syntax.specs.Spelling.{sign_of, at_states_then, case_then, header_then, marked_name_then, owner_then, case_name_then, result_type_then, parameter_then, head_then, decl_then, stmt_then, returned_then, block_then, if_then, named_then, name_then, states_then, ty_then, right_then, expr_then}
-use Rattle.vlt_automaton.specs.Automaton.{reaction_behind, within_count, or_else, react_behind_fields, start_head, start_decl, whole_expr, start_operand, start_expr, react_operations, head_rest, start_ty, start_states, start_entry, start_right, react_right_name, react_tracked, react_type_name, react_stmt_name, start_simple, declaration_tail, enter, behind_if, on_tick, on_keyword, start_tick, Left, Thing, Pending, a_name, a_param, a_ty, a_key, a_case, a_parameter, an_entry, an_expr, an_init, a_result_type, a_simple, a_stmt, a_decl, Symbol, tick, sign, keyword, thing, further, listed, enclosed, marked_name, states, at_states, named, behind_tracked, behind_type_name, operand, operations, behind_name, close_group, end_expr, owner, right, behind_right_name, returned, block, stmts, behind_stmt_name, otherwise, behind_else, arm, arms, entry_states, arrow_states, clause, head, fields, behind_fields, decls, Reaction, take, skip, refuse, exceed, with_behind, start_thing, start_name, less, reaction}
+use Rattle.vlt_syntax.specs.Spelling.{sign_of, at_states_then, case_then, header_then, marked_name_then, owner_then, case_name_then, result_type_then, parameter_then, head_then, decl_then, stmt_then, returned_then, block_then, if_then, named_then, name_then, state_sign, states_then, ty_then, right_then, expr_then}
+use Rattle.vlt_automaton.specs.Automaton.{react_entry_at, one_more_state, react_further_states, reaction_behind, within_count, or_else, react_behind_fields, start_head, start_decl, whole_expr, start_operand, start_expr, react_operations, head_rest, start_ty, start_states, start_entry, start_right, react_right_name, react_tracked, react_type_name, react_stmt_name, start_simple, declaration_tail, enter, behind_if, on_tick, on_keyword, start_tick, Left, Thing, Pending, a_name, a_param, a_ty, a_key, a_case, a_parameter, an_entry, an_expr, an_init, a_result_type, a_simple, a_stmt, a_decl, Symbol, tick, sign, keyword, thing, further, listed, enclosed, marked_name, states, at_states, named, behind_tracked, behind_type_name, operand, operations, behind_name, close_group, end_expr, owner, right, behind_right_name, returned, block, stmts, behind_stmt_name, otherwise, behind_else, arm, arms, entry_states, behind_entry_at, arrow_states, clause, head, further_states, fields, behind_fields, decls, Reaction, take, skip, refuse, exceed, with_behind, start_thing, start_name, less, reaction}
 use Rattle.vlt_syntax.specs.Grammar.{level, BindsFrom, depth, IsExpr, IsTy, IsIf, IsBlock, IsHead, IsResultType, Bounds}
 use Rattle.vlt_syntax_laws.proofs.Takes.{IsNoSkip}
 use Rattle.vlt_syntax_laws.proofs.Exprs.{operand_kept, unary_high}
@@ -78,9 +78,25 @@ back_entry extra at d K c _ = tt
 
 back_entry_states : (extra : Bounds) (at : Span) (d : ℕ) (K : Rest) (c : List Token) (x : Token) → Backs extra d entry_states K x c (reaction (wider extra) entry_states x)
 back_entry_states extra at d K c x =
-    by_sign (λ x r. Backs extra d entry_states K x c r) mark.At x _ _
-    (λ k n. let q = k.4 n k.0 k.2 in (q.0, q.1, q.2, ap (λ r. t.name n ∷ t.sign mark.At ∷ r) k.3 ∙ q.3, q.4))
+    by_sign (λ x r. Backs extra d entry_states K x c r) mark.At x _ _ (λ k. k)
     (λ k n. (s.held (record { key = the_name at n; states = None }), x ∷ c, tt, refl, k))
+
+back_entry_at : (extra : Bounds) (at : Span) (d : ℕ) (K : Rest) (c : List Token) (x : Token) → Backs extra d behind_entry_at K x c (react_entry_at x)
+back_entry_at extra at d K c x =
+    by_sign (λ x r. Backs extra d behind_entry_at K x c r) mark.OpenParen x _ _
+    (λ k n.
+    let l = k.4 in let b = l.2 in let z = b.4 in (
+      s.bound (the_name at n) k.0 b.0,
+      z.0,
+      tt,
+      ap (λ r. t.name n ∷ t.sign mark.At ∷ t.sign mark.OpenParen ∷ r) (k.3 ∙ ap (name_then k.0) (l.1 ∙ ap (λ r. t.sign mark.LessEqual ∷ r) (b.3 ∙ ap (name_then b.0) z.1))),
+      z.2,
+    ))
+    (by_sign (λ x r. Backs extra d behind_entry_at K x c (with_behind r (arrow_states ∷ []))) mark.OpenBrace x _ _
+    (λ k n.
+    let z = k.4.4 n (s.several (k.0 ∷ k.4.0) at) tt in
+    (z.0, z.1, z.2, ap (λ r. t.name n ∷ t.sign mark.At ∷ t.sign mark.OpenBrace ∷ r) (k.3 ∙ ap (name_then k.0) k.4.3) ∙ z.3, z.4))
+    (by_name (λ x r. Backs extra d behind_entry_at K x c (with_behind r (arrow_states ∷ []))) x _ _ (λ m k n. k n (s.one (the_name at m)) tt) tt))
 
 back_arrow : (extra : Bounds) (at : Span) (d : ℕ) (K : Rest) (c : List Token) (x : Token) → Backs extra d arrow_states K x c (reaction (wider extra) arrow_states x)
 back_arrow extra at d K c x =
@@ -234,6 +250,16 @@ back_arms extra at room d K c (t.sign w) = tt
 back_arms extra at room d K c _ = tt
 
 -- ---- heads and declarations
+
+back_further_states : (extra : Bounds) (left : Left) (d : ℕ) (K : Rest) (c : List Token) (x : Token) → Backs extra d (further_states left) K x c (react_further_states left x)
+back_further_states extra left d K c x =
+    by_sign (λ x r. Backs extra d (further_states left) K x c r) mark.CloseBrace x _ _ (λ k. ([], c, omega arith, refl, k))
+    (by_sign (λ x r. Backs extra d (further_states left) K x c r) mark.Comma x _ _ (more false)
+    (by_sign (λ x r. Backs extra d (further_states left) K x c r) mark.Less x _ _ (more true) tt)) where
+      more : (above : Bool) → Backs extra d (further_states left) K (t.sign (state_sign above)) c (one_more_state left)
+      more above =
+          if_both (λ r. Backs extra d (further_states left) K (t.sign (state_sign above)) c r) (left.more == 0) _ _ (λ e. tt)
+          (λ e h. (record { name = h.0; above = above } ∷ h.4.0, h.4.1, one_room left (length h.4.0) e h.4.2, ap (λ r. t.sign (state_sign above) ∷ r) (h.3 ∙ ap (name_then h.0) h.4.3), h.4.4))
 
 back_clause : (extra : Bounds) (d : ℕ) (K : Rest) (c : List Token) (x : Token) → Backs extra d clause K x c (reaction (wider extra) clause x)
 back_clause extra d K c x =
@@ -405,7 +431,7 @@ back_function extra at d K c x = through extra d (thing a_decl) (λ L ts. Part e
 back_decl : (extra : Bounds) (at : Span) (d : ℕ) (K : Rest) (c : List Token) (x : Token) → Backs extra d (thing a_decl) K x c (start_thing (wider extra) a_decl x)
 back_decl extra at d K c (t.keyword word.Stateset) = λ k.
     let b = k.4 in let n = b.2 in let f = n.4 in
-    (s.stateset k.0 (n.0 ∷ f.0) at, f.1, (tt, (let m = f.2.1 in omega arith)), ap (λ r. t.keyword word.Stateset ∷ r) (k.3 ∙ ap (name_then k.0) (b.1 ∙ ap (λ r. t.sign mark.OpenBrace ∷ r) (n.3 ∙ ap (name_then n.0) f.3))), f.4)
+    (s.stateset k.0 (record { name = n.0; above = false } ∷ f.0) at, f.1, (tt, (let m = f.2 in omega arith), refl), ap (λ r. t.keyword word.Stateset ∷ r) (k.3 ∙ ap (name_then k.0) (b.1 ∙ ap (λ r. t.sign mark.OpenBrace ∷ r) (n.3 ∙ ap (name_then n.0) f.3))), f.4)
 back_decl extra at d K c (t.keyword word.Abstract) = λ k.
     let m = k.4 in let z = m.4 in
     (s.abstract k.0 m.0 at, z.0, tt, ap (λ r. t.keyword word.Abstract ∷ r) (k.3 ∙ ap (name_then k.0) (m.3 ∙ ap (marked_name_then mark.At m.0) z.1)), z.2)
@@ -666,9 +692,11 @@ backs extra at d (behind_else room) K x c = back_behind_else extra at room d K c
 backs extra at d (arm room) K x c = back_arm extra room d K c x
 backs extra at d (arms room) K x c = back_arms extra at room d K c x
 backs extra at d entry_states K x c = back_entry_states extra at d K c x
+backs extra at d behind_entry_at K x c = back_entry_at extra at d K c x
 backs extra at d arrow_states K x c = back_arrow extra at d K c x
 backs extra at d clause K x c = back_clause extra d K c x
 backs extra at d head K x c = back_head extra at d K c x
+backs extra at d (further_states left) K x c = back_further_states extra left d K c x
 backs extra at d (fields left) K x c = back_fields extra at left d K c x
 backs extra at d behind_fields K x c = back_behind_fields extra d K c x
 backs extra at d (decls left) K x c = back_decls extra at left d K c x

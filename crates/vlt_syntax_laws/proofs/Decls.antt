@@ -1,5 +1,5 @@
 -- The automaton takes declarations and whole trees.
-use Rattle.std.proofs.Common.{◌≡◌, ℕ, suc, ◌-◌, ◌≤◌, true, false, ◌==◌, List, [], ◌∷◌, Option, Some, None, refl, ◌∙◌, arith, length, IfSome}
+use Rattle.std.proofs.Common.{◌≡◌, ℕ, suc, ◌-◌, ◌≤◌, Bool, true, false, ◌==◌, List, [], ◌∷◌, Option, Some, None, refl, ◌∙◌, arith, length, IfSome}
 use Rattle.std.proofs.lemmas.Bool.Decides.{nat_tests}
 use Rattle.vlt_lexer.specs.declared.token.Mark.{Mark}
 use Rattle.vlt_lexer.specs.declared.token.Mark.TheVariants as mark
@@ -7,11 +7,11 @@ use Rattle.vlt_syntax.specs.Tokens as t
 use Rattle.vlt_syntax.specs.Tokens.{Token}
 use Rattle.vlt_automaton.specs.Words.{same_mark}
 use Rattle.vlt_syntax.specs.Tree as s
-use Rattle.vlt_syntax.specs.Tree.{Name, Named, Ty, States, KeyStates, HeaderKey, Field, Case, Entry, ResultType, Parameter, Head, Decl, Tree, Expr, Returned}
+use Rattle.vlt_syntax.specs.Tree.{Name, Named, Ty, States, KeyStates, SetState, HeaderKey, Field, Case, Entry, ResultType, Parameter, Head, Decl, Tree, Expr, Returned}
 use Rattle.vlt_syntax.specs.Lists.{Each, listed_then, enclosed_then, further_then, each_then}
-use Rattle.vlt_syntax.specs.Spelling.{name_then, at_states_then, ty_then, field_then, release_then, case_then, entry_then, key_states_then, parameter_then, header_key_then, result_type_then, clause_then, decl_then, marked_name_then, spelling}
+use Rattle.vlt_syntax.specs.Spelling.{name_then, state_sign, further_states_then, states_then, at_states_then, ty_then, field_then, release_then, case_then, entry_then, key_states_then, parameter_then, header_key_then, result_type_then, clause_then, decl_then, marked_name_then, spelling}
 use Rattle.vlt_syntax.specs.Grammar.{IsTy, IsStates, IsKeyStates, IsField, IsCase, IsEntry, IsResultType, IsParameter, IsHead, IsDecl, IsTree, Bounds}
-use Rattle.vlt_automaton.specs.Automaton.{to, Left, Symbol, Thing, a_name, a_param, a_ty, a_key, a_case, a_parameter, an_entry, thing, further, listed, enclosed, marked_name, sign, name, at_states, named, clause, head, block, fields, decls, less, arrow_states, entry_states, parameters_left}
+use Rattle.vlt_automaton.specs.Automaton.{to, Left, Symbol, Thing, a_name, a_param, a_ty, a_key, a_case, a_parameter, an_entry, thing, further, listed, enclosed, marked_name, sign, name, at_states, named, clause, head, block, further_states, fields, decls, less, arrow_states, behind_entry_at, states, entry_states, parameters_left}
 use Rattle.vlt_syntax_laws.proofs.After.{after}
 use Rattle.vlt_syntax_laws.proofs.Takes.{Any, any, name_before, same, Takes, take_some, take_ty, take_named, keys_there, plain_keys, take_states, ends_type}
 use Rattle.vlt_syntax_laws.proofs.Stmts.{take_block, take_right, take_returned}
@@ -124,14 +124,20 @@ take_fields extra (f ∷ fs) r l s rest h n i = take_field extra f l s _ h.0 (om
 
 -- ---- heads
 
+-- states behind the `@` of an entry
+states_there : (extra : Bounds) (ss : States) (q : List Symbol) (rest : List Token) → IsStates ss → after (wider extra) (states_then ss rest) (behind_entry_at ∷ q) ≡ after (wider extra) rest (arrow_states ∷ q)
+states_there extra (s.one n) q rest h = refl
+states_there extra (s.several ns at) q rest h = take_states extra (s.several ns at) (arrow_states ∷ q) rest h
+
 entry_before : (extra : Bounds) (e : Entry) (m : Mark) (s : List Symbol) (rest : List Token) → IsEntry e
     → ((q : List Symbol) → after (wider extra) (t.sign m ∷ rest) (at_states ∷ q) ≡ after (wider extra) (t.sign m ∷ rest) q) → ((q : List Symbol) → after (wider extra) (t.sign m ∷ rest) (arrow_states ∷ q) ≡ after (wider extra) (t.sign m ∷ rest) q) → after (wider extra) (t.sign m ∷ rest) (entry_states ∷ s) ≡ after (wider extra) (t.sign m ∷ rest) s
     → after (wider extra) (entry_then e (t.sign m ∷ rest)) (thing an_entry ∷ s) ≡ after (wider extra) (t.sign m ∷ rest) s
 entry_before extra (s.held k) m s rest h a b c = held_on k.states h where
   held_on : (o : Option States) → IfSome o IsStates → after (wider extra) (t.name k.key.text ∷ at_states_then o (t.sign m ∷ rest)) (thing an_entry ∷ s) ≡ after (wider extra) (t.sign m ∷ rest) s
   held_on None i = c
-  held_on (Some ss) i = take_states extra ss (arrow_states ∷ s) _ i ∙ b s
-entry_before extra (s.changed k before behind) m s rest h a b c = take_states extra before (arrow_states ∷ s) _ h.0 ∙ take_states extra behind s _ h.1
+  held_on (Some ss) i = states_there extra ss s _ i ∙ b s
+entry_before extra (s.changed k before behind) m s rest h a b c = states_there extra before s _ h.0 ∙ take_states extra behind s _ h.1
+entry_before extra (s.bound k v u) m s rest h a b c = refl
 entry_before extra (s.taken k at) m s rest h a b c = key_states_end extra k m s rest h (a s)
 entry_before extra (s.given k at) m s rest h a b c = key_states_end extra k m s rest h (a s)
 entry_before extra (s.fresh k at) m s rest h a b c = key_states_end extra k m s rest h (a s)
@@ -184,6 +190,7 @@ take_parameters extra (p ∷ q ∷ ps) s rest h n =
 listed_entry : (extra : Bounds) (e : Entry) (ts : List Token) (s : List Symbol) → after (wider extra) (entry_then e ts) (listed an_entry mark.CloseBracket None ∷ s) ≡ after (wider extra) (entry_then e ts) (thing an_entry ∷ further an_entry mark.CloseBracket None ∷ s)
 listed_entry extra (s.held k) ts s = refl
 listed_entry extra (s.changed k a b) ts s = refl
+listed_entry extra (s.bound k v b) ts s = refl
 listed_entry extra (s.taken k at) ts s = refl
 listed_entry extra (s.given k at) ts s = refl
 listed_entry extra (s.fresh k at) ts s = refl
@@ -241,10 +248,20 @@ take_header : (extra : Bounds) (ps : List HeaderKey) (m : Mark) (s : List Symbol
 take_header extra [] m s rest n e = e
 take_header extra (p ∷ ps) m s rest n e = counted_some extra header_key_then a_param AnyParam mark.Greater refl (param_comma extra) (param_greater extra) p ps (less (parameters_left (wider extra))) s _ (omega arith) (each_param (p ∷ ps))
 
+-- ---- sets of states
+
+further_state : (extra : Bounds) (above : Bool) (n : Name) (l : Left) (s : List Symbol) (rest : List Token) → 1 ≤ l.more → after (wider extra) (t.sign (state_sign above) ∷ name_then n rest) (further_states l ∷ s) ≡ after (wider extra) rest (further_states (one_less l) ∷ s)
+further_state extra true n l s rest some = rw (some_left l some) refl
+further_state extra false n l s rest some = rw (some_left l some) refl
+
+take_further_states : (extra : Bounds) (xs : List SetState) (l : Left) (s : List Symbol) (rest : List Token) → length xs ≤ l.more → after (wider extra) (further_states_then xs rest) (further_states l ∷ s) ≡ after (wider extra) rest s
+take_further_states extra [] l s rest few = refl
+take_further_states extra (x ∷ xs) l s rest few = further_state extra x.above x.name l s _ (omega arith) ∙ take_further_states extra xs (one_less l) s rest (omega arith)
+
 take_decl : (extra : Bounds) (d : Decl) (l : Left) (s : List Symbol) (rest : List Token) → IsDecl (wider extra) d → 1 ≤ l.more → after (wider extra) (decl_then d rest) (decls l ∷ s) ≡ after (wider extra) rest (decls (one_less l) ∷ s)
 take_decl extra (s.stateset n [] at) l q rest h some = absurd h.0
 take_decl extra (s.stateset n (k ∷ ks) at) l q rest h some =
-    rw (some_left l some) (counted_some extra name_then a_name Any mark.CloseBrace refl (name_before extra mark.Comma) (name_before extra mark.CloseBrace) k ks (Some (record { limit = 5; more = (wider extra).states - 1 })) (decls (one_less l) ∷ q) rest (omega arith) (any (k ∷ ks)))
+    rw (some_left l some) (take_further_states extra ks (record { limit = 5; more = (wider extra).states - 1 }) (decls (one_less l) ∷ q) rest (let few = h.1 in omega arith))
 take_decl extra (s.abstract n None at) l q rest h some = rw (some_left l some) refl
 take_decl extra (s.abstract n (Some ss) at) l q rest h some = rw (some_left l some) refl
 take_decl extra (s.struct n ps None fs r at) l q rest h some =

@@ -13,7 +13,7 @@ use Rattle.vlt_syntax.specs.Tokens.{Token}
 use Rattle.vlt_syntax.specs.Spelling.{operator_of}
 use Rattle.vlt_syntax.specs.Grammar.{Bounds, level, language}
 use Rattle.vlt_syntax.specs.Refusals.{bound_of}
-use Rattle.vlt_automaton.specs.Automaton.{behind_fields, or_else, start_simple, start_result_type, react_behind_fields, Left, Thing, a_name, a_param, a_ty, a_key, a_case, a_parameter, an_entry, an_expr, an_init, a_result_type, a_simple, a_stmt, a_decl, Pending, level_from, right_of, prefixed, Symbol, tick, sign, keyword, thing, further, listed, enclosed, marked_name, states, at_states, named, behind_tracked, behind_type_name, operand, behind_name, operations, close_group, end_expr, owner, right, behind_right_name, returned, block, stmts, behind_stmt_name, otherwise, behind_else, arm, arms, entry_states, arrow_states, clause, head, fields, decls, Reaction, take, skip, refuse, exceed, with_behind, is_sign, is_keyword, is_name, is_tick, start_name, start_tick, start_states, start_key, start_ty, react_tracked, react_type_name, behind_operand, behind_variable, whole_depth, if_deeper, start_operand, climb, climb_by, react_operations, whole_expr, start_expr, start_build, start_right, react_right_name, react_returned, enter, declaration_tail, start_stmt, react_stmt_name, start_block, start_arm, start_head, head_rest, start_entry, start_decl, within_count, start_thing, less, one_more, reaction, Next, to, unexpected, over, depth_read, reaction_behind, next_after, step_behind, behind_if, parameters_left, lowest}
+use Rattle.vlt_automaton.specs.Automaton.{behind_fields, or_else, start_simple, start_result_type, react_behind_fields, Left, Thing, a_name, a_param, a_ty, a_key, a_case, a_parameter, an_entry, an_expr, an_init, a_result_type, a_simple, a_stmt, a_decl, Pending, level_from, right_of, prefixed, Symbol, tick, sign, keyword, thing, further, listed, enclosed, marked_name, states, at_states, named, behind_tracked, behind_type_name, operand, behind_name, operations, close_group, end_expr, owner, right, behind_right_name, returned, block, stmts, behind_stmt_name, otherwise, behind_else, arm, arms, entry_states, behind_entry_at, arrow_states, clause, head, further_states, fields, decls, Reaction, take, skip, refuse, exceed, with_behind, is_sign, is_keyword, is_name, is_tick, start_name, start_tick, start_states, start_key, start_ty, react_tracked, react_type_name, behind_operand, behind_variable, whole_depth, if_deeper, start_operand, climb, climb_by, react_operations, whole_expr, start_expr, start_build, start_right, react_right_name, react_returned, enter, declaration_tail, start_stmt, react_stmt_name, start_block, start_arm, start_head, head_rest, start_entry, start_decl, within_count, start_thing, less, one_more, one_more_state, reaction, Next, to, unexpected, over, depth_read, reaction_behind, next_after, step_behind, behind_if, parameters_left, lowest}
 use Rattle.vlt_syntax_laws.proofs.Wider.{wider}
 use Rattle.vlt_syntax_laws.proofs.After.{IsTo}
 
@@ -69,6 +69,7 @@ lift e (otherwise room) = otherwise (lift_room e room)
 lift e (behind_else room) = behind_else (lift_room e room)
 lift e (arm room) = arm (lift_room e room)
 lift e (arms room) = arms (lift_room e room)
+lift e (further_states left) = further_states (lift_left e left)
 lift e (fields left) = fields (lift_left e left)
 lift e (decls left) = decls (lift_left e left)
 lift e tick = tick
@@ -87,6 +88,7 @@ lift e behind_right_name = behind_right_name
 lift e returned = returned
 lift e behind_stmt_name = behind_stmt_name
 lift e entry_states = entry_states
+lift e behind_entry_at = behind_entry_at
 lift e arrow_states = arrow_states
 lift e clause = clause
 lift e head = head
@@ -108,6 +110,7 @@ abbrev pub is_good : Symbol → Bool
 is_good (further k closing left) = is_left left
 is_good (listed k closing left) = is_left left
 is_good (enclosed k opening closing left) = is_left left
+is_good (further_states left) = is_limit left.limit
 is_good (fields left) = is_limit left.limit
 is_good (decls left) = is_limit left.limit
 is_good _ = true
@@ -442,7 +445,7 @@ named_with m y = thing a_name ∷ sign m ∷ y ∷ []
 
 decl_lifted : (n : ℕ) (e : Bounds) (x : Token) → Lifted n e (start_decl language x) (start_decl (wider e) x)
 decl_lifted n e (t.keyword word.Stateset) =
-    (ap (λ q. take (thing a_name ∷ sign mark.OpenBrace ∷ thing a_name ∷ further a_name mark.CloseBrace (Some (record { limit = 5; more = q })) ∷ [])) (let same : (language.states + e.states) - 1 ≡ (language.states - 1) + e.states = omega arith in same), refl)
+    (ap (λ q. take (thing a_name ∷ sign mark.OpenBrace ∷ thing a_name ∷ further_states (record { limit = 5; more = q }) ∷ [])) (let same : (language.states + e.states) - 1 ≡ (language.states - 1) + e.states = omega arith in same), refl)
 decl_lifted n e (t.keyword word.Abstract) = (refl, refl)
 decl_lifted n e (t.keyword word.Struct) = (refl, refl)
 decl_lifted n e (t.keyword word.Variant) =
@@ -482,6 +485,10 @@ one_more_lifted : (n : ℕ) (e : Bounds) (k : Thing) (m : Mark) (left : Option L
 one_more_lifted n e k m None p = (refl, refl)
 one_more_lifted n e k m (Some l) p =
     left_lifted n e l _ _ p (λ some. ap (λ q. thing (lift_thing e k) ∷ further (lift_thing e k) m (Some (record { limit = l.limit; more = q })) ∷ []) (less_more l.more (bound_of l.limit e) some)) (both _ true p refl)
+
+more_state_lifted : (n : ℕ) (e : Bounds) (l : Left) → is_limit l.limit ≡ true → Lifted n e (one_more_state l) (one_more_state (lift_left e l))
+more_state_lifted n e l p =
+    left_lifted n e l _ _ p (λ some. ap (λ q. thing a_name ∷ further_states (record { limit = l.limit; more = q }) ∷ []) (less_more l.more (bound_of l.limit e) some)) (both _ true p refl)
 
 ty_stays : (x : Token) → NoExceed (start_ty x)
 ty_stays (t.keyword word.Int) = tt
@@ -558,9 +565,13 @@ reaction_lifted n e (behind_else room) x one h p =
 reaction_lifted n e (arm room) x one h p = arm_lifted n room e x
 reaction_lifted n e (arms room) x one h p = either n e (is_sign mark.CloseBrace x) _ _ _ _ (refl, refl) (then_lifted n e (start_arm room x) _ _ _ (arm_lifted n room e x) refl refl)
 reaction_lifted n e entry_states x one h p = either n e (is_sign mark.At x) _ _ _ _ (refl, refl) refl
+reaction_lifted n e behind_entry_at x one h p = either n e (is_sign mark.OpenParen x) _ _ _ _ (refl, refl) (then_lifted n e (start_states x) _ _ _ (states_lifted n e x) refl refl)
 reaction_lifted n e arrow_states x one h p = either n e (is_sign mark.Arrow x) _ _ _ _ (refl, refl) refl
 reaction_lifted n e clause x one h p = either n e (is_sign mark.OpenBracket x) _ _ _ _ (refl, refl) refl
 reaction_lifted n e head x one h p = head_lifted n e x
+reaction_lifted n e (further_states left) x one h p =
+    either n e (is_sign mark.CloseBrace x) _ _ _ _ (refl, refl)
+    (either n e (is_sign mark.Comma x) _ _ _ _ (more_state_lifted n e left p) (either n e (is_sign mark.Less x) _ _ _ _ (more_state_lifted n e left p) refl))
 reaction_lifted n e (fields left) x one h p =
     either_lifted n e _ _ _ _ (counted_lifted n e left (start_ty x) (start_ty x) _ _ (ty_stays x) p (ty_lifted n e x) (λ k is. refl) (λ l is. both _ true is refl)) (behind_fields_lifted n e x)
 reaction_lifted n e behind_fields x one h p = behind_fields_lifted n e x

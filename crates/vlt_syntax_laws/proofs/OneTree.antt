@@ -1,16 +1,16 @@
 -- Tokens are the spelling of at most one tree, where its places are set anew.
-use Rattle.std.proofs.Common.{◌≡◌, ℕ, List, [], ◌∷◌, Option, Some, None, IfSome, refl, sym, ap, ◌∙◌}
+use Rattle.std.proofs.Common.{◌≡◌, ℕ, Bool, true, false, List, [], ◌∷◌, Option, Some, None, IfSome, refl, sym, ap, ◌∙◌}
 use Rattle.vlt_lexer.specs.declared.token.Word.TheVariants as word
 use Rattle.vlt_lexer.specs.declared.token.Mark.TheVariants as mark
 use Rattle.vlt_lexer.specs.Reading.{Lexeme}
 use Rattle.vlt_syntax.specs.Tokens as t
 use Rattle.vlt_syntax.specs.Tokens.{Token}
 use Rattle.vlt_syntax.specs.Tree as s
-use Rattle.vlt_syntax.specs.Tree.{Name, Ty, States, KeyStates, HeaderKey, Field, Case, Entry, ResultType, Parameter, Head, Decl, Tree}
+use Rattle.vlt_syntax.specs.Tree.{Name, Ty, States, KeyStates, SetState, HeaderKey, Field, Case, Entry, ResultType, Parameter, Head, Decl, Tree}
 use Rattle.vlt_syntax.specs.Lists.{each_then, enclosed_then, listed_then, Each, IsFilled}
-use Rattle.vlt_syntax.specs.Spelling.{name_then, marked_name_then, states_then, at_states_then, key_states_then, ty_then, header_key_then, header_then, field_then, release_then, case_then, entry_then, result_type_then, parameter_then, clause_then, head_then, block_then, decl_then, spelling}
-use Rattle.vlt_syntax.specs.Grammar.{Bounds, IsStates, IsKeyStates, IsTy, IsField, IsCase, IsEntry, IsResultType, IsParameter, IsHead, IsDecl, IsTree, IsPlacedTreeOf, language}
-use Rattle.vlt_syntax.specs.Places.{without_tokens, ◌◂◌, ◌⊛◌, with_span, cons, each_at, listed_at, enclosed_at, marked_at, name_at, key_states_at, ty_at, header_key_at, field_at, release_at, case_at, entry_at, result_type_at, parameter_at, clause_at, head_at, decl_at, tree_at, span_in}
+use Rattle.vlt_syntax.specs.Spelling.{name_then, marked_name_then, states_then, at_states_then, key_states_then, ty_then, state_sign, further_states_then, set_states_then, header_key_then, header_then, field_then, release_then, case_then, entry_then, result_type_then, parameter_then, clause_then, head_then, block_then, decl_then, spelling}
+use Rattle.vlt_syntax.specs.Grammar.{Bounds, IsStates, IsKeyStates, IsTy, BeginsChain, IsField, IsCase, IsEntry, IsResultType, IsParameter, IsHead, IsDecl, IsTree, IsPlacedTreeOf, language}
+use Rattle.vlt_syntax.specs.Places.{without_tokens, ◌◂◌, ◌⊛◌, with_span, cons, each_at, further_at, listed_at, enclosed_at, marked_at, name_at, key_states_at, ty_at, set_state_at, header_key_at, field_at, release_at, case_at, entry_at, result_type_at, parameter_at, clause_at, head_at, decl_at, tree_at, span_in}
 use Rattle.vlt_syntax_laws.proofs.OneType.{two, three, Same, One, NoSign, Anything, all_any, EndsType, one_some, one_listed, one_enclosed, one_name, one_case_name, one_names, one_marked_name, one_states, one_at_states, one_key_states, one_ty}
 use Rattle.vlt_syntax_laws.proofs.OneStmt.{one_block}
 
@@ -99,6 +99,16 @@ held_apart : (x : Option States) (k a b : States) (r q : List Token) → IfSome 
 held_apart None k a b r q p o h e = h.0 _ e
 held_apart (Some x) k a b r q p o h e = let w = one_states x a r (t.sign mark.Arrow ∷ states_then b q) p o tt tt cc in h.1 _ w.1
 
+-- and both from one with a bound
+bound_apart : (x : Option States) (r c : List Token) → NoSign mark.At r → at_states_then x r ≡ t.sign mark.At ∷ t.sign mark.OpenParen ∷ c → ⊥
+bound_apart None r c h e = h _ e
+bound_apart (Some (s.one n)) r c h e = cc
+bound_apart (Some (s.several ns at)) r c h e = cc
+
+changed_apart : (a : States) (r c : List Token) → states_then a r ≡ t.sign mark.OpenParen ∷ c → ⊥
+changed_apart (s.one n) r c e = cc
+changed_apart (s.several ns at) r c e = cc
+
 one_entry : One entry_at entry_then IsEntry EndsEntry
 one_entry (s.held x) (s.held y) r q p o h i e = let a = one_key_states x y r q p o h.0 i.0 e in (ap (λ f. without_tokens s.held ⊛ f) a.0, a.1)
 one_entry (s.changed k a b) (s.changed l c d) r q p o h i e =
@@ -106,11 +116,20 @@ one_entry (s.changed k a b) (s.changed l c d) r q p o h i e =
     let v = one_states a c (t.sign mark.Arrow ∷ states_then b r) (t.sign mark.Arrow ∷ states_then d q) p.0 o.0 tt tt cc in
     let w = one_states b d r q p.1 o.1 tt tt cc in
     (three (λ f g h. without_tokens s.changed ⊛ f ◂ 1 ⊛ g ◂ 1 ⊛ h) n.0 v.0 w.0, w.1)
+one_entry (s.bound k v b) (s.bound l w d) r q p o h i e =
+    let n = one_name k l (t.sign mark.At ∷ t.sign mark.OpenParen ∷ name_then v (t.sign mark.LessEqual ∷ name_then b (t.sign mark.CloseParen ∷ r))) (t.sign mark.At ∷ t.sign mark.OpenParen ∷ name_then w (t.sign mark.LessEqual ∷ name_then d (t.sign mark.CloseParen ∷ q))) tt tt tt tt e in
+    let m = one_name v w (t.sign mark.LessEqual ∷ name_then b (t.sign mark.CloseParen ∷ r)) (t.sign mark.LessEqual ∷ name_then d (t.sign mark.CloseParen ∷ q)) tt tt tt tt cc in
+    let u = one_name b d (t.sign mark.CloseParen ∷ r) (t.sign mark.CloseParen ∷ q) tt tt tt tt cc in
+    (three (λ f g h. without_tokens s.bound ⊛ f ◂ 2 ⊛ g ◂ 1 ⊛ h ◂ 1) n.0 m.0 u.0, cc)
 one_entry (s.taken x at) (s.taken y bt) r q p o h i e = let a = one_key_states x y r q p o h.0 i.0 cc in (ap (λ f. with_span (without_tokens s.taken ◂ 1 ⊛ f)) a.0, a.1)
 one_entry (s.given x at) (s.given y bt) r q p o h i e = let a = one_key_states x y r q p o h.0 i.0 cc in (ap (λ f. with_span (without_tokens s.given ◂ 1 ⊛ f)) a.0, a.1)
 one_entry (s.fresh x at) (s.fresh y bt) r q p o h i e = let a = one_key_states x y r q p o h.0 i.0 cc in (ap (λ f. with_span (without_tokens s.fresh ◂ 1 ⊛ f)) a.0, a.1)
 one_entry (s.held x) (s.changed l c d) r q p o h i e = absurd (held_apart x.states c c d r q p o.0 h cc)
 one_entry (s.changed k a b) (s.held y) r q p o h i e = absurd (held_apart y.states a a b q r o p.0 i cc)
+one_entry (s.held x) (s.bound l w d) r q p o h i e = absurd (bound_apart x.states r (name_then w (t.sign mark.LessEqual ∷ name_then d (t.sign mark.CloseParen ∷ q))) h.0 cc)
+one_entry (s.bound k v b) (s.held y) r q p o h i e = absurd (bound_apart y.states q (name_then v (t.sign mark.LessEqual ∷ name_then b (t.sign mark.CloseParen ∷ r))) i.0 cc)
+one_entry (s.changed k a b) (s.bound l w d) r q p o h i e = absurd (changed_apart a (t.sign mark.Arrow ∷ states_then b r) (name_then w (t.sign mark.LessEqual ∷ name_then d (t.sign mark.CloseParen ∷ q))) cc)
+one_entry (s.bound k v u) (s.changed l c d) r q p o h i e = absurd (changed_apart c (t.sign mark.Arrow ∷ states_then d q) (name_then v (t.sign mark.LessEqual ∷ name_then u (t.sign mark.CloseParen ∷ r))) cc)
 one_entry x y r q p o h i e = absurd cc
 
 one_result_type : One result_type_at result_type_then IsResultType EndsType
@@ -146,6 +165,7 @@ no_closing (s.plain m) c d e = cc
 no_bracket : (x : Entry) (r : List Token) → NoSign mark.CloseBracket (entry_then x r)
 no_bracket (s.held k) r c e = cc
 no_bracket (s.changed k a b) r c e = cc
+no_bracket (s.bound k v b) r c e = cc
 no_bracket (s.taken k at) r c e = cc
 no_bracket (s.given k at) r c e = cc
 no_bracket (s.fresh k at) r c e = cc
@@ -220,10 +240,43 @@ one_cases b (x ∷ xs) (y ∷ ys) r q some others p o e =
     let a = one_some case_at case_then (IsCase b) EndsCase mark.CloseBrace (one_case b) (λ c. ((λ k f. cc), (λ k f. cc))) (λ c. ((λ k f. cc), (λ k f. cc))) (λ c. cc) x y xs ys r q p o e in
     (two (λ f g. without_tokens cons ⊛ f ⊛ g) a.0 a.1.0, a.1.1)
 
+-- ---- sets of states
+
+same_sign : (x y : Bool) → state_sign x ≡ state_sign y → x ≡ y
+same_sign true true e = refl
+same_sign false false e = refl
+same_sign true false e = cc
+same_sign false true e = cc
+
+no_brace : (x : Bool) → mark.CloseBrace ≡ state_sign x → ⊥
+no_brace true e = cc
+no_brace false e = cc
+
+same_state : (x y : SetState) → x.above ≡ y.above → name_at x.name ≡ name_at y.name → set_state_at x ≡ set_state_at y
+same_state x y above named = two (λ a f. without_tokens (λ name. let z : SetState = record { name = name; above = a } in z) ⊛ f) above named
+
+one_further_states : (xs ys : List SetState) (r q : List Token) → further_states_then xs r ≡ further_states_then ys q → Same (further_at set_state_at) xs ys r q
+one_further_states [] [] r q e = (refl, cc)
+one_further_states [] (y ∷ ys) r q e = absurd (no_brace y.above cc)
+one_further_states (x ∷ xs) [] r q e = absurd (no_brace x.above cc)
+one_further_states (x ∷ xs) (y ∷ ys) r q e =
+    let above = same_sign x.above y.above cc in
+    let a = one_name x.name y.name (further_states_then xs r) (further_states_then ys q) tt tt tt tt cc in
+    let b = one_further_states xs ys r q a.1 in
+    (two (λ f g. without_tokens cons ◂ 1 ⊛ f ⊛ g) (same_state x y above a.0) b.0, b.1)
+
+one_set_states : (xs ys : List SetState) (r q : List Token) → IsFilled xs → IsFilled ys → BeginsChain xs → BeginsChain ys → set_states_then xs r ≡ set_states_then ys q → Same (listed_at set_state_at) xs ys r q
+one_set_states [] ys r q some others p o e = absurd some
+one_set_states (x ∷ xs) [] r q some others p o e = absurd others
+one_set_states (x ∷ xs) (y ∷ ys) r q some others p o e =
+    let a = one_name x.name y.name (further_states_then xs r) (further_states_then ys q) tt tt tt tt e in
+    let b = one_further_states xs ys r q a.1 in
+    (two (λ f g. without_tokens cons ⊛ f ⊛ g) (same_state x y (p ∙ sym o) a.0) b.0, b.1)
+
 one_decl : (b : Bounds) → One decl_at decl_then (IsDecl b) Anything
 one_decl b (s.stateset n ss at) (s.stateset m us bt) r q p o h i e =
-    let a = one_name n m (t.sign mark.OpenBrace ∷ listed_then name_then mark.CloseBrace ss r) (t.sign mark.OpenBrace ∷ listed_then name_then mark.CloseBrace us q) tt tt tt tt cc in
-    let k = one_names mark.CloseBrace (λ c. cc) ss us r q p.0 o.0 cc in
+    let a = one_name n m (t.sign mark.OpenBrace ∷ set_states_then ss r) (t.sign mark.OpenBrace ∷ set_states_then us q) tt tt tt tt cc in
+    let k = one_set_states ss us r q p.0 o.0 p.2 o.2 cc in
     (two (λ f g. with_span (without_tokens s.stateset ◂ 1 ⊛ f ◂ 1 ⊛ g)) a.0 k.0, k.1)
 one_decl b (s.abstract n x at) (s.abstract m y bt) r q p o h i e =
     let a = one_name n m (marked_name_then mark.At x (t.sign mark.Semicolon ∷ r)) (marked_name_then mark.At y (t.sign mark.Semicolon ∷ q)) tt tt tt tt cc in

@@ -4,7 +4,7 @@ use Rattle.vlt_lexer.specs.declared.token.Mark.{Mark}
 use Rattle.vlt_syntax.specs.Tokens.{Token}
 use Rattle.vlt_syntax.specs.Tree as s
 use Rattle.vlt_syntax.specs.Lists.{Each, each_then, further_then, listed_then, enclosed_then}
-use Rattle.vlt_syntax.specs.Spelling.{name_then, marked_name_then, states_then, at_states_then, key_states_then, named_then, ty_then, expr_then, build_then, call_then, init_then, owner_then, right_then, returned_then, condition_then, stmt_then, block_then, if_then, else_then, stmts_then, arms_then, header_key_then, header_then, field_then, release_then, case_then, entry_then, result_type_then, parameter_then, clause_then, head_then, decl_then}
+use Rattle.vlt_syntax.specs.Spelling.{name_then, marked_name_then, states_then, at_states_then, key_states_then, named_then, ty_then, expr_then, build_then, call_then, init_then, owner_then, right_then, returned_then, condition_then, stmt_then, block_then, if_then, else_then, stmts_then, arms_then, further_states_then, set_states_then, header_key_then, header_then, field_then, release_then, case_then, entry_then, result_type_then, parameter_then, clause_then, head_then, decl_then}
 
 module _ (P : Token → Type 0) where
   -- the tokens after such a part have the fact, where all from its start on have it
@@ -164,6 +164,14 @@ module _ (P : Token → Type 0) where
 
   -- ---- declarations
 
+  after_further_states : Leaves further_states_then
+  after_further_states [] rest h = h.1
+  after_further_states (x ∷ xs) rest h = after_further_states xs rest h.1.1
+
+  pub after_set_states : Leaves set_states_then
+  after_set_states [] rest h = h.1
+  after_set_states (x ∷ xs) rest h = after_further_states xs rest h.1
+
   pub after_header_key : Leaves header_key_then
   after_header_key p rest h = after_marked_name _ p.key_type rest h.1
 
@@ -183,6 +191,7 @@ module _ (P : Token → Type 0) where
   pub after_entry : Leaves entry_then
   after_entry (s.held k) rest h = after_key_states k rest h
   after_entry (s.changed k a b) rest h = after_states b rest (after_states a _ h.1.1).1
+  after_entry (s.bound k v b) rest h = h.1.1.1.1.1.1.1
   after_entry (s.taken k at) rest h = after_key_states k rest h.1
   after_entry (s.given k at) rest h = after_key_states k rest h.1
   after_entry (s.fresh k at) rest h = after_key_states k rest h.1
@@ -203,7 +212,7 @@ module _ (P : Token → Type 0) where
       after_clause h.clause rest (after_listed parameter_then after_parameter _ h.parameters _ (after_result_type h.result_type _ m).1.1)
 
   pub after_decl : Leaves decl_then
-  after_decl (s.stateset n ss at) rest h = after_listed name_then after_name _ ss rest h.1.1.1
+  after_decl (s.stateset n ss at) rest h = after_set_states ss rest h.1.1.1
   after_decl (s.abstract n ss at) rest h = (after_marked_name _ ss _ h.1.1).1
   after_decl (s.struct n ps ss fs r at) rest h =
       (after_release r _ (after_each field_then after_field fs _ (after_marked_name _ ss _ (after_header ps _ h.1.1)).1)).1

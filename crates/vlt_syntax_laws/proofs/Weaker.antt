@@ -109,7 +109,7 @@ head : (b c : Bounds) → AreWider b c → (x : Head) → IsHead b x → IsHead 
 head b c w x h = record { result_type = h.result_type; parameters = h.parameters; few = (let p = w.parameters in let q = h.few in omega arith); clause = h.clause }
 
 decl : (b c : Bounds) → AreWider b c → (x : Decl) → IsDecl b x → IsDecl c x
-decl b c w (s.stateset n ss at) h = (h.0, let p = w.states in omega arith)
+decl b c w (s.stateset n ss at) h = (h.0, (let p = w.states in omega arith), h.2)
 decl b c w (s.abstract n ss at) h = tt
 decl b c w (s.struct n ps ss fs r at) h = ((let p = w.parameters in omega arith), h.1, (let p = w.fields in omega arith), h.3)
 decl b c w (s.variant n ps cs at) h = ((let p = w.parameters in omega arith), h.1, each (IsCase b) (IsCase c) (case b c w) cs h.2, let p = w.cases in omega arith)

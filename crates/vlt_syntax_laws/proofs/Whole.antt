@@ -11,7 +11,7 @@ use Rattle.vlt_syntax.specs.Tree as s
 use Rattle.vlt_syntax.specs.Tree.{Name, States, KeyStates, Named, Ty, Expr, HeaderKey, Case, Parameter, Entry, Init, ResultType, Stmt, Decl, Head, Block}
 use Rattle.vlt_syntax.specs.Lists.{Each, further_then}
 use Rattle.vlt_syntax.specs.Spelling.{name_then}
-use Rattle.vlt_automaton.specs.Automaton.{Left, Thing, a_name, a_param, a_ty, a_key, a_case, a_parameter, an_entry, an_expr, an_init, a_result_type, a_simple, a_stmt, a_decl, Symbol, tick, sign, keyword, thing, further, listed, enclosed, marked_name, states, at_states, named, behind_tracked, behind_type_name, operand, operations, behind_name, close_group, end_expr, owner, right, behind_right_name, returned, block, stmts, behind_stmt_name, otherwise, behind_else, arm, arms, entry_states, arrow_states, clause, head, fields, behind_fields, decls, Reaction, take, skip, refuse, exceed, with_behind, start_thing, less, one_more, reaction, react_further, depth_read, whole_depth}
+use Rattle.vlt_automaton.specs.Automaton.{Left, Thing, a_name, a_param, a_ty, a_key, a_case, a_parameter, an_entry, an_expr, an_init, a_result_type, a_simple, a_stmt, a_decl, Symbol, tick, sign, keyword, thing, further, listed, enclosed, marked_name, states, at_states, named, behind_tracked, behind_type_name, operand, operations, behind_name, close_group, end_expr, owner, right, behind_right_name, returned, block, stmts, behind_stmt_name, otherwise, behind_else, arm, arms, entry_states, behind_entry_at, arrow_states, clause, head, further_states, fields, behind_fields, decls, Reaction, take, skip, refuse, exceed, with_behind, start_thing, less, one_more, reaction, react_further, depth_read, whole_depth}
 use Rattle.vlt_syntax_laws.proofs.Back.{Rest, Part, Spells, Spelled, SpelledBehind, Completed, Filled, ThingType, IsThing, spell_of, RoomFor, ended, operations_end}
 use Rattle.vlt_syntax_laws.proofs.Choices.{by_sign}
 use Rattle.vlt_syntax.specs.Grammar.{Bounds}
@@ -60,9 +60,11 @@ maps extra d (behind_else room) K L ts f h = λ r. behind_map _ _ _ _ K L ts f (
 maps extra d (arm room) K L ts f h = λ r. let q = h r in (q.0, q.1, q.2, q.3, q.4, q.5, f 0 _ q.6)
 maps extra d (arms room) K L ts f h = λ r. spelled_map _ _ _ K L ts f (h r)
 maps extra d entry_states K L ts f h = λ n. behind_map _ _ _ _ K L ts f (h n)
+maps extra d behind_entry_at K L ts f h = λ n. let q = h n in (q.0, q.1, q.2, q.3, f 0 _ q.4)
 maps extra d arrow_states K L ts f h = λ n ss i. let q = h n ss i in (q.0, q.1, q.2, q.3, f 0 _ q.4)
 maps extra d clause K L ts f h = spelled_map _ _ _ K L ts f h
 maps extra d head K L ts f h = spelled_map _ _ _ K L ts f h
+maps extra d (further_states left) K L ts f h = spelled_map _ _ _ K L ts f h
 maps extra d (fields left) K L ts f h = (h.0, h.1, h.2, h.3, h.4, h.5, h.6, f 0 _ h.7)
 maps extra d behind_fields K L ts f h = (h.0, h.1, h.2, h.3, f 0 _ h.4)
 maps extra d (decls left) K L ts f h = (h.0, h.1, h.2, h.3, h.4, f 0 _ h.5)
@@ -258,9 +260,11 @@ has extra at d (behind_else room) K k = (t.sign mark.OpenBrace ∷ t.sign mark.C
 has extra at d (arm room) K k = (t.keyword word.Case ∷ t.tick [] ∷ t.sign mark.Colon ∷ t.sign mark.OpenBrace ∷ t.sign mark.CloseBrace ∷ (k 0).0, λ r. (the_name at [], [], s.braced s.done at, (k 0).0, (r, tt), refl, (k 0).1))
 has extra at d (arms room) K k = (t.sign mark.CloseBrace ∷ (k 0).0, λ r. (s.no_arms, (k 0).0, tt, refl, (k 0).1))
 has extra at d entry_states K k = ((k 0).0, λ n. (s.held (record { key = the_name at n; states = None }), (k 0).0, tt, refl, (k 0).1))
+has extra at d behind_entry_at K k = (t.name [] ∷ (k 0).0, λ n. (s.held (record { key = the_name at n; states = Some (s.one (the_name at [])) }), (k 0).0, tt, refl, (k 0).1))
 has extra at d arrow_states K k = ((k 0).0, λ n ss i. (s.held (record { key = the_name at n; states = Some ss }), (k 0).0, i, refl, (k 0).1))
 has extra at d clause K k = (_, (None, (k 0).0, tt, refl, (k 0).1))
 has extra at d head K k = (_, (a_head at, (k 0).0, record { result_type = tt; parameters = tt; few = omega arith; clause = tt }, refl, (k 0).1))
+has extra at d (further_states left) K k = (_, ([], (k 0).0, omega arith, refl, (k 0).1))
 has extra at d (fields left) K k = (_, ([], None, (k 0).0, tt, tt, omega arith, refl, (k 0).1))
 has extra at d behind_fields K k = (_, (None, (k 0).0, tt, refl, (k 0).1))
 has extra at d (decls left) K k = (_, ([], (k 0).0, tt, omega arith, refl, (k 0).1))

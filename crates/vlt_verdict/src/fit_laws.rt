@@ -16,8 +16,8 @@ use vlt_resolve_laws::{
     elaborated_programs_are_kinded, elaborated_programs_have_arms,
     elaborated_programs_have_blank_externals, elaborated_programs_have_few_functions,
     elaborated_programs_have_few_keys, elaborated_programs_have_few_variables,
-    elaborated_programs_have_no_bounds, elaborated_programs_have_proper_bodies,
-    elaborated_programs_have_sets, elaborated_programs_have_states,
+    elaborated_programs_have_proper_bodies, elaborated_programs_have_sets,
+    elaborated_programs_have_states,
 };
 
 /// The core program of a tree that a text has is all that the check and the law on runs ask for.
@@ -27,7 +27,6 @@ pub fn programs_are_fit()
     elaborated_programs_are_kinded();
     elaborated_programs_have_states();
     elaborated_programs_have_arms();
-    elaborated_programs_have_no_bounds();
     elaborated_programs_have_proper_bodies();
     elaborated_programs_have_sets();
     elaborated_programs_have_few_variables();

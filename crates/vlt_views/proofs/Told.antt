@@ -37,10 +37,14 @@ pub heads_refuse : (os : List ℕ) (ds : List Decl) (f : File) (ts : List TypeDe
 heads_refuse os ds f ts x is named made typed refused =
     past_names os ds named ∙ past_types os ds f is typed ∙ ap (λ o. unless o (Ok (kinds_of ds))) (same_heads os ds f ts is made ∙ refused)
 
+-- nor do those on heads
+past_heads : (os : List ℕ) (ds : List Decl) (f : File) (ts : List TypeDecl) → f ≡ file_of ds → ts ≡ core_types f ds
+    → least (view_heads_refused f ts os ds) ≡ None → view_heads_told os ds ≡ Ok (kinds_of ds)
+past_heads os ds f ts is made bound = ap (λ o. unless o (Ok (kinds_of ds))) (same_heads os ds f ts is made ∙ bound)
+
 pub nothing_refuses : (os : List ℕ) (ds : List Decl) (f : File) (ts : List TypeDecl) (hs : List Func) (kinds : Kinds) → f ≡ file_of ds
     → least (other_names_refused ds) ≡ None → ts ≡ core_types f ds → least (types_refused f ds) ≡ None → hs ≡ core_heads f ds
     → least (view_heads_refused f ts os ds) ≡ None → kinds ≡ record { file = f; types = ts; heads = hs } → view_names_told os ds ≡ Ok kinds
 nothing_refuses os ds f ts hs kinds is named made typed headed bound table =
-    past_names os ds named ∙ past_types os ds f is typed
-    ∙ ap (λ o. unless o (Ok (kinds_of ds))) (same_heads os ds f ts is made ∙ bound)
+    past_names os ds named ∙ past_types os ds f is typed ∙ past_heads os ds f ts is made bound
     ∙ ap Ok (same_kinds ds f ts hs is made headed ∙ sym table)

@@ -1,9 +1,8 @@
 -- Paths that were found, and the fault that they show.
-use Rattle.std.proofs.Common.{◌≡◌, ◌∙◌, ◌++◌, ◌+◌, ◌<◌, ◌≤◌, ◌↔◌, ℕ, false, Option, Some, None, List, [], ◌∷◌, length, take, get_or, slice_get, IfSome, refl, sym, ap, subst, inl, ⊎_elim, arith}
+use Rattle.std.proofs.Common.{◌≡◌, ◌∙◌, ◌++◌, ◌+◌, ◌<◌, ◌≤◌, ◌↔◌, ℕ, Option, Some, None, List, [], ◌∷◌, length, take, get_or, slice_get, IfSome, refl, sym, ap, subst, inl, ⊎_elim, arith}
 use Rattle.std.specs.Option.{option_map}
 use Rattle.std.proofs.lemmas.List.{take_all}
-use Rattle.vlt_core.specs.Instances.{IsOrigin, HasNoBounds}
-use Rattle.vlt_core_laws.proofs.Formed.{own_instance, only_instance, of_instance, in_instance}
+use Rattle.vlt_paths.specs.Shown.{ShowsIn}
 use Rattle.vlt_core.specs.Core.{Tok, Func, Program}
 use Rattle.vlt_core.specs.Maps.{Status}
 use Rattle.vlt_core.specs.Flow.{Block}
@@ -153,29 +152,17 @@ some_same f g e = grind arith
 none_some : (f : Func) → None ≡ Some f → ⊥
 none_some f e = grind arith
 
-pub some_witness : (p : Program) (f : Func) (x : FlowFault) (r : Option Paths) → HasNoBounds p → slice_get p.fns x.function ≡ Some f →
-    IfSome r (λ y. (x.origin ≡ None) × ((f.external ≡ false) × IsWitnessIn p f x (choices_of y.first) (option_map choices_of y.second))) →
+pub some_witness : (p : Program) (f : Func) (x : FlowFault) (r : Option Paths) → slice_get p.fns x.function ≡ Some f →
+    IfSome r (λ y. ShowsIn p f x (choices_of y.first) (option_map choices_of y.second)) →
     IfSome r (λ y. IsWitness p x (choices_of y.first) (option_map choices_of y.second))
-some_witness p f x None plain there z = z
-some_witness p f x (Some y) plain there z =
-    let bound = plain x.function f there in
-    let own = subst (λ o. IsOrigin p f o) (sym z.0) (own_instance p f bound) in
-    record {
-      func = f;
-      there = there;
-      with_body = z.1.0;
-      origin = own;
-      shows = of_instance p f x.origin (λ f. IsWitnessIn p f x (choices_of y.first) (option_map choices_of y.second)) bound own z.1.1;
-    }
+some_witness p f x None there z = z
+some_witness p f x (Some y) there z = record { func = f; there = there; with_body = z.0.0; origin = z.0.1; shows = z.1 }
 
-pub no_witness : (p : Program) (f : Func) (x : FlowFault) → HasNoBounds p → slice_get p.fns x.function ≡ Some f →
-    (x.origin ≡ None → f.external ≡ false → (first : List Choice) (second : Option (List Choice)) → IsWitnessIn p f x first second → ⊥) → HasWitness p x → ⊥
-no_witness p f x plain there none h =
+pub no_witness : (p : Program) (f : Func) (x : FlowFault) → slice_get p.fns x.function ≡ Some f →
+    ((first : List Choice) (second : Option (List Choice)) → ShowsIn p f x first second → ⊥) → HasWitness p x → ⊥
+no_witness p f x there none h =
     let w = h.shown in
-    let same : w.func ≡ f = some_same w.func f (sym w.there ∙ there) in
-    let bound = plain x.function w.func w.there in
-    none (only_instance p w.func x.origin bound w.origin) (subst (λ f. f.external ≡ false) same w.with_body) h.first h.second
-    (subst (λ f. IsWitnessIn p f x h.first h.second) same (in_instance p w.func x.origin (λ f. IsWitnessIn p f x h.first h.second) bound w.origin w.shows))
+    none h.first h.second (subst (λ f. ShowsIn p f x h.first h.second) (some_same w.func f (sym w.there ∙ there)) ((w.with_body, w.origin), w.shows))
 
 pub no_func : (p : Program) (x : FlowFault) → None ≡ slice_get p.fns x.function → HasWitness p x → ⊥
 no_func p x e h = none_some h.shown.func (e ∙ h.shown.there)

@@ -1,10 +1,11 @@
 -- Why a function's body is unfit for a search.
 use Rattle.std.specs.Prelude.{◌≡◌, ℕ, ◌+◌, ◌<◌, ◌≤◌, ◌^◌, false, List, length, Some, slice_get}
 use Rattle.vlt_core.specs.Core.{Func, Program}
+use Rattle.vlt_core.specs.Instances.{instance, IsOrigin}
 use Rattle.vlt_core.specs.Maps.{Row}
 use Rattle.vlt_core.specs.Flow.{Block, Arms, no_arms, arm}
 use Rattle.vlt_core.specs.Bodies.{body_flow}
-use Rattle.vlt_core.specs.Faults.{spots_block}
+use Rattle.vlt_core.specs.Faults.{FlowFault, spots_block}
 use Rattle.vlt_rows.specs.Unfit.{HasPartBlock, HasWideRow}
 use Rattle.vlt_flow.specs.Unfit.{HasNoStart}
 
@@ -34,9 +35,14 @@ pub data IsUnfit (p : Program) (f : Func) : Type 0 where
   -- the number behind the last row or join has more than 64 bits
   many_spots : 2 ^ 64 ≤ spots_block (body_flow p f) → IsUnfit p f
 
--- The function of this number has a body that is unfit.
-pub record IsUnfitAt (p : Program) (function : ℕ) : Type 0 where
+-- The function has a body and an instance of the fault's origin, and its body there is unfit.
+pub record IsUnfitIn (p : Program) (f : Func) (x : FlowFault) : Type 0 where
+  pub with_body : f.external ≡ false
+  pub origin : IsOrigin p f x.origin
+  pub unfit : IsUnfit p (instance p f x.origin)
+
+-- the same of the fault's function
+pub record IsUnfitAt (p : Program) (x : FlowFault) : Type 0 where
   pub func : Func
-  pub there : slice_get p.fns function ≡ Some func
-  pub with_body : func.external ≡ false
-  pub unfit : IsUnfit p func
+  pub there : slice_get p.fns x.function ≡ Some func
+  pub unfit : IsUnfitIn p func x

@@ -1,10 +1,10 @@
 //! The paths that show a fault.
 
-ghost use Rattle.std.specs.Prelude.{◌≡◌, ◌↔◌, false, List, Option, Some, None, IfOk, IfErr, IfSome, MatchResult, slice_get};
+ghost use Rattle.std.specs.Prelude.{◌≡◌, ◌↔◌, List, Option, Some, None, IfOk, IfErr, IfSome, MatchResult, slice_get};
 ghost use Rattle.std.specs.Option.{option_map, option_copied};
 ghost use Rattle.vlt_core.specs.Found.{One, Has};
 ghost use Rattle.vlt_core.specs.Witness as w;
-ghost use Rattle.vlt_core.specs.Instances.{HasNoBounds};
+ghost use Rattle.vlt_core.specs.Instances.{instance};
 ghost use Rattle.vlt_core.specs.Witness.{IsWitness, IsWitnessIn};
 ghost use Rattle.vlt_core.specs.HeldView.{wanted_of};
 ghost use Rattle.vlt_core.specs.View.{program_of, func_of, tok_of};
@@ -17,7 +17,8 @@ ghost use Rattle.vlt_rows.specs.Unfit.{UnfitBy};
 ghost use Rattle.vlt_check.specs.Checks.{fault_of};
 ghost use Rattle.vlt_check_laws.specs.Shown.{HasWitness};
 ghost use Rattle.vlt_witness.specs.Ways.{end_of_join, IsSeen, OnSeen};
-ghost use Rattle.vlt_witness.specs.Unfit.{IsUnfit, IsUnfitAt};
+ghost use Rattle.vlt_paths.specs.Shown.{ShowsIn};
+ghost use Rattle.vlt_witness.specs.Unfit.{IsUnfit, IsUnfitIn, IsUnfitAt};
 ghost use Rattle.vlt_witness.specs.Parts.{LargeBlock};
 ghost use Rattle.vlt_witness.specs.Shows.{ArePaths, IsPair, HasNoPair, IsShownRow, IsShownJoin, IsShownBy};
 
@@ -32,7 +33,7 @@ use vlt_core::{Choice, FaultKind, FlowFault, Func, Program, Status, Tok, Wanted}
 use vlt_faults::{Ones, made};
 use vlt_flow::start_map_of;
 use vlt_keyset::Held;
-use vlt_rows::{FlowBlock, RowError, body_flow};
+use vlt_rows::{FlowBlock, RowError, body_flow, has_instance};
 
 /// The paths of a witness.
 #[derive(Drop)]
@@ -240,24 +241,26 @@ fn paths_of(
     }
 }
 
-/// The paths in a function's body.
+/// The paths in a function's body in the fault's instance.
 fn paths_in(
     alloc: Global,
     p: &Program,
     f: &Func,
     fault: &FlowFault,
 ) -> Result<Option<Paths>, RowError>
-    ensures some { IfOk result (λ r.
-        IfSome r (λ x. IsWitnessIn (program_of p.now) (func_of f.now) (fault_of fault.now)
+    ensures some { IfOk result (λ r. IfSome r (λ x. IsWitnessIn (program_of p.now)
+        (instance (program_of p.now) (func_of f.now) fault.now.origin) (fault_of fault.now)
         (choices_of x.first) (option_map choices_of x.second))) }
     ensures none { IfOk result (λ r. r ≡ None →
         (first : List w.Choice) (second : Option (List w.Choice)) →
-        IsWitnessIn (program_of p.now) (func_of f.now) (fault_of fault.now) first second → ⊥) }
-    ensures unfit { IfErr result
-        (UnfitBy (IsUnfit (program_of p.now) (func_of f.now))) }
+        IsWitnessIn (program_of p.now)
+        (instance (program_of p.now) (func_of f.now) fault.now.origin)
+        (fault_of fault.now) first second → ⊥) }
+    ensures unfit { IfErr result (UnfitBy (IsUnfit (program_of p.now)
+        (instance (program_of p.now) (func_of f.now) fault.now.origin))) }
 {
-    let flow = body_flow(alloc, p, f)?;
-    let start = start_map_of(alloc, p, f)?;
+    let flow = body_flow(alloc, p, f, fault.origin)?;
+    let start = start_map_of(alloc, p, f, fault.origin)?;
     let ones = start_ones(&start, fault.tok);
     match paths_of(alloc, fault, &flow, ones)? {
         None => Ok(None),
@@ -272,25 +275,22 @@ fn func_at(p: &Program, fn_id: FnId) -> Option<&Func>
     p.fns.get(fn_id.0 as usize)
 }
 
-/// The paths in a function, if it has a body.
+/// The paths in a function, if it has a body and the fault's instance.
 fn paths_at(
     alloc: Global,
     p: &Program,
     f: &Func,
     fault: &FlowFault,
 ) -> Result<Option<Paths>, RowError>
-    ensures some { IfOk result (λ r.
-        IfSome r (λ x. ((func_of f.now).external ≡ false) ×
-        IsWitnessIn (program_of p.now) (func_of f.now) (fault_of fault.now) (choices_of x.first)
-        (option_map choices_of x.second))) }
+    ensures some { IfOk result (λ r. IfSome r (λ x. ShowsIn (program_of p.now) (func_of f.now)
+        (fault_of fault.now) (choices_of x.first) (option_map choices_of x.second))) }
     ensures none { IfOk result (λ r. r ≡ None →
-        (func_of f.now).external ≡ false →
         (first : List w.Choice) (second : Option (List w.Choice)) →
-        IsWitnessIn (program_of p.now) (func_of f.now) (fault_of fault.now) first second → ⊥) }
-    ensures unfit { IfErr result (UnfitBy (((func_of f.now).external ≡ false) ×
-        IsUnfit (program_of p.now) (func_of f.now))) }
+        ShowsIn (program_of p.now) (func_of f.now) (fault_of fault.now) first second → ⊥) }
+    ensures unfit { IfErr result (UnfitBy (IsUnfitIn (program_of p.now) (func_of f.now)
+        (fault_of fault.now))) }
 {
-    if f.external {
+    if !has_instance(p, f, fault.origin) {
         return Ok(None);
     }
     match paths_in(alloc, p, f, fault)? {
@@ -299,43 +299,17 @@ fn paths_at(
     }
 }
 
-/// The same, where the function has no bound entry: its faults have no origin.
-fn paths_alone(
-    alloc: Global,
-    p: &Program,
-    f: &Func,
-    fault: &FlowFault,
-) -> Result<Option<Paths>, RowError>
-    ensures some { IfOk result (λ r.
-        IfSome r (λ x. (fault.now.origin ≡ None) × (((func_of f.now).external ≡ false) ×
-        IsWitnessIn (program_of p.now) (func_of f.now) (fault_of fault.now) (choices_of x.first)
-        (option_map choices_of x.second)))) }
-    ensures none { IfOk result (λ r. r ≡ None → fault.now.origin ≡ None →
-        (func_of f.now).external ≡ false →
-        (first : List w.Choice) (second : Option (List w.Choice)) →
-        IsWitnessIn (program_of p.now) (func_of f.now) (fault_of fault.now) first second → ⊥) }
-    ensures unfit { IfErr result (UnfitBy (((func_of f.now).external ≡ false) ×
-        IsUnfit (program_of p.now) (func_of f.now))) }
-{
-    match fault.origin {
-        None => paths_at(alloc, p, f, fault),
-        Some(_) => Ok(None),
-    }
-}
-
 /// The paths of a witness of the fault, if it has one.
 pub fn paths_for(alloc: Global, p: &Program, fault: &FlowFault) -> Result<Option<Paths>, RowError>
-    requires plain { HasNoBounds (program_of p.now) }
     ensures shows { IfOk result (λ r.
         IfSome r (λ x. IsWitness (program_of p.now) (fault_of fault.now) (choices_of x.first)
         (option_map choices_of x.second))) }
     ensures none { IfOk result (λ r. r ≡ None →
         HasWitness (program_of p.now) (fault_of fault.now) → ⊥) }
-    ensures unfit { IfErr result
-        (UnfitBy (IsUnfitAt (program_of p.now) fault.now.fn_id.0)) }
+    ensures unfit { IfErr result (UnfitBy (IsUnfitAt (program_of p.now) (fault_of fault.now))) }
 {
     match func_at(p, fault.fn_id) {
         None => Ok(None),
-        Some(f) => paths_alone(alloc, p, f, fault),
+        Some(f) => paths_at(alloc, p, f, fault),
     }
 }

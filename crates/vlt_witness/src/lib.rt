@@ -6,7 +6,6 @@
 ghost use Rattle.std.specs.Prelude.{◌≡◌, None, IfOk, IfErr, IfSome};
 ghost use Rattle.std.specs.Option.{option_map};
 ghost use Rattle.vlt_core.specs.Faults.{IsFirstFault};
-ghost use Rattle.vlt_core.specs.Instances.{HasNoBounds};
 ghost use Rattle.vlt_core.specs.Witness.{IsWitness};
 ghost use Rattle.vlt_core.specs.View.{program_of};
 ghost use Rattle.vlt_core.specs.FaultView.{choices_of};
@@ -30,11 +29,10 @@ use vlt_core::{FlowFault, Program, Witness};
 pub use vlt_paths::{is_row_witness, is_witness};
 use vlt_rows::RowError;
 
-/// A witness of a fault, if it has one; the first fault of a program has one. `Unfit` only where the function of the fault
+/// A witness of a fault, if it has one; the first fault of a program has one. `Unfit` only where the instance of the fault
 /// is: its rows and joins, its keys or variables, or the arms of a switch are more than there are numbers, a row names
 /// states of which there is no set, or there is no map for it to begin with. Any other error is want of memory.
 pub fn witness(alloc: Global, p: &Program, fault: &FlowFault) -> Result<Option<Witness>, RowError>
-    requires plain { HasNoBounds (program_of p.now) }
     ensures shows { IfOk result (λ r.
         IfSome r (λ x. IsWitness (program_of p.now) (fault_of fault.now) (choices_of x.first)
         (option_map choices_of x.second))) }
@@ -44,7 +42,7 @@ pub fn witness(alloc: Global, p: &Program, fault: &FlowFault) -> Result<Option<W
     ensures first { IfOk result (λ r. r ≡ None → IsWellFormed (program_of p.now) →
         IsFirstFault (program_of p.now) (fault_of fault.now) → ⊥) }
     ensures unfit { IfErr result
-        (UnfitBy (IsUnfitAt (program_of p.now) fault.now.fn_id.0)) }
+        (UnfitBy (IsUnfitAt (program_of p.now) (fault_of fault.now))) }
 {
     match paths_for(alloc, p, fault)? {
         None => Ok(None),

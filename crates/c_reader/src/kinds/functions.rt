@@ -112,8 +112,10 @@ impl Walk<'_> {
         body: &Body,
         new: bool,
     ) -> Result<(), Memory>
-        requires { new ≡ not (k.has_name body.now.head.name (k.heads_of (map body_of before.now))) }
-        ensures { IfOk result (λ u. walk_of self.new ≡ k.body_judged (map head_of heads.entry.list.now)
+        requires { new
+            ≡ not (k.has_name body.now.head.name (k.heads_of (map body_of before.now))) }
+        ensures { IfOk result (λ u. walk_of self.new
+            ≡ k.body_judged (map head_of heads.entry.list.now)
             (k.heads_of (map body_of before.now)) (body_of body.now) (walk_of self.old)) }
     {
         let head = &body.head;
@@ -137,7 +139,8 @@ impl Walk<'_> {
 
     /// The functions with their bodies, after those heads.
     fn bodies(&mut self, alloc: Global, heads: Heads<'_>, bodies: &[Body]) -> Result<(), Memory>
-        ensures { IfOk result (λ u. walk_of self.new ≡ k.bodies_judged (map head_of heads.entry.list.now)
+        ensures { IfOk result (λ u. walk_of self.new
+            ≡ k.bodies_judged (map head_of heads.entry.list.now)
             [] (map body_of bodies.now) (walk_of self.old)) }
     {
         let in_order = are_bodies_in_order(bodies);

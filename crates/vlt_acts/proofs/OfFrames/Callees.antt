@@ -22,10 +22,11 @@ use Rattle.vlt_acts.specs.Values.Pushed.{HaveValues, Shows}
 use Rattle.vlt_acts.proofs.OfValues.Touching.{IsRoot, IsHeld, held_is, so_is, some_is}
 use Rattle.vlt_acts.proofs.OfValues.Pushing.{owner_shown}
 use Rattle.vlt_acts.proofs.OfActs.Keeping.{value_same}
-use Rattle.vlt_acts.specs.Frames.Frames.{frame_end, NamesOwn, Stands, IsRunning}
+use Rattle.vlt_acts.specs.Frames.Frames.{IsLike, frame_end, NamesOwn, Stands, IsRunning}
 use Rattle.vlt_acts.specs.Frames.Entered.{IsCall, HasEntered}
 use Rattle.vlt_acts.specs.Frames.Left.{IsRootAt}
 use Rattle.vlt_acts.specs.Frames.Named.{AreNamed}
+use Rattle.vlt_acts.proofs.OfFrames.Like.{moved}
 use Rattle.vlt_acts.proofs.OfFrames.Standing.{stands_same}
 
 -- ---- objects that another frame holds
@@ -173,6 +174,20 @@ entered_so old one two three f g keys base n running params is_base is_n first l
 
     ends : key_at (with_frame three base n) 0 ≡ length one.slots.items
     ends = let w : n * three.width ≡ n * old.width = ap (λ m. n * m) width in let r = reach in omega (arith, w, r)
+
+-- so it did for instances of the functions
+pub entered_like : (old new : Values) (f f2 g g2 : Func) (keys : List ℕ) → IsLike f f2 → IsLike g g2 → IsEntered old new f g keys → IsEntered old new f2 g2 keys
+entered_like old new f f2 g g2 keys a b did =
+    moved (λ k. IsEntered old new f2 k keys) g g2 b (moved (λ k. IsEntered old new k (record g { clause = g2.clause }) keys) f f2 a (record {
+      base = did.base;
+      vars = did.vars;
+      width = did.width;
+      count = did.count;
+      long = did.long;
+      params = did.params;
+      same = did.same;
+      named = did.named;
+    }))
 
 pub entered : (h : Heap) (old new : Values) (c : Seen h old) (w : World) (f g : Func) (keys : List ℕ) (args : List Value) → IsEntered old new f g keys → IsCall f g keys h old c w args → HasEntered f g keys h old new c w args
 entered h old new c w f g keys args did call = record {

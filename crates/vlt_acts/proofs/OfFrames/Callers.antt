@@ -34,9 +34,10 @@ use Rattle.vlt_acts.proofs.OfValues.Writing.{value_moved}
 use Rattle.vlt_acts.specs.Acts.Acts.{IsSameFrame}
 use Rattle.vlt_acts.proofs.OfActs.Keeping.{assigned, value_same}
 use Rattle.vlt_acts.specs.declared.frames.waiting.Waiting.{Waiting}
-use Rattle.vlt_acts.specs.Frames.Frames.{frame_end, IsRunning, NamesOwn, Stands, caller_of, IsBelow, Waits}
+use Rattle.vlt_acts.specs.Frames.Frames.{IsLike, frame_end, IsRunning, NamesOwn, Stands, IsBelow, Waits}
 use Rattle.vlt_acts.specs.Frames.Left.{value_at, kept_at, IsKeptAt, AreKept, IsRootAt, AreRoots, IsGiven, HasLeft, IsLeft, HasReturned, IsBack}
 use Rattle.vlt_acts.specs.Frames.Naming.{KeysBelow, IsNamed, Names, IsCopiedTo, IsDelivered}
+use Rattle.vlt_acts.proofs.OfFrames.Like.{like_back, stands_like, names_same, back_like}
 use Rattle.vlt_acts.proofs.OfFrames.Standing.{IsSamePlace, frame_same}
 use Rattle.vlt_acts.proofs.OfFrames.Callees.{root_held, held_shown}
 
@@ -365,10 +366,21 @@ module _ (items : Items) (w : Waiting) (g : Func) (old mid new : Values) (a : Op
 pub back_of : (items : Items) (w : Waiting) (g : Func) (old new : Values) (a : Option Value) (kept : List ℕ) (v : World) (k : Caller) → Waits items old w old.base k
     → (Stands items old (func_of w.func.now) w.base k.frame → IsBack items new (func_of w.func.now) (back_in (func_of w.func.now) (option_map (λ x. x.0) w.target) (keys_of w.keys.now) g k.frame (leaves a kept v)))
     → IsBack items new k.func (back_in k.func k.target k.keys g k.frame (leaves a kept v))
-back_of items w g old new a kept v k waits is = subst goal waits.is is waits.stands
+back_of items w g old new a kept v k waits is =
+    subst goal waits.is
+    (back_like items new (func_of w.func.now) k.func (option_map (λ x. x.0) w.target) (keys_of w.keys.now) g k.frame a kept v waits.func
+    (is (stands_like items old k.func (func_of w.func.now) w.base k.frame (like_back (func_of w.func.now) k.func waits.func) waits.stands)))
   where
     goal : Caller → Type 0
-    goal c = Stands items old c.func w.base c.frame → IsBack items new c.func (back_in c.func c.target c.keys g c.frame (leaves a kept v))
+    goal c = IsBack items new c.func (back_in c.func c.target c.keys g c.frame (leaves a kept v))
+
+-- they are named so after each instance of the function that was left
+pub named_like : (w : Waiting) (f g : Func) (old mid : Values) → IsLike f g → AreNamed w f old mid → AreNamed w g old mid
+named_like w f g old mid h did = record {
+  below = did.below;
+  named = did.named;
+  names = names_same (entries_after f) (entries_after g) (keys_of w.keys.now) old.base (key_at old 0) (value_at old) (with_frame old w.base w.vars) mid h.kept did.names;
+}
 
 -- ---- what the parts of the code ask
 

@@ -69,6 +69,7 @@ all_wait_kept xs ys old new end [] (k ∷ ks) keep width same h = h
 all_wait_kept xs ys old new end (w ∷ ws) [] keep width same h = h
 all_wait_kept xs ys old new end (w ∷ ws) (k ∷ ks) keep width same h = (
   record {
+    func = q.func;
     is = q.is;
     below = subst (λ n. IsBelow w n end) (sym width) q.below;
     stands = stands_kept xs ys new k.func w.base k.frame keep (stands_same xs old new k.func w.base k.frame width (λ j l. same j (subst (λ n. j < n) ends l)) q.stands);
@@ -80,7 +81,7 @@ all_wait_kept xs ys old new end (w ∷ ws) (k ∷ ks) keep width same h = (
     q = h.0
 
     ends : frame_end old.width w.base k.func ≡ end
-    ends = subst (λ f. frame_end old.width w.base f ≡ end) (ap (λ c. c.func) q.is) q.below.ends
+    ends = subst (λ f. frame_end old.width w.base f ≡ end) q.func.is q.below.ends
 
     low : w.base ≤ end
     low = let e = ends in omega (arith, e)

@@ -1,14 +1,29 @@
 -- Frames in the table: the running one, and below it those that wait for a call's return.
-use Rattle.std.specs.Prelude.{◌≡◌, ◌<◌, ◌+◌, ◌*◌, ℕ, List, [], ◌∷◌, length, Some, IfSome, slice_get}
+use Rattle.std.specs.Prelude.{◌≡◌, ◌<◌, ◌+◌, ◌*◌, ℕ, Bool, List, [], ◌∷◌, length, map, Some, IfSome, slice_get}
 use Rattle.std.specs.Option.{option_map}
-use Rattle.vlt_core.specs.Core.{Func}
+use Rattle.vlt_core.specs.Core.{Entry, Func}
+use Rattle.vlt_core.specs.Lookups.{is_new}
 use Rattle.vlt_core.specs.View.{func_of, keys_of}
 use Rattle.vlt_heap.specs.Items.{Items}
 use Rattle.vlt_meaning.specs.World.{Frame}
+use Rattle.vlt_meaning.specs.Calls.{entries_after}
 use Rattle.vlt_meaning_laws.specs.Machine.Machine.{Caller}
 use Rattle.vlt_acts.specs.declared.values.values.Values.{Values}
 use Rattle.vlt_acts.specs.Values.Shown.{with_frame, ShowsFrame}
 use Rattle.vlt_acts.specs.declared.frames.waiting.Waiting.{Waiting}
+
+-- ---- functions that tables don't tell apart
+
+-- what all instances of a function keep of an entry: its key, and whether that is for a new object
+abbrev pub kept_key : Entry → ℕ × Bool
+kept_key e = (e.key, is_new e)
+
+-- The functions are one but for their clauses, and after both the same keys are held. So is each instance of a function to it.
+pub record IsLike (f g : Func) : Type 0 where
+  pub is : record f { clause = g.clause } ≡ g
+  pub kept : map kept_key (entries_after f) ≡ map kept_key (entries_after g)
+
+-- ---- frames
 
 -- where the slots of a frame end that begins there
 abbrev pub frame_end : (width base : ℕ) → Func → ℕ
@@ -30,9 +45,9 @@ pub record Stands (items : Items) (values : Values) (f : Func) (base : ℕ) (fra
 
 -- ---- callers
 
-abbrev pub caller_of : Waiting → Frame → Caller
-caller_of w frame = record {
-  func = func_of w.func.now;
+abbrev pub caller_of : Waiting → Func → Frame → Caller
+caller_of w f frame = record {
+  func = f;
   frame = frame;
   target = option_map (λ v. v.0) w.target;
   keys = keys_of w.keys.now;
@@ -45,9 +60,10 @@ pub record IsBelow (w : Waiting) (width end : ℕ) : Type 0 where
   pub target : IfSome w.target (λ v. v.0 < w.vars)
   pub keys : (i k : ℕ) → slice_get (keys_of w.keys.now) i ≡ Some k → k < length (func_of w.func.now).keys
 
--- a caller waits, whose frame ends there
+-- a caller waits, whose frame ends there; it runs an instance of the function that is kept of it
 pub record Waits (items : Items) (values : Values) (w : Waiting) (end : ℕ) (k : Caller) : Type 0 where
-  pub is : caller_of w k.frame ≡ k
+  pub func : IsLike (func_of w.func.now) k.func
+  pub is : caller_of w k.func k.frame ≡ k
   pub below : IsBelow w values.width end
   pub stands : Stands items values k.func w.base k.frame
 

@@ -1,11 +1,12 @@
 //! Functions that are entered.
 
 ghost use Rattle.std.specs.Prelude.{◌≡◌, ◌≤◌, ◌<◌, ◌+◌, ◌*◌, ◌^◌, ℕ, length, Some, IfSome, slice_get, vec_capacity};
+ghost use Rattle.vlt_core.specs.Core as core;
 ghost use Rattle.vlt_core.specs.View.{func_of, keys_of};
 ghost use Rattle.vlt_heap.specs.Items.{Items};
 ghost use Rattle.vlt_meaning.specs.Run.{first_frame};
 ghost use Rattle.vlt_acts.specs.Values.Shown.{IsTable, IsGrown, ShowsFrame};
-ghost use Rattle.vlt_acts.specs.Frames.Frames.{frame_end, IsRunning, IsBelow};
+ghost use Rattle.vlt_acts.specs.Frames.Frames.{IsLike, frame_end, IsRunning, IsBelow};
 ghost use Rattle.vlt_acts.specs.Frames.Entered.{Enters};
 ghost use Rattle.vlt_acts.specs.Frames.Named.{AreNamed};
 
@@ -65,8 +66,8 @@ pub fn enter<'a>(
     ensures room { vec_capacity values.old.slots ≤ vec_capacity values.new.slots }
     ensures same { (k : ℕ) → k < length values.old.slots.items →
         slice_get values.new.slots.items k ≡ slice_get values.old.slots.items k }
-    ensures enters { Enters (func_of caller.now) (func_of callee.now) (keys_of keys.now)
-        values.old values.new }
+    ensures enters { (f g : core.Func) → IsLike (func_of caller.now) f →
+        IsLike (func_of callee.now) g → Enters f g (keys_of keys.now) values.old values.new }
 {
     let width = values.width() as usize;
     let base = values.len() - callee.params as usize * width;

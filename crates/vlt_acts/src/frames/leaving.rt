@@ -2,13 +2,14 @@
 
 ghost use Rattle.std.specs.Prelude.{◌≡◌, ◌≤◌, ◌<◌, ◌+◌, ◌∷◌, [], ℕ, filter, length, map, Some, IfSome, slice_get, vec_capacity};
 ghost use Rattle.std.specs.Option.{option_map, option_copied};
+ghost use Rattle.vlt_core.specs.Core as core;
 ghost use Rattle.vlt_core.specs.View.{func_of, keys_of, entry_of, operand_of};
 ghost use Rattle.vlt_core.specs.Lookups.{is_held_after};
 ghost use Rattle.vlt_heap.specs.declared.slots.Slot.{Slot};
 ghost use Rattle.vlt_heap.specs.Shown.{IsSound};
 ghost use Rattle.vlt_acts.specs.Values.Shown.{IsTable, IsGrown, key_at};
 ghost use Rattle.vlt_acts.specs.Acts.Acts.{IsSameFrame};
-ghost use Rattle.vlt_acts.specs.Frames.Frames.{IsBelow, IsRunning};
+ghost use Rattle.vlt_acts.specs.Frames.Frames.{IsLike, IsBelow, IsRunning};
 ghost use Rattle.vlt_acts.specs.Frames.Left.{Gives, Returns, kept_at, value_at};
 ghost use Rattle.vlt_acts.specs.Frames.Naming.{KeysBelow, IsNamed, Names, IsDelivered};
 
@@ -34,7 +35,7 @@ pub fn give(
     ensures grown { IsGrown values.old values.new }
     ensures long { length values.old.slots.items ≤ length values.new.slots.items }
     ensures room { vec_capacity values.old.slots ≤ vec_capacity values.new.slots }
-    ensures gives { Gives (func_of callee.now)
+    ensures gives { (g : core.Func) → IsLike (func_of callee.now) g → Gives g
         (option_map operand_of (option_copied value.entry)) heap.now values.old values.new
         result }
 {
@@ -143,7 +144,8 @@ pub fn leave(values: &mut Values, callee: &Func, caller: &Waiting)
     ensures room { vec_capacity values.new.slots ≡ vec_capacity values.old.slots }
     ensures same { (k : ℕ) → k < caller.now.base →
         slice_get values.new.slots.items k ≡ slice_get values.old.slots.items k }
-    ensures returns { Returns (func_of callee.now) caller.now values.old values.new }
+    ensures returns { (g : core.Func) → IsLike (func_of callee.now) g →
+        Returns g caller.now values.old values.new }
 {
     let end = values.base();
     let from = values.keys();

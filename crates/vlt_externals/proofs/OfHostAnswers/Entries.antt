@@ -1,5 +1,5 @@
 -- The states of entries, read one after another.
-use Rattle.std.proofs.Common.{◌≡◌, ℕ, ℤ, true, if◌then◌else◌, List, ◌∷◌, filter, Option, None, Some, sym, ap, ◌∙◌, subst}
+use Rattle.std.proofs.Common.{◌≡◌, ℕ, ℤ, true, false, if◌then◌else◌, List, ◌∷◌, filter, Option, None, Some, sym, ap, ◌∙◌, subst}
 use Rattle.std.specs.Borrow.{Bor}
 use Rattle.vlt_base.specs.declared.states.StateSet.{StateSet}
 use Rattle.vlt_base.specs.States.{has_state}
@@ -8,6 +8,7 @@ use Rattle.vlt_core.specs.Lookups.{is_held_after, after_set}
 use Rattle.vlt_meaning.specs.HostAnswers.{each, state_in}
 use Rattle.vlt_externals.specs.HostAnswers.Read.{rest_of, left_in, AreSets}
 use Rattle.vlt_externals.proofs.OfHostAnswers.Reading.{each_none, each_rest}
+use Rattle.vlt_externals.proofs.OfHostAnswers.Instances.{skipped}
 
 module _ (p : Program) (g : Func) where
   abbrev read_state : Entry → List ℤ → Option (ℕ × List ℤ)
@@ -15,6 +16,12 @@ module _ (p : Program) (g : Func) where
 
   on_list : (e : Entry) (es : List Entry) → is_held_after e ≡ true → filter is_held_after (e ∷ es) ≡ e ∷ filter is_held_after es
   on_list e es on = ap (λ b. if b then e ∷ filter is_held_after es else filter is_held_after es) on
+
+  pub entries_skip : (all : List Entry) (e : Entry) (es : List Entry) (zs : List ℤ) (r : Option (Bor (List ℤ))) → all ≡ e ∷ es → is_held_after e ≡ false → AreSets p g all
+      → (AreSets p g es → left_in r ≡ rest_of (each (λ e. state_in (after_set p g e)) (filter is_held_after es) zs)) → left_in r ≡ rest_of (each (λ e. state_in (after_set p g e)) (filter is_held_after all) zs)
+  entries_skip all e es zs r is off sets rest =
+      subst (λ xs. left_in r ≡ rest_of (each read_state (filter is_held_after xs) zs)) (sym is)
+      (subst (λ xs. left_in r ≡ rest_of (each read_state xs zs)) (sym (skipped e es off)) (rest (subst (AreSets p g) is sets).1))
 
   pub entries_none : (all : List Entry) (e : Entry) (es : List Entry) (zs : List ℤ) → all ≡ e ∷ es → is_held_after e ≡ true → AreSets p g all → ((s : StateSet) → has_state s ≡ after_set p g e → state_in (after_set p g e) zs ≡ None)
       → None ≡ rest_of (each (λ e. state_in (after_set p g e)) (filter is_held_after all) zs)

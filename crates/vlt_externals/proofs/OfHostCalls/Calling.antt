@@ -46,7 +46,7 @@ use Rattle.vlt_externals.specs.Sent.{AreNamed, taken_out, CanTake, Takes, owned_
 use Rattle.vlt_externals.proofs.Going.{seen_after}
 use Rattle.vlt_externals.specs.Results.Results.{AreBefore, Made}
 use Rattle.vlt_externals.specs.HostCalls.Heeded.{ListsKeys, made_of_answer, HasHeeded, IsHeeded, Heeds, IsSameBelow}
-use Rattle.vlt_externals.specs.HostCalls.Called.{IsCall, CanCall, Calls}
+use Rattle.vlt_externals.specs.HostCalls.Called.{IsCall, CanCallAs, CallsAs}
 use Rattle.vlt_externals.proofs.OfHostCalls.Keys.{are_named}
 use Rattle.vlt_externals.proofs.OfHostCalls.Leading.{LeadsOn, answered, then_heed, then_hand, then_take, named_fault, delivered_leads, external_leads}
 
@@ -105,7 +105,7 @@ record CanSend (g : Func) (keys : List ℕ) (frame : Frame) (args : List Value) 
   two : List Thing
   handed : owned_out args one ≡ Ok two
 
-module _ (p : Program) (g : Func) (target : Option VarId) (keys : List ℕ) (h : Heap) (old : Values) (host : Host) (can : CanCall p g target keys h old host) (zs : List ℤ) (taken : drop host.taken (lists_of host.answers.now) ≡ zs ∷ drop (host.taken + 1) (lists_of host.answers.now)) where
+module _ (p : Program) (g : Func) (target : Option VarId) (keys : List ℕ) (h : Heap) (old : Values) (host : Host) (can : CanCallAs p g target keys h old host) (zs : List ℤ) (taken : drop host.taken (lists_of host.answers.now) ≡ zs ∷ drop (host.taken + 1) (lists_of host.answers.now)) where
   can_send : CanSend g keys can.seen.frame can.args can.seen.objects
   unfolding call_external with_answer first_answer
   can_send =
@@ -174,7 +174,7 @@ module _ (p : Program) (g : Func) (target : Option VarId) (keys : List ℕ) (h :
   line_is c w args call = tells c.items args (args_here p g keys h old host c w args call from is)
 
   -- the sink took a part of the line
-  pub cut_off : (last : Heap) (new : Values) (after : Host) → GrewByPart start.written end.written line → Rose start.faults end.faults → start.faults ≤ end.faults → Calls p g target keys h last old new host after start end (Err SinkFault)
+  pub cut_off : (last : Heap) (new : Values) (after : Host) → GrewByPart start.written end.written line → Rose start.faults end.faults → start.faults ≤ end.faults → CallsAs p g target keys h last old new host after start end (Err SinkFault)
   cut_off last new after part rose counted c w args call =
       external_leads (Comes c.items last new after start end (Err SinkFault) w) (λ o v bad. inl bad) (heap_of h) c.program c.func (option_map (λ v. v.0) target) keys g args c.frame w (passed_fault c.program g keys c.frame w.objects g.clause)
       (λ none. inr (inr (one (with_event w (called g.name args)) refl)))
@@ -192,7 +192,7 @@ module _ (p : Program) (g : Func) (target : Option VarId) (keys : List ℕ) (h :
     wrote c w args call = one_written w (called g.name args) start end (subst (Grew start.written end.written) (line_is c w args call) grew) counted
 
     -- there is no answer
-    pub no_answer : (last : Heap) (new : Values) (after : Host) → drop host.taken (lists_of host.answers.now) ≡ [] → Calls p g target keys h last old new host after start end (Err AnswersEnd)
+    pub no_answer : (last : Heap) (new : Values) (after : Host) → drop host.taken (lists_of host.answers.now) ≡ [] → CallsAs p g target keys h last old new host after start end (Err AnswersEnd)
     no_answer last new after none c w args call =
         external_leads (Comes c.items last new after start end (Err AnswersEnd) w) (λ o v bad. inl bad) (heap_of h) c.program c.func (option_map (λ v. v.0) target) keys g args c.frame w (passed_fault c.program g keys c.frame w.objects g.clause)
         (λ none. inr (inl (record { outcome = refl; fuel = refl; wrote = wrote c w args call })))
@@ -248,7 +248,7 @@ module _ (p : Program) (g : Func) (target : Option VarId) (keys : List ℕ) (h :
             first_of d (y ∷ ys) = y
 
       -- the answer doesn't keep the clause, or a new object can't be made
-      pub halts : (k : Stop) → Heeds p g keys (host.taken + 1) zs cut two out_heap last (Err k) → Calls p g target keys h last old two host after start end (Err k)
+      pub halts : (k : Stop) → Heeds p g keys (host.taken + 1) zs cut two out_heap last (Err k) → CallsAs p g target keys h last old two host after start end (Err k)
       halts k heeds c w args call =
           external_leads (Comes c.items last two after start end (Err k) w) (λ o v bad. inl bad) (heap_of h) c.program c.func (option_map (λ v. v.0) target) keys g args c.frame w (passed_fault c.program g keys c.frame w.objects g.clause)
           (λ none. absurd (some_left (sym taken ∙ sym call.hosts.answers ∙ none)))
@@ -271,7 +271,7 @@ module _ (p : Program) (g : Func) (target : Option VarId) (keys : List ℕ) (h :
 
       -- what it says is done
       pub goes_on : (three four : Values) → IfSome target (λ v. v.0 < old.vars) → after.input.now ≡ host.input.now → after.answers.now ≡ host.answers.now → after.taken ≡ host.taken + 1 → IsSameBelow cut two → length two.slots.items ≡ length cut.slots.items + cut.width
-          → IsSameFrame two three → IsDelivered target two three → IsCut from three four → Heeds p g keys (host.taken + 1) zs cut two out_heap last (Ok tt) → Calls p g target keys h last old four host after start end (Ok tt)
+          → IsSameFrame two three → IsDelivered target two three → IsCut from three four → Heeds p g keys (host.taken + 1) zs cut two out_heap last (Ok tt) → CallsAs p g target keys h last old four host after start end (Ok tt)
       goes_on three four within input answers count below long same delivered cut_again heeds c w args call =
           external_leads (Comes c.items last four after start end (Ok tt) w) (λ o v bad. bad) (heap_of h) c.program c.func (option_map (λ v. v.0) target) keys g args c.frame w (passed_fault c.program g keys c.frame w.objects g.clause)
           (λ none. absurd (some_left (sym taken ∙ sym call.hosts.answers ∙ none)))

@@ -1,5 +1,5 @@
 -- What holds of the step that a call of an external leads to, from what holds of where its parts come to.
-use Rattle.std.proofs.Common.{◌≡◌, ℕ, ◌+◌, ℤ, Bool, true, false, if◌then◌else◌, List, [], ◌∷◌, ◌++◌, length, Option, None, Some, Ok, Err, refl, slice_get}
+use Rattle.std.proofs.Common.{◌≡◌, ℕ, ◌+◌, ℤ, Bool, true, false, if◌then◌else◌, List, [], ◌∷◌, ◌++◌, length, Option, None, Some, Ok, Err, refl, ◌∙◌, sym, slice_get}
 use Rattle.std.specs.List.{flat_map}
 use Rattle.vlt_core.specs.Core.{Ty, Func, Program}
 use Rattle.vlt_core.specs.Lookups.{VariantOf, variant_in, case_at, case_keys}
@@ -9,6 +9,7 @@ use Rattle.vlt_meaning.specs.Step.{Step, goes, ends, with_found, where_so, with_
 use Rattle.vlt_meaning.specs.Calls.{entries_after, passed_objects, Binding}
 use Rattle.vlt_meaning.specs.HostAnswers.{Piece, plain, new_in, Result as Given, nothing, piece, case_with}
 use Rattle.vlt_meaning.specs.Externals.{awaited_keys, named_objects, taken_objects, from_host, type_in, payload_in, new_key, objects_of_keys, keys_of_case, Fitting, fitting, or_bad, with_answered, with_pieces, with_fresh, with_result, call_external}
+use Rattle.vlt_meaning_laws.proofs.Keeping.{err-ok}
 use Rattle.vlt_acts.proofs.OfValues.Touching.{OrFault, then_fault, some_fault}
 use Rattle.vlt_acts.proofs.OfObjects.Going.{moved_fault}
 use Rattle.vlt_externals.specs.Sent.{taken_out, owned_out}
@@ -162,6 +163,11 @@ module _ (P : Step → Type 0) where
     -- ---- the whole call
 
     module _ (b : ℕ) (p : Program) (f : Func) (target : Option ℕ) (keys : List ℕ) (g : Func) (args : List Value) (frame : Frame) (w : World) (fine : OrFault (passed_objects p g keys frame w.objects g.clause)) where
+      -- the objects that the clause wants aren't there
+      pub wrong_leads : (o : Outcome) → passed_objects p g keys frame w.objects g.clause ≡ Err o → P (call_external b p f target keys g args frame w)
+      unfolding call_external
+      wrong_leads o is = found_leads (passed_objects p g keys frame w.objects g.clause) w _ fine (λ ns found. absurd (err-ok (sym is ∙ found)))
+
       pub external_leads : (w.answers ≡ [] → P (ends answers_end (with_event w (called g.name args))))
           → ((zs : List ℤ) (rest : List (List ℤ)) (first second : List Thing) → w.answers ≡ zs ∷ rest → taken_out keys g.clause frame w.objects ≡ Ok first → owned_out args first ≡ Ok second
           → LeadsOn P (deliver f target) (answered (called g.name args) w rest second) (made_of_answer b p g keys (w.taken + 1) frame zs second))

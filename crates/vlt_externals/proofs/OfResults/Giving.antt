@@ -141,11 +141,6 @@ module _ (p : Program) (g : Func) (keys : List ℕ) where
   kept_list : (e : Entry) (es : List Entry) (b : Bool) → is_held_after e ≡ b → filter is_held_after (e ∷ es) ≡ (if b then e ∷ filter is_held_after es else filter is_held_after es)
   kept_list e es b is = ap (λ t. if t then e ∷ filter is_held_after es else filter is_held_after es) is
 
-  pub skip_new : (e : Entry) (es : List Entry) (zs : List ℤ) (r : Option NewKey) → is_held_after e ≡ false → NamesNew p g keys es zs r → NamesNew p g keys (e ∷ es) zs r
-  skip_new e es zs r off names ss rest read =
-      let list = kept_list e es false off in
-      names ss rest (ap (λ xs. each (λ e. state_in (after_set p g e)) xs zs) (sym list) ∙ read) ∙ ap (λ xs. new_key keys xs ss) (sym list)
-
   new_list : (e : Entry) (es : List Entry) (s : ℕ) (ss : List ℕ) (b : Bool) → is_new e ≡ b → new_key keys (e ∷ es) (s ∷ ss) ≡ (if b then option_map (binding s) (slice_get keys e.key) else new_key keys es ss)
   new_list e es s ss b is = ap (λ t. if t then option_map (binding s) (slice_get keys e.key) else new_key keys es ss) is
 
@@ -162,6 +157,11 @@ module _ (p : Program) (g : Func) (keys : List ℕ) where
       by (Some x) at q =
           let same : (s ∷ x.0, x.1) ≡ (ss, rest) = same_Some (s ∷ x.0, x.1) (ss, rest) q in
           record { others = x.0; read = at ∙ ap (λ l. Some (x.0, l)) (ap (λ z. z.1) same); are = ap (λ z. z.0) same }
+
+  pub skip_new : (e : Entry) (es : List Entry) (zs : List ℤ) (r : Option NewKey) → is_held_after e ≡ false → NamesNew p g keys es zs r → NamesNew p g keys (e ∷ es) zs r
+  skip_new e es zs r off names ss rest read =
+      let list = kept_list e es false off in
+      names ss rest (ap (λ xs. each (λ e. state_in (after_set p g e)) xs zs) (sym list) ∙ read) ∙ ap (λ xs. new_key keys xs ss) (sym list)
 
   module _ (e : Entry) (es : List Entry) (zs : List ℤ) (on : is_held_after e ≡ true) where
     pub missing_new : (r : Option NewKey) → state_in (after_set p g e) zs ≡ None → NamesNew p g keys (e ∷ es) zs r

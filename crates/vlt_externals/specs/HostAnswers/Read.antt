@@ -1,11 +1,12 @@
 -- What is read of an answer, as the definition of answers has it.
-use Rattle.std.specs.Prelude.{◌≡◌, ℕ, ℤ, pos, negsuc, Bool, true, if◌then◌else◌, List, [], ◌∷◌, filter, Option, None, Some, ◌+◌}
+use Rattle.std.specs.Prelude.{◌≡◌, ℕ, ℤ, pos, negsuc, Bool, true, if◌then◌else◌, List, [], ◌∷◌, filter, map, Option, None, Some, ◌+◌}
 use Rattle.std.specs.List.{range_with_len}
 use Rattle.std.specs.Borrow.{Bor}
 use Rattle.vlt_base.specs.declared.states.StateSet.{StateSet}
 use Rattle.vlt_base.specs.States.{has_state}
 use Rattle.vlt_core.specs.Core.{States, Entry, Func, Program}
 use Rattle.vlt_core.specs.Lookups.{is_held_after, after_set}
+use Rattle.vlt_core.specs.Instances.{entry_in, IsWithinBound}
 use Rattle.vlt_meaning.specs.HostAnswers.{Piece, plain, new_in}
 use Rattle.vlt_externals.specs.declared.host_answers.pieces.Piece.{Piece as CodePiece}
 use Rattle.vlt_externals.specs.declared.host_answers.pieces.Piece.TheVariants.{Plain, New}
@@ -56,6 +57,17 @@ abbrev pub AreSets : Program → Func → List Entry → Type 0
 AreSets p g [] = Unit {0}
 AreSets p g (e ∷ es) =
     (is_held_after e ≡ true → (s : StateSet) × (has_state s ≡ after_set p g e)) × AreSets p g es
+
+-- ---- instances
+
+-- the entries as they stand in the instance of this origin
+abbrev pub entries_in : Program → Func → (origin : Option ℕ) → List Entry → List Entry
+entries_in p g o es = map (entry_in p g o) es
+
+-- the origin is a state up to the bound of each entry that is bound
+abbrev pub AreWithin : Program → Func → (origin : Option ℕ) → List Entry → Type 0
+AreWithin p g o [] = Unit {0}
+AreWithin p g o (e ∷ es) = IsWithinBound p g o e × AreWithin p g o es
 
 -- ---- pieces
 

@@ -7,7 +7,7 @@ ghost use Rattle.vlt_core.specs.View.{program_of, func_of, entry_of, ty_of, case
 ghost use Rattle.vlt_core.specs.Core.{int as an_int};
 ghost use Rattle.vlt_core.specs.Lookups.{is_held_after, after_set};
 ghost use Rattle.vlt_meaning.specs.HostAnswers.{each, state_in, piece_of, key_state};
-ghost use Rattle.vlt_externals.specs.HostAnswers.Read.{as_read, same, rest_of, left_in, piece_view, AreSets};
+ghost use Rattle.vlt_externals.specs.HostAnswers.Read.{as_read, same, rest_of, left_in, piece_view, AreSets, entries_in, AreWithin};
 
 use crate::host_answers::numbers::{below, number, state};
 use vlt_base::StateSet;
@@ -79,26 +79,33 @@ pub fn entry_state<'h>(
     }
 }
 
-/// What is left behind the states of entries that are held after the call.
+/// What is left behind the states of entries that are held after the call, in the instance of this origin. A bound entry's is
+/// the origin, so that nothing is read for it.
 pub fn behind_entries<'h>(
     program: &Program,
     g: &Func,
+    origin: Option<u8>,
     entries: &[Entry],
     left: &'h [i64],
 ) -> Option<&'h [i64]>
-    ensures { AreSets (program_of program.now) (func_of g.now) (map entry_of entries.now) →
+    requires within { AreWithin (program_of program.now) (func_of g.now) origin
+        (map entry_of entries.now) }
+    ensures { AreSets (program_of program.now) (func_of g.now) (entries_in
+        (program_of program.now) (func_of g.now) origin (map entry_of entries.now)) →
         left_in result ≡ rest_of (each (λ e. state_in (after_set (program_of program.now)
-        (func_of g.now) e)) (filter is_held_after (map entry_of entries.now)) left.now) }
+        (func_of g.now) e)) (filter is_held_after (entries_in (program_of program.now)
+        (func_of g.now) origin (map entry_of entries.now))) left.now) }
 {
     match entries.split_first() {
         None => Some(left),
-        Some((e, rest)) => {
-            if !is_held_after(e) {
-                return behind_entries(program, g, rest, left);
+        Some((first, rest)) => {
+            let e = program.entry_in(g, origin, *first);
+            if !is_held_after(&e) {
+                return behind_entries(program, g, origin, rest, left);
             }
-            match entry_state(program, g, e, left) {
+            match entry_state(program, g, &e, left) {
                 None => None,
-                Some((_, left)) => behind_entries(program, g, rest, left),
+                Some((_, left)) => behind_entries(program, g, origin, rest, left),
             }
         }
     }

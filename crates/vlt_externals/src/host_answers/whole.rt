@@ -3,8 +3,9 @@
 ghost use Rattle.std.specs.Prelude.{◌≡◌, map};
 ghost use Rattle.vlt_core.specs.View.{program_of, func_of, case_of, ty_of};
 ghost use Rattle.vlt_core.specs.Lookups.{cases_of};
+ghost use Rattle.vlt_core.specs.Instances.{instance};
 ghost use Rattle.vlt_meaning.specs.HostAnswers.{variant_read, piece_read, result_read};
-ghost use Rattle.vlt_externals.specs.HostAnswers.Read.{rest_of, left_in, AreSets};
+ghost use Rattle.vlt_externals.specs.HostAnswers.Read.{rest_of, left_in, AreSets, AreWithin};
 ghost use Rattle.vlt_externals.specs.HostAnswers.Whole.{IsCaseRead, IsFitting};
 
 use crate::host_answers::numbers::below;
@@ -85,12 +86,21 @@ fn behind_result<'h>(program: &Program, g: &Func, left: &'h [i64]) -> Option<&'h
     }
 }
 
-/// The numbers of an answer's result, where the answer fits the external and no number is left over.
-pub fn fitting<'h>(program: &Program, g: &Func, answer: &'h [i64]) -> Option<&'h [i64]>
-    ensures { AreSets (program_of program.now) (func_of g.now) (func_of g.now).clause →
-        IsFitting (program_of program.now) (func_of g.now) answer.now result }
+/// The numbers of an answer's result, where the answer fits the external's instance of this origin and no number is left over.
+pub fn fitting<'h>(
+    program: &Program,
+    g: &Func,
+    origin: Option<u8>,
+    answer: &'h [i64],
+) -> Option<&'h [i64]>
+    requires within { AreWithin (program_of program.now) (func_of g.now) origin
+        (func_of g.now).clause }
+    ensures { AreSets (program_of program.now) (func_of g.now)
+        (instance (program_of program.now) (func_of g.now) origin).clause →
+        IsFitting (program_of program.now)
+        (instance (program_of program.now) (func_of g.now) origin) answer.now result }
 {
-    match behind_entries(program, g, g.clause.as_slice(), answer) {
+    match behind_entries(program, g, origin, g.clause.as_slice(), answer) {
         None => None,
         Some(result) => match behind_result(program, g, result) {
             None => None,

@@ -3,10 +3,11 @@
 ghost use Rattle.std.specs.Prelude.{◌≡◌, ◌≤◌, ◌+◌, length, IfOk, vec_capacity};
 ghost use Rattle.vlt_core.specs.View.{program_of, func_of, keys_of};
 ghost use Rattle.vlt_core.specs.Lookups.{variant_in};
+ghost use Rattle.vlt_core.specs.Instances.{instance};
 ghost use Rattle.vlt_heap.specs.Shown.{IsSound, IsSameSize};
 ghost use Rattle.vlt_acts.specs.Values.Shown.{IsTable};
 ghost use Rattle.vlt_acts.specs.Frames.Naming.{KeysBelow};
-ghost use Rattle.vlt_externals.specs.HostAnswers.Read.{AreSets};
+ghost use Rattle.vlt_externals.specs.HostAnswers.Read.{AreSets, AreWithin};
 ghost use Rattle.vlt_externals.specs.Results.Results.{FitsResult};
 ghost use Rattle.vlt_externals.specs.HostCalls.Heeded.{variant_view, ListsKeys, ComesIn, SetsResult, Heeds, IsSameBelow};
 
@@ -83,12 +84,13 @@ fn set_result(
     }
 }
 
-/// What an answer says is done; the value that it gives stands at the end then.
+/// What an answer to a call of the instance of this origin says is done; the value that it gives stands at the end then.
 pub fn heed(
     values: &mut Values,
     heap: &mut Heap,
     program: &Program,
     g: &Func,
+    origin: Option<u8>,
     keys: &[KeyId],
     answer: &[i64],
     position: u32,
@@ -100,17 +102,22 @@ pub fn heed(
     requires keys { KeysBelow (keys_of keys.now) (length values.old.slots.items) values.old }
     requires room { length values.old.slots.items + values.old.width ≤
         vec_capacity values.old.slots }
-    requires lists { ListsKeys (program_of program.now) (func_of g.now) (keys_of keys.now) }
-    requires sets { AreSets (program_of program.now) (func_of g.now) (func_of g.now).clause }
+    requires within { AreWithin (program_of program.now) (func_of g.now) origin
+        (func_of g.now).clause }
+    requires lists { ListsKeys (program_of program.now)
+        (instance (program_of program.now) (func_of g.now) origin) (keys_of keys.now) }
+    requires sets { AreSets (program_of program.now) (func_of g.now)
+        (instance (program_of program.now) (func_of g.now) origin).clause }
     ensures sound { IsSound heap.new }
     ensures size { IsSameSize heap.old heap.new }
     ensures same { IsSameBelow values.old values.new }
     ensures long { IfOk result (λ u. length values.new.slots.items ≡
         length values.old.slots.items + values.old.width) }
-    ensures heeds { Heeds (program_of program.now) (func_of g.now) (keys_of keys.now) position
+    ensures heeds { Heeds (program_of program.now)
+        (instance (program_of program.now) (func_of g.now) origin) (keys_of keys.now) position
         answer.now values.old values.new heap.old heap.new result }
 {
-    let Some(left) = fitting(program, g, answer) else {
+    let Some(left) = fitting(program, g, origin, answer) else {
         return Err(Stop::BadAnswer(position));
     };
     if !take_back(values, heap, g.clause.as_slice(), keys) {
@@ -119,11 +126,20 @@ pub fn heed(
     if !take_result(values, heap, program, g, keys, left) {
         return Err(Stop::BadAnswer(position));
     }
-    set_entries(values, heap, program, g, g.clause.as_slice(), keys, answer);
+    set_entries(
+        values,
+        heap,
+        program,
+        g,
+        origin,
+        g.clause.as_slice(),
+        keys,
+        answer,
+    );
     set_result(values, heap, program, g, keys, left);
     let to = values.len();
     values.grow();
-    match put_result(values, heap, program, g, keys, answer, left, to) {
+    match put_result(values, heap, program, g, origin, keys, answer, left, to) {
         Ok(()) => Ok(()),
         Err(_) => Err(Stop::HeapEnd),
     }

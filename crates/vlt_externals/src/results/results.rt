@@ -2,12 +2,13 @@
 
 ghost use Rattle.std.specs.Prelude.{◌≡◌, ◌≤◌, ◌<◌, ◌+◌, ◌*◌, length, map, pos, IfSome, Some};
 ghost use Rattle.vlt_core.specs.View.{program_of, func_of, entry_of, ty_of, keys_of, case_key_of, case_of};
+ghost use Rattle.vlt_core.specs.Instances.{instance};
 ghost use Rattle.vlt_meaning.specs.Externals.{type_in};
 ghost use Rattle.vlt_heap.specs.Shown.{IsSound, IsSameSize, IsLive};
 ghost use Rattle.vlt_acts.specs.Values.Shown.{IsTable, IsRowSet, IsKept, key_at};
 ghost use Rattle.vlt_acts.specs.Acts.Acts.{IsSameFrame};
 ghost use Rattle.vlt_acts.specs.Frames.Naming.{KeysBelow};
-ghost use Rattle.vlt_externals.specs.HostAnswers.Read.{AreSets, piece_view};
+ghost use Rattle.vlt_externals.specs.HostAnswers.Read.{AreSets, entries_in, AreWithin, piece_view};
 ghost use Rattle.vlt_externals.specs.Results.Results.{IsListed, binding_of, NamesNew, MakesIn, MakesPart, PutsPieces, PutsKeys, PutsCase, PutsNew, PutsPiece, FitCases, PutsVariant, PutsFresh, FitsResult, PutsResult};
 
 use crate::caller_key;
@@ -27,30 +28,37 @@ pub struct NewKey {
     pub state: u8,
 }
 
-/// The caller's key for the key of a `new` entry, with the state that the answer gives its object.
+/// The caller's key for the key of a `new` entry, with the state that the answer gives its object, in the instance of this
+/// origin.
 fn new_key(
     program: &Program,
     g: &Func,
+    origin: Option<u8>,
     entries: &[Entry],
     keys: &[KeyId],
     left: &[i64],
 ) -> Option<NewKey>
+    requires within { AreWithin (program_of program.now) (func_of g.now) origin
+        (map entry_of entries.now) }
     ensures listed { IfSome result (λ n. IsListed (keys_of keys.now) n.key.0) }
-    ensures names { AreSets (program_of program.now) (func_of g.now) (map entry_of entries.now) →
-        NamesNew (program_of program.now) (func_of g.now) (keys_of keys.now)
-        (map entry_of entries.now) left.now result }
+    ensures names { AreSets (program_of program.now) (func_of g.now) (entries_in
+        (program_of program.now) (func_of g.now) origin (map entry_of entries.now)) →
+        NamesNew (program_of program.now) (func_of g.now) (keys_of keys.now) (entries_in
+        (program_of program.now) (func_of g.now) origin (map entry_of entries.now)) left.now
+        result }
 {
     match entries.split_first() {
         None => None,
-        Some((e, rest)) => {
-            if !is_held_after(e) {
-                return new_key(program, g, rest, keys, left);
+        Some((first, rest)) => {
+            let e = program.entry_in(g, origin, *first);
+            if !is_held_after(&e) {
+                return new_key(program, g, origin, rest, keys, left);
             }
-            match entry_state(program, g, e, left) {
+            match entry_state(program, g, &e, left) {
                 None => None,
                 Some((state, left)) => {
-                    if !is_new(e) {
-                        return new_key(program, g, rest, keys, left);
+                    if !is_new(&e) {
+                        return new_key(program, g, origin, rest, keys, left);
                     }
                     match caller_key(keys, e.key) {
                         None => None,
@@ -299,6 +307,7 @@ fn put_fresh(
     heap: &mut Heap,
     program: &Program,
     g: &Func,
+    origin: Option<u8>,
     t: TypeId,
     keys: &[KeyId],
     answer: &[i64],
@@ -310,14 +319,18 @@ fn put_fresh(
     requires keys { KeysBelow (keys_of keys.now) to values.old }
     requires behind { values.old.base + values.old.vars * values.old.width ≤ to }
     requires there { to + values.old.width ≤ length values.old.slots.items }
+    requires within { AreWithin (program_of program.now) (func_of g.now) origin
+        (func_of g.now).clause }
     ensures sound { IsSound heap.new }
     ensures size { IsSameSize heap.old heap.new }
     ensures same { IsSameFrame values.old values.new }
-    ensures puts { AreSets (program_of program.now) (func_of g.now) (func_of g.now).clause →
-        PutsFresh (program_of program.now) (func_of g.now) t.0 (keys_of keys.now) answer.now to
-        values.old values.new heap.old heap.new result }
+    ensures puts { AreSets (program_of program.now) (func_of g.now)
+        (instance (program_of program.now) (func_of g.now) origin).clause →
+        PutsFresh (program_of program.now)
+        (instance (program_of program.now) (func_of g.now) origin) t.0 (keys_of keys.now)
+        answer.now to values.old values.new heap.old heap.new result }
 {
-    match new_key(program, g, g.clause.as_slice(), keys, answer) {
+    match new_key(program, g, origin, g.clause.as_slice(), keys, answer) {
         None => Ok(()),
         Some(new) => put_new(values, heap, t, new, to),
     }
@@ -329,6 +342,7 @@ fn put_given(
     heap: &mut Heap,
     program: &Program,
     g: &Func,
+    origin: Option<u8>,
     t: &Ty,
     keys: &[KeyId],
     answer: &[i64],
@@ -343,15 +357,19 @@ fn put_given(
     requires keys { KeysBelow (keys_of keys.now) to values.old }
     requires behind { values.old.base + values.old.vars * values.old.width ≤ to }
     requires there { to + values.old.width ≤ length values.old.slots.items }
+    requires within { AreWithin (program_of program.now) (func_of g.now) origin
+        (func_of g.now).clause }
     ensures sound { IsSound heap.new }
     ensures size { IsSameSize heap.old heap.new }
     ensures same { IsSameFrame values.old values.new }
-    ensures puts { AreSets (program_of program.now) (func_of g.now) (func_of g.now).clause →
-        PutsResult (program_of program.now) (func_of g.now) (keys_of keys.now) answer.now left.now
-        to values.old values.new heap.old heap.new result }
+    ensures puts { AreSets (program_of program.now) (func_of g.now)
+        (instance (program_of program.now) (func_of g.now) origin).clause →
+        PutsResult (program_of program.now)
+        (instance (program_of program.now) (func_of g.now) origin) (keys_of keys.now) answer.now
+        left.now to values.old values.new heap.old heap.new result }
 {
     match t {
-        Ty::Key(_, u, _) => put_fresh(values, heap, program, g, *u, keys, answer, to),
+        Ty::Key(_, u, _) => put_fresh(values, heap, program, g, origin, *u, keys, answer, to),
         Ty::Var(u, args) => {
             put_variant(values, heap, program, *u, args.as_slice(), keys, left, to)
         }
@@ -368,6 +386,7 @@ pub fn put_result(
     heap: &mut Heap,
     program: &Program,
     g: &Func,
+    origin: Option<u8>,
     keys: &[KeyId],
     answer: &[i64],
     left: &[i64],
@@ -380,15 +399,29 @@ pub fn put_result(
     requires keys { KeysBelow (keys_of keys.now) to values.old }
     requires behind { values.old.base + values.old.vars * values.old.width ≤ to }
     requires there { to + values.old.width ≤ length values.old.slots.items }
+    requires within { AreWithin (program_of program.now) (func_of g.now) origin
+        (func_of g.now).clause }
     ensures sound { IsSound heap.new }
     ensures size { IsSameSize heap.old heap.new }
     ensures same { IsSameFrame values.old values.new }
-    ensures puts { AreSets (program_of program.now) (func_of g.now) (func_of g.now).clause →
-        PutsResult (program_of program.now) (func_of g.now) (keys_of keys.now) answer.now left.now
-        to values.old values.new heap.old heap.new result }
+    ensures puts { AreSets (program_of program.now) (func_of g.now)
+        (instance (program_of program.now) (func_of g.now) origin).clause →
+        PutsResult (program_of program.now)
+        (instance (program_of program.now) (func_of g.now) origin) (keys_of keys.now) answer.now
+        left.now to values.old values.new heap.old heap.new result }
 {
     match &g.result {
-        None => put_fresh(values, heap, program, g, TypeId(0), keys, answer, to),
-        Some(t) => put_given(values, heap, program, g, t, keys, answer, left, to),
+        None => put_fresh(
+            values,
+            heap,
+            program,
+            g,
+            origin,
+            TypeId(0),
+            keys,
+            answer,
+            to,
+        ),
+        Some(t) => put_given(values, heap, program, g, origin, t, keys, answer, left, to),
     }
 }

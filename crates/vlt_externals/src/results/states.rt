@@ -4,7 +4,7 @@ ghost use Rattle.std.specs.Prelude.{◌≡◌, map};
 ghost use Rattle.vlt_core.specs.View.{program_of, func_of, entry_of, keys_of, case_key_of};
 ghost use Rattle.vlt_heap.specs.Shown.{IsSound, IsSameSize};
 ghost use Rattle.vlt_acts.specs.Values.Shown.{IsTable};
-ghost use Rattle.vlt_externals.specs.HostAnswers.Read.{AreSets};
+ghost use Rattle.vlt_externals.specs.HostAnswers.Read.{AreSets, entries_in, AreWithin};
 ghost use Rattle.vlt_externals.specs.Results.Stated.{SetsEntry, SetsEntries, ComesLoose, ComesOneLoose, SetsCase};
 
 use crate::host_answers::{entry_state, is_held_after, state};
@@ -33,36 +33,43 @@ fn set_entry(values: &Values, heap: &mut Heap, e: &Entry, keys: &[KeyId], state:
     }
 }
 
-/// Gives the objects of entries that are held after the call their states, those of new ones aside.
+/// Gives the objects of entries that are held after the call their states, those of new ones aside, in the instance of this
+/// origin.
 pub fn set_entries(
     values: &Values,
     heap: &mut Heap,
     program: &Program,
     g: &Func,
+    origin: Option<u8>,
     entries: &[Entry],
     keys: &[KeyId],
     left: &[i64],
 )
     requires sound { IsSound heap.old }
     requires table { IsTable values.now }
+    requires within { AreWithin (program_of program.now) (func_of g.now) origin
+        (map entry_of entries.now) }
     ensures sound { IsSound heap.new }
     ensures size { IsSameSize heap.old heap.new }
-    ensures sets { AreSets (program_of program.now) (func_of g.now) (map entry_of entries.now) →
-        SetsEntries (program_of program.now) (func_of g.now) (keys_of keys.now)
-        (map entry_of entries.now) left.now values.now heap.old heap.new }
+    ensures sets { AreSets (program_of program.now) (func_of g.now) (entries_in
+        (program_of program.now) (func_of g.now) origin (map entry_of entries.now)) →
+        SetsEntries (program_of program.now) (func_of g.now) (keys_of keys.now) (entries_in
+        (program_of program.now) (func_of g.now) origin (map entry_of entries.now)) left.now
+        values.now heap.old heap.new }
 {
     match entries.split_first() {
         None => {}
-        Some((e, rest)) => {
-            if !is_held_after(e) {
-                set_entries(values, heap, program, g, rest, keys, left);
+        Some((first, rest)) => {
+            let e = program.entry_in(g, origin, *first);
+            if !is_held_after(&e) {
+                set_entries(values, heap, program, g, origin, rest, keys, left);
                 return;
             }
-            match entry_state(program, g, e, left) {
+            match entry_state(program, g, &e, left) {
                 None => {}
                 Some((s, left)) => {
-                    set_entry(values, heap, e, keys, s);
-                    set_entries(values, heap, program, g, rest, keys, left);
+                    set_entry(values, heap, &e, keys, s);
+                    set_entries(values, heap, program, g, origin, rest, keys, left);
                 }
             }
         }

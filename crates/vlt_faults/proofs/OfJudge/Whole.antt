@@ -12,7 +12,7 @@ use Rattle.vlt_core.specs.Bodies.{body_flow}
 use Rattle.vlt_core.specs.Derives.{start_map}
 use Rattle.vlt_core.specs.Local.{Notes, IsLocalBlock, IsLocalIn}
 use Rattle.vlt_core.specs.Found.{One, one_absent, one_held, one_lent, one_full, Has}
-use Rattle.vlt_core.specs.Faults.{IsMixed, IsUnwanted, TellsRow, TellsJoin, HasFault, IsFirstIn, StandsFor}
+use Rattle.vlt_core.specs.Faults.{IsMixed, IsUnwanted, TellsRow, TellsJoin, IsFirstIn, StandsFor}
 use Rattle.vlt_core.specs.View.{tok_of}
 use Rattle.vlt_core.specs.FaultView.{kind_of}
 use Rattle.vlt_core_laws.specs.Faulted.{HasFaultBlock}
@@ -27,6 +27,7 @@ use Rattle.vlt_faults.proofs.OfFinding.Bits.{no_bits}
 use Rattle.vlt_faults.specs.declared.judge.blame.Blame.{Blame}
 use Rattle.vlt_faults.specs.Judge.Blames.{spot_of, TellsUnwanted, TellsMixed}
 use Rattle.vlt_faults.specs.Judge.Faulty.{IsFitIn}
+use Rattle.vlt_faults.specs.Judge.Instances.{All}
 use Rattle.vlt_faults.specs.Judge.Overs.{IsFirstOver}
 use Rattle.vlt_faults.proofs.OfJudge.Clean.{clean_unmixed, clean_block}
 use Rattle.vlt_faults.proofs.OfJudge.Parts.{stands_absent, stands_full, stands_lent}
@@ -92,34 +93,26 @@ read_just m k = parts m.absent m.full refl refl
 
 -- ---- a function's body
 
-abbrev All : Tok → Type 0
-All t = Unit {0}
-
-first_told : (p : Program) (f : Func) (b : Blame) → IsFirstOver All (body_flow p f) (start_map p f) (Some b) → IsFitIn p f → IsFirstIn p f b.at (tok_of b.tok) (kind_of b.kind)
-first_told p f b over fit =
+-- the first fault of a body, with its spot
+pub first_at : (p : Program) (f : Func) (b : Blame) → IsFirstOver All (body_flow p f) (start_map p f) (Some b) → IsFitIn p f →
+    (x : IsFirstIn p f b.at (tok_of b.tok) (kind_of b.kind)) × (x.spot ≡ spot_of b)
+first_at p f b over fit =
     let kind = kind_of b.kind in
     let s = body_flow p f in
     let S = Has (start_map p f (tok_of b.tok)) in
-    let good = fit.start.good (tok_of b.tok) in
-    record {
-      spot = spot_of b;
-      place = refl;
-      faulty = clean_block (TellsUnwanted kind) IsUnwanted (TellsMixed kind) IsMixed (λ r T c x. x.0) (λ T c x. x.0) (spot_of b) (tok_of b.tok) s false 0 S fit.fit.tame fit.fit.filled good over.there;
-      told = clean_block (TellsUnwanted kind) (TellsRow kind) (TellsMixed kind) (TellsJoin kind) (λ r T c x. x.1 (clean_unmixed T c x.0.1)) (λ T c x. x.1 c.one) (spot_of b) (tok_of b.tok) s false 0 S fit.fit.tame fit.fit.filled good over.there;
-      first = λ q u x. over.first q u tt x;
-    }
+    let good = fit.start.good (tok_of b.tok) in (
+      record {
+        spot = spot_of b;
+        place = refl;
+        faulty = clean_block (TellsUnwanted kind) IsUnwanted (TellsMixed kind) IsMixed (λ r T c x. x.0) (λ T c x. x.0) (spot_of b) (tok_of b.tok) s false 0 S fit.fit.tame fit.fit.filled good over.there;
+        told = clean_block (TellsUnwanted kind) (TellsRow kind) (TellsMixed kind) (TellsJoin kind) (λ r T c x. x.1 (clean_unmixed T c x.0.1)) (λ T c x. x.1 c.one) (spot_of b) (tok_of b.tok) s false 0 S fit.fit.tame fit.fit.filled good over.there;
+        first = λ q u x. over.first q u tt x;
+      },
+      refl,
+    )
 
 pub over_in : (p : Program) (f : Func) (s : Block) (h : HeldMap) (x : Option Blame) → s ≡ body_flow p f → h ≡ start_map p f → IsFirstOver All s h x → IsFirstOver All (body_flow p f) (start_map p f) x
 over_in p f s h x e d o = subst (λ s. IsFirstOver All s (start_map p f) x) e (subst (λ h. IsFirstOver All s h x) d o)
-
-pub first_in : (p : Program) (f : Func) (s : Block) (h : HeldMap) (x : Option Blame) (b : Blame) → s ≡ body_flow p f → h ≡ start_map p f → IsFirstOver All s h x → x ≡ Some b → IsFitIn p f → IsFirstIn p f b.at (tok_of b.tok) (kind_of b.kind)
-first_in p f s h x b e d o is = first_told p f b (subst (IsFirstOver All (body_flow p f) (start_map p f)) is (over_in p f s h x e d o))
-
-none_over : (p : Program) (f : Func) (s : Block) (h : HeldMap) (x : Option Blame) → s ≡ body_flow p f → h ≡ start_map p f → IsFirstOver All s h x → x ≡ None → IsFirstOver All (body_flow p f) (start_map p f) None
-none_over p f s h x e d o is = subst (IsFirstOver All (body_flow p f) (start_map p f)) is (over_in p f s h x e d o)
-
-pub none_in : (p : Program) (f : Func) (s : Block) (h : HeldMap) (x : Option Blame) → s ≡ body_flow p f → h ≡ start_map p f → IsFirstOver All s h x → x ≡ None → HasFault p f → ⊥
-none_in p f s h x e d o is y = (none_over p f s h x e d o is).first y.0 y.1.0 tt y.1.1
 
 -- the tables of each token, and the notes that read them
 module _ (s : Block) (h : HeldMap) (over : IsFirstOver All s h None) where
@@ -138,8 +131,5 @@ module _ (s : Block) (h : HeldMap) (over : IsFirstOver All s h None) where
   always_local : IsFit s → IsStart h → IsLocalBlock notes None 0 h s
   always_local fit start = faultless_local s stock notes h fit start (λ t. (over.tabled t tt).found) reads none
 
-always_told : (p : Program) (f : Func) → IsFirstOver All (body_flow p f) (start_map p f) None → IsFitIn p f → ((a : Notes) → IsLocalIn p f a → ⊥) → ⊥
+pub always_told : (p : Program) (f : Func) → IsFirstOver All (body_flow p f) (start_map p f) None → IsFitIn p f → ((a : Notes) → IsLocalIn p f a → ⊥) → ⊥
 always_told p f over fit never = never (notes (body_flow p f) (start_map p f) over) (always_local (body_flow p f) (start_map p f) over fit.fit fit.start)
-
-pub always_in : (p : Program) (f : Func) (s : Block) (h : HeldMap) (x : Option Blame) → s ≡ body_flow p f → h ≡ start_map p f → IsFirstOver All s h x → x ≡ None → IsFitIn p f → ((a : Notes) → IsLocalIn p f a → ⊥) → ⊥
-always_in p f s h x e d o is = always_told p f (none_over p f s h x e d o is)

@@ -41,8 +41,9 @@ pub struct Blame {
 }
 
 fn is_no_later_tok(a: Tok, b: Tok) -> bool
-    ensures { MatchBool result (IsNoLaterTok (tok_of a) (tok_of b))
+    ensures order { MatchBool result (IsNoLaterTok (tok_of a) (tok_of b))
         (IsNoLaterTok (tok_of b) (tok_of a)) }
+    ensures each { IsNoLaterTok (tok_of a) (tok_of b) → IsTrue result }
 {
     match (a, b) {
         (Tok::Key(i), Tok::Key(j)) => i.0 <= j.0,
@@ -53,10 +54,12 @@ fn is_no_later_tok(a: Tok, b: Tok) -> bool
 }
 
 /// Whether the first comes before the second, or is at its spot.
-fn is_no_later(a: Blame, b: Blame) -> bool
-    ensures { MatchBool result
+pub fn is_no_later(a: Blame, b: Blame) -> bool
+    ensures order { MatchBool result
         (IsNoLater (spot_of a) (tok_of a.tok) (spot_of b) (tok_of b.tok))
         (IsNoLater (spot_of b) (tok_of b.tok) (spot_of a) (tok_of a.tok)) }
+    ensures each { IsNoLater (spot_of a) (tok_of a.tok) (spot_of b) (tok_of b.tok) →
+        IsTrue result }
 {
     if a.at != b.at {
         return a.at < b.at;

@@ -29,6 +29,7 @@ use Rattle.vlt_steps.specs.Writing.{Outside}
 use Rattle.vlt_acts.proofs.OfHosts.Writing.{silent}
 use Rattle.vlt_steps.specs.declared.stop.Stop.{Stop}
 use Rattle.vlt_steps.specs.declared.stop.Stop.TheVariants.{Trap}
+use Rattle.vlt_interp.proofs.Likeness.{of_itself}
 use Rattle.vlt_interp.specs.declared.tasks.task.Rules.{Rules}
 use Rattle.vlt_interp.specs.declared.tasks.task.Run.{Run}
 use Rattle.vlt_interp.specs.Tasks.Shown.{setup_of, tasks_left, ShowsTasks, ShowsConf}
@@ -229,7 +230,7 @@ module _ (rules : Rules) (old : Run) (values : Values) (grown : IsGrown old.valu
           line = can.ready.room.line;
         };
         own = can.ready.own;
-        callee = record { position = g; at = is_callee };
+        callee = of_itself (program_of rules.program.now) g callee is_callee;
         target_own = can.own.target;
         keys_own = can.own.keys;
         head = subst (λ o. IfSome o (λ h. length keys ≤ length h.keys)) is_callee can.own.head;
@@ -341,7 +342,7 @@ module _ (rules : Rules) (old : Run) (os : List Operand) (g : ℕ) (target : Opt
 
   pub args_room : (callee : Func) → slice_get (program_of rules.program.now).fns g ≡ Some callee → length old.values.slots.items + length os * old.values.width ≤ vec_capacity old.values.slots
   args_room callee at =
-      let a = args_slots (program_of rules.program.now) callee (record { position = g; at = at }) rules.depth old can.ready.room can.ready.own in
+      let a = args_slots (program_of rules.program.now) callee (of_itself (program_of rules.program.now) g callee at) rules.depth old can.ready.room can.ready.own in
       let n : length os * old.values.width ≡ callee.params * old.values.width = ap (λ k. k * old.values.width) (counted callee at) in
       let b : (rules.depth + 1) * frame_slots (program_of rules.program.now) old.values.width ≡ rules.depth * frame_slots (program_of rules.program.now) old.values.width + frame_slots (program_of rules.program.now) old.values.width = omega arith in
       let c = can.ready.room.values in

@@ -7,18 +7,20 @@ use Rattle.std.proofs.lemmas.Bool.Decides.{nat_tests}
 use Rattle.vlt_base.specs.declared.ids.VarId.{VarId}
 use Rattle.vlt_core.specs.declared.program.Stmt.{Stmt}
 use Rattle.vlt_core.specs.Core.{Func, Program}
+use Rattle.vlt_core.specs.Instances.{bound_in}
 use Rattle.vlt_core.specs.View.{func_of, keys_of, stmts_of, program_of}
 use Rattle.vlt_heap.specs.Shown.{Holds, IsSound}
 use Rattle.vlt_meaning.specs.World.{Value, World, Frame, depth_end}
 use Rattle.vlt_meaning.specs.Found.{Found}
 use Rattle.vlt_meaning.specs.Step.{goes, ends, with_objects}
-use Rattle.vlt_meaning.specs.Calls.{passed_objects, handed_over, callee_frame}
+use Rattle.vlt_meaning.specs.Calls.{state_under, called_instance, passed_objects, handed_over, callee_frame}
 use Rattle.vlt_meaning_laws.specs.Machine.Machine as m
 use Rattle.vlt_meaning_laws.specs.Machine.Machine.{Caller, at, when_found, enter_body}
 use Rattle.vlt_acts.proofs.OfValues.Touching.{OrFault}
 use Rattle.vlt_acts.specs.declared.frames.waiting.Waiting.{Waiting}
-use Rattle.vlt_acts.specs.Frames.Frames.{frame_end, IsRunning, Stands, IsBelow, Waits}
+use Rattle.vlt_acts.specs.Frames.Frames.{IsLike, frame_end, IsRunning, Stands, IsBelow, Waits}
 use Rattle.vlt_acts.specs.Frames.Entered.{HasEntered, Enters}
+use Rattle.vlt_acts.proofs.OfFrames.Like.{moved, instance_like, running_like}
 use Rattle.vlt_acts.proofs.OfFrames.Standing.{running_names}
 use Rattle.vlt_acts.specs.Hosts.Hosts.{ShowsHost}
 use Rattle.vlt_steps.specs.Writing.{Outside}
@@ -55,9 +57,10 @@ module _ (rules : Rules) (old : Run) (g : Func) (target : Option ℕ) (keys : Li
     keeps = keeps_all old sound;
     comes = λ f ts args frame w q known.
         let e : nat_lt frame.depth rules.depth ≡ false = deep frame.depth rules.depth (let d = q.args_shown.depth in omega (arith, d, low)) in
-        subst (λ t. Came w b b (Some DepthEnd) old (if t then when_found (passed_objects (program_of rules.program.now) g keys frame w.objects g.clause) f ts w (λ ns.
-        at g (m.list g.body ∷ m.back (record { func = f; frame = frame; target = target; keys = keys }) ∷ ts)
-        (goes (callee_frame g keys args frame) (with_objects w (handed_over keys frame g.clause w.objects)))) else at f ts (ends depth_end w))) (sym e)
+        let i = called_instance (program_of rules.program.now) g keys frame w.objects in
+        subst (λ t. Came w b b (Some DepthEnd) old (if t then when_found (passed_objects (program_of rules.program.now) i keys frame w.objects i.clause) f ts w (λ ns.
+        at i (m.list i.body ∷ m.back (record { func = f; frame = frame; target = target; keys = keys }) ∷ ts)
+        (goes (callee_frame i keys args frame) (with_objects w (handed_over keys frame i.clause w.objects)))) else at f ts (ends depth_end w))) (sym e)
         (inr (inl (record { outcome = refl; fuel = q.args_shown.fuel; wrote = silent w w b refl })));
   }
 
@@ -86,25 +89,27 @@ module _ (rules : Rules) (old new : Run) (g : Func) (target : Option VarId) (key
   abbrev caller : Func → Frame → Caller
   caller f frame = record { func = f; frame = frame; target = option_map (λ v. v.0) target; keys = keys }
 
-  pub entered : (f : Func) (ts : List m.Task) (args : List Value) (frame : Frame) (w : World) (b : Outside) (q : ShowsCall old f ts g args frame w) → HasEntered f g keys old.heap old.values new.values (seen_call (program_of rules.program.now) old f ts g args frame w q) w args
-      → Came w b b None new (at g (m.list g.body ∷ m.back (caller f frame) ∷ ts) (goes (callee_frame g keys args frame) (with_objects w (handed_over keys frame g.clause w.objects))))
-  entered f ts args frame w b q h = record {
+  -- an instance of the function runs then
+  pub entered : (i : Func) → IsLike g i → (f : Func) (ts : List m.Task) (args : List Value) (frame : Frame) (w : World) (b : Outside) (q : ShowsCall old f ts g args frame w) → HasEntered f i keys old.heap old.values new.values (seen_call (program_of rules.program.now) old f ts g args frame w q) w args
+      → Came w b b None new (at i (m.list i.body ∷ m.back (caller f frame) ∷ ts) (goes (callee_frame i keys args frame) (with_objects w (handed_over keys frame i.clause w.objects))))
+  entered i like f ts args frame w b q h = record {
     shown = record {
       items = q.items;
       holds = subst (λ k. Holds k q.items) (sym put.heap) q.holds;
-      func = callee;
-      shown = subst (λ l. ShowsTasks q.items new.values new.values.base new.depth l (m.list g.body ∷ m.back (caller f frame) ∷ ts)) (sym left) (is_body, (record { waits = waiting_is; depth = deeper }, rest));
-      step = step_goes q.items new g new.at (callee_frame g keys args frame) (with_objects w (handed_over keys frame g.clause w.objects)) (put.going ∙ q.going) (record {
+      func = subst (λ k. IsLike k i) (sym callee) like;
+      shown = subst (λ l. ShowsTasks q.items new.values new.values.base new.depth l (m.list i.body ∷ m.back (caller f frame) ∷ ts)) (sym left)
+          (moved (λ k. stmts_of body.now ≡ k.body) g i like is_body, (record { waits = waiting_is; depth = deeper }, rest));
+      step = step_goes q.items new i new.at (callee_frame i keys args frame) (with_objects w (handed_over keys frame i.clause w.objects)) (put.going ∙ q.going) (record {
         objects = h.shows.objects_shown;
         frame_shown = h.shows.frame_shown;
-        names = running_names q.items new.values g (callee_frame g keys args frame) running h.shows.frame_shown;
-        running = running;
+        names = running_names q.items new.values i (callee_frame i keys args frame) (running_like new.values g i 0 like running) h.shows.frame_shown;
+        running = running_like new.values g i 0 like running;
         depth = ap suc q.args_shown.depth ∙ one_more ∙ sym put.depth;
-        hosts = subst (λ k. ShowsHost k (with_objects w (handed_over keys frame g.clause w.objects))) (sym put.host) (let s = q.args_shown.hosts in record { input = s.input; answers = s.answers; taken = s.taken });
+        hosts = subst (λ k. ShowsHost k (with_objects w (handed_over keys frame i.clause w.objects))) (sym put.host) (let s = q.args_shown.hosts in record { input = s.input; answers = s.answers; taken = s.taken });
         fuel = q.args_shown.fuel ∙ sym put.fuel;
       });
     };
-    wrote = silent w (with_objects w (handed_over keys frame g.clause w.objects)) b refl;
+    wrote = silent w (with_objects w (handed_over keys frame i.clause w.objects)) b refl;
   }
     where
       one_more : suc old.depth ≡ old.depth + 1
@@ -116,12 +121,10 @@ module _ (rules : Rules) (old new : Run) (g : Func) (target : Option VarId) (key
       deeper : new.depth ≡ suc frame.depth
       deeper = put.depth ∙ sym one_more ∙ ap suc (sym q.args_shown.depth)
 
-      func_is : func_of waiting.func.now ≡ f
-      func_is = ap func_of waits.func ∙ q.func
-
       waiting_is : Waits q.items new.values waiting new.values.base (caller f frame)
       waiting_is = record {
-        is = rw (func_is, waits.target, waits.keys) refl;
+        func = subst (λ k. IsLike (func_of k) f) (sym waits.func) q.func;
+        is = rw (waits.target, waits.keys) refl;
         below = waits.below;
         stands = subst (λ k. Stands q.items new.values f k frame) (sym waits.base) h.stands;
       }
@@ -134,31 +137,33 @@ module _ (rules : Rules) (old new : Run) (g : Func) (target : Option VarId) (key
           (subst (λ n. ShowsTasks q.items new.values old.values.base n (tasks_left old) ts) (sym (let d = put.depth in omega (arith, d)))
           (tasks_kept q.items q.items old.values new.values old.values.base old.depth (tasks_left old) ts (record { keep = λ k n made. made; width = width; same = λ j l. same j (low j l) }) q.tasks))
 
-  pub enters_body : (b : Outside) → Keeps old new → old.depth < rules.depth → Enters (func_of old.func.now) g keys old.values new.values → DoesIn (entering_body (option_map (λ v. v.0) target) keys g) g keys rules old new b b None
+  pub enters_body : (b : Outside) → Keeps old new → old.depth < rules.depth → ((f i : Func) → IsLike (func_of old.func.now) f → IsLike g i → Enters f i keys old.values new.values)
+      → DoesIn (entering_body (option_map (λ v. v.0) target) keys g) g keys rules old new b b None
   unfolding enter_body when_found
   enters_body b keeps room enters = record {
     keeps = keeps;
     comes = λ f ts args frame w q known.
         let e : nat_lt frame.depth rules.depth ≡ true = shallow frame.depth rules.depth (let d = q.args_shown.depth in omega (arith, d, room)) in
         let p = program_of rules.program.now in
-        subst (λ t. Came w b b None new (if t then when_found (passed_objects p g keys frame w.objects g.clause) f ts w (λ ns.
-        at g (m.list g.body ∷ m.back (caller f frame) ∷ ts) (goes (callee_frame g keys args frame) (with_objects w (handed_over keys frame g.clause w.objects)))) else at f ts (ends depth_end w))) (sym e)
-        (by f ts args frame w q (passed_objects p g keys frame w.objects g.clause) refl (passed_fault p g keys frame w.objects g.clause));
+        let i = called_instance p g keys frame w.objects in
+        subst (λ t. Came w b b None new (if t then when_found (passed_objects p i keys frame w.objects i.clause) f ts w (λ ns.
+        at i (m.list i.body ∷ m.back (caller f frame) ∷ ts) (goes (callee_frame i keys args frame) (with_objects w (handed_over keys frame i.clause w.objects)))) else at f ts (ends depth_end w))) (sym e)
+        (by i (instance_like p g (option_map (λ b. state_under keys frame w.objects b.key) (bound_in g.clause))) f ts args frame w q (passed_objects p i keys frame w.objects i.clause) refl (passed_fault p i keys frame w.objects i.clause));
   }
     where
-      by : (f : Func) (ts : List m.Task) (args : List Value) (frame : Frame) (w : World) (q : ShowsCall old f ts g args frame w) (x : Found (List ℕ)) → passed_objects (program_of rules.program.now) g keys frame w.objects g.clause ≡ x → OrFault x
-          → Came w b b None new (when_found x f ts w (λ ns. at g (m.list g.body ∷ m.back (caller f frame) ∷ ts) (goes (callee_frame g keys args frame) (with_objects w (handed_over keys frame g.clause w.objects)))))
-      by f ts args frame w q (Ok ns) is fine = entered f ts args frame w b q
-          (subst (λ k. Enters k g keys old.values new.values) q.func enters old.heap (seen_call (program_of rules.program.now) old f ts g args frame w q) w args (record {
+      by : (i : Func) → IsLike g i → (f : Func) (ts : List m.Task) (args : List Value) (frame : Frame) (w : World) (q : ShowsCall old f ts g args frame w) (x : Found (List ℕ)) → passed_objects (program_of rules.program.now) i keys frame w.objects i.clause ≡ x → OrFault x
+          → Came w b b None new (when_found x f ts w (λ ns. at i (m.list i.body ∷ m.back (caller f frame) ∷ ts) (goes (callee_frame i keys args frame) (with_objects w (handed_over keys frame i.clause w.objects)))))
+      by i like f ts args frame w q (Ok ns) is fine = entered i like f ts args frame w b q
+          (enters f i q.func like old.heap (seen_call (program_of rules.program.now) old f ts g args frame w q) w args (record {
             caller = refl;
             objects = refl;
             names = q.args_shown.names;
-            count = q.args_shown.count;
+            count = moved (λ k. length args ≡ k.params) g i like q.args_shown.count;
             values_at = q.args_shown.values_at;
             numbers = ns;
             passed = is;
           }))
-      by f ts args frame w q (Err o) is fine = wrong_came w b b None new (at f ts (ends o w)) o w fine
+      by i like f ts args frame w q (Err o) is fine = wrong_came w b b None new (at f ts (ends o w)) o w fine
 
 -- ---- room
 

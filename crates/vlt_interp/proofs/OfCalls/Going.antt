@@ -2,12 +2,10 @@
 use Rattle.std.proofs.Common.{◌≡◌, None, inl, inr, ◌<◌, ◌-◌, ◌==◌, ℕ, true, false, if◌then◌else◌, List, Option, Some, refl, sym, ap, ◌∙◌, subst, arith}
 use Rattle.std.proofs.lemmas.Bool.Decides.{nat_tests}
 use Rattle.vlt_core.specs.Core.{Func, Program}
-use Rattle.std.specs.Option.{option_map}
-use Rattle.vlt_core.specs.Instances.{bound_in, instance}
 use Rattle.vlt_core.specs.View.{program_of}
 use Rattle.vlt_heap.specs.Shown.{heap_of}
-use Rattle.vlt_meaning.specs.World.{Value, Object, World, Frame, fuel_end}
-use Rattle.vlt_meaning.specs.Calls.{state_under, called_instance}
+use Rattle.vlt_meaning.specs.World.{Value, World, Frame, fuel_end}
+use Rattle.vlt_meaning.specs.Calls.{called_instance}
 use Rattle.vlt_meaning.specs.Step.{ends}
 use Rattle.vlt_meaning.specs.Run.{Setup}
 use Rattle.vlt_meaning_laws.specs.Machine.Machine as m
@@ -88,10 +86,6 @@ module _ (rules : Rules) (old : Run) (g : Func) (target : Option ℕ) (keys : Li
   abbrev by_kind : Setup → Func → List m.Task → List Value → Frame → World → Conf
   by_kind s f ts args frame w = enter_by g.external s f target keys (called_instance s.program g keys frame w.objects) args ts frame w
 
-  -- a function without a bound entry is its own instance
-  itself : bound_in g.clause ≡ None → (p : Program) (frame : Frame) (os : List Object) → called_instance p g keys frame os ≡ g
-  itself none p frame os = ap (λ q. instance p g (option_map (λ b. state_under keys frame os b.key) q)) none
-
   still_ready : (p : Program) (depth : ℕ) → IsReadyIn p depth g target keys old → IsReadyIn p depth g target keys spent
   still_ready p depth k = record {
     room = record { wide = k.room.wide; heap = k.room.heap; cells = k.room.cells; fields = k.room.fields; values = k.room.values; operands = k.room.operands; tasks = k.room.tasks; line = k.room.line };
@@ -134,18 +128,13 @@ module _ (rules : Rules) (old : Run) (g : Func) (target : Option ℕ) (keys : Li
           (subst (λ x. Came (less w) before after result new x) (sym (is here f ts args frame (less w))) (k.comes f ts args frame (less w) (less_shown old spent refl f ts g args frame w q) known));
     }
 
-  pub goes_out : bound_in g.clause ≡ None → g.external ≡ true → (s : Setup) (f : Func) (ts : List m.Task) (args : List Value) (frame : Frame) (w : World) → by_kind s f ts args frame w ≡ calling_out target keys g s f ts args frame w
+  pub goes_out : g.external ≡ true → (s : Setup) (f : Func) (ts : List m.Task) (args : List Value) (frame : Frame) (w : World) → by_kind s f ts args frame w ≡ calling_out target keys g s f ts args frame w
   unfolding enter_by
-  goes_out none e s f ts args frame w =
-      ap (λ h. enter_by g.external s f target keys h args ts frame w) (itself none s.program frame w.objects) ∙ ap (λ b. enter_by b s f target keys g args ts frame w) e
+  goes_out e s f ts args frame w = ap (λ b. enter_by b s f target keys (called_instance s.program g keys frame w.objects) args ts frame w) e
 
-  pub goes_in : bound_in g.clause ≡ None → g.external ≡ false → (s : Setup) (f : Func) (ts : List m.Task) (args : List Value) (frame : Frame) (w : World) → by_kind s f ts args frame w ≡ entering_body target keys g s f ts args frame w
+  pub goes_in : g.external ≡ false → (s : Setup) (f : Func) (ts : List m.Task) (args : List Value) (frame : Frame) (w : World) → by_kind s f ts args frame w ≡ entering_body target keys g s f ts args frame w
   unfolding enter_by
-  goes_in none e s f ts args frame w =
-      ap (λ h. enter_by g.external s f target keys h args ts frame w) (itself none s.program frame w.objects) ∙ ap (λ b. enter_by b s f target keys g args ts frame w) e
-
-  pub plain_callee : CanGoIn (going_in target keys g) g target keys rules old → bound_in g.clause ≡ None
-  plain_callee can = can.ready.own.plain can.ready.callee.position g can.ready.callee.at
+  goes_in e s f ts args frame w = ap (λ b. enter_by b s f target keys (called_instance s.program g keys frame w.objects) args ts frame w) e
 
   pub no_fuel : (b : Outside) → old.fuel ≡ 0 → CanGoIn (going_in target keys g) g target keys rules old → DoesIn (going_in target keys g) g keys rules old old b b (Some FuelEnd)
   no_fuel b none can = record {

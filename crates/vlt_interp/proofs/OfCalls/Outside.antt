@@ -9,13 +9,15 @@ use Rattle.vlt_core.specs.View.{func_of, program_of}
 use Rattle.vlt_heap.specs.Shown.{IsSound, IsSameSize, heap_of}
 use Rattle.vlt_meaning.specs.World.{Value, World, Frame}
 use Rattle.vlt_meaning.specs.Step.{Step, goes, jumps, leaves, ends}
+use Rattle.vlt_meaning.specs.Calls.{called_instance}
 use Rattle.vlt_meaning.specs.Externals.{call_external}
 use Rattle.vlt_meaning_laws.specs.Machine.Machine as m
 use Rattle.vlt_meaning_laws.specs.Machine.Machine.{at}
 use Rattle.vlt_meaning_laws.specs.Machine.Bounds.{IsAt}
 use Rattle.vlt_meaning_laws.proofs.OfMachine.Depths.{external_at}
 use Rattle.vlt_acts.specs.Values.Shown.{IsTable, Seen}
-use Rattle.vlt_acts.specs.Frames.Frames.{IsRunning}
+use Rattle.vlt_acts.specs.Frames.Frames.{IsLike, IsRunning}
+use Rattle.vlt_acts.proofs.OfFrames.Like.{moved}
 use Rattle.vlt_acts.proofs.OfFrames.Standing.{running_names}
 use Rattle.vlt_steps.specs.declared.stop.Stop.{Stop}
 use Rattle.vlt_acts.specs.Hosts.Hosts.{Went, Comes}
@@ -54,7 +56,7 @@ module _ (p : Program) (r : Run) (f : Func) (ts : List m.Task) (g : Func) (keys 
     hosts = q.args_shown.hosts;
     running = q.args_shown.running;
     names = q.args_shown.names;
-    own = λ i k at. subst (λ h. k < length h.keys) q.func (own i k at);
+    own = λ i k at. moved (λ h. k < length h.keys) (func_of r.func.now) f q.func (own i k at);
     args_at = record { count_is = q.args_shown.count; single = known.single; at = q.args_shown.values_at };
     known = known.keys_known;
   }
@@ -68,7 +70,7 @@ module _ (p : Program) (r : Run) (f : Func) (ts : List m.Task) (g : Func) (keys 
 
   pub call_target : (target : Option VarId) → IfSome (option_map (λ v. v.0) target) (IsVar (func_of r.func.now)) → IfSome target (λ v. v.0 < r.values.vars)
   call_target None own = tt
-  call_target (Some v) own = subst (λ n. v.0 < n) (sym q.args_shown.running.vars) (subst (λ h. v.0 < length h.vars) q.func own)
+  call_target (Some v) own = subst (λ n. v.0 < n) (sym q.args_shown.running.vars) (moved (λ h. v.0 < length h.vars) (func_of r.func.now) f q.func own)
 
 module _ (rules : Rules) (r : Run) (g : Func) (target : Option VarId) (keys : List ℕ) (external : g.external ≡ true) (can : CanGoIn (calling_out (option_map (λ v. v.0) target) keys g) g (option_map (λ v. v.0) target) keys rules r) where
   pub can_call_out : CanCallOut (program_of rules.program.now) g target keys r.heap r.values r.host
@@ -105,7 +107,7 @@ module _ (old new : Run) (f : Func) (ts : List m.Task) (g : Func) (args : List V
     shown = record {
       items = h.shows.items;
       holds = h.shows.holds;
-      func = ap (λ k. func_of k.now) beside.func ∙ q.func;
+      func = subst (λ k. IsLike (func_of k.now) f) (sym beside.func) q.func;
       shown = subst (λ k. ShowsTasks h.shows.items new.values new.values.base new.depth (reverse k.items) ts) (sym beside.tasks)
           (subst (λ n. ShowsTasks h.shows.items new.values new.values.base n (tasks_left old) ts) (sym beside.depth)
           (subst (λ b. ShowsTasks h.shows.items new.values b old.depth (tasks_left old) ts) (sym below.base)
@@ -145,8 +147,9 @@ module _ (rules : Rules) (old new : Run) (g : Func) (target : Option VarId) (key
     comes = λ f ts args frame w q known.
         let p = program_of rules.program.now in
         let t = option_map (λ v. v.0) target in
-        let a = call_external (heap_of old.heap) p f t keys g args frame w in
+        let i = called_instance p g keys frame w.objects in
+        let a = call_external (heap_of old.heap) p f t keys i args frame w in
         subst (λ z. CameTo w before after z new (at f ts a) a) (sym is)
-        (out_came old new f ts g args frame w before after q beside below r long a (external_at frame.depth (heap_of old.heap) p f t keys g args frame w refl)
+        (out_came old new f ts g args frame w before after q beside below r long a (external_at frame.depth (heap_of old.heap) p f t keys i args frame w refl)
         (calls (seen_call p old f ts g args frame w q) w args (is_call p old f ts g keys args frame w q can.ready.keys_own (known external))));
   }

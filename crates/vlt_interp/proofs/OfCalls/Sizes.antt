@@ -13,14 +13,15 @@ use Rattle.vlt_interp.specs.declared.tasks.task.Run.{Run}
 use Rattle.vlt_interp.specs.Tasks.Sizes.{case_parts, cases_in_ty, parts_of, IsWide, frame_slots, line_length}
 use Rattle.vlt_interp.specs.Tasks.Own.{IsOf, HasOwn}
 use Rattle.vlt_interp.specs.Tasks.Moves.{HasRoom}
+use Rattle.vlt_interp.proofs.Likeness.{of_all, own_func}
 use Rattle.vlt_interp.proofs.OfTasks.Sizes.{greatest_at}
 
 module _ (p : Program) (g : Func) (of : IsOf p g) where
   pub slots_at : (width : ℕ) → frame_end width 0 g ≤ frame_slots p width
-  slots_at width = greatest_at (frame_end width 0) p.fns of.position g of.at
+  slots_at width = of_all p (λ f. frame_end width 0 f ≤ frame_slots p width) (λ i f at. greatest_at (frame_end width 0) p.fns i f at) g of (λ h. h)
 
   pub line_at : line_length g ≤ greatest line_length p.fns
-  line_at = greatest_at line_length p.fns of.position g of.at
+  line_at = of_all p (λ f. line_length f ≤ greatest line_length p.fns) (λ i f at. greatest_at line_length p.fns i f at) g of (λ h. h)
 
   -- each case of what the function gives fits
   pub result_fits : (width : ℕ) → IsWide p width → FitsResult p g width
@@ -29,7 +30,8 @@ module _ (p : Program) (g : Func) (of : IsOf p g) where
       within : (t : Ty) → g.result ≡ Some t → parts_of p t ≤ width
       within t at =
           let a = greatest_at (parts_of p) (t ∷ []) 0 t refl in
-          let b = greatest_at (λ f. greatest (parts_of p) (option_to_list f.result)) p.fns of.position g of.at in
+          let most = λ (f : Func). greatest (parts_of p) (option_to_list f.result) in
+          let b : most g ≤ greatest most p.fns = of_all p (λ f. most f ≤ greatest most p.fns) (λ i f at. greatest_at most p.fns i f at) g of (λ h. h) in
           let c = subst (λ o. greatest (parts_of p) (option_to_list o) ≤ greatest (λ f. greatest (parts_of p) (option_to_list f.result)) p.fns) at b in
           let d = wide.results in
           omega (arith, a, c, d)
@@ -54,7 +56,7 @@ module _ (p : Program) (g : Func) (of : IsOf p g) where
   module _ (depth : ℕ) (r : Run) (room : HasRoom p depth r) (own : HasOwn p) where
     pub args_slots : g.params * r.values.width ≤ frame_slots p r.values.width
     args_slots =
-        let a = mul-le-mul_right r.values.width (own.all of.position g of.at).params in
+        let a = mul-le-mul_right r.values.width (own_func p own g of).params in
         let b = slots_at r.values.width in
         omega (arith, a, b)
 

@@ -12,7 +12,8 @@ use Rattle.vlt_meaning_laws.specs.Machine.Machine as m
 use Rattle.vlt_meaning_laws.specs.Machine.Machine.{at}
 use Rattle.vlt_acts.specs.declared.values.values.Values.{Values}
 use Rattle.vlt_acts.specs.Values.Shown.{IsTable, IsGrown}
-use Rattle.vlt_acts.specs.Frames.Left.{HasLeft, IsLeft, Gives}
+use Rattle.vlt_acts.specs.Frames.Frames.{IsLike}
+use Rattle.vlt_acts.specs.Frames.Left.{IsLeft, Gives}
 use Rattle.vlt_acts.specs.Hosts.Hosts.{ShowsHost}
 use Rattle.vlt_steps.specs.Writing.{Outside}
 use Rattle.vlt_acts.proofs.OfHosts.Writing.{silent}
@@ -83,7 +84,7 @@ module _ (o : Option Operand) (old : Run) (values : Values) (can : MayDo (return
     fuel_still v i = i.same.fuel ∙ (going q.items old f old.at frame w q.step).runs.fuel
 
     -- the function is left
-    left_came : (a : Step) → IsInside w a → IsLeft q.items values (func_of old.func.now) (Ok tt) a → CameTo w b b None gone (at f ts a) a
+    left_came : (a : Step) → IsInside w a → IsLeft q.items values f (Ok tt) a → CameTo w b b None gone (at f ts a) a
     left_came (leaves x kept v) i h = record {
       shown = record {
         items = q.items;
@@ -91,7 +92,7 @@ module _ (o : Option Operand) (old : Run) (values : Values) (can : MayDo (return
         func = q.func;
         shown = tasks_still;
         step = record {
-          left = subst (λ g. HasLeft q.items values g x kept v) q.func h.1;
+          left = h.1;
           table = still_table (running_table old f (going q.items old f old.at frame w q.step).runs.running);
           hosts = hosts_still v (record { same = i.same });
           fuel = fuel_still v (record { same = i.same });
@@ -115,7 +116,7 @@ module _ (o : Option Operand) (old : Run) (values : Values) (can : MayDo (return
     left_came (ends (fault s n) v) i h = h
 
     -- the operand trapped
-    trap_came : (t : TrapKind) (a : Step) → IsInside w a → IsLeft q.items values (func_of old.func.now) (Err t) a → CameTo w b b (Some (Trap t)) given (at f ts a) a
+    trap_came : (t : TrapKind) (a : Step) → IsInside w a → IsLeft q.items values f (Err t) a → CameTo w b b (Some (Trap t)) given (at f ts a) a
     trap_came t (leaves x kept v) i h = absurd (no_value t h.0)
       where
         no_value : (t : TrapKind) → ◌≡◌ {A = Result (Unit {0}) TrapKind} (Err t) (Ok tt) → ⊥
@@ -135,20 +136,23 @@ module _ (o : Option Operand) (old : Run) (values : Values) (can : MayDo (return
     trap_came t (ends (bad_answer n) v) i h = inl h
     trap_came t (ends (fault s n) v) i h = inl h
 
-  here : (s : Setup) (result : Result (Unit {0}) TrapKind) (f : Func) (ts : List m.Task) (frame : Frame) (w : World) (q : ShowsConf old (at f ts (goes frame w))) → Gives (func_of old.func.now) o old.heap old.values values result
-      → IsLeft q.items values (func_of old.func.now) result (with_returned s.program f o frame w (λ a frame w. left_function s f o a frame w))
+  -- what is given, in each instance of the function
+  abbrev pub GivesAll : Result (Unit {0}) TrapKind → Type 0
+  GivesAll result = (g : Func) → IsLike (func_of old.func.now) g → Gives g o old.heap old.values values result
+
+  here : (s : Setup) (result : Result (Unit {0}) TrapKind) (f : Func) (ts : List m.Task) (frame : Frame) (w : World) (q : ShowsConf old (at f ts (goes frame w))) → GivesAll result
+      → IsLeft q.items values f result (with_returned s.program f o frame w (λ a frame w. left_function s f o a frame w))
   here s result f ts frame w q gives =
       let runs = (going q.items old f old.at frame w q.step).runs in
-      subst (λ g. IsLeft q.items values (func_of old.func.now) result (with_returned s.program g o frame w (λ a frame w. left_function s g o a frame w))) q.func
-      (gives (record { program = s.program; func = func_of old.func.now; frame = frame; objects = w.objects; items = q.items; holds = q.holds; shown = runs.objects; fits = runs.frame_shown }) w s refl refl refl)
+      gives f q.func (record { program = s.program; func = f; frame = frame; objects = w.objects; items = q.items; holds = q.holds; shown = runs.objects; fits = runs.frame_shown }) w s refl refl refl
 
-  pub left_does : Gives (func_of old.func.now) o old.heap old.values values (Ok tt) → (s : Setup) (b : Outside) → Does (doing (return o)) s old gone b b None
+  pub left_does : GivesAll (Ok tt) → (s : Setup) (b : Outside) → Does (doing (return o)) s old gone b b None
   left_does gives s b = record {
     keeps = gone_keeps;
     comes = λ f ts frame w q. left_came f ts frame w b q (with_returned s.program f o frame w (λ a frame w. left_function s f o a frame w)) (returned_inside s f o frame w) (here s (Ok tt) f ts frame w q gives);
   }
 
-  pub trap_does : (t : TrapKind) → Gives (func_of old.func.now) o old.heap old.values values (Err t) → (s : Setup) (b : Outside) → Does (doing (return o)) s old given b b (Some (Trap t))
+  pub trap_does : (t : TrapKind) → GivesAll (Err t) → (s : Setup) (b : Outside) → Does (doing (return o)) s old given b b (Some (Trap t))
   trap_does t gives s b = record {
     keeps = given_keeps;
     comes = λ f ts frame w q. trap_came f ts frame w b q t (with_returned s.program f o frame w (λ a frame w. left_function s f o a frame w)) (returned_inside s f o frame w) (here s (Err t) f ts frame w q gives);

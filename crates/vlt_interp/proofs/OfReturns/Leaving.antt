@@ -1,5 +1,5 @@
 -- The caller of a function that was left goes on.
-use Rattle.std.proofs.Common.{◌≡◌, ◌<◌, ◌≤◌, ◌-◌, ℕ, List, [], ◌∷◌, Option, None, refl, sym, ap, ◌∙◌, subst, arith, slice_get}
+use Rattle.std.proofs.Common.{◌≡◌, ◌<◌, ◌≤◌, ◌-◌, ℕ, List, [], ◌∷◌, Option, None, refl, sym, ◌∙◌, subst, arith, slice_get}
 use Rattle.std.specs.Vec.{vec_capacity}
 use Rattle.vlt_core.specs.Core.{Func}
 use Rattle.vlt_core.specs.View.{func_of}
@@ -16,9 +16,10 @@ use Rattle.vlt_meaning_laws.proofs.OfMachine.Depths.{back_at}
 use Rattle.vlt_acts.specs.declared.values.values.Values.{Values}
 use Rattle.vlt_acts.specs.Values.Shown.{IsTable}
 use Rattle.vlt_acts.specs.declared.frames.waiting.Waiting.{Waiting}
-use Rattle.vlt_acts.specs.Frames.Frames.{IsRunning, IsBelow}
-use Rattle.vlt_acts.specs.Frames.Left.{HasLeft, IsBack, Returns}
+use Rattle.vlt_acts.specs.Frames.Frames.{IsLike, IsRunning, IsBelow}
+use Rattle.vlt_acts.specs.Frames.Left.{IsBack, Returns}
 use Rattle.vlt_steps.specs.Writing.{Outside}
+use Rattle.vlt_acts.proofs.OfFrames.Like.{running_like}
 use Rattle.vlt_acts.proofs.OfHosts.Writing.{silent}
 use Rattle.vlt_interp.specs.declared.tasks.task.At.{At}
 use Rattle.vlt_interp.specs.declared.tasks.task.At.TheVariants.{Goes, Jumps, Leaves}
@@ -71,13 +72,13 @@ some_depth r w h = by_back r w (tasks_left r) (λ c. 1 ≤ r.depth) (λ f k us a
 
 -- the caller runs again
 module _ (old : Run) (w : Waiting) (values : Values) (sound : IsSound old.heap) (base : values.base ≡ w.base) (width : values.width ≡ old.values.width) (room : vec_capacity values.slots ≡ vec_capacity old.values.slots)
-    (running : IsRunning values (func_of w.func.now) 0) (same : (k : ℕ) → k < w.base → slice_get values.slots.items k ≡ slice_get old.values.slots.items k) (returns : Returns (func_of old.func.now) w old.values values) where
+    (running : IsRunning values (func_of w.func.now) 0) (same : (k : ℕ) → k < w.base → slice_get values.slots.items k ≡ slice_get old.values.slots.items k) (returns : (g : Func) → IsLike (func_of old.func.now) g → Returns g w old.values values) where
   abbrev back_run : Run
   back_run = record old { values = values; func = w.func; depth = old.depth - 1; at = Goes }
 
   module _ (s : Setup) (b : Outside) (f : Func) (k : Caller) (us : List m.Task) where
-    caller_is : (a : Step) (q : ShowsWith (Back w ∷ tasks_left old) old (at f (m.back k ∷ us) a)) → func_of w.func.now ≡ k.func
-    caller_is a q = ap (λ c. c.func) q.shown.0.waits.is
+    caller_is : (a : Step) (q : ShowsWith (Back w ∷ tasks_left old) old (at f (m.back k ∷ us) a)) → IsLike (func_of w.func.now) k.func
+    caller_is a q = q.shown.0.waits.func
 
     back_came : (x : Option Value) (kept : List ℕ) (v : World) (q : ShowsWith (Back w ∷ tasks_left old) old (at f (m.back k ∷ us) (leaves x kept v))) → WasLeft q.items old f x kept v → (a : Step) → IsAt k.frame.depth a → IsInside v a → IsBack q.items values k.func a → CameTo v b b None back_run (at k.func us a) a
     back_came x kept v q l (goes frame u) d i h =
@@ -93,7 +94,7 @@ module _ (old : Run) (w : Waiting) (values : Values) (sound : IsSound old.heap) 
               objects = h.shows.objects_shown;
               frame_shown = h.shows.frame_shown;
               names = h.names;
-              running = subst (λ g. IsRunning values g 0) (caller_is (leaves x kept v) q) running;
+              running = running_like values (func_of w.func.now) k.func 0 (caller_is (leaves x kept v) q) running;
               depth = d ∙ deep;
               hosts = record { input = i.same.input ∙ l.hosts.input; answers = i.same.answers ∙ l.hosts.answers; taken = i.same.taken ∙ l.hosts.taken };
               fuel = i.same.fuel ∙ l.fuel;
@@ -122,8 +123,7 @@ module _ (old : Run) (w : Waiting) (values : Values) (sound : IsSound old.heap) 
     back_step (ends o v) q = absurd (not_ended q.items old.at o v q.step)
     back_step (leaves x kept v) q =
         let l = was_left q.items old.at x kept v q.step in
-        let there = subst (λ g. IsBack q.items values k.func (back_in k.func k.target k.keys g k.frame (leaves x kept v))) q.func
-        (returns q.items k x kept v (subst (λ g. HasLeft q.items old.values g x kept v) (sym q.func) l.left) q.shown.0.waits) in
+        let there = returns f q.func q.items k x kept v l.left q.shown.0.waits in
         back_came x kept v q l (back_in k.func k.target k.keys f k.frame (leaves x kept v))
         (back_at k.frame.depth k.func k.target k.keys f k.frame (leaves x kept v) refl) (back_inside k.func k.target k.keys f k.frame x kept v) there
 

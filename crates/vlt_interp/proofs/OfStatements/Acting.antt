@@ -31,7 +31,8 @@ use Rattle.vlt_interp.specs.Tasks.Halting.{stop_of_trap, full, stop_of_result}
 use Rattle.vlt_interp.specs.Tasks.Shown.{setup_of, tasks_left, Runs, ShowsConf}
 use Rattle.vlt_interp.specs.Tasks.Moves.{CameTo, doing, Keeps}
 use Rattle.vlt_interp.specs.Tasks.Moves as moves
-use Rattle.vlt_interp.proofs.OfTasks.Staying.{IsSameRun, going, seen_in}
+use Rattle.vlt_interp.proofs.Likeness.{like_simple}
+use Rattle.vlt_interp.proofs.OfTasks.Staying.{IsSameRun, going, seen_in, seen_as}
 use Rattle.vlt_interp.proofs.OfTasks.Coming.{went, wrong_came, spoken_came}
 use Rattle.vlt_interp.proofs.OfTasks.Inside.{IsInside}
 use Rattle.vlt_interp.proofs.OfStatements.Outside.{IsSilent, simple_inside}
@@ -131,7 +132,8 @@ module _ (rules : Rules) (old new : Run) (x : Form) (s : Simple) (is : x ≡ sim
         done_came old new f ts frame w b q h host r a
         (simple_at frame.depth (setup_of rules (heap_of old.heap)) f s frame w refl)
         (simple_inside (setup_of rules (heap_of old.heap)) f s frame w quiet)
-        (does (seen_in (program_of rules.program.now) old (tasks_left old) f ts frame w q) w (heap_of old.heap) rules.depth refl (sym q.func) refl);
+        (subst (acts.Does q.items new.heap new.values r) (like_simple (setup_of rules (heap_of old.heap)) (func_of old.func.now) f s frame w q.func)
+        (does (seen_as (program_of rules.program.now) old (tasks_left old) f ts frame w q (func_of old.func.now)) w (heap_of old.heap) rules.depth refl refl refl));
   }))
 
   -- one that makes an object
@@ -144,7 +146,8 @@ module _ (rules : Rules) (old new : Run) (x : Form) (s : Simple) (is : x ≡ sim
         made_came old new f ts frame w b q h host r a
         (simple_at frame.depth (setup_of rules (heap_of old.heap)) f s frame w refl)
         (simple_inside (setup_of rules (heap_of old.heap)) f s frame w quiet)
-        (does (seen_in (program_of rules.program.now) old (tasks_left old) f ts frame w q) w rules.depth (sym q.func) refl);
+        (subst (Comes q.items new.heap new.values r) (like_simple (setup_of rules (heap_of old.heap)) (func_of old.func.now) f s frame w q.func)
+        (does (seen_as (program_of rules.program.now) old (tasks_left old) f ts frame w q (func_of old.func.now)) w rules.depth refl refl));
   }))
 
   -- one that speaks with the host, and leaves the heap

@@ -31,7 +31,9 @@ use Rattle.vlt_interp.specs.Tasks.Own.{IsVar, AreVars, IsOwnFunc, IsOf}
 use Rattle.vlt_interp.specs.Tasks.Shown.{tasks_left, Runs}
 use Rattle.vlt_interp.specs.Tasks.Moves.{CanDo}
 use Rattle.vlt_interp.proofs.OfTasks.Sizes.{greatest_at}
-use Rattle.vlt_interp.proofs.OfTasks.Staying.{going, seen_in, running_table}
+use Rattle.vlt_acts.proofs.OfFrames.Like.{like_back, moved, running_like}
+use Rattle.vlt_interp.proofs.Likeness.{of_all, own_func, like_simple}
+use Rattle.vlt_interp.proofs.OfTasks.Staying.{going, seen_in, seen_as, running_table}
 
 -- ---- the statement
 
@@ -48,7 +50,7 @@ module _ (form : Form) (rules : Rules) (r : Run) (can : CanDo form rules r) wher
   can_runs = (going can.right.shown.items r can.right.func r.at can.right.frame can.right.world can.right.shown.step).runs
 
   pub can_running : IsRunning r.values (func_of r.func.now) 0
-  can_running = subst (λ f. IsRunning r.values f 0) (sym can.right.shown.func) can_runs.running
+  can_running = running_like r.values can.right.func (func_of r.func.now) 0 (like_back (func_of r.func.now) can.right.func can.right.shown.func) can_runs.running
 
   pub can_table : IsTable r.values
   can_table = running_table r (func_of r.func.now) can_running
@@ -57,7 +59,7 @@ module _ (form : Form) (rules : Rules) (r : Run) (can : CanDo form rules r) wher
   can_var v l = let e = can_running.vars in omega (arith, l, e)
 
   can_own : IsOwnFunc (program_of rules.program.now) (func_of r.func.now)
-  can_own = can.ready.own.all can.ready.func.position (func_of r.func.now) can.ready.func.at
+  can_own = own_func (program_of rules.program.now) can.ready.own (func_of r.func.now) can.ready.func
 
   pub can_key : (x : ℕ) → HasKeySlot (func_of r.func.now) x r.values
   can_key x = by (reference_of (func_of r.func.now) x) refl
@@ -82,13 +84,20 @@ can_vars form rules r can vs own = vars_all (func_of r.func.now) r.values.vars v
 
 module _ (s : Simple) (rules : Rules) (r : Run) (can : CanDo (simple s) rules r) where
   abbrev pub right_act : IsRight r.heap r.values s
-  right_act = record { seen = can_seen (simple s) rules r can; world = can.right.world; objects = refl; heap_budget = heap_of r.heap; depth = rules.depth; right = can.right.right }
+  right_act = record {
+    seen = seen_as (program_of rules.program.now) r (tasks_left r) can.right.func can.right.tasks can.right.frame can.right.world can.right.shown (func_of r.func.now);
+    world = can.right.world;
+    objects = refl;
+    heap_budget = heap_of r.heap;
+    depth = rules.depth;
+    right = subst IsSafe (sym (like_simple (setup (program_of rules.program.now) (heap_of r.heap) rules.depth) (func_of r.func.now) can.right.func s can.right.frame can.right.world can.right.shown.func)) can.right.right;
+  }
 
   pub right_here : IsRightHere (func_of r.func.now) r.heap r.values s
-  right_here = record { right = right_act; budget = refl; func = sym can.right.shown.func }
+  right_here = record { right = right_act; budget = refl; func = refl }
 
   pub right_in : IsRightIn (program_of rules.program.now) (func_of r.func.now) r.heap r.values s
-  right_in = record { right = right_act; program = refl; func = sym can.right.shown.func }
+  right_in = record { right = right_act; program = refl; func = refl }
 
 -- ---- rooms
 
@@ -172,7 +181,8 @@ build_fits p f v c n width own wide h = rw h.is (by (slice_get f.vars v) refl h.
     by None e is = absurd (none-some h.kind is)
     by (Some d) e is =
         let a = greatest_at (λ d. parts_of p d.ty) f.vars v d e in
-        let b = greatest_at (λ g. greatest (λ d. parts_of p d.ty) g.vars) p.fns own.position f own.at in
+        let most = λ (g : Func). greatest (λ d. parts_of p d.ty) g.vars in
+        let b : most f ≤ greatest most p.fns = of_all p (λ g. most g ≤ greatest most p.fns) (λ i g at. greatest_at most p.fns i g at) f own (λ h. h) in
         let m = wide.vars in
         case_fits p d.ty h.kind c n width is (omega (arith, a, b, m)) h.count
 
@@ -198,8 +208,10 @@ module _ (x : ℕ) (args : List Operand) (rules : Rules) (r : Run) (can : CanDo 
 
 module _ (v c : ℕ) (args : List Operand) (rules : Rules) (r : Run) (can : CanDo (simple (build v c args)) rules r) where
   build_has : HasPayload (program_of rules.program.now) (func_of r.func.now) v c (length args)
-  build_has = subst (λ f. HasPayload (program_of rules.program.now) f v c (length args)) (sym can.right.shown.func)
-      (build_payload (program_of rules.program.now) (heap_of r.heap) rules.depth can.right.func v c args can.right.frame can.right.world can.right.right)
+  build_has =
+      let h = build_payload (program_of rules.program.now) (heap_of r.heap) rules.depth can.right.func v c args can.right.frame can.right.world can.right.right in
+      moved (λ f. HasPayload (program_of rules.program.now) f v c (length args)) can.right.func (func_of r.func.now) (like_back (func_of r.func.now) can.right.func can.right.shown.func)
+      (record { kind = h.kind; is = h.is; count = h.count })
 
   pub build_narrow : (n : ℕ) → length args ≡ n → FitsCase (program_of rules.program.now) (func_of r.func.now) v c n r.values.width
   build_narrow n e = subst (λ k. FitsCase (program_of rules.program.now) (func_of r.func.now) v c k r.values.width) e

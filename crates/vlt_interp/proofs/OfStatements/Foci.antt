@@ -32,7 +32,9 @@ use Rattle.vlt_interp.specs.declared.tasks.task.Task.{Task}
 use Rattle.vlt_interp.specs.declared.tasks.task.Task.TheVariants.{Unfocus}
 use Rattle.vlt_interp.specs.Tasks.Shown.{IsFocused, tasks_left, ShowsTasks, Runs, ShowsStep, ShowsWith, ShowsConf}
 use Rattle.vlt_interp.specs.Tasks.Moves.{world_in, CameTo, CanDo, IsRight}
-use Rattle.vlt_interp.proofs.OfTasks.Staying.{IsGoing, going, seen_in, IsSameRun, stays_left}
+use Rattle.vlt_acts.specs.Frames.Frames.{IsLike}
+use Rattle.vlt_interp.proofs.Likeness.{like_reference, like_guarded}
+use Rattle.vlt_interp.proofs.OfTasks.Staying.{IsGoing, going, seen_in, seen_as, IsSameRun, stays_left}
 use Rattle.vlt_interp.proofs.OfTasks.Pushing.{WithTasks, put_shown}
 use Rattle.vlt_interp.proofs.OfTasks.Coming.{Came, wrong_came, missing_came, found_came, came_since}
 use Rattle.vlt_interp.proofs.OfStatements.Asking.{can_seen}
@@ -89,10 +91,7 @@ module _ (s : Setup) (y z : ℕ) (body : Block) (old mid next new : Run) (focus_
     g = going q.items old f old.at frame w q.step
 
     abbrev seen : Seen old.heap old.values
-    seen = seen_in s.program old (tasks_left old) f ts frame w q
-
-    func_is : f ≡ func_of old.func.now
-    func_is = sym q.func
+    seen = seen_as s.program old (tasks_left old) f ts frame w q (func_of old.func.now)
 
     focused_came : (k : FindsFocus old.heap old.values seen w y z) → IsFocus old.heap old.values seen w y z k mid.heap mid.values focus_is
         → Came w b b None new (enter_block f body (m.unfocus k.guard k.key k.adopter.number k.object.number ∷ ts) (focused_frame k.key.key k.object.number z frame) (focused_world frame.depth k.guard.key k.key.key k.adopter.number k.object.number w))
@@ -108,6 +107,9 @@ module _ (s : Setup) (y z : ℕ) (body : Block) (old mid next new : Run) (focus_
         let more = put_shown mid next put (Unfocus focus_is) f ts (m.unfocus k.guard k.key k.adopter.number k.object.number ∷ ts) (goes after u) items shown (record { object = h.object_made; adopter = h.adopter_made }, shown.shown) in
         came_since w u b b new refl None _ _ (enters f (m.unfocus k.guard k.key k.adopter.number k.object.number ∷ ts) after u more)
 
+    like : IsLike (func_of old.func.now) f
+    like = q.func
+
     pub focus_came : Came w b b None new (act s f (focus y z body) ts frame w)
     focus_came = by_guard (guarded_of f y) refl
       where
@@ -116,8 +118,8 @@ module _ (s : Setup) (y z : ℕ) (body : Block) (old mid next new : Run) (focus_
 
         by_object : (g q : Reference) (a : Named) → guarded_of f y ≡ Some g → reference_of f z ≡ Some q → held_object g.key frame w.objects ≡ Ok a → (x : Found Named) → guarded_object g y frame w.objects ≡ x → OrFault x → Came w b b None new (when_found x f ts w (end g q a))
         by_object g q a eg eq ea (Ok n) e bad =
-            let k : FindsFocus old.heap old.values seen w y z = record { guard = g; is_guard = eg; key = q; is_key = eq; adopter = a; is_adopter = ea; object = n; is_object = e } in
-            found_came w b new f ts None (Ok n) n _ refl (focused_came k (does seen w func_is refl k))
+            let k : FindsFocus old.heap old.values seen w y z = record { guard = g; is_guard = like_guarded (func_of old.func.now) f y like ∙ eg; key = q; is_key = like_reference (func_of old.func.now) f z like ∙ eq; adopter = a; is_adopter = ea; object = n; is_object = e } in
+            found_came w b new f ts None (Ok n) n _ refl (focused_came k (does seen w refl refl k))
         by_object g q a eg eq ea (Err o) e bad = missing_came w b new f ts None (Err o) _ (record { outcome = o; is = refl; fault = bad })
 
         by_adopter : (g q : Reference) → guarded_of f y ≡ Some g → reference_of f z ≡ Some q → (x : Found Named) → held_object g.key frame w.objects ≡ x → OrFault x → Came w b b None new (when_found x f ts w (λ a. when_found (guarded_object g y frame w.objects) f ts w (end g q a)))

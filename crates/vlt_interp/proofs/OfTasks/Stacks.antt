@@ -25,10 +25,11 @@ pub record IsBelowSame (xs ys : Items) (old new : Values) (base : ℕ) : Type 0 
 
 module _ (xs ys : Items) (old new : Values) where
   caller_ends : (w : _) (k : m.Caller) (base : ℕ) → Waits xs old w base k → frame_end old.width w.base k.func ≡ base
-  caller_ends w k base q = subst (λ f. frame_end old.width w.base f ≡ base) (ap (λ c. c.func) q.is) q.below.ends
+  caller_ends w k base q = subst (λ f. frame_end old.width w.base f ≡ base) q.func.is q.below.ends
 
   waits_kept : (base : ℕ) (w : _) (k : m.Caller) → IsBelowSame xs ys old new base → Waits xs old w base k → Waits ys new w base k
   waits_kept base w k s q = record {
+    func = q.func;
     is = q.is;
     below = subst (λ n. IsBelow w n base) (sym s.width) q.below;
     stands = stands_kept xs ys new k.func w.base k.frame s.keep

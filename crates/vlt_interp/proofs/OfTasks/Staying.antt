@@ -10,7 +10,7 @@ use Rattle.vlt_meaning_laws.specs.Machine.Machine as m
 use Rattle.vlt_meaning_laws.specs.Machine.Machine.{at}
 use Rattle.vlt_acts.specs.Values.Shown.{IsTable, Seen}
 use Rattle.vlt_acts.specs.Acts.Acts.{Shows, IsSameFrame}
-use Rattle.vlt_acts.specs.Frames.Frames.{IsRunning}
+use Rattle.vlt_acts.specs.Frames.Frames.{IsLike, IsRunning}
 use Rattle.vlt_acts.proofs.OfFrames.Standing.{running_names}
 use Rattle.vlt_acts.specs.Hosts.Hosts.{ShowsHost}
 use Rattle.vlt_interp.specs.declared.tasks.task.At.{At}
@@ -41,6 +41,10 @@ abbrev pub seen_in : (p : Program) (r : Run) (ts : List Task) (f : Func) (us : L
 seen_in p r ts f us frame w q =
     let g = going q.items r f r.at frame w q.step in
     record { program = p; func = f; frame = frame; objects = w.objects; items = q.items; holds = q.holds; shown = g.runs.objects; fits = g.runs.frame_shown }
+
+-- the same with a function that is like the one that runs
+abbrev pub seen_as : (p : Program) (r : Run) (ts : List Task) (f : Func) (us : List m.Task) (frame : Frame) (w : World) → ShowsWith ts r (at f us (goes frame w)) → Func → Seen r.heap r.values
+seen_as p r ts f us frame w q g = record (seen_in p r ts f us frame w q) { func = g }
 
 pub running_table : (r : Run) (f : Func) → IsRunning r.values f 0 → IsTable r.values
 running_table r f h =
@@ -79,7 +83,7 @@ module _ (old new : Run) (ts : List Task) (f : Func) (us : List m.Task) where
       record {
         items = h.tables.items;
         holds = h.tables.holds;
-        func = ap (λ k. func_of k.now) s.func ∙ q.func;
+        func = subst (λ k. IsLike (func_of k.now) f) (sym s.func) q.func;
         shown = subst (λ n. ShowsTasks h.tables.items new.values new.values.base n ts us) (sym s.depth)
             (subst (λ b. ShowsTasks h.tables.items new.values b old.depth ts us) (sym s.frame.base)
             (tasks_kept q.items h.tables.items old.values new.values old.values.base old.depth ts us (record { keep = h.tables.kept; width = s.frame.width; same = s.frame.below }) q.shown));

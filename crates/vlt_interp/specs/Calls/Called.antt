@@ -16,7 +16,7 @@ use Rattle.vlt_heap.specs.Items.{Items}
 use Rattle.vlt_heap.specs.Shown.{Holds, heap_of}
 use Rattle.vlt_acts.specs.Values.Shown.{ShowObjects, ShowsFrame}
 use Rattle.vlt_acts.specs.Values.Pushed.{HaveValues}
-use Rattle.vlt_acts.specs.Frames.Frames.{frame_end, IsRunning, NamesOwn}
+use Rattle.vlt_acts.specs.Frames.Frames.{IsLike, frame_end, IsRunning, NamesOwn}
 use Rattle.vlt_acts.specs.Hosts.Hosts.{ShowsHost}
 use Rattle.vlt_steps.specs.Writing.{Outside}
 use Rattle.vlt_externals.specs.HostAnswers.Read.{AreSets}
@@ -61,21 +61,23 @@ pub record HasArgs (items : Items) (r : Run) (f g : Func) (args : List Value) (f
 pub record ShowsCall (r : Run) (f : Func) (ts : List m.Task) (g : Func) (args : List Value) (frame : Frame) (w : World) : Type 0 where
   pub items : Items
   pub holds : Holds r.heap items
-  pub func : func_of r.func.now ≡ f
+  pub func : IsLike (func_of r.func.now) f
   pub going : r.at ≡ Goes
   pub tasks : ShowsTasks items r.values r.values.base r.depth (tasks_left r) ts
   pub args_shown : HasArgs items r f g args frame w
 
--- ---- parts of a call, once its arguments have values
+-- ---- parts of a call, once its arguments have values. What is called is the instance that the frame and the objects choose.
 
 abbrev pub CallPart : Type 0
 CallPart = Setup → Func → List m.Task → List Value → Frame → World → Conf
 
 abbrev pub calling_out : (target : Option ℕ) → (keys : List ℕ) → Func → CallPart
-calling_out target keys g s f ts args frame w = at f ts (call_external s.heap s.program f target keys g args frame w)
+calling_out target keys g s f ts args frame w =
+    at f ts (call_external s.heap s.program f target keys (called_instance s.program g keys frame w.objects) args frame w)
 
 abbrev pub entering_body : (target : Option ℕ) → (keys : List ℕ) → Func → CallPart
-entering_body target keys g s f ts args frame w = enter_body s f target keys g args ts frame w
+entering_body target keys g s f ts args frame w =
+    enter_body s f target keys (called_instance s.program g keys frame w.objects) args ts frame w
 
 abbrev pub going_in : (target : Option ℕ) → (keys : List ℕ) → Func → CallPart
 going_in target keys g s f ts args frame w =

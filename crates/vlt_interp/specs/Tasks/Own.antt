@@ -1,9 +1,9 @@
 -- Statements that fill and name variables and keys of their own function alone, as those of programs that break no rule on names
 -- and types do.
 use Rattle.std.specs.Prelude.{◌≡◌, ◌<◌, ◌≤◌, ◌^◌, ℕ, List, [], ◌∷◌, length, Option, Some, slice_get, IfSome, None}
-use Rattle.vlt_core.specs.Instances.{HasNoBounds}
-use Rattle.vlt_core.specs.Core.{Simple, set, input, make, drop, own, unpack, build, swap, open_into, adopt, Form, simple, call, choose, loop, switch, focus, scope, return, jump, Block, block, Stmts, done, next, Arms, no_arms, arm, Func, Program}
+use Rattle.vlt_core.specs.Core.{Simple, set, input, make, drop, own, unpack, build, swap, open_into, adopt, Form, simple, call, choose, loop, switch, focus, scope, return, jump, Func, Block, block, Stmts, done, next, Arms, no_arms, arm, Program}
 use Rattle.vlt_core.specs.Lookups.{Reference, reference_of}
+use Rattle.vlt_acts.specs.Frames.Frames.{IsLike}
 
 abbrev pub IsVar : Func → (v : ℕ) → Type 0
 IsVar f v = v < length f.vars
@@ -29,34 +29,38 @@ IsOwnSimple f (open_into x vs) = AreVars f vs
 IsOwnSimple f (adopt y x r) = IsVar f y
 IsOwnSimple f s = Unit {0}
 
--- a call of the function g for the target v, with keys for those of g's head
-pub record IsOwnCall (p : Program) (f : Func) (g : ℕ) (v : Option ℕ) (ks : List ℕ) : Type 0 where
-  pub target : IfSome v (IsVar f)
-  pub keys : (i k : ℕ) → slice_get ks i ≡ Some k → IsKey f k
+-- a call of the function g for the target v, with keys for those of g's head, where there are so many variables and keys
+pub record NamesWithin (p : Program) (vars own_keys : ℕ) (g : ℕ) (v : Option ℕ) (ks : List ℕ) : Type 0 where
+  pub target : IfSome v (λ v. v < vars)
+  pub keys : (i k : ℕ) → slice_get ks i ≡ Some k → k < own_keys
   pub head : IfSome (slice_get p.fns g) (λ callee. length ks ≤ length callee.keys)
 
-abbrev mutual
-  pub IsOwn : Program → Func → Form → Type 0
-  IsOwn p f (simple s) = IsOwnSimple f s
-  IsOwn p f (call g target keys args) = IsOwnCall p f g target keys
-  IsOwn p f (choose e a b) = IsOwnBlock p f a × IsOwnBlock p f b
-  IsOwn p f (loop e b) = IsOwnBlock p f b
-  IsOwn p f (switch v arms end) = IsVar f v × AreOwnArms p f arms
-  IsOwn p f (focus y z b) = IsVar f z × IsOwnBlock p f b
-  IsOwn p f (scope b) = IsOwnBlock p f b
-  IsOwn p f (return value) = Unit {0}
-  IsOwn p f (jump continues) = Unit {0}
+abbrev pub IsOwnCall : (p : Program) (f : Func) (g : ℕ) (v : Option ℕ) (ks : List ℕ) → Type 0
+IsOwnCall p f g v ks = NamesWithin p (length f.vars) (length f.keys) g v ks
 
-  pub IsOwnBlock : Program → Func → Block → Type 0
-  IsOwnBlock p f (block ss bound end) = AreOwn p f ss
+module _ (p : Program) (f : Func) where
+  abbrev mutual
+    pub IsOwn : Form → Type 0
+    IsOwn (simple s) = IsOwnSimple f s
+    IsOwn (call g target keys args) = IsOwnCall p f g target keys
+    IsOwn (choose e a b) = IsOwnBlock a × IsOwnBlock b
+    IsOwn (loop e b) = IsOwnBlock b
+    IsOwn (switch v arms end) = IsVar f v × AreOwnArms arms
+    IsOwn (focus y z b) = IsVar f z × IsOwnBlock b
+    IsOwn (scope b) = IsOwnBlock b
+    IsOwn (return value) = Unit {0}
+    IsOwn (jump continues) = Unit {0}
 
-  pub AreOwn : Program → Func → Stmts → Type 0
-  AreOwn p f done = Unit {0}
-  AreOwn p f (next place form rest) = IsOwn p f form × AreOwn p f rest
+    pub IsOwnBlock : Block → Type 0
+    IsOwnBlock (block ss bound end) = AreOwn ss
 
-  pub AreOwnArms : Program → Func → Arms → Type 0
-  AreOwnArms p f no_arms = Unit {0}
-  AreOwnArms p f (arm c vs b rest) = AreVars f vs × IsOwnBlock p f b × AreOwnArms p f rest
+    pub AreOwn : Stmts → Type 0
+    AreOwn done = Unit {0}
+    AreOwn (next place form rest) = IsOwn form × AreOwn rest
+
+    pub AreOwnArms : Arms → Type 0
+    AreOwnArms no_arms = Unit {0}
+    AreOwnArms (arm c vs b rest) = AreVars f vs × IsOwnBlock b × AreOwnArms rest
 
 pub record IsOwnFunc (p : Program) (f : Func) : Type 0 where
   pub keys : (x : ℕ) (q : Reference) → reference_of f x ≡ Some q → IsKey f q.key
@@ -67,10 +71,10 @@ pub record IsOwnFunc (p : Program) (f : Func) : Type 0 where
 -- each function's statements name its own variables and keys
 pub record HasOwn (p : Program) : Type 0 where
   pub all : (i : ℕ) (f : Func) → slice_get p.fns i ≡ Some f → IsOwnFunc p f
-  -- as long as no text has a bound entry
-  pub plain : HasNoBounds p
 
--- it is one of the program's functions
+-- it is one of the program's functions, or one that is like it, as its instances are
 pub record IsOf (p : Program) (f : Func) : Type 0 where
   pub position : ℕ
-  pub at : slice_get p.fns position ≡ Some f
+  pub declared : Func
+  pub at : slice_get p.fns position ≡ Some declared
+  pub like : IsLike declared f

@@ -16,7 +16,7 @@ use Rattle.vlt_acts.specs.declared.values.values.Values.{Values}
 use Rattle.vlt_acts.specs.Values.Shown.{ShowObjects, ShowsFrame, IsTable}
 use Rattle.vlt_acts.specs.declared.acts.focus.Focus.{Focus}
 use Rattle.vlt_acts.specs.declared.frames.waiting.Waiting.{Waiting}
-use Rattle.vlt_acts.specs.Frames.Frames.{NamesOwn, IsRunning, Waits}
+use Rattle.vlt_acts.specs.Frames.Frames.{IsLike, NamesOwn, IsRunning, Waits}
 use Rattle.vlt_acts.specs.Frames.Left.{HasLeft}
 use Rattle.vlt_acts.specs.Hosts.Hosts.{ShowsHost}
 use Rattle.vlt_interp.specs.declared.tasks.task.Task.{Task}
@@ -106,11 +106,12 @@ ShowsStep items r f _ _ = ⊥
 
 -- ---- configurations
 
--- with these tasks left, the next one first, the run shows the configuration
+-- With these tasks left, the next one first, the run shows the configuration. What runs there is an instance of the function
+-- that the run has.
 pub record ShowsWith (tasks : List Task) (r : Run) (c : Conf) : Type 0 where
   pub items : Items
   pub holds : Holds r.heap items
-  pub func : func_of r.func.now ≡ c.func
+  pub func : IsLike (func_of r.func.now) c.func
   pub shown : ShowsTasks items r.values r.values.base r.depth tasks c.tasks
   pub step : ShowsStep items r c.func r.at c.step
 

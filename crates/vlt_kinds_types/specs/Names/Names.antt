@@ -1,10 +1,10 @@
 -- Phase A, the rules on declared names: what each of them refuses, and where.
-use Rattle.std.specs.Prelude.{ℕ, Bool, true, false, not, if◌then◌else◌, List, [], ◌∷◌, ◌++◌, map, filter, Option, Some, None, codes}
+use Rattle.std.specs.Prelude.{ℕ, Bool, true, false, not, ◌&&◌, if◌then◌else◌, List, [], ◌∷◌, ◌++◌, map, filter, Option, Some, None, codes}
 use Rattle.std.specs.Char.{is_ascii}
 use Rattle.std.specs.List.{list_any, list_all}
 use Rattle.std.specs.Str.{bytes_eq}
 use Rattle.vlt_syntax.specs.Tree as s
-use Rattle.vlt_syntax.specs.Tree.{Name, Field, Case, HeaderKey, Head, Decl}
+use Rattle.vlt_syntax.specs.Tree.{Name, SetState, Field, Case, HeaderKey, Head, Decl}
 use Rattle.vlt_kinds_types.specs.declared.names.found.Refusal.{Refusal}
 use Rattle.vlt_kinds_types.specs.declared.names.globals.Entity.{Entity}
 use Rattle.vlt_kinds_types.specs.declared.names.globals.Entity.TheVariants.{ASet}
@@ -21,7 +21,7 @@ is_main _ = false
 unfoldable pub no_main : List Decl → List Refusal
 no_main ds = refuse_if (not (list_any is_main ds)) rule.NO_MAIN 0
 
--- ---- 3: a state, field, case or header key is repeated
+-- ---- 3: a field, case or header key is repeated, or a state that is a chain by itself stood before
 
 abbrev pub has_text : Name → Name → Bool
 has_text n m = bytes_eq n.text m.text
@@ -37,6 +37,22 @@ repeated_names = repeated_behind []
 
 abbrev pub repeated_parts : List Name → List Refusal
 repeated_parts ns = refuse rule.REPEATED_PART (repeated_names ns)
+
+-- a state is a chain by itself, where these states stand after it
+abbrev pub is_alone : SetState → List SetState → Bool
+is_alone x [] = not x.above
+is_alone x (y ∷ ys) = not x.above && not y.above
+
+-- the chains of one state that stood before, where these names stand before the list
+abbrev pub alone_behind : List Name → List SetState → List Name
+alone_behind seen [] = []
+alone_behind seen (x ∷ xs) =
+    if is_alone x xs && list_any (has_text x.name) seen
+    then x.name ∷ alone_behind (seen ++ x.name ∷ []) xs
+    else alone_behind (seen ++ x.name ∷ []) xs
+
+unfoldable pub repeated_states : List SetState → List Refusal
+repeated_states ss = refuse rule.REPEATED_PART (alone_behind [] ss)
 
 -- ---- 4: the name of an external isn't ASCII
 
@@ -74,7 +90,7 @@ unfoldable pub variant_refused : Globals → List HeaderKey → List Case → Li
 variant_refused known ps cs = header_refused known ps ++ repeated_parts (map (λ c. c.name) cs)
 
 abbrev pub decl_refused : Globals → Decl → List Refusal
-decl_refused known (s.stateset n ss at) = repeated_parts ss
+decl_refused known (s.stateset n ss at) = repeated_states ss
 decl_refused known (s.abstract n ss at) = set_refused known ss
 decl_refused known (s.struct n ps ss fs r at) = struct_refused known ps ss fs
 decl_refused known (s.variant n ps cs at) = variant_refused known ps cs

@@ -13,7 +13,7 @@ use crate::names::found::LeastRefusal;
 use crate::names::globals::{self, Entity, Globals};
 use std::alloc::{AllocError, Global};
 use vlt_core::rules;
-use vlt_syntax::{Case, Decl, Field, Head, HeaderKey, Name};
+use vlt_syntax::{Case, Decl, Field, Head, HeaderKey, Name, SetState};
 
 /// The name of the function that a program begins with.
 const MAIN: &[u8] = b"main";
@@ -31,6 +31,14 @@ impl HasName for Name {
 
     fn name(&self) -> &Name {
         self
+    }
+}
+
+impl HasName for SetState {
+    ghost name = { λ x. (view.set_state_of x).name };
+
+    fn name(&self) -> &Name {
+        &self.name
     }
 }
 
@@ -79,6 +87,29 @@ pub fn refuse_repeated<T: HasName>(rule: u8, named: &[T], found: &mut LeastRefus
         let name = one.name();
         if is_named_one(name, &named[..i]) {
             found.add(rule, name.at.from);
+        }
+    }
+}
+
+/// Whether a state is a chain by itself, where these states stand after it.
+fn is_alone(state: &SetState, further: &[SetState]) -> bool
+    ensures { result ≡ n.is_alone (view.set_state_of state.now)
+        (map view.set_state_of further.now) }
+{
+    match further {
+        [] => !state.above,
+        [next, ..] => !state.above && !next.above,
+    }
+}
+
+#[tactic(auto, unfolding(crate::specs::Names::Names::repeated_states))]
+fn check_states(states: &[SetState], found: &mut LeastRefusal)
+    ensures { found.new.least ≡ least_from found.old.least
+        (n.repeated_states (map view.set_state_of states.now)) }
+{
+    for (i, state) in states.iter().enumerate() {
+        if is_alone(state, &states[i + 1..]) && is_named_one(&state.name, &states[..i]) {
+            found.add(rules::REPEATED_PART, state.name.at.from);
         }
     }
 }
@@ -176,11 +207,7 @@ fn check_decl(decl: &Decl, known: &Globals<'_>, found: &mut LeastRefusal)
         (n.decl_refused (names_seen known.now) (view.decl_of decl.now)) }
 {
     match decl {
-        Decl::StateSet { states, .. } => refuse_repeated(
-            rules::REPEATED_PART,
-            states.as_slice(),
-            found,
-        ),
+        Decl::StateSet { states, .. } => check_states(states.as_slice(), found),
         Decl::Abstract { states, .. } => check_set(states, known, found),
         Decl::Struct {
             params,

@@ -10,4 +10,4 @@ returns-in-None c = judged_none (program_of c.args.p.now) (fault_view c.args.fau
 
 pub returns-in-Some : goal.returns-in-Some
 returns-in-Some c =
-    judged (program_of c.args.p.now) (func_of c.in-Some.f.now) (fault_view c.args.fault.now) (choices_of c.args.path.now) None c.is_shown_alone.result c.requires.plain (sym (rw c.in-Some.is at c.func_at.ensures)) c.is_shown_alone.ensures
+    judged (program_of c.args.p.now) (func_of c.in-Some.f.now) (fault_view c.args.fault.now) (choices_of c.args.path.now) None c.is_shown_in.result (sym (rw c.in-Some.is at c.func_at.ensures)) c.is_shown_in.ensures

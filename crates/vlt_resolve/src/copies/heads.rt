@@ -61,7 +61,6 @@ pub fn func_of_head(
         result: copy_gives(alloc, &head.result)?,
         params: head.params,
         clause: Items::from_slice(alloc, head.clause.as_slice())?,
-        state_var: copy_bytes(alloc, &head.state_var)?,
         keys,
         vars,
         body,

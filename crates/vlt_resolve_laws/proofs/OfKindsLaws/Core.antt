@@ -69,6 +69,7 @@ pub entry_number : (file : File) (keys : Keys) (e : Entry) → (core_entry file 
 unfolding core_entry
 entry_number file keys (s.held k) = refl
 entry_number file keys (s.changed k before after) = refl
+entry_number file keys (s.bound k v b) = refl
 entry_number file keys (s.taken k at) = refl
 entry_number file keys (s.given k at) = refl
 entry_number file keys (s.fresh k at) = refl
@@ -77,6 +78,7 @@ pub entry_new : (file : File) (keys : Keys) (e : Entry) → is_new (core_entry f
 unfolding core_entry
 entry_new file keys (s.held k) = refl
 entry_new file keys (s.changed k before after) = refl
+entry_new file keys (s.bound k v b) = refl
 entry_new file keys (s.taken k at) = refl
 entry_new file keys (s.given k at) = refl
 entry_new file keys (s.fresh k at) = refl

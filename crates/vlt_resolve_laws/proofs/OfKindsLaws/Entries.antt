@@ -12,10 +12,10 @@ use Rattle.vlt_core.specs.Core as core
 use Rattle.vlt_core.specs.Core.{VarDecl, TypeDecl, Func, Program}
 use Rattle.vlt_core.specs.Lookups.{is_new}
 use Rattle.vlt_core.specs.Types.{decl_of, keys_of_ty}
-use Rattle.vlt_core.specs.KindedHeads.{Rules, unless, when_some, has, are_apart, states_broken, keys_of_parameters, new_keys, keys_of_result, given_types, are_all, names_states, entry_broken, is_key_of_result, new_key_broken, result_broken, bound_broken}
+use Rattle.vlt_core.specs.KindedHeads.{Rules, unless, when_some, has, are_apart, states_broken, keys_of_parameters, new_keys, keys_of_result, given_types, are_all, names_states, entry_broken, is_key_of_result, new_key_broken, result_broken, state_broken, bound_broken}
 use Rattle.vlt_core.specs.declared.rules.TheConstants as rule
-use Rattle.vlt_kinds_types.specs.Files.{File, type_named, wanted_type, shape_at, state_names}
-use Rattle.vlt_kinds_types.specs.Types.{KeyUse, tracked_use, named_uses, ty_uses, key_numbers, core_ty, states_listed}
+use Rattle.vlt_kinds_types.specs.Files.{File, type_named, wanted_type, shape_at, state_names, number_of}
+use Rattle.vlt_kinds_types.specs.Types.{KeyUse, tracked_use, named_uses, ty_uses, key_numbers, core_ty, known_states, states_listed}
 use Rattle.vlt_kinds_heads.specs.Places.{result_uses, entry_key, is_fresh, first_states, second_states}
 use Rattle.vlt_kinds_heads.specs.Keys.{Keys, facts_of}
 use Rattle.vlt_kinds_heads.specs.Heads.{first_name, is_fresh_result, result_key_refused, entry_key_refused, key_states_refused, entry_states_refused, entry_refused}
@@ -23,10 +23,9 @@ use Rattle.vlt_kinds_heads.specs.Phase.{key_number, typed_states, states_named, 
 use Rattle.vlt_kinds_heads.specs.declared.facts.Facts.{Facts}
 use Rattle.vlt_kinds_heads.specs.declared.facts.Typing.{Typing as Given}
 use Rattle.vlt_resolve_laws.specs.KindsLaws.Shapes.{core_shape, Describes, HasHeaders}
-use Rattle.vlt_resolve_laws.proofs.OfKindsLaws.Unbound.{bound_right}
 use Rattle.vlt_resolve_laws.proofs.OfKindsLaws.Empty.{no_left, no_right, none_of_both, none_of_each, not_broken, holds}
 use Rattle.vlt_resolve_laws.proofs.OfKindsLaws.Named.{shape_is}
-use Rattle.vlt_resolve_laws.proofs.OfKindsLaws.States.{states_unbroken}
+use Rattle.vlt_resolve_laws.proofs.OfKindsLaws.States.{states_unbroken, state_unbroken}
 use Rattle.vlt_resolve_laws.proofs.OfKindsLaws.Uses.{keys_are_uses, named_numbers}
 use Rattle.vlt_resolve_laws.proofs.OfKindsLaws.Parts.{each_number, each_both, each_other}
 use Rattle.vlt_resolve_laws.proofs.OfKindsLaws.Cases.{each_mapped}
@@ -130,6 +129,7 @@ unfolding core_entry
 sides file keys (s.held k) = (named_side (typed_states file (facts_of keys k.key.text).typing) k.states, named_side (typed_states file (facts_of keys k.key.text).typing) k.states)
 sides file keys (s.changed k before after) =
     (named_side (typed_states file (facts_of keys k.text).typing) (Some before), named_side (typed_states file (facts_of keys k.text).typing) (Some after))
+sides file keys (s.bound k v b) = (tt, tt)
 sides file keys (s.taken k at) = (named_side (typed_states file (facts_of keys k.key.text).typing) k.states, tt)
 sides file keys (s.given k at) = (tt, named_side (typed_states file (facts_of keys k.key.text).typing) k.states)
 sides file keys (s.fresh k at) = (tt, named_side (typed_states file (facts_of keys k.key.text).typing) k.states)
@@ -142,6 +142,7 @@ unnamed : (file : File) (keys : Keys) (e : Entry) → first_states e ≡ None �
 unfolding core_entry
 unnamed file keys (s.held k) first second = rw first refl
 unnamed file keys (s.changed k before after) first second = absurd (none-some before (sym first))
+unnamed file keys (s.bound k v b) first second = absurd (none-some (s.one b) (sym first))
 unnamed file keys (s.taken k at) first second = rw first refl
 unnamed file keys (s.given k at) first second = rw first refl
 unnamed file keys (s.fresh k at) first second = rw first refl
@@ -160,6 +161,16 @@ module _ (file : File) (p : Program) (described : Describes file p) (headers : H
   side_unbroken t d known (Some states) there is side =
       ap (states_broken p t) (side.1 ∙ ap (λ k. states_listed k (Some side.0)) is) ∙ states_unbroken file p described t d there (Some side.0)
 
+  bound_unbroken : (t : ℕ) (d : TypeDecl) (e : Entry) → decl_of p t ≡ Some d → typed_states file (typing_at keys (key_of e)) ≡ state_names file (Some (core_shape d))
+      → bound_broken p t (core_entry file keys e).mode ≡ []
+  unfolding core_entry
+  bound_unbroken t d (s.held k) there is = refl
+  bound_unbroken t d (s.changed k before after) there is = refl
+  bound_unbroken t d (s.bound k v b) there is = ap (λ known. state_broken p t (number_of (known_states known) b)) is ∙ state_unbroken file p described t d there b
+  bound_unbroken t d (s.taken k at) there is = refl
+  bound_unbroken t d (s.given k at) there is = refl
+  bound_unbroken t d (s.fresh k at) there is = refl
+
   typed_entry : (e : Entry) (t : ℕ) (had : Given) → typing_at keys (key_of e) ≡ Some had → had.type_id ≡ t → (o : Option TypeDecl) → decl_of p t ≡ o
       → when_some o (λ d. when_some (core_entry file keys e).before (states_broken p t) ++ when_some (core_entry file keys e).after (states_broken p t) ++ bound_broken p t (core_entry file keys e).mode) ≡ []
   typed_entry e t had is same None there = refl
@@ -167,7 +178,7 @@ module _ (file : File) (p : Program) (described : Describes file p) (headers : H
       let known : typed_states file (typing_at keys (key_of e)) ≡ state_names file (Some (core_shape d)) =
       ap (typed_states file) is ∙ ap (state_names file) (ap (shape_at file) same ∙ (shape_is file p described t ∙ ap (option_map core_shape) there)) in
       let both = sides file keys e in
-      none_of_both _ _ (none_of_both _ _ (side_unbroken t d _ (core_entry file keys e).before there known both.0) (side_unbroken t d _ (core_entry file keys e).after there known both.1)) (bound_right file keys p t e)
+      none_of_both _ _ (none_of_both _ _ (side_unbroken t d _ (core_entry file keys e).before there known both.0) (side_unbroken t d _ (core_entry file keys e).after there known both.1)) (bound_unbroken t d e there known)
 
   untyped_entry : (e : Entry) → typing_at keys (key_of e) ≡ None → entry_states_refused file (facts_of keys (key_of e)) e ≡ [] → unless (not (names_states (core_entry file keys e))) rule.STATES_UNTYPED ≡ []
   unfolding entry_states_refused

@@ -36,6 +36,7 @@ module _ (file : File) (p : Program) (described : Describes file p) (P : States 
   unfolding core_entry
   entry_says keys (s.held k) = record { before = side (facts_of keys k.key.text).typing k.states; after = side (facts_of keys k.key.text).typing k.states }
   entry_says keys (s.changed k a b) = record { before = side (facts_of keys k.text).typing (Some a); after = side (facts_of keys k.text).typing (Some b) }
+  entry_says keys (s.bound k v b) = record { before = no_side; after = no_side }
   entry_says keys (s.taken k at) = record { before = side (facts_of keys k.key.text).typing k.states; after = no_side }
   entry_says keys (s.given k at) = record { before = no_side; after = side (facts_of keys k.key.text).typing k.states }
   entry_says keys (s.fresh k at) = record { before = no_side; after = side (facts_of keys k.key.text).typing k.states }

@@ -126,6 +126,7 @@ main_clause file keys (s.value (s.guarded k n)) (s.fresh j at2 ∷ []) e = absur
 main_clause file keys (s.value (s.plain n)) (s.fresh j at2 ∷ []) e = absurd (true≢false (sym e))
 main_clause file keys out (s.held k ∷ es) e = absurd (true≢false (sym e))
 main_clause file keys out (s.changed k a b ∷ es) e = absurd (true≢false (sym e))
+main_clause file keys out (s.bound k v b ∷ es) e = absurd (true≢false (sym e))
 main_clause file keys out (s.taken k at ∷ es) e = absurd (true≢false (sym e))
 main_clause file keys out (s.given k at ∷ es) e = absurd (true≢false (sym e))
 main_clause file keys out (s.fresh k at ∷ x ∷ es) e = absurd (true≢false (sym e))

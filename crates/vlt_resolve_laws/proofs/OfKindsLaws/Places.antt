@@ -16,6 +16,7 @@ use Rattle.vlt_kinds_types.specs.Files.{File}
 use Rattle.vlt_kinds_types.specs.Types.{KeyUse, argument_uses, named_uses, ty_uses, ty_refused, owned_refused}
 use Rattle.vlt_kinds_heads.specs.Places.{result_uses, parameter_uses, clause_in, entry_key, is_fresh, head_names}
 use Rattle.vlt_kinds_heads.specs.Keys.{Keys, facts_of, is_unknown, places_behind, keys_behind, keys_of}
+use Rattle.vlt_kinds_heads.specs.Bounds.{variables_refused}
 use Rattle.vlt_kinds_heads.specs.Heads.{result_type_refused, parameter_refused, names_refused, is_bound, type_rule, result_place, result_clash_with, result_clash, result_key_refused, entry_key_refused, entry_refused, main_refused, types_refused, clause_again, typings_refused, result_refused, head_refused_by, head_refused}
 use Rattle.vlt_kinds_heads.specs.declared.facts.Facts.{Facts}
 use Rattle.vlt_kinds_heads.specs.declared.facts.Typing.{Typing}
@@ -99,6 +100,7 @@ module _ (file : File) (h : Head) where
     pub clashes : Each (λ u. result_clash table u ≡ []) results
     pub keys : Each (λ u. result_key_refused table u ≡ []) results
     pub entries_right : Each (λ e. entry_refused file table e ≡ []) entries
+    pub variables : variables_refused file.globals table h.parameters entries ≡ []
     pub main : main_refused h ≡ []
 
   pub passed : head_refused file h ≡ [] → IsPassed
@@ -109,6 +111,7 @@ module _ (file : File) (h : Head) where
       let behind_clause = no_right (clause_again results parameters entries) _ behind_names in
       let behind_typings = no_right (typings_refused (places_behind results parameters entries) results parameters) _ behind_clause in
       let behind_result = no_right (result_refused (keys_behind results parameters entries) results) _ behind_typings in
+      let behind_entries = no_right (of_each (entry_refused file (keys_behind results parameters entries)) entries) _ behind_result in
       let typings = no_left (typings_refused (places_behind results parameters entries) results parameters) _ behind_clause in
       let result = no_left (result_refused (keys_behind results parameters entries) results) _ behind_typings in
       record {
@@ -119,7 +122,8 @@ module _ (file : File) (h : Head) where
         clashes = rw table_is at (none_in_each (result_clash (keys_of file h)) results (no_left _ _ result));
         keys = rw table_is at (none_in_each (result_key_refused (keys_of file h)) results (no_right (of_each (result_clash (keys_of file h)) results) _ result));
         entries_right = rw table_is at (none_in_each (entry_refused file (keys_of file h)) entries (no_left _ _ behind_result));
-        main = no_right (of_each (entry_refused file (keys_of file h)) entries) _ behind_result;
+        variables = rw table_is at (no_left (variables_refused file.globals (keys_of file h) h.parameters entries) _ behind_entries);
+        main = no_right (variables_refused file.globals (keys_of file h) h.parameters entries) _ behind_entries;
       }
 
 -- ---- what follows for each key

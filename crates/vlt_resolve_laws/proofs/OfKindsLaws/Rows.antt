@@ -4,7 +4,7 @@ use Rattle.std.specs.List.{flat_map, enumerate_from}
 use Rattle.std.proofs.lemmas.Bool.{lt-ltb}
 use Rattle.std.proofs.lemmas.Option.{none-some, same_Some}
 use Rattle.vlt_syntax.specs.Tree as s
-use Rattle.vlt_syntax.specs.Tree.{Name, HeaderKey, Field, Case, States, Decl}
+use Rattle.vlt_syntax.specs.Tree.{Name, SetState, HeaderKey, Field, Case, States, Decl}
 use Rattle.vlt_syntax.specs.Lists.{Each, IsFilled}
 use Rattle.vlt_syntax.specs.Grammar.{IsDecl, language}
 use Rattle.vlt_core.specs.Core as core
@@ -16,7 +16,8 @@ use Rattle.vlt_core.specs.declared.rules.TheConstants as rule
 use Rattle.vlt_kinds_types.specs.Names.Refusals.{of_each}
 use Rattle.vlt_kinds_types.specs.Names.Globals.{decl_name, global_in, Counts, global_of, counts_after, no_counts}
 use Rattle.vlt_kinds_types.specs.declared.names.globals.Entity.TheVariants.{AType}
-use Rattle.vlt_kinds_types.specs.Files.{File, file_of, sets_in, texts, then_with, as_type, shape_at, shape_named, state_names, header_in}
+use Rattle.vlt_kinds_types.specs.Files.{File, file_of, sets_in, state_texts, then_with, as_type, shape_at, shape_named, state_names, header_in}
+use Rattle.vlt_kinds_types.proofs.Sets.{some_texts}
 use Rattle.vlt_kinds_decls.specs.Decls.{header_refused, field_refused, struct_refused, case_refused, variant_refused, type_refused, types_refused}
 use Rattle.vlt_kinds_decls.specs.Made.{core_header, core_field, core_struct, core_case, core_variant, core_types_in, core_types}
 use Rattle.vlt_resolve_laws.specs.KindsLaws.Shapes.{core_shape, header_wanted, Describes}
@@ -66,9 +67,9 @@ known_sets ds (s.variant n ps cs at) = (λ i e. absurd (none-some i e), tt)
 known_sets ds (s.extern h at) = tt
 known_sets ds (s.function h b at) = tt
 
-some_filled : (ns : List Name) → IsFilled ns → 1 ≤ length (texts ns)
+some_filled : (ss : List SetState) → IsFilled ss → 1 ≤ length (state_texts ss)
 some_filled [] some = absurd some
-some_filled (n ∷ ns) some = omega arith
+some_filled (x ∷ xs) some = some_texts x xs
 
 filled_sets : (d : Decl) → IsDecl language d → Each (λ d. 1 ≤ length d.states) (sets_in d)
 filled_sets (s.stateset n ss at) right = (some_filled ss right.0, tt)

@@ -1,5 +1,5 @@
 -- Sets of states that are listed lie within those of their type, and have a state.
-use Rattle.std.proofs.Common.{◌≡◌, ℕ, ◌<◌, ◌≤◌, nat_lt, Bool, true, false, true≢false, ◌||◌, not, ◌==◌, if◌then◌else◌, List, [], ◌∷◌, ◌++◌, length, Option, Some, None, slice_get, ⊎_elim, refl, sym, ◌∙◌, arith}
+use Rattle.std.proofs.Common.{◌≡◌, ℕ, ◌<◌, ◌≤◌, nat_lt, Bool, true, false, true≢false, ◌||◌, not, ◌==◌, if◌then◌else◌, List, [], ◌∷◌, ◌++◌, length, Option, Some, None, slice_get, unwrap_or, ⊎_elim, refl, sym, ◌∙◌, arith}
 use Rattle.std.specs.List.{list_all}
 use Rattle.std.proofs.lemmas.Bool.{eqb-true, lt-ltb, or_cases, or_left, eq-eqb}
 use Rattle.std.proofs.lemmas.List.Folds.{list_any-append}
@@ -8,10 +8,10 @@ use Rattle.vlt_syntax.specs.Tree as s
 use Rattle.vlt_core.specs.Core.{States, SetDecl, TypeDecl, Program}
 use Rattle.vlt_core.specs.Lookups.{set_in, state_count, all_states}
 use Rattle.vlt_core.specs.Types.{decl_of, state_numbers, lies_within}
-use Rattle.vlt_core.specs.KindedHeads.{unless, has_set, states_broken}
+use Rattle.vlt_core.specs.KindedHeads.{unless, has_set, states_broken, state_broken}
 use Rattle.vlt_core.specs.declared.rules.TheConstants as rule
 use Rattle.vlt_kinds_types.specs.declared.shapes.Shape.{Shape}
-use Rattle.vlt_kinds_types.specs.Files.{File, then_with, states_in, state_names, state_number}
+use Rattle.vlt_kinds_types.specs.Files.{File, then_with, states_in, state_names, state_number, number_of}
 use Rattle.vlt_kinds_types.specs.Types.{is_listed, with_listed, names_in_states, known_states, state_count_in, listed_numbers, set_of_numbers, states_listed}
 use Rattle.vlt_resolve_laws.specs.KindsLaws.Shapes.{core_shape, Describes}
 use Rattle.vlt_resolve_laws.specs.KindsLaws.Declared.{IsFilled}
@@ -49,6 +49,10 @@ listed_below known seen (n ∷ ns) below j there =
     by None is k there = below k there
     by (Some i) is k there = one i (number_below known n i is) (is_listed seen i) k there
 
+counted_below : (known : Option (List (List ℕ))) (i : ℕ) → i < length (known_states known) → nat_lt i (state_count_in known) ≡ true
+counted_below None i less = absurd (omega (arith, less))
+counted_below (Some names) i less = lt-ltb i (length names) less
+
 -- a state that is listed is one of the known ones
 pub states_fit : (known : Option (List (List ℕ))) (ss : Option s.States) → 1 ≤ state_count_in known → (i : ℕ) → states_listed known ss i ≡ true
     → nat_lt i (state_count_in known) ≡ true
@@ -56,13 +60,17 @@ states_fit known None some i there = there
 states_fit known (Some ss) some i there =
     by (listed_numbers (known_states known) [] (names_in_states ss)) (listed_below (known_states known) [] (names_in_states ss) (λ j no. absurd (true≢false (sym no)))) there
   where
-    counted : (o : Option (List (List ℕ))) → i < length (known_states o) → nat_lt i (state_count_in o) ≡ true
-    counted None less = absurd (omega (arith, less))
-    counted (Some names) less = lt-ltb i (length names) less
-
     by : (ns : List ℕ) → ((j : ℕ) → is_listed ns j ≡ true → j < length (known_states known)) → set_of_numbers ns i ≡ true → nat_lt i (state_count_in known) ≡ true
     by [] below there = lt-ltb i (state_count_in known) (omega (arith, some, eqb-true i 0 there))
-    by (n ∷ ns) below there = counted known (below i there)
+    by (n ∷ ns) below there = counted_below known i (below i there)
+
+-- a state that is named is one of them too; another name stands for the first
+number_fits : (known : Option (List (List ℕ))) (n : s.Name) → 1 ≤ state_count_in known → nat_lt (number_of (known_states known) n) (state_count_in known) ≡ true
+number_fits known n some = by (state_number (known_states known) n) refl
+  where
+    by : (o : Option ℕ) → state_number (known_states known) n ≡ o → nat_lt (unwrap_or o 0) (state_count_in known) ≡ true
+    by None is = lt-ltb 0 (state_count_in known) some
+    by (Some i) is = counted_below known i (number_below (known_states known) n i is)
 
 -- some state is listed
 pub a_state : (known : Option (List (List ℕ))) (ss : Option s.States) → 1 ≤ state_count_in known → (i : ℕ) × (states_listed known ss i ≡ true)
@@ -124,4 +132,19 @@ module _ (file : File) (p : Program) (describes : Describes file p) where
 
       by : (b : Bool) → (if b then unless (lies_within (listed d ss) (all_states p t)) rule.NOT_A_STATE else []) ≡ []
       by true = holds (lies_within (listed d ss) (all_states p t)) rule.NOT_A_STATE within
+      by false = refl
+
+  abbrev number_at : TypeDecl → s.Name → ℕ
+  number_at d n = number_of (known_states (state_names file (Some (core_shape d)))) n
+
+  -- nor does a state that is named
+  pub state_unbroken : (t : ℕ) (d : TypeDecl) → decl_of p t ≡ Some d → (n : s.Name)
+      → state_broken p t (number_of (known_states (state_names file (Some (core_shape d)))) n) ≡ []
+  state_unbroken t d there n = by (has_set p (decl_of p t))
+    where
+      is_one : all_states p t (number_at d n) ≡ true
+      is_one = rw (count_is t d there) (number_fits (state_names file (Some (core_shape d))) n (has_state t d there))
+
+      by : (b : Bool) → (if b then unless (all_states p t (number_at d n)) rule.NOT_A_STATE else []) ≡ []
+      by true = holds (all_states p t (number_at d n)) rule.NOT_A_STATE is_one
       by false = refl

@@ -21,7 +21,7 @@ use Rattle.vlt_resolve_laws.proofs.OfKindsLaws.Core.{IsFunc, func_of}
 use Rattle.vlt_resolve_laws.proofs.OfKindsLaws.Clauses.{variables_unbroken, result_unbroken, keys_unbroken, clause_apart}
 use Rattle.vlt_resolve_laws.proofs.OfKindsLaws.Entries.{entries_unbroken, results_unbroken}
 use Rattle.vlt_resolve_laws.proofs.OfKindsLaws.Hosts.{main_right, external_unbroken}
-use Rattle.vlt_resolve_laws.proofs.OfKindsLaws.Unbound.{few_bounded}
+use Rattle.vlt_resolve_laws.proofs.OfKindsLaws.Bounded.{few_bounded}
 
 module _ (file : File) (p : Program) (described : Describes file p) (headers : HasHeaders p) (h : Head) (pass : IsPassed file h) (external : Bool) (g : ℕ) (f : Func) where
   func_unbroken : (func : IsFunc file (table file h) h external f) → (external ≡ true → external_refused file p.types h (table file h) ≡ []) → Each (λ d. type_broken p f d.ty ≡ []) func.more_vars
@@ -51,7 +51,7 @@ module _ (file : File) (p : Program) (described : Describes file p) (headers : H
           (omega (arith, func.params, ap length func.vars, length-append (map (core_parameter file (table file h)) h.parameters) func.more_vars, length-map h.parameters (core_parameter file (table file h))))
 
       one : nat_le (length (filter is_bound_entry f.clause)) 1 ≡ true
-      one = ap (λ es. nat_le (length (filter is_bound_entry es)) 1) func.clause ∙ few_bounded file (table file h) (entries file h)
+      one = ap (λ es. nat_le (length (filter is_bound_entry es)) 1) func.clause ∙ few_bounded file (table file h) file.globals (table file h) h.parameters (entries file h) pass.variables
 
       by_external : (b : Bool) → b ≡ external → (if b then external_broken p f else []) ≡ []
       by_external true is = external_unbroken file p described headers h pass external f func (host (sym is))

@@ -12,7 +12,7 @@ use Rattle.vlt_resolve_laws.specs.KindsLaws.Declared.{HasDeclared, IsPassed}
 use Rattle.vlt_sound.specs.Sizes.{HasSizes}
 use Rattle.vlt_sound.specs.Narrow.{HasNarrowHeads}
 use Rattle.vlt_verdict.specs.FitLaws.Externals.{HasExternals}
-use Rattle.vlt_resolve_laws.specs.Elaborated.{IsElaborated, ElaboratedProgramsAreKinded, ElaboratedProgramsHaveStates, ElaboratedProgramsHaveArms, ElaboratedProgramsHaveFewVariables, ElaboratedProgramsHaveFewKeys, ElaboratedProgramsHaveFewFunctions, ElaboratedProgramsHaveBlankExternals, ElaboratedProgramsHaveSets, ElaboratedProgramsHaveNoBounds, ElaboratedProgramsHaveProperBodies}
+use Rattle.vlt_resolve_laws.specs.Elaborated.{IsElaborated, ElaboratedProgramsAreKinded, ElaboratedProgramsHaveStates, ElaboratedProgramsHaveArms, ElaboratedProgramsHaveFewVariables, ElaboratedProgramsHaveFewKeys, ElaboratedProgramsHaveFewFunctions, ElaboratedProgramsHaveBlankExternals, ElaboratedProgramsHaveSets, ElaboratedProgramsHaveProperBodies}
 use Rattle.vlt_resolve_laws.proofs.Whole.{passed_of}
 use Rattle.vlt_verdict.specs.FitLaws.Fit.{ProgramsAreFit}
 use Rattle.vlt_verdict.proofs.OfFitLaws.Externals.{externals_of, declared_of}
@@ -21,7 +21,6 @@ pub record Laws : Type 0 where
   pub kinded : ElaboratedProgramsAreKinded
   pub states : ElaboratedProgramsHaveStates
   pub arms : ElaboratedProgramsHaveArms
-  pub plain : ElaboratedProgramsHaveNoBounds
   pub proper : ElaboratedProgramsHaveProperBodies
   pub sets : ElaboratedProgramsHaveSets
   pub vars : ElaboratedProgramsHaveFewVariables
@@ -42,7 +41,6 @@ fit laws t kinds p x told gives =
         kinded = kinded_parts p (laws.kinded t kinds p e);
         states = laws.states t kinds p e;
         arms = laws.arms t kinds p e;
-        plain = laws.plain t kinds p e;
       };
       sizes = laws.small t.decls p x.tree.0 (laws.sets t kinds p e);
       narrow = laws.narrow t.decls p (passed_of t kinds p e) (declared_of t kinds p e) (externals_of t kinds p e);

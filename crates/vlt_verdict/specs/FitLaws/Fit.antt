@@ -30,9 +30,8 @@ pub record IsJudgeable (p : Program) : Type 0 where
   pub few : HasFewParts p
 
 -- All that the laws on checks and runs want to know of a program: it breaks no rule on names and types, each of its sets has a
--- state and at most 32, all below 32 where a host gives one, each of its switches has an arm, no clause has a bound entry (as
--- long as no text has one), fields, variables, keys and functions are few, each operator has as many operands as it wants, and
--- each number is from 0 to 2^63 - 1.
+-- state and at most 32, all below 32 where a host gives one, each of its switches has an arm, fields, variables, keys and
+-- functions are few, each operator has as many operands as it wants, and each number is from 0 to 2^63 - 1.
 pub record IsFitProgram (p : Program) : Type 0 where
   pub kinded : IsKinded p
   pub well_formed : IsWellFormed p

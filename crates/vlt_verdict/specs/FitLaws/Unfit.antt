@@ -1,6 +1,7 @@
 -- What a program of the code that the check may be asked of may still be unfit for it by: no law excludes these.
-use Rattle.std.specs.Prelude.{◌≡◌, ◌≤◌, ◌^◌, ℕ, false, Some, slice_get}
+use Rattle.std.specs.Prelude.{◌≡◌, ◌≤◌, ◌^◌, ℕ, false, Option, Some, slice_get}
 use Rattle.vlt_core.specs.Core.{Func, Program}
+use Rattle.vlt_core.specs.Instances.{instance, IsOrigin}
 use Rattle.vlt_core.specs.Flow.{size_block}
 use Rattle.vlt_core.specs.Bodies.{body_flow}
 use Rattle.vlt_core.specs.View.{program_of}
@@ -16,13 +17,15 @@ pub data IsStillUnfit (p : Program) (f : Func) : Type 0 where
   -- in a body that is refused
   no_number : HasNoNumber (body_flow p f) → IsStillUnfit p f
 
--- some function has such a body
+-- some function has such a body in some instance
 pub record HasUnfitBody (p : Program) : Type 0 where
   pub number : ℕ
   pub func : Func
   pub there : slice_get p.fns number ≡ Some func
   pub with_body : func.external ≡ false
-  pub unfit : IsStillUnfit p func
+  pub origin : Option ℕ
+  pub is : IsOrigin p func origin
+  pub unfit : IsStillUnfit p (instance p func origin)
 
 abbrev pub OnlyBodiesAreUnfit : Type 0
 OnlyBodiesAreUnfit = (c : CodeProgram) → IsJudgeable (program_of c) → IsUnfit (program_of c) → HasUnfitBody (program_of c)

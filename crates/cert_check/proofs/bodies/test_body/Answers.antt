@@ -1,3 +1,4 @@
+use Rattle.vlt_core.specs.Instances.{instance}
 use Rattle.vlt_core.specs.View.{program_of, func_of}
 use Rattle.cert_check.specs.Unfit.{no_flow, no_start}
 use Rattle.cert_check.proofs.Causes.{error_is}
@@ -11,4 +12,4 @@ pub returns-in_err-start : goal.returns-in_err-start
 returns-in_err-start c = unless_before _ _ _ _ _ c.from_residual-in_err-start.ensures.1 (error_is _ _ _ _ c.in_err-start.was c.start_of.ensures) no_start
 
 pub returns : goal.returns
-returns c = body_told (program_of c.args.p.now) (func_of c.args.f.now) _ _ _ c.in_ok-flow.ensures c.in_ok-start.ensures _ c.test_flow.ensures
+returns c = body_told (program_of c.args.p.now) (instance (program_of c.args.p.now) (func_of c.args.f.now) c.args.origin) _ _ _ c.in_ok-flow.ensures c.in_ok-start.ensures _ c.test_flow.ensures

@@ -1,23 +1,12 @@
-use Rattle.std.proofs.Common.{◌≡◌, Err, rules, arith}
-use Rattle.std.proofs.lemmas.Grind.{common_steps}
-use Rattle.cert_emit.specs.Causes.{error_of_stop}
-use Rattle.cert_emit.proofs.EachFunction.{refused_by, unfit_by, named_by, unnoted}
+use Rattle.std.proofs.Common.{subst, sym}
+use Rattle.cert_emit.proofs.EachFunction.{body_annotated, with_body}
 use Rattle.cert_emit.proofs.annotating.annotations_of.Goals as goal
 
-pub returns-in_err-annotate-clause-refused : goal.returns-in_err-annotate-clause-refused
-returns-in_err-annotate-clause-refused c =
-    let s = c.in_err-annotate.field-0.0 in
-    let is : c.from_residual.result ≡ Err (error_of_stop s) = first_of (search rules, grind (arith, common_steps)) in
-    refused_by s c.from_residual.result is c.in_err-annotate.ensures.refused (λ q. (c.if-f.false, q))
+pub returns-else-f-clause-ok : goal.returns-else-f-clause-ok
+returns-else-f-clause-ok c = body_annotated c.args.p.now c.args.f.now _ c.if-f.false c.instance_annotations.ensures.ok
 
-pub returns-in_err-annotate-clause-unfit : goal.returns-in_err-annotate-clause-unfit
-returns-in_err-annotate-clause-unfit c =
-    let s = c.in_err-annotate.field-0.0 in
-    let is : c.from_residual.result ≡ Err (error_of_stop s) = first_of (search rules, grind (arith, common_steps)) in
-    unfit_by s c.from_residual.result is c.in_err-annotate.ensures.unfit (λ q. (c.if-f.false, unnoted c.args.p.now c.args.f.now q))
+pub returns-else-f-clause-refused : goal.returns-else-f-clause-refused
+returns-else-f-clause-refused c = with_body _ _ c.if-f.false c.instance_annotations.ensures.refused
 
-pub returns-in_err-annotate-clause-named : goal.returns-in_err-annotate-clause-named
-returns-in_err-annotate-clause-named c =
-    let s = c.in_err-annotate.field-0.0 in
-    let is : c.from_residual.result ≡ Err (error_of_stop s) = first_of (search rules, grind (arith, common_steps)) in
-    named_by s c.from_residual.result is
+pub returns-else-f-clause-unfit : goal.returns-else-f-clause-unfit
+returns-else-f-clause-unfit c = with_body _ _ c.if-f.false c.instance_annotations.ensures.unfit

@@ -7,5 +7,4 @@ returns c = λ p all is are.
     all_least c.notes_are_kept.ensures p
     (c.elaborated_programs_are_kinded.ensures is.tree is.kinds (program_of p) is.elaborated)
     (c.texts_are_limited.ensures (program_of p) is)
-    (c.elaborated_programs_have_no_bounds.ensures is.tree is.kinds (program_of p) is.elaborated)
     all are

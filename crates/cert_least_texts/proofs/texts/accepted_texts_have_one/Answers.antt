@@ -10,6 +10,5 @@ returns c = λ p is accepted.
       kinded = kinded_parts p kinded;
       states = c.elaborated_programs_have_states.ensures is.tree is.kinds p is.elaborated;
       arms = c.elaborated_programs_have_arms.ensures is.tree is.kinds p is.elaborated;
-      plain = c.elaborated_programs_have_no_bounds.ensures is.tree is.kinds p is.elaborated;
     })
     (narrow p (c.elaborated_programs_have_narrow_states.ensures is.tree is.kinds p is.elaborated)) accepted

@@ -10,11 +10,9 @@ returns c = λ p all is has.
     let q = program_of p in
     let limited = c.texts_are_limited.ensures q is in
     let kinded = c.elaborated_programs_are_kinded.ensures is.tree is.kinds q is.elaborated in
-    let plain = c.elaborated_programs_have_no_bounds.ensures is.tree is.kinds q is.elaborated in
     let places = c.places_dont_count.ensures q in
-    let complete = c.least_certificates_are_complete.ensures q all plain (λ g f at. (all_at IsLimitedFunc q.fns g f limited.fns at).blank) has in
+    let complete = c.least_certificates_are_complete.ensures q all (λ g f at. (all_at IsLimitedFunc q.fns g f limited.fns at).blank) has in
     record {
-      version = c.texts_are_unordered.ensures q is;
       fits = c.limited_programs_fit.ensures p all kinded limited complete;
       verified = record {
         kinded = places.kinds ∙ kinded;

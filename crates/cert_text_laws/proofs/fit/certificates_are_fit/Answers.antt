@@ -4,7 +4,7 @@ use Rattle.cert_text_laws.proofs.NarrowHeads.{narrow_heads}
 use Rattle.cert_text_laws.proofs.fit.certificates_are_fit.Goals as goal
 
 pub returns : goal.returns
-returns c = λ ordered p all fits kinded plain.
+returns c = λ ordered p all fits kinded.
     let formed = c.certificates_are_formed.ensures ordered (program_of p) all fits in
     record {
       kinded = kinded;
@@ -12,7 +12,6 @@ returns c = λ ordered p all fits kinded plain.
         kinded = kinded_parts (program_of p) kinded;
         states = c.certificates_have_states.ensures ordered p all fits kinded;
         arms = λ g f at. c.certificates_have_arms.ensures ordered (program_of p) all fits kinded g f at;
-        plain = plain;
       };
       sizes = record { most = formed.few_states };
       narrow = narrow_heads p;

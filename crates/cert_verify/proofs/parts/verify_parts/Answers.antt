@@ -20,7 +20,7 @@ pub test_notes-requires : goal.test_notes-requires
 test_notes-requires c =
     let f = c.in_ok-file.file in
     subst (λ notes. IsUnfit (program_of f.program) (notes_of_all notes) → ⊥) (sym c.as_slice.ensures)
-    (testable c.texts_have_more_bytes.ensures c.certificates_arent_unfit.ensures.first_version c.args.text.now (c_view.program_of f.c_program) f.program (notes_of_all f.notes) c.requires
+    (testable c.texts_have_more_bytes.ensures c.certificates_arent_unfit.ensures c.args.text.now (c_view.program_of f.c_program) f.program (notes_of_all f.notes) c.requires
     c.in_ok-file.ensures c.in_ok-kinded.ensures)
 
 pub returns-in_err-matches : goal.returns-in_err-matches

@@ -1,11 +1,12 @@
-use Rattle.std.proofs.Common.{Err, ap, ◌∙◌}
-use Rattle.vlt_check.specs.Unfit.{no_walk}
-use Rattle.vlt_check.proofs.Unfitting.{given_unfit}
+use Rattle.vlt_core.specs.View.{program_of, func_of}
+use Rattle.vlt_check.proofs.Listed.{body_least, body_refused, body_unfit}
 use Rattle.vlt_check.proofs.program.check_func.Goals as goal
 
-pub returns-in-Err-Refused-clause-unfit : goal.returns-in-Err-Refused-clause-unfit
-returns-in-Err-Refused-clause-unfit c = given_unfit _ (λ e. (c.if-f.false, c.refusal.ensures.unfit e))
+pub returns-else-f-clause-ok : goal.returns-else-f-clause-ok
+returns-else-f-clause-ok c = body_least (program_of c.args.p.now) (func_of c.args.f.now) _ c.if-f.false c.check_instances.ensures.ok
 
-pub returns-in-Err-Unfit-clause-unfit : goal.returns-in-Err-Unfit-clause-unfit
-returns-in-Err-Unfit-clause-unfit c =
-    given_unfit _ (λ e. (c.if-f.false, no_walk (c.walk.ensures.unfit.holds (c.in-Err-Unfit.is ∙ ap (λ x. Err x) c.in-Err-Unfit.field-0-is))))
+pub returns-else-f-clause-refused : goal.returns-else-f-clause-refused
+returns-else-f-clause-refused c = body_refused (program_of c.args.p.now) (func_of c.args.f.now) _ _ c.if-f.false c.check_instances.ensures.refused
+
+pub returns-else-f-clause-unfit : goal.returns-else-f-clause-unfit
+returns-else-f-clause-unfit c = body_unfit (program_of c.args.p.now) (func_of c.args.f.now) _ c.if-f.false c.check_instances.ensures.unfit

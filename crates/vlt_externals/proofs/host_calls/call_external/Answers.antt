@@ -1,76 +1,27 @@
-use Rattle.std.proofs.Common.{◌+◌, ◌-◌, ◌*◌, map, length, Ok, Err, sym, ap, ◌∙◌, subst, arith}
-use Rattle.vlt_io.specs.Outside.{Grew, GrewByPart}
-use Rattle.vlt_core.specs.View.{program_of, func_of, entry_of, keys_of}
-use Rattle.vlt_externals.specs.Told.{TellsCall}
-use Rattle.vlt_externals.specs.Sent.{CanTake, Takes}
-use Rattle.vlt_externals.specs.HostCalls.Heeded.{Heeds}
-use Rattle.vlt_externals.proofs.OfHostCalls.Calling.{vars_before, args_end, can_take, can_hand, cut_off, no_answer, halts, goes_on, cut_below, all_below}
+use Rattle.std.proofs.Common.{subst}
+use Rattle.vlt_core.specs.View.{program_of, func_of, keys_of}
+use Rattle.vlt_externals.specs.HostAnswers.Read.{AreSets}
+use Rattle.vlt_externals.proofs.OfHostAnswers.Instances.{clause_is, sets_in}
+use Rattle.vlt_externals.proofs.OfHostCalls.Instances.{lists_in}
+use Rattle.vlt_externals.proofs.OfHostCalls.Choosing.{can_within, can_as, calls_as}
 use Rattle.vlt_externals.proofs.host_calls.call_external.Goals as goal
 
-pub returns-in-Err-clause-calls : goal.returns-in-Err-clause-calls
-returns-in-Err-clause-calls g c =
-    cut_off (program_of c.args.program.now) (func_of c.args.g.now) c.args.target (keys_of c.args.keys.now) c.args.heap.now c.args.values.now c.args.host.now (record { written = g.K.Sink.written c.args.sink.now; faults = g.K.Sink.faults c.args.sink.now }) (record { written = g.K.Sink.written c.write.new.self; faults = g.K.Sink.faults c.write.new.self }) (c.len.result - c.args.g.now.params * c.width.result)
-    (ap (λ k. k - c.args.g.now.params * c.width.result) c.len.ensures ∙ ap (λ w. length c.args.values.now.slots.items - c.args.g.now.params * w) c.width.ensures)
-    c.call_line.new.line.items (subst (λ n. TellsCall n c.args.values.now (c.len.result - c.args.g.now.params * c.width.result) c.args.g.now.params c.call_line.new.line.items) c.as_slice.ensures c.call_line.ensures.told) c.args.heap.now c.args.values.now (record c.args.host.now { line = c.call_line.new.line })
-    (subst (GrewByPart (g.K.Sink.written c.args.sink.now) (g.K.Sink.written c.write.new.self)) c.deref.ensures.value c.in-Err.ensures.part) c.in-Err.ensures.failed c.in-Err.ensures.counted
+pub call_instance-requires-clause-within : goal.call_instance-requires-clause-within
+call_instance-requires-clause-within g c = can_within (program_of c.args.program.now) (func_of c.args.g.now) c.args.target (keys_of c.args.keys.now) c.args.heap.now c.args.values.now c.args.host.now c.called_origin-origin.result c.called_origin-origin.ensures c.requires.can
 
-pub returns-in_default-clause-calls : goal.returns-in_default-clause-calls
-returns-in_default-clause-calls g c =
-    no_answer (program_of c.args.program.now) (func_of c.args.g.now) c.args.target (keys_of c.args.keys.now) c.args.heap.now c.args.values.now c.args.host.now (record { written = g.K.Sink.written c.args.sink.now; faults = g.K.Sink.faults c.args.sink.now }) (record { written = g.K.Sink.written c.write.new.self; faults = g.K.Sink.faults c.write.new.self }) (c.len.result - c.args.g.now.params * c.width.result)
-    (ap (λ k. k - c.args.g.now.params * c.width.result) c.len.ensures ∙ ap (λ w. length c.args.values.now.slots.items - c.args.g.now.params * w) c.width.ensures)
-    c.call_line.new.line.items (subst (λ n. TellsCall n c.args.values.now (c.len.result - c.args.g.now.params * c.width.result) c.args.g.now.params c.call_line.new.line.items) c.as_slice.ensures c.call_line.ensures.told)
-    (subst (Grew (g.K.Sink.written c.args.sink.now) (g.K.Sink.written c.write.new.self)) c.deref.ensures.value c.in-Ok.ensures.ok) c.in-Ok.ensures.counted c.args.heap.now c.args.values.now c.take_answer.new.host c.in_default.ensures.0
+pub call_instance-requires-clause-lists : goal.call_instance-requires-clause-lists
+call_instance-requires-clause-lists g c = lists_in (program_of c.args.program.now) (func_of c.args.g.now) c.called_origin-origin.result (keys_of c.args.keys.now) c.requires.lists
 
-pub send_taken-requires-clause-can : goal.send_taken-requires-clause-can
-send_taken-requires-clause-can g c =
-    subst (λ es. CanTake c.args.heap.now c.args.values.now (keys_of c.args.keys.now) (map entry_of es)) (sym c.as_slice-2.ensures)
-    (can_take (program_of c.args.program.now) (func_of c.args.g.now) c.args.target (keys_of c.args.keys.now) c.args.heap.now c.args.values.now c.args.host.now c.requires.can c.in-Some.answer.now c.in-Some.ensures.0 c.requires.lists)
+pub call_instance-requires-clause-sets : goal.call_instance-requires-clause-sets
+call_instance-requires-clause-sets g c =
+    subst (AreSets (program_of c.args.program.now) (func_of c.args.g.now)) (clause_is (program_of c.args.program.now) (func_of c.args.g.now) c.called_origin-origin.result (func_of c.args.g.now).clause)
+    (sets_in (program_of c.args.program.now) (func_of c.args.g.now) c.called_origin-origin.result (func_of c.args.g.now).clause (can_within (program_of c.args.program.now) (func_of c.args.g.now) c.args.target (keys_of c.args.keys.now) c.args.heap.now c.args.values.now c.args.host.now c.called_origin-origin.result c.called_origin-origin.ensures c.requires.can) c.requires.sets)
 
-pub send_owned-requires-clause-can : goal.send_owned-requires-clause-can
-send_owned-requires-clause-can g c =
-    can_hand (program_of c.args.program.now) (func_of c.args.g.now) c.args.target (keys_of c.args.keys.now) c.args.heap.now c.args.values.now c.args.host.now c.requires.can c.in-Some.answer.now c.in-Some.ensures.0 c.requires.lists c.send_taken.new.heap (c.len.result - c.args.g.now.params * c.width.result)
-    (ap (λ k. k - c.args.g.now.params * c.width.result) c.len.ensures ∙ ap (λ w. length c.args.values.now.slots.items - c.args.g.now.params * w) c.width.ensures) (subst (λ es. Takes (keys_of c.args.keys.now) (map entry_of es) c.args.values.now c.args.heap.now c.send_taken.new.heap) c.as_slice-2.ensures c.send_taken.ensures.takes)
+pub call_instance-requires-clause-can : goal.call_instance-requires-clause-can
+call_instance-requires-clause-can g c = can_as (program_of c.args.program.now) (func_of c.args.g.now) c.args.target (keys_of c.args.keys.now) c.args.heap.now c.args.values.now c.args.host.now c.called_origin-origin.result c.called_origin-origin.ensures c.requires.can
 
-pub returns-in-Err-heed-clause-calls : goal.returns-in-Err-heed-clause-calls
-returns-in-Err-heed-clause-calls g c =
-    halts (program_of c.args.program.now) (func_of c.args.g.now) c.args.target (keys_of c.args.keys.now) c.args.heap.now c.args.values.now c.args.host.now (record { written = g.K.Sink.written c.args.sink.now; faults = g.K.Sink.faults c.args.sink.now }) (record { written = g.K.Sink.written c.write.new.self; faults = g.K.Sink.faults c.write.new.self }) (c.len.result - c.args.g.now.params * c.width.result)
-    (ap (λ k. k - c.args.g.now.params * c.width.result) c.len.ensures ∙ ap (λ w. length c.args.values.now.slots.items - c.args.g.now.params * w) c.width.ensures)
-    c.call_line.new.line.items (subst (λ n. TellsCall n c.args.values.now (c.len.result - c.args.g.now.params * c.width.result) c.args.g.now.params c.call_line.new.line.items) c.as_slice.ensures c.call_line.ensures.told)
-    (subst (Grew (g.K.Sink.written c.args.sink.now) (g.K.Sink.written c.write.new.self)) c.deref.ensures.value c.in-Ok.ensures.ok) c.in-Ok.ensures.counted
-    c.requires.lists c.send_taken.new.heap c.send_owned.new.heap c.heed.new.heap c.truncate.new.self c.heed.new.values c.take_answer.new.host c.in-Some.answer.now c.in-Some.ensures.0
-    (subst (λ es. Takes (keys_of c.args.keys.now) (map entry_of es) c.args.values.now c.args.heap.now c.send_taken.new.heap) c.as_slice-2.ensures c.send_taken.ensures.takes) c.send_owned.ensures.hands c.truncate.ensures.cut (c.send_owned.ensures.size.heap ∙ c.send_taken.ensures.size.heap) c.in-Err-heed.stop
-    (subst (Heeds (program_of c.args.program.now) (func_of c.args.g.now) (keys_of c.args.keys.now) (c.args.host.now.taken + 1) c.in-Some.answer.now c.truncate.new.self c.heed.new.values c.send_owned.new.heap c.heed.new.heap) c.in-Err-heed.is
-    (subst (λ n. Heeds (program_of c.args.program.now) (func_of c.args.g.now) (keys_of c.args.keys.now) n c.in-Some.answer.now c.truncate.new.self c.heed.new.values c.send_owned.new.heap c.heed.new.heap c.heed.result) (ap (λ q. q.taken) c.in-Some.ensures.1) c.heed.ensures.heeds))
-
-pub returns-in-Err-heed-clause-same : goal.returns-in-Err-heed-clause-same
-returns-in-Err-heed-clause-same g c =
-    cut_below c.args.values.now c.truncate.new.self c.heed.new.values (c.len.result - c.args.g.now.params * c.width.result)
-    (let l = vars_before (program_of c.args.program.now) (func_of c.args.g.now) (keys_of c.args.keys.now) c.args.heap.now c.args.values.now c.args.host.now c.requires.can.seen c.requires.can.world c.requires.can.args c.requires.can.call (c.len.result - c.args.g.now.params * c.width.result) (ap (λ k. k - c.args.g.now.params * c.width.result) c.len.ensures ∙ ap (λ w. length c.args.values.now.slots.items - c.args.g.now.params * w) c.width.ensures) in omega (arith, l))
-    c.truncate.ensures.cut c.truncate.ensures.room c.heed.ensures.same
-
-pub returns-in-Ok-heed-clause-same : goal.returns-in-Ok-heed-clause-same
-returns-in-Ok-heed-clause-same g c =
-    all_below c.args.values.now c.heed.new.values c.deliver.new.values c.truncate-in-Ok-heed.new.self (c.len.result - c.args.g.now.params * c.width.result)
-    (let l = vars_before (program_of c.args.program.now) (func_of c.args.g.now) (keys_of c.args.keys.now) c.args.heap.now c.args.values.now c.args.host.now c.requires.can.seen c.requires.can.world c.requires.can.args c.requires.can.call (c.len.result - c.args.g.now.params * c.width.result) (ap (λ k. k - c.args.g.now.params * c.width.result) c.len.ensures ∙ ap (λ w. length c.args.values.now.slots.items - c.args.g.now.params * w) c.width.ensures) in omega (arith, l))
-    (cut_below c.args.values.now c.truncate.new.self c.heed.new.values (c.len.result - c.args.g.now.params * c.width.result)
-    (let l = vars_before (program_of c.args.program.now) (func_of c.args.g.now) (keys_of c.args.keys.now) c.args.heap.now c.args.values.now c.args.host.now c.requires.can.seen c.requires.can.world c.requires.can.args c.requires.can.call (c.len.result - c.args.g.now.params * c.width.result) (ap (λ k. k - c.args.g.now.params * c.width.result) c.len.ensures ∙ ap (λ w. length c.args.values.now.slots.items - c.args.g.now.params * w) c.width.ensures) in omega (arith, l))
-    c.truncate.ensures.cut c.truncate.ensures.room c.heed.ensures.same)
-    c.deliver.ensures.same c.truncate-in-Ok-heed.ensures.cut c.truncate-in-Ok-heed.ensures.room
-
-pub returns-in-Ok-heed-clause-long : goal.returns-in-Ok-heed-clause-long
-returns-in-Ok-heed-clause-long g c =
-    let l = c.truncate-in-Ok-heed.ensures.cut.long in
-    let e = args_end (program_of c.args.program.now) (func_of c.args.g.now) (keys_of c.args.keys.now) c.args.heap.now c.args.values.now c.args.host.now c.requires.can.seen c.requires.can.world c.requires.can.args c.requires.can.call (c.len.result - c.args.g.now.params * c.width.result) (ap (λ k. k - c.args.g.now.params * c.width.result) c.len.ensures ∙ ap (λ w. length c.args.values.now.slots.items - c.args.g.now.params * w) c.width.ensures) in
-    ap (λ n. n + c.args.g.now.params * c.args.values.now.width) l ∙ e
-
-pub returns-in-Ok-heed-clause-calls : goal.returns-in-Ok-heed-clause-calls
-returns-in-Ok-heed-clause-calls g c =
-    goes_on (program_of c.args.program.now) (func_of c.args.g.now) c.args.target (keys_of c.args.keys.now) c.args.heap.now c.args.values.now c.args.host.now (record { written = g.K.Sink.written c.args.sink.now; faults = g.K.Sink.faults c.args.sink.now }) (record { written = g.K.Sink.written c.write.new.self; faults = g.K.Sink.faults c.write.new.self }) (c.len.result - c.args.g.now.params * c.width.result)
-    (ap (λ k. k - c.args.g.now.params * c.width.result) c.len.ensures ∙ ap (λ w. length c.args.values.now.slots.items - c.args.g.now.params * w) c.width.ensures)
-    c.call_line.new.line.items (subst (λ n. TellsCall n c.args.values.now (c.len.result - c.args.g.now.params * c.width.result) c.args.g.now.params c.call_line.new.line.items) c.as_slice.ensures c.call_line.ensures.told)
-    (subst (Grew (g.K.Sink.written c.args.sink.now) (g.K.Sink.written c.write.new.self)) c.deref.ensures.value c.in-Ok.ensures.ok) c.in-Ok.ensures.counted
-    c.requires.lists c.send_taken.new.heap c.send_owned.new.heap c.heed.new.heap c.truncate.new.self c.heed.new.values c.take_answer.new.host c.in-Some.answer.now c.in-Some.ensures.0
-    (subst (λ es. Takes (keys_of c.args.keys.now) (map entry_of es) c.args.values.now c.args.heap.now c.send_taken.new.heap) c.as_slice-2.ensures c.send_taken.ensures.takes) c.send_owned.ensures.hands c.truncate.ensures.cut (c.send_owned.ensures.size.heap ∙ c.send_taken.ensures.size.heap) c.deliver.new.values c.truncate-in-Ok-heed.new.self c.requires.target
-    (ap (λ q. q.input.now) c.in-Some.ensures.1) (ap (λ q. q.answers.now) c.in-Some.ensures.1) (ap (λ q. q.taken) c.in-Some.ensures.1) c.heed.ensures.same c.in-Ok-heed.ensures.long c.deliver.ensures.same c.deliver.ensures.delivered c.truncate-in-Ok-heed.ensures.cut
-    (subst (Heeds (program_of c.args.program.now) (func_of c.args.g.now) (keys_of c.args.keys.now) (c.args.host.now.taken + 1) c.in-Some.answer.now c.truncate.new.self c.heed.new.values c.send_owned.new.heap c.heed.new.heap) c.in-Ok-heed.is
-    (subst (λ n. Heeds (program_of c.args.program.now) (func_of c.args.g.now) (keys_of c.args.keys.now) n c.in-Some.answer.now c.truncate.new.self c.heed.new.values c.send_owned.new.heap c.heed.new.heap c.heed.result) (ap (λ q. q.taken) c.in-Some.ensures.1) c.heed.ensures.heeds))
+pub returns-clause-calls : goal.returns-clause-calls
+returns-clause-calls g c =
+    calls_as (program_of c.args.program.now) (func_of c.args.g.now) c.args.target (keys_of c.args.keys.now) c.args.heap.now c.args.values.now c.args.host.now c.called_origin-origin.result c.called_origin-origin.ensures c.call_instance.new.heap c.call_instance.new.values c.call_instance.new.host
+    (record { written = g.K.Sink.written c.args.sink.now; faults = g.K.Sink.faults c.args.sink.now }) (record { written = g.K.Sink.written c.call_instance.new.sink; faults = g.K.Sink.faults c.call_instance.new.sink })
+    c.call_instance.result c.call_instance.ensures.calls

@@ -1,5 +1,6 @@
 use Rattle.std.proofs.Common.{map}
 use Rattle.vlt_core.specs.Least.{IsLeast}
+use Rattle.vlt_core.specs.Instances.{instance}
 use Rattle.vlt_core.specs.View.{program_of, func_of}
 use Rattle.vlt_keyset.specs.Held.{map_of}
 use Rattle.vlt_rows.specs.FlowView.{block_view}
@@ -17,7 +18,7 @@ use Rattle.vlt_flow.proofs.notes.annotate.Goals as goal
 pub returns-in-Some-clause-least : goal.returns-in-Some-clause-least
 returns-in-Some-clause-least c =
     let p = program_of c.args.p.now in
-    let f = func_of c.args.f.now in
+    let f = instance p (func_of c.args.f.now) c.args.origin in
     if_more c.annotate_block.result
     (λ a. AreNotes (block_view c.in_ok-flow.flow) (map_of c.in_ok-start.start) (map note_of a.maps))
     (λ a. IsLeast p f (map note_of a.maps))
@@ -26,7 +27,7 @@ returns-in-Some-clause-least c =
 
 pub returns-in-Some-clause-refused : goal.returns-in-Some-clause-refused
 returns-in-Some-clause-refused c =
-    stop_through _ _ (λ e. e) (λ never. none_in (program_of c.args.p.now) (func_of c.args.f.now) _ _ c.in_ok-flow.ensures c.in_ok-start.ensures.map never) c.annotate_block.ensures.refused
+    stop_through _ _ (λ e. e) (λ never. none_in (program_of c.args.p.now) (instance (program_of c.args.p.now) (func_of c.args.f.now) c.args.origin) _ _ c.in_ok-flow.ensures c.in_ok-start.ensures.map never) c.annotate_block.ensures.refused
 
 pub returns-in_err-start-clause-unfit : goal.returns-in_err-start-clause-unfit
 returns-in_err-start-clause-unfit c = unfit_stop _ _ c.from_residual-in_err-start.ensures.1 c.in_err-start.ensures.map (λ u. inl (no_start u))
@@ -35,4 +36,4 @@ pub returns-in-Some-clause-unfit : goal.returns-in-Some-clause-unfit
 returns-in-Some-clause-unfit c =
     let keys = rw c.in-Some.is at c.of.ensures.keys in
     let vars = rw c.in-Some.is at c.of.ensures.vars in
-    unfit_through _ (λ u. inr (unnoted_in (program_of c.args.p.now) (func_of c.args.f.now) _ _ _ _ _ _ c.in_ok-flow.ensures c.in_ok-start.ensures.map keys vars u)) c.annotate_block.ensures.unfit
+    unfit_through _ (λ u. inr (unnoted_in (program_of c.args.p.now) (instance (program_of c.args.p.now) (func_of c.args.f.now) c.args.origin) _ _ _ _ _ _ c.in_ok-flow.ensures c.in_ok-start.ensures.map keys vars u)) c.annotate_block.ensures.unfit

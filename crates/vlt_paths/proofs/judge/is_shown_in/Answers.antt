@@ -3,14 +3,14 @@ use Rattle.vlt_core.specs.FaultView.{choices_of}
 use Rattle.vlt_core.specs.Maps.{absent}
 use Rattle.vlt_core.specs.View.{program_of, func_of}
 use Rattle.vlt_paths.specs.Shown.{fault_view}
-use Rattle.vlt_paths.proofs.Beginning.{row_shown, not_shown, no_body}
+use Rattle.vlt_paths.proofs.Beginning.{row_shown, not_shown, no_instance, is_so, is_not}
 use Rattle.vlt_paths.proofs.judge.is_shown_in.Goals as goal
 
-pub returns-then-f : goal.returns-then-f
-returns-then-f c = no_body (program_of c.args.p.now) (func_of c.args.f.now) (fault_view c.args.fault.now) (choices_of c.args.path.now) None c.if-f.true
+pub returns-then-not-has_instance : goal.returns-then-not-has_instance
+returns-then-not-has_instance c = no_instance (program_of c.args.p.now) (func_of c.args.f.now) (fault_view c.args.fault.now) (choices_of c.args.path.now) None (is_not _ _ c.has_instance.ensures c.if-not-has_instance.true)
 
 pub returns-in-Row : goal.returns-in-Row
-returns-in-Row c = rw c.in-Row.is (row_shown (program_of c.args.p.now) (func_of c.args.f.now) c.args.fault.now.fn_id.0 c.args.fault.now.origin _ _ absent _ (choices_of c.args.path.now) c.shows_row.result c.if-f.false c.shows_row.ensures)
+returns-in-Row c = rw c.in-Row.is (row_shown (program_of c.args.p.now) (func_of c.args.f.now) c.args.fault.now.fn_id.0 c.args.fault.now.origin _ _ absent _ (choices_of c.args.path.now) c.shows_row.result (is_so _ _ c.has_instance.ensures c.if-not-has_instance.false) c.shows_row.ensures)
 
 pub returns-in-Join : goal.returns-in-Join
 returns-in-Join c = not_shown (program_of c.args.p.now) (func_of c.args.f.now) (fault_view c.args.fault.now) (choices_of c.args.path.now) None (rw c.in-Join.is (λ h. h))

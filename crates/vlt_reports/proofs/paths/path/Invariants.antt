@@ -8,4 +8,4 @@ use Rattle.vlt_reports.proofs.paths.path.Given as goal
 abbrev pub invariant-loop-choice : goal.invariant-loop-choice
 invariant-loop-choice l =
     l.out.items ++ flat_map (choice_text l.text (program_of l.p) (func_of l.f)) (map choice_of (drop l.choice-index l.choices))
-    ≡ codes "path" ++ flat_map (choice_text l.text (program_of l.p) (func_of l.f)) (map choice_of l.choices)
+    ≡ codes "path" ++ l.instance ++ flat_map (choice_text l.text (program_of l.p) (func_of l.f)) (map choice_of l.choices)

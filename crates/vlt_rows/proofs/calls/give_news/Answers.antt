@@ -1,23 +1,22 @@
 use Rattle.std.proofs.Common.{arith, ap, length}
 use Rattle.std.specs.Option.{option_map}
 use Rattle.vlt_core.specs.View.{program_of, func_of, operand_of, entry_of}
-use Rattle.vlt_core.specs.Lookups.{is_new}
-use Rattle.vlt_core.specs.Rows.{returned_row}
+use Rattle.vlt_core.specs.Instances.{entry_in}
 use Rattle.vlt_rows.specs.Pieces.{new_row}
-use Rattle.vlt_rows.proofs.Looping.{flat_filter}
+use Rattle.vlt_rows.proofs.Instanced.{news_in, same_rows}
 use Rattle.vlt_rows.proofs.Looping.{going_more, going_stops, going_ends}
 use Rattle.vlt_rows.proofs.calls.give_news.Goals as goal
 
 pub returns-in_err-give_new : goal.returns-in_err-give_new
 returns-in_err-give_new g c =
-    rw (← flat_filter (returned_row (program_of c.args.p.now) (func_of c.args.f.now) (option_map operand_of c.args.value.now)) is_new entry_of c.args.f.now.clause)
-    (going_stops _ _ (λ e. new_row (program_of c.args.p.now) (func_of c.args.f.now) (option_map operand_of c.args.value.now) (entry_of e)) (c.args.f.now.clause) _ _ _ _ _ _ _ (omega (arith, ap length c.as_slice-e-items.ensures)) (rw c.as_slice-e-items.ensures at c.e-item.is) c.loop-e.invariant c.from_residual.ensures.1 c.in_err-give_new.ensures)
+    same_rows g.S.RowSink.takes g.S.RowSink.stops _ _ _ _ _ (news_in (program_of c.args.p.now) (func_of c.args.f.now) c.args.origin (option_map operand_of c.args.value.now) entry_of c.args.f.now.clause)
+    (going_stops _ _ (λ e. new_row (program_of c.args.p.now) (func_of c.args.f.now) (option_map operand_of c.args.value.now) (entry_in (program_of c.args.p.now) (func_of c.args.f.now) c.args.origin (entry_of e))) (c.args.f.now.clause) _ _ _ _ _ _ _ (omega (arith, ap length c.as_slice-e-items.ensures)) (rw c.as_slice-e-items.ensures at c.e-item.is) c.loop-e.invariant c.from_residual.ensures.1 c.in_err-give_new.ensures)
 
 pub loop-e-preserved : goal.loop-e-preserved
 loop-e-preserved g c =
-    going_more _ _ (λ e. new_row (program_of c.args.p.now) (func_of c.args.f.now) (option_map operand_of c.args.value.now) (entry_of e)) (c.args.f.now.clause) _ _ _ _ _ (omega (arith, ap length c.as_slice-e-items.ensures)) (rw c.as_slice-e-items.ensures at c.e-item.is) c.loop-e.invariant c.in_ok-give_new.ensures
+    going_more _ _ (λ e. new_row (program_of c.args.p.now) (func_of c.args.f.now) (option_map operand_of c.args.value.now) (entry_in (program_of c.args.p.now) (func_of c.args.f.now) c.args.origin (entry_of e))) (c.args.f.now.clause) _ _ _ _ _ (omega (arith, ap length c.as_slice-e-items.ensures)) (rw c.as_slice-e-items.ensures at c.e-item.is) c.loop-e.invariant c.in_ok-give_new.ensures
 
 pub returns : goal.returns
 returns g c =
-    rw (← flat_filter (returned_row (program_of c.args.p.now) (func_of c.args.f.now) (option_map operand_of c.args.value.now)) is_new entry_of c.args.f.now.clause)
-    (going_ends _ _ (λ e. new_row (program_of c.args.p.now) (func_of c.args.f.now) (option_map operand_of c.args.value.now) (entry_of e)) (c.args.f.now.clause) _ _ _ (omega (arith, c.loop-e-test.false, ap length c.as_slice-e-items.ensures)) c.loop-e.invariant)
+    same_rows g.S.RowSink.takes g.S.RowSink.stops _ _ _ _ _ (news_in (program_of c.args.p.now) (func_of c.args.f.now) c.args.origin (option_map operand_of c.args.value.now) entry_of c.args.f.now.clause)
+    (going_ends _ _ (λ e. new_row (program_of c.args.p.now) (func_of c.args.f.now) (option_map operand_of c.args.value.now) (entry_in (program_of c.args.p.now) (func_of c.args.f.now) c.args.origin (entry_of e))) (c.args.f.now.clause) _ _ _ (omega (arith, c.loop-e-test.false, ap length c.as_slice-e-items.ensures)) c.loop-e.invariant)

@@ -6,7 +6,6 @@ returns c = fit (record {
   kinded = c.elaborated_programs_are_kinded.ensures;
   states = c.elaborated_programs_have_states.ensures;
   arms = c.elaborated_programs_have_arms.ensures;
-  plain = c.elaborated_programs_have_no_bounds.ensures;
   proper = c.elaborated_programs_have_proper_bodies.ensures;
   sets = c.elaborated_programs_have_sets.ensures;
   vars = c.elaborated_programs_have_few_variables.ensures;

@@ -1,7 +1,7 @@
 use Rattle.std.proofs.Common.{◌≡◌, ◌∙◌, ap, subst, arith, map}
 use Rattle.vlt_core.specs.View.{func_of, keys_of, entry_of}
 use Rattle.vlt_acts.specs.Values.Shown.{IsCut}
-use Rattle.vlt_acts.proofs.OfFrames.Callers.{named_so, mid_table, mid_target, has_gone, goes_back, back_of}
+use Rattle.vlt_acts.proofs.OfFrames.Callers.{named_so, named_like, mid_table, mid_target, has_gone, goes_back, back_of}
 use Rattle.vlt_acts.proofs.frames.leaving.leave.Goals as goal
 
 pub deliver-requires-clause-table : goal.deliver-requires-clause-table
@@ -37,7 +37,7 @@ returns-clause-room c =
     c.truncate.ensures.room ∙ c.deliver.ensures.room ∙ named
 
 pub returns-clause-returns : goal.returns-clause-returns
-returns-clause-returns c = λ items k a kept v left waits.
-    let named = named_so c.args.caller.now (func_of c.args.callee.now) c.args.values.now c.run.new.self c.name_all.new.values (map entry_of c.as_slice.result.now) c.keys-from.result c.last-value.result c.run.ensures c.keys-from.ensures c.last-value.ensures (ap (map entry_of) c.as_slice.ensures) c.requires.below c.name_all.ensures.named c.name_all.ensures.names in
-    back_of items c.args.caller.now (func_of c.args.callee.now) c.args.values.now c.truncate.new.self a kept v k waits
-    (λ stands. goes_back items c.args.caller.now (func_of c.args.callee.now) c.args.values.now c.name_all.new.values c.truncate.new.self a kept v k.frame named left stands c.deliver.new.values c.deliver.ensures.delivered (subst (λ n. IsCut n c.deliver.new.values c.truncate.new.self) c.base-end.ensures c.truncate.ensures.cut))
+returns-clause-returns c = λ g like items k a kept v left waits.
+    let named = named_like c.args.caller.now (func_of c.args.callee.now) g c.args.values.now c.name_all.new.values like (named_so c.args.caller.now (func_of c.args.callee.now) c.args.values.now c.run.new.self c.name_all.new.values (map entry_of c.as_slice.result.now) c.keys-from.result c.last-value.result c.run.ensures c.keys-from.ensures c.last-value.ensures (ap (map entry_of) c.as_slice.ensures) c.requires.below c.name_all.ensures.named c.name_all.ensures.names) in
+    back_of items c.args.caller.now g c.args.values.now c.truncate.new.self a kept v k waits
+    (λ stands. goes_back items c.args.caller.now g c.args.values.now c.name_all.new.values c.truncate.new.self a kept v k.frame named left stands c.deliver.new.values c.deliver.ensures.delivered (subst (λ n. IsCut n c.deliver.new.values c.truncate.new.self) c.base-end.ensures c.truncate.ensures.cut))

@@ -1,7 +1,8 @@
-use Rattle.std.proofs.Common.{◌+◌, ◌*◌, arith, refl, sym, ap, subst}
+use Rattle.std.proofs.Common.{◌+◌, ◌*◌, arith, refl, ap}
 use Rattle.std.specs.Option.{option_map}
 use Rattle.vlt_core.specs.View.{func_of, keys_of, stmts_of, program_of}
-use Rattle.vlt_acts.specs.Frames.Frames.{IsRunning}
+use Rattle.vlt_acts.proofs.OfFrames.Like.{like_back, running_like}
+use Rattle.vlt_interp.proofs.Likeness.{own_func}
 use Rattle.vlt_interp.proofs.OfCalls.Bodies.{too_deep, enters_body, body_room}
 use Rattle.vlt_interp.proofs.calls.entering.enter_body.Goals as goal
 
@@ -10,16 +11,16 @@ returns-then-run-rules c = λ b.
     too_deep c.args.rules.now c.args.run.now (func_of c.args.callee.now) (option_map (λ v. v.0) c.args.target) (keys_of c.args.keys.now) b (let l = c.if-run-rules.true in omega (arith, l)) c.requires.can.ready.room.heap
 
 pub enter-waiting-requires-clause-params : goal.enter-waiting-requires-clause-params
-enter-waiting-requires-clause-params c = (c.requires.can.ready.own.all c.requires.can.ready.callee.position (func_of c.args.callee.now) c.requires.can.ready.callee.at).params
+enter-waiting-requires-clause-params c = (own_func (program_of c.args.rules.now.program.now) c.requires.can.ready.own (func_of c.args.callee.now) c.requires.can.ready.callee).params
 
 pub enter-waiting-requires-clause-few : goal.enter-waiting-requires-clause-few
-enter-waiting-requires-clause-few c = (c.requires.can.ready.own.all c.requires.can.ready.callee.position (func_of c.args.callee.now) c.requires.can.ready.callee.at).few
+enter-waiting-requires-clause-few c = (own_func (program_of c.args.rules.now.program.now) c.requires.can.ready.own (func_of c.args.callee.now) c.requires.can.ready.callee).few
 
 pub enter-waiting-requires-clause-room : goal.enter-waiting-requires-clause-room
 enter-waiting-requires-clause-room c =
     let k = c.requires.can in
     body_room (program_of c.args.rules.now.program.now) (func_of c.args.callee.now) k.ready.callee c.args.rules.now.depth c.args.run.now k.ready.room (func_of c.args.run.now.func.now)
-    (subst (λ f. IsRunning c.args.run.now.values f (c.args.callee.now.params * c.args.run.now.values.width)) (sym k.right.shown.func) k.right.shown.args_shown.running) k.ready.values
+    (running_like c.args.run.now.values k.right.func (func_of c.args.run.now.func.now) (c.args.callee.now.params * c.args.run.now.values.width) (like_back (func_of c.args.run.now.func.now) k.right.func k.right.shown.func) k.right.shown.args_shown.running) k.ready.values
 
 pub returns : goal.returns
 returns c = λ b.

@@ -1,6 +1,6 @@
 use Rattle.std.specs.Option.{option_map}
 use Rattle.std.proofs.Common.{Ok, Err, subst}
-use Rattle.vlt_core.specs.View.{func_of, operand_of}
+use Rattle.vlt_core.specs.View.{operand_of}
 use Rattle.vlt_acts.specs.Frames.Left.{Gives}
 use Rattle.vlt_interp.proofs.OfReturns.Giving.{given_table, given_room, left_does, trap_does}
 use Rattle.vlt_interp.proofs.returns.returns.give_back.Goals as goal
@@ -18,7 +18,7 @@ pub give-requires-clause-room : goal.give-requires-clause-room
 give-requires-clause-room c = given_room (option_map operand_of c.args.value.now) c.args.run.now c.requires.can
 
 pub returns-in-Ok : goal.returns-in-Ok
-returns-in-Ok c = left_does (option_map operand_of c.args.value.now) c.args.run.now c.give.new.values c.requires.can c.give.ensures.grown c.give.ensures.long c.give.ensures.room (subst (λ o. Gives (func_of c.args.run.now.func.now) (option_map operand_of o) c.args.run.now.heap c.args.run.now.values c.give.new.values (Ok tt)) c.as_ref.ensures.value c.in-Ok.ensures.gives)
+returns-in-Ok c = left_does (option_map operand_of c.args.value.now) c.args.run.now c.give.new.values c.requires.can c.give.ensures.grown c.give.ensures.long c.give.ensures.room (λ g like. subst (λ o. Gives g (option_map operand_of o) c.args.run.now.heap c.args.run.now.values c.give.new.values (Ok tt)) c.as_ref.ensures.value (c.in-Ok.ensures.gives g like))
 
 pub returns-in-Err : goal.returns-in-Err
-returns-in-Err c = trap_does (option_map operand_of c.args.value.now) c.args.run.now c.give.new.values c.requires.can c.give.ensures.grown c.give.ensures.long c.give.ensures.room c.in-Err.trap (subst (λ o. Gives (func_of c.args.run.now.func.now) (option_map operand_of o) c.args.run.now.heap c.args.run.now.values c.give.new.values (Err c.in-Err.trap)) c.as_ref.ensures.value c.in-Err.ensures.gives)
+returns-in-Err c = trap_does (option_map operand_of c.args.value.now) c.args.run.now c.give.new.values c.requires.can c.give.ensures.grown c.give.ensures.long c.give.ensures.room c.in-Err.trap (λ g like. subst (λ o. Gives g (option_map operand_of o) c.args.run.now.heap c.args.run.now.values c.give.new.values (Err c.in-Err.trap)) c.as_ref.ensures.value (c.in-Err.ensures.gives g like))
