@@ -12,13 +12,13 @@ use Rattle.c_syntax.specs.declared.program.CCell.TheVariants as cell
 use Rattle.c_syntax.specs.declared.token.CWord.TheVariants as w
 use Rattle.c_syntax.specs.declared.token.CSign.TheVariants as s
 use Rattle.c_syntax.specs.C as c
-use Rattle.c_syntax.specs.C.{Expr, Arg, Call, Stmt, Stmts}
+use Rattle.c_syntax.specs.C.{Expr, Arg, Call}
 use Rattle.c_syntax.specs.Tokens as t
 use Rattle.c_syntax.specs.Tokens.{Token}
 use Rattle.c_syntax.specs.Grammar.{Bounds, expr_depth, IsCall}
 use Rattle.c_syntax.specs.Spelling.{prefix_sign, expr_then, arg_token, call_then, stmt_then}
 use Rattle.c_automaton.specs.Automaton as a
-use Rattle.c_automaton.specs.Automaton.{Symbol, blocks_in, parens_in, Reaction, word_number, sign_number, is_string_taker, with_behind, react_operand, react_inside, react_operation, react_operand_end, react_arg, react_args, react_more_args, react_value, react_return, react_reference, react_otherwise, react_stmts, react_type, react_head, react_behind_head, react_params, react_more_params, react_body, react}
+use Rattle.c_automaton.specs.Automaton.{Symbol, parens_in, Reaction, is_string_taker, with_behind, react_operand, react_inside, react_operation, react_operand_end, react_arg, react_args, react_more_args, react}
 use Rattle.c_automaton.proofs.Exprs.{MayStand, some_depth}
 use Rattle.c_automaton.proofs.Parts.{Rest, reference, kind_word, Part, Spells, Backs}
 

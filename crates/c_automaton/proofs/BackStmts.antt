@@ -17,7 +17,7 @@ use Rattle.c_syntax.specs.Tokens.{Token}
 use Rattle.c_syntax.specs.Grammar.{Bounds, HasArities, expr_depth, IsCall, IsWritten, AreWritten, deepest_in, deepest, nested_in, nested, AreBodies}
 use Rattle.c_syntax.specs.Spelling.{type_then, result_then, head_then, vars_then, expr_then, call_then, stmt_then, stmts_then, bodies_then}
 use Rattle.c_automaton.specs.Automaton as a
-use Rattle.c_automaton.specs.Automaton.{Symbol, blocks_in, parens_in, Reaction, word_number, sign_number, is_string_taker, taken_if, with_behind, react_operand, react_value, react_return, react_reference, react_otherwise, react_stmts, react_type, react_head, react_behind_head, react_params, react_more_params, react_body, react}
+use Rattle.c_automaton.specs.Automaton.{Symbol, blocks_in, Reaction, word_number, sign_number, react_operand, react_value, react_return, react_reference, react_otherwise, react_stmts, react_behind_head, react_params, react_more_params, react_body, react}
 use Rattle.c_automaton.proofs.Same.{same_word, same_sign}
 use Rattle.c_automaton.proofs.Parts.{Rest, reference, HasRoom, Part, Spells, Backs}
 use Rattle.c_automaton.proofs.Back.{if_back, back_operand, through, tail_tokens, cell_in, cell_tail, put_spelled, back_operand_end, back_cell_kind, back_inside, back_operation, back_arg, back_args, back_more_args, function_tail, primitive_tail}

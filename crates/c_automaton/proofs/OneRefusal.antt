@@ -12,7 +12,7 @@ use Rattle.c_syntax.specs.Grammar.{Bounds, language, IsUnit}
 use Rattle.c_syntax.specs.Reading.{tokens_in, places_in, Continues, any_size, within_limits, within_blocks, within_expressions, IsLastOf, IsUnexpectedAt, IsOverLimitAt}
 use Rattle.c_automaton.specs.Refusals.{unexpected_at, cut_short, over_limit, ExceedsAt}
 use Rattle.c_automaton.specs.Automaton as a
-use Rattle.c_automaton.specs.Automaton.{Symbol, blocks_in, parens_in, Reaction, react, Next, to, over, next, step, start}
+use Rattle.c_automaton.specs.Automaton.{Symbol, blocks_in, parens_in, Reaction, react, Next, to, next, step, start}
 use Rattle.c_automaton.specs.Laws.{HasOneRefusal, IsNeverBoth}
 use Rattle.c_automaton.proofs.After.{after}
 use Rattle.c_automaton.proofs.Units.{unit_taken}

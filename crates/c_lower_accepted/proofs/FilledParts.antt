@@ -1,5 +1,5 @@
 -- Sets of states in payloads and results that elaboration makes have a state.
-use Rattle.std.proofs.Common.{◌≡◌, ℕ, true, List, Some, None, slice_get, refl, sym, ◌∙◌, subst}
+use Rattle.std.proofs.Common.{◌≡◌, ℕ, true, List, Some, slice_get, refl, sym, ◌∙◌, subst}
 use Rattle.std.proofs.lemmas.Option.{none-some, same_Some}
 use Rattle.vlt_syntax.specs.Tree as s
 use Rattle.vlt_syntax.specs.Tree.{Decl, ResultType}

@@ -1,5 +1,5 @@
 -- What is asked of an accepted program is all that the lowering asks.
-use Rattle.std.proofs.Common.{◌≡◌, ◌<◌, ℕ, true, Option, Some, None, refl, slice_get}
+use Rattle.std.proofs.Common.{◌≡◌, ℕ, true, Option, Some, None, refl, slice_get}
 use Rattle.std.proofs.lemmas.Bool.{ltb-true}
 use Rattle.std.specs.Option.{IfSome}
 use Rattle.vlt_core.specs.Core.{States, Entry, Func, Program}

@@ -4,7 +4,7 @@ use Rattle.std.proofs.lemmas.Bool.{false≢true, true≢false, eqb-true}
 use Rattle.std.proofs.lemmas.Bool.Decides.{nat_tests}
 use Rattle.std.specs.List.{list_all}
 use Rattle.std.proofs.lemmas.Option.{none-some, same_Some}
-use Rattle.vlt_ops.specs.Operator.{is_true, bool_number, equals}
+use Rattle.vlt_ops.specs.Operator.{bool_number, equals}
 use Rattle.vlt_core.specs.Core as core
 use Rattle.vlt_core.specs.Core.{Ty, CaseDecl, Arms, no_arms, arm, Func, Program}
 use Rattle.vlt_core.specs.Lookups.{var_type, cases_of, case_at, variant_of, KeyIn, case_keys, is_owning_var}
@@ -44,7 +44,7 @@ use Rattle.c_lower_names.specs.Naming.{IsInScope, NamesRight}
 use Rattle.vlt_core.specs.Kinded.{IsKinded}
 use Rattle.c_lower_names.proofs.KnownScopes.{AreRanged, ranged_of, vars_known, arm_known}
 use Rattle.c_lower_names.proofs.FrameNaming.{names_set, var_adds}
-use Rattle.c_lower_names.proofs.NamedOperands.{Emptied, emptied_self, emptied_one, emptied_names, used_scope, emptied_switch}
+use Rattle.c_lower_names.proofs.NamedOperands.{emptied_names, used_scope, emptied_switch}
 use Rattle.c_lower_names.proofs.NamedSimple.{misfit_plain}
 use Rattle.c_lower_forms.proofs.UnpackAndAdopt.{owned_faults, owned_ok}
 use Rattle.c_lower_names.proofs.FoundObjects.{IsFree, OnlyFaults, then_ok, or_faults, then_faults, if_so_faults, err_ok, ok_same}

@@ -1,22 +1,20 @@
 -- The parts that the code writes are those of the definition.
-use Rattle.std.proofs.Common.{◌≡◌, ℕ, Bool, true, false, not, ◌&&◌, if◌then◌else◌, List, [], ◌∷◌, ◌++◌, map, filter, length, Option, Some, None, refl, sym, ap, ◌∙◌, append_assoc}
+use Rattle.std.proofs.Common.{◌≡◌, ℕ, not, ◌&&◌, List, [], ◌∷◌, ◌++◌, map, filter, length, Option, Some, None, refl, ap, ◌∙◌, append_assoc}
 use Rattle.std.proofs.lemmas.List.{append-nil}
-use Rattle.std.specs.List.{flat_map, zip, enumerate_from, range_with_len}
-use Rattle.vlt_core.specs.Core.{States, Ty, int, bool, tracked, owning, guarded, variant, owning_variant, CaseKey, CaseDecl, Entry, Func, Program}
-use Rattle.vlt_core.specs.Lookups.{is_owning, cases_of, after_set, is_held_after}
+use Rattle.std.specs.List.{flat_map, range_with_len}
+use Rattle.vlt_core.specs.Core.{States, Ty, int, bool, tracked, owning, guarded, variant, owning_variant, CaseKey, Func, Program}
+use Rattle.vlt_core.specs.Lookups.{cases_of, after_set, is_held_after}
 use Rattle.vlt_core.specs.KindedHeads.{is_bound_entry}
 use Rattle.c_syntax.specs.declared.program.CVar.{CVar}
 use Rattle.c_syntax.specs.declared.program.CPrim.TheVariants as prim
 use Rattle.c_syntax.specs.C.{Stmt}
 use Rattle.c_lower.specs.Slots.{Numbers, past_all, vars_at, first_slot, first_temps, sorts_of}
-use Rattle.c_lower.specs.Statements.{runtime_call, runtime_value, is_variant, StmtCode, stmt_code}
+use Rattle.c_lower.specs.Statements.{runtime_call, runtime_value, stmt_code}
 use Rattle.c_lower.specs.Glue as g
-use Rattle.c_lower.specs.Glue.{pick_state, pick_clause, payload_number, CaseAt, when_case, payloads, case_numbers, case_keys_back, case_objects, key_slot, key_in, var_arg, question, go_out, come_back, give_back, clear, mask, glue_code}
+use Rattle.c_lower.specs.Glue.{pick_state, pick_clause, payload_number, CaseAt, payloads, case_numbers, case_keys_back, case_objects, key_slot, key_in, var_arg, question, go_out, come_back, give_back, mask, glue_code}
 use Rattle.c_lower_stmts.specs.Written.{Writes}
-use Rattle.c_lower_glue.specs.declared.payloads.Part.{Part}
 use Rattle.c_lower_glue.specs.declared.payloads.Part.TheVariants as part
-use Rattle.c_lower_glue.specs.Picks.{picked}
-use Rattle.c_lower_glue.specs.Parts.{result_clears, clause_picks, number_code, payload_code, key_code, keys_code, payloads_code, case_code, result_code, call_code, answer_code, written, glue_of}
+use Rattle.c_lower_glue.specs.Parts.{result_clears, clause_picks, number_code, case_code, result_code, call_code, answer_code, written, glue_of}
 use Rattle.c_lower_glue.proofs.Sums.{picked_all}
 
 -- ---- lists of lists

@@ -1,7 +1,7 @@
 -- Externals for which there is no C program: the mask of their result's cases is no number of C.
-use Rattle.std.specs.Prelude.{ℕ, nat_le, Bool, ◌&&◌, List, [], length, Option, Some}
+use Rattle.std.specs.Prelude.{nat_le, Bool, ◌&&◌, List, [], length, Option, Some}
 use Rattle.std.specs.List.{list_any}
-use Rattle.vlt_core.specs.Core.{Ty, variant, owning_variant, CaseDecl, Func, Program}
+use Rattle.vlt_core.specs.Core.{Ty, variant, owning_variant, CaseDecl, Program}
 use Rattle.vlt_core.specs.Lookups.{cases_of}
 
 -- the cases of a result's variant, none of any other result

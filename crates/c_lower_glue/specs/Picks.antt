@@ -1,6 +1,6 @@
 -- Which states the host is asked for. All is as in `c_lower/specs/Glue.antt`, but nothing unfolds unless it is asked to: 32
 -- numbers would stand in each goal.
-use Rattle.std.specs.Prelude.{ℕ, zero, suc, nat_le, Bool, false, if◌then◌else◌, List, [], ◌∷◌, ◌++◌, length, Option, None, Some}
+use Rattle.std.specs.Prelude.{ℕ, zero, suc, nat_le, false, if◌then◌else◌, List, [], ◌∷◌, ◌++◌, length, Option, None, Some}
 use Rattle.vlt_base.specs.States.{has_state}
 use Rattle.vlt_base.specs.declared.states.StateSet.{StateSet}
 use Rattle.vlt_core.specs.Core.{States}

@@ -7,12 +7,12 @@ use Rattle.vlt_ops.specs.declared.Op.TheVariants as op
 use Rattle.vlt_ops.specs.Operator.{is_in_range, equals, is_true, bool_number, division_value}
 use Rattle.c_syntax.specs.declared.program.CVar.{CVar}
 use Rattle.c_syntax.specs.C as c
-use Rattle.c_syntax.specs.C.{Expr, Stmt}
+use Rattle.c_syntax.specs.C.{Expr}
 use Rattle.c_meaning.specs.World.{World, number}
 use Rattle.c_meaning.specs.Values.{value_of}
 use Rattle.c_meaning.specs.Run.{Frame}
 use Rattle.c_lower.specs.Guards as g
-use Rattle.c_lower.specs.Guards.{trap_if, binary_guards, unary_guards, sum_overflows, difference_overflows, product_overflows, quotient_overflows}
+use Rattle.c_lower.specs.Guards.{trap_if, sum_overflows, difference_overflows, product_overflows, quotient_overflows}
 use Rattle.c_lower_laws.specs.Operators.{HasNumber, Does, takes, AreRightBinary, AreRightUnary}
 use Rattle.c_lower_laws.proofs.Ranges.{least}
 use Rattle.c_lower_laws.proofs.Guards.{Is, Tells, equal_tells, sum_tells, difference_tells, product_tells, quotient_tells}

@@ -1,6 +1,5 @@
 -- What the code of an expression with a number comes to.
-use Rattle.std.specs.Prelude.{◌≡◌, ◌<◌, ◌≤◌, ℤ, Bool, true, false, if◌then◌else◌, Ok}
-use Rattle.vlt_ops.specs.declared.Op.{Op}
+use Rattle.std.specs.Prelude.{◌≡◌, ◌<◌, ◌≤◌, ℤ, if◌then◌else◌, Ok}
 use Rattle.vlt_ops.specs.declared.Op.TheVariants as op
 use Rattle.c_syntax.specs.declared.program.CVar.{CVar}
 use Rattle.c_meaning.specs.World.{World, number}
@@ -8,7 +7,7 @@ use Rattle.c_meaning.specs.Values.{value_of}
 use Rattle.c_meaning.specs.Run.{Frame, goes}
 use Rattle.c_lower.specs.Slots.{Numbers}
 use Rattle.c_lower.specs.Expressions as code
-use Rattle.c_lower.specs.Expressions.{Code, binary_code}
+use Rattle.c_lower.specs.Expressions.{Code}
 use Rattle.c_lower_laws.specs.Operators.{Does}
 
 -- the variable has a number below these

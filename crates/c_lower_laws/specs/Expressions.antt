@@ -1,5 +1,5 @@
 -- What the code of an expression comes to, where variables and fields stand in C as they do in the source.
-use Rattle.std.specs.Prelude.{◌≡◌, ℕ, ℤ, Bool, true, ◌&&◌, List, Ok, Err}
+use Rattle.std.specs.Prelude.{◌≡◌, ℕ, ℤ, true, List, Ok, Err}
 use Rattle.vlt_core.specs.Proper.{has_arities}
 use Rattle.vlt_ops.specs.Operator.{is_in_range}
 use Rattle.vlt_core.specs.Core as core

@@ -7,7 +7,7 @@ use Rattle.vlt_core.specs.Core as core
 use Rattle.vlt_core.specs.Core.{Ty, tracked, CaseDecl, Form, Block, block, Stmts, done, next, Arms, no_arms, arm, Entry, Func, Program}
 use Rattle.vlt_core.specs.Instances.{bound_in, instance}
 use Rattle.vlt_core.specs.Kinded.{IsKinded}
-use Rattle.vlt_core.specs.Lookups.{Reference, reference_of, var_type, is_new, is_owning_var, is_held_after, cases_of}
+use Rattle.vlt_core.specs.Lookups.{Reference, reference_of, var_type, is_new, is_held_after, cases_of}
 use Rattle.vlt_core.specs.Types.{decl_of, is_variant, with_keys, keys_of_ty}
 use Rattle.vlt_core.specs.KindedHeads.{Rules, unless, has, head_keys, keys_of_parameters, keys_of_result, is_payload_type}
 use Rattle.vlt_core.specs.KindedScopes.{Ids, Around, at_block_start, left_behind, with_var, own_key, use_broken, binding_broken}
@@ -41,7 +41,7 @@ use Rattle.c_lower_names.proofs.HeadKeys.{IsHeaded, headed, each_filtered}
 use Rattle.c_lower_names.proofs.NamedInstances.{headed_instance, known_instance, aims_same}
 use Rattle.c_lower_names.specs.Laws.{NamesAreKept}
 use Rattle.c_lower_names.proofs.DeclaredTypes.{types_fit}
-use Rattle.c_lower_names.proofs.NamedOperands.{Emptied, emptied_self, emptied_one, emptied_names, operands_named, emptied_switch}
+use Rattle.c_lower_names.proofs.NamedOperands.{Emptied, emptied_self, emptied_names, operands_named, emptied_switch}
 use Rattle.c_lower_names.proofs.NamedSimple.{ArePlain, ArePlainTys, misfit_plain, same_arrives, fresh_arrives, fresh_key, simple_named}
 use Rattle.c_lower_names.proofs.NamedReturns.{return_named}
 use Rattle.c_lower_names.proofs.NamedCalls.{IsKnownCall, callee_in_scope}

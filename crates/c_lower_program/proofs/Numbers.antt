@@ -1,5 +1,5 @@
 -- The number of a function in its name is at most its number in the program.
-use Rattle.std.proofs.Common.{◌≡◌, ◌≤◌, ℕ, zero, suc, Bool, true, false, if◌then◌else◌, List, [], ◌∷◌, length, take, filter, arith}
+use Rattle.std.proofs.Common.{◌≤◌, ℕ, zero, suc, Bool, true, false, if◌then◌else◌, List, [], ◌∷◌, length, take, filter, arith}
 use Rattle.vlt_core.specs.Core.{Program}
 use Rattle.c_lower.specs.Statements.{name_of}
 

@@ -11,7 +11,6 @@ use Rattle.vlt_core.specs.KindedScopes.{Ids}
 use Rattle.vlt_core.specs.KindedCalls.{keys_fit, caller_type, clause_keys_broken, caller_keys_broken, call_target_broken, arguments_broken, call_broken}
 use Rattle.vlt_core.specs.declared.rules.TheConstants as rule
 use Rattle.vlt_meaning.specs.World as source
-use Rattle.vlt_meaning.specs.World.{reference}
 use Rattle.vlt_meaning.specs.Step as step
 use Rattle.vlt_meaning.specs.Externals.{call_external}
 use Rattle.vlt_meaning.specs.Run as run

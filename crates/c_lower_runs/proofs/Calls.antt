@@ -40,7 +40,7 @@ use Rattle.c_lower_worlds.specs.Worlds.{c_part, Registers, AreRegisters, c_world
 use Rattle.c_lower_worlds.specs.Given.{IsFed}
 use Rattle.c_lower_worlds.specs.Shapes.{types_of, HasShape, AreShaped}
 use Rattle.c_lower_worlds.specs.Frames.{HaveValues, StandsFor, Spares, IsBetween}
-use Rattle.c_lower_worlds.specs.Same.{Same, Gives, IsGiven, Ended, EndedAs, first_value, InRegisters}
+use Rattle.c_lower_worlds.specs.Same.{Same, Gives, IsGiven, first_value, InRegisters}
 use Rattle.c_lower_worlds.specs.SameStatements.{Begins, IsSameFormIn, RestIsSame}
 use Rattle.c_lower_names.specs.Functions.{IsFunction}
 use Rattle.vlt_core.specs.Kinded.{IsKinded}

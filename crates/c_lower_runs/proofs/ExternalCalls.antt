@@ -22,7 +22,7 @@ use Rattle.c_lower.specs.Lowering.{lowered, result_of}
 use Rattle.c_lower_worlds.specs.Worlds.{Registers, c_world, told_by}
 use Rattle.c_lower_worlds.specs.Shapes.{types_of}
 use Rattle.c_lower_worlds.specs.Frames.{StandsFor}
-use Rattle.c_lower_worlds.specs.Same.{Same, Ended, EndedAs}
+use Rattle.c_lower_worlds.specs.Same.{Same}
 use Rattle.c_lower_worlds.specs.SameStatements.{Begins}
 use Rattle.vlt_core.specs.Instances.{IsInstanceOf}
 use Rattle.c_lower_runs.proofs.CalleeFrames.{ArgsFit, decl_values}

@@ -7,7 +7,6 @@ use Rattle.vlt_core.specs.Core as core
 use Rattle.vlt_core.specs.Core.{Program, CaseDecl, CaseKey, Entry, Func, States, Ty}
 use Rattle.vlt_core.specs.Lookups.{case_at, cases_of, variant_in, VariantOf, is_held_after, after_set}
 use Rattle.vlt_core.specs.Kinded.{IsKinded}
-use Rattle.vlt_core.specs.KindedHeads.{is_bounded, is_bound_entry}
 use Rattle.vlt_meaning.specs.World as source
 use Rattle.vlt_meaning.specs.Run as run
 use Rattle.vlt_meaning.specs.Step as step
@@ -20,7 +19,6 @@ use Rattle.c_lower.specs.Lowering.{lowered}
 use Rattle.c_lower_runs.specs.SameRuns.{c_outcome, AreTheSame}
 use Rattle.c_lower_runs.specs.Lowerable.{IsAnswerSet, IsAskable, IsLowerable}
 use Rattle.c_lower_names.specs.KindedParts.{are_proper}
-use Rattle.c_lower_names.specs.Lists.{Each}
 use Rattle.c_lower_runs.proofs.Theorem.{lowered_same}
 
 -- type file;

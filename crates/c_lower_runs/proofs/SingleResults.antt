@@ -8,8 +8,7 @@ use Rattle.vlt_core.specs.Core as core
 use Rattle.vlt_core.specs.Core.{Ty, States, Func, Program}
 use Rattle.vlt_core.specs.Lookups.{fields_of}
 use Rattle.vlt_meaning.specs.World as source
-use Rattle.vlt_meaning.specs.World.{Object, one, loose, is_out}
-use Rattle.vlt_meaning.specs.Objects.{objects_after_move}
+use Rattle.vlt_meaning.specs.World.{one, loose}
 use Rattle.vlt_meaning.specs.HostAnswers as host
 use Rattle.vlt_meaning.specs.HostAnswers.{result_read, state_in, plain, new_in, piece_of}
 use Rattle.vlt_meaning.specs.Externals as ext

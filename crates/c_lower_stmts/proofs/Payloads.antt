@@ -5,7 +5,6 @@ use Rattle.std.proofs.lemmas.Option.{slice_get-map}
 use Rattle.vlt_core.specs.Core.{Func, Program}
 use Rattle.c_syntax.specs.declared.program.CVar.{CVar}
 use Rattle.c_syntax.specs.C as c
-use Rattle.c_syntax.specs.C.{Stmt}
 use Rattle.c_lower.specs.Slots.{Slot, slot_of, slot_vars, var_slots, no_slot}
 use Rattle.c_lower.specs.Statements.{arm_copies, behind_first}
 use Rattle.c_lower_exprs.proofs.Laws.{vars_of_slots}

@@ -6,7 +6,7 @@ use Rattle.std.specs.Fmt.{digits}
 use Rattle.vlt_base.specs.Limits.{limit_of}
 use Rattle.vlt_ops.specs.declared.Op.TheVariants as op
 use Rattle.vlt_core.specs.Core as core
-use Rattle.vlt_core.specs.Core.{CaseDecl, Func, Program}
+use Rattle.vlt_core.specs.Core.{Func, Program}
 use Rattle.vlt_core.specs.Kinded.{IsKinded}
 use Rattle.c_syntax.specs.Canonical.{IsProgram}
 use Rattle.c_lower.specs.Lowering.{lowered}

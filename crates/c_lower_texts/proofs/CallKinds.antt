@@ -18,7 +18,7 @@ use Rattle.c_syntax.specs.declared.program.CResult.TheVariants as result
 use Rattle.c_syntax.specs.declared.program.CVar.{CVar}
 use Rattle.c_syntax.specs.declared.program.CPrim.TheVariants as prim
 use Rattle.c_syntax.specs.C as c
-use Rattle.c_syntax.specs.C.{Arg, Call, Stmt}
+use Rattle.c_syntax.specs.C.{Arg, Stmt}
 use Rattle.c_syntax.specs.Unit.{Head}
 use Rattle.c_syntax.specs.Text.{max_number}
 use Rattle.c_syntax.specs.Canonical.{declaration_of}

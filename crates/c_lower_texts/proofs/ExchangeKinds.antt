@@ -4,7 +4,7 @@ use Rattle.std.proofs.lemmas.Bool.{false≢true}
 use Rattle.std.proofs.lemmas.List.{length-map}
 use Rattle.std.proofs.lemmas.Option.{same_Some}
 use Rattle.vlt_core.specs.Core as core
-use Rattle.vlt_core.specs.Core.{Ty, Simple, Operand, FieldDecl, CaseDecl, TypeDecl, Func, Program}
+use Rattle.vlt_core.specs.Core.{Ty, Simple, Operand, FieldDecl, TypeDecl, Func, Program}
 use Rattle.vlt_core.specs.Lookups.{is_owning, fields_of, var_type}
 use Rattle.vlt_core.specs.Types.{decl_of, is_struct, same_ty, with_keys}
 use Rattle.vlt_core.specs.KindedHeads.{is_payload_type}
@@ -18,7 +18,6 @@ use Rattle.c_syntax.specs.declared.program.CResult.TheVariants as result
 use Rattle.c_syntax.specs.declared.program.CVar.{CVar}
 use Rattle.c_syntax.specs.declared.program.CPrim.TheVariants as prim
 use Rattle.c_syntax.specs.C as c
-use Rattle.c_syntax.specs.C.{Stmt}
 use Rattle.c_lower.specs.Slots.{Sort, of_number, of_reference, of_owner, slot_sorts, sorts_of, variant_sorts, Numbers, vars_at, slot_vars, slot_of, sorted_slots, var_slots, sorts_of_field, object_type, object_type_of, touched_cells, cell_sorts, payload_sort}
 use Rattle.c_lower.specs.Guards as g
 use Rattle.c_lower.specs.Expressions.{Atom, atom_expr, first_atom, operand_codes}

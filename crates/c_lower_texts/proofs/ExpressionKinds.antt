@@ -9,7 +9,7 @@ use Rattle.vlt_ops.specs.declared.Takes.{Takes}
 use Rattle.vlt_ops.specs.declared.Takes.TheVariants as takes
 use Rattle.vlt_ops.specs.Operator.{row_of, is_in_range}
 use Rattle.vlt_core.specs.Core as core
-use Rattle.vlt_core.specs.Core.{Ty, Expr, Operand, FieldDecl, CaseDecl, Func, Program, pure, move, pack}
+use Rattle.vlt_core.specs.Core.{Ty, Expr, CaseDecl, Func, Program, pure}
 use Rattle.vlt_core.specs.Lookups.{is_owning, fields_of, case_at, var_type}
 use Rattle.vlt_core.specs.Types.{same_ty, with_keys}
 use Rattle.vlt_core.specs.Proper.{has_literals, is_literal}

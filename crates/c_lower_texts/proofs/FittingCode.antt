@@ -6,13 +6,13 @@ use Rattle.vlt_ops.specs.declared.Op.{Op}
 use Rattle.vlt_ops.specs.declared.Op.TheVariants as op
 use Rattle.vlt_ops.specs.Operator.{row_of}
 use Rattle.vlt_core.specs.Core as core
-use Rattle.vlt_core.specs.Core.{Ty, Expr, Operand, Simple, Func, Program, pure, move, pack}
+use Rattle.vlt_core.specs.Core.{Expr, Func, Program}
 use Rattle.vlt_core.specs.Proper.{is_prefix, is_binary, has_arities}
 use Rattle.c_syntax.specs.declared.program.CVar.{CVar}
 use Rattle.c_syntax.specs.declared.program.CCell.{CCell}
 use Rattle.c_syntax.specs.View.{stmts_made}
 use Rattle.c_syntax.specs.C as c
-use Rattle.c_syntax.specs.C.{Arg, Stmt}
+use Rattle.c_syntax.specs.C.{Stmt}
 use Rattle.c_syntax.specs.Grammar.{HasArities, expr_depth}
 use Rattle.c_lower.specs.Slots.{Numbers, of_number, past, var_at, vars_at, touched_cells, cell_sorts}
 use Rattle.c_lower.specs.Guards as g

@@ -1,12 +1,11 @@
 -- The code of statements with blocks keeps the limits on blocks and expressions.
 use Rattle.std.proofs.Common.{◌≡◌, ◌≤◌, ◌+◌, ℕ, zero, suc, true, false, ◌&&◌, List, [], ◌∷◌, ◌++◌, refl, arith}
 use Rattle.vlt_core.specs.Core as core
-use Rattle.vlt_core.specs.Core.{Expr, Form, Block, Stmts, Arms, Func, Program}
+use Rattle.vlt_core.specs.Core.{Form, Block, Stmts, Arms, Func, Program}
 use Rattle.vlt_core.specs.Proper.{has_arities, all_in_form, all_in_block, all_in, all_in_arms}
 use Rattle.c_syntax.specs.declared.program.CVar.{CVar}
 use Rattle.c_syntax.specs.declared.program.CPrim.TheVariants as prim
 use Rattle.c_syntax.specs.C as c
-use Rattle.c_syntax.specs.C.{Stmt}
 use Rattle.c_lower.specs.Slots.{Numbers, of_number, of_reference, past, var_at, slot_of}
 use Rattle.c_lower.specs.Guards as g
 use Rattle.c_lower.specs.Expressions.{value_of, expr_code}

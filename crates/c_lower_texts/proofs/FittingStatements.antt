@@ -11,7 +11,7 @@ use Rattle.c_syntax.specs.declared.program.CCell.{CCell}
 use Rattle.c_syntax.specs.declared.program.CPrim.{CPrim}
 use Rattle.c_syntax.specs.declared.program.CPrim.TheVariants as prim
 use Rattle.c_syntax.specs.C as c
-use Rattle.c_syntax.specs.C.{Arg, Call, Stmt}
+use Rattle.c_syntax.specs.C.{Call}
 use Rattle.c_syntax.specs.Grammar.{HasNoText, IsCall}
 use Rattle.c_lower.specs.Slots.{Numbers, vars_at, slot_vars, slot_of, Slot, var_slots, is_owner_sort, cell_counts, field_cells, object_type, touched_cells, cell_sorts}
 use Rattle.c_lower.specs.Guards as g

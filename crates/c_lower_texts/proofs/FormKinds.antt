@@ -2,7 +2,7 @@
 use Rattle.std.proofs.Common.{◌≡◌, ℕ, suc, Bool, true, false, not, ◌&&◌, List, [], ◌∷◌, ◌++◌, map, length, Some, None, refl, sym, subst, arith}
 use Rattle.std.proofs.lemmas.Bool.{false≢true}
 use Rattle.vlt_core.specs.Core as core
-use Rattle.vlt_core.specs.Core.{Ty, Expr, Form, Block, Stmts, Arms, CaseDecl, Func, Program}
+use Rattle.vlt_core.specs.Core.{Ty, Form, Block, Stmts, Arms, Func, Program}
 use Rattle.vlt_core.specs.Lookups.{var_type}
 use Rattle.vlt_core.specs.Types.{same_ty, with_keys}
 use Rattle.vlt_core.specs.Proper.{is_proper}

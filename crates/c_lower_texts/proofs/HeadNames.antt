@@ -7,7 +7,6 @@ use Rattle.c_syntax.specs.declared.program.CName.{CName}
 use Rattle.c_syntax.specs.C as c
 use Rattle.c_syntax.specs.Unit.{Declaration, Head}
 use Rattle.c_syntax.specs.Canonical as canonical
-use Rattle.c_syntax.specs.Canonical.{declaration_of}
 use Rattle.c_syntax.specs.Kinds.{same_bool, same_name, same_params, same_head, has_head, has_name, head_of, is_main, has_main}
 use Rattle.c_meaning.specs.Run.{Numbered, find_in, count_in}
 use Rattle.c_lower_names.specs.Lists.{Each}

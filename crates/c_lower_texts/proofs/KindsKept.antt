@@ -1,7 +1,7 @@
 -- The C program of a program breaks no rule of C.
 use Rattle.std.proofs.Common.{◌≡◌, ℕ, Bool, true, false, if◌then◌else◌, List, [], ◌++◌, map, take, append-nil, Option, Some, None, slice_get, refl, sym, ap, ◌∙◌, subst, arith}
 use Rattle.vlt_core.specs.Core as core
-use Rattle.vlt_core.specs.Core.{Ty, CaseDecl, Func, Program}
+use Rattle.vlt_core.specs.Core.{Ty, Func, Program}
 use Rattle.vlt_core.specs.KindedBodies.{first_ids}
 use Rattle.vlt_core.specs.Instances.{IsInstanceOf}
 use Rattle.c_syntax.specs.declared.program.CName.{CName}

@@ -1,7 +1,7 @@
 -- The code of operands breaks no rule of C, and the atoms of each have the types of the slots of what is wanted.
 use Rattle.std.proofs.Common.{◌≡◌, ℕ, Bool, true, false, ◌&&◌, if◌then◌else◌, List, [], ◌∷◌, Option, Some, subst}
 use Rattle.vlt_core.specs.Core as core
-use Rattle.vlt_core.specs.Core.{States, Ty, Operand, Func, Program, pure, move, pack}
+use Rattle.vlt_core.specs.Core.{Ty, Operand, Func, Program, pure, move, pack}
 use Rattle.vlt_core.specs.Lookups.{is_owning, var_type}
 use Rattle.vlt_core.specs.Types.{decl_of, same_ty}
 use Rattle.vlt_core.specs.Proper.{is_proper, has_arities, has_literals}

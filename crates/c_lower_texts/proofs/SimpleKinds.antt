@@ -3,7 +3,7 @@ use Rattle.std.proofs.Common.{◌≡◌, ℕ, suc, ◌+◌, ◌==◌, Bool, true
 use Rattle.std.proofs.lemmas.Bool.{false≢true, eqb-true}
 use Rattle.std.proofs.lemmas.List.{length-map}
 use Rattle.vlt_core.specs.Core as core
-use Rattle.vlt_core.specs.Core.{Ty, Simple, Operand, FieldDecl, CaseDecl, TypeDecl, Func, Program}
+use Rattle.vlt_core.specs.Core.{Ty, Operand, FieldDecl, TypeDecl, Func, Program}
 use Rattle.vlt_core.specs.Lookups.{is_owning, is_owning_var, owns, fields_of, var_type}
 use Rattle.vlt_core.specs.Types.{decl_of, is_struct, same_ty, with_keys}
 use Rattle.vlt_core.specs.Proper.{is_proper}
@@ -18,7 +18,6 @@ use Rattle.c_syntax.specs.declared.program.CResult.TheVariants as result
 use Rattle.c_syntax.specs.declared.program.CVar.{CVar}
 use Rattle.c_syntax.specs.declared.program.CPrim.TheVariants as prim
 use Rattle.c_syntax.specs.C as c
-use Rattle.c_syntax.specs.C.{Stmt}
 use Rattle.c_lower.specs.Slots.{of_number, slot_sorts, sorts_of, Numbers, slot_vars, slot_of, sorted_slots, var_slots, cell_counts, field_cells, sorts_of_field, sorts_at, object_type_of, touched_cells, cell_sorts}
 use Rattle.c_lower.specs.Expressions.{Atom, atom_expr, atom_arg, first_atom, copies, expr_code, operand_code, operand_codes}
 use Rattle.c_lower.specs.Statements.{runtime_call, runtime_value, count_arg, puts, field_puts, owner_atoms_in, owner_atoms, make_code, owner_slots, simple_code}

@@ -7,7 +7,6 @@ use Rattle.c_syntax.specs.declared.program.CResult.TheVariants as result
 use Rattle.c_syntax.specs.declared.program.CVar.{CVar}
 use Rattle.c_syntax.specs.declared.program.CCell.{CCell}
 use Rattle.c_syntax.specs.C as c
-use Rattle.c_syntax.specs.C.{Arg, Stmt}
 use Rattle.c_syntax.specs.Text.{max_number}
 use Rattle.c_syntax.specs.Kinds.{value, type_of}
 use Rattle.c_lower.specs.Slots.{Sort, of_number, of_reference, of_owner, slot_sorts, sorts_of, Numbers, first_numbers, past, past_all, var_at, vars_at, slot_vars, slot_of, first_slot, first_temps, cell_at, cells_at, field_sorts, cell_counts, sorts_of_field, sorts_at, field_cells, object_type, touched_cells, cell_sorts}

@@ -3,12 +3,11 @@ use Rattle.std.proofs.Common.{◌≡◌, ℕ, Bool, true, false, if◌then◌els
 use Rattle.std.proofs.lemmas.Bool.{false≢true}
 use Rattle.std.specs.List.{zip}
 use Rattle.vlt_core.specs.Core as core
-use Rattle.vlt_core.specs.Core.{Ty, Simple, Operand, FieldDecl, CaseDecl, TypeDecl, Func, Program}
+use Rattle.vlt_core.specs.Core.{Ty, Func, Program}
 use Rattle.vlt_core.specs.Lookups.{var_type}
 use Rattle.vlt_core.specs.Types.{same_ty}
 use Rattle.vlt_core.specs.KindedScopes.{Ids, use_broken}
 use Rattle.vlt_core.specs.KindedStatements as kinded
-use Rattle.vlt_core.specs.KindedStatements.{simple_broken}
 use Rattle.vlt_core.specs.declared.rules.TheConstants as rule
 use Rattle.vlt_core_laws.proofs.Unbroken.{unless_holds, filled_not_empty}
 use Rattle.c_syntax.specs.declared.program.CResult.TheVariants as result

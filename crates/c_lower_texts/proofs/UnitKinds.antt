@@ -14,7 +14,7 @@ use Rattle.c_syntax.specs.View.{stmts_made}
 use Rattle.c_syntax.specs.Canonical as canonical
 use Rattle.c_syntax.specs.Canonical.{declaration_of, body_of, unit_of, main_number}
 use Rattle.c_syntax.specs.Kinds as kinds
-use Rattle.c_syntax.specs.Kinds.{Walk, skip, place, has_head, has_name, has_main, names_of, scope_of, params_judged, declarations_judged, stmts_judged, head_judged, heads_judged, body_judged, bodies_judged, result_width, unit_refusal}
+use Rattle.c_syntax.specs.Kinds.{Walk, skip, place, has_head, has_name, has_main, names_of, scope_of, params_judged, declarations_judged, stmts_judged, heads_judged, bodies_judged, result_width, unit_refusal}
 use Rattle.c_lower.specs.Slots.{first_numbers, vars_at, var_sorts, param_slots, first_temps}
 use Rattle.c_lower.specs.Statements.{StmtCode, most_of_both, list_code}
 use Rattle.c_lower.specs.Glue.{glue_code}

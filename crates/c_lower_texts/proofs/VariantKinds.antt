@@ -3,13 +3,12 @@ use Rattle.std.proofs.Common.{◌≡◌, ℕ, ◌==◌, true, List, [], ◌∷�
 use Rattle.std.proofs.lemmas.Bool.{false≢true, eqb-true}
 use Rattle.std.proofs.lemmas.Option.{same_Some}
 use Rattle.vlt_core.specs.Core as core
-use Rattle.vlt_core.specs.Core.{Ty, Simple, Operand, FieldDecl, CaseDecl, TypeDecl, Func, Program}
+use Rattle.vlt_core.specs.Core.{Ty, CaseDecl, Func, Program}
 use Rattle.vlt_core.specs.Lookups.{case_at, var_type, variant_in}
 use Rattle.vlt_core.specs.Types as types
-use Rattle.vlt_core.specs.Types.{decl_of, is_struct, same_ty, with_keys}
+use Rattle.vlt_core.specs.Types.{decl_of, with_keys}
 use Rattle.vlt_core.specs.KindedHeads.{unless}
 use Rattle.vlt_core.specs.KindedStatements as kinded
-use Rattle.vlt_core.specs.KindedStatements.{simple_broken}
 use Rattle.vlt_core.specs.declared.rules.TheConstants as rule
 use Rattle.vlt_core_laws.proofs.Unbroken.{unless_holds, filled_not_empty}
 use Rattle.c_syntax.specs.declared.program.CResult.TheVariants as result

@@ -8,7 +8,6 @@ use Rattle.vlt_core.specs.Core.{Ty, Func, Program}
 use Rattle.vlt_core.specs.Lookups.{var_type, is_owning, fields_of}
 use Rattle.vlt_core.specs.KindedOperands.{unless_owning}
 use Rattle.vlt_meaning.specs.World as source
-use Rattle.vlt_meaning.specs.World.{one}
 use Rattle.vlt_meaning.specs.Found.{Named}
 use Rattle.c_syntax.specs.declared.program.CVar.{CVar}
 use Rattle.c_syntax.specs.C as syntax

@@ -1,9 +1,8 @@
 -- The C world that stands for a world of the source: object n is block n.
-use Rattle.std.specs.Prelude.{◌≡◌, ℕ, suc, ◌==◌, ℤ, pos, true, if◌then◌else◌, List, [], ◌∷◌, ◌++◌, map, length, Option, Some, None, slice_get}
+use Rattle.std.specs.Prelude.{◌≡◌, ℕ, suc, ◌==◌, ℤ, pos, if◌then◌else◌, List, [], ◌∷◌, ◌++◌, map, length, Option, Some, None}
 use Rattle.std.specs.List.{flat_map}
-use Rattle.vlt_ops.specs.Operator.{is_in_range}
-use Rattle.vlt_core.specs.Core.{Ty, int, bool, tracked, owning, guarded, variant, owning_variant, FieldDecl, CaseDecl, Program}
-use Rattle.vlt_core.specs.Lookups.{fields_of, case_at}
+use Rattle.vlt_core.specs.Core.{Ty, variant, owning_variant, FieldDecl, Program}
+use Rattle.vlt_core.specs.Lookups.{fields_of}
 use Rattle.vlt_meaning.specs.World.{Part, number, reference, owned, Value, one, of_case, Owner, gone, above, is_out, Object, Event, printed, called, World}
 use Rattle.c_lower.specs.Slots.{Sort, of_number, variant_sorts}
 use Rattle.c_lower.specs.Statements.{case_positions, behind_first}

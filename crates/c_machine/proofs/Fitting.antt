@@ -10,7 +10,7 @@ use Rattle.c_syntax.specs.declared.program.CResult.TheVariants as result
 use Rattle.c_syntax.specs.declared.program.CVar.{CVar}
 use Rattle.c_syntax.specs.declared.program.CName.{CName}
 use Rattle.c_syntax.specs.C as c
-use Rattle.c_syntax.specs.C.{Expr, Arg, Call, Stmt, Stmts, Func, Program}
+use Rattle.c_syntax.specs.C.{Arg, Call, Stmt, Stmts, Func}
 use Rattle.c_syntax.specs.Kinds.{same_variable}
 use Rattle.c_meaning.specs.World.{Value, World, fuel_end, depth_end, undefined}
 use Rattle.c_meaning.specs.Values.{arg_values}

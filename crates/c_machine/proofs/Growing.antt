@@ -5,7 +5,7 @@ use Rattle.c_syntax.specs.declared.program.CResult.{CResult}
 use Rattle.c_syntax.specs.declared.program.CResult.TheVariants as result
 use Rattle.c_syntax.specs.declared.program.CVar.{CVar}
 use Rattle.c_syntax.specs.C as c
-use Rattle.c_syntax.specs.C.{Expr, Arg, Call, Stmt, Stmts, Func}
+use Rattle.c_syntax.specs.C.{Arg, Call, Stmt}
 use Rattle.c_meaning.specs.World.{Value, World, Event, Outcome}
 use Rattle.c_meaning.specs.Primitives.{Effect, gives, breaks_rule, ends}
 use Rattle.c_meaning.specs.Run.{Setup, Numbered, function_of, has_room, can_call}

@@ -2,7 +2,7 @@
 use Rattle.std.specs.Prelude.{◌≤◌, ℕ, ◌+◌, ◌*◌, max, Bool, true, false, List, [], ◌∷◌, length, Option, Some, None}
 use Rattle.c_syntax.specs.declared.program.CPrim.TheVariants as prim
 use Rattle.c_syntax.specs.C as c
-use Rattle.c_syntax.specs.C.{Arg, Call, Stmt, Stmts, Func, Program}
+use Rattle.c_syntax.specs.C.{Call, Stmt, Stmts, Func, Program}
 use Rattle.c_meaning.specs.Primitives.{asked_cells}
 use Rattle.c_machine.specs.Machine.{Task, list, again, back, bottom, State, Next, goes, stops, names_of, depth_out}
 

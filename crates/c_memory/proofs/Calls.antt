@@ -12,7 +12,7 @@ use Rattle.vlt_rings.specs.Things.{Thing, Things, IsAt, IsLiveAt, IsMadeAt, Keep
 use Rattle.vlt_rings.proofs.Lists.{equal_or_not, get_same, get_other, get_kept, get_last}
 use Rattle.vlt_rings.proofs.Calls.{item_at, kept_new, new_made_at, kept_set, kept_released}
 use Rattle.vlt_rings.proofs.Fresh.{fresh_settled, fresh_holds}
-use Rattle.c_meaning.specs.Blocks.{Block, live_block, option_join, with_changed_block, new_block, is_full, with_parent, with_out, with_number, with_reference}
+use Rattle.c_meaning.specs.Blocks.{Block, live_block, with_changed_block, new_block, is_full, with_parent, with_out, with_number, with_reference}
 use Rattle.c_meaning.specs.Blocks as model
 use Rattle.c_memory.specs.declared.cells.Ref.{Ref}
 use Rattle.c_memory.specs.declared.cells.Cell.{Cell}

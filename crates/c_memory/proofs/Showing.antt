@@ -6,8 +6,8 @@ use Rattle.std.proofs.lemmas.Option.{none-some, same_Some, slice_get_within, sli
 use Rattle.std.proofs.lemmas.List.Sums.{sum_by-cons}
 use Rattle.vlt_rings.specs.declared.places.Places.{Places}
 use Rattle.vlt_rings.specs.Things as rings
-use Rattle.vlt_rings.specs.Things.{Thing, Things, IsAt, IsMadeAt, count_things}
-use Rattle.c_meaning.specs.Blocks.{Block, live_block, option_join, live_count, without_from, without, with_changed_block, parent_in}
+use Rattle.vlt_rings.specs.Things.{Thing, Things, IsAt, count_things}
+use Rattle.c_meaning.specs.Blocks.{Block, live_block, option_join, live_count, without_from, with_changed_block, parent_in}
 use Rattle.c_meaning.specs.Blocks as model
 use Rattle.c_memory.specs.declared.cells.Ref.{Ref}
 use Rattle.c_memory.specs.declared.cells.Cell.{Cell}

@@ -1,9 +1,9 @@
 -- The arguments of primitives, as results.
+use Rattle.c_meaning.specs.Values.{◌>>=◌}
 use Rattle.std.specs.Prelude.{◌≡◌, ℕ, ℤ, Bool, true, false, List, [], ◌∷◌, Option, Result, Ok, Err}
 use Rattle.vlt_rings.specs.Things.{Things}
 use Rattle.c_syntax.specs.C.{Arg}
 use Rattle.c_meaning.specs.World.{Vars}
-use Rattle.c_meaning.specs.Values.{◌>>=◌}
 use Rattle.c_meaning.specs.Primitives.{number_of, reference_of}
 use Rattle.c_memory.specs.declared.cells.Ref.{Ref}
 use Rattle.c_memory.specs.Shown as memory

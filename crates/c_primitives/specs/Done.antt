@@ -1,5 +1,5 @@
 -- What a change of the blocks gives.
-use Rattle.std.specs.Prelude.{ℕ, ℤ, pos, if◌then◌else◌, [], Bool, true, false, Option, Some, None, Result, Ok, Err}
+use Rattle.std.specs.Prelude.{ℕ, ℤ, pos, if◌then◌else◌, Bool, true, false, Option, Some, None, Result, Ok, Err}
 use Rattle.vlt_ops.specs.declared.TrapKind.TheVariants.{Overflow, ZeroDivisor}
 use Rattle.vlt_ops.specs.Operator.{equals}
 use Rattle.c_memory.specs.declared.cells.Ref.{Ref}

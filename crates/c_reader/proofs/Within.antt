@@ -1,8 +1,8 @@
 -- What a refusal names is no further than the text's end.
-use Rattle.std.proofs.Common.{◌≡◌, ◌≤◌, ℕ, zero, suc, List, [], ◌∷◌, map, length, slice_get, Option, Some, None, Err, refl, sym, subst, arith}
+use Rattle.std.proofs.Common.{◌≡◌, ◌≤◌, ℕ, zero, suc, List, [], ◌∷◌, length, slice_get, Option, Some, None, Err, sym, subst, arith}
 use Rattle.std.proofs.lemmas.Option.{none-some, same_Some}
 use Rattle.c_syntax.specs.Text.{Lexeme, Piece, AreTokensOf, AreFirst, IsTokensOf, first_pieces, behind, mark, cut_at, before_mark, piece}
-use Rattle.c_syntax.specs.Reading.{places_in, IsOfKind}
+use Rattle.c_syntax.specs.Reading.{places_in}
 use Rattle.c_reader.specs.KindsLaws.Laws.{AreWithin}
 use Rattle.c_reader.proofs.OfKindsLaws.Places.{told_within}
 use Rattle.c_reader.specs.declared.error.CError.{CError}

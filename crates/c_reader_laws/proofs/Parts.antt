@@ -21,7 +21,7 @@ use Rattle.c_syntax.specs.Spelling.{type_then, result_then, cell_then, expr_then
 use Rattle.c_syntax.specs.Kinds.{names_of, same_bool}
 use Rattle.c_syntax.specs.Programs.{IsFuncOf, AreFuncsOf, bodies_of, IsProgramOf}
 use Rattle.c_syntax.specs.Canonical as canonical
-use Rattle.c_syntax.specs.Canonical.{IsReadable, AreReadable, declaration_of, body_of, main_number, unit_of}
+use Rattle.c_syntax.specs.Canonical.{IsReadable, AreReadable, body_of, main_number, unit_of}
 use Rattle.c_reader_laws.proofs.OfPrinterLaws.Units.{names_same}
 use Rattle.c_reader_laws.proofs.Unrefused.{heads_joined, own_heads}
 

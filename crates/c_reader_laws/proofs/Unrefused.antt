@@ -8,7 +8,7 @@ use Rattle.c_syntax.specs.declared.program.CName.{CName}
 use Rattle.c_syntax.specs.C.{Func, Program}
 use Rattle.c_syntax.specs.Unit.{Declaration, Head, Body, TranslationUnit}
 use Rattle.c_syntax.specs.Kinds as k
-use Rattle.c_syntax.specs.Kinds.{Walk, same_bool, same_name, same_head, is_one_of, has_head, has_name, head_of, heads_of, names_of, is_main, has_main, scope_of}
+use Rattle.c_syntax.specs.Kinds.{Walk, same_bool, same_head, is_one_of, has_head, has_name, head_of, heads_of, names_of, is_main, has_main, scope_of}
 use Rattle.c_syntax.specs.Programs.{IsFuncOf, AreFuncsOf, bodies_of, IsProgramOf}
 use Rattle.c_syntax.specs.Canonical as canonical
 use Rattle.c_syntax.specs.Canonical.{declaration_of, body_of, main_number, unit_of}

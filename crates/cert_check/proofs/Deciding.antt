@@ -1,5 +1,5 @@
 -- A body's answer, from the answer for its tests.
-use Rattle.std.proofs.Common.{◌≡◌, ◌<◌, ◌≤◌, ◌^◌, ◌+◌, ℕ, List, None, Result, Ok, Err, ap, ◌∙◌, sym, subst, arith}
+use Rattle.std.proofs.Common.{◌≡◌, ◌<◌, ◌≤◌, ◌^◌, ℕ, List, None, Result, Ok, Err, ap, ◌∙◌, sym, subst, arith}
 use Rattle.std.specs.Result.{IsErrAnd}
 use Rattle.vlt_core.specs.Core.{Program, Func}
 use Rattle.vlt_core.specs.Maps.{HeldMap}
@@ -7,14 +7,13 @@ use Rattle.vlt_core.specs.Flow.{Block, size_block}
 use Rattle.vlt_core.specs.Bodies.{body_flow}
 use Rattle.vlt_core.specs.Derives.{start_map}
 use Rattle.vlt_core.specs.Local.{Notes}
-use Rattle.cert_check.specs.Tests.{Test, FirstFails, refused, lost, body_tests, block_tests}
-use Rattle.cert_check.specs.Notes.{plain_notes, given_by, annotation_of}
+use Rattle.cert_check.specs.Tests.{Test, FirstFails, lost, body_tests, block_tests}
+use Rattle.cert_check.specs.Notes.{plain_notes, annotation_of}
 use Rattle.cert_check.specs.Bodies.{IsUnfitFlow}
 use Rattle.cert_check.specs.Bodies as flow
 use Rattle.cert_check.specs.Unfit.{IsUnfitBody}
 use Rattle.cert_check.specs.Unfit as body
 use Rattle.cert_check.specs.declared.given.Given.{Given}
-use Rattle.cert_check.specs.declared.errors.Refusal.{Refusal}
 use Rattle.cert_check.specs.declared.errors.Stop.{Stop}
 use Rattle.cert_check.specs.declared.errors.Stop.TheVariants.{Refused, Unfit, Memory}
 use Rattle.cert_check.specs.Outcomes.{HasOutcome, AreTested, HasOutcomeUnless, AreTestedUnless, IsUnlessMemory, refusal_of}

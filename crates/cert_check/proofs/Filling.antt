@@ -1,5 +1,5 @@
 -- Maps of pairs, filled from the last pair on.
-use Rattle.std.proofs.Common.{◌≡◌, ◌<◌, ◌≤◌, ◌-◌, ◌+◌, ◌==◌, ℕ, zero, suc, Bool, true, false, if◌then◌else◌, List, [], ◌∷◌, length, drop, get_or, refl, sym, ap, ◌∙◌, subst, arith}
+use Rattle.std.proofs.Common.{◌≡◌, ◌<◌, ◌≤◌, ◌-◌, ◌+◌, ℕ, zero, suc, Bool, true, false, if◌then◌else◌, List, [], ◌∷◌, length, drop, get_or, refl, sym, ap, ◌∙◌, subst, arith}
 use Rattle.std.proofs.lemmas.List.{drop_all}
 use Rattle.std.proofs.lemmas.Bool.Decides.{nat_tests}
 use Rattle.vlt_base.specs.States.{has_state}
@@ -11,7 +11,6 @@ use Rattle.vlt_core.specs.Maps.{HeldMap, is_tok, row_passed, absent, held, lent}
 use Rattle.vlt_core.specs.View.{tok_of}
 use Rattle.vlt_core.specs.HeldView.{status_of}
 use Rattle.vlt_core.specs.declared.held.Tok.{Tok}
-use Rattle.vlt_core.specs.declared.held.Status.{Status}
 use Rattle.vlt_core.specs.declared.held.Wanted.TheVariants as wanted
 use Rattle.vlt_core.specs.declared.held.After.TheVariants as after
 use Rattle.vlt_keyset.specs.Pairs.{Pair, map_of_pairs, IsBefore, ComesFirst, IsPresent, AreInOrder}

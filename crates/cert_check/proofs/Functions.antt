@@ -1,5 +1,5 @@
 -- The tests of functions, of all functions, and the numbers of their statements.
-use Rattle.std.proofs.Common.{◌≡◌, ◌⊎◌, ◌<◌, ◌≤◌, ◌+◌, ℕ, zero, suc, add-one, Bool, true, false, true≢false, List, [], ◌∷◌, ◌++◌, map, length, take, Option, Some, None, refl, sym, ap, ◌∙◌, subst, inl, inr, ⊎_elim, arith}
+use Rattle.std.proofs.Common.{◌≡◌, ◌⊎◌, ◌+◌, ℕ, zero, suc, add-one, List, [], ◌∷◌, ◌++◌, take, Option, Some, None, refl, sym, ap, ◌∙◌, subst, ⊎_elim, arith}
 use Rattle.std.specs.Prelude.{slice_get}
 use Rattle.std.specs.List.{flat_map, enumerate_from, sum_by, fold}
 use Rattle.vlt_core.specs.Core.{a_key, Func, Program}
@@ -8,7 +8,6 @@ use Rattle.vlt_core.specs.Flow.{size_block}
 use Rattle.vlt_core.specs.Bodies.{body_flow}
 use Rattle.vlt_core.specs.Instances.{instance, origins, bound_in}
 use Rattle.vlt_core.specs.Least.{first_number}
-use Rattle.vlt_core.specs.Local.{IsLocalIn}
 use Rattle.cert_format.specs.Notes.{Note}
 use Rattle.cert_fit_laws.specs.Annotation.{annotation, IsLocalCertificate}
 use Rattle.cert_check.specs.Tests.{Test, Hold, FirstFails, Refusal, Failure, refused, lost, refusal, body_tests, instance_tests, function_tests}

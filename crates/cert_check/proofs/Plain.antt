@@ -1,5 +1,5 @@
 -- Notes of the code that are in order, and the plain ones.
-use Rattle.std.proofs.Common.{◌≡◌, ◌<◌, ℕ, List, [], ◌∷◌, map, Option, Some, None, ap, subst}
+use Rattle.std.proofs.Common.{ℕ, List, [], ◌∷◌, map, Option, Some, None, subst}
 use Rattle.std.specs.Prelude.{slice_get, option_map}
 use Rattle.vlt_core.specs.HeldView.{status_of}
 use Rattle.vlt_core.specs.View.{tok_of}

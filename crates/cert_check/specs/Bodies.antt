@@ -1,5 +1,5 @@
 -- Why a body's flow isn't tested; private contracts alone cite this.
-use Rattle.std.specs.Prelude.{◌≤◌, ◌^◌, ◌⊎◌, None}
+use Rattle.std.specs.Prelude.{◌≤◌, ◌^◌, None}
 use Rattle.vlt_core.specs.Maps.{HeldMap}
 use Rattle.vlt_core.specs.Flow.{Block, size_block}
 use Rattle.cert_check.specs.Tests.{block_tests, FirstFails, lost}

@@ -1,15 +1,14 @@
 -- Notes hold exactly where their tests do; tests fail first in one way at most.
-use Rattle.std.specs.Prelude.{◌≡◌, ◌↔◌, ℕ, true, false, List, Option, Some, slice_get}
+use Rattle.std.specs.Prelude.{◌≡◌, ◌↔◌, ℕ, true, false, List}
 use Rattle.vlt_core.specs.Core as core
 use Rattle.vlt_core.specs.Core.{Func, Program}
 use Rattle.vlt_core.specs.Flow.{passes}
 use Rattle.vlt_core.specs.Bodies.{flow_of}
 use Rattle.vlt_core.specs.KindedBodies.{ends}
-use Rattle.vlt_core.specs.Instances.{instance, origins}
 use Rattle.vlt_core.specs.Local.{Notes, IsLocalIn}
 use Rattle.cert_format.specs.Notes.{Note}
-use Rattle.cert_fit_laws.specs.Annotation.{annotation, IsLocalCertificate}
-use Rattle.cert_check.specs.Tests.{Test, Hold, body_tests, function_tests, Failure, FirstFails}
+use Rattle.cert_fit_laws.specs.Annotation.{IsLocalCertificate}
+use Rattle.cert_check.specs.Tests.{Test, Hold, body_tests, Failure, FirstFails}
 use Rattle.cert_check.specs.Whole.{HoldAt, ProgramRefusal, IsFirstRefusal}
 
 abbrev pub TestsSayLocal : Type 0

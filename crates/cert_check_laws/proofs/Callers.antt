@@ -4,9 +4,9 @@ use Rattle.std.specs.List.{list_all, flat_map, range_with_len}
 use Rattle.std.proofs.lemmas.Bool.{and_parts, eqb-true, ltb-true}
 use Rattle.std.proofs.lemmas.List.{length-map}
 use Rattle.std.proofs.lemmas.Option.{slice_get-get_or, slice_get_within}
-use Rattle.vlt_core.specs.Core.{Ty, Operand, Mode, up_to, Entry, Func, Program}
+use Rattle.vlt_core.specs.Core.{Ty, Operand, up_to, Entry, Func, Program}
 use Rattle.vlt_core.specs.Kinded.{IsKinded}
-use Rattle.vlt_core.specs.KindedHeads.{has, unless, parameters_of, keys_of_parameters, new_keys}
+use Rattle.vlt_core.specs.KindedHeads.{has, parameters_of, keys_of_parameters, new_keys}
 use Rattle.vlt_core.specs.KindedScopes.{Ids}
 use Rattle.vlt_core.specs.KindedOperands.{operand_broken, operands_broken}
 use Rattle.vlt_core.specs.KindedCalls.{argument_type, gives_other_keys, argument_broken_by, arguments_broken, caller_type, call_broken}
@@ -16,7 +16,6 @@ use Rattle.vlt_core.specs.Types.{keys_of_ty, stands_for, with_keys}
 use Rattle.vlt_core_laws.proofs.Unbroken.{some_same}
 use Rattle.vlt_sound_worlds.proofs.Empty.{both_empty, unless_so}
 use Rattle.vlt_sound_worlds.proofs.Starting.{has_left, has_right, has_in}
-use Rattle.vlt_sound_worlds.specs.Typed.{IsTyped}
 use Rattle.vlt_sound_calls.specs.Callee.{Among, IsParamKey}
 use Rattle.vlt_sound_calls.specs.Heads.{HasHead}
 use Rattle.vlt_sound_calls.specs.Meet.{KeysMeet}

@@ -1,6 +1,5 @@
 -- The entries of an instance's clause name sets of states that the code has.
-use Rattle.std.proofs.Common.{◌≡◌, ◌<◌, ◌==◌, ◌&&◌, ℕ, nat_lt, true, true≢false, [], length, Option, Some, None, IfSome, slice_get, refl, sym, ap, subst, ◌∙◌, arith}
-use Rattle.std.specs.List.{flat_map}
+use Rattle.std.proofs.Common.{◌≡◌, ◌<◌, ◌==◌, ◌&&◌, ℕ, nat_lt, true, true≢false, length, Option, Some, None, IfSome, slice_get, refl, sym, subst}
 use Rattle.std.proofs.lemmas.Bool.{and_from, and_parts, eq-eqb}
 use Rattle.vlt_core.specs.Core as core
 use Rattle.vlt_core.specs.Core.{States, Mode, Entry, Func, Program}

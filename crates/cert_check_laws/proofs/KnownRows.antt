@@ -6,7 +6,7 @@ use Rattle.std.proofs.lemmas.Bool.Decides.{nat_tests}
 use Rattle.std.proofs.lemmas.List.Concat.{flat_map-cons}
 use Rattle.vlt_ops.specs.Operator.{row_of}
 use Rattle.vlt_core.specs.Core as core
-use Rattle.vlt_core.specs.Core.{States, Ty, int, bool, tracked, owning, guarded, variant, owning_variant, FieldDecl, Tok, a_key, a_var, Expr, Operand, pure, move, pack, Mode, Entry, Func, Program}
+use Rattle.vlt_core.specs.Core.{States, Ty, int, bool, tracked, owning, guarded, variant, owning_variant, FieldDecl, Tok, a_key, Expr, Operand, pure, move, pack, Mode, Entry, Func, Program}
 use Rattle.vlt_core.specs.Lookups.{Reference, first_state, all_states, state_count, permitted_in, field_states_in, fields_of, owning_states, states_of_type, key_type, up_to_in, key_states_up_to, states_or_all, after_set, is_held_before, is_held_after, is_new, is_given_back, is_owning, is_owning_var, tracked_in, reference_of, guarded_of, var_type, variant_of}
 use Rattle.vlt_core.specs.Maps.{Wanted, wants_absent, wants_held, wants_in, wants_lent, After, becomes_absent, becomes_held, stays, becomes_lent, comes_back, Row, away_row}
 use Rattle.vlt_core.specs.Rows.{row, on_option, on_key, end_row, empty_row, fill_rows, touch_rows, expr_rows, operand_rows, operands_rows, key_row, simple_rows, held_in, entry_row, called_row, called_rows, target_rows, returned_row, new_rows, given_back_rows, return_rows, tokens_of, rows_of, arm_rows, focus_end_rows}

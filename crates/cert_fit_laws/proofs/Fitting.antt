@@ -12,7 +12,7 @@ use Rattle.cert_format.specs.Places.{unplaced_stmts, unplaced_func, unplaced_pro
 use Rattle.cert_format.specs.Bodies.{list_notes}
 use Rattle.cert_rows.specs.Parts.{All, several}
 use Rattle.cert_rows.specs.Values.{Shape}
-use Rattle.cert_rows.specs.Rows.{Row, FitsRow, link}
+use Rattle.cert_rows.specs.Rows.{FitsRow, link}
 use Rattle.cert_rows.specs.Rows as row
 use Rattle.cert_format.specs.Notes.{Note, maps_of}
 use Rattle.cert_format.specs.Certificate.{shape, fn_shape, type_rows, fn_row, function_rows, FitsFunction, FitFunctions, FitsCertificate}

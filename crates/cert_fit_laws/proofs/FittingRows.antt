@@ -1,13 +1,13 @@
 -- The rows of statements fit.
 use Rattle.std.proofs.Common.{◌≡◌, ℕ, ◌+◌, List, Option, Some, None, refl, Bool, true, false, ◌&&◌, arith}
 use Rattle.vlt_core.specs.Core as core
-use Rattle.vlt_core.specs.Core.{Operand, Simple, Form, Block, Stmts, Arms, Tok}
+use Rattle.vlt_core.specs.Core.{Operand, Simple, Form, Block, Stmts, Arms}
 use Rattle.cert_rows.specs.Parts.{All, several}
 use Rattle.cert_rows.specs.Values.{Shape}
-use Rattle.cert_rows.specs.Rows.{Row, Head, head, arm, FitsRow, return_stmt}
+use Rattle.cert_rows.specs.Rows.{Row, head, arm, FitsRow, return_stmt}
 use Rattle.cert_rows.specs.Rows as row
 use Rattle.cert_format.specs.Drafts as draft
-use Rattle.cert_format.specs.Drafts.{most_block_depth, draft_rows, block_rows, list_rows, arms_rows, arm_heads}
+use Rattle.cert_format.specs.Drafts.{draft_rows, block_rows, list_rows, arms_rows, arm_heads}
 use Rattle.cert_format.specs.Notes.{MapNotes}
 use Rattle.cert_format.specs.Bodies.{draft_of, block_draft, list_draft, arms_draft, count, count_block}
 use Rattle.vlt_core.specs.Proper.{all_in_simple, all_in_return, all_in_form, all_in_block, all_in, all_in_arms}

@@ -3,7 +3,7 @@ use Rattle.std.proofs.Common.{◌≡◌, ◌≤◌, ◌+◌, ◌==◌, refl, sym
 use Rattle.std.specs.List.{flat_map}
 use Rattle.std.proofs.lemmas.Bool.Decides.{nat_tests}
 use Rattle.vlt_core.specs.Core as core
-use Rattle.vlt_core.specs.Core.{CaseDecl, Name, TypeDecl, an_abstract, a_struct, a_variant, SetDecl, StructDecl, VariantDecl, Func, Program}
+use Rattle.vlt_core.specs.Core.{CaseDecl, Name, TypeDecl, an_abstract, a_struct, a_variant, SetDecl, Func, Program}
 use Rattle.vlt_core.specs.Lookups.{fields_in, fields_of, cases_in, cases_of, case_at}
 use Rattle.vlt_core_laws.proofs.Unbroken.{some_not_none}
 use Rattle.cert_rows.specs.Parts.{All}

@@ -1,7 +1,7 @@
 -- A tool of the proof: bodies whose statements have maps that fit their rows.
 use Rattle.std.specs.Prelude.{◌≡◌, ℕ, ◌+◌, List, Option}
 use Rattle.vlt_core.specs.Core as core
-use Rattle.vlt_core.specs.Core.{Form, Block, Stmts, Arms, Func, Program}
+use Rattle.vlt_core.specs.Core.{Form, Block, Stmts, Arms, Func}
 use Rattle.vlt_core.specs.KindedBodies.{ends}
 use Rattle.cert_rows.specs.Parts.{zero_or}
 use Rattle.cert_rows.specs.Values.{maps_part}

@@ -3,7 +3,7 @@ use Rattle.std.proofs.Common.{◌≡◌, ◌≤◌, ◌+◌, ℕ, suc, Bool, tru
 use Rattle.std.proofs.lemmas.List.{append_assoc, map-append}
 use Rattle.vlt_core.specs.Core as core
 use Rattle.vlt_core.specs.Core.{Tok, Func, Program}
-use Rattle.vlt_core.specs.Flow.{passes, passes_block, passes_arms}
+use Rattle.vlt_core.specs.Flow.{passes}
 use Rattle.vlt_core.specs.Flow as flow
 use Rattle.vlt_core.specs.Bodies.{flow_of, flow_of_block, flow_of_stmts, flow_of_arms}
 use Rattle.vlt_core.specs.Least.{Noted, a_loop, a_join, noted, noted_block, noted_stmts, noted_arms}

@@ -2,7 +2,7 @@
 use Rattle.std.proofs.Common.{◌≡◌, ◌≤◌, ℕ, nat_lt, Bool, true, false, ◌==◌, if◌then◌else◌, List, [], ◌∷◌, ◌++◌, length, Option, Some, None, refl, ap, subst, slice_get}
 use Rattle.vlt_ops.specs.Operator.{row_of}
 use Rattle.vlt_core.specs.Core as core
-use Rattle.vlt_core.specs.Core.{Ty, int, bool, tracked, owning, guarded, variant, owning_variant, TypeDecl, an_abstract, a_struct, a_variant, CaseDecl, VarDecl, FieldDecl, Expr, Operand, pure, move, pack, Simple, Form, Block, Stmts, Arms, Func, Program}
+use Rattle.vlt_core.specs.Core.{Ty, int, bool, tracked, owning, guarded, variant, owning_variant, TypeDecl, CaseDecl, FieldDecl, Expr, Operand, pure, move, pack, Func, Program}
 use Rattle.vlt_core.specs.Lookups.{var_type, fields_of, cases_of}
 use Rattle.vlt_core.specs.Types.{decl_of, is_struct, is_variant}
 use Rattle.vlt_core.specs.KindedHeads.{Rules, unless, when_some, argument_broken, type_broken}

@@ -2,7 +2,7 @@
 use Rattle.std.proofs.Common.{◌≡◌, ◌≤◌, ℕ, nat_lt, Bool, true, false, ◌==◌, if◌then◌else◌, List, [], ◌∷◌, ◌++◌, map, length, Option, Some, None, IfSome, refl, subst, slice_get}
 use Rattle.std.specs.List.{flat_map, enumerate_from}
 use Rattle.vlt_core.specs.Core as core
-use Rattle.vlt_core.specs.Core.{Ty, int, bool, tracked, owning, guarded, variant, owning_variant, TypeDecl, FieldDecl, Expr, Operand, pure, move, pack, Simple, Func, Program}
+use Rattle.vlt_core.specs.Core.{Ty, int, bool, tracked, owning, guarded, variant, owning_variant, FieldDecl, Operand, pure, move, pack, Simple, Func, Program}
 use Rattle.vlt_core.specs.Lookups.{var_type, is_owning, is_owning_var, fields_of, state_count, all_states}
 use Rattle.vlt_core.specs.Types.{with_keys}
 use Rattle.vlt_core.specs.KindedHeads.{Rules, unless, has, state_broken, parameters_of, new_keys}

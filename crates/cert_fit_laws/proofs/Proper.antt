@@ -1,7 +1,7 @@
 -- What the rows of a program say of its expressions and clauses.
 use Rattle.std.proofs.Common.{◌≡◌, ◌≤◌, Bool, true, false, if◌then◌else◌, List, [], ◌∷◌, None, refl, arith}
 use Rattle.vlt_core.specs.Core as core
-use Rattle.vlt_core.specs.Core.{Expr, Mode, Entry, Func, Program}
+use Rattle.vlt_core.specs.Core.{Expr, Mode, Entry, Program}
 use Rattle.vlt_core.specs.Instances.{bound_at, or_else, bound_in}
 use Rattle.vlt_core.specs.Proper.{is_proper, AllPass}
 use Rattle.cert_rows.specs.Parts.{All}

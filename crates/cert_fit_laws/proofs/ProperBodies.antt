@@ -7,7 +7,7 @@ use Rattle.vlt_core.specs.Proper.{all_in_operand, all_in_operands, all_in_simple
 use Rattle.cert_rows.specs.Parts.{All}
 use Rattle.cert_rows.specs.Values.{Shape}
 use Rattle.cert_rows.specs.Expressions.{FitsExpr, FitsOperand}
-use Rattle.cert_rows.specs.Rows.{Row, FitsRow, return_stmt}
+use Rattle.cert_rows.specs.Rows.{FitsRow, return_stmt}
 use Rattle.cert_rows.specs.Rows as row
 use Rattle.cert_format_laws.proofs.Decoding.{all_left, all_right}
 use Rattle.cert_format.specs.Drafts.{draft_rows, block_rows, list_rows, arms_rows}

@@ -6,7 +6,7 @@ use Rattle.json.proofs.Printed.Utf8.{are_ascii, IsUtf8-are_ascii}
 use Rattle.serde_json.specs.Data.{Data}
 use Rattle.serde_json.specs.View.{items_of}
 use Rattle.vlt_core.specs.Core as core
-use Rattle.vlt_core.specs.Core.{Ty, FieldDecl, KeyDecl, VarDecl, Expr, Operand}
+use Rattle.vlt_core.specs.Core.{FieldDecl, KeyDecl, VarDecl, Expr}
 use Rattle.cert_rows.specs.Parts.{Part, nat, list, number_to, All, several, minus_or, zero_or}
 use Rattle.cert_rows.specs.Values.{id, byte, flag, mask_of, mask, number_of_tok, token, numbers_of_status, token_status, map_part, first_map, maps_part, ids, tagged_list, ty, field, case_key, key_decl, var_decl, header, side, last_mode, entry_numbers, entry}
 use Rattle.cert_rows.specs.Expressions.{op, operator_data, expr_items, FitsExpr, expr, operand}

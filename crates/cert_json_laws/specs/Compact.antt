@@ -1,5 +1,5 @@
 -- The compact text of a certificate's value is read as that value.
-use Rattle.std.specs.Prelude.{ℕ, Bool, List}
+use Rattle.std.specs.Prelude.{Bool, List}
 use Rattle.serde_json.specs.Data.{Data}
 use Rattle.serde_json.specs.Written.{compact_text}
 use Rattle.vlt_core.specs.Core.{Program}

@@ -9,7 +9,7 @@ use Rattle.vlt_syntax.specs.Lists.{Each, each_then}
 use Rattle.vlt_syntax.specs.Spelling.{further_states_then, set_states_then, field_then, case_then, block_then, decl_then, spelling}
 use Rattle.vlt_syntax_laws.proofs.Tokenwise.{Spells, each_listed, after_marked_name, after_ty, after_field, after_header, after_case, after_head, after_decl}
 use Rattle.vlt_core.specs.Core as core
-use Rattle.vlt_core.specs.Core.{Func, Form, Program}
+use Rattle.vlt_core.specs.Core.{Func, Program}
 use Rattle.vlt_kinds_types.specs.Names.Refusals.{of_each, least}
 use Rattle.vlt_kinds_types.specs.Files.{File, with_text, texts_behind, state_texts, sets_in, file_of, state_names, shape_named}
 use Rattle.vlt_kinds_decls.specs.Made.{core_field, core_struct, core_case, core_variant, core_types_in, core_types}

@@ -1,9 +1,9 @@
 -- What the tally of all rows of a program says.
-use Rattle.std.proofs.Common.{◌≡◌, refl, sym, ap, ◌∙◌, ℕ, min, Option, Some, None}
+use Rattle.std.proofs.Common.{◌≡◌, refl, sym, ap, ◌∙◌, ℕ, Option, Some, None}
 use Rattle.std.specs.Option.{option_map}
 use Rattle.vlt_core.specs.Core.{Program}
 use Rattle.vlt_core.specs.Kinded.{rows_broken, breaks, IsKinded}
-use Rattle.cert_kinds.specs.Outcomes.{last_row, HasFirstBroken}
+use Rattle.cert_kinds.specs.Outcomes.{HasFirstBroken}
 use Rattle.cert_kinds.specs.declared.tallies.Broken.{Broken}
 use Rattle.cert_kinds.specs.declared.tallies.Tally.{Tally as CodeTally}
 use Rattle.cert_kinds.specs.Tallies.{Place, Tally, clean, tallied, place_of, tally_of}

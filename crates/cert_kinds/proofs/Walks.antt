@@ -1,6 +1,5 @@
 -- Statements, blocks and arms, one after another.
-use Rattle.std.proofs.Common.{◌≡◌, refl, sym, ap, subst, ◌∙◌, ◌<◌, ◌+◌, ℕ, suc, Bool, true, false, not, List, [], ◌∷◌, ◌++◌, map, drop, length, get_or, drop-cons, add-one, Option, Some, None}
-use Rattle.vlt_base.specs.declared.ids.VarId.{VarId}
+use Rattle.std.proofs.Common.{◌≡◌, refl, sym, ap, subst, ◌∙◌, ◌<◌, ◌+◌, ℕ, suc, Bool, false, not, List, ◌∷◌, ◌++◌, map, drop, length, get_or, drop-cons, add-one, Option}
 use Rattle.vlt_core.specs.Core as core
 use Rattle.vlt_core.specs.Core.{Func, Program}
 use Rattle.vlt_core.specs.View.{form_of, block_of, stmts_of, arms_of, vars_of, tok_of, stmts_made, arms_made, stmt_of, arm_of}

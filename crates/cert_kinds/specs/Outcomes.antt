@@ -1,5 +1,5 @@
 -- What an answer of `kinded` means.
-use Rattle.std.specs.Prelude.{◌≡◌, ℕ, min, Option, Some, Result, Ok, Err}
+use Rattle.std.specs.Prelude.{◌≡◌, ℕ, min, Some, Result, Ok, Err}
 use Rattle.vlt_core.specs.Core.{Program}
 use Rattle.vlt_core.specs.Kinded.{IsKinded, breaks}
 use Rattle.cert_kinds.specs.declared.whole.KindedError.{KindedError}

@@ -1,12 +1,10 @@
 -- What is in scope where a body begins.
-use Rattle.std.specs.Prelude.{ℕ, nat_lt, if◌then◌else◌, List, [], length, map, reverse}
-use Rattle.std.specs.List.{flat_map, range_with_len}
+use Rattle.std.specs.Prelude.{ℕ, nat_lt, if◌then◌else◌, List, length, map, reverse}
+use Rattle.std.specs.List.{flat_map}
 use Rattle.vlt_base.specs.declared.ids.KeyId.{KeyId}
 use Rattle.vlt_core.specs.Core.{Func}
 use Rattle.vlt_core.specs.Types.{keys_of_ty}
 use Rattle.vlt_core.specs.View.{keys_of, var_of, entry_of}
-use Rattle.vlt_core.specs.KindedHeads.{keys_of_parameters, head_keys}
-use Rattle.vlt_core.specs.KindedScopes.{Ids}
 use Rattle.vlt_core.specs.declared.program.Entry.{Entry}
 use Rattle.vlt_core.specs.declared.program.VarDecl.{VarDecl}
 

@@ -1,5 +1,5 @@
 -- Arms, one after another.
-use Rattle.std.proofs.Common.{◌≡◌, refl, sym, ap, ◌∙◌, ◌<◌, ◌+◌, ℕ, zero, suc, List, [], ◌∷◌, ◌++◌, map, drop, length, get_or, drop-cons, add-one, Option, Some, None, slice_get, arith}
+use Rattle.std.proofs.Common.{◌≡◌, refl, sym, ap, ◌∙◌, ◌<◌, ◌+◌, ℕ, zero, suc, List, [], ◌∷◌, ◌++◌, drop, length, get_or, drop-cons, add-one, Option, slice_get}
 use Rattle.vlt_base.specs.declared.ids.VarId.{VarId}
 use Rattle.vlt_core.specs.Core.{Ty, Func}
 use Rattle.vlt_core.specs.declared.program.Arm.{Arm}

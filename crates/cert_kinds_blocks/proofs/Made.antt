@@ -1,5 +1,5 @@
 -- Tokens that were made, one after another.
-use Rattle.std.proofs.Common.{◌≡◌, refl, sym, ap, ◌∙◌, ◌<◌, ◌-◌, ◌+◌, ℕ, zero, suc, ◌==◌, Bool, true, false, true≢false, if◌then◌else◌, List, [], ◌∷◌, ◌++◌, map, filter, drop, length, get_or, drop-cons, Option, Some, None, arith}
+use Rattle.std.proofs.Common.{◌≡◌, refl, sym, ap, ◌∙◌, ◌<◌, ◌-◌, ◌+◌, ℕ, suc, ◌==◌, Bool, true, false, true≢false, List, [], ◌∷◌, ◌++◌, map, filter, drop, length, get_or, drop-cons, Some, arith}
 use Rattle.std.proofs.lemmas.Bool.Decides.{nat_tests}
 use Rattle.std.specs.List.{list_any, range_with_len}
 use Rattle.vlt_core.specs.Core as core

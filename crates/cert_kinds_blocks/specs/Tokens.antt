@@ -1,5 +1,5 @@
 -- The parts of the rule on a block's list of tokens.
-use Rattle.std.specs.Prelude.{ℕ, Bool, false, if◌then◌else◌, List, [], ◌∷◌, filter, Option, Some, None}
+use Rattle.std.specs.Prelude.{Bool, false, if◌then◌else◌, List, [], ◌∷◌, filter, Option, Some, None}
 use Rattle.std.specs.List.{list_any}
 use Rattle.vlt_core.specs.Core.{Tok, a_key, a_var, Func}
 use Rattle.vlt_core.specs.Lookups.{is_owning_var}

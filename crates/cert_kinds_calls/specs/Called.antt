@@ -1,7 +1,7 @@
 -- The parts of the rules on a call's arguments and its target.
-use Rattle.std.specs.Prelude.{ℕ, nat_lt, ◌==◌, Bool, true, false, not, ◌&&◌, if◌then◌else◌, List, [], ◌∷◌, ◌++◌, length, Option, Some, None, slice_get}
+use Rattle.std.specs.Prelude.{ℕ, nat_lt, ◌==◌, Bool, true, not, ◌&&◌, if◌then◌else◌, List, [], ◌++◌, length, Option, Some, None, slice_get}
 use Rattle.std.specs.List.{flat_map}
-use Rattle.vlt_core.specs.Core.{States, Ty, tracked, owning, guarded, variant, owning_variant, Expr, var, field, Operand, Func, Program}
+use Rattle.vlt_core.specs.Core.{States, Ty, tracked, owning, guarded, variant, owning_variant, Expr, var, field, Func, Program}
 use Rattle.vlt_core.specs.Lookups.{var_type}
 use Rattle.vlt_core.specs.Types.{same_keys, keys_of_ty, args_of}
 use Rattle.vlt_core.specs.KindedHeads.{Rules, unless, when_some, parameters_of}

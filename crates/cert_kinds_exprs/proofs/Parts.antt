@@ -7,7 +7,7 @@ use Rattle.vlt_core.specs.declared.program.Operand as code
 use Rattle.vlt_core.specs.View.{operand_of}
 use Rattle.vlt_core.specs.Lookups.{var_type, fields_of}
 use Rattle.vlt_core.specs.Types.{decl_of}
-use Rattle.vlt_core.specs.KindedHeads.{Rules, when_some}
+use Rattle.vlt_core.specs.KindedHeads.{when_some}
 use Rattle.vlt_core.specs.KindedScopes.{Ids, use_broken}
 use Rattle.vlt_core.specs.KindedOperands.{touch_broken, expr_broken, left_broken, type_of_expr, operand_broken, operands_broken}
 use Rattle.cert_kinds_types.specs.Least.{least, lesser}

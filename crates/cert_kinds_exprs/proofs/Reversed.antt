@@ -1,5 +1,5 @@
 -- Lists that are seen the other way round.
-use Rattle.std.proofs.Common.{◌≡◌, refl, sym, ap, ◌∙◌, ℕ, Bool, List, [], ◌∷◌, ◌++◌, map, reverse, append-nil}
+use Rattle.std.proofs.Common.{◌≡◌, ap, ◌∙◌, ℕ, List, [], ◌∷◌, ◌++◌, map, reverse, append-nil}
 use Rattle.std.proofs.lemmas.List.{reverse-append, map-append}
 use Rattle.vlt_core.specs.KindedHeads.{has}
 use Rattle.cert_kinds_heads.proofs.Lists as lists

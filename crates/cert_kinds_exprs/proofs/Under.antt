@@ -1,5 +1,5 @@
 -- Keys as they are, and two lists of keys.
-use Rattle.std.proofs.Common.{◌≡◌, refl, sym, ap, ◌∙◌, ◌≤◌, ◌-◌, ℕ, ◌==◌, ◌&&◌, Bool, List, [], ◌∷◌, map, take, drop, length, get_or, Option, None, arith}
+use Rattle.std.proofs.Common.{◌≡◌, refl, ap, ◌≤◌, ◌-◌, ℕ, ◌==◌, ◌&&◌, List, [], ◌∷◌, map, take, drop, length, get_or, Option, None, arith}
 use Rattle.vlt_base.specs.declared.ids.KeyId.{KeyId}
 use Rattle.vlt_core.specs.Types.{same_keys}
 use Rattle.vlt_core.specs.View.{keys_of}

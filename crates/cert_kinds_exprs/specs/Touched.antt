@@ -2,7 +2,7 @@
 use Rattle.std.specs.Prelude.{ℕ, List, [], ◌∷◌, ◌++◌, Option, Some, None, is_some, slice_get}
 use Rattle.vlt_ops.specs.declared.Op.{Op}
 use Rattle.vlt_ops.specs.Operator.{row_of}
-use Rattle.vlt_core.specs.Core.{Ty, tracked, guarded, FieldDecl, Expr, Func, Program}
+use Rattle.vlt_core.specs.Core.{Ty, FieldDecl, Expr, Func, Program}
 use Rattle.vlt_core.specs.Lookups.{var_type, fields_of, release_set}
 use Rattle.vlt_core.specs.Types.{decl_of, lies_within, with_keys}
 use Rattle.vlt_core.specs.KindedHeads.{Rules, unless, when_some}

@@ -1,11 +1,10 @@
 -- Keys and entries of a head, one after another.
-use Rattle.std.proofs.Common.{◌≡◌, ◌≢◌, refl, sym, ap, ◌∙◌, ◌<◌, ◌≤◌, ◌+◌, ◌-◌, suc, zero, ℕ, ◌==◌, ◌||◌, ◌&&◌, not, nat_le, if◌then◌else◌, Bool, true, false, List, [], ◌∷◌, ◌++◌, map, filter, take, drop, length, get_or, drop-cons, add-one, Option, Some, None, arith}
+use Rattle.std.proofs.Common.{◌≡◌, ◌≢◌, refl, sym, ap, ◌∙◌, ◌<◌, ◌≤◌, ◌+◌, ◌-◌, suc, ℕ, ◌==◌, ◌||◌, not, nat_le, if◌then◌else◌, Bool, true, false, List, [], ◌∷◌, ◌++◌, map, filter, take, drop, length, get_or, drop-cons, add-one, Option, Some, None, arith}
 use Rattle.std.specs.List.{list_any, flat_map}
 use Rattle.std.proofs.lemmas.List.Concat.{flat_map-cons}
 use Rattle.vlt_core.specs.Core.{Ty, tracked, VarDecl, Entry, Func, Program}
 use Rattle.vlt_core.specs.Lookups.{is_new}
-use Rattle.vlt_core.specs.Types.{keys_of_ty}
-use Rattle.vlt_core.specs.KindedHeads.{Rules, has, own_typings, key_broken, listed_broken, new_key_broken}
+use Rattle.vlt_core.specs.KindedHeads.{has, own_typings, key_broken, listed_broken, new_key_broken}
 use Rattle.vlt_core.specs.View as view
 use Rattle.vlt_core.specs.declared.program.KeyDecl.{KeyDecl}
 use Rattle.vlt_core.specs.declared.program.Entry as code

@@ -1,13 +1,13 @@
 -- What two lists of types say of a key together.
-use Rattle.std.proofs.Common.{◌≡◌, refl, sym, ap, ◌∙◌, ◌<◌, ◌+◌, suc, map, drop, length, get_or, drop-cons, add-one, ℕ, ◌==◌, nat_eq, if◌then◌else◌, Bool, true, false, ◌&&◌, List, [], ◌∷◌, ◌++◌, filter, arith}
+use Rattle.std.proofs.Common.{◌≡◌, refl, sym, ap, ◌∙◌, ◌<◌, ◌+◌, suc, map, drop, length, get_or, drop-cons, add-one, ℕ, ◌==◌, if◌then◌else◌, Bool, true, false, ◌&&◌, List, [], ◌∷◌, ◌++◌, arith}
 use Rattle.std.proofs.Common.{true≢false}
 use Rattle.std.proofs.lemmas.Bool.Decides.{nat_tests}
-use Rattle.std.specs.List.{flat_map, list_all}
+use Rattle.std.specs.List.{flat_map}
 use Rattle.std.proofs.lemmas.List.Concat.{flat_map-cons}
 use Rattle.vlt_core.specs.KindedHeads.{Typing, types_at, are_all}
 use Rattle.std.proofs.Common.{Option, Some, None, option_map, ◌≤◌, ◌-◌, take}
-use Rattle.vlt_core.specs.Core.{Ty, Entry, Program}
-use Rattle.vlt_core.specs.KindedHeads.{Rules, unless, arg_typings, is_only_type}
+use Rattle.vlt_core.specs.Core.{Entry, Program}
+use Rattle.vlt_core.specs.KindedHeads.{unless, arg_typings, is_only_type}
 use Rattle.vlt_core.specs.declared.rules.TheConstants as rule
 use Rattle.vlt_base.specs.declared.ids.KeyId.{KeyId}
 use Rattle.vlt_base.specs.declared.ids.TypeId.{TypeId}

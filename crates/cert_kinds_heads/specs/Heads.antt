@@ -1,7 +1,7 @@
 -- The parts of a head's rules.
-use Rattle.std.specs.Prelude.{ℕ, ◌==◌, Bool, true, false, not, ◌||◌, if◌then◌else◌, nat_le, nat_lt, List, [], ◌∷◌, ◌++◌, map, filter, length, Option, Some, None, is_some, slice_get}
+use Rattle.std.specs.Prelude.{ℕ, ◌==◌, Bool, true, false, ◌||◌, if◌then◌else◌, nat_le, nat_lt, List, [], ◌∷◌, ◌++◌, map, length, Option, Some, None, is_some, slice_get}
 use Rattle.std.specs.List.{flat_map}
-use Rattle.vlt_core.specs.Core.{States, Ty, tracked, Entry, CaseKey, Func, Program}
+use Rattle.vlt_core.specs.Core.{Ty, tracked, Entry, CaseKey, Func, Program}
 use Rattle.vlt_core.specs.Lookups.{is_new}
 use Rattle.vlt_core.specs.Types.{decl_of}
 use Rattle.vlt_core.specs.KindedHeads.{Rules, unless, when_some, has, are_apart, ty_broken, argument_broken, type_broken, listed_broken, entry_broken, result_broken, new_key_broken, new_keys, keys_of_parameters, tracked_keys, is_external_parameter, is_external_payload, is_declared_result, external_result_broken, external_broken, is_main_head}

@@ -6,10 +6,9 @@ use Rattle.vlt_core.specs.Core as core
 use Rattle.vlt_core.specs.Core.{Ty, int, bool, tracked, owning, guarded, variant, owning_variant, Func, Program}
 use Rattle.vlt_core.specs.declared.program.FieldDecl.{FieldDecl}
 use Rattle.vlt_core.specs.View.{field_of, vars_of}
-use Rattle.vlt_core.specs.Lookups.{is_owning, var_type}
+use Rattle.vlt_core.specs.Lookups.{is_owning}
 use Rattle.vlt_core.specs.Types.{with_keys}
-use Rattle.vlt_core.specs.KindedScopes.{Ids, with_binding, binding_broken}
-use Rattle.vlt_core.specs.KindedOperands.{misfit}
+use Rattle.vlt_core.specs.KindedScopes.{Ids, with_binding}
 use Rattle.vlt_core.specs.KindedStatements.{opened_broken, with_bindings}
 use Rattle.cert_kinds_types.specs.Least.{least, lesser}
 use Rattle.cert_kinds_types.proofs.Smallest.{joined, one_more}

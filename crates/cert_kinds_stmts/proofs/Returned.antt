@@ -1,5 +1,5 @@
 -- What is returned.
-use Rattle.std.proofs.Common.{◌≡◌, refl, sym, ap, ◌∙◌, ℕ, ◌==◌, ◌||◌, ◌&&◌, Bool, true, false, List, [], ◌∷◌, map, filter, Option, Some, None}
+use Rattle.std.proofs.Common.{◌≡◌, refl, ap, ℕ, ◌==◌, ◌||◌, ◌&&◌, Bool, true, false, List, [], ◌∷◌, map, filter, None}
 use Rattle.std.specs.List.{list_any}
 use Rattle.vlt_core.specs.Core.{Entry, Operand, pure, move, pack, Expr, number, truth, var, field, unary, binary, Func, Program}
 use Rattle.vlt_core.specs.Lookups.{is_given_back}
@@ -8,7 +8,7 @@ use Rattle.vlt_core.specs.KindedScopes.{Ids}
 use Rattle.vlt_core.specs.KindedOperands.{operand_broken}
 use Rattle.vlt_core.specs.KindedCalls.{new_result_broken}
 use Rattle.vlt_core.specs.declared.rules.TheConstants as rule
-use Rattle.cert_kinds_types.specs.Least.{least, lesser}
+use Rattle.cert_kinds_types.specs.Least.{least}
 use Rattle.cert_kinds_stmts.specs.Returned as z
 use Rattle.cert_kinds_types.proofs.Smallest.{joined}
 

@@ -1,14 +1,13 @@
 -- Arguments against a header, one after another.
-use Rattle.std.proofs.Common.{◌≡◌, refl, sym, ap, ◌∙◌, ◌-◌, take, take_all, length-drop, ◌<◌, ◌≤◌, ℕ, ◌==◌, List, [], ◌∷◌, ◌++◌, map, drop, length, get_or, Option, Some, None, option_map, arith}
+use Rattle.std.proofs.Common.{◌≡◌, ◌-◌, take, take_all, length-drop, ◌≤◌, ℕ, List, [], ◌∷◌, drop, length, get_or, Option, option_map, arith}
 use Rattle.vlt_base.specs.declared.ids.KeyId.{KeyId}
 use Rattle.vlt_base.specs.declared.ids.TypeId.{TypeId}
-use Rattle.vlt_core.specs.Core.{Ty, TypeDecl, Program}
-use Rattle.vlt_core.specs.Types.{args_of, header_of}
-use Rattle.vlt_core.specs.KindedHeads.{Rules, unless, when_some, shape_broken}
+use Rattle.vlt_core.specs.Types.{header_of}
+use Rattle.vlt_core.specs.KindedHeads.{Rules, when_some}
 use Rattle.vlt_core.specs.declared.rules.TheConstants as rule
 use Rattle.vlt_core.specs.View as view
 use Rattle.cert_kinds_types.specs.Least.{least, lesser}
-use Rattle.cert_kinds_types.specs.Arguments.{args_broken, declared_broken}
+use Rattle.cert_kinds_types.specs.Arguments.{args_broken}
 use Rattle.cert_kinds_types.proofs.Smallest.{joined}
 
 pub rest_is : {A : Type 0} (xs : List A) → take (length xs - 1) (drop 1 xs) ≡ drop 1 xs

@@ -1,7 +1,7 @@
 -- The arguments of a type against the header's types, as `ty_broken` has them.
 use Rattle.std.specs.Prelude.{ℕ, nat_lt, ◌==◌, Bool, false, List, [], ◌∷◌, ◌++◌, length, Option, Some, None, slice_get}
 use Rattle.vlt_core.specs.Core.{States, Ty, owning, variant, TypeDecl, Header, Program}
-use Rattle.vlt_core.specs.Types.{args_of, header_of, decl_of}
+use Rattle.vlt_core.specs.Types.{args_of, header_of}
 use Rattle.vlt_core.specs.KindedHeads.{Rules, unless, when_some, shape_broken}
 use Rattle.vlt_core.specs.declared.rules.TheConstants as rule
 

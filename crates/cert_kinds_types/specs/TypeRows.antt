@@ -1,5 +1,5 @@
 -- A declared type's own row, and the rows of its cases after it.
-use Rattle.std.specs.Prelude.{ℕ, not, List, [], ◌∷◌, ◌++◌, map, Option, Some, None}
+use Rattle.std.specs.Prelude.{ℕ, not, List, [], ◌∷◌, ◌++◌, map, Option, None}
 use Rattle.std.specs.List.{flat_map}
 use Rattle.vlt_core.specs.Core.{States, Ty, FieldDecl, TypeDecl, an_abstract, a_struct, a_variant, Header, Program}
 use Rattle.vlt_core.specs.Types.{decl_of, is_variant}

@@ -4,7 +4,7 @@ use Rattle.vlt_core.specs.Core.{Func, Program}
 use Rattle.vlt_core.specs.Maps.{HeldMap}
 use Rattle.vlt_core.specs.Instances.{instance}
 use Rattle.vlt_core.specs.Least as least
-use Rattle.vlt_core.specs.Least.{Noted, a_loop, a_join}
+use Rattle.vlt_core.specs.Least.{a_loop, a_join}
 use Rattle.cert_rows.specs.Parts.{All}
 use Rattle.cert_format.specs.Notes.{Note, at_loop, at_join}
 use Rattle.cert_format.specs.Bounds.{instances}

@@ -5,7 +5,7 @@ use Rattle.vlt_core.specs.Flow.{Flow, step, choose, loop, switch, scope, focus, 
 use Rattle.vlt_core.specs.Bodies.{body_flow}
 use Rattle.vlt_core.specs.Instances.{instance}
 use Rattle.vlt_core.specs.Least as least
-use Rattle.vlt_core.specs.Least.{noted, noted_block, noted_stmts, noted_arms, noted_by, IsLeast}
+use Rattle.vlt_core.specs.Least.{noted, noted_block, noted_stmts, noted_arms, IsLeast}
 use Rattle.cert_rows.specs.Parts.{All}
 use Rattle.cert_format.specs.Notes.{Note, at_loop, at_join}
 use Rattle.cert_format.specs.Places.{unplaced_func, unplaced_program}

@@ -6,7 +6,7 @@ use Rattle.vlt_core.specs.Core as core
 use Rattle.vlt_core.specs.View.{case_of}
 use Rattle.vlt_core.specs.declared.program.CaseDecl.{CaseDecl}
 use Rattle.cert_rows.specs.Rows as row
-use Rattle.cert_rows.specs.Rows.{Row, row_data, FitsRow}
+use Rattle.cert_rows.specs.Rows.{Row}
 use Rattle.cert_read_decls.specs.Rows.{decl_of_data}
 
 -- the rows of declarations from a value on

@@ -3,7 +3,7 @@ use Rattle.std.proofs.Common.{◌≡◌, ◌≤◌, ◌<◌, ◌+◌, refl, sym,
 use Rattle.serde_json.specs.declared.value.Value.{Value}
 use Rattle.cert_rows.specs.Rows as row
 use Rattle.cert_format.specs.Drafts as s
-use Rattle.cert_format.specs.Drafts.{Rest, head, arm_heads, block_rows, arms_rows, is_whole_block, are_whole_arms, IsBare, AreBare, IsTakenBlock, AreTakenArms}
+use Rattle.cert_format.specs.Drafts.{head, arm_heads, block_rows, arms_rows, is_whole_block, are_whole_arms, IsTakenBlock, AreTakenArms}
 use Rattle.cert_format.specs.Bodies.{size_block, size_arms}
 use Rattle.cert_format.specs.Endings.{Ending, sure, never, unsure, both, block_ending, arms_ending, wrong_arms, or_else}
 use Rattle.cert_read_rows.specs.Heads.{arm_of as head_of_arm}

@@ -3,7 +3,7 @@ use Rattle.std.proofs.Common.{◌≡◌, ◌+◌, ap, ◌∙◌, subst, List, �
 use Rattle.cert_format.specs.Drafts as t
 use Rattle.cert_format.specs.Bodies as s
 use Rattle.cert_format.specs.Notes.{Note}
-use Rattle.cert_format.specs.Bodies.{size, size_block, size_arms}
+use Rattle.cert_format.specs.Bodies.{size_block, size_arms}
 use Rattle.cert_read_bodies.specs.Notes.{Adds}
 use Rattle.cert_read_bodies.specs.declared.notes.Notes.{Notes}
 use Rattle.cert_read_bodies.proofs.Made.{then}

@@ -5,10 +5,10 @@ use Rattle.std.proofs.lemmas.Bool.Decides.{nat_tests}
 use Rattle.serde_json.specs.View.{view}
 use Rattle.serde_json.specs.declared.value.Value.{Value}
 use Rattle.vlt_core.specs.Core.{Expr}
-use Rattle.cert_rows.specs.Rows.{Maps, Row, ArmHead}
+use Rattle.cert_rows.specs.Rows.{Maps, Row}
 use Rattle.cert_rows.specs.Rows as row
 use Rattle.cert_format.specs.Drafts as s
-use Rattle.cert_format.specs.Drafts.{Draft, Block, Drafts, Arms, Rest, head, arm_heads, draft_rows, block_rows, list_rows, arms_rows, is_whole_draft, is_whole_block, is_whole_list, are_whole_arms, is_plain, may_arm, most_block_depth, IsBare, IsStuck, IsTaken, IsTakenBlock, AreTaken, AreTakenArms}
+use Rattle.cert_format.specs.Drafts.{Draft, Block, Arms, Rest, head, arm_heads, draft_rows, block_rows, arms_rows, is_whole_draft, is_whole_block, is_plain, may_arm, most_block_depth, IsTaken, IsTakenBlock, AreTakenArms}
 use Rattle.cert_format.specs.Bodies.{size, size_block}
 use Rattle.cert_format.specs.Endings.{both, row_ending, agrees, ending, block_ending, arms_ending, wrong_draft, wrong_block, or_else}
 use Rattle.cert_read_rows.specs.Statements.{stmt_of_data, plain_of}

@@ -4,7 +4,7 @@ use Rattle.std.proofs.lemmas.Bool.Decides.{nat_tests}
 use Rattle.serde_json.specs.declared.value.Value.{Value}
 use Rattle.vlt_core.specs.Core.{Tok}
 use Rattle.cert_format.specs.Drafts as s
-use Rattle.cert_format.specs.Drafts.{Rest, draft_rows, list_rows, is_whole_draft, is_whole_list, IsStuck, IsTaken, AreTaken}
+use Rattle.cert_format.specs.Drafts.{draft_rows, list_rows, is_whole_list, IsStuck, IsTaken, AreTaken}
 use Rattle.cert_format.specs.Bodies.{size, size_list}
 use Rattle.cert_format.specs.Endings.{never, unsure, list_ending, wrong_draft, wrong_list, or_else}
 use Rattle.cert_read_bodies.specs.Tree.{draft_of, drafts_of, ending_of}

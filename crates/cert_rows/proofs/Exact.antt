@@ -5,7 +5,7 @@ use Rattle.serde_json.specs.Data.{Data, string, depth, items_depth}
 use Rattle.serde_json.specs.Written.{has_float, items_have_float}
 use Rattle.serde_json.specs.View.{items_of}
 use Rattle.vlt_core.specs.Core as core
-use Rattle.vlt_core.specs.Core.{Ty, Expr, Operand}
+use Rattle.vlt_core.specs.Core.{Expr}
 use Rattle.cert_rows.specs.Parts.{Part, Fields, list, number_to, text, All, several, few, pair, quadruple, tuple, minus_or, zero_or}
 use Rattle.cert_rows.specs.Values.{Shape, id, byte, flag, mask, token, token_status, map_part, maps_part, ids, tagged_list, key_fields, own_fields, var_fields, ty, field, case_key, key_decl, var_decl, entry}
 use Rattle.cert_rows.specs.Expressions.{operator_data, expr_items, expr, operand}

@@ -27,7 +27,8 @@ fn put_set(out: &mut CertText, v: VarId, e: &Expr) -> Result<(), AllocError>
 }
 
 fn put_input(out: &mut CertText, v: VarId, more: bool) -> Result<(), AllocError>
-    ensures { OnOk result (out.new ≡ laid (plain_data (row.simple (core.input v.0 more))) out.old) }
+    ensures { OnOk result (out.new
+        ≡ laid (plain_data (row.simple (core.input v.0 more))) out.old) }
 {
     out.tag("input")?;
     out.number(v.0 as u64)?;

@@ -1,5 +1,5 @@
 -- What a part gives, and what it refuses where it fails.
-use Rattle.std.proofs.Common.{◌≡◌, ◌≤◌, ◌<◌, ◌+◌, ◌-◌, ◌^◌, refl, sym, ap, ◌∙◌, subst, ℕ, nat_le, nat_lt, ◌&&◌, ◌||◌, Bool, true, false, if◌then◌else◌, List, [], ◌∷◌, length, Option, Some, None, Result, Ok, Err, arith}
+use Rattle.std.proofs.Common.{◌≡◌, ◌≤◌, ◌<◌, ◌-◌, ◌^◌, refl, ap, ◌∙◌, ℕ, nat_le, nat_lt, ◌&&◌, ◌||◌, Bool, true, false, if◌then◌else◌, List, [], ◌∷◌, length, Option, Some, None, Ok, Err, arith}
 use Rattle.std.specs.List.{list_any}
 use Rattle.std.proofs.lemmas.Bool.Decides.{nat_tests}
 use Rattle.std.proofs.lemmas.List.{length-drop}
@@ -12,7 +12,7 @@ use Rattle.vlt_core.specs.declared.program.Program.{Program as CodeProgram}
 use Rattle.vlt_core_laws.proofs.Unbroken.{some_same, some_not_none}
 use Rattle.c_syntax.specs.C as c
 use Rattle.c_syntax.specs.Text.{before_mark}
-use Rattle.c_syntax.specs.Reading.{cert_of, IsCProgramOf}
+use Rattle.c_syntax.specs.Reading.{IsCProgramOf}
 use Rattle.c_reader.specs.Reads as c_reads
 use Rattle.c_reader.specs.declared.error.CError.{CError}
 use Rattle.c_reader.specs.declared.error.CError.TheVariants as c_error
@@ -21,8 +21,7 @@ use Rattle.c_match.specs.Refusals as match_refusals
 use Rattle.c_match.specs.declared.error.MatchError.{MatchError}
 use Rattle.c_match.specs.declared.error.MatchError.TheVariants as match_error
 use Rattle.cert_format.specs.Notes.{Note}
-use Rattle.cert_fit_laws.specs.Annotation.{IsLocalCertificate, IsVerified}
-use Rattle.cert_fit_laws.specs.Formed.{IsFormed}
+use Rattle.cert_fit_laws.specs.Annotation.{IsLocalCertificate}
 use Rattle.cert_fit_laws.specs.Programs.{CertificatesAreFormed}
 use Rattle.cert_read.specs.Certificates as read
 use Rattle.cert_read.specs.Declarations.{notes_of_all}

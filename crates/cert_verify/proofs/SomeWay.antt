@@ -1,16 +1,15 @@
 -- It can't be that a text neither verifies nor is refused.
-use Rattle.std.proofs.Common.{◌≡◌, ◌⊎◌, inl, inr, ⊎_elim, refl, subst, ℕ, Bool, true, false, List, Option, Some, None}
+use Rattle.std.proofs.Common.{◌≡◌, ◌⊎◌, inl, inr, ⊎_elim, refl, ℕ, List, Option, Some, None}
 use Rattle.vlt_base.specs.Sure.{Surely}
 use Rattle.vlt_base.specs.declared.places.Span.{Span}
 use Rattle.vlt_base.proofs.Surely.{sure, surely, so, one_way}
 use Rattle.vlt_core.specs.Core.{Program}
-use Rattle.vlt_core.specs.Kinded.{breaks, IsKinded}
+use Rattle.vlt_core.specs.Kinded.{breaks}
 use Rattle.c_syntax.specs.C as c
 use Rattle.c_syntax.specs.Reading.{IsCProgramOf}
 use Rattle.c_reader_laws.specs.Laws.{IsReadInOneWay}
 use Rattle.c_lower.specs.Lowering.{lowered}
 use Rattle.cert_format.specs.Notes.{Note}
-use Rattle.cert_format.specs.Certificate.{FitsCertificate, IsCertificateOf}
 use Rattle.cert_format.specs.Readings.{Reading, certificate, not_json as no_json, not_of_its_form as wrong_row, IsReading}
 use Rattle.cert_format_laws.specs.Readings.{HasSomeReading}
 use Rattle.c_match.specs.Laws.{OthersAreApart}

@@ -1,13 +1,13 @@
 -- The text of rows: its tokens are those that the rows have as a value, and it is read back.
-use Rattle.std.proofs.Common.{◌≡◌, ◌≤◌, ℕ, pos, negsuc, Bool, true, false, List, [], ◌∷◌, ◌++◌, refl, sym, ap, ◌∙◌, subst, append_assoc}
-use Rattle.std.specs.Prelude.{⊤, codes, None}
+use Rattle.std.proofs.Common.{◌≡◌, ℕ, pos, negsuc, Bool, List, [], ◌∷◌, ◌++◌, refl, ap, ◌∙◌, append_assoc}
+use Rattle.std.specs.Prelude.{None}
 use Rattle.json.specs.Token.{Token, begin_array, end_array, bad, string}
 use Rattle.json.specs.Print.{print}
 use Rattle.json.specs.Tree.{json_tokens, items_tokens}
 use Rattle.serde_json.specs.Data as value
 use Rattle.serde_json.specs.Data.{Data, null, boolean, number, array, object, unsigned, negative, float, Items, no_items, item}
 use Rattle.serde_json.specs.View.{items_of}
-use Rattle.serde_json.specs.Written.{outline, items_outline, compact_text}
+use Rattle.serde_json.specs.Written.{outline, items_outline}
 use Rattle.serde_json.proofs.Texts.{print-outline}
 use Rattle.vlt_core.specs.Core.{Program}
 use Rattle.vlt_core.specs.declared.notes.Annotation.{Annotation}
@@ -17,7 +17,7 @@ use Rattle.cert_rows.specs.Rows.{row_data}
 use Rattle.cert_format.specs.Text.{marked}
 use Rattle.cert_format.specs.Certificate.{shape}
 use Rattle.cert_values.specs.Laid.{natural_token, below_token, laid, items_laid, each_laid}
-use Rattle.cert_values.specs.Texts.{IsFine, AreFine}
+use Rattle.cert_values.specs.Texts.{AreFine}
 use Rattle.cert_values.proofs.Fine.{fine_parts, natural_small, natural_is, below_small, below_is}
 use Rattle.cert_values.proofs.Each.{each_append, each_closed}
 use Rattle.cert_json_laws.proofs.Readable.{IsReadable, AreReadable, order, reads_back, utf8}

@@ -7,7 +7,7 @@ use Rattle.vlt_core.specs.KindedBodies.{ends}
 use Rattle.cert_rows.specs.Parts.{zero_data, list, nat}
 use Rattle.cert_rows.specs.Values.{ListedMap, maps_part, tagged_list}
 use Rattle.cert_rows.specs.Expressions.{expr}
-use Rattle.cert_rows.specs.Rows.{Maps, Row, head as head_part, arm as arm_part, row_data}
+use Rattle.cert_rows.specs.Rows.{Maps, head as head_part, arm as arm_part, row_data}
 use Rattle.cert_rows.specs.Rows as row
 use Rattle.cert_format.specs.Drafts.{head, arm_heads, draft_rows, block_rows, list_rows, arms_rows}
 use Rattle.cert_format.specs.Notes.{MapNotes, join_of}

@@ -1,6 +1,6 @@
 -- Reading token by token, within bounds. A stack says what is still to come, the next first; a token takes from it what it
 -- begins. The stack knows what is left of each bound, so that a refusal comes at the very token that decides it.
-use Rattle.std.specs.Prelude.{ℕ, zero, suc, ◌-◌, max, Bool, true, false, ◌==◌, nat_lt, if◌then◌else◌, List, [], ◌∷◌, ◌++◌, map, Option, Some, None, Result, Ok, Err}
+use Rattle.std.specs.Prelude.{ℕ, zero, suc, ◌-◌, max, Bool, true, false, ◌==◌, nat_lt, if◌then◌else◌, List, [], ◌∷◌, ◌++◌, Option, Some, None, Result, Ok, Err}
 use Rattle.vlt_ops.specs.declared.Op.{Op}
 use Rattle.vlt_lexer.specs.declared.token.Word.{Word}
 use Rattle.vlt_lexer.specs.declared.token.Word.TheVariants as word

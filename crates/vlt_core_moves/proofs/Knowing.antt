@@ -2,7 +2,7 @@
 use Rattle.std.proofs.Common.{◌≡◌, ℕ, zero, suc, nat_lt, ◌==◌, Bool, true, false, true≢false, not, ◌&&◌, if◌then◌else◌, List, [], ◌∷◌, ◌++◌, length, Option, Some, None, slice_get, option_map, refl, sym, ap, ap₂, subst, ◌∙◌, eqb-true, ◌<◌, arith, ltb-true}
 use Rattle.std.specs.List.{flat_map}
 use Rattle.vlt_core.specs.Core as core
-use Rattle.vlt_core.specs.Core.{Ty, int, bool, tracked, owning, guarded, variant, owning_variant, TypeDecl, an_abstract, a_struct, a_variant, FieldDecl, VarDecl, KeyDecl, Expr, number, truth, var, field, unary, binary, Operand, pure, move, pack, Simple, Form, Block, Stmts, Arms, Func, Program}
+use Rattle.vlt_core.specs.Core.{Ty, int, bool, tracked, owning, guarded, variant, owning_variant, TypeDecl, an_abstract, a_struct, a_variant, VarDecl, KeyDecl, Expr, number, truth, var, field, unary, binary, Operand, pure, move, pack, Simple, Form, Block, Stmts, Arms, Func, Program}
 use Rattle.vlt_core.specs.Lookups.{var_type, tracked_in, variant_in, variant_of, key_type_in, is_owning}
 use Rattle.vlt_core.specs.Types.{decl_of, is_struct, is_variant, same_object, same_keys}
 use Rattle.vlt_core.specs.KindedHeads.{Rules, unless, shape_broken, own_typings, reference_broken, type_broken, key_broken, listed_broken, new_keys, has}

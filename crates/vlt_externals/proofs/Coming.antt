@@ -1,9 +1,9 @@
 -- Objects that come back, and states.
-use Rattle.std.proofs.Common.{◌≡◌, ◌≢◌, ◌⊎◌, inl, inr, ◌<◌, ◌≤◌, ◌+◌, ℕ, Bool, true, false, ◌&&◌, not, if◌then◌else◌, List, [], ◌∷◌, ◌++◌, length, Option, None, Some, Ok, Err, refl, sym, ap, ◌∙◌, subst, arith, slice_get}
+use Rattle.std.proofs.Common.{◌≡◌, ◌≢◌, ◌⊎◌, inl, inr, ℕ, Bool, true, false, if◌then◌else◌, List, [], ◌∷◌, length, Option, None, Some, Ok, Err, refl, sym, ap, ◌∙◌, subst, arith, slice_get}
 use Rattle.std.specs.Option.{option_and_then}
 use Rattle.std.proofs.lemmas.Bool.{false≢true}
 use Rattle.std.proofs.lemmas.List.{length-set}
-use Rattle.std.proofs.lemmas.Option.{none-some, same_Some, slice_get_within}
+use Rattle.std.proofs.lemmas.Option.{none-some, same_Some}
 use Rattle.vlt_core.specs.Core.{Entry}
 use Rattle.vlt_rings.proofs.Calls.{item_at}
 use Rattle.vlt_rings.proofs.Lists.{equal_or_not}
@@ -12,22 +12,21 @@ use Rattle.vlt_heap.specs.declared.slots.Slot.{Slot}
 use Rattle.vlt_heap.specs.declared.slots.Slot.TheVariants.{Object}
 use Rattle.vlt_heap.specs.declared.heap.Heap.{Heap}
 use Rattle.vlt_heap.specs.Items.{Item, Items, IsAt, IsMadeAt, with_item, with_out, with_state as item_state}
-use Rattle.vlt_heap.specs.Shown.{Holds, Changes, Tells, IsThereOrGone, TakesBack, CameBack}
+use Rattle.vlt_heap.specs.Shown.{Holds, Changes, Tells, TakesBack, CameBack}
 use Rattle.vlt_heap.proofs.Listed.{kept_with}
 use Rattle.vlt_meaning.specs.World.{Owner, held, lent, loose, inside, adopted_by, out, gone, is_gone, is_out, above, Object as Thing, Frame, fault, missing, not_owned}
-use Rattle.vlt_meaning.specs.Found.{Found, ◌>>=◌, or_fault, Named, if_so}
+use Rattle.vlt_meaning.specs.Found.{Found, ◌>>=◌, or_fault, if_so}
 use Rattle.vlt_meaning.specs.Objects.{named_in, with_owner, with_state, with_changed_object, changed_in, objects_after_move}
-use Rattle.vlt_meaning.specs.Calls.{caller_object}
 use Rattle.vlt_meaning.specs.Externals.{is_given, come_back}
 use Rattle.vlt_meaning_laws.proofs.Keeping.{change_here, change_elsewhere}
 use Rattle.vlt_acts.specs.declared.values.values.Values.{Values}
 use Rattle.vlt_acts.specs.Values.Parts.{IsObject}
-use Rattle.vlt_acts.specs.Values.Shown.{ShowsObject, ShowsIt, ShowObjects, Seen, key_at}
+use Rattle.vlt_acts.specs.Values.Shown.{ShowsIt, ShowObjects, Seen, key_at}
 use Rattle.vlt_acts.proofs.OfValues.Fronts.{IsSlotAt, IsNoObject, has_part, same_object}
 use Rattle.vlt_acts.specs.Acts.Acts.{Shows}
 use Rattle.vlt_acts.proofs.OfActs.Showing.{one_shown}
 use Rattle.vlt_externals.specs.Sent.{ShowsAll, IsNamed}
-use Rattle.vlt_externals.specs.Back.{AreGiven, AreBack, ComesBack, IsStateSet, Becomes}
+use Rattle.vlt_externals.specs.Back.{AreBack, ComesBack, IsStateSet, Becomes}
 use Rattle.vlt_externals.proofs.Going.{all_shown, seen_after, shows_twice, shows_same}
 
 -- ---- one object

@@ -1,8 +1,8 @@
 -- Objects that go out.
-use Rattle.std.proofs.Common.{◌≡◌, ◌<◌, ◌≤◌, ◌+◌, ℕ, Bool, true, false, ◌&&◌, not, if◌then◌else◌, List, [], ◌∷◌, ◌++◌, Option, None, Some, Ok, Err, refl, sym, ap, ◌∙◌, subst, append-nil, slice_get}
+use Rattle.std.proofs.Common.{◌≡◌, ◌+◌, ℕ, Bool, true, false, ◌&&◌, not, if◌then◌else◌, List, [], ◌∷◌, ◌++◌, None, Some, Ok, Err, refl, sym, ap, ◌∙◌, subst, append-nil, slice_get}
 use Rattle.std.specs.Option.{option_to_list, option_and_then}
 use Rattle.std.proofs.lemmas.Bool.{false≢true}
-use Rattle.std.proofs.lemmas.Option.{none-some, same_Some}
+use Rattle.std.proofs.lemmas.Option.{none-some}
 use Rattle.vlt_core.specs.Core.{Entry}
 use Rattle.vlt_core.specs.Lookups.{is_held_before, is_held_after}
 use Rattle.vlt_rings.specs.Things.{IsLiveAt}
@@ -11,18 +11,18 @@ use Rattle.vlt_heap.specs.declared.slots.Slot.{Slot}
 use Rattle.vlt_heap.specs.declared.slots.Slot.TheVariants.{Object}
 use Rattle.vlt_heap.specs.declared.heap.Heap.{Heap}
 use Rattle.vlt_heap.specs.Items.{Items, IsMadeAt, with_item, with_out}
-use Rattle.vlt_heap.specs.Shown.{Holds, IsLive, IsRoot as IsLone, IsHere, Changes}
+use Rattle.vlt_heap.specs.Shown.{IsLive, IsRoot as IsLone, IsHere, Changes}
 use Rattle.vlt_heap.proofs.Listed.{kept_with}
 use Rattle.vlt_heap.proofs.Calls.{live_at, root_at, here_at}
 use Rattle.vlt_meaning.specs.World.{Owner, held, lent, loose, inside, adopted_by, out, gone, is_gone, is_out, above, is_at, is_loose, Object as Thing, Frame, not_owned}
-use Rattle.vlt_meaning.specs.Found.{Found, ◌>>=◌, Named}
+use Rattle.vlt_meaning.specs.Found.{Found, ◌>>=◌}
 use Rattle.vlt_meaning.specs.Objects.{object_at, owned_at, with_owner, with_changed_object, objects_after_move}
 use Rattle.vlt_meaning.specs.Calls.{caller_object}
 use Rattle.vlt_meaning.specs.Externals.{is_taken, taken_objects}
-use Rattle.vlt_meaning_laws.proofs.Keeping.{bound, err-ok}
+use Rattle.vlt_meaning_laws.proofs.Keeping.{bound}
 use Rattle.vlt_acts.specs.declared.values.values.Values.{Values}
 use Rattle.vlt_acts.specs.Values.Parts.{IsObject}
-use Rattle.vlt_acts.specs.Values.Shown.{ShowObjects, Seen, key_at}
+use Rattle.vlt_acts.specs.Values.Shown.{Seen, key_at}
 use Rattle.vlt_acts.proofs.OfValues.Touching.{so_is, object_is}
 use Rattle.vlt_acts.proofs.OfValues.Fronts.{IsSlotAt, has_part, behind, Behind, same_object}
 use Rattle.vlt_acts.specs.Acts.Acts.{Shows}

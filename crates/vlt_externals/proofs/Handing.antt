@@ -1,5 +1,5 @@
 -- Objects that arguments own go out.
-use Rattle.std.proofs.Common.{◌≡◌, ◌<◌, ◌≤◌, ◌+◌, ◌*◌, ℕ, ℤ, suc, true, List, [], ◌∷◌, ◌++◌, length, None, Some, Ok, refl, sym, ap, ◌∙◌, subst, append-nil, arith}
+use Rattle.std.proofs.Common.{◌≡◌, ◌+◌, ℕ, ℤ, suc, List, [], ◌∷◌, length, Ok, refl, sym, ap, ◌∙◌, subst, append-nil, arith}
 use Rattle.std.specs.List.{flat_map}
 use Rattle.std.proofs.lemmas.Option.{none-some, same_Some}
 use Rattle.vlt_heap.specs.declared.slots.Obj.{Obj}
@@ -19,8 +19,8 @@ use Rattle.vlt_acts.proofs.OfActs.Keeping.{value_kept}
 use Rattle.vlt_acts.specs.Frames.Left.{IsRootAt}
 use Rattle.vlt_externals.specs.Told.{AreArgs}
 use Rattle.vlt_externals.specs.Sent.{ShowsAll, CanGo, Goes, owned_out, CanHand, Hands}
-use Rattle.vlt_externals.proofs.Telling.{number_of, object_of, owned_of, first_is}
-use Rattle.vlt_externals.proofs.Going.{all_shown, seen_after, shows_twice, shows_same, IsMoved, moved_one, moved_append, same_found, loose_root}
+use Rattle.vlt_externals.proofs.Telling.{owned_of, first_is}
+use Rattle.vlt_externals.proofs.Going.{all_shown, seen_after, shows_twice, shows_same, moved_one, moved_append, same_found, loose_root}
 
 -- ---- one argument
 

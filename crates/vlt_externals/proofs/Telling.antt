@@ -1,5 +1,5 @@
 -- The line of a call.
-use Rattle.std.proofs.Common.{◌≡◌, ◌<◌, ◌≤◌, ◌+◌, ◌*◌, ℕ, ℤ, zero, suc, pos, List, [], ◌∷◌, ◌++◌, drop, length, Option, None, Some, codes, refl, sym, ap, ◌∙◌, subst, append-nil, append_assoc, arith, slice_get}
+use Rattle.std.proofs.Common.{◌≡◌, ◌<◌, ◌+◌, ℕ, ℤ, zero, suc, pos, List, [], ◌∷◌, ◌++◌, drop, length, Option, None, Some, codes, refl, sym, ap, ◌∙◌, subst, append-nil, append_assoc, arith, slice_get}
 use Rattle.std.specs.List.{flat_map}
 use Rattle.std.specs.Fmt.{signed_decimal}
 use Rattle.std.proofs.lemmas.Option.{none-some, same_Some, slice_get_within}
@@ -10,11 +10,11 @@ use Rattle.vlt_heap.specs.declared.slots.Obj.{Obj}
 use Rattle.vlt_heap.specs.declared.slots.Slot.{Slot}
 use Rattle.vlt_heap.specs.declared.slots.Slot.TheVariants.{Number, Object, Owned}
 use Rattle.vlt_heap.specs.Items.{Items}
-use Rattle.vlt_meaning.specs.World.{Part, number, reference, owned, part_text, Value, one, of_case, argument_text, called, line_of}
+use Rattle.vlt_meaning.specs.World.{Part, number, reference, owned, part_text, Value, one, of_case, argument_text}
 use Rattle.vlt_acts.specs.declared.values.values.Values.{Values}
 use Rattle.vlt_acts.specs.Values.Parts.{HasPart}
 use Rattle.vlt_acts.proofs.OfValues.Fronts.{IsSlotAt, has_part, front_part}
-use Rattle.vlt_externals.specs.Told.{AreSingle, AreArgs, TellsPart, TellsArgs, TellsCall}
+use Rattle.vlt_externals.specs.Told.{AreArgs, TellsPart, TellsArgs, TellsCall}
 
 -- ---- the part of a slot
 

@@ -1,7 +1,6 @@
 -- The frame of a function that a host calls is shown.
-use Rattle.std.proofs.Common.{◌≡◌, ◌≢◌, inl, inr, ℕ, zero, suc, ◌+◌, ◌*◌, ◌<◌, ◌≤◌, ◌==◌, Bool, true, false, ◌&&◌, if◌then◌else◌, List, [], ◌∷◌, ◌++◌, map, max, length, Option, Some, None, refl, sym, ap, ◌∙◌, subst, arith, slice_get}
+use Rattle.std.proofs.Common.{◌≡◌, ℕ, suc, ◌+◌, ◌*◌, ◌<◌, ◌≤◌, ◌==◌, Bool, true, false, ◌&&◌, if◌then◌else◌, List, [], ◌∷◌, ◌++◌, map, max, length, Option, Some, None, refl, sym, ap, ◌∙◌, subst, arith, slice_get}
 use Rattle.std.proofs.Math.Nat.{mul-le-mul_right}
-use Rattle.std.specs.List.{range_with_len}
 use Rattle.std.specs.Option.{option_and_then}
 use Rattle.std.proofs.lemmas.Bool.{eqb-true}
 use Rattle.std.proofs.lemmas.Bool.Decides.{nat_tests}
@@ -17,12 +16,12 @@ use Rattle.vlt_heap.specs.declared.slots.Slot.{Slot}
 use Rattle.vlt_heap.specs.declared.slots.Slot.TheVariants.{Object as ToObject}
 use Rattle.vlt_heap.proofs.Listed.{made_at}
 use Rattle.vlt_meaning.specs.World as world
-use Rattle.vlt_meaning.specs.World.{Part, Value, one, reference, Object}
+use Rattle.vlt_meaning.specs.World.{one, reference, Object}
 use Rattle.vlt_meaning.specs.Calls.{Binding, is_new_key, callee_key, callee_frame}
 use Rattle.vlt_acts.specs.declared.values.values.Values.{Values}
-use Rattle.vlt_acts.specs.Values.Parts.{IsObject, HasPart, HasPartAt, HaveValue}
+use Rattle.vlt_acts.specs.Values.Parts.{IsObject, HasPartAt, HaveValue}
 use Rattle.vlt_acts.specs.Values.Pushed.{HaveValues}
-use Rattle.vlt_acts.specs.Values.Shown.{with_frame, var_at, key_at, HasVar, ShowsFrame, IsGrown, IsKeySet}
+use Rattle.vlt_acts.specs.Values.Shown.{with_frame, key_at, ShowsFrame, IsGrown, IsKeySet}
 use Rattle.vlt_acts.proofs.OfActs.Keeping.{value_same}
 use Rattle.vlt_acts.proofs.OfFrames.Callees.{value_in}
 use Rattle.vlt_host_meaning.specs.Calls.{Argument, number, object, value_of_argument}

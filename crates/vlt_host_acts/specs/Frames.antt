@@ -1,5 +1,5 @@
 -- The frame of a function that a host calls.
-use Rattle.std.specs.Prelude.{◌≡◌, ◌≤◌, ◌<◌, ◌+◌, ℕ, true, List, map, length, slice_get, vec_capacity}
+use Rattle.std.specs.Prelude.{◌≡◌, ◌<◌, ℕ, true, List, map, length, slice_get, vec_capacity}
 use Rattle.vlt_core.specs.Core.{Func}
 use Rattle.vlt_core.specs.KindedHeads.{parameters_of}
 use Rattle.vlt_meaning.specs.World.{Part, reference, Object}

@@ -7,7 +7,7 @@ use Rattle.vlt_core.specs.Core.{Ty, int, bool, tracked, owning, guarded, variant
 use Rattle.vlt_core.specs.Types.{keys_of_ty, stands_for, with_keys}
 use Rattle.vlt_core.specs.KindedHeads.{has, are_apart, parameters_of}
 use Rattle.vlt_meaning.specs.World as world
-use Rattle.vlt_meaning.specs.World.{Value, reference, one, objects_in, Object}
+use Rattle.vlt_meaning.specs.World.{Value, reference, one, Object}
 use Rattle.vlt_meaning.specs.Calls.{Binding, binding}
 use Rattle.vlt_meaning.specs.Externals.{is_given}
 use Rattle.vlt_sound_worlds.specs.Look.{look, look_in}

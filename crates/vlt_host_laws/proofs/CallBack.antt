@@ -8,7 +8,7 @@ use Rattle.vlt_core.specs.Instances.{bound_in}
 use Rattle.vlt_core.specs.Types.{stands_for}
 use Rattle.vlt_core.specs.Maps.{Status, absent, held}
 use Rattle.vlt_meaning.specs.World as world
-use Rattle.vlt_meaning.specs.World.{Owner, gone, loose, inside, adopted_by, out, Part, Value, one, reference, objects_in, Object, World}
+use Rattle.vlt_meaning.specs.World.{Owner, gone, loose, inside, adopted_by, out, Value, one, reference, objects_in, Object, World}
 use Rattle.vlt_meaning.specs.Objects.{with_owner, with_changed_object}
 use Rattle.vlt_meaning.specs.Calls.{entries_after, callee_key, binding}
 use Rattle.vlt_meaning.specs.Externals.{is_taken}

@@ -10,7 +10,7 @@ use Rattle.vlt_core.specs.Lookups.{key_type, states_or_all, before_set, is_befor
 use Rattle.vlt_core.specs.Instances.{bound_in}
 use Rattle.vlt_core.specs.Types.{keys_of_ty, stands_for, with_keys}
 use Rattle.vlt_core.specs.Maps as maps
-use Rattle.vlt_core.specs.Maps.{Status, absent, held, HeldMap, kind_of, is_absent, is_held, IsWanted, row_passed, CanPass}
+use Rattle.vlt_core.specs.Maps.{held, HeldMap, kind_of, IsWanted, row_passed, CanPass}
 use Rattle.vlt_core.specs.Rows.{on_option, held_in, entry_wanted, entry_row, clause_rows}
 use Rattle.vlt_core.specs.KindedHeads.{parameters_of, keys_of_parameters, keys_of_result}
 use Rattle.vlt_meaning.specs.World.{Value, Object}

@@ -8,7 +8,7 @@ use Rattle.vlt_core.specs.Types.{keys_of_ty, args_of, type_in}
 use Rattle.vlt_core.specs.Maps.{absent, held}
 use Rattle.vlt_core.specs.KindedHeads.{has}
 use Rattle.vlt_meaning.specs.World as world
-use Rattle.vlt_meaning.specs.World.{Value, one, reference, Object, Frame, adopted_by}
+use Rattle.vlt_meaning.specs.World.{one, reference, Object, adopted_by}
 use Rattle.vlt_sound_worlds.specs.Look.{look, IsLive}
 use Rattle.vlt_sound_worlds.specs.Ranks.{IsRanked}
 use Rattle.vlt_sound_worlds.specs.Members.{In, IsOnce}

@@ -5,7 +5,7 @@ use Rattle.vlt_core.specs.Instances.{bound_in, instance, IsOrigin}
 use Rattle.vlt_core.specs.Derives.{IsAccepted}
 use Rattle.vlt_core.specs.Kinded.{IsKinded}
 use Rattle.vlt_core_laws.specs.States.{HasStates}
-use Rattle.vlt_meaning.specs.World.{Value, Object, gone, adopted_by, World, Outcome, is_fault, fuel_end, depth_end}
+use Rattle.vlt_meaning.specs.World.{Value, gone, adopted_by, World, is_fault, fuel_end, depth_end}
 use Rattle.vlt_meaning.specs.World as world
 use Rattle.vlt_meaning.specs.Step.{Step, goes, jumps, leaves, ends}
 use Rattle.vlt_meaning.specs.Calls.{passed_objects, callee_frame}

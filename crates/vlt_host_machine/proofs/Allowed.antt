@@ -1,5 +1,5 @@
 -- What a permitted call says of its arguments and its function.
-use Rattle.std.proofs.Common.{◌≡◌, ℕ, suc, ◌==◌, Bool, true, false, ◌&&◌, not, List, [], ◌∷◌, map, length, refl, ap}
+use Rattle.std.proofs.Common.{◌≡◌, ℕ, suc, ◌==◌, Bool, true, false, ◌&&◌, not, List, [], ◌∷◌, length, refl, ap}
 use Rattle.std.specs.List.{list_all}
 use Rattle.vlt_core.specs.Core.{Ty, Func, Program}
 use Rattle.vlt_core.specs.KindedHeads.{are_apart, parameters_of}

@@ -1,20 +1,18 @@
 -- What a host has after a call that came back.
-use Rattle.std.proofs.Common.{◌≡◌, ◌⊎◌, inl, inr, ⊎_elim, ℕ, suc, ◌<◌, ◌≤◌, ◌+◌, ◌*◌, ◌^◌, ◌==◌, Bool, true, false, not, ◌&&◌, ◌||◌, ℤ, List, [], ◌∷◌, ◌++◌, map, length, Option, Some, None, refl, sym, ap, ◌∙◌, subst, arith, slice_get, cond, nat_lt, if◌then◌else◌}
-use Rattle.std.specs.Vec.{vec_capacity}
-use Rattle.std.specs.List.{list_any, list_all, count_by}
+use Rattle.std.proofs.Common.{◌≡◌, ◌⊎◌, inl, inr, ⊎_elim, ℕ, suc, ◌<◌, ◌≤◌, ◌+◌, ◌==◌, Bool, true, false, not, ◌&&◌, ◌||◌, ℤ, List, [], ◌∷◌, length, Option, Some, None, refl, sym, ap, ◌∙◌, subst, arith, slice_get, cond}
+use Rattle.std.specs.List.{list_any, count_by}
 use Rattle.std.proofs.lemmas.Bool.{eqb-true}
 use Rattle.std.proofs.lemmas.Bool.Decides.{nat_tests}
 use Rattle.std.proofs.lemmas.List.Sums.{sum_by-cons}
 use Rattle.std.proofs.lemmas.List.FromFn.{get_or-map-range_with_len}
 use Rattle.std.proofs.lemmas.Option.{none-some, same_Some, slice_get_within}
-use Rattle.vlt_core.specs.View.{func_of, program_of}
 use Rattle.vlt_core.specs.Core.{Ty, int, bool, tracked, owning, guarded, variant, owning_variant, Mode, kept, taken, given, fresh, up_to, Entry, Func, Program}
 use Rattle.vlt_core.specs.KindedHeads.{has, parameters_of}
-use Rattle.vlt_core.specs.Lookups.{is_before, is_after, is_fresh, is_held_before, is_held_after, is_new}
+use Rattle.vlt_core.specs.Lookups.{is_before, is_fresh, is_held_before, is_held_after, is_new}
 use Rattle.vlt_core.specs.Types.{stands_for}
 use Rattle.vlt_rings.specs.Places as places
 use Rattle.vlt_heap.specs.Items.{Items, live_count}
-use Rattle.vlt_heap.specs.Shown.{Holds, IsSound, heap_of, things_of}
+use Rattle.vlt_heap.specs.Shown.{Holds, IsSound, heap_of}
 use Rattle.vlt_heap.specs.declared.heap.Heap.{Heap}
 use Rattle.vlt_heap.specs.declared.slots.Obj.{Obj}
 use Rattle.vlt_heap.specs.declared.slots.Slot.{Slot}
@@ -25,21 +23,21 @@ use Rattle.vlt_meaning.specs.Objects.{with_owner, with_changed_object}
 use Rattle.vlt_meaning.specs.Calls.{Binding, is_new_key}
 use Rattle.vlt_meaning.specs.Externals.{is_taken}
 use Rattle.vlt_acts.specs.declared.values.values.Values.{Values}
-use Rattle.vlt_acts.specs.Values.Parts.{IsObject, IsOwned, HasPart, HasPartAt, HaveValue}
+use Rattle.vlt_acts.specs.Values.Parts.{IsObject, HasPart}
 use Rattle.vlt_acts.specs.Values.Shown.{ShowObjects}
-use Rattle.vlt_acts.specs.Frames.Left.{value_at, IsRootAt, AreRoots, IsGiven, HasLeft}
+use Rattle.vlt_acts.specs.Frames.Left.{value_at, AreRoots, IsGiven, HasLeft}
 use Rattle.vlt_acts.proofs.OfFrames.Callees.{root_held, held_shown}
 use Rattle.vlt_sound_calls.specs.Callee.{Among}
 use Rattle.vlt_host_acts.specs.declared.values.HostValue.{HostValue}
 use Rattle.vlt_host_acts.specs.declared.values.HostValue.TheVariants.{Number, Object}
 use Rattle.vlt_host_acts.specs.Values.{value_of}
 use Rattle.vlt_host_meaning.specs.Calls.{Argument}
-use Rattle.vlt_host_meaning.specs.EntryFunctions.{is_host_type, gives_new_object, is_host_result}
+use Rattle.vlt_host_meaning.specs.EntryFunctions.{is_host_type, is_host_result}
 use Rattle.vlt_host_meaning.specs.HostFrame.{holds_in, host_holds}
 use Rattle.vlt_host_meaning.specs.HostClean.{held_numbers}
 use Rattle.vlt_host_meaning.specs.Permitted.{argument_bindings, object_of_key, is_that_object, or_unused, host_keys}
 use Rattle.vlt_host_meaning.specs.OneCall.{held_by_host}
-use Rattle.vlt_host_laws.specs.Promise.{IsEntryOf, IsTaken, IsNewObject, ChangesByClause}
+use Rattle.vlt_host_laws.specs.Promise.{IsTaken, ChangesByClause}
 use Rattle.vlt_host_laws.specs.Results.{IsResult}
 use Rattle.vlt_permits.specs.Arguments.{HasClauseKeys}
 use Rattle.vlt_permits.specs.Numbers.{IsAscending, with_number}

@@ -1,5 +1,5 @@
 -- The body of a permitted call begins.
-use Rattle.std.proofs.Common.{◌≡◌, ℕ, zero, suc, ◌<◌, ◌≤◌, ◌+◌, ◌-◌, ◌*◌, ◌^◌, Bool, true, false, ◌&&◌, ℤ, List, [], ◌∷◌, ◌++◌, map, length, take, drop, Option, Some, None, Ok, Err, refl, sym, ap, ◌∙◌, subst, arith, slice_get, reverse, if◌then◌else◌}
+use Rattle.std.proofs.Common.{◌≡◌, ℕ, zero, suc, ◌<◌, ◌≤◌, ◌+◌, ◌-◌, ◌*◌, ◌^◌, true, false, List, [], ◌∷◌, ◌++◌, map, length, take, drop, Option, None, Ok, Err, refl, sym, ap, ◌∙◌, subst, arith, slice_get, reverse, if◌then◌else◌}
 use Rattle.std.specs.Vec.{vec_capacity}
 use Rattle.std.specs.Borrow.{Bor}
 use Rattle.std.specs.Option.{option_map, option_and_then}
@@ -7,7 +7,7 @@ use Rattle.std.proofs.Math.Path.{fun_ext}
 use Rattle.std.proofs.lemmas.Bool.{false≢true}
 use Rattle.std.proofs.lemmas.List.{nil_from_length, length-map}
 use Rattle.vlt_core.specs.declared.program.Stmt.{Stmt}
-use Rattle.vlt_core.specs.View.{func_of, stmts_of, program_of}
+use Rattle.vlt_core.specs.View.{stmts_of, program_of}
 use Rattle.vlt_core.specs.Core.{VarDecl, Func, Program}
 use Rattle.vlt_core.specs.Instances.{bound_in}
 use Rattle.vlt_core.specs.KindedHeads.{parameters_of}
@@ -17,7 +17,7 @@ use Rattle.vlt_heap.specs.Shown.{heap_of}
 use Rattle.vlt_meaning.specs.World.{World, Frame, Object, is_fault}
 use Rattle.vlt_meaning.specs.Found.{Found}
 use Rattle.vlt_meaning.specs.Step.{Step, with_found}
-use Rattle.vlt_meaning.specs.Calls.{state_under, passed_objects, callee_frame, handed_over}
+use Rattle.vlt_meaning.specs.Calls.{state_under, passed_objects, callee_frame}
 use Rattle.vlt_meaning.specs.Run.{Setup, ran_of}
 use Rattle.vlt_meaning.specs.Does.{does}
 use Rattle.vlt_meaning_laws.specs.Machine.Machine as m

@@ -1,18 +1,14 @@
 -- A machine before and after a call.
-use Rattle.std.proofs.Common.{◌≡◌, ℕ, ◌≤◌, true, false, List, [], map, drop, Option, Some, None, Result, Ok, Err, refl, sym, ap, ◌∙◌, subst, slice_get}
-use Rattle.std.proofs.lemmas.Option.{none-some, same_Some}
-use Rattle.vlt_base.specs.declared.Budgets.{Budgets}
+use Rattle.std.proofs.Common.{◌≡◌, ℕ, ◌≤◌, true, false, List, [], drop, Option, Some, None, refl, sym, ◌∙◌, subst, slice_get}
 use Rattle.vlt_numbers.specs.HostAnswers.{lists_of}
-use Rattle.vlt_core.specs.View.{func_of, program_of}
-use Rattle.vlt_core.specs.Core.{Func}
+use Rattle.vlt_core.specs.View.{program_of}
 use Rattle.vlt_meaning.specs.World.{World, Object}
 use Rattle.vlt_meaning.specs.Run.{Setup}
 use Rattle.vlt_steps.specs.declared.stop.Stop.{Stop}
 use Rattle.vlt_steps.specs.Writing.{Outside}
 use Rattle.vlt_host_acts.specs.declared.values.HostValue.{HostValue}
 use Rattle.vlt_host_meaning.specs.Calls.{Argument}
-use Rattle.vlt_host_meaning.specs.Permitted.{is_permitted}
-use Rattle.vlt_host_meaning.specs.OneCall.{CallEnd, came_back, stopped, host_calls}
+use Rattle.vlt_host_meaning.specs.OneCall.{CallEnd, came_back, stopped}
 use Rattle.vlt_host_machine.specs.declared.called.Supply.{Supply}
 use Rattle.vlt_host_machine.specs.declared.calling.Calling.{Calling}
 use Rattle.vlt_host_machine.specs.declared.host_machine.HostMachine.{HostMachine}
@@ -20,8 +16,8 @@ use Rattle.vlt_host_machine.specs.declared.tables.Tables.{Tables}
 use Rattle.vlt_host_machine.specs.Callable.{IsCallable, may_call}
 use Rattle.vlt_host_machine.specs.Called.{EndsIn, ComesBack}
 use Rattle.vlt_host_machine.specs.Calling.{setup_for, func_in, args_in, CanMake, ShowsNow}
-use Rattle.vlt_host_machine.specs.HostMachine.{setup_in, HaveObjects, ShowsObjects, ShowsWorld}
-use Rattle.vlt_host_machine.specs.Made.{IsMade, Made}
+use Rattle.vlt_host_machine.specs.HostMachine.{setup_in, HaveObjects, ShowsWorld}
+use Rattle.vlt_host_machine.specs.Made.{IsMade}
 use Rattle.vlt_host_machine.specs.Room.{TablesHave, IsReady}
 use Rattle.vlt_host_machine.proofs.Between.{may_call_it, may_call_none}
 

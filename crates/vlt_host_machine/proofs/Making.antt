@@ -1,8 +1,7 @@
 -- What a call writes, and how it ends.
-use Rattle.std.proofs.Common.{◌≡◌, ◌⊎◌, inl, inr, ⊎_elim, ℕ, ◌<◌, ◌≤◌, ◌+◌, ◌-◌, ◌*◌, ◌==◌, nat_lt, Bool, true, false, if◌then◌else◌, List, [], ◌∷◌, ◌++◌, map, length, Option, Some, None, Result, Ok, Err, refl, sym, ap, ◌∙◌, subst, arith, append_assoc, append-nil, slice_get, drop}
-use Rattle.std.specs.Prelude.{IfSome, OnOk, OnErr}
+use Rattle.std.proofs.Common.{◌≡◌, ◌⊎◌, inl, inr, ℕ, ◌<◌, ◌≤◌, ◌+◌, ◌-◌, ◌*◌, ◌==◌, nat_lt, Bool, true, false, if◌then◌else◌, List, [], ◌++◌, length, Option, Some, None, Result, Ok, Err, refl, sym, ap, ◌∙◌, subst, arith, append_assoc, append-nil}
+use Rattle.std.specs.Prelude.{IfSome}
 use Rattle.std.specs.Vec.{vec_capacity}
-use Rattle.std.specs.List.{flat_map}
 use Rattle.std.proofs.lemmas.Bool.{false≢true}
 use Rattle.std.proofs.lemmas.Bool.Decides.{nat_tests}
 use Rattle.std.proofs.lemmas.Option.{none-some}
@@ -13,10 +12,10 @@ use Rattle.vlt_core.specs.Widths.{greatest}
 use Rattle.vlt_heap.specs.Items.{Items}
 use Rattle.vlt_heap.specs.declared.heap.Heap.{Heap}
 use Rattle.vlt_heap.specs.Shown.{heap_of}
-use Rattle.vlt_meaning.specs.World.{line_of, event_text, Value, World, Outcome, Object, fuel_end, depth_end, fault, no_return, is_fault}
+use Rattle.vlt_meaning.specs.World.{event_text, Value, World, Outcome, fuel_end, depth_end, fault, no_return, is_fault}
 use Rattle.vlt_meaning.specs.Step.{Step, goes, jumps, leaves, ends, with_objects}
 use Rattle.vlt_meaning.specs.Run.{Setup, ran_of}
-use Rattle.vlt_acts.specs.Hosts.Stops.{outcome_of, Wrote, IsCut, HasStopped}
+use Rattle.vlt_acts.specs.Hosts.Stops.{outcome_of, Wrote, IsCut}
 use Rattle.vlt_steps.specs.declared.stop.Stop.{Stop}
 use Rattle.vlt_steps.specs.declared.stop.Stop.TheVariants.{FuelEnd, DepthEnd, SinkFault}
 use Rattle.vlt_steps.specs.Writing.{Outside}
@@ -41,9 +40,8 @@ use Rattle.vlt_host_machine.specs.declared.calling.Calling.{Calling}
 use Rattle.vlt_host_machine.specs.declared.tables.Tables.{Tables}
 use Rattle.vlt_host_machine.specs.Called.{HasEnded, EndsIn}
 use Rattle.vlt_host_machine.specs.Calling.{setup_for, func_in, args_in, rules_for, IsOfProgram, CanMake, ShowsNow, HasLeftBody}
-use Rattle.vlt_host_machine.specs.Made.{HasAnnounced, Announced, HasMade, IsMade, Made}
-use Rattle.vlt_host_machine.specs.Room.{HasObjects}
-use Rattle.vlt_host_machine.specs.Settled.{IsSettled, IsCutOff, Settles}
+use Rattle.vlt_host_machine.specs.Made.{HasAnnounced, Made}
+use Rattle.vlt_host_machine.specs.Settled.{Settles}
 
 -- ---- texts
 

@@ -1,5 +1,5 @@
 -- What is seen of the objects that a host holds.
-use Rattle.std.proofs.Common.{◌≡◌, ℕ, zero, suc, ◌+◌, ◌-◌, ◌≤◌, Bool, true, false, if◌then◌else◌, List, [], ◌∷◌, map, filter, Option, Some, None, refl, sym, ap, ◌∙◌, subst, arith, slice_get}
+use Rattle.std.proofs.Common.{◌≡◌, ℕ, zero, suc, ◌+◌, ◌-◌, ◌≤◌, Bool, true, false, if◌then◌else◌, List, [], ◌∷◌, map, filter, Some, refl, sym, ap, ◌∙◌, subst, arith, slice_get}
 use Rattle.std.specs.List.{enumerate_from}
 use Rattle.std.specs.Option.{option_map}
 use Rattle.std.proofs.lemmas.Option.{none-some, same_Some}
@@ -7,12 +7,11 @@ use Rattle.vlt_heap.specs.Shown.{IsLive, ForObject}
 use Rattle.vlt_heap.specs.declared.slots.Obj.{Obj}
 use Rattle.vlt_meaning.specs.World.{Object}
 use Rattle.vlt_host_meaning.specs.HostFrame.{host_holds, held_objects}
-use Rattle.vlt_host_meaning.specs.HostClean.{held_numbers}
 use Rattle.vlt_permits.specs.declared.hosted.Hosted.{Hosted}
 use Rattle.vlt_permits.specs.Held.{numbers_in}
 use Rattle.vlt_permits.specs.Hosted.{ShowsHosted}
 use Rattle.vlt_permits.proofs.Seen.{seen}
-use Rattle.vlt_host_machine.specs.HostMachine.{Sight, seen_of}
+use Rattle.vlt_host_machine.specs.HostMachine.{seen_of}
 
 -- the object at an index of those that pass a test, by its number
 module _ (P : ℕ → Bool) where

@@ -1,5 +1,5 @@
 -- A call that came back: what its host has then.
-use Rattle.std.proofs.Common.{◌≡◌, ℕ, ◌<◌, ◌≤◌, ◌+◌, ◌*◌, Bool, not, ◌&&◌, List, [], ◌++◌, map, length, Option, Some, None, option_map, refl, sym, ap, ◌∙◌, subst, arith}
+use Rattle.std.proofs.Common.{◌≡◌, ℕ, ◌≤◌, ◌+◌, not, ◌&&◌, List, ◌++◌, length, Option, option_map, refl, sym, ap, ◌∙◌, subst, arith}
 use Rattle.std.specs.Vec.{vec_capacity}
 use Rattle.std.specs.List.{list_any}
 use Rattle.vlt_io.specs.Outside.{Grew}
@@ -16,7 +16,6 @@ use Rattle.vlt_steps.specs.Writing.{Outside}
 use Rattle.vlt_interp.specs.Tasks.Sizes.{IsWide}
 use Rattle.vlt_interp.specs.declared.tasks.task.Run.{Run}
 use Rattle.vlt_host_acts.specs.declared.values.HostValue.{HostValue}
-use Rattle.vlt_host_meaning.specs.Calls.{Argument}
 use Rattle.vlt_host_meaning.specs.HostFrame.{host_holds}
 use Rattle.vlt_host_meaning.specs.HostClean.{held_numbers}
 use Rattle.vlt_host_meaning.specs.Lines.{call_line, result_line}

@@ -2,7 +2,7 @@
 use Rattle.std.specs.Prelude.{◌≡◌, ◌≤◌, ◌<◌, ℕ, true, List, map, drop, length, Option, None, Some, slice_get, vec_capacity}
 use Rattle.vlt_numbers.specs.HostAnswers.{lists_of}
 use Rattle.vlt_core.specs.View.{program_of, func_of}
-use Rattle.vlt_core.specs.Core.{Func, Program}
+use Rattle.vlt_core.specs.Core.{Func}
 use Rattle.vlt_heap.specs.Items.{Items}
 use Rattle.vlt_heap.specs.declared.heap.Heap.{Heap}
 use Rattle.vlt_heap.specs.declared.slots.Slot.{Slot}

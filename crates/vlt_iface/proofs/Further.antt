@@ -6,7 +6,7 @@ use Rattle.vlt_base.specs.declared.limits.TheConstants.{DECLARATIONS}
 use Rattle.std.specs.List.{find}
 use Rattle.std.proofs.lemmas.List.{map-append}
 use Rattle.vlt_syntax.specs.Tree as s
-use Rattle.vlt_syntax.specs.Tree.{Name, States, KeyStates, Named, Ty, HeaderKey, Entry, ResultType, Parameter, Head, Decl, Tree}
+use Rattle.vlt_syntax.specs.Tree.{Name, States, KeyStates, Named, Ty, Entry, ResultType, Parameter, Head, Decl, Tree}
 use Rattle.vlt_kinds_types.specs.declared.names.found.Refusal.{Refusal}
 use Rattle.vlt_kinds_types.specs.Names.Refusals.{refusal, refuse_if, of_each, is_before, lesser, least_from, least}
 use Rattle.vlt_syntax_copies.specs.Raised as r

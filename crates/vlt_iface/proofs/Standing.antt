@@ -9,7 +9,7 @@ use Rattle.vlt_base.specs.Limits.{limit_of}
 use Rattle.vlt_base.specs.declared.limits.TheConstants.{SOURCE_BYTES}
 use Rattle.vlt_base.specs.declared.places.Span.{Span}
 use Rattle.vlt_syntax.specs.Tree as s
-use Rattle.vlt_syntax.specs.Tree.{Decl, Tree}
+use Rattle.vlt_syntax.specs.Tree.{Decl}
 use Rattle.vlt_syntax_copies.specs.Mapped.{mapped_decl}
 use Rattle.vlt_syntax_copies.specs.Raised.{raised, raised_span}
 use Rattle.vlt_syntax_copies.specs.Shifted.{shifted, shifted_span}

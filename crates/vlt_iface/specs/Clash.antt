@@ -3,7 +3,7 @@ use Rattle.std.specs.Prelude.{Bool, List, [], ◌∷◌, ◌++◌, map, filter, 
 use Rattle.std.specs.List.{list_any, flat_map}
 use Rattle.std.specs.Str.{bytes_eq}
 use Rattle.vlt_syntax.specs.Tree as s
-use Rattle.vlt_syntax.specs.Tree.{Name, Named, Ty, Stmt, Block, If, Else, Stmts, Arms, HeaderKey, Entry, ResultType, Parameter, Head, Decl, Tree}
+use Rattle.vlt_syntax.specs.Tree.{Name, Ty, Stmt, Block, If, Else, Stmts, Arms, Entry, ResultType, Head, Decl, Tree}
 use Rattle.vlt_kinds_types.specs.Names.Globals.{decl_name}
 
 -- ---- what a module binds

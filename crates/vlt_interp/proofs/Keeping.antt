@@ -14,7 +14,7 @@ use Rattle.vlt_meaning.specs.Calls.{state_under, called_instance, passed_objects
 use Rattle.vlt_meaning.specs.Run.{Setup}
 use Rattle.vlt_meaning_laws.proofs.Keeping.{err-ok}
 use Rattle.vlt_meaning_laws.specs.Machine.Got.{Got, got, stopped, operands_got, opened_got, filled_got}
-use Rattle.vlt_meaning_laws.specs.Machine.Machine.{Task, list, closing, turn, unfocus, back, Conf, at, when_found, when_got, when_so, spending, enter_block, enter_arm, enter_body, enter_by, enter, turn_on, act, list_moves, turn_moves, moved_in, after_move}
+use Rattle.vlt_meaning_laws.specs.Machine.Machine.{Task, list, closing, turn, unfocus, back, Conf, when_found, when_got, when_so, spending, enter_block, enter_arm, enter_body, enter_by, enter, turn_on, act, list_moves, turn_moves, moved_in, after_move}
 use Rattle.vlt_interp.specs.Tasks.Own.{IsOf}
 use Rattle.vlt_interp.specs.Owned.{HoldsIn}
 use Rattle.vlt_interp.proofs.Likeness.{of_itself, of_instance}

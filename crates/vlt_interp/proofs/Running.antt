@@ -2,7 +2,7 @@
 use Rattle.std.proofs.Common.{◌≡◌, ◌⊎◌, inl, inr, ⊎_elim, ℕ, zero, suc, ◌<◌, ◌≤◌, ◌+◌, ◌*◌, false, List, [], ◌∷◌, length, Option, Some, None, refl, sym, ap, ◌∙◌, subst, arith}
 use Rattle.std.proofs.lemmas.Bool.{false≢true}
 use Rattle.std.proofs.lemmas.List.{nil_from_length, length-reverse}
-use Rattle.std.proofs.lemmas.Option.{none-some, same_Some}
+use Rattle.std.proofs.lemmas.Option.{none-some}
 use Rattle.vlt_core.specs.View.{program_of}
 use Rattle.vlt_core.specs.Core.{Func, Program}
 use Rattle.vlt_meaning.specs.World.{line_of, World, Frame, is_fault}
@@ -18,7 +18,7 @@ use Rattle.vlt_meaning_laws.proofs.OfMachine.Finishing.{finishes, ending, moves_
 use Rattle.vlt_meaning_laws.proofs.OfMachine.Halting.{fuel_in, weight}
 use Rattle.vlt_heap.specs.Shown.{heap_of}
 use Rattle.vlt_steps.specs.Writing.{Outside}
-use Rattle.vlt_acts.specs.Hosts.Stops.{Wrote, outcome_of, IsCut, HasStopped}
+use Rattle.vlt_acts.specs.Hosts.Stops.{Wrote, IsCut, HasStopped}
 use Rattle.vlt_steps.specs.declared.stop.Stop.{Stop}
 use Rattle.vlt_steps.specs.declared.stop.Stop.TheVariants.{Done, SinkFault}
 use Rattle.vlt_interp.specs.declared.tasks.task.At.{At}

@@ -1,5 +1,5 @@
 -- The moves of a run come to an end: each spends fuel, or leaves less to do; and never more is left than so much.
-use Rattle.std.proofs.Common.{◌≡◌, ◌⊎◌, ⊎_elim, ◌<◌, ◌≤◌, ◌+◌, ◌*◌, ◌-◌, ℕ, suc, max, List, [], ◌∷◌, length, Some, None, slice_get, refl, sym, ap, subst, arith}
+use Rattle.std.proofs.Common.{◌≡◌, ◌⊎◌, ⊎_elim, ◌<◌, ◌≤◌, ◌+◌, ◌*◌, ◌-◌, ℕ, suc, max, List, [], ◌∷◌, length, refl, sym, ap, subst, arith}
 use Rattle.std.proofs.Math.Nat.{mul-le-mul_right}
 use Rattle.vlt_core.specs.View.{stmts_of}
 use Rattle.vlt_core.specs.Core.{Form, choose, loop, switch, focus, scope, simple, call, return, jump, Block, block, Stmts, done, next, Arms, no_arms, arm, Func, Program}

@@ -1,5 +1,5 @@
 -- The rule on heads of externals: what no host gives or takes.
-use Rattle.std.specs.Prelude.{ℕ, suc, Bool, true, false, not, ◌&&◌, ◌||◌, ◌==◌, if◌then◌else◌, List, [], ◌∷◌, ◌++◌, length, map, Option, Some, None, slice_get}
+use Rattle.std.specs.Prelude.{ℕ, suc, Bool, true, false, not, ◌&&◌, ◌||◌, ◌==◌, if◌then◌else◌, List, [], ◌++◌, length, Option, Some, None, slice_get}
 use Rattle.std.specs.List.{list_any, list_all}
 use Rattle.vlt_syntax.specs.Tree as s
 use Rattle.vlt_syntax.specs.Tree.{Name, Named, Entry, ResultType, Parameter, Head, Ty}
@@ -9,13 +9,12 @@ use Rattle.vlt_core.specs.Lookups.{cases_in}
 use Rattle.vlt_core.specs.Types.{is_abstract}
 use Rattle.vlt_core.specs.declared.rules.TheConstants as rule
 use Rattle.vlt_kinds_types.specs.declared.names.found.Refusal.{Refusal}
-use Rattle.vlt_kinds_types.specs.Names.Refusals.{refusal, refuse_if, of_each}
+use Rattle.vlt_kinds_types.specs.Names.Refusals.{refuse_if, of_each}
 use Rattle.vlt_kinds_types.specs.Names.Along.{along}
 use Rattle.vlt_kinds_types.specs.declared.shapes.Sort.{Sort}
 use Rattle.vlt_kinds_types.specs.declared.shapes.Sort.TheVariants as sort
-use Rattle.vlt_kinds_types.specs.declared.shapes.Shape.{Shape}
 use Rattle.vlt_kinds_types.specs.Files.{File, type_named, shape_named}
-use Rattle.vlt_kinds_types.specs.Types.{is_variant, is_variant_in, sort_in, shape_in, header_in, ty_place}
+use Rattle.vlt_kinds_types.specs.Types.{is_variant, sort_in, shape_in, header_in, ty_place}
 use Rattle.vlt_kinds_heads.specs.Places.{clause_in, entry_key, is_fresh}
 use Rattle.vlt_kinds_heads.specs.Keys.{Keys, facts_of}
 

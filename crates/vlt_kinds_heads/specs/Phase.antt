@@ -11,7 +11,7 @@ use Rattle.vlt_kinds_types.specs.declared.names.found.Refusal.{Refusal}
 use Rattle.vlt_kinds_types.specs.Names.Refusals.{of_each}
 use Rattle.vlt_kinds_types.specs.Files.{File, shape_at, state_names, number_of}
 use Rattle.vlt_kinds_types.specs.Types.{core_ty, known_states, states_listed}
-use Rattle.vlt_kinds_heads.specs.Places.{clause_in, entry_key, first_states, second_states}
+use Rattle.vlt_kinds_heads.specs.Places.{clause_in, entry_key}
 use Rattle.vlt_kinds_heads.specs.Keys.{Keys, facts_of, keys_of}
 use Rattle.vlt_kinds_heads.specs.Heads.{head_refused}
 use Rattle.vlt_kinds_heads.specs.Externals.{external_refused}

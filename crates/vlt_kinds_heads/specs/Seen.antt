@@ -1,10 +1,8 @@
 -- What the code knows of a head, as plain data.
-use Rattle.std.specs.Prelude.{ℕ, Bool, List, map}
+use Rattle.std.specs.Prelude.{ℕ, List, map}
 use Rattle.std.specs.Borrow.{Bor}
 use Rattle.vlt_kinds_heads.specs.Places as p
 use Rattle.vlt_kinds_heads.specs.Keys.{Keys}
-use Rattle.vlt_kinds_heads.specs.Heads.{Seen}
-use Rattle.vlt_kinds_heads.specs.declared.facts.Facts.{Facts}
 use Rattle.vlt_kinds_heads.specs.declared.keys.HeadKeys.{HeadKeys}
 use Rattle.vlt_kinds_heads.specs.declared.names.HeadName.{HeadName}
 

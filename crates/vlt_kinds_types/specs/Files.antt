@@ -1,11 +1,10 @@
 -- What a file declares: its names, the states of its sets, and what the name of each type stands for.
-use Rattle.std.specs.Prelude.{ℕ, Bool, true, false, not, ◌||◌, if◌then◌else◌, List, [], ◌∷◌, ◌++◌, length, map, Option, Some, None, slice_get, option_and_then, unwrap_or}
-use Rattle.std.specs.Option.{option_map}
+use Rattle.std.specs.Prelude.{ℕ, Bool, true, false, not, if◌then◌else◌, List, [], ◌∷◌, ◌++◌, map, Option, Some, None, slice_get, option_and_then, unwrap_or}
 use Rattle.std.specs.List.{list_any, position}
 use Rattle.std.specs.Str.{bytes_eq}
 use Rattle.vlt_syntax.specs.Tree as s
 use Rattle.vlt_syntax.specs.Tree.{Name, Ty, SetState, HeaderKey, Case, Decl}
-use Rattle.vlt_core.specs.Core.{States, Link, SetDecl}
+use Rattle.vlt_core.specs.Core.{Link, SetDecl}
 use Rattle.vlt_kinds_types.specs.Names.Refusals.{of_each}
 use Rattle.vlt_kinds_types.specs.Names.Globals.{Globals, global_in, globals_of}
 use Rattle.vlt_kinds_types.specs.declared.names.globals.Entity.{Entity}

@@ -6,7 +6,7 @@ use Rattle.vlt_syntax.specs.Tree as s
 use Rattle.vlt_syntax.specs.Tree.{Name, Named, Entry, ResultType, Parameter, Head, Ty, Decl}
 use Rattle.vlt_syntax.specs.Lists.{Each}
 use Rattle.vlt_core.specs.Core as core
-use Rattle.vlt_core.specs.Core.{TypeDecl, CaseDecl}
+use Rattle.vlt_core.specs.Core.{CaseDecl}
 use Rattle.vlt_core.specs.Lookups.{cases_in}
 use Rattle.vlt_core.specs.declared.rules.TheConstants as rule
 use Rattle.vlt_core_moves.specs.Moves.{Moves, moved_ty, moved_case}

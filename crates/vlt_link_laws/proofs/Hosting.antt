@@ -6,7 +6,7 @@ use Rattle.vlt_syntax.specs.Tree as s
 use Rattle.vlt_syntax.specs.Tree.{Name, Named, ResultType, Head, Ty, Decl}
 use Rattle.vlt_syntax.specs.Lists.{Each}
 use Rattle.vlt_core.specs.Core as core
-use Rattle.vlt_core.specs.Core.{TypeDecl, CaseDecl}
+use Rattle.vlt_core.specs.Core.{CaseDecl}
 use Rattle.vlt_core.specs.Lookups.{cases_in}
 use Rattle.vlt_core.specs.Types.{is_abstract}
 use Rattle.vlt_core.specs.declared.rules.TheConstants as rule

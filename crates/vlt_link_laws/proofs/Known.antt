@@ -3,7 +3,7 @@ use Rattle.std.proofs.Common.{◌≡◌, inl, inr, ℕ, not, ◌||◌, List, [],
 use Rattle.std.proofs.lemmas.Option.{none-some, same_Some}
 use Rattle.std.specs.List.{list_any}
 use Rattle.vlt_syntax.specs.Tree as s
-use Rattle.vlt_syntax.specs.Tree.{Name, Named, States, Ty, HeaderKey, Field, Case, Head, Block, Decl}
+use Rattle.vlt_syntax.specs.Tree.{Name, Named, Ty, HeaderKey, Case, Decl}
 use Rattle.vlt_syntax.specs.Lists.{Each}
 use Rattle.vlt_core.specs.Core.{SetDecl}
 use Rattle.vlt_core.specs.declared.rules.TheConstants as rule

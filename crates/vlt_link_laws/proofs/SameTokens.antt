@@ -2,7 +2,7 @@
 use Rattle.std.proofs.Common.{◌≡◌, Bool, true, false, true≢false, not, ◌&&◌, ◌||◌, List, [], ◌∷◌, map, Option, Some, None, option_map, refl, sym, ap, ap₂}
 use Rattle.std.proofs.lemmas.Slice.Eq.{bytes_eq-Decides}
 use Rattle.vlt_syntax.specs.Tree as s
-use Rattle.vlt_syntax.specs.Tree.{Name, States, KeyStates, Named, Ty, HeaderKey, Entry, ResultType, Parameter, Head, Decl}
+use Rattle.vlt_syntax.specs.Tree.{Name, States, KeyStates, Named, Ty, Entry, ResultType, Parameter, Head, Decl}
 use Rattle.vlt_iface.specs.View.{gives}
 use Rattle.vlt_iface.specs.declared.rules.TheConstants.{GIVEN_HEAD, GIVEN_STRUCT}
 use Rattle.vlt_iface.specs.Rules.{same_name, same_each, same_if, same_states, same_key_states, same_named, same_ty, same_entry, same_result, same_parameter, same_head, is_filled, given_refused_by}

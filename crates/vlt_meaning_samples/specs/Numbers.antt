@@ -2,7 +2,7 @@
 use Rattle.std.specs.Prelude.{pos, neg_ℤ, true, false, List, [], ◌∷◌, Some, None, codes}
 use Rattle.vlt_ops.specs.declared.Op.TheVariants as op
 use Rattle.vlt_ops.specs.declared.TrapKind.TheVariants as trap
-use Rattle.vlt_core.specs.Core.{int, bool, tracked, owning, guarded, variant, owning_variant, an_abstract, a_struct, a_variant, number, truth, var, field, unary, binary, pure, move, pack, a_key, a_var, set, print, put, make, become, release, drop, own, unpack, build, swap, open_into, adopt, simple, call, choose, loop, switch, focus, scope, return, jump, block, done, next, no_arms, arm, kept, taken, given, fresh, Program}
+use Rattle.vlt_core.specs.Core.{int, bool, tracked, a_struct, number, var, unary, binary, pure, set, print, put, make, release, simple, call, choose, loop, return, block, done, kept, Program}
 use Rattle.vlt_core.specs.Core as core
 use Rattle.vlt_meaning.specs.World as world
 use Rattle.vlt_meaning_samples.specs.Told.{in_set, ◌▹◌, a_key_of, a_var_of, Case, defaults, ran_print}

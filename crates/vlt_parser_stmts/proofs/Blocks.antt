@@ -7,7 +7,7 @@ use Rattle.vlt_lexer.specs.declared.token.Mark.TheVariants as mark
 use Rattle.vlt_syntax.specs.Tokens as t
 use Rattle.vlt_syntax.specs.Tokens.{Token}
 use Rattle.vlt_automaton.specs.Language as m
-use Rattle.vlt_automaton.specs.Language.{Symbol, Reaction, Thing, Pending, Left, Located, run, with_behind, next_after, go_on_with, reaction_behind, may_skip, depth_read, on_sign}
+use Rattle.vlt_automaton.specs.Language.{Symbol, Located, run, with_behind, go_on_with, on_sign}
 use Rattle.vlt_parser_exprs.specs.declared.error.ParseError.{ParseError}
 use Rattle.vlt_parser_exprs.specs.declared.error.ParseError.TheVariants.{Limit}
 use Rattle.vlt_parser_exprs.proofs.Runs.{is_skip, fails_with, begins, sign_taken, settled_followed, stmt_takes}

@@ -7,14 +7,14 @@ use Rattle.vlt_syntax.specs.Lists.{each_then, listed_then, Each}
 use Rattle.vlt_syntax.specs.Grammar.{Bounds, IsField, IsCase, IsKeyStates, IsTy, IsEntry, IsParameter, IsHead, IsDecl}
 use Rattle.vlt_syntax.specs.Tokens.{Token, sign}
 use Rattle.vlt_syntax.specs.Tree as s
-use Rattle.vlt_syntax.specs.Tree.{Name, States, SetState, HeaderKey, Field, Case, Entry, ResultType, Parameter, Head, Decl}
+use Rattle.vlt_syntax.specs.Tree.{Name, States, SetState, HeaderKey, Field, Case, Entry, ResultType, Head, Decl}
 use Rattle.vlt_syntax.specs.Spelling.{name_then, state_sign, further_states_then, set_states_then, key_states_then, ty_then, header_key_then, header_then, field_then, release_then, case_then, entry_then, result_type_then, parameter_then, clause_then, head_then, decl_then}
 use Rattle.vlt_printer.specs.Lists.{each_after}
 use Rattle.vlt_printer.specs.Layout.{name_after, state_separator, further_states_after, set_states_after, key_states_after, ty_after, header_key_after, header_after, field_after, field_line_after, release_line_after, fields_after, case_after, cases_after, entry_after, result_type_after, parameter_after, clause_after, head_after, decl_after, decl_line_after}
 use Rattle.vlt_printer_laws.proofs.Following.{clear, wordy, signed, either}
 use Rattle.vlt_printer_laws.proofs.Steps.{Begins, weaker, text_begins, space, line_end, indented, word, mark}
-use Rattle.vlt_printer_laws.proofs.Sequences.{IsPrinted, each_holds, sign_stands, each_printed, some_printed, listed_printed, enclosed_printed, braced_printed}
-use Rattle.vlt_printer_laws.proofs.Types.{name_printed, case_name_printed, any_name, at_name_printed, states_printed, at_states_printed, key_states_printed, ty_printed, each_key_states, each_ty}
+use Rattle.vlt_printer_laws.proofs.Sequences.{IsPrinted, each_holds, sign_stands, each_printed, some_printed, listed_printed, enclosed_printed}
+use Rattle.vlt_printer_laws.proofs.Types.{name_printed, case_name_printed, at_name_printed, states_printed, at_states_printed, key_states_printed, ty_printed, each_key_states, each_ty}
 use Rattle.vlt_printer_laws.proofs.Statements.{block_printed}
 
 module _ {all : List Token} {before : List ℕ} {rest : List Token} where

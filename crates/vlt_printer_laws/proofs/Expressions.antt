@@ -10,7 +10,7 @@ use Rattle.vlt_lexer.specs.Spelling.{sign_text}
 use Rattle.vlt_syntax.specs.Grammar.{Bounds, BindsFrom, level, IsExpr, IsBuild, IsCall, IsInit, IsRight, IsReturned}
 use Rattle.vlt_syntax.specs.Tokens.{Token, sign}
 use Rattle.vlt_syntax.specs.Tree as s
-use Rattle.vlt_syntax.specs.Tree.{Name, Expr, Build, Call, Init, Right, Returned}
+use Rattle.vlt_syntax.specs.Tree.{Name, Expr, Build, Call, Right, Returned}
 use Rattle.vlt_syntax.specs.Spelling.{sign_of, expr_then, build_then, call_then, init_then, owner_then, right_then, returned_then}
 use Rattle.vlt_printer.specs.Layout.{name_after, expr_after, build_after, call_after, init_after, owner_after, right_after, returned_after}
 use Rattle.vlt_printer_laws.proofs.Following.{Last, clear, wordy, signed, either, sign_may}

@@ -7,7 +7,7 @@ use Rattle.vlt_lexer.specs.Characters.{is_blank, EachIs}
 use Rattle.vlt_syntax.specs.Grammar.{Bounds, IsStmt, IsBlock, IsIf, IsElse, AreStmts, AreArms}
 use Rattle.vlt_syntax.specs.Tokens.{Token}
 use Rattle.vlt_syntax.specs.Tree as s
-use Rattle.vlt_syntax.specs.Tree.{Name, Expr, Stmt, Block, If, Else, Stmts, Arms}
+use Rattle.vlt_syntax.specs.Tree.{Stmt, Block, If, Else, Stmts, Arms}
 use Rattle.vlt_syntax.specs.Spelling.{name_then, stmt_then, block_then, if_then, else_then, stmts_then, arms_then}
 use Rattle.vlt_printer.specs.Layout.{name_after, deeper, stmt_after, block_after, stmts_after, if_after, else_after, arms_after}
 use Rattle.vlt_printer_laws.proofs.Following.{clear, wordy, signed}

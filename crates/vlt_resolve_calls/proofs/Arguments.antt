@@ -1,5 +1,5 @@
 -- What is refused in arguments, one after another.
-use Rattle.std.proofs.Common.{◌≡◌, List, [], ◌∷◌, ◌++◌, Option, refl, ◌∙◌}
+use Rattle.std.proofs.Common.{◌≡◌, List, [], ◌∷◌, Option, refl, ◌∙◌}
 use Rattle.vlt_syntax.specs.Tree as s
 use Rattle.vlt_core.specs.Core.{Ty}
 use Rattle.vlt_kinds_types.specs.declared.names.found.Refusal.{Refusal}

@@ -1,12 +1,12 @@
 -- A tick with its payloads, for a target of a variant's type.
-use Rattle.std.specs.Prelude.{ℕ, Bool, ◌==◌, if◌then◌else◌, List, [], ◌∷◌, length, map, drop, Option, Some, None, slice_get}
+use Rattle.std.specs.Prelude.{ℕ, ◌==◌, if◌then◌else◌, List, [], ◌∷◌, length, map, drop, Option, Some, None, slice_get}
 use Rattle.std.specs.List.{position}
 use Rattle.std.specs.Option.{option_map}
 use Rattle.std.specs.Str.{bytes_eq}
 use Rattle.vlt_syntax.specs.Tree as s
 use Rattle.vlt_syntax.specs.Tree.{Name}
-use Rattle.vlt_core.specs.Core.{Ty, variant, owning_variant, CaseDecl, Form, simple, build}
-use Rattle.vlt_core.specs.Lookups.{cases_in, VariantOf, variant_in}
+use Rattle.vlt_core.specs.Core.{Ty, CaseDecl, Form, simple, build}
+use Rattle.vlt_core.specs.Lookups.{cases_in, variant_in}
 use Rattle.vlt_core.specs.declared.rules.TheConstants.{WRONG_TYPE, WRONG_COUNT}
 use Rattle.vlt_kinds_types.specs.declared.names.found.Refusal.{Refusal}
 use Rattle.vlt_kinds_types.specs.Names.Refusals.{refusal}

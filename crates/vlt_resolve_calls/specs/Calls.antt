@@ -1,16 +1,15 @@
 -- Calls: which keys of the caller stand for those of the callee, what is refused, and what a call becomes.
-use Rattle.std.specs.Prelude.{ℕ, ◌+◌, Bool, true, false, not, ◌&&◌, ◌||◌, ◌==◌, if◌then◌else◌, List, [], ◌∷◌, ◌++◌, length, map, Option, Some, None, is_some, unwrap_or}
+use Rattle.std.specs.Prelude.{ℕ, ◌+◌, Bool, true, false, not, ◌&&◌, ◌||◌, ◌==◌, if◌then◌else◌, List, [], ◌∷◌, ◌++◌, length, map, Option, Some, None, unwrap_or}
 use Rattle.std.specs.List.{list_any, list_all}
 use Rattle.std.specs.Map.{lookup}
 use Rattle.vlt_syntax.specs.Tree as s
-use Rattle.vlt_syntax.specs.Tree.{Name}
 use Rattle.vlt_core.specs.Core as core
 use Rattle.vlt_core.specs.Core.{Ty, int, bool, tracked, owning, guarded, variant, owning_variant, Entry, KeyDecl, Func, Form, call}
 use Rattle.vlt_core.specs.Lookups.{is_new, owns}
-use Rattle.vlt_core.specs.Types.{same_states, args_of, keys_of_ty}
+use Rattle.vlt_core.specs.Types.{args_of, keys_of_ty}
 use Rattle.vlt_core.specs.declared.rules.TheConstants as rule
 use Rattle.vlt_kinds_types.specs.declared.names.found.Refusal.{Refusal}
-use Rattle.vlt_kinds_types.specs.Names.Refusals.{refusal, refuse_if, least_from}
+use Rattle.vlt_kinds_types.specs.Names.Refusals.{refusal, refuse_if}
 use Rattle.vlt_kinds.specs.Kinds.{Kinds, head_named, function_named}
 use Rattle.vlt_resolve_exprs.specs.Types.{is_inside}
 use Rattle.vlt_resolve_exprs.specs.Scopes.{Scope}

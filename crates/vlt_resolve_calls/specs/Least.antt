@@ -1,5 +1,5 @@
 -- The least refusal of lists, as it is found. Only private contracts cite this.
-use Rattle.std.specs.Prelude.{List, [], ◌∷◌, Option}
+use Rattle.std.specs.Prelude.{List, ◌∷◌, Option}
 use Rattle.vlt_syntax.specs.Tree as s
 use Rattle.vlt_core.specs.Core.{Ty}
 use Rattle.vlt_kinds_types.specs.declared.names.found.Refusal.{Refusal}

@@ -1,5 +1,5 @@
 -- What the code hands over, as plain data.
-use Rattle.std.specs.Prelude.{ℕ, List, [], ◌∷◌, map}
+use Rattle.std.specs.Prelude.{List, [], ◌∷◌, map}
 use Rattle.vlt_base.specs.declared.ids.KeyId.{KeyId}
 use Rattle.vlt_core.specs.Core.{Form}
 use Rattle.vlt_core.specs.View.{ty_of, form_of}

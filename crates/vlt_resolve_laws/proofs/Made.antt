@@ -7,7 +7,7 @@ use Rattle.vlt_syntax.specs.Tree.{Block, Head, Decl, Tree}
 use Rattle.vlt_syntax.specs.Lists.{Each}
 use Rattle.vlt_syntax.specs.Grammar.{IsDecl, language}
 use Rattle.vlt_core.specs.Core as core
-use Rattle.vlt_core.specs.Core.{Form, Func, Program}
+use Rattle.vlt_core.specs.Core.{Func, Program}
 use Rattle.vlt_kinds_types.specs.declared.names.found.Refusal.{Refusal}
 use Rattle.vlt_kinds_types.specs.Names.Names.{names_refused}
 use Rattle.vlt_kinds_types.specs.Names.Refusals.{refuse_if, of_each, least}
@@ -24,7 +24,7 @@ use Rattle.vlt_resolve_laws.proofs.OfKindsLaws.Empty.{no_left, no_right, not_bro
 use Rattle.vlt_resolve_exprs.specs.declared.limits.TheConstants.{TOO_MANY_VARIABLES, TOO_MANY_KEYS}
 use Rattle.vlt_resolve.specs.Walk.Walk.{then_do, walk_stmts}
 use Rattle.vlt_resolve.specs.Elaboration as elab
-use Rattle.vlt_resolve.specs.Elaboration.{body_scope, body_around, stmts_in, end_refused, func_made, walk_body, is_function, walk_defined, walk_extern, walk_function, walk_decls, walk_tree, main_of, Told, with_told}
+use Rattle.vlt_resolve.specs.Elaboration.{body_scope, body_around, stmts_in, end_refused, func_made, walk_body, is_function, walk_function, walk_decls, walk_tree, main_of, Told, with_told}
 use Rattle.vlt_resolve_laws.proofs.Results.{same_ok, then_ok, unless_ok, least_none}
 use Rattle.vlt_resolve_laws.specs.Made.{head_made, HasWalked, IsMade, AreMade}
 

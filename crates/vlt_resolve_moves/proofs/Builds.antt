@@ -6,7 +6,7 @@ use Rattle.std.proofs.lemmas.List.{length-map}
 use Rattle.vlt_syntax.specs.Tree as s
 use Rattle.vlt_syntax.specs.Tree.{Name}
 use Rattle.vlt_core.specs.Core as core
-use Rattle.vlt_core.specs.Core.{Ty, Simple, simple, set, own, unpack, build, CaseDecl, TypeDecl, an_abstract, a_struct, a_variant, VariantDecl}
+use Rattle.vlt_core.specs.Core.{Ty, simple, set, own, unpack, build, CaseDecl, TypeDecl, an_abstract, a_struct, a_variant, VariantDecl}
 use Rattle.vlt_core.specs.Lookups.{cases_in, variant_in}
 use Rattle.vlt_core.specs.declared.rules.TheConstants as rule
 use Rattle.vlt_core_moves.specs.Moves.{Moves, moved_ty, moved_case}

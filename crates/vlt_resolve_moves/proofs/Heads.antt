@@ -6,7 +6,7 @@ use Rattle.std.specs.Map.{lookup}
 use Rattle.std.specs.Str.{bytes_eq}
 use Rattle.indexmap.specs.IndexMap.{insert_entry}
 use Rattle.vlt_syntax.specs.Tree as s
-use Rattle.vlt_syntax.specs.Tree.{Name, States, Entry, ResultType, Parameter, Head}
+use Rattle.vlt_syntax.specs.Tree.{Entry, ResultType, Parameter, Head}
 use Rattle.vlt_core.specs.Core as core
 use Rattle.vlt_core_moves.specs.Moves.{Moves, moved_ty, moved_key, moved_var}
 use Rattle.vlt_kinds_types.specs.Names.Refusals.{of_each}

@@ -5,7 +5,7 @@ use Rattle.std.proofs.lemmas.List.{length-map}
 use Rattle.vlt_syntax.specs.Tree as s
 use Rattle.vlt_syntax.specs.Tree.{Name, Named, Init, Right}
 use Rattle.vlt_core.specs.Core as core
-use Rattle.vlt_core.specs.Core.{Ty, int, bool, tracked, owning, guarded, variant, owning_variant, TypeDecl, an_abstract, a_struct, a_variant, StructDecl, FieldDecl, Operand, Form, simple, make, own, adopt, pack}
+use Rattle.vlt_core.specs.Core.{Ty, int, bool, tracked, owning, guarded, variant, owning_variant, TypeDecl, an_abstract, a_struct, a_variant, StructDecl, FieldDecl, Operand, simple, make, adopt}
 use Rattle.vlt_core.specs.Types.{is_struct}
 use Rattle.vlt_core.specs.declared.rules.TheConstants as rule
 use Rattle.vlt_core_moves.specs.Moves.{Moves, moved_ty, moved_field, moved_form}
@@ -23,7 +23,7 @@ use Rattle.vlt_resolve_calls.specs.Targets.{Target}
 use Rattle.vlt_resolve_rights.specs.Droppable.{may_drop_struct}
 use Rattle.vlt_resolve_rights.specs.News.{typed_refused, wanted_refused, known_refused, use_refused, uses_refused, named_refused, with_known, known_keys, keys_of_shape, known_args, args_fit, object_fits, target_fits, target_refused, guards, recipient_unfit, recipient_refused, adopter_refused, agree, fields_agree, releases_first, takes_first, adopted_refused, start_refused, inits_refused, field_types, values_refused, struct_refused, object_refused, known_made_refused, made_refused, is_some_name, new_refused, hides, hidden_refused, args_or_none, with_object, init_operands, made_operands, made_forms, new_forms}
 use Rattle.vlt_resolve_rights.specs.Adopts as ad
-use Rattle.vlt_resolve_rights.specs.Adopts.{recipient_fits, is_guarded, adopt_fits, is_adoptable, adopt_refused, core_adopt}
+use Rattle.vlt_resolve_rights.specs.Adopts.{recipient_fits, is_guarded, adopt_fits, adopt_refused, core_adopt}
 use Rattle.vlt_resolve_moves.specs.Sees.{Sees, moved_scope, moved_wanted}
 use Rattle.vlt_resolve_moves.proofs.Empty.{cons_not_nil, no_left, no_right, none_of_both, not_broken, quiet, not_false}
 use Rattle.vlt_resolve_moves.proofs.Scoping.{same_var, same_key, ty_moves, key_type_moves, more_key_moves, more_var_moves}

@@ -4,7 +4,7 @@ use Rattle.std.specs.List.{list_any}
 use Rattle.vlt_syntax.specs.Tree as s
 use Rattle.vlt_syntax.specs.Tree.{Name, Stmt}
 use Rattle.vlt_core.specs.Core as core
-use Rattle.vlt_core.specs.Core.{Ty, int, bool, tracked, owning, owning_variant, FieldDecl, Entry, Form, simple}
+use Rattle.vlt_core.specs.Core.{Ty, int, tracked, FieldDecl, Entry, Form, simple}
 use Rattle.vlt_core.specs.Lookups.{is_owning, is_given_back}
 use Rattle.vlt_core.specs.Types.{is_struct}
 use Rattle.vlt_resolve_rights.specs.Droppable.{may_drop_struct, may_drop}

@@ -11,7 +11,7 @@ use Rattle.vlt_core.specs.Types.{keys_of_ty}
 use Rattle.vlt_core.specs.KindedHeads.{has, keys_of_parameters, new_keys, entry_broken, head_broken}
 use Rattle.vlt_core.specs.KindedCalls.{keys_fit}
 use Rattle.vlt_core_laws.proofs.Unbroken.{left_empty, right_empty}
-use Rattle.vlt_core_laws.proofs.Ids.{keys_in_type, type_keys, or_split, not_both, and_left, and_right, same_number}
+use Rattle.vlt_core_laws.proofs.Ids.{keys_in_type, or_split, not_both, and_left, and_right, same_number}
 use Rattle.vlt_core_laws.proofs.Binding.{in_range, has_first}
 use Rattle.vlt_core_laws.proofs.Headed.{ranged_keys, entries_fit}
 

@@ -1,7 +1,7 @@
 -- Statements that break no rule name variables and keys of their function.
-use Rattle.std.proofs.Common.{◌≡◌, ◌≤◌, ◌<◌, ℕ, zero, suc, Bool, true, false, not, ◌&&◌, if◌then◌else◌, List, [], ◌∷◌, ◌++◌, length, Option, Some, None, refl, sym, subst, ◌∙◌, arith}
+use Rattle.std.proofs.Common.{◌≡◌, ◌≤◌, ℕ, Bool, true, false, not, ◌&&◌, if◌then◌else◌, List, [], ◌∷◌, ◌++◌, length, Option, Some, None, refl, sym, subst}
 use Rattle.std.specs.Prelude.{nat_lt, slice_get, IfSome}
-use Rattle.std.specs.List.{flat_map, enumerate_from}
+use Rattle.std.specs.List.{flat_map}
 use Rattle.vlt_core.specs.Core as core
 use Rattle.vlt_core.specs.Core.{Ty, Operand, Simple, set, input, print, put, make, become, release, drop, own, unpack, build, swap, open_into, adopt, Func, Program}
 use Rattle.vlt_core.specs.KindedHeads.{Rules, unless, has}
@@ -11,10 +11,10 @@ use Rattle.vlt_core.specs.KindedStatements.{opened_broken, simple_broken}
 use Rattle.vlt_core.specs.KindedCalls.{is_fresh_call, keys_fit, result_broken_by, call_target_broken, target_alone_broken, call_broken}
 use Rattle.vlt_core.specs.KindedBodies.{in_loop, in_focus, with_focus, with_vars, ends, ids_behind, ids_behind_block, switch_broken, arm_vars_broken, arm_broken, focus_broken, list_broken, owning_toks, arms_broken, row_broken, form_rows, block_rows, stmts_rows, arms_rows}
 use Rattle.vlt_core.specs.declared.rules.TheConstants as rule
-use Rattle.vlt_core_laws.proofs.Unbroken.{EachEmpty, left_empty, right_empty, unless_holds, filled_not_empty, each_left, each_right, some_not_none}
+use Rattle.vlt_core_laws.proofs.Unbroken.{EachEmpty, left_empty, right_empty, unless_holds, filled_not_empty, each_left, each_right}
 use Rattle.vlt_core_laws.proofs.Binding.{in_range}
 use Rattle.vlt_core_laws.proofs.Headed.{each_at}
-use Rattle.vlt_interp.specs.Tasks.Own.{IsVar, AreVars, IsKey, IsOwnSimple, IsOwnCall, IsOwn, IsOwnBlock, AreOwn, AreOwnArms}
+use Rattle.vlt_interp.specs.Tasks.Own.{IsVar, AreVars, IsOwnSimple, IsOwnCall, IsOwn, IsOwnBlock, AreOwn, AreOwnArms}
 use Rattle.vlt_run_laws.proofs.Keys.{less}
 
 module _ (p : Program) (f : Func) where

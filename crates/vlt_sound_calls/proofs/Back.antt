@@ -9,7 +9,7 @@ use Rattle.vlt_core.specs.Maps.{Status, absent, held, lent, full, kind_of, is_ab
 use Rattle.vlt_core.specs.Rows.{held_in, clause_rows}
 use Rattle.vlt_core.specs.KindedScopes.{Ids}
 use Rattle.vlt_meaning.specs.World as world
-use Rattle.vlt_meaning.specs.World.{Value, Owner, gone, objects_in, Object, Frame, World}
+use Rattle.vlt_meaning.specs.World.{Value, gone, objects_in, Object, Frame, World}
 use Rattle.vlt_meaning.specs.Objects.{with_owner}
 use Rattle.vlt_meaning.specs.Step.{set_at}
 use Rattle.vlt_meaning.specs.Calls.{entries_after, callee_key, Binding, bindings, with_names, with_holders}

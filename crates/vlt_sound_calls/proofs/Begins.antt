@@ -1,8 +1,7 @@
 -- What is under the keys of a callee where it begins, and under those of the caller that waits.
-use Rattle.std.proofs.Common.{◌≡◌, ◌⊎◌, inl, inr, ⊎_elim, ℕ, suc, ◌==◌, ◌<◌, ◌≤◌, nat_lt, Bool, true, false, ◌&&◌, if◌then◌else◌, IsTrue, List, [], ◌∷◌, length, Option, Some, None, refl, sym, ap, ◌∙◌, subst, arith, slice_get}
+use Rattle.std.proofs.Common.{◌≡◌, ◌⊎◌, inl, inr, ⊎_elim, ℕ, suc, ◌==◌, ◌<◌, ◌≤◌, Bool, true, false, ◌&&◌, if◌then◌else◌, IsTrue, List, [], ◌∷◌, Option, Some, None, refl, sym, ap, ◌∙◌, subst, arith}
 use Rattle.std.proofs.lemmas.Bool.{cases_eq, cases_Bool, eq-eqb, ne_eqb, lt-ltb}
 use Rattle.std.proofs.lemmas.Option.{same_Some}
-use Rattle.std.specs.Option.{option_and_then}
 use Rattle.vlt_core.specs.Core.{States, a_key, Entry, Func, Program}
 use Rattle.vlt_core.specs.Lookups.{key_type, all_states, states_of_type, states_or_all, is_held_before, before_set}
 use Rattle.vlt_core.specs.Types.{stands_for}
@@ -11,12 +10,12 @@ use Rattle.vlt_core.specs.Rows.{held_in, entry_wanted, clause_rows}
 use Rattle.vlt_core.specs.Derives.{status_at_start}
 use Rattle.vlt_core.specs.KindedScopes.{Ids}
 use Rattle.vlt_meaning.specs.World as world
-use Rattle.vlt_meaning.specs.World.{Owner, gone, Object, Frame}
+use Rattle.vlt_meaning.specs.World.{gone, Object, Frame}
 use Rattle.vlt_meaning.specs.Objects.{with_owner}
-use Rattle.vlt_meaning.specs.Calls.{handed_over, is_new_key, callee_key}
+use Rattle.vlt_meaning.specs.Calls.{handed_over, callee_key}
 use Rattle.vlt_sound_worlds.specs.Look.{look, IsLive}
 use Rattle.vlt_sound_worlds.proofs.Look.{live_within}
-use Rattle.vlt_sound_worlds.specs.Keys.{IsOfType, KeyAgrees, IsUnder, IsSameObject, SameUnder, IsOnly}
+use Rattle.vlt_sound_worlds.specs.Keys.{IsOfType, KeyAgrees, IsUnder, SameUnder, IsOnly}
 use Rattle.vlt_sound_worlds.proofs.KeysLaws.{key_kept, key_absent, key_held, held_one, under_is}
 use Rattle.vlt_sound_worlds.specs.Agrees.{Handed, Context, Agrees}
 use Rattle.vlt_sound_worlds.specs.Typed.{IsLimited}
@@ -25,7 +24,7 @@ use Rattle.vlt_sound_worlds.proofs.Leaving.{key_same}
 use Rattle.vlt_sound_calls.specs.Callee.{Among, AreApartBy, caller_key, IsParamKey, IsCall, without}
 use Rattle.vlt_sound_calls.proofs.Entries.{same_entry, Sought, sought}
 use Rattle.vlt_sound_calls.proofs.ClauseRows.{clause_wanted, without_here, without_other}
-use Rattle.vlt_sound_calls.proofs.Over.{Holds, HoldsAll, Over, Stays, handed, handed_length}
+use Rattle.vlt_sound_calls.proofs.Over.{Holds, HoldsAll, Over, Stays, handed}
 
 -- ---- the status of a key where a body begins
 

@@ -1,9 +1,9 @@
 -- What the rows of a clause at a call say of each key, where no two entries have the same key.
-use Rattle.std.proofs.Common.{◌≡◌, ◌⊎◌, inl, inr, ⊎_elim, ℕ, Bool, true, false, ◌&&◌, if◌then◌else◌, List, [], ◌∷◌, ◌++◌, Option, Some, refl, sym, ap, ◌∙◌, subst, slice_get}
+use Rattle.std.proofs.Common.{◌≡◌, ◌⊎◌, inl, inr, ⊎_elim, ℕ, Bool, true, false, ◌&&◌, if◌then◌else◌, List, [], ◌∷◌, ◌++◌, Some, refl, sym, ap, ◌∙◌, subst, slice_get}
 use Rattle.std.proofs.lemmas.Bool.{cases_Bool, eq-eqb}
-use Rattle.vlt_core.specs.Core.{Tok, a_key, a_var, Entry, Func, Program}
+use Rattle.vlt_core.specs.Core.{Tok, a_key, Entry, Func, Program}
 use Rattle.vlt_core.specs.Lookups.{is_held_before}
-use Rattle.vlt_core.specs.Maps.{Status, absent, HeldMap, IsWanted, status_after, row_passed, CanPass, map_after, is_tok}
+use Rattle.vlt_core.specs.Maps.{absent, HeldMap, IsWanted, status_after, row_passed, CanPass, map_after, is_tok}
 use Rattle.vlt_core.specs.Rows.{on_option, entry_row, entry_wanted, entry_after, clause_rows}
 use Rattle.vlt_sound_worlds.proofs.Empty.{both_so}
 use Rattle.vlt_sound_worlds.proofs.Rows.{row_here, row_other, tok_is}

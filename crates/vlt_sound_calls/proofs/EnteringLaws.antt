@@ -1,39 +1,37 @@
 -- A callee begins.
-use Rattle.std.proofs.Common.{◌≡◌, ◌⊎◌, inl, inr, ⊎_elim, ℕ, suc, ◌+◌, ◌<◌, ◌≤◌, nat_lt, nat_le, Bool, true, false, ◌&&◌, ◌||◌, not, if◌then◌else◌, IsTrue, List, [], ◌∷◌, ◌++◌, map, length, take, Option, Some, None, refl, sym, ap, ◌∙◌, subst, arith, slice_get}
+use Rattle.std.proofs.Common.{◌≡◌, ◌⊎◌, ⊎_elim, ℕ, suc, ◌+◌, ◌<◌, ◌≤◌, nat_lt, Bool, true, false, ◌||◌, not, if◌then◌else◌, List, [], ◌++◌, map, length, take, Option, Some, None, refl, sym, ap, ◌∙◌, subst, arith, slice_get}
 use Rattle.std.proofs.lemmas.Bool.{cases_eq, cases_Bool, ltb-true, ltb-false, lt-ltb, leb-true}
 use Rattle.std.proofs.lemmas.List.{length-take-le, length-map}
-use Rattle.std.proofs.lemmas.Option.{none-some, same_Some, slice_get_past, slice_get_within, slice_get_cases}
-use Rattle.std.specs.List.{flat_map, range_with_len}
+use Rattle.std.proofs.lemmas.Option.{slice_get_past, slice_get_within, slice_get_cases}
 use Rattle.std.specs.Option.{option_and_then}
-use Rattle.vlt_core.specs.Core.{Ty, VarDecl, a_key, a_var, Entry, Func, Program}
-use Rattle.vlt_core.specs.Lookups.{var_type, is_owning, is_owning_var, owns, key_type}
-use Rattle.vlt_core.specs.Types.{keys_of_ty, stands_for, with_keys}
+use Rattle.vlt_core.specs.Core.{Ty, a_var, Func, Program}
+use Rattle.vlt_core.specs.Lookups.{var_type, is_owning_var, owns, key_type}
+use Rattle.vlt_core.specs.Types.{stands_for, with_keys}
 use Rattle.vlt_core.specs.Maps.{absent, full, HeldMap, CanPass}
 use Rattle.vlt_core.specs.Rows.{clause_rows}
 use Rattle.vlt_core.specs.Derives.{start_map}
-use Rattle.vlt_core.specs.KindedHeads.{has, parameters_of, keys_of_parameters, keys_of_result, head_keys}
+use Rattle.vlt_core.specs.KindedHeads.{has, parameters_of, keys_of_parameters, keys_of_result}
 use Rattle.vlt_core.specs.KindedScopes.{Ids}
 use Rattle.vlt_core.specs.KindedBodies.{first_ids}
 use Rattle.vlt_meaning.specs.World.{Value, objects_in, Object, Frame}
 use Rattle.vlt_meaning.specs.Calls.{handed_over, is_new_key, callee_key, callee_frame}
 use Rattle.vlt_sound_worlds.specs.Look.{look}
-use Rattle.vlt_sound_worlds.specs.Members.{In}
 use Rattle.vlt_sound_worlds.specs.Placed.{IsPlaced}
 use Rattle.vlt_sound_worlds.specs.Roots.{owned_by, content, home, owner_of}
 use Rattle.vlt_sound_worlds.specs.Scene.{Scene}
 use Rattle.vlt_sound_worlds.specs.Fits.{Fits}
 use Rattle.vlt_sound_worlds.proofs.Fits.{fits_named, fits_behind}
-use Rattle.vlt_sound_worlds.specs.Agrees.{HasVar, InScope, VarsFit, VarsAgree, Handed, values_of, Waiting, Context, WaitsWell, scene, stock, Agrees}
+use Rattle.vlt_sound_worlds.specs.Agrees.{HasVar, InScope, VarsFit, VarsAgree, values_of, Waiting, Context, WaitsWell, scene, stock, Agrees}
 use Rattle.vlt_sound_worlds.specs.Typed.{IsTyped}
 use Rattle.vlt_sound_worlds.proofs.Plain.{plain_value}
-use Rattle.vlt_sound_worlds.proofs.Kept.{vars_kept, handed_kept, waits_kept}
+use Rattle.vlt_sound_worlds.proofs.Kept.{vars_kept, waits_kept}
 use Rattle.vlt_sound_worlds.proofs.TypeFacts.{var_known}
 use Rattle.vlt_sound_worlds.specs.Scoped.{IsScoped}
 use Rattle.vlt_sound_worlds.proofs.Starting.{has_left, has_right, start_scoped}
 use Rattle.vlt_sound_worlds.specs.Handed.{handed_values}
 use Rattle.vlt_sound_calls.specs.Returned.{IsEntered}
 use Rattle.vlt_sound_calls.specs.Heads.{HasHead}
-use Rattle.vlt_sound_calls.specs.Callee.{IsParamKey, IsCall, without, with_waiting, callee_context}
+use Rattle.vlt_sound_calls.specs.Callee.{IsCall, without, with_waiting, callee_context}
 use Rattle.vlt_sound_calls.proofs.Rekeyed.{Rekeyed, rekeyed_grows, rekeyed_states, rekeyed_objects, rekeyed_adopted, rekeyed_placed, rekeyed_ranked, rekeyed_foci}
 use Rattle.vlt_sound_calls.proofs.Over.{handed_length, handed_rekeyed}
 use Rattle.vlt_sound_calls.proofs.Parameters.{waiting_here, waiting_other, vars_wait, values_fill, handed_objects, param_fits, range_within, in_range}

@@ -5,7 +5,7 @@ use Rattle.vlt_core.specs.Core.{a_key, Entry, Func, Program}
 use Rattle.vlt_core.specs.Lookups.{key_type}
 use Rattle.vlt_core.specs.Maps.{held, absent, HeldMap, row_passed}
 use Rattle.vlt_core.specs.KindedScopes.{Ids}
-use Rattle.vlt_meaning.specs.World.{Owner, out, is_out, Object, Frame, Reason, missing, not_owned}
+use Rattle.vlt_meaning.specs.World.{Owner, out, is_out, Object, Frame, missing, not_owned}
 use Rattle.vlt_meaning.specs.World as world
 use Rattle.vlt_meaning.specs.Found.{Found, ◌>>=◌, or_fault, if_so}
 use Rattle.vlt_meaning.specs.Objects.{object_at, owned_at, with_owner, with_changed_object, objects_after_move}

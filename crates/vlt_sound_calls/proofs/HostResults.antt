@@ -44,7 +44,6 @@ use Rattle.vlt_sound_calls.proofs.DeliveredLaws.{delivered}
 use Rattle.vlt_sound_calls.proofs.PiecesLaws.{number_safe, new_safe}
 use Rattle.vlt_sound_calls.specs.ReturnHeads.{HasHostHead}
 use Rattle.vlt_sound_calls.specs.TakenOver as over
-use Rattle.vlt_sound_calls.specs.TakenOver.{AreTakenOver, NamesObject}
 use Rattle.vlt_sound_calls.proofs.Finding.{same_ok}
 use Rattle.vlt_sound_calls.proofs.TakenOver.{taken_over, over_all}
 use Rattle.vlt_sound_calls.proofs.Cases.{case_safe}

@@ -1,21 +1,20 @@
 -- A function leaves: what it gives back is held, and it has nothing else.
 use Rattle.std.proofs.Common.{◌≡◌, ◌⊎◌, inl, inr, ⊎_elim, ℕ, ◌+◌, ◌<◌, ◌==◌, nat_lt, Bool, true, false, ◌&&◌, ◌||◌, not, if◌then◌else◌, IsTrue, List, [], ◌∷◌, ◌++◌, map, filter, length, Option, Some, None, is_none, Ok, refl, sym, ap, ◌∙◌, subst, arith, slice_get}
-use Rattle.std.proofs.lemmas.Bool.{cases_eq, cases_Bool, eqb-true, eq-eqb, ltb-true}
+use Rattle.std.proofs.lemmas.Bool.{cases_Bool, eqb-true, eq-eqb, ltb-true}
 use Rattle.std.proofs.lemmas.Option.{none-some, same_Some, slice_get_cases}
 use Rattle.std.specs.Option.{option_map}
-use Rattle.std.specs.List.{list_any, list_all, range_with_len, enumerate_from}
-use Rattle.vlt_core.specs.Core.{States, Ty, var, Operand, pure, Tok, a_key, a_var, Entry, Func, Program}
-use Rattle.vlt_core.specs.Lookups.{var_type, owns, is_owning_var, owning_vars, key_type, after_set, is_held_after, is_new, is_given_back}
+use Rattle.std.specs.List.{list_any, range_with_len}
+use Rattle.vlt_core.specs.Core.{Operand, a_key, a_var, Entry, Func}
+use Rattle.vlt_core.specs.Lookups.{owns, is_owning_var, key_type, after_set, is_held_after, is_new, is_given_back}
 use Rattle.vlt_core.specs.Maps as maps
 use Rattle.vlt_core.specs.Maps.{Status, absent, held, lent, full, kind_of, is_absent, is_held, states_of, HeldMap, wants_in, CanPass, map_after}
 use Rattle.vlt_core.specs.Rows.{tokens_of}
-use Rattle.vlt_core.specs.KindedHeads.{has, keys_of_parameters, head_keys, keys_of_result}
+use Rattle.vlt_core.specs.KindedHeads.{has, keys_of_parameters, keys_of_result}
 use Rattle.vlt_core.specs.KindedScopes.{Ids}
 use Rattle.vlt_meaning.specs.World as world
 use Rattle.vlt_meaning.specs.World.{Value, Owner, gone, is_at, Object, Frame, World, wrong_state, left_behind}
-use Rattle.vlt_meaning.specs.Found.{Found, Named, ◌>>=◌, if_so}
-use Rattle.vlt_meaning.specs.Objects.{in_states, with_numbers}
-use Rattle.vlt_meaning.specs.Step.{Step, leaves}
+use Rattle.vlt_meaning.specs.Found.{◌>>=◌, if_so}
+use Rattle.vlt_meaning.specs.Objects.{in_states}
 use Rattle.vlt_meaning.specs.Values.{held_object}
 use Rattle.vlt_meaning.specs.Calls.{entries_after, is_new_key, new_object, returned_object, returned_objects, holds_only, is_emptied}
 use Rattle.vlt_meaning.specs.Run.{Setup, left_function}
@@ -23,9 +22,8 @@ use Rattle.vlt_sound_worlds.specs.Look.{look}
 use Rattle.vlt_sound_worlds.proofs.Look.{live_within, look_is, look_at}
 use Rattle.vlt_sound_worlds.specs.Members.{In, IsOnce}
 use Rattle.vlt_sound_worlds.specs.Roots.{owned_by}
-use Rattle.vlt_sound_worlds.proofs.Members.{in_or_not}
 use Rattle.vlt_sound_worlds.specs.Keys.{IsUnder, IsOnly}
-use Rattle.vlt_sound_worlds.proofs.KeysLaws.{held_one, none_under, under_is, under_held, under_lent}
+use Rattle.vlt_sound_worlds.proofs.KeysLaws.{held_one, none_under, under_is}
 use Rattle.vlt_sound_worlds.specs.Fits.{Names}
 use Rattle.vlt_sound_worlds.specs.Agrees.{HasVar, Handed, values_of, Context, scene, Agrees}
 use Rattle.vlt_sound_worlds.specs.Safe.{Safe}
@@ -33,14 +31,14 @@ use Rattle.vlt_sound_worlds.proofs.Safe.{found_safe, so_safe}
 use Rattle.vlt_sound_worlds.proofs.Touch.{named, held_found, held_is}
 use Rattle.vlt_sound_worlds.proofs.Rows.{pass_split}
 use Rattle.vlt_sound_worlds.proofs.Leaving.{var_is_no_key, key_same}
-use Rattle.vlt_sound_worlds.proofs.Starting.{has_left, has_right}
-use Rattle.vlt_sound_calls.specs.Returned.{is_lasting, IsEntered, IsKept, AreKept, FitsResult, Returned, returns_to}
+use Rattle.vlt_sound_worlds.proofs.Starting.{has_right}
+use Rattle.vlt_sound_calls.specs.Returned.{IsEntered, AreKept, FitsResult, returns_to}
 use Rattle.vlt_sound_calls.specs.Heads.{HasHead}
 use Rattle.vlt_sound_calls.specs.Callee.{Among, AreApartBy}
-use Rattle.vlt_sound_calls.proofs.Entries.{same_entry, Sought, sought}
+use Rattle.vlt_sound_calls.proofs.Entries.{same_entry, sought}
 use Rattle.vlt_sound_calls.proofs.Pairs.{among_filtered, filtered_among, filtered_apart}
 use Rattle.vlt_sound_calls.proofs.ResultsLaws.{new_is_after}
-use Rattle.vlt_sound_calls.proofs.Statics.{apart_by, among_at, any_new, param_not_new}
+use Rattle.vlt_sound_calls.proofs.Statics.{apart_by, any_new, param_not_new}
 use Rattle.vlt_sound_calls.proofs.Taking.{take_rows, take_other, take_wanted, gone_absent, key_token, var_token, all_numbered, all_filtered}
 
 absent_is : (s : Status) → kind_of s ≡ is_absent → s ≡ absent

@@ -3,7 +3,7 @@ use Rattle.std.proofs.Common.{◌≡◌, inl, inr, ⊎_elim, ℕ, Bool, true, fa
 use Rattle.vlt_core.specs.Core.{States, Tok, a_key, a_var, Mode, kept, taken, given, fresh, up_to, Entry, Func, Program}
 use Rattle.vlt_core.specs.Lookups.{is_before, is_after, is_fresh, is_held_before, is_held_after, is_new, states_or_all}
 use Rattle.vlt_core.specs.Maps as maps
-use Rattle.vlt_core.specs.Maps.{Status, absent, held, kind_of, is_absent, states_of, HeldMap, IsWanted, wants_absent, After, becomes_absent, becomes_held, status_after, row_passed, CanPass, map_after}
+use Rattle.vlt_core.specs.Maps.{Status, absent, held, kind_of, is_absent, states_of, HeldMap, IsWanted, wants_absent, becomes_absent, becomes_held, status_after, row_passed, CanPass, map_after}
 use Rattle.vlt_core.specs.Rows.{entry_wanted, entry_after, held_in, clause_rows}
 use Rattle.vlt_meaning.specs.Calls.{entries_after}
 use Rattle.vlt_meaning.specs.Externals.{is_taken, is_given}

@@ -1,7 +1,7 @@
 -- The objects of a clause's keys are handed over to the callee.
 use Rattle.std.proofs.Common.{◌≡◌, ◌⊎◌, inl, inr, ⊎_elim, ℕ, suc, ◌<◌, Bool, true, false, if◌then◌else◌, IsTrue, List, [], ◌∷◌, length, Option, Some, None, Ok, refl, sym, ap, ◌∙◌, subst, slice_get}
 use Rattle.std.proofs.lemmas.Bool.{cases_eq, cases_Bool}
-use Rattle.std.proofs.lemmas.Option.{none-some, same_Some}
+use Rattle.std.proofs.lemmas.Option.{same_Some}
 use Rattle.std.specs.Option.{option_and_then}
 use Rattle.vlt_core.specs.Core.{Entry, Func, Program}
 use Rattle.vlt_core.specs.Lookups.{is_held_before, before_set}
@@ -16,7 +16,7 @@ use Rattle.vlt_sound_worlds.proofs.Look.{look_at, changes_one}
 use Rattle.vlt_sound_worlds.proofs.Touch.{named, held_found}
 use Rattle.vlt_sound_worlds.proofs.Leaving.{length_changed}
 use Rattle.vlt_sound_calls.specs.Callee.{Among, caller_key}
-use Rattle.vlt_sound_calls.proofs.Rekeyed.{IsRekeyed, Rekeyed}
+use Rattle.vlt_sound_calls.proofs.Rekeyed.{Rekeyed}
 
 module _ (keys : List ℕ) (frame : Frame) (os : List Object) where
   -- the caller holds an entry's object under the key that stands for the entry's

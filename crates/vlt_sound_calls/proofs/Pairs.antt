@@ -1,6 +1,6 @@
 -- Entries with what their keys name, and what is given back for each.
-use Rattle.std.proofs.Common.{◌≡◌, ◌⊎◌, inl, inr, ⊎_elim, ℕ, ◌<◌, Bool, true, false, if◌then◌else◌, List, [], ◌∷◌, ◌++◌, filter, length, Option, Some, None, refl, sym, ap, ◌∙◌, subst, slice_get}
-use Rattle.std.proofs.lemmas.Bool.{cases_eq, cases_Bool}
+use Rattle.std.proofs.Common.{◌≡◌, ◌⊎◌, inl, inr, ⊎_elim, ℕ, ◌<◌, Bool, true, false, if◌then◌else◌, List, [], ◌∷◌, ◌++◌, filter, length, Some, refl, sym, ap, ◌∙◌, subst}
+use Rattle.std.proofs.lemmas.Bool.{cases_Bool}
 use Rattle.std.specs.Option.{option_map, option_to_list}
 use Rattle.vlt_core.specs.Core.{Entry, Func, Program}
 use Rattle.vlt_meaning.specs.World as world
@@ -8,10 +8,9 @@ use Rattle.vlt_meaning.specs.World.{Object, Frame}
 use Rattle.vlt_meaning.specs.Objects.{with_owner, with_changed_object}
 use Rattle.vlt_meaning.specs.Step.{with_key}
 use Rattle.vlt_meaning.specs.Calls.{Binding, binding, bindings, with_names, with_holders}
-use Rattle.vlt_sound_worlds.specs.Look.{look, ChangesOne}
+use Rattle.vlt_sound_worlds.specs.Look.{look}
 use Rattle.vlt_sound_worlds.proofs.Look.{changes_one}
 use Rattle.vlt_sound_worlds.specs.Members.{In, IsOnce}
-use Rattle.vlt_sound_worlds.proofs.Members.{in_or_not}
 use Rattle.vlt_sound_worlds.specs.Fits.{Names}
 use Rattle.vlt_sound_worlds.proofs.FrameChanges.{set_here, set_other}
 use Rattle.vlt_sound_worlds.proofs.Leaving.{length_changed}

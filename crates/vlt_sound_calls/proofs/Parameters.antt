@@ -1,5 +1,5 @@
 -- What is handed over goes to the parameters of a callee, and the caller's variables wait.
-use Rattle.std.proofs.Common.{◌≡◌, ◌⊎◌, inl, inr, ⊎_elim, ℕ, zero, suc, ◌==◌, ◌+◌, ◌<◌, ◌≤◌, Bool, true, false, ◌||◌, if◌then◌else◌, List, [], ◌∷◌, ◌++◌, map, length, take, Option, Some, None, refl, sym, ap, ◌∙◌, subst, arith, slice_get}
+use Rattle.std.proofs.Common.{◌≡◌, ◌⊎◌, ⊎_elim, ℕ, zero, suc, ◌==◌, ◌+◌, ◌<◌, ◌≤◌, Bool, true, false, ◌||◌, if◌then◌else◌, List, [], ◌∷◌, ◌++◌, map, length, take, Option, Some, None, refl, sym, ap, ◌∙◌, subst, arith, slice_get}
 use Rattle.std.proofs.lemmas.Bool.{cases_eq, eq-eqb, ne_eqb}
 use Rattle.std.proofs.lemmas.List.{append-nil, append_assoc}
 use Rattle.std.proofs.lemmas.Option.{none-some, same_Some, slice_get_past}
@@ -8,17 +8,17 @@ use Rattle.std.specs.Option.{option_map}
 use Rattle.vlt_core.specs.Core.{Ty, VarDecl, Program}
 use Rattle.vlt_core.specs.Types.{with_keys}
 use Rattle.vlt_core.specs.KindedHeads.{has}
-use Rattle.vlt_meaning.specs.World.{Value, objects_in, Owner, Object, Frame}
+use Rattle.vlt_meaning.specs.World.{Value, objects_in, Owner, Object}
 use Rattle.vlt_meaning_laws.proofs.Lists.{get_last}
 use Rattle.vlt_sound_worlds.specs.Members.{In, IsOnce}
 use Rattle.vlt_sound_worlds.specs.Placed.{IsPlaced}
-use Rattle.vlt_sound_worlds.specs.Roots.{Root, in_var, in_hand, in_wait, in_cell, Stock, owned_by, content, home}
+use Rattle.vlt_sound_worlds.specs.Roots.{Root, in_var, in_hand, in_wait, in_cell, owned_by, content, home}
 use Rattle.vlt_sound_worlds.proofs.Members.{in_left}
 use Rattle.vlt_sound_worlds.proofs.Placed as placed
 use Rattle.vlt_sound_worlds.proofs.Roots.{same_root}
 use Rattle.vlt_sound_worlds.specs.Scene.{Scene}
 use Rattle.vlt_sound_worlds.specs.Fits.{Names, Fits}
-use Rattle.vlt_sound_worlds.specs.Agrees.{Handed, values_of, FitHanded, Waiting}
+use Rattle.vlt_sound_worlds.specs.Agrees.{values_of, FitHanded, Waiting}
 use Rattle.vlt_sound_worlds.proofs.Binding.{first_or_other}
 use Rattle.vlt_sound_worlds.specs.Handed.{handed_values}
 use Rattle.vlt_sound_calls.specs.Callee.{with_waiting}

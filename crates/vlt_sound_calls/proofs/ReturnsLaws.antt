@@ -1,57 +1,55 @@
 -- Returns end in no fault, and leave what the clause says.
-use Rattle.std.proofs.Common.{◌≡◌, ◌⊎◌, inl, inr, ⊎_elim, ℕ, ◌<◌, ◌==◌, Bool, true, false, ◌&&◌, ◌||◌, not, if◌then◌else◌, List, [], ◌∷◌, ◌++◌, map, filter, length, Option, Some, None, Ok, refl, sym, ap, ◌∙◌, subst, slice_get}
-use Rattle.std.proofs.lemmas.Bool.{cases_Bool, eqb-true, eq-eqb}
+use Rattle.std.proofs.Common.{◌≡◌, ◌⊎◌, inl, inr, ⊎_elim, ℕ, ◌<◌, ◌==◌, Bool, true, false, ◌&&◌, not, if◌then◌else◌, List, [], ◌∷◌, ◌++◌, map, filter, length, Option, Some, None, Ok, refl, sym, ap, ◌∙◌, subst}
+use Rattle.std.proofs.lemmas.Bool.{cases_Bool, eqb-true}
 use Rattle.std.proofs.lemmas.List.{append-nil, append_assoc}
 use Rattle.std.proofs.lemmas.Option.{same_Some}
 use Rattle.std.specs.List.{flat_map}
 use Rattle.vlt_core.specs.Core as core
-use Rattle.vlt_core.specs.Core.{Ty, int, bool, tracked, owning, guarded, variant, owning_variant, Expr, number, truth, var, field, unary, binary, Operand, pure, move, pack, Tok, a_key, Entry, return, Func, Program}
-use Rattle.vlt_core.specs.Lookups.{var_type, Reference, reference_of, tracked_in, after_set, is_held_after, is_new, is_given_back}
-use Rattle.vlt_core.specs.Types.{keys_of_ty, same_object, same_keys}
+use Rattle.vlt_core.specs.Core.{Ty, int, bool, tracked, owning, guarded, variant, owning_variant, number, truth, var, field, unary, binary, Operand, pure, move, pack, a_key, Entry, Func}
+use Rattle.vlt_core.specs.Lookups.{var_type, reference_of, tracked_in, after_set, is_held_after, is_new, is_given_back}
+use Rattle.vlt_core.specs.Types.{same_object, same_keys}
 use Rattle.vlt_core.specs.Maps as maps
-use Rattle.vlt_core.specs.Maps.{kind_of, is_held, states_of, HeldMap, wants_in, becomes_absent, Row, CanPass, map_after}
-use Rattle.vlt_core.specs.Rows.{row, key_row, on_option, operand_rows, returned_row, new_rows, given_back_rows, tokens_of, return_rows, rows_of}
-use Rattle.vlt_core.specs.KindedHeads.{has, unless, when_some, new_keys, keys_of_result}
+use Rattle.vlt_core.specs.Maps.{kind_of, is_held, HeldMap, wants_in, becomes_absent, Row, CanPass}
+use Rattle.vlt_core.specs.Rows.{row, operand_rows, returned_row, new_rows, given_back_rows, tokens_of, return_rows}
+use Rattle.vlt_core.specs.KindedHeads.{has, unless, new_keys}
 use Rattle.vlt_core.specs.declared.rules.TheConstants as rule
 use Rattle.vlt_core.specs.KindedScopes.{Ids, use_broken}
 use Rattle.vlt_core.specs.KindedOperands.{operand_broken}
 use Rattle.vlt_core.specs.KindedCalls.{kept_keys, new_result_broken, returned_broken, return_broken}
 use Rattle.vlt_meaning.specs.World as world
-use Rattle.vlt_meaning.specs.World.{Value, one, reference, objects_in, Object, Frame, World, missing, no_value, wrong_state}
+use Rattle.vlt_meaning.specs.World.{Value, one, reference, objects_in, Frame, World, missing, no_value, wrong_state}
 use Rattle.vlt_meaning.specs.Found.{or_fault, ◌>>=◌, if_so}
 use Rattle.vlt_meaning.specs.Objects.{in_states}
-use Rattle.vlt_meaning.specs.Values.{held_object, tracked_object, object_of, value_of}
+use Rattle.vlt_meaning.specs.Values.{held_object, tracked_object, value_of}
 use Rattle.vlt_meaning.specs.Step.{Step, with_found}
 use Rattle.vlt_meaning.specs.Operands.{with_operand}
 use Rattle.vlt_meaning.specs.Calls.{is_new_key, new_object, returned_object, with_returned}
-use Rattle.vlt_meaning.specs.Run.{Setup, Meaning, does_form, left_function}
+use Rattle.vlt_meaning.specs.Run.{Setup, Meaning, left_function}
 use Rattle.vlt_sound_worlds.specs.Look.{look}
 use Rattle.vlt_sound_worlds.proofs.Look.{look_at}
 use Rattle.vlt_sound_worlds.specs.Members.{In}
 use Rattle.vlt_sound_worlds.specs.Roots.{owned_by}
-use Rattle.vlt_sound_worlds.specs.Scene.{Scene, IsOf}
-use Rattle.vlt_sound_worlds.specs.Fits.{Names, Fits}
+use Rattle.vlt_sound_worlds.specs.Scene.{IsOf}
+use Rattle.vlt_sound_worlds.specs.Fits.{Names}
 use Rattle.vlt_sound_worlds.proofs.Fits.{fits_named}
 use Rattle.vlt_sound_worlds.specs.Agrees.{InScope, Handed, values_of, Context, scene, Agrees}
 use Rattle.vlt_sound_worlds.specs.Typed.{IsTyped}
-use Rattle.vlt_sound_worlds.specs.Safe.{Goal, Safe}
-use Rattle.vlt_sound_worlds.proofs.Empty.{both_empty, both_so, unless_so}
+use Rattle.vlt_sound_worlds.specs.Safe.{Safe}
+use Rattle.vlt_sound_worlds.proofs.Empty.{both_empty, both_so}
 use Rattle.vlt_sound_worlds.proofs.Safe.{found_safe}
 use Rattle.vlt_sound_worlds.proofs.Rows.{pass_split}
 use Rattle.vlt_sound_worlds.proofs.Plain.{keys_same}
 use Rattle.vlt_sound_worlds.proofs.Touch.{named, used, tracked_held, tracked_found}
-use Rattle.vlt_sound_worlds.proofs.Starting.{has_in}
 use Rattle.vlt_sound_worlds.proofs.OperandsLaws.{operand_safe}
-use Rattle.vlt_sound_calls.specs.Returned.{IsEntered, FitsResult, Returned, returns_to}
+use Rattle.vlt_sound_calls.specs.Returned.{IsEntered, FitsResult, returns_to}
 use Rattle.vlt_sound_calls.specs.Heads.{IsNewKey, HasHead}
 use Rattle.vlt_sound_calls.specs.Calls.{ReturnsAreSafe}
 use Rattle.vlt_sound_calls.specs.Callee.{Among}
-use Rattle.vlt_sound_calls.proofs.Entries.{same_entry}
 use Rattle.vlt_sound_calls.proofs.Pairs.{among_filtered, filtered_among}
 use Rattle.vlt_sound_calls.proofs.ResultsLaws.{NewEntry, new_entry}
 use Rattle.vlt_sound_calls.proofs.Statics.{among_at, any_new}
 use Rattle.vlt_sound_calls.proofs.Taking.{take_rows}
-use Rattle.vlt_sound_calls.proofs.LeavingLaws.{is_given, false_true, entry_has, new_key_true, kept_entries, key_of, wants, names, names_old, names_new, left_safe}
+use Rattle.vlt_sound_calls.proofs.LeavingLaws.{is_given, false_true, entry_has, new_key_true, kept_entries, names, names_old, names_new, left_safe}
 
 take_append : (at : Entry → ℕ) (wanted : Entry → maps.Wanted) (xs ys : List Entry) →
     take_rows at wanted (xs ++ ys) ≡ take_rows at wanted xs ++ take_rows at wanted ys

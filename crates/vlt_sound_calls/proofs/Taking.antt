@@ -1,15 +1,15 @@
 -- Rows that take the objects of keys, and rows that want tokens away.
-use Rattle.std.proofs.Common.{◌≡◌, ◌⊎◌, inl, inr, ⊎_elim, ℕ, zero, suc, ◌+◌, ◌<◌, ◌==◌, Bool, true, false, ◌&&◌, ◌||◌, not, if◌then◌else◌, List, [], ◌∷◌, ◌++◌, map, filter, length, Option, Some, refl, sym, ap, ◌∙◌, subst, arith, slice_get}
+use Rattle.std.proofs.Common.{◌≡◌, ◌⊎◌, inl, inr, ⊎_elim, ℕ, suc, ◌+◌, ◌<◌, ◌==◌, Bool, true, false, ◌||◌, if◌then◌else◌, List, [], ◌∷◌, ◌++◌, map, filter, length, Some, refl, sym, ap, ◌∙◌, subst, arith, slice_get}
 use Rattle.std.proofs.lemmas.Bool.{cases_eq, cases_Bool, eq-eqb}
-use Rattle.std.specs.List.{list_any, list_all, range_with_len, enumerate_from}
+use Rattle.std.specs.List.{list_all, range_with_len, enumerate_from}
 use Rattle.vlt_core.specs.Core.{Tok, a_key, a_var, Entry, Func}
 use Rattle.vlt_core.specs.Lookups.{is_owning_var, owning_vars}
 use Rattle.vlt_core.specs.Maps as maps
-use Rattle.vlt_core.specs.Maps.{Status, absent, kind_of, is_absent, HeldMap, Wanted, IsWanted, becomes_absent, Row, row_passed, CanPass, map_after}
+use Rattle.vlt_core.specs.Maps.{kind_of, is_absent, HeldMap, Wanted, IsWanted, becomes_absent, Row, row_passed, CanPass, map_after}
 use Rattle.vlt_core.specs.Rows.{row, tokens_of}
 use Rattle.vlt_core.specs.KindedHeads.{has}
 use Rattle.vlt_meaning.specs.World.{Object}
-use Rattle.vlt_sound_worlds.proofs.Rows.{row_here, row_other}
+use Rattle.vlt_sound_worlds.proofs.Rows.{row_other}
 use Rattle.vlt_sound_worlds.proofs.Leaving.{key_same}
 use Rattle.vlt_sound_worlds.proofs.Binding.{first_or_other}
 use Rattle.vlt_sound_calls.specs.Callee.{Among, AreApartBy}

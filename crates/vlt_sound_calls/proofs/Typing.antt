@@ -1,5 +1,5 @@
 -- The keys in scope of a function name objects of their types.
-use Rattle.std.proofs.Common.{◌≡◌, ⊎_elim, ℕ, ◌<◌, nat_lt, true, ◌||◌, not, length, IsTrue, Some, refl, sym, ap, ◌∙◌, subst}
+use Rattle.std.proofs.Common.{◌≡◌, ⊎_elim, ℕ, ◌<◌, nat_lt, true, ◌||◌, not, length, IsTrue, Some, refl, sym, ap, ◌∙◌}
 use Rattle.std.proofs.lemmas.Option.{same_Some}
 use Rattle.vlt_core.specs.Core.{tracked, Func, Program}
 use Rattle.vlt_core.specs.Lookups.{key_type}

@@ -1,6 +1,6 @@
 -- What is known of a call without a run, and the context that a callee begins in.
-use Rattle.std.specs.Prelude.{◌≡◌, ◌⊎◌, ℕ, suc, ◌==◌, Bool, true, false, ◌&&◌, if◌then◌else◌, List, [], ◌∷◌, length, nat_lt, None, Some, slice_get}
-use Rattle.vlt_core.specs.Core.{Tok, a_key, Entry, Func, Program}
+use Rattle.std.specs.Prelude.{◌≡◌, ◌⊎◌, ℕ, suc, ◌==◌, true, false, ◌&&◌, if◌then◌else◌, List, [], ◌∷◌, length, nat_lt, None, Some, slice_get}
+use Rattle.vlt_core.specs.Core.{a_key, Entry, Func, Program}
 use Rattle.vlt_core.specs.Lookups.{key_type, is_held_before}
 use Rattle.vlt_core.specs.Types.{stands_for}
 use Rattle.vlt_core.specs.Maps.{absent, HeldMap, is_tok}

@@ -1,6 +1,6 @@
 -- What is known without a run of a call's keys for new objects, and of its result.
 use Rattle.std.specs.Prelude.{◌≡◌, ℕ, true, List, [], Some}
-use Rattle.vlt_core.specs.Core.{tracked, Entry, Func, Program}
+use Rattle.vlt_core.specs.Core.{tracked, Entry, Func}
 use Rattle.vlt_core.specs.Lookups.{key_type, is_held_after, is_new}
 use Rattle.vlt_core.specs.KindedScopes.{Ids}
 use Rattle.vlt_sound_worlds.specs.Agrees.{Context}

@@ -6,7 +6,7 @@ use Rattle.vlt_core.specs.Core.{a_key, a_var, Func, Program}
 use Rattle.vlt_core.specs.Lookups.{is_owning_var, key_type, KeyIn}
 use Rattle.vlt_core.specs.Maps.{HeldMap, map_after}
 use Rattle.vlt_core.specs.KindedScopes.{Ids}
-use Rattle.vlt_meaning.specs.World.{objects_in, loose, gone, adopted_by, above, Object, Frame}
+use Rattle.vlt_meaning.specs.World.{objects_in, loose, gone, adopted_by, Object, Frame}
 use Rattle.vlt_meaning.specs.World as world
 use Rattle.vlt_sound_worlds.specs.Look.{look, IsLive}
 use Rattle.vlt_sound_worlds.proofs.Look.{live_within}

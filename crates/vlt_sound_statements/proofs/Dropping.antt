@@ -12,7 +12,7 @@ use Rattle.vlt_core.specs.KindedHeads.{unless, when_some}
 use Rattle.vlt_core.specs.declared.rules.TheConstants as rule
 use Rattle.vlt_core.specs.KindedScopes.{Ids, use_broken}
 use Rattle.vlt_core.specs.KindedStatements.{simple_broken, ids_after}
-use Rattle.vlt_meaning.specs.World.{Value, objects_in, Owner, gone, loose, is_loose, above, Object, World, Frame, no_value}
+use Rattle.vlt_meaning.specs.World.{objects_in, gone, loose, is_loose, above, Object, World, Frame, no_value}
 use Rattle.vlt_meaning.specs.World as world
 use Rattle.vlt_meaning.specs.Found.{or_fault}
 use Rattle.vlt_meaning.specs.Objects.{is_under, owned_at, objects_after_release}

@@ -12,7 +12,7 @@ use Rattle.vlt_core.specs.Derives.{Derives, DerivesBlock}
 use Rattle.vlt_core.specs.KindedHeads.{has}
 use Rattle.vlt_core.specs.KindedScopes.{Ids, with_key as with_key_bound, own_key, left_behind}
 use Rattle.vlt_core.specs.KindedBodies.{focus_broken, with_focus, in_focus, list_broken, ids_behind_block}
-use Rattle.vlt_meaning.specs.World.{Value, one, reference, adopted_by, above, gone, Object, Frame, World, is_lent_under, fault, missing, other_object, wrong_state, not_held}
+use Rattle.vlt_meaning.specs.World.{Value, one, reference, adopted_by, above, gone, Object, Frame, World, is_lent_under, missing, other_object, wrong_state, not_held}
 use Rattle.vlt_meaning.specs.World as world
 use Rattle.vlt_meaning.specs.Found.{◌>>=◌, Named, or_fault, if_so}
 use Rattle.vlt_meaning.specs.Objects.{in_states, with_owner, with_changed_object, named_in}

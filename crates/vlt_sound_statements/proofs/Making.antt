@@ -9,7 +9,7 @@ use Rattle.vlt_core.specs.Types.{with_keys, stands_for, header_of, keys_of_ty}
 use Rattle.vlt_core.specs.Maps.{absent, held, HeldMap}
 use Rattle.vlt_core.specs.KindedScopes.{Ids}
 use Rattle.vlt_core.specs.KindedStatements.{field_types}
-use Rattle.vlt_meaning.specs.World.{Value, objects_in, Owner, loose, inside, gone, adopted_by, above, Object, Frame}
+use Rattle.vlt_meaning.specs.World.{Value, objects_in, loose, inside, gone, adopted_by, above, Object, Frame}
 use Rattle.vlt_meaning.specs.World as world
 use Rattle.vlt_meaning.specs.Step.{with_key}
 use Rattle.vlt_sound_worlds.specs.Look.{look, IsLive}

@@ -11,7 +11,7 @@ use Rattle.vlt_core.specs.KindedHeads.{Rules, unless, when_some}
 use Rattle.vlt_core.specs.declared.rules.TheConstants as rule
 use Rattle.vlt_core.specs.KindedScopes.{Ids}
 use Rattle.vlt_core.specs.KindedStatements.{tracked_type, tracked_broken, struct_broken, owning_field_types, opened_types, opened_broken, with_bindings, simple_broken, ids_after}
-use Rattle.vlt_meaning.specs.World.{Value, objects_in, Owner, loose, inside, adopted_by, out, gone, is_inside, above, Object, World, Frame, missing}
+use Rattle.vlt_meaning.specs.World.{Value, Owner, loose, inside, adopted_by, out, gone, is_inside, above, Object, World, Frame, missing}
 use Rattle.vlt_meaning.specs.World as world
 use Rattle.vlt_meaning.specs.Found.{or_fault}
 use Rattle.vlt_meaning.specs.Objects.{is_releasable, objects_after_release}

@@ -7,7 +7,7 @@ use Rattle.vlt_core.specs.Lookups.{is_owning, fields_of, cases_of, release_set}
 use Rattle.vlt_core.specs.Maps.{HeldMap}
 use Rattle.vlt_core.specs.Types.{decl_of, is_struct, is_variant, is_filled, is_keyed, is_owning_type, owning_parts, holds_fast, is_droppable_struct, is_droppable, lies_within}
 use Rattle.vlt_core.specs.KindedScopes.{Ids}
-use Rattle.vlt_meaning.specs.World.{Part, Value, one, owned, objects_in, objects_in_part, Owner, loose, inside, adopted_by, gone, Object, Frame, above}
+use Rattle.vlt_meaning.specs.World.{Part, Value, objects_in, objects_in_part, Owner, loose, inside, adopted_by, gone, Object, Frame, above}
 use Rattle.vlt_meaning.specs.World as world
 use Rattle.vlt_sound_worlds.specs.Look.{look, IsLive}
 use Rattle.vlt_sound_worlds.specs.Members.{In}

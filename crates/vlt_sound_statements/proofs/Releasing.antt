@@ -10,7 +10,7 @@ use Rattle.vlt_core.specs.Types.{is_droppable_struct}
 use Rattle.vlt_core.specs.declared.rules.TheConstants as rule
 use Rattle.vlt_core.specs.KindedScopes.{Ids}
 use Rattle.vlt_core.specs.KindedStatements.{tracked_broken, droppable_broken, simple_broken, ids_after}
-use Rattle.vlt_meaning.specs.World.{Owner, gone, loose, above, Object, World, Frame, wrong_state}
+use Rattle.vlt_meaning.specs.World.{above, Object, World, Frame, wrong_state}
 use Rattle.vlt_meaning.specs.World as world
 use Rattle.vlt_meaning.specs.Objects.{is_releasable, objects_after_release}
 use Rattle.vlt_meaning.specs.Values.{object_of}

@@ -7,7 +7,7 @@ use Rattle.vlt_core.specs.Lookups.{var_type, is_owning, is_owning_var, owns, fie
 use Rattle.vlt_core.specs.Types.{with_keys, stands_for}
 use Rattle.vlt_core.specs.Maps.{full, HeldMap}
 use Rattle.vlt_core.specs.KindedScopes.{Ids}
-use Rattle.vlt_meaning.specs.World.{Value, objects_in, loose, inside, gone, adopted_by, above, Owner, Object, Frame}
+use Rattle.vlt_meaning.specs.World.{Value, objects_in, loose, inside, above, Object, Frame}
 use Rattle.vlt_meaning.specs.World as world
 use Rattle.vlt_meaning.specs.Objects.{with_cell}
 use Rattle.vlt_meaning.specs.Step.{set_at, with_var}

@@ -18,7 +18,7 @@ use Rattle.vlt_core.specs.Bodies.{flow_of_arms}
 use Rattle.vlt_core.specs.Derives.{DerivesArms}
 use Rattle.vlt_meaning.specs.World.{Value, Object, one, of_case, objects_in, objects_in_part, World, Frame, missing}
 use Rattle.vlt_meaning.specs.Found.{or_fault}
-use Rattle.vlt_meaning.specs.Step.{Step, with_found, with_filled}
+use Rattle.vlt_meaning.specs.Step.{Step, with_filled}
 use Rattle.vlt_meaning.specs.Step as step
 use Rattle.vlt_meaning.specs.Operands.{Case, case_in, with_case_opened, with_empty_variable}
 use Rattle.vlt_meaning.specs.Run.{Setup, Meaning, does_form, does_block, does_arm}

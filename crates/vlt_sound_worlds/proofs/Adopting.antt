@@ -6,7 +6,7 @@ use Rattle.vlt_core.specs.Maps.{Status, absent, kind_of, HeldMap, wants_in, beco
 use Rattle.vlt_core.specs.Rows.{simple_rows, row}
 use Rattle.vlt_core.specs.KindedScopes.{Ids, with_target, target_broken}
 use Rattle.vlt_core.specs.KindedStatements.{wanted_of, simple_broken, ids_after}
-use Rattle.vlt_meaning.specs.World.{one, owned, loose, objects_in, gone, World, Frame, no_value, missing, wrong_state, not_empty}
+use Rattle.vlt_meaning.specs.World.{one, owned, gone, World, Frame, missing, wrong_state}
 use Rattle.vlt_meaning.specs.Found.{◌>>=◌, or_fault, if_so}
 use Rattle.vlt_meaning.specs.Objects.{with_owner, in_states}
 use Rattle.vlt_meaning.specs.Values.{object_of, tracked_object}

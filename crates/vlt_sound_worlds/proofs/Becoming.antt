@@ -11,7 +11,7 @@ use Rattle.vlt_core.specs.KindedHeads.{unless, when_some, state_broken}
 use Rattle.vlt_core.specs.declared.rules.TheConstants as rule
 use Rattle.vlt_core.specs.KindedScopes.{Ids}
 use Rattle.vlt_core.specs.KindedStatements.{tracked_broken, struct_broken, simple_broken, ids_after}
-use Rattle.vlt_meaning.specs.World.{Owner, Object, World, Frame, adopted_by, gone}
+use Rattle.vlt_meaning.specs.World.{Object, World, Frame, adopted_by, gone}
 use Rattle.vlt_meaning.specs.World as world
 use Rattle.vlt_meaning.specs.Objects.{with_state, with_changed_object}
 use Rattle.vlt_meaning.specs.Values.{object_of}

@@ -1,16 +1,15 @@
 -- The fact under a map that allows more, in a smaller scope, and where a block is left.
-use Rattle.std.proofs.Common.{◌≡◌, ◌⊎◌, inl, inr, ⊎_elim, ℕ, zero, suc, ◌==◌, Bool, true, false, ◌&&◌, ◌||◌, not, IsTrue, if◌then◌else◌, List, [], ◌∷◌, map, Option, Some, None, is_none, refl, sym, ap, ◌∙◌, subst, slice_get}
+use Rattle.std.proofs.Common.{◌≡◌, ◌⊎◌, ⊎_elim, ℕ, suc, ◌==◌, Bool, true, false, not, if◌then◌else◌, List, [], ◌∷◌, map, Option, Some, None, is_none, refl, sym, ap, ◌∙◌, subst, slice_get}
 use Rattle.std.proofs.lemmas.Bool.{cases_Bool, eqb-true}
 use Rattle.std.specs.List.{list_any, list_all}
 use Rattle.vlt_core.specs.Core.{Tok, a_key, a_var, Func, Program}
 use Rattle.vlt_core.specs.Lookups.{is_owning_var}
 use Rattle.vlt_core.specs.Maps as maps
-use Rattle.vlt_core.specs.Maps.{Status, absent, held, lent, full, kind_of, is_absent, HeldMap, IsStatusBelow, IsBelow, row_passed, is_tok, CanPass, map_after}
+use Rattle.vlt_core.specs.Maps.{Status, absent, held, lent, full, kind_of, is_absent, HeldMap, IsBelow, row_passed, is_tok, CanPass, map_after}
 use Rattle.vlt_core.specs.KindedScopes.{Ids}
 use Rattle.vlt_meaning.specs.World.{Value, Owner, Object, Frame, World, is_held_under, left_behind}
 use Rattle.vlt_meaning.specs.World as world
-use Rattle.vlt_meaning.specs.Step.{Step, goes, jumps, left_block, is_unused, are_unused}
-use Rattle.vlt_sound_worlds.specs.Look.{look}
+use Rattle.vlt_meaning.specs.Step.{goes, jumps, left_block, is_unused, are_unused}
 use Rattle.vlt_sound_worlds.proofs.Look.{look_is}
 use Rattle.vlt_sound_worlds.specs.Keys.{IsUnder}
 use Rattle.vlt_sound_worlds.proofs.KeysLaws.{key_below, none_under}

@@ -1,33 +1,30 @@
 -- What is handed over goes under a key that had nothing.
-use Rattle.std.proofs.Common.{◌≡◌, ◌⊎◌, inl, inr, ⊎_elim, ℕ, ◌<◌, ◌≤◌, Bool, true, false, IsTrue, List, [], ◌∷◌, ◌++◌, length, Option, Some, None, refl, sym, ap, ◌∙◌, subst, arith, slice_get}
+use Rattle.std.proofs.Common.{◌≡◌, ◌⊎◌, inl, ⊎_elim, ℕ, ◌<◌, ◌≤◌, IsTrue, List, [], ◌∷◌, ◌++◌, length, Some, refl, sym, ap, ◌∙◌, subst, arith}
 use Rattle.std.proofs.lemmas.Bool.{cases_eq}
-use Rattle.std.proofs.lemmas.Option.{same_Some}
-use Rattle.vlt_core.specs.Core.{States, Ty, Tok, a_key, a_var, Func, Program}
-use Rattle.vlt_core.specs.Lookups.{var_type, is_owning_var, key_type}
-use Rattle.vlt_core.specs.Maps.{Status, absent, held, HeldMap}
+use Rattle.vlt_core.specs.Core.{States, a_key, a_var, Func, Program}
+use Rattle.vlt_core.specs.Lookups.{is_owning_var, key_type}
+use Rattle.vlt_core.specs.Maps.{absent, held, HeldMap}
 use Rattle.vlt_core.specs.Types.{keys_of_ty}
 use Rattle.vlt_core.specs.KindedScopes.{Ids}
-use Rattle.vlt_meaning.specs.World.{Value, one, owned, objects_in, Owner, loose, adopted_by, gone, above, Object, Frame}
+use Rattle.vlt_meaning.specs.World.{one, owned, objects_in, loose, adopted_by, gone, Object, Frame}
 use Rattle.vlt_meaning.specs.World as world
 use Rattle.vlt_meaning.specs.Objects.{with_changed_object, with_owner}
 use Rattle.vlt_meaning.specs.Step.{with_key}
-use Rattle.vlt_sound_worlds.specs.Look.{look, IsLive, ChangesOne}
+use Rattle.vlt_sound_worlds.specs.Look.{look, ChangesOne}
 use Rattle.vlt_sound_worlds.proofs.Look.{changes_one, owns_one}
 use Rattle.vlt_sound_worlds.proofs.Ranks.{ranked_root}
 use Rattle.vlt_sound_worlds.specs.Members.{In}
-use Rattle.vlt_sound_worlds.specs.Placed.{IsOwned}
-use Rattle.vlt_sound_worlds.specs.Roots.{Root, in_var, in_hand, in_wait, in_cell, cell_of, content, home, owner_of}
+use Rattle.vlt_sound_worlds.specs.Roots.{Root, in_var, in_hand, in_wait, in_cell, cell_of, content, home}
 use Rattle.vlt_sound_worlds.proofs.Placed as placed
 use Rattle.vlt_sound_worlds.proofs.Roots.{same_root}
 use Rattle.vlt_sound_worlds.specs.Keys.{KeyAgrees, IsUnder, IsOfType}
 use Rattle.vlt_sound_worlds.proofs.KeysLaws.{key_kept, key_held, none_under, under_one}
-use Rattle.vlt_sound_worlds.specs.Scene.{Focus, Scene}
-use Rattle.vlt_sound_worlds.specs.Fits.{Names, Fits}
+use Rattle.vlt_sound_worlds.specs.Scene.{Focus}
 use Rattle.vlt_sound_worlds.proofs.Fits.{fits_named}
-use Rattle.vlt_sound_worlds.specs.Agrees.{HasVar, InScope, VarsFit, Handed, values_of, FitHanded, Pin, Context, FociAgree, PinsAgree, scene, stock, Agrees}
+use Rattle.vlt_sound_worlds.specs.Agrees.{HasVar, Handed, values_of, FitHanded, Pin, Context, FociAgree, PinsAgree, scene, stock, Agrees}
 use Rattle.vlt_sound_worlds.specs.Scopes.{NoneSpeaks, NonePins, IsFresh}
 use Rattle.vlt_sound_worlds.proofs.FrameChanges.{set_here, set_other}
-use Rattle.vlt_sound_worlds.proofs.FrameOwners.{Moves, agrees_owner, owner_heads, ChangesTok, cells_stay}
+use Rattle.vlt_sound_worlds.proofs.FrameOwners.{agrees_owner, owner_heads, ChangesTok, cells_stay}
 use Rattle.vlt_sound_worlds.proofs.Leaving.{key_same, var_is_no_key, length_changed}
 
 module _ {p : Program} {f : Func} {c : Context} {h : HeldMap} {ids : Ids} {x : Handed} {hand : List Handed} {frame : Frame} {os : List Object}

@@ -16,7 +16,7 @@ use Rattle.vlt_core.specs.KindedHeads.{unless}
 use Rattle.vlt_core.specs.KindedScopes.{Ids, use_broken}
 use Rattle.vlt_core.specs.KindedOperands.{misfit, object_in, is_permitted, field_decl, field_type, field_type_in, unless_owning, given_by, type_of_expr, is_basic, basic_broken, basic_only, left_broken, right_wanted, touch_broken, not_owning_broken, expr_broken}
 use Rattle.vlt_core.specs.declared.rules.TheConstants as rule
-use Rattle.vlt_meaning.specs.World.{Object, Frame, Value, one, Part, trap, is_fault}
+use Rattle.vlt_meaning.specs.World.{Object, Frame, Value, one}
 use Rattle.vlt_meaning.specs.World as world
 use Rattle.vlt_meaning.specs.Found.{Found, ◌>>=◌, or_fault}
 use Rattle.vlt_meaning_laws.proofs.Keeping.{err-ok}

@@ -6,7 +6,7 @@ use Rattle.vlt_core.specs.Core.{Func, Program}
 use Rattle.vlt_core.specs.Lookups.{fields_of, all_states}
 use Rattle.vlt_core.specs.Maps.{HeldMap}
 use Rattle.vlt_core.specs.KindedScopes.{Ids}
-use Rattle.vlt_meaning.specs.World.{Value, Owner, loose, adopted_by, out, gone, Object, Frame}
+use Rattle.vlt_meaning.specs.World.{Owner, adopted_by, out, gone, Object, Frame}
 use Rattle.vlt_meaning.specs.World as world
 use Rattle.vlt_meaning.specs.Externals.{from_host}
 use Rattle.vlt_sound_worlds.specs.Look.{look, IsLive}

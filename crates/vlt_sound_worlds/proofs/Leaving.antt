@@ -5,7 +5,7 @@ use Rattle.vlt_core.specs.Core.{Tok, a_key, a_var, Func, Program}
 use Rattle.vlt_core.specs.Lookups.{key_type}
 use Rattle.vlt_core.specs.Maps.{absent, HeldMap}
 use Rattle.vlt_core.specs.KindedScopes.{Ids}
-use Rattle.vlt_meaning.specs.World.{Value, objects_in, Owner, adopted_by, gone, Object, Frame}
+use Rattle.vlt_meaning.specs.World.{objects_in, Owner, adopted_by, gone, Object, Frame}
 use Rattle.vlt_meaning.specs.World as world
 use Rattle.vlt_meaning.specs.Objects.{with_owner}
 use Rattle.vlt_sound_worlds.specs.Look.{look, IsLive, ChangesOne}

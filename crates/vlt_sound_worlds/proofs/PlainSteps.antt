@@ -1,7 +1,7 @@
 -- Statements without blocks that call nothing end in no fault, and keep the fact.
 use Rattle.std.proofs.Common.{◌≡◌, ⊎_elim, ℕ, ℤ, Bool, true, false, if◌then◌else◌, [], ◌++◌, Option, Some, Ok, Err, refl, sym, ap, ◌∙◌, subst}
 use Rattle.std.proofs.lemmas.Bool.{cases_Bool}
-use Rattle.vlt_core.specs.Core.{Ty, int, bool, variant, Tok, a_key, a_var, Expr, Simple, set, print, own, Operand, pure, move, pack, Func, Program}
+use Rattle.vlt_core.specs.Core.{Ty, int, bool, Expr, Simple, set, print, Func, Program}
 use Rattle.vlt_core.specs.Core as core
 use Rattle.vlt_core.specs.Lookups.{var_type, is_owning}
 use Rattle.vlt_core.specs.Maps.{HeldMap, CanPass, map_after}
@@ -11,7 +11,7 @@ use Rattle.vlt_core.specs.KindedScopes.{Ids, with_target, target_broken}
 use Rattle.vlt_core.specs.KindedOperands.{misfit, is_basic, type_of_expr, expr_broken}
 use Rattle.vlt_core.specs.KindedStatements.{set_broken, simple_broken, ids_after}
 use Rattle.vlt_core.specs.declared.rules.TheConstants as rule
-use Rattle.vlt_meaning.specs.World.{Value, one, objects_in, Object, World, Frame}
+use Rattle.vlt_meaning.specs.World.{Value, one, World, Frame}
 use Rattle.vlt_meaning.specs.World as world
 use Rattle.vlt_meaning.specs.Found.{Found, ◌>>=◌}
 use Rattle.vlt_meaning.specs.Values.{value_of, number_in}

@@ -5,7 +5,7 @@ use Rattle.vlt_core.specs.Core.{States, a_key, a_var, Func, Program}
 use Rattle.vlt_core.specs.Lookups.{key_type, is_owning_var}
 use Rattle.vlt_core.specs.Maps.{absent, held, HeldMap}
 use Rattle.vlt_core.specs.KindedScopes.{Ids}
-use Rattle.vlt_meaning.specs.World.{Owner, adopted_by, out, gone, Object, Frame}
+use Rattle.vlt_meaning.specs.World.{adopted_by, out, gone, Object, Frame}
 use Rattle.vlt_meaning.specs.World as world
 use Rattle.vlt_meaning.specs.Objects.{with_changed_object, with_owner}
 use Rattle.vlt_sound_worlds.specs.Look.{look, ChangesOne}

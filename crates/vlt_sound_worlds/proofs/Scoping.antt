@@ -1,7 +1,7 @@
 -- Statements that break no rule keep what is known of a scope.
 use Rattle.std.proofs.Common.{◌≡◌, ℕ, nat_lt, ◌==◌, Bool, true, false, if◌then◌else◌, List, [], ◌∷◌, ◌++◌, length, map, Option, Some, None, refl, slice_get}
 use Rattle.std.specs.List.{flat_map, enumerate_from}
-use Rattle.vlt_core.specs.Core.{bool, int, Expr, Operand, Form, simple, call, choose, loop, switch, focus, scope, return, jump, Arms, no_arms, arm, Simple, set, input, print, put, make, become, release, drop, own, unpack, build, swap, open_into, adopt, Func, Program}
+use Rattle.vlt_core.specs.Core.{bool, int, Operand, Form, simple, call, choose, loop, switch, focus, scope, return, jump, Arms, no_arms, arm, Simple, set, input, print, put, make, become, release, drop, own, unpack, build, swap, open_into, adopt, Func, Program}
 use Rattle.vlt_core.specs.Core as core
 use Rattle.vlt_core.specs.Lookups.{var_type, is_owning, is_owning_var}
 use Rattle.vlt_core.specs.KindedHeads.{unless, parameters_of}

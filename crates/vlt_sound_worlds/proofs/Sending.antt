@@ -7,7 +7,7 @@ use Rattle.vlt_core.specs.Lookups.{key_type, is_owning_var}
 use Rattle.vlt_core.specs.Maps.{HeldMap}
 use Rattle.vlt_core.specs.KindedHeads.{has}
 use Rattle.vlt_core.specs.KindedScopes.{Ids}
-use Rattle.vlt_meaning.specs.World.{Owner, loose, adopted_by, out, gone, above, Object, Frame}
+use Rattle.vlt_meaning.specs.World.{Owner, loose, adopted_by, out, gone, Object, Frame}
 use Rattle.vlt_meaning.specs.World as world
 use Rattle.vlt_sound_worlds.specs.Look.{look, IsLive}
 use Rattle.vlt_sound_worlds.proofs.Look.{live_within}

@@ -11,7 +11,7 @@ use Rattle.vlt_core.specs.Types.{lies_within}
 use Rattle.vlt_core.specs.KindedHeads.{has, unless}
 use Rattle.vlt_core.specs.declared.rules.TheConstants as rule
 use Rattle.vlt_core.specs.KindedScopes.{Ids, use_broken}
-use Rattle.vlt_meaning.specs.World.{Object, Frame, Value, one, reference, is_held_under, is_adopted_by, adopted_by, gone, wrong_state}
+use Rattle.vlt_meaning.specs.World.{Object, Frame, one, reference, adopted_by, gone, wrong_state}
 use Rattle.vlt_meaning.specs.World as world
 use Rattle.vlt_meaning.specs.Found.{Named, ◌>>=◌, if_so}
 use Rattle.vlt_meaning.specs.Objects.{in_states}

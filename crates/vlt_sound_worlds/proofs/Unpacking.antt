@@ -6,7 +6,7 @@ use Rattle.vlt_core.specs.Maps.{absent, held, HeldMap, wants_absent, becomes_hel
 use Rattle.vlt_core.specs.Rows.{simple_rows, row, empty_row}
 use Rattle.vlt_core.specs.KindedScopes.{Ids, own_key, tracked_key, with_binding, use_broken, fresh_broken, binding_broken}
 use Rattle.vlt_core.specs.KindedStatements.{wanted_of, is_owning_object, is_tracked_type, owning_object, tracked_type, objects_apart, simple_broken, ids_after}
-use Rattle.vlt_meaning.specs.World.{Value, one, reference, owned, Owner, loose, is_loose, Object, World, Frame, missing, no_value, wrong_state, not_owned}
+use Rattle.vlt_meaning.specs.World.{one, reference, owned, loose, is_loose, World, Frame, missing}
 use Rattle.vlt_meaning.specs.World as world
 use Rattle.vlt_meaning.specs.Found.{◌>>=◌, or_fault}
 use Rattle.vlt_meaning.specs.Objects.{with_owner, in_states, owned_at}

@@ -6,7 +6,7 @@ use Rattle.vlt_lexer.specs.declared.token.Mark.TheVariants as mark
 use Rattle.vlt_lexer.specs.Reading.{Lexeme}
 use Rattle.vlt_syntax.specs.Tokens.{Token, keyword, sign, tokens_in}
 use Rattle.vlt_syntax.specs.Tree as s
-use Rattle.vlt_syntax.specs.Tree.{Name, States, KeyStates, Named, Ty, Expr, Build, Call, Init, Right, Returned, Stmt, Block, If, Else, Stmts, Arms, SetState, HeaderKey, Field, Case, Entry, ResultType, Parameter, Head, Decl, Tree}
+use Rattle.vlt_syntax.specs.Tree.{States, Expr, If, Else, Case, Entry, Tree}
 use Rattle.vlt_syntax.specs.Lists.{each_then, further_then, listed_then, enclosed_then, Each, IsFilled}
 use Rattle.vlt_syntax.specs.Spelling.{name_then, case_name_then, marked_name_then, states_then, at_states_then, key_states_then, named_then, ty_then, sign_of, expr_then, build_then, call_then, init_then, owner_then, right_then, returned_then, stmt_then, block_then, if_then, else_then, stmts_then, arms_then, state_sign, further_states_then, set_states_then, header_key_then, header_then, field_then, release_then, case_then, entry_then, result_type_then, parameter_then, clause_then, head_then, decl_then, spelling}
 use Rattle.vlt_syntax.specs.Grammar.{Bounds, language, level, depth, BindsFrom, IsStates, IsKeyStates, IsTy, IsExpr, IsInit, IsRight, IsReturned, IsSomeArm, IsStmt, IsBlock, IsIf, IsElse, AreStmts, AreArms, BeginsChain, IsField, IsCase, IsEntry, IsResultType, IsParameter, IsHead, IsDecl, IsTree, IsPlacedTreeOf}

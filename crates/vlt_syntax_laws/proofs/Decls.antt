@@ -7,13 +7,13 @@ use Rattle.vlt_syntax.specs.Tokens as t
 use Rattle.vlt_syntax.specs.Tokens.{Token}
 use Rattle.vlt_automaton.specs.Words.{same_mark}
 use Rattle.vlt_syntax.specs.Tree as s
-use Rattle.vlt_syntax.specs.Tree.{Name, Named, Ty, States, KeyStates, SetState, HeaderKey, Field, Case, Entry, ResultType, Parameter, Head, Decl, Tree, Expr, Returned}
+use Rattle.vlt_syntax.specs.Tree.{Name, Ty, States, KeyStates, SetState, HeaderKey, Field, Entry, ResultType, Parameter, Head, Decl, Tree}
 use Rattle.vlt_syntax.specs.Lists.{Each, listed_then, enclosed_then, further_then, each_then}
 use Rattle.vlt_syntax.specs.Spelling.{name_then, state_sign, further_states_then, states_then, at_states_then, ty_then, field_then, release_then, case_then, entry_then, key_states_then, parameter_then, header_key_then, result_type_then, clause_then, decl_then, marked_name_then, spelling}
 use Rattle.vlt_syntax.specs.Grammar.{IsTy, IsStates, IsKeyStates, IsField, IsCase, IsEntry, IsResultType, IsParameter, IsHead, IsDecl, IsTree, Bounds}
-use Rattle.vlt_automaton.specs.Automaton.{to, Left, Symbol, Thing, a_name, a_param, a_ty, a_key, a_case, a_parameter, an_entry, thing, further, listed, enclosed, marked_name, sign, name, at_states, named, clause, head, block, further_states, fields, decls, less, arrow_states, behind_entry_at, states, entry_states, parameters_left}
+use Rattle.vlt_automaton.specs.Automaton.{to, Left, Symbol, Thing, a_param, a_ty, a_key, a_case, a_parameter, an_entry, thing, further, listed, enclosed, marked_name, sign, name, at_states, named, clause, head, block, further_states, fields, decls, less, arrow_states, behind_entry_at, states, entry_states, parameters_left}
 use Rattle.vlt_syntax_laws.proofs.After.{after}
-use Rattle.vlt_syntax_laws.proofs.Takes.{Any, any, name_before, same, Takes, take_some, take_ty, take_named, keys_there, plain_keys, take_states, ends_type}
+use Rattle.vlt_syntax_laws.proofs.Takes.{same, Takes, take_some, take_ty, take_named, keys_there, plain_keys, take_states, ends_type}
 use Rattle.vlt_syntax_laws.proofs.Stmts.{take_block, take_right, take_returned}
 use Rattle.vlt_syntax_laws.proofs.Wider.{wider}
 

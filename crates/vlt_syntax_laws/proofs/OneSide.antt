@@ -5,7 +5,7 @@ use Rattle.vlt_lexer.specs.declared.token.Mark.TheVariants as mark
 use Rattle.vlt_syntax.specs.Tokens as t
 use Rattle.vlt_syntax.specs.Tokens.{Token}
 use Rattle.vlt_syntax.specs.Tree as s
-use Rattle.vlt_syntax.specs.Tree.{Name, Named, Expr, Build, Call, Init, Right, Returned}
+use Rattle.vlt_syntax.specs.Tree.{Name, Expr, Build, Call, Init, Right, Returned}
 use Rattle.vlt_syntax.specs.Lists.{listed_then, Each}
 use Rattle.vlt_syntax.specs.Spelling.{name_then, named_then, expr_then, build_then, call_then, init_then, owner_then, right_then, returned_then}
 use Rattle.vlt_syntax.specs.Grammar.{BindsFrom}

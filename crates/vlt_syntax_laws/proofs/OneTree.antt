@@ -11,7 +11,7 @@ use Rattle.vlt_syntax.specs.Lists.{each_then, enclosed_then, listed_then, Each, 
 use Rattle.vlt_syntax.specs.Spelling.{name_then, marked_name_then, states_then, at_states_then, key_states_then, ty_then, state_sign, further_states_then, set_states_then, header_key_then, header_then, field_then, release_then, case_then, entry_then, result_type_then, parameter_then, clause_then, head_then, block_then, decl_then, spelling}
 use Rattle.vlt_syntax.specs.Grammar.{Bounds, IsStates, IsKeyStates, IsTy, BeginsChain, IsField, IsCase, IsEntry, IsResultType, IsParameter, IsHead, IsDecl, IsTree, IsPlacedTreeOf, language}
 use Rattle.vlt_syntax.specs.Places.{without_tokens, ◌◂◌, ◌⊛◌, with_span, cons, each_at, further_at, listed_at, enclosed_at, marked_at, name_at, key_states_at, ty_at, set_state_at, header_key_at, field_at, release_at, case_at, entry_at, result_type_at, parameter_at, clause_at, head_at, decl_at, tree_at, span_in}
-use Rattle.vlt_syntax_laws.proofs.OneType.{two, three, Same, One, NoSign, Anything, all_any, EndsType, one_some, one_listed, one_enclosed, one_name, one_case_name, one_names, one_marked_name, one_states, one_at_states, one_key_states, one_ty}
+use Rattle.vlt_syntax_laws.proofs.OneType.{two, three, Same, One, NoSign, Anything, all_any, EndsType, one_some, one_listed, one_enclosed, one_name, one_case_name, one_marked_name, one_states, one_at_states, one_key_states, one_ty}
 use Rattle.vlt_syntax_laws.proofs.OneStmt.{one_block}
 
 -- ---- parts of types' declarations

@@ -5,7 +5,7 @@ use Rattle.vlt_lexer.specs.declared.token.Mark.TheVariants as mark
 use Rattle.vlt_syntax.specs.Tokens as t
 use Rattle.vlt_syntax.specs.Tokens.{Token}
 use Rattle.vlt_syntax.specs.Tree as s
-use Rattle.vlt_syntax.specs.Tree.{Name, States, KeyStates, Named, Ty}
+use Rattle.vlt_syntax.specs.Tree.{Name, States, KeyStates, Named}
 use Rattle.vlt_syntax.specs.Lists.{further_then, listed_then, enclosed_then, Each, IsFilled}
 use Rattle.vlt_syntax.specs.Spelling.{name_then, case_name_then, marked_name_then, states_then, at_states_then, key_states_then, named_then, ty_then}
 use Rattle.vlt_syntax.specs.Grammar.{IsStates, IsKeyStates, IsTy}

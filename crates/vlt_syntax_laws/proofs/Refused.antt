@@ -11,7 +11,7 @@ use Rattle.vlt_syntax.specs.Tree.{Tree}
 use Rattle.vlt_syntax.specs.Grammar.{Bounds, IsTree, language}
 use Rattle.vlt_syntax.specs.Spelling.{spelling}
 use Rattle.vlt_syntax.specs.Refusals as g
-use Rattle.vlt_syntax.specs.Refusals.{bound_of, Asked, any_size, within, IsOneOf, Continues, IsEndOf, IsUnexpectedAt, IsOverLimitAt, IsCutShort, Cause, IsRefusedAt, number, IsFirstRefused, Refusal, unexpected_at, over_limit, ended, BeginsAt, IsRefusal}
+use Rattle.vlt_syntax.specs.Refusals.{bound_of, Asked, any_size, within, IsOneOf, Continues, IsUnexpectedAt, IsOverLimitAt, Cause, IsRefusedAt, number, IsFirstRefused, Refusal, unexpected_at, over_limit, ended, IsRefusal}
 use Rattle.vlt_automaton.specs.Automaton.{Symbol, Left, Next, to, unexpected, over, step, start, decls, may_end, Verdict, run, located_of}
 use Rattle.vlt_syntax_laws.proofs.Wider.{wider}
 use Rattle.vlt_syntax_laws.proofs.After.{after, onward, IsTo}

@@ -7,7 +7,7 @@ use Rattle.vlt_lexer.specs.declared.token.Mark.TheVariants as mark
 use Rattle.vlt_syntax.specs.Tokens as t
 use Rattle.vlt_syntax.specs.Tokens.{Token}
 use Rattle.vlt_syntax.specs.Tree as s
-use Rattle.vlt_syntax.specs.Tree.{Name, Named, Ty, Expr, Init, Right, Returned, Stmt, Block, If, Else, Stmts, Arms}
+use Rattle.vlt_syntax.specs.Tree.{Name, Ty, Expr, Init, Right, Returned, Stmt, Block, If, Else, Stmts, Arms}
 use Rattle.vlt_syntax.specs.Lists.{Each, further_then, listed_then, enclosed_then}
 use Rattle.vlt_syntax.specs.Spelling.{operator_of, name_then, expr_then, ty_then, right_then, init_then, sign_of, returned_then, stmt_then, block_then, else_then, stmts_then, arms_then}
 use Rattle.vlt_syntax.specs.Grammar.{IsExpr, IsInit, IsTy, IsRight, IsReturned, IsStmt, IsBlock, IsIf, IsElse, AreStmts, AreArms, IsSomeArm, Bounds, level}

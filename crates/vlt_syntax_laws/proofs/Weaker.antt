@@ -1,7 +1,7 @@
 -- A tree within some bounds is within wider ones.
 use Rattle.std.proofs.Common.{ℕ, ◌-◌, ◌≤◌, List, [], ◌∷◌, arith}
 use Rattle.vlt_syntax.specs.Tree as s
-use Rattle.vlt_syntax.specs.Tree.{Expr, Build, Call, Init, Right, Returned, Stmt, Block, If, Else, Stmts, Arms, Case, Head, Decl, Tree}
+use Rattle.vlt_syntax.specs.Tree.{Expr, Right, Returned, Stmt, Block, If, Else, Stmts, Arms, Case, Head, Decl, Tree}
 use Rattle.vlt_syntax.specs.Lists.{Each}
 use Rattle.vlt_syntax.specs.Grammar.{Bounds, language, IsExpr, IsInit, IsRight, IsReturned, IsStmt, IsBlock, IsIf, IsElse, AreStmts, AreArms, IsCase, IsHead, IsDecl, IsTree}
 use Rattle.vlt_syntax_laws.proofs.Wider.{wider}

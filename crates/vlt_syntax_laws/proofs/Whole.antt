@@ -8,7 +8,7 @@ use Rattle.vlt_base.specs.declared.places.Span.{Span}
 use Rattle.vlt_syntax.specs.Tokens as t
 use Rattle.vlt_syntax.specs.Tokens.{Token}
 use Rattle.vlt_syntax.specs.Tree as s
-use Rattle.vlt_syntax.specs.Tree.{Name, States, KeyStates, Named, Ty, Expr, HeaderKey, Case, Parameter, Entry, Init, ResultType, Stmt, Decl, Head, Block}
+use Rattle.vlt_syntax.specs.Tree.{Name, Named, Case, Head}
 use Rattle.vlt_syntax.specs.Lists.{Each, further_then}
 use Rattle.vlt_syntax.specs.Spelling.{name_then}
 use Rattle.vlt_automaton.specs.Automaton.{Left, Thing, a_name, a_param, a_ty, a_key, a_case, a_parameter, an_entry, an_expr, an_init, a_result_type, a_simple, a_stmt, a_decl, Symbol, tick, sign, keyword, thing, further, listed, enclosed, marked_name, states, at_states, named, behind_tracked, behind_type_name, operand, operations, behind_name, close_group, end_expr, owner, right, behind_right_name, returned, block, stmts, behind_stmt_name, otherwise, behind_else, arm, arms, entry_states, behind_entry_at, arrow_states, clause, head, further_states, fields, behind_fields, decls, Reaction, take, skip, refuse, exceed, with_behind, start_thing, less, one_more, reaction, react_further, depth_read, whole_depth}

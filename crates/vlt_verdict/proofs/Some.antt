@@ -1,6 +1,5 @@
 -- It can't be that a tree that a text has is of no verdict.
 use Rattle.std.proofs.Common.{◌≡◌, inl, inr, Result, Ok, Err, refl}
-use Rattle.vlt_syntax.specs.Tree.{Tree}
 use Rattle.vlt_core.specs.Core.{Program}
 use Rattle.vlt_core_laws.specs.Fit.{IsWellFormed}
 use Rattle.vlt_verdict.specs.FitLaws.Fit.{ProgramsAreFit}

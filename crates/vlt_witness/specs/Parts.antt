@@ -6,7 +6,7 @@ use Rattle.vlt_core.specs.Flow.{Flow, Block, Stmts, Arms, no_arms, arm}
 use Rattle.vlt_core.specs.Found.{One, to_next, to_break, to_continue}
 use Rattle.vlt_core.specs.Faults.{head_spot, spots, spots_block, spots_stmts, spots_arms}
 use Rattle.vlt_core.specs.Witness as w
-use Rattle.vlt_core.specs.Witness.{Choice, choice, case_arm, turn, exit, LeadsOn, Through, ThroughBlock, ThroughStmts, Met, MetHere, MetBlock, MetStmts}
+use Rattle.vlt_core.specs.Witness.{Choice, choice, case_arm, turn, exit, LeadsOn, Through, ThroughBlock, ThroughStmts, Met, MetBlock, MetStmts}
 use Rattle.vlt_core.specs.declared.notes.Pick.{Pick}
 use Rattle.vlt_core.specs.FaultView.{pick_of}
 use Rattle.vlt_rows.specs.declared.sink.RowError.{RowError}

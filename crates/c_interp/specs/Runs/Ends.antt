@@ -1,5 +1,5 @@
 -- How `crun` ends, in the order in which it refuses: the text, the input, the answers, the width of the machine, the run.
-use Rattle.std.specs.Prelude.{◌<◌, ℕ, ℤ, List, Option, Err}
+use Rattle.std.specs.Prelude.{◌<◌, ℕ, ℤ, List, Option}
 use Rattle.vlt_base.specs.declared.Budgets.{Budgets}
 use Rattle.vlt_base.specs.declared.places.Span.{Span}
 use Rattle.vlt_base.specs.Limits.{limit_of}

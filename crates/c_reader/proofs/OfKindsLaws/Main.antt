@@ -1,18 +1,18 @@
 -- The function that a run begins with has no parameters.
-use Rattle.std.proofs.Common.{◌≡◌, ℕ, zero, suc, ◌+◌, ◌-◌, ◌==◌, ◌&&◌, ◌||◌, IsTrue, Bool, true, false, not, if◌then◌else◌, List, [], ◌∷◌, map, length, slice_get, Option, Some, None, refl, sym, ap, ◌∙◌, subst, arith}
+use Rattle.std.proofs.Common.{◌≡◌, ℕ, zero, suc, ◌+◌, ◌-◌, ◌==◌, ◌&&◌, ◌||◌, IsTrue, Bool, true, false, not, if◌then◌else◌, List, [], ◌∷◌, length, slice_get, Some, None, refl, sym, ap, ◌∙◌, subst, arith}
 use Rattle.std.proofs.lemmas.Bool.{false≢true}
 use Rattle.std.proofs.lemmas.Bool.Decides.{nat_tests}
 use Rattle.std.proofs.lemmas.Option.{none-some, same_Some}
 use Rattle.std.proofs.lemmas.List.{length-map}
 use Rattle.c_syntax.specs.declared.program.CName.{CName}
 use Rattle.c_syntax.specs.C.{Func, Program}
-use Rattle.c_syntax.specs.Unit.{Declaration, Head, Body, TranslationUnit}
+use Rattle.c_syntax.specs.Unit.{Head, Body, TranslationUnit}
 use Rattle.c_syntax.specs.Kinds as k
 use Rattle.c_syntax.specs.Kinds.{Walk, same_bool, same_name, has_name, is_main, has_main, heads_of, names_of}
 use Rattle.c_syntax.specs.Programs.{IsFuncOf, AreFuncsOf, bodies_of, IsProgramOf}
-use Rattle.c_meaning.specs.Run.{Numbered, number_at, count_in, count_in_all, main_of}
+use Rattle.c_meaning.specs.Run.{Numbered, number_at, count_in, count_in_all}
 use Rattle.c_machine.specs.Machine.{IsRunnable}
-use Rattle.c_reader.proofs.OfKindsLaws.Declared.{quiet, kept, params_quiet, declarations_quiet, stmts_good, body_good, bodies_good, kinds_declare}
+use Rattle.c_reader.proofs.OfKindsLaws.Declared.{quiet, kept, params_quiet, declarations_quiet, stmts_good, bodies_good, kinds_declare}
 
 -- ---- equal names
 

@@ -1,5 +1,5 @@
 -- What a refusal is told at is no further than the last token.
-use Rattle.std.proofs.Common.{◌≡◌, ◌≤◌, ℕ, zero, suc, ◌-◌, IsTrue, Bool, true, false, not, if◌then◌else◌, List, [], ◌∷◌, drop, Option, Some, None, refl, subst, arith}
+use Rattle.std.proofs.Common.{◌≡◌, ◌≤◌, ℕ, zero, suc, ◌-◌, Bool, true, false, not, if◌then◌else◌, List, [], ◌∷◌, drop, Option, Some, None, subst, arith}
 use Rattle.c_syntax.specs.declared.program.CVar.{CVar}
 use Rattle.c_syntax.specs.declared.program.CResult.TheVariants as result
 use Rattle.c_syntax.specs.C as c

@@ -15,9 +15,9 @@ use Rattle.c_syntax.specs.View.{stmts_made}
 use Rattle.c_syntax.specs.Unit.{Head, Body}
 use Rattle.c_syntax.specs.Tokens as t
 use Rattle.c_syntax.specs.Tokens.{Token, token_text}
-use Rattle.c_syntax.specs.Spelling.{prefix_sign, type_then, declaration_then, result_then, cell_then, expr_then, arg_token, more_args_then, args_then, call_then, stmt_then, stmts_then, more_params_then, params_then, head_then, heads_then, vars_then, body_then, bodies_then, functions_then}
+use Rattle.c_syntax.specs.Spelling.{type_then, declaration_then, result_then, cell_then, expr_then, arg_token, more_args_then, args_then, call_then, stmt_then, stmts_then, more_params_then, params_then, head_then, heads_then, vars_then, body_then, bodies_then, functions_then}
 use Rattle.c_syntax.specs.Canonical.{begins_else, space, declaration_of, head_of, body_of, unit_of, gap, text_of_tokens, canonical_text, main_number, line_feed}
-use Rattle.c_reader_laws.specs.PrinterLaws.Sizes.{size_of, tokens_size, variable_size, name_size, number_size, operator_size, cell_size, expr_size, arg_size, more_args_size, args_size, call_size, stmt_size, stmts_size, list_size, type_size, result_size, declaration_size, more_params_size, params_size, vars_size, head_size, funcs_size, program_size}
+use Rattle.c_reader_laws.specs.PrinterLaws.Sizes.{size_of, tokens_size, variable_size, cell_size, expr_size, arg_size, more_args_size, args_size, call_size, stmt_size, stmts_size, list_size, type_size, result_size, declaration_size, more_params_size, params_size, vars_size, head_size, funcs_size, program_size}
 
 -- ---- tokens
 

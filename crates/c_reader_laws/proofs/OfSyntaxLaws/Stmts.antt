@@ -1,5 +1,5 @@
 -- Statements are read back from their tokens.
-use Rattle.std.proofs.Common.{◌≡◌, ◌≤◌, ℕ, zero, suc, ◌+◌, pos, max, Bool, true, false, if◌then◌else◌, List, [], ◌∷◌, drop, Option, Some, None, refl, ap, ◌∙◌, arith}
+use Rattle.std.proofs.Common.{◌≡◌, ◌≤◌, ℕ, zero, suc, ◌+◌, max, Bool, true, false, if◌then◌else◌, List, ◌∷◌, drop, Some, None, refl, ap, ◌∙◌, arith}
 use Rattle.c_syntax.specs.declared.program.CVar.{CVar}
 use Rattle.c_syntax.specs.declared.program.CCell.TheVariants as cell
 use Rattle.c_syntax.specs.declared.token.CWord.TheVariants as w

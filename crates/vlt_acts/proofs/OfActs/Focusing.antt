@@ -15,7 +15,7 @@ use Rattle.vlt_heap.proofs.Listed.{kept_with, made_at}
 use Rattle.vlt_heap.proofs.Calls.{live_at, root_at, here_at, child_at, places_apart}
 use Rattle.vlt_meaning.specs.World.{one, reference, Owner, held, lent, loose, inside, adopted_by, out, gone, is_adopted_by, is_held_under, is_lent_under, above, is_out, Object as Thing, World, Frame, not_guarded, not_held, no_value}
 use Rattle.vlt_meaning.specs.Found as sd
-use Rattle.vlt_meaning.specs.Found.{◌>>=◌, Named, or_fault}
+use Rattle.vlt_meaning.specs.Found.{Named, or_fault}
 use Rattle.vlt_meaning.specs.Objects.{object_at, with_owner, with_changed_object}
 use Rattle.vlt_meaning.specs.Values.{held_object, guarded_object, reference_in}
 use Rattle.vlt_meaning.specs.Step.{with_key}

@@ -1,28 +1,28 @@
 -- The callee's frame, behind that of its caller.
 use Rattle.std.proofs.Math.Nat.{mul-le-mul_right}
-use Rattle.std.proofs.Common.{max, ◌-◌, ◌≡◌, ◌≢◌, ◌⊎◌, inl, inr, ◌<◌, ◌≤◌, ◌+◌, ◌*◌, ◌==◌, ℕ, zero, suc, Bool, true, false, if◌then◌else◌, List, [], ◌∷◌, length, Option, Some, None, Ok, Err, refl, sym, ap, ◌∙◌, subst, arith, slice_get}
+use Rattle.std.proofs.Common.{max, ◌-◌, ◌≡◌, ◌≢◌, ◌⊎◌, inl, inr, ◌<◌, ◌≤◌, ◌+◌, ◌*◌, ℕ, zero, suc, Bool, true, false, if◌then◌else◌, List, [], ◌∷◌, length, Option, Some, None, Ok, refl, sym, ap, ◌∙◌, subst, arith, slice_get}
 use Rattle.std.specs.Option.{option_and_then}
 use Rattle.std.proofs.lemmas.Option.{none-some, same_Some, slice_get_within}
 use Rattle.vlt_core.specs.Core.{Entry, Func, Program}
-use Rattle.vlt_core.specs.Lookups.{is_held_before, before_set}
+use Rattle.vlt_core.specs.Lookups.{is_held_before}
 use Rattle.vlt_rings.proofs.Lists.{equal_or_not}
 use Rattle.vlt_rings.proofs.Rows.{row_fits}
 use Rattle.vlt_heap.specs.declared.heap.Heap.{Heap}
 use Rattle.vlt_heap.specs.Items.{Items}
-use Rattle.vlt_meaning.specs.World.{Value, reference, Owner, held, Object, World, Frame, missing, wrong_state}
-use Rattle.vlt_meaning.specs.Found.{Found, ◌>>=◌, or_fault, Named}
-use Rattle.vlt_meaning.specs.Objects.{with_owner, with_changed_object, in_states}
+use Rattle.vlt_meaning.specs.World.{Value, held, Object, World, Frame, missing}
+use Rattle.vlt_meaning.specs.Found.{◌>>=◌, or_fault, Named}
+use Rattle.vlt_meaning.specs.Objects.{with_owner, with_changed_object}
 use Rattle.vlt_meaning.specs.Values.{held_object}
 use Rattle.vlt_meaning.specs.Calls.{caller_object, passed_object, passed_objects, changed_if, handed_over, is_new_key, callee_key, callee_frame}
-use Rattle.vlt_meaning_laws.proofs.Keeping.{bound, err-ok, change_here, change_elsewhere}
+use Rattle.vlt_meaning_laws.proofs.Keeping.{bound, change_here, change_elsewhere}
 use Rattle.vlt_acts.specs.declared.values.values.Values.{Values}
-use Rattle.vlt_acts.specs.Values.Parts.{HasPartAt, HaveValue}
-use Rattle.vlt_acts.specs.Values.Shown.{with_frame, var_at, key_at, HasVar, ShowObjects, ShowsFrame, Seen, IsGrown}
-use Rattle.vlt_acts.specs.Values.Pushed.{HaveValues, Shows}
-use Rattle.vlt_acts.proofs.OfValues.Touching.{IsRoot, IsHeld, held_is, so_is, some_is}
+use Rattle.vlt_acts.specs.Values.Parts.{HaveValue}
+use Rattle.vlt_acts.specs.Values.Shown.{with_frame, key_at, ShowObjects, ShowsFrame, Seen, IsGrown}
+use Rattle.vlt_acts.specs.Values.Pushed.{HaveValues}
+use Rattle.vlt_acts.proofs.OfValues.Touching.{held_is, some_is}
 use Rattle.vlt_acts.proofs.OfValues.Pushing.{owner_shown}
 use Rattle.vlt_acts.proofs.OfActs.Keeping.{value_same}
-use Rattle.vlt_acts.specs.Frames.Frames.{IsLike, frame_end, NamesOwn, Stands, IsRunning}
+use Rattle.vlt_acts.specs.Frames.Frames.{IsLike, frame_end, IsRunning}
 use Rattle.vlt_acts.specs.Frames.Entered.{IsCall, HasEntered}
 use Rattle.vlt_acts.specs.Frames.Left.{IsRootAt}
 use Rattle.vlt_acts.specs.Frames.Named.{AreNamed}

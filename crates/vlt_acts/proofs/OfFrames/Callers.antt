@@ -1,5 +1,5 @@
 -- A function is left, and its caller goes on.
-use Rattle.std.proofs.Common.{◌≡◌, ◌⊎◌, inl, inr, ◌<◌, ◌≤◌, ◌+◌, ◌*◌, ◌-◌, ◌==◌, ℕ, zero, suc, Bool, true, false, if◌then◌else◌, List, [], ◌∷◌, ◌++◌, filter, length, Option, Some, None, Result, Ok, Err, refl, sym, ap, ◌∙◌, subst, arith, slice_get}
+use Rattle.std.proofs.Common.{◌≡◌, inr, ◌<◌, ◌≤◌, ◌+◌, ◌*◌, ◌-◌, ◌==◌, ℕ, Bool, true, false, if◌then◌else◌, List, [], ◌∷◌, ◌++◌, filter, length, Option, Some, None, Result, Ok, Err, refl, sym, ap, ◌∙◌, subst, arith, slice_get}
 use Rattle.std.specs.Option.{option_map, option_to_list}
 use Rattle.std.specs.Prelude.{IfSome}
 use Rattle.std.proofs.lemmas.Bool.Decides.{nat_tests}
@@ -7,18 +7,18 @@ use Rattle.vlt_base.specs.declared.ids.VarId.{VarId}
 use Rattle.std.proofs.lemmas.Bool.{false≢true}
 use Rattle.std.proofs.lemmas.Option.{none-some, same_Some}
 use Rattle.vlt_ops.specs.declared.TrapKind.{TrapKind}
-use Rattle.vlt_core.specs.Core.{Operand, pure, move, pack, Expr, number, truth, var, field, unary, binary, Entry, Func, Program}
+use Rattle.vlt_core.specs.Core.{Operand, pure, move, pack, number, truth, var, field, unary, binary, Entry, Func, Program}
 use Rattle.vlt_core.specs.Lookups.{is_new, is_held_after, after_set}
 use Rattle.vlt_core.specs.View.{func_of, keys_of}
 use Rattle.vlt_rings.proofs.Rows.{row_fits}
 use Rattle.vlt_heap.specs.declared.heap.Heap.{Heap}
 use Rattle.vlt_heap.specs.Items.{Items}
-use Rattle.vlt_meaning.specs.World.{reference, Value, one, held, Object, World, Frame, Outcome, trap, fault, done, fuel_end, heap_end, depth_end, input_end, answers_end, bad_answer, missing, no_value, not_empty, left_behind, is_fault}
+use Rattle.vlt_meaning.specs.World.{reference, Value, one, held, Object, World, Frame, trap, fault, done, fuel_end, heap_end, depth_end, input_end, answers_end, bad_answer, no_value, not_empty, left_behind}
 use Rattle.vlt_meaning.specs.Found.{Found, ◌>>=◌, or_fault, Named}
 use Rattle.vlt_meaning.specs.Objects.{with_owner, with_changed_object, in_states}
-use Rattle.vlt_meaning.specs.Values.{held_object, object_of, value_of}
-use Rattle.vlt_meaning.specs.Calls.{entries_after, Binding, binding, bindings, with_names, with_holders, back_in, with_returned, new_object, returned_object, returned_objects, holds_only, is_emptied}
-use Rattle.vlt_meaning.specs.Step.{Step, goes, leaves, ends, with_found, where_so, with_var, with_key, with_objects, deliver, fill, is_fillable}
+use Rattle.vlt_meaning.specs.Values.{held_object}
+use Rattle.vlt_meaning.specs.Calls.{entries_after, binding, bindings, with_names, with_holders, back_in, with_returned, new_object, returned_object, returned_objects, holds_only, is_emptied}
+use Rattle.vlt_meaning.specs.Step.{goes, leaves, ends, with_found, where_so, with_var, with_key, with_objects, deliver, fill, is_fillable}
 use Rattle.vlt_meaning.specs.Run.{Setup, left_function}
 use Rattle.vlt_meaning_laws.proofs.Keeping.{bound, err-ok}
 use Rattle.vlt_meaning_laws.specs.Machine.Got.{Got, got, stopped, then_step, found_in, operand_got}
@@ -26,8 +26,7 @@ use Rattle.vlt_meaning_laws.specs.Machine.Machine.{Caller}
 use Rattle.vlt_meaning_laws.proofs.OfMachine.Gots.{operand_step}
 use Rattle.vlt_acts.specs.declared.values.values.Values.{Values}
 use Rattle.vlt_acts.specs.Values.Parts.{HasPartAt, HaveValue}
-use Rattle.vlt_acts.specs.Values.Shown.{IsTable, with_frame, var_at, key_at, ShowObjects, ShowsFrame, Seen, IsKept, IsCut, AreApart}
-use Rattle.vlt_acts.specs.Values.Filled.{IsFilled}
+use Rattle.vlt_acts.specs.Values.Shown.{IsTable, with_frame, var_at, key_at, ShowObjects, ShowsFrame, Seen, IsCut, AreApart}
 use Rattle.vlt_acts.specs.Values.Pushed.{Shows, HasPushed, IsPushed}
 use Rattle.vlt_acts.proofs.OfValues.Touching.{OrFault, then_fault, so_fault, held_fault, object_of_fault, object_of_is, held_is, so_is}
 use Rattle.vlt_acts.proofs.OfValues.Writing.{value_moved}

@@ -1,23 +1,21 @@
 -- The caller's keys name the objects that are kept.
-use Rattle.std.proofs.Common.{◌≡◌, ◌≢◌, ◌<◌, ◌≤◌, ◌+◌, ℕ, Bool, true, false, if◌then◌else◌, List, [], ◌∷◌, ◌++◌, filter, zero, suc, length, Option, Some, None, refl, sym, ap, ◌∙◌, subst, arith, slice_get}
+use Rattle.std.proofs.Common.{◌≡◌, ◌<◌, ◌+◌, ℕ, true, false, if◌then◌else◌, List, [], ◌∷◌, ◌++◌, filter, zero, suc, length, Option, Some, None, refl, sym, ap, ◌∙◌, subst, arith, slice_get}
 use Rattle.std.specs.Option.{option_map, option_to_list}
 use Rattle.std.proofs.lemmas.Option.{same_Some, slice_get_within, slice_get-map}
 use Rattle.vlt_base.specs.declared.ids.KeyId.{KeyId}
 use Rattle.vlt_core.specs.View.{keys_of}
 use Rattle.vlt_acts.specs.Frames.Named.{AreNamed}
-use Rattle.vlt_core.specs.Core.{Entry, Func}
+use Rattle.vlt_core.specs.Core.{Entry}
 use Rattle.vlt_core.specs.Lookups.{is_held_after}
 use Rattle.vlt_heap.specs.declared.slots.Slot.{Slot}
 use Rattle.vlt_heap.specs.Items.{Items}
 use Rattle.vlt_meaning.specs.World.{reference, Frame}
 use Rattle.vlt_meaning.specs.Calls.{binding, bindings, with_names}
-use Rattle.vlt_meaning.specs.Step.{with_key}
 use Rattle.vlt_acts.specs.declared.values.values.Values.{Values}
-use Rattle.vlt_acts.specs.Values.Parts.{IsObject, HasPart}
 use Rattle.vlt_acts.specs.Values.Shown.{ShowsFrame, key_at, IsKeySet, IsGrown}
 use Rattle.vlt_acts.proofs.OfValues.Fronts.{IsSlotAt, has_part}
 use Rattle.vlt_acts.proofs.OfActs.Naming.{named_shown}
-use Rattle.vlt_acts.specs.Frames.Left.{kept_at, IsKeptAt, AreKept}
+use Rattle.vlt_acts.specs.Frames.Left.{kept_at, AreKept}
 use Rattle.vlt_acts.specs.Frames.Naming.{KeysBelow, IsNamed, Names}
 
 -- ---- nothing changes

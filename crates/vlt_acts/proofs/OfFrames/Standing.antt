@@ -1,12 +1,11 @@
 -- Frames stand where their slots are as they were.
-use Rattle.std.proofs.Common.{◌≡◌, ◌<◌, ◌≤◌, ◌+◌, ◌*◌, ℕ, List, [], ◌∷◌, length, None, Some, Ok, Err, sym, ap, ◌∙◌, subst, arith, slice_get}
+use Rattle.std.proofs.Common.{◌≡◌, ◌<◌, ◌≤◌, ◌*◌, ℕ, List, [], ◌∷◌, length, None, Ok, Err, sym, ap, ◌∙◌, subst, arith, slice_get}
 use Rattle.std.proofs.lemmas.Option.{none-some, slice_get_within}
 use Rattle.vlt_core.specs.Core.{Operand, pure, move, pack, Func, Program}
-use Rattle.vlt_core.specs.View.{func_of}
 use Rattle.vlt_rings.proofs.Rows.{row_fits}
 use Rattle.vlt_heap.specs.Items.{Items}
 use Rattle.vlt_heap.proofs.Listed.{KeepMade}
-use Rattle.vlt_meaning.specs.World.{owned, reference, Value, one, loose, World, Frame, no_value}
+use Rattle.vlt_meaning.specs.World.{owned, one, loose, World, Frame, no_value}
 use Rattle.vlt_meaning.specs.Found.{Found, or_fault}
 use Rattle.vlt_meaning.specs.Objects.{with_owner}
 use Rattle.vlt_meaning.specs.Values.{value_of, object_of}
@@ -15,11 +14,10 @@ use Rattle.vlt_meaning.specs.Run.{first_frame}
 use Rattle.vlt_meaning_laws.specs.Machine.Got.{Got, got, stopped, found_in, then_got, operand_got, operands_got}
 use Rattle.vlt_meaning_laws.specs.Machine.Machine.{Caller}
 use Rattle.vlt_acts.specs.declared.values.values.Values.{Values}
-use Rattle.vlt_acts.specs.Values.Parts.{HasPartAt}
-use Rattle.vlt_acts.specs.Values.Shown.{with_frame, var_at, key_at, HasVar, ShowsFrame}
+use Rattle.vlt_acts.specs.Values.Shown.{with_frame, var_at, key_at, ShowsFrame}
 use Rattle.vlt_acts.proofs.OfActs.Keeping.{frame_kept, value_same}
 use Rattle.vlt_acts.specs.declared.frames.waiting.Waiting.{Waiting}
-use Rattle.vlt_acts.specs.Frames.Frames.{frame_end, IsRunning, NamesOwn, Stands, caller_of, IsBelow, Waits, AllWait}
+use Rattle.vlt_acts.specs.Frames.Frames.{frame_end, IsRunning, NamesOwn, Stands, IsBelow, Waits, AllWait}
 
 -- a frame of the same function, at the same place, with the same slots
 pub record IsSamePlace (old new : Values) (f : Func) : Type 0 where

@@ -1,29 +1,27 @@
 -- The objects of a case come back to its keys, and its payload goes into the arm's variables.
-use Rattle.std.proofs.Common.{◌≡◌, ◌⊎◌, inl, inr, ℕ, suc, ◌+◌, ◌*◌, ◌==◌, ◌<◌, ◌≤◌, ℤ, pos, Bool, true, false, if◌then◌else◌, List, [], ◌∷◌, ◌++◌, map, length, Option, Some, None, Ok, Err, refl, sym, ap, ◌∙◌, subst, arith, slice_get}
-use Rattle.std.proofs.lemmas.Bool.{false≢true}
-use Rattle.std.proofs.lemmas.Option.{none-some, same_Some, slice_get_within}
+use Rattle.std.proofs.Common.{◌≡◌, inr, ℕ, suc, ◌+◌, ◌*◌, ◌==◌, ◌<◌, ◌≤◌, ℤ, pos, Bool, true, false, if◌then◌else◌, List, [], ◌∷◌, ◌++◌, map, length, Option, Some, None, Ok, Err, refl, sym, ap, ◌∙◌, subst, arith, slice_get}
+use Rattle.std.proofs.lemmas.Option.{none-some, same_Some}
 use Rattle.vlt_core.specs.Core.{Func}
 use Rattle.vlt_core.specs.Lookups.{KeyIn, is_owning_var}
 use Rattle.vlt_heap.specs.declared.slots.Slot.{Slot}
 use Rattle.vlt_heap.specs.declared.slots.Slot.TheVariants.{Number}
 use Rattle.vlt_heap.specs.declared.heap.Heap.{Heap}
 use Rattle.vlt_heap.specs.Items.{Items}
-use Rattle.vlt_meaning.specs.World.{Part, number, owned, is_fault, Value, one, of_case, Owner, held, loose, is_loose, is_gone, is_out, above, Object as Thing, World, Frame, missing, fault, no_value, other_object, wrong_state}
+use Rattle.vlt_meaning.specs.World.{Part, number, owned, is_fault, Value, one, of_case, held, loose, is_loose, is_gone, is_out, above, Object as Thing, World, Frame, no_value, other_object, wrong_state}
 use Rattle.vlt_meaning.specs.Found.{Found, ◌>>=◌, or_fault, Named, if_so}
-use Rattle.vlt_meaning.specs.Objects.{owned_at, in_states, with_owner, with_changed_object}
+use Rattle.vlt_meaning.specs.Objects.{owned_at, in_states, with_owner}
 use Rattle.vlt_meaning.specs.Operands.{Case, case_in, case_object, with_empty_variable}
-use Rattle.vlt_meaning.specs.Step.{with_objects, with_changed, with_var}
+use Rattle.vlt_meaning.specs.Step.{with_changed, with_var}
 use Rattle.vlt_meaning_laws.proofs.Keeping.{bound, err-ok}
 use Rattle.vlt_meaning_laws.specs.Machine.Got.{Got, got, stopped, then_got, found_in, opened_got, filled_got}
 use Rattle.vlt_acts.specs.declared.values.values.Values.{Values}
-use Rattle.vlt_acts.specs.Values.Parts.{padded_parts, HaveParts, HaveValue}
+use Rattle.vlt_acts.specs.Values.Parts.{HaveParts, HaveValue}
 use Rattle.vlt_acts.specs.Values.Filled.{IsFilled}
-use Rattle.vlt_acts.specs.Values.Shown.{ShowObjects, ShowsFrame, IsTable, var_at, key_at, Seen, IsKept, IsGrown, IsCut, AreApart, IsVarSlot}
-use Rattle.vlt_acts.proofs.OfValues.Touching.{OrFault, then_fault, some_fault, so_fault, so_is}
+use Rattle.vlt_acts.specs.Values.Shown.{ShowObjects, ShowsFrame, IsTable, var_at, key_at, IsKept, IsGrown, IsCut, AreApart, IsVarSlot}
+use Rattle.vlt_acts.proofs.OfValues.Touching.{OrFault, then_fault, some_fault, so_fault}
 use Rattle.vlt_acts.proofs.OfValues.Fronts.{IsSlotAt, has_part, front_part}
 use Rattle.vlt_acts.proofs.OfValues.Writing.{value_moved, apart_from}
 use Rattle.vlt_acts.proofs.OfValues.Pushing.{emptied_shown, owner_shown, frame_grown, grown_kept, value_grown}
-use Rattle.vlt_acts.specs.Acts.Acts.{Shows}
 use Rattle.vlt_acts.specs.Objects.Cases.{IsFrameSet, IsFilledWith, FillsParts, TellsCase, IsOpened, OpensArm}
 use Rattle.vlt_acts.proofs.OfObjects.Going.{owned_fault}
 use Rattle.vlt_acts.proofs.OfObjects.Owning.{found_at, loose_is}

@@ -1,8 +1,7 @@
 -- A value of a variant that is built.
-use Rattle.std.proofs.Common.{◌≡◌, ◌≢◌, ◌⊎◌, inl, inr, ℕ, zero, suc, ◌+◌, ◌-◌, ◌*◌, ◌<◌, ◌≤◌, ◌==◌, pos, Bool, true, false, List, [], ◌∷◌, ◌++◌, map, length, replicate, Option, Some, None, Result, Ok, Err, refl, sym, ap, ◌∙◌, subst, arith, slice_get, vec_capacity}
-use Rattle.std.specs.List.{filter_map, cons_option}
+use Rattle.std.proofs.Common.{◌≡◌, ◌⊎◌, inl, inr, ℕ, suc, ◌+◌, ◌-◌, ◌*◌, ◌<◌, ◌≤◌, ◌==◌, pos, false, List, [], ◌∷◌, ◌++◌, map, length, Option, Some, None, Result, Ok, Err, refl, sym, ap, ◌∙◌, subst, arith, slice_get}
+use Rattle.std.specs.List.{cons_option}
 use Rattle.std.specs.Option.{option_map}
-use Rattle.std.proofs.lemmas.Bool.{false≢true}
 use Rattle.std.proofs.lemmas.Bool.Decides.{nat_tests}
 use Rattle.std.proofs.lemmas.Option.{none-some, same_Some}
 use Rattle.std.proofs.lemmas.List.{length-append, length-map}
@@ -14,32 +13,31 @@ use Rattle.vlt_heap.specs.declared.slots.Slot.{Slot}
 use Rattle.vlt_heap.specs.declared.slots.Slot.TheVariants.{Number}
 use Rattle.vlt_heap.specs.declared.heap.Heap.{Heap}
 use Rattle.vlt_heap.specs.Items.{Items}
-use Rattle.vlt_meaning.specs.World.{Part, number, reference, owned, Value, one, of_case, loose, Object as Thing, World, Frame, Outcome, trap, fault, done, fuel_end, heap_end, depth_end, input_end, answers_end, bad_answer, is_fault, is_held_under, missing, no_value, not_held, not_empty}
-use Rattle.vlt_meaning.specs.Found.{Found, ◌>>=◌, or_fault, Named}
-use Rattle.vlt_meaning.specs.Objects.{object_at, in_states, with_owner}
+use Rattle.vlt_meaning.specs.World.{Part, number, owned, Value, one, of_case, loose, World, Frame, trap, fault, done, fuel_end, heap_end, depth_end, input_end, answers_end, bad_answer, missing, not_empty}
+use Rattle.vlt_meaning.specs.Found.{Found, ◌>>=◌, or_fault}
+use Rattle.vlt_meaning.specs.Objects.{in_states, with_owner}
 use Rattle.vlt_meaning.specs.Values.{held_object}
-use Rattle.vlt_meaning.specs.Step.{Step, goes, with_found, where_so, with_changed, with_var, fill, is_fillable}
+use Rattle.vlt_meaning.specs.Step.{Step, with_changed, with_var, fill, is_fillable}
 use Rattle.vlt_meaning.specs.Operands.{with_operands, part_of, parts_of, with_case_packed}
 use Rattle.vlt_meaning.specs.Externals.{payload_in}
-use Rattle.vlt_meaning.specs.Run.{does_simple}
 use Rattle.vlt_meaning_laws.proofs.Keeping.{bound, err-ok}
 use Rattle.vlt_meaning_laws.specs.Machine.Got.{Got, got, stopped, then_step, operands_got}
 use Rattle.vlt_meaning_laws.proofs.OfMachine.Gots.{operands_step}
 use Rattle.vlt_acts.specs.declared.values.values.Values.{Values}
-use Rattle.vlt_acts.specs.Values.Parts.{flat, padded_parts, HasPartAt, HaveParts, HaveValue}
+use Rattle.vlt_acts.specs.Values.Parts.{HaveParts, HaveValue}
 use Rattle.vlt_acts.specs.Values.Filled.{IsFilled, IsSingleSlot}
-use Rattle.vlt_acts.specs.Values.Shown.{ShowObjects, ShowsFrame, IsTable, var_at, key_at, Seen, IsKept, IsGrown, IsCut, IsRowSet, IsFrontOf}
+use Rattle.vlt_acts.specs.Values.Shown.{ShowObjects, IsTable, var_at, key_at, IsKept, IsGrown, IsCut, IsRowSet, IsFrontOf}
 use Rattle.vlt_acts.specs.Values.Pushed.{HaveValues, ArePushed}
-use Rattle.vlt_acts.proofs.OfValues.Touching.{OrFault, IsHeld, then_fault, some_fault, some_is, so_fault, object_fault, held_fault, held_is, so_is}
+use Rattle.vlt_acts.proofs.OfValues.Touching.{OrFault, IsHeld, then_fault, some_fault, some_is, so_fault, held_fault, held_is, so_is}
 use Rattle.vlt_acts.proofs.OfValues.Padding.{have_zeros}
 use Rattle.vlt_acts.proofs.OfValues.Pushing.{owner_shown}
-use Rattle.vlt_acts.specs.Acts.Acts.{setup, HasDone, Does, IsRight}
+use Rattle.vlt_acts.specs.Acts.Acts.{HasDone, Does, IsRight}
 use Rattle.vlt_acts.proofs.OfActs.Keeping.{assigned}
 use Rattle.vlt_acts.specs.Objects.Cases.{keys_listed, keys_for, ShowsKeys, NameAll, PacksKeys, WritesCase, DoesFor}
 use Rattle.vlt_acts.proofs.OfObjects.Going.{found_safe, so_safe, found_goes, so_goes}
 use Rattle.vlt_acts.proofs.OfObjects.NewCells.{parts_both}
 use Rattle.vlt_acts.proofs.OfObjects.NewObject.{PushesAll, pushes_count}
-use Rattle.vlt_acts.proofs.OfObjects.Coming.{Pushes, pushed_safe, Lessens, operands_lessen, IsLess}
+use Rattle.vlt_acts.proofs.OfObjects.Coming.{Pushes, pushed_safe, Lessens, operands_lessen}
 use Rattle.vlt_acts.proofs.OfObjects.Putting.{ok_err}
 use Rattle.vlt_acts.proofs.OfObjects.Tables.{cut_shown, keys_within}
 

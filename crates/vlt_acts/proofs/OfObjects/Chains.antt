@@ -10,10 +10,10 @@ use Rattle.vlt_heap.specs.declared.heap.Heap.{Heap}
 use Rattle.vlt_heap.specs.Items.{Items, IsMadeAt}
 use Rattle.vlt_heap.proofs.Listed.{KeepMade}
 use Rattle.vlt_meaning.specs.World.{Part, number, reference, owned, objects_in_part, Owner, Object as Thing, is_loose, wrong_state}
-use Rattle.vlt_meaning.specs.Found.{Found, ◌>>=◌, Named, if_so}
+use Rattle.vlt_meaning.specs.Found.{Found, ◌>>=◌, if_so}
 use Rattle.vlt_meaning.specs.Objects.{owned_at, with_owner, with_changed_object, objects_after_move, is_releasable, objects_after_release}
 use Rattle.vlt_meaning_laws.proofs.Keeping.{bound}
-use Rattle.vlt_acts.specs.Values.Parts.{IsObject, IsOwned, HasPart}
+use Rattle.vlt_acts.specs.Values.Parts.{HasPart}
 use Rattle.vlt_acts.specs.Values.Shown.{ShowObjects}
 use Rattle.vlt_acts.proofs.OfActs.Keeping.{part_kept}
 use Rattle.vlt_acts.specs.Objects.Owned.{AreParts, owned_in, Sees, ShowsAll, Change, objects_after_drop, Can, Makes}

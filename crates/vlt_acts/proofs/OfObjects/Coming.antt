@@ -1,40 +1,37 @@
 -- What comes of a statement that makes an object.
-use Rattle.std.proofs.Common.{◌≡◌, ◌<◌, ◌≤◌, ℕ, ◌==◌, Bool, true, false, if◌then◌else◌, List, [], ◌∷◌, ◌++◌, length, Option, Some, None, Result, Ok, Err, refl, sym, ap, ◌∙◌, subst}
+use Rattle.std.proofs.Common.{◌≡◌, ◌<◌, ◌≤◌, ℕ, ◌==◌, Bool, true, false, if◌then◌else◌, List, [], ◌∷◌, length, Option, Some, None, Result, Ok, Err, refl, sym, ap, ◌∙◌, subst}
 use Rattle.std.specs.List.{flat_map}
 use Rattle.std.proofs.lemmas.Bool.{false≢true}
 use Rattle.std.proofs.lemmas.Option.{none-some}
 use Rattle.vlt_ops.specs.declared.TrapKind.{TrapKind}
-use Rattle.vlt_core.specs.Core.{States, Expr, Operand, pure, move, pack, Func, Program}
+use Rattle.vlt_core.specs.Core.{Operand, pure, move, pack, Func, Program}
 use Rattle.vlt_core.specs.Core as core
-use Rattle.vlt_core.specs.Lookups.{Reference, reference_of, fields_of}
+use Rattle.vlt_core.specs.Lookups.{Reference}
 use Rattle.vlt_heap.specs.declared.slots.Slot.{Slot}
 use Rattle.vlt_heap.specs.declared.heap.Heap.{Heap}
 use Rattle.vlt_heap.specs.Items.{Items}
-use Rattle.vlt_heap.specs.Shown.{heap_of}
-use Rattle.vlt_meaning.specs.World.{Value, one, reference, owned, objects_in, loose, inside, is_loose, Object, World, Frame, Reason, Outcome, trap, fault, done, fuel_end, heap_end, depth_end, input_end, answers_end, bad_answer, is_fault, is_full, missing, no_value}
+use Rattle.vlt_meaning.specs.World.{Value, one, reference, owned, objects_in, loose, inside, is_loose, Object, World, Frame, Reason, Outcome, trap, fault, done, fuel_end, heap_end, depth_end, input_end, answers_end, bad_answer, is_fault, is_full, no_value}
 use Rattle.vlt_meaning.specs.Found.{Found, or_fault, Named}
 use Rattle.vlt_meaning.specs.Objects.{with_owner}
 use Rattle.vlt_meaning.specs.Values.{value_of, object_of}
 use Rattle.vlt_meaning.specs.Step.{Step, goes, ends, with_found, where_so, with_objects, with_changed, with_made, with_moved, with_var, with_key}
 use Rattle.vlt_meaning.specs.Operands.{with_operands}
-use Rattle.vlt_meaning.specs.Run.{Setup, new_object, made_in, does_simple}
+use Rattle.vlt_meaning.specs.Run.{Setup, made_in}
 use Rattle.vlt_meaning_laws.specs.Machine.Got.{Got, got, stopped, then_step, then_got, found_in, operand_got, operands_got}
 use Rattle.vlt_meaning_laws.proofs.OfMachine.Gots.{operands_step}
 use Rattle.vlt_acts.specs.declared.values.values.Values.{Values}
-use Rattle.vlt_acts.specs.Values.Parts.{IsObject}
 use Rattle.vlt_acts.specs.Values.Filled.{IsFilled, IsSingleSlot}
-use Rattle.vlt_acts.specs.Values.Shown.{ShowObjects, ShowsFrame, var_at, Seen, IsKept, IsKeySet, IsGrown}
+use Rattle.vlt_acts.specs.Values.Shown.{ShowsFrame, var_at, IsKept, IsKeySet}
 use Rattle.vlt_acts.specs.Values.Pushed.{HavePushed, ArePushed}
-use Rattle.vlt_acts.proofs.OfValues.Touching.{OrFault, some_fault, some_is}
-use Rattle.vlt_acts.proofs.OfValues.Pushing.{emptied_shown, frame_grown}
-use Rattle.vlt_acts.specs.Acts.Acts.{setup, IsRight}
-use Rattle.vlt_acts.proofs.OfActs.Keeping.{frame_kept, single_at, assigned}
+use Rattle.vlt_acts.proofs.OfValues.Touching.{OrFault}
+use Rattle.vlt_acts.specs.Acts.Acts.{setup}
+use Rattle.vlt_acts.proofs.OfActs.Keeping.{single_at, assigned}
 use Rattle.vlt_acts.proofs.OfActs.Naming.{named_shown}
 use Rattle.vlt_acts.specs.declared.objects.halt.Halt.{Halt}
 use Rattle.vlt_acts.specs.declared.objects.halt.Halt.TheVariants as h
 use Rattle.vlt_acts.specs.Objects.Owned.{put_in}
-use Rattle.vlt_acts.specs.Objects.Made.{SeesCells, objects_with, CanMake, ShowsNew, HasNew, IsMadeOrFull, MakesNew, NamesIt, HasCome, Comes, IsRightHere}
-use Rattle.vlt_acts.proofs.OfObjects.Going.{IsSafe, found_safe, so_safe, moved_fault, moved_safe}
+use Rattle.vlt_acts.specs.Objects.Made.{objects_with, NamesIt, Comes}
+use Rattle.vlt_acts.proofs.OfObjects.Going.{IsSafe, moved_fault, moved_safe}
 use Rattle.vlt_acts.proofs.OfObjects.Putting.{ok_err}
 
 -- ---- a name

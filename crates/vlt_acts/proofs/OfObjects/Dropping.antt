@@ -1,11 +1,11 @@
 -- A value that is dropped.
-use Rattle.std.proofs.Common.{◌≡◌, ℕ, ◌*◌, List, take, drop, Option, Some, None, Ok, Err, refl, sym, ap, ◌∙◌, subst}
+use Rattle.std.proofs.Common.{◌≡◌, ℕ, ◌*◌, List, take, drop, Some, None, Ok, refl, sym, ap, ◌∙◌, subst}
 use Rattle.vlt_core.specs.Core as core
 use Rattle.vlt_heap.specs.declared.slots.Slot.{Slot}
 use Rattle.vlt_heap.specs.declared.heap.Heap.{Heap}
 use Rattle.vlt_meaning.specs.World.{Value, objects_in, Object, World, no_value}
-use Rattle.vlt_meaning.specs.Found.{Found, or_fault}
-use Rattle.vlt_meaning.specs.Step.{goes, with_dropped, with_var}
+use Rattle.vlt_meaning.specs.Found.{or_fault}
+use Rattle.vlt_meaning.specs.Step.{goes, with_var}
 use Rattle.vlt_meaning.specs.Run.{does_simple}
 use Rattle.vlt_acts.specs.declared.values.values.Values.{Values}
 use Rattle.vlt_acts.specs.Values.Parts.{padded_parts}
@@ -14,7 +14,7 @@ use Rattle.vlt_acts.proofs.OfValues.Touching.{some_fault, some_is}
 use Rattle.vlt_acts.proofs.OfValues.Pushing.{emptied_shown}
 use Rattle.vlt_acts.specs.Acts.Acts.{setup, Does, IsRight}
 use Rattle.vlt_acts.proofs.OfActs.Keeping.{frame_kept}
-use Rattle.vlt_acts.specs.Objects.Owned.{owned_in, Sees, ShowsAll, objects_after_drop, CanDrop, DropsAll}
+use Rattle.vlt_acts.specs.Objects.Owned.{Sees, objects_after_drop, CanDrop, DropsAll}
 use Rattle.vlt_acts.proofs.OfObjects.Rows.{owned_padded, row_value}
 use Rattle.vlt_acts.proofs.OfObjects.Going.{found_safe, dropped_safe, found_goes, dropped_goes}
 

@@ -1,26 +1,24 @@
 -- A case's keys that are packed, and an arm's variables.
-use Rattle.std.proofs.Common.{◌≡◌, ◌≢◌, ◌⊎◌, inl, inr, ℕ, suc, ◌+◌, ◌*◌, ◌<◌, ◌≤◌, Bool, true, false, List, [], ◌∷◌, ◌++◌, map, length, Option, Some, None, Ok, Err, refl, sym, ap, ◌∙◌, subst, arith, slice_get, vec_capacity}
+use Rattle.std.proofs.Common.{◌≡◌, ◌≢◌, ◌⊎◌, inl, inr, ℕ, suc, ◌+◌, ◌*◌, ◌<◌, ◌≤◌, Bool, true, false, List, [], ◌∷◌, map, Some, None, refl, sym, ◌∙◌, subst, arith, slice_get}
 use Rattle.std.specs.List.{All}
-use Rattle.std.specs.Option.{option_map}
-use Rattle.std.proofs.lemmas.Bool.{false≢true}
-use Rattle.std.proofs.lemmas.Option.{same_Some, slice_get_within}
-use Rattle.vlt_core.specs.Core.{CaseKey, Func}
+use Rattle.std.proofs.lemmas.Option.{same_Some}
+use Rattle.vlt_core.specs.Core.{CaseKey}
 use Rattle.vlt_core.specs.Lookups.{KeyIn}
 use Rattle.vlt_rings.proofs.Rows.{row_fits}
 use Rattle.vlt_heap.specs.declared.slots.Obj.{Obj}
 use Rattle.vlt_heap.specs.declared.slots.Slot.{Slot}
 use Rattle.vlt_heap.specs.declared.slots.Slot.TheVariants.{Object, Owned}
 use Rattle.vlt_heap.specs.Items.{Items}
-use Rattle.vlt_meaning.specs.World.{Part, reference, owned, Value, one, World, Frame, not_empty, fault}
+use Rattle.vlt_meaning.specs.World.{Part, owned, one, not_empty}
 use Rattle.vlt_meaning.specs.Step.{with_var, is_fillable}
 use Rattle.vlt_meaning_laws.specs.Machine.Got.{Got, got, stopped, got_if, filled_got}
 use Rattle.vlt_acts.specs.declared.values.values.Values.{Values}
-use Rattle.vlt_acts.specs.Values.Parts.{IsObject, HasPart, HasPartAt, HaveParts}
+use Rattle.vlt_acts.specs.Values.Parts.{IsObject, HasPart, HaveParts}
 use Rattle.vlt_acts.specs.Values.Filled.{IsFilled, IsSingleSlot}
-use Rattle.vlt_acts.specs.Values.Shown.{var_at, key_at, ShowsFrame, IsKept, IsSlotSet, IsRowSet}
+use Rattle.vlt_acts.specs.Values.Shown.{var_at, key_at, IsKept, IsSlotSet, IsRowSet}
 use Rattle.vlt_acts.proofs.OfValues.Fronts.{packed_object}
 use Rattle.vlt_acts.proofs.OfActs.Keeping.{single_at, assigned}
-use Rattle.vlt_acts.specs.Objects.Cases.{keys_for, ShowsKeys, NameAll, PacksKeys, IsFrameSet, IsFilledWith, FillsParts}
+use Rattle.vlt_acts.specs.Objects.Cases.{keys_for, NameAll, PacksKeys, IsFrameSet, IsFilledWith, FillsParts}
 
 -- ---- parts that stand where they stood
 

@@ -1,19 +1,17 @@
 -- Objects go into one that a function holds, slot by slot.
-use Rattle.std.proofs.Common.{◌≡◌, ◌⊎◌, inl, inr, ◌≢◌, ℕ, Bool, true, false, List, [], ◌∷◌, Some, Ok, refl, sym, ap, ◌∙◌, subst, slice_get}
+use Rattle.std.proofs.Common.{◌≡◌, ◌≢◌, ℕ, Bool, true, false, List, [], ◌∷◌, Some, Ok, sym, ap, ◌∙◌, slice_get}
 use Rattle.std.proofs.lemmas.Bool.{false≢true}
 use Rattle.std.proofs.lemmas.Option.{same_Some}
-use Rattle.vlt_rings.proofs.Lists.{equal_or_not}
 use Rattle.vlt_heap.specs.declared.slots.Obj.{Obj}
 use Rattle.vlt_heap.specs.declared.slots.Slot.{Slot}
 use Rattle.vlt_heap.specs.declared.heap.Heap.{Heap}
-use Rattle.vlt_heap.specs.Items.{Items, IsMadeAt}
+use Rattle.vlt_heap.specs.Items.{Items}
 use Rattle.vlt_heap.proofs.Listed.{KeepMade}
 use Rattle.vlt_meaning.specs.World.{Owner, inside, is_loose, Object as Thing}
-use Rattle.vlt_meaning.specs.Found.{◌>>=◌, Named}
 use Rattle.vlt_meaning.specs.Objects.{owned_at, with_owner, with_changed_object, objects_after_move}
 use Rattle.vlt_meaning_laws.proofs.Keeping.{bound, change_elsewhere}
-use Rattle.vlt_acts.specs.Objects.Owned.{owned_in, Sees, ShowsAll, IsHeldAt, put_in, Can, CanHang, HangsAll}
-use Rattle.vlt_acts.proofs.OfObjects.Chains.{Split, split, first_seen, rest_seen, Middle, middle, moves_join, same_objects, then_kept}
+use Rattle.vlt_acts.specs.Objects.Owned.{owned_in, IsHeldAt, put_in, CanHang, HangsAll}
+use Rattle.vlt_acts.proofs.OfObjects.Chains.{split, first_seen, rest_seen, middle, moves_join, same_objects, then_kept}
 use Rattle.vlt_acts.proofs.OfObjects.Owning.{FoundAt, found_at}
 
 -- an object that fails the test isn't moved

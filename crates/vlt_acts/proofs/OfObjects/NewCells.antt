@@ -1,7 +1,6 @@
 -- A new object with its cells, and the objects that go in it.
-use Rattle.std.proofs.Common.{◌≡◌, ◌⊎◌, inl, inr, ℕ, zero, suc, ◌+◌, ◌*◌, ◌<◌, ◌≤◌, pos, nat_le, Bool, true, false, not, cond, ◌||◌, List, [], ◌∷◌, ◌++◌, take, drop, length, replicate, Option, Some, None, Ok, Err, refl, sym, ap, ◌∙◌, subst, arith, slice_get, slice_set}
-use Rattle.std.specs.List.{flat_map, count_by}
-use Rattle.std.proofs.lemmas.Bool.{false≢true}
+use Rattle.std.proofs.Common.{◌≡◌, ◌⊎◌, inl, inr, ℕ, zero, suc, ◌+◌, ◌*◌, ◌<◌, ◌≤◌, nat_le, true, false, not, cond, ◌||◌, List, [], ◌∷◌, ◌++◌, take, drop, length, Option, Some, None, Ok, Err, refl, sym, ap, ◌∙◌, subst, arith, slice_get, slice_set}
+use Rattle.std.specs.List.{flat_map}
 use Rattle.std.proofs.lemmas.Option.{none-some, same_Some, slice_get_within}
 use Rattle.std.proofs.lemmas.List.{length-append, length-replicate}
 use Rattle.std.proofs.lemmas.List.Sums.{sum_by-cons}
@@ -15,24 +14,23 @@ use Rattle.vlt_heap.specs.declared.slots.Slot.TheVariants.{Object}
 use Rattle.vlt_heap.specs.declared.heap.Heap.{Heap}
 use Rattle.vlt_heap.specs.Items.{Item, Items, IsAt, IsMadeAt, is_there, new_item, with_item}
 use Rattle.vlt_heap.specs.Items as held
-use Rattle.vlt_heap.specs.Shown.{Holds, slots_of, heap_of, IsNew, Makes}
+use Rattle.vlt_heap.specs.Shown.{Holds, slots_of, heap_of, Makes}
 use Rattle.vlt_heap.proofs.Listed.{KeepMade, kept_with, kept_new, made_at}
 use Rattle.vlt_meaning.specs.World.{Part, Value, objects_in, Object as Thing, is_gone, is_full, max_made, Frame}
 use Rattle.vlt_meaning.specs.World as world
 use Rattle.vlt_meaning.specs.Objects.{with_changed_object, changed_in}
 use Rattle.vlt_meaning.specs.Run.{new_object}
-use Rattle.vlt_meaning_laws.proofs.Keeping.{change_here}
 use Rattle.vlt_acts.specs.declared.values.values.Values.{Values}
-use Rattle.vlt_acts.specs.Values.Parts.{padded_parts, IsObject, HaveParts, HaveValue}
+use Rattle.vlt_acts.specs.Values.Parts.{padded_parts, HaveParts, HaveValue}
 use Rattle.vlt_acts.specs.Values.Shown.{ShowsObject, ShowsIt, ShowObjects}
 use Rattle.vlt_acts.specs.Values.Pushed.{HaveValues}
 use Rattle.vlt_acts.proofs.OfValues.Padding.{length_padded}
 use Rattle.vlt_acts.proofs.OfValues.Writing.{value_moved}
 use Rattle.vlt_acts.proofs.OfActs.Keeping.{value_kept}
 use Rattle.vlt_acts.proofs.OfActs.Showing.{it_kept, one_shown}
-use Rattle.vlt_acts.specs.Objects.Owned.{AreParts, owned_in, Sees, ShowsAll, IsHeldAt, put_in, CanHang, HangsAll}
+use Rattle.vlt_acts.specs.Objects.Owned.{AreParts, owned_in, Sees, IsHeldAt, put_in, CanHang, HangsAll}
 use Rattle.vlt_acts.specs.Objects.Cells.{set_from, with_slots, StoresAll}
-use Rattle.vlt_acts.specs.Objects.Made.{SeesCells, objects_with, CanMake, ShowsNew, HasNew}
+use Rattle.vlt_acts.specs.Objects.Made.{SeesCells, objects_with, CanMake, HasNew}
 use Rattle.vlt_acts.proofs.OfObjects.Chains.{parts_known, then_kept}
 use Rattle.vlt_acts.proofs.OfObjects.Rows.{owned_both, owned_padded, row_parts}
 use Rattle.vlt_acts.proofs.OfObjects.Storing.{set_inside, row_get, length_row}

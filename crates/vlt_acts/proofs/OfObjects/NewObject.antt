@@ -1,6 +1,5 @@
 -- The statement that makes an object.
-use Rattle.std.proofs.Common.{◌≡◌, ◌<◌, ◌≤◌, ℕ, suc, ◌+◌, ◌*◌, ◌==◌, true, false, List, [], ◌∷◌, length, Option, Some, None, Result, Ok, Err, refl, sym, ap, ◌∙◌, subst, arith}
-use Rattle.std.proofs.lemmas.Bool.{false≢true}
+use Rattle.std.proofs.Common.{◌≡◌, ◌≤◌, ℕ, suc, ◌+◌, ◌*◌, ◌==◌, List, [], ◌∷◌, length, Some, None, Result, Ok, Err, refl, sym, ap, ◌∙◌, subst, arith}
 use Rattle.std.proofs.lemmas.Option.{none-some, same_Some}
 use Rattle.vlt_base.specs.declared.HeapEnd.{HeapEnd}
 use Rattle.vlt_ops.specs.declared.TrapKind.{TrapKind}
@@ -11,7 +10,7 @@ use Rattle.vlt_heap.specs.declared.slots.Slot.{Slot}
 use Rattle.vlt_heap.specs.declared.heap.Heap.{Heap}
 use Rattle.vlt_heap.specs.Items.{Items}
 use Rattle.vlt_heap.specs.Shown.{heap_of}
-use Rattle.vlt_meaning.specs.World.{Value, Frame, World, is_full, missing}
+use Rattle.vlt_meaning.specs.World.{Value, Frame, World, missing}
 use Rattle.vlt_meaning.specs.Found.{or_fault}
 use Rattle.vlt_meaning.specs.Run.{made_in, does_simple}
 use Rattle.vlt_meaning_laws.specs.Machine.Got.{Got, got, stopped, then_got, operand_got, operands_got}
@@ -24,7 +23,7 @@ use Rattle.vlt_acts.specs.Acts.Acts.{setup}
 use Rattle.vlt_acts.proofs.OfActs.Keeping.{frame_kept}
 use Rattle.vlt_acts.specs.declared.objects.halt.Halt.{Halt}
 use Rattle.vlt_acts.specs.declared.objects.halt.Halt.TheVariants as h
-use Rattle.vlt_acts.specs.Objects.Made.{SeesCells, CanMake, MakesNew, IsMadeOrFull, NamesIt, HasCome, Comes, IsRightHere}
+use Rattle.vlt_acts.specs.Objects.Made.{SeesCells, CanMake, MakesNew, IsMadeOrFull, NamesIt, Comes, IsRightHere}
 use Rattle.vlt_acts.proofs.OfObjects.Going.{IsSafe, found_safe, so_safe}
 use Rattle.vlt_acts.proofs.OfObjects.Putting.{ok_err}
 use Rattle.vlt_acts.proofs.OfObjects.Coming.{Pushes, pushed_safe, made_safe, found_comes, so_comes, pushed_comes, made_comes, full_comes, less_shown}

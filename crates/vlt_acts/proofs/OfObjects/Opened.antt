@@ -1,9 +1,9 @@
 -- An object is opened into variables.
-use Rattle.std.proofs.Common.{◌≡◌, ◌<◌, ◌≤◌, ◌+◌, ◌*◌, ℕ, suc, true, false, List, [], ◌∷◌, length, Option, Some, None, Ok, Err, refl, sym, ap, ◌∙◌, subst, arith, slice_get}
+use Rattle.std.proofs.Common.{◌≡◌, ℕ, suc, true, false, List, [], ◌∷◌, length, Some, None, Ok, refl, sym, ap, ◌∙◌, subst, slice_get}
 use Rattle.std.specs.List.{flat_map}
 use Rattle.std.proofs.lemmas.Bool.{false≢true}
 use Rattle.std.proofs.lemmas.Option.{none-some, same_Some}
-use Rattle.vlt_core.specs.Core.{FieldDecl, Func, Program}
+use Rattle.vlt_core.specs.Core.{Func, Program}
 use Rattle.vlt_core.specs.Core as core
 use Rattle.vlt_core.specs.Lookups.{Reference, reference_of, fields_of}
 use Rattle.vlt_heap.specs.declared.slots.Obj.{Obj}
@@ -13,13 +13,13 @@ use Rattle.vlt_heap.specs.declared.heap.Heap.{Heap}
 use Rattle.vlt_heap.specs.Items.{Items, IsMadeAt, without}
 use Rattle.vlt_heap.specs.Shown.{IsLive, IsRoot as IsLone, IsHere, Releases}
 use Rattle.vlt_heap.proofs.Listed.{kept_without}
-use Rattle.vlt_meaning.specs.World.{Value, Owner, objects_in, held, loose, is_inside, Object as Thing, World, Frame, Outcome, is_fault, missing, not_empty, fault}
-use Rattle.vlt_meaning.specs.Found.{Found, or_fault, Named}
-use Rattle.vlt_meaning.specs.Objects.{objects_after_release, is_releasable}
+use Rattle.vlt_meaning.specs.World.{Value, Owner, objects_in, held, loose, is_inside, Object as Thing, World, Frame, missing, not_empty, fault}
+use Rattle.vlt_meaning.specs.Found.{or_fault, Named}
+use Rattle.vlt_meaning.specs.Objects.{objects_after_release}
 use Rattle.vlt_meaning.specs.Values.{object_of}
-use Rattle.vlt_meaning.specs.Step.{Step, goes, ends, with_objects, with_moved, with_released, with_filled, with_var, is_fillable}
+use Rattle.vlt_meaning.specs.Step.{Step, goes, with_objects, with_released, with_filled, with_var, is_fillable}
 use Rattle.vlt_meaning.specs.Operands.{owning_cells}
-use Rattle.vlt_meaning.specs.Run.{any_state, open_step, does_simple}
+use Rattle.vlt_meaning.specs.Run.{any_state, open_step}
 use Rattle.vlt_meaning_laws.specs.Machine.Got.{Got, got, stopped, then_step, filled_got}
 use Rattle.vlt_meaning_laws.proofs.OfMachine.Gots.{filled_step}
 use Rattle.vlt_acts.specs.declared.values.values.Values.{Values}
@@ -27,7 +27,7 @@ use Rattle.vlt_acts.specs.Values.Shown.{ShowObjects, var_at, Seen}
 use Rattle.vlt_acts.proofs.OfValues.Touching.{Touched, some_fault, some_is, object_of_fault, object_of_is}
 use Rattle.vlt_acts.proofs.OfValues.Fronts.{IsSlotAt, IsNoObject, referred}
 use Rattle.vlt_acts.proofs.OfValues.Fronts as fronts
-use Rattle.vlt_acts.specs.Acts.Acts.{setup, Does}
+use Rattle.vlt_acts.specs.Acts.Acts.{Does}
 use Rattle.vlt_acts.proofs.OfActs.Keeping.{frame_kept}
 use Rattle.vlt_acts.proofs.OfActs.Showing.{release_shown}
 use Rattle.vlt_acts.specs.Objects.Owned.{Sees, IsHeldAt, taken_out}

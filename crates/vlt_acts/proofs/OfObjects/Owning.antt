@@ -1,5 +1,5 @@
 -- One object that a slot owns goes into another one, leaves it, or ends.
-use Rattle.std.proofs.Common.{◌≡◌, ◌≢◌, ℕ, Bool, true, false, List, [], ◌∷◌, Some, None, Ok, refl, sym, ap, ◌∙◌, subst, arith, slice_get}
+use Rattle.std.proofs.Common.{◌≡◌, ◌≢◌, ℕ, Bool, true, false, List, [], ◌∷◌, Some, None, Ok, refl, sym, ap, ◌∙◌, subst, slice_get}
 use Rattle.std.proofs.lemmas.Bool.{false≢true}
 use Rattle.std.proofs.lemmas.Option.{same_Some}
 use Rattle.vlt_core.specs.Core.{Program}
@@ -10,17 +10,17 @@ use Rattle.vlt_heap.specs.declared.slots.Slot.TheVariants.{Owned}
 use Rattle.vlt_heap.specs.declared.heap.Heap.{Heap}
 use Rattle.vlt_heap.specs.Items.{Item, Items, IsAt, IsMadeAt, with_item, with_parent, without}
 use Rattle.vlt_heap.specs.Shown.{IsLive, IsChild, IsRoot as IsLone, IsHere, Hangs, Changes, Releases}
-use Rattle.vlt_heap.proofs.Listed.{kept_with, kept_without, made_at}
+use Rattle.vlt_heap.proofs.Listed.{kept_with, kept_without}
 use Rattle.vlt_heap.proofs.Calls.{live_at, root_at, here_at, child_at, places_apart}
 use Rattle.vlt_meaning.specs.World.{Owner, held, lent, loose, inside, adopted_by, out, gone, is_loose, is_inside, is_gone, is_out, above, Object as Thing, wrong_state}
-use Rattle.vlt_meaning.specs.Found.{Found, ◌>>=◌, Named, if_so}
+use Rattle.vlt_meaning.specs.Found.{Named, if_so}
 use Rattle.vlt_meaning.specs.Objects.{object_at, owned_at, with_owner, with_changed_object, is_releasable, objects_after_release}
 use Rattle.vlt_meaning_laws.proofs.Keeping.{bound}
 use Rattle.vlt_acts.specs.Values.Shown.{ShowsObject, ShowObjects}
 use Rattle.vlt_acts.proofs.OfValues.Touching.{so_is, object_is, equal_is}
-use Rattle.vlt_acts.proofs.OfValues.Fronts.{Behind, behind}
+use Rattle.vlt_acts.proofs.OfValues.Fronts.{behind}
 use Rattle.vlt_acts.proofs.OfActs.Showing.{one_shown, release_shown}
-use Rattle.vlt_acts.specs.Objects.Owned.{AreParts, owned_in, Sees, ShowsAll, IsHeldAt, put_in, taken_out, objects_after_drop, Makes, Can, CanHang, CanFree, CanDrop, HangsAll, FreesAll, DropsAll}
+use Rattle.vlt_acts.specs.Objects.Owned.{owned_in, Sees, IsHeldAt, put_in, taken_out, objects_after_drop, CanHang, CanFree, CanDrop, HangsAll, FreesAll, DropsAll}
 use Rattle.vlt_acts.proofs.OfObjects.Chains.{same_objects, Owns, owns}
 
 -- ---- what the owner of an object tells

@@ -1,14 +1,13 @@
 -- A field that gets a value.
-use Rattle.std.proofs.Common.{◌≡◌, ℕ, nat_lt, ◌<◌, ◌≤◌, ◌+◌, true, false, length, Result, Ok, Err, refl, sym, ap, ◌∙◌, subst, arith}
-use Rattle.std.proofs.lemmas.Bool.{false≢true}
+use Rattle.std.proofs.Common.{◌≡◌, ℕ, nat_lt, ◌<◌, true, length, Result, Ok, Err, refl, sym, ap, ◌∙◌, subst, arith}
 use Rattle.std.proofs.lemmas.Bool.Decides.{nat_tests}
 use Rattle.vlt_ops.specs.declared.TrapKind.{TrapKind}
 use Rattle.vlt_core.specs.Core as core
 use Rattle.vlt_core.specs.Core.{Expr}
 use Rattle.vlt_heap.specs.declared.heap.Heap.{Heap}
 use Rattle.vlt_heap.specs.Items.{Items}
-use Rattle.vlt_meaning.specs.World.{Value, World, Outcome, trap, fault, done, fuel_end, heap_end, depth_end, input_end, answers_end, bad_answer, missing}
-use Rattle.vlt_meaning.specs.Found.{Found, Named}
+use Rattle.vlt_meaning.specs.World.{Value, World, trap, fault, done, fuel_end, heap_end, depth_end, input_end, answers_end, bad_answer, missing}
+use Rattle.vlt_meaning.specs.Found.{Found}
 use Rattle.vlt_meaning.specs.Objects.{with_cell}
 use Rattle.vlt_meaning.specs.Values.{value_of, touchable}
 use Rattle.vlt_meaning.specs.Step.{Step, goes, with_found, with_changed}
@@ -16,12 +15,12 @@ use Rattle.vlt_meaning.specs.Run.{does_simple}
 use Rattle.vlt_acts.specs.declared.values.values.Values.{Values}
 use Rattle.vlt_acts.specs.Values.Parts.{HaveValue}
 use Rattle.vlt_acts.specs.Values.Shown.{ShowObjects, Seen, IsGrown, IsWritten}
-use Rattle.vlt_acts.proofs.OfValues.Touching.{Touched, touch_fault, touched}
+use Rattle.vlt_acts.proofs.OfValues.Touching.{touch_fault, touched}
 use Rattle.vlt_acts.proofs.OfValues.Pushing.{frame_grown, seen_grown}
 use Rattle.vlt_acts.specs.Acts.Acts.{setup, Does}
 use Rattle.vlt_acts.proofs.OfActs.Keeping.{frame_kept}
 use Rattle.vlt_acts.specs.Objects.Cells.{SetsCell}
-use Rattle.vlt_acts.proofs.OfObjects.Going.{fault_does, found_goes, so_goes}
+use Rattle.vlt_acts.proofs.OfObjects.Going.{found_goes, so_goes}
 
 abbrev is_fine : Result (Unit {0}) TrapKind → Type 0
 is_fine (Ok u) = Unit {0}

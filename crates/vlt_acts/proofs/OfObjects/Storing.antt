@@ -8,22 +8,21 @@ use Rattle.vlt_heap.specs.declared.slots.Obj.{Obj}
 use Rattle.vlt_heap.specs.declared.slots.Slot.{Slot}
 use Rattle.vlt_heap.specs.declared.slots.Slot.TheVariants.{Object}
 use Rattle.vlt_heap.specs.declared.heap.Heap.{Heap}
-use Rattle.vlt_heap.specs.Items.{Item, Items, IsAt, IsMadeAt, with_item, with_slot}
+use Rattle.vlt_heap.specs.Items.{Item, Items, with_item, with_slot}
 use Rattle.vlt_heap.specs.Shown.{Holds, slots_of, Stores}
-use Rattle.vlt_heap.proofs.Listed.{KeepMade, set_back, with_here, kept_with}
-use Rattle.vlt_meaning.specs.World.{Part, Value, one, reference, Object as Thing}
-use Rattle.vlt_meaning.specs.Objects.{with_cell, with_changed_object}
+use Rattle.vlt_heap.proofs.Listed.{set_back, with_here, kept_with}
+use Rattle.vlt_meaning.specs.World.{Part, Value, Object as Thing}
+use Rattle.vlt_meaning.specs.Objects.{with_cell}
 use Rattle.vlt_acts.specs.declared.values.values.Values.{Values}
-use Rattle.vlt_acts.specs.Values.Parts.{padded_parts, IsObject, HaveParts, HaveValue}
-use Rattle.vlt_acts.specs.Values.Shown.{ShowsObject, ShowObjects, var_at, Seen}
+use Rattle.vlt_acts.specs.Values.Parts.{padded_parts, HaveParts, HaveValue}
+use Rattle.vlt_acts.specs.Values.Shown.{ShowsObject, var_at}
 use Rattle.vlt_acts.proofs.OfValues.Padding.{length_padded}
 use Rattle.vlt_acts.proofs.OfValues.Fronts.{IsSlotAt, IsNoObject, behind, referred}
 use Rattle.vlt_acts.proofs.OfValues.Fronts as fronts
 use Rattle.vlt_acts.proofs.OfValues.Writing.{value_moved}
-use Rattle.vlt_acts.proofs.OfActs.Keeping.{value_kept, value_same}
+use Rattle.vlt_acts.proofs.OfActs.Keeping.{value_same}
 use Rattle.vlt_acts.proofs.OfActs.Showing.{one_shown}
-use Rattle.vlt_acts.specs.Objects.Owned.{ShowsAll}
-use Rattle.vlt_acts.specs.Objects.Cells.{set_from, with_slots, StoresAll, Refers, SetsCell}
+use Rattle.vlt_acts.specs.Objects.Cells.{set_from, with_slots, StoresAll, SetsCell}
 
 -- ---- a row that is set
 

@@ -1,5 +1,5 @@
 -- A field's value is exchanged for a variable's.
-use Rattle.std.proofs.Common.{◌≡◌, ◌⊎◌, inl, inr, ℕ, ◌+◌, ◌*◌, ◌<◌, ◌≤◌, Bool, true, false, List, take, drop, length, Option, Some, None, Ok, Err, refl, sym, ap, ◌∙◌, subst, arith, slice_get}
+use Rattle.std.proofs.Common.{◌≡◌, inl, inr, ℕ, ◌+◌, ◌*◌, ◌<◌, ◌≤◌, true, false, List, take, drop, length, Option, Some, None, Ok, refl, sym, ap, ◌∙◌, subst, arith, slice_get}
 use Rattle.std.specs.List.{list_all}
 use Rattle.std.specs.Result.{is_ok}
 use Rattle.std.proofs.lemmas.Bool.{false≢true}
@@ -12,32 +12,32 @@ use Rattle.vlt_heap.specs.declared.slots.Obj.{Obj}
 use Rattle.vlt_heap.specs.declared.slots.Slot.{Slot}
 use Rattle.vlt_heap.specs.declared.slots.Slot.TheVariants.{Object}
 use Rattle.vlt_heap.specs.declared.heap.Heap.{Heap}
-use Rattle.vlt_heap.specs.Items.{Items, IsMadeAt}
+use Rattle.vlt_heap.specs.Items.{IsMadeAt}
 use Rattle.vlt_heap.proofs.Listed.{KeepMade}
 use Rattle.vlt_meaning.specs.World.{Value, objects_in, Owner, held, lent, loose, inside, adopted_by, out, gone, is_held_under, is_inside, is_loose, Object as Thing, World, Frame, missing, no_value, not_owned}
-use Rattle.vlt_meaning.specs.Found.{Found, ◌>>=◌, or_fault, Named}
-use Rattle.vlt_meaning.specs.Objects.{object_at, owned_at, in_states, with_changed_object, with_cell}
-use Rattle.vlt_meaning.specs.Values.{held_object, tracked_object, object_behind, touchable, object_of, reference_in, value_of}
-use Rattle.vlt_meaning.specs.Step.{Step, goes, with_found, where_so, with_objects, with_changed, with_moved, with_var}
+use Rattle.vlt_meaning.specs.Found.{◌>>=◌, or_fault, Named}
+use Rattle.vlt_meaning.specs.Objects.{object_at, owned_at, in_states, with_cell}
+use Rattle.vlt_meaning.specs.Values.{held_object, tracked_object, object_behind, touchable, object_of, reference_in}
+use Rattle.vlt_meaning.specs.Step.{Step, goes, with_objects, with_changed, with_moved, with_var}
 use Rattle.vlt_meaning.specs.Run.{swap_step, does_simple}
 use Rattle.vlt_meaning_laws.proofs.Keeping.{bound, err-ok}
 use Rattle.vlt_acts.specs.declared.values.values.Values.{Values}
 use Rattle.vlt_acts.specs.Values.Parts.{padded_parts, HaveValue}
 use Rattle.vlt_acts.specs.Values.Filled.{IsFilled, IsCellSlot}
 use Rattle.vlt_acts.specs.Values.Shown.{ShowObjects, ShowsFrame, IsTable, var_at, key_at, Seen, IsKept, IsGrown, IsCut, IsCopied, IsSlotFrom, AreApart}
-use Rattle.vlt_acts.proofs.OfValues.Touching.{OrFault, Touched, Packed, some_fault, some_is, so_is, object_of_fault, object_of_is}
+use Rattle.vlt_acts.proofs.OfValues.Touching.{Touched, some_fault, some_is, so_is, object_of_fault, object_of_is}
 use Rattle.vlt_acts.proofs.OfValues.Fronts.{IsSlotAt, IsNoObject, referred}
 use Rattle.vlt_acts.proofs.OfValues.Fronts as fronts
 use Rattle.vlt_acts.proofs.OfValues.Writing.{value_moved, cell_copied}
 use Rattle.vlt_acts.proofs.OfValues.Pushing.{frame_grown, seen_grown, value_grown}
 use Rattle.vlt_acts.specs.Acts.Acts.{setup, HasDone, Does, IsRight}
 use Rattle.vlt_acts.proofs.OfActs.Keeping.{frame_kept, value_kept, assigned}
-use Rattle.vlt_acts.specs.Objects.Owned.{AreParts, owned_in, Sees, ShowsAll, IsHeldAt, put_in, taken_out, CanHang, HangsAll, CanFree, FreesAll}
+use Rattle.vlt_acts.specs.Objects.Owned.{AreParts, Sees, ShowsAll, IsHeldAt, put_in, taken_out, CanHang, HangsAll, CanFree, FreesAll}
 use Rattle.vlt_acts.specs.Objects.Cells.{SetsCell}
 use Rattle.vlt_acts.proofs.OfObjects.Chains.{parts_known}
 use Rattle.vlt_acts.proofs.OfObjects.Hanging.{moved_others}
 use Rattle.vlt_acts.proofs.OfObjects.Rows.{owned_padded, row_value}
-use Rattle.vlt_acts.proofs.OfObjects.Going.{IsSafe, found_safe, so_safe, moved_safe, found_goes, so_goes, moved_goes}
+use Rattle.vlt_acts.proofs.OfObjects.Going.{found_safe, so_safe, moved_safe, found_goes, so_goes, moved_goes}
 use Rattle.vlt_acts.proofs.OfObjects.Tables.{cut_shown, keys_within}
 
 -- ---- who holds the object

@@ -1,12 +1,12 @@
 -- Tables that grew and were cut again.
-use Rattle.std.proofs.Common.{◌≡◌, ℕ, zero, suc, refl, subst, ◌*◌, Some, ◌+◌, ◌<◌, ◌≤◌, length, sym, ap, ◌∙◌, arith, slice_get, vec_capacity}
+use Rattle.std.proofs.Common.{◌≡◌, ℕ, zero, suc, refl, subst, ◌*◌, Some, ◌+◌, ◌<◌, ◌≤◌, length, sym, ◌∙◌, arith, vec_capacity}
 use Rattle.std.proofs.lemmas.Option.{slice_get_within}
 use Rattle.vlt_rings.proofs.Calls.{item_at}
 use Rattle.vlt_rings.proofs.Rows.{row_fits}
 use Rattle.vlt_heap.specs.Items.{Items}
 use Rattle.vlt_meaning.specs.World.{Frame}
 use Rattle.vlt_acts.specs.declared.values.values.Values.{Values}
-use Rattle.vlt_acts.specs.Values.Shown.{IsTable, var_at, key_at, ShowsFrame, IsKept, IsGrown, IsCut}
+use Rattle.vlt_acts.specs.Values.Shown.{IsTable, var_at, key_at, ShowsFrame, IsGrown, IsCut}
 use Rattle.vlt_acts.specs.Acts.Acts.{IsSameFrame}
 use Rattle.vlt_acts.proofs.OfActs.Keeping.{value_same}
 

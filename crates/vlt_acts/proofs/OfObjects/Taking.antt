@@ -1,32 +1,29 @@
 -- The values of an object's owning fields go into variables.
-use Rattle.std.proofs.Common.{◌≡◌, ◌⊎◌, inl, inr, ℕ, zero, suc, ◌+◌, ◌*◌, ◌<◌, ◌≤◌, Bool, true, false, if◌then◌else◌, List, [], ◌∷◌, ◌++◌, take, drop, length, Option, Some, None, Ok, Err, refl, sym, ap, ◌∙◌, subst, arith, slice_get}
+use Rattle.std.proofs.Common.{◌≡◌, ℕ, zero, suc, ◌+◌, ◌*◌, ◌<◌, Bool, true, false, if◌then◌else◌, List, [], ◌∷◌, take, drop, length, Option, Some, None, Ok, refl, sym, ap, ◌∙◌, subst, arith, slice_get}
 use Rattle.std.specs.List.{flat_map}
-use Rattle.std.proofs.lemmas.Bool.{false≢true}
-use Rattle.std.proofs.lemmas.Option.{none-some, same_Some}
-use Rattle.vlt_core.specs.Core.{FieldDecl, Func}
+use Rattle.std.proofs.lemmas.Option.{none-some}
+use Rattle.vlt_core.specs.Core.{FieldDecl}
 use Rattle.vlt_core.specs.Lookups.{is_owning}
 use Rattle.vlt_heap.specs.declared.slots.Obj.{Obj}
 use Rattle.vlt_heap.specs.declared.slots.Slot.{Slot}
 use Rattle.vlt_heap.specs.declared.heap.Heap.{Heap}
-use Rattle.vlt_heap.specs.Items.{Items, IsMadeAt}
-use Rattle.vlt_heap.specs.Shown.{Holds}
+use Rattle.vlt_heap.specs.Items.{Items}
 use Rattle.vlt_heap.proofs.Listed.{KeepMade}
-use Rattle.vlt_meaning.specs.World.{Value, objects_in, loose, is_inside, is_gone, Object as Thing, World, Frame, not_empty}
-use Rattle.vlt_meaning.specs.Found.{◌>>=◌}
-use Rattle.vlt_meaning.specs.Operands.{if_owning, owning_cells}
+use Rattle.vlt_meaning.specs.World.{Value, objects_in, loose, is_inside, is_gone, Object as Thing, not_empty}
+use Rattle.vlt_meaning.specs.Operands.{owning_cells}
 use Rattle.vlt_meaning.specs.Step.{with_var, is_fillable}
 use Rattle.vlt_meaning_laws.proofs.Keeping.{bound}
 use Rattle.vlt_meaning_laws.specs.Machine.Got.{Got, got, stopped, got_if, filled_got}
 use Rattle.vlt_acts.specs.declared.values.values.Values.{Values}
 use Rattle.vlt_acts.specs.Values.Parts.{padded_parts, HaveValue}
 use Rattle.vlt_acts.specs.Values.Filled.{IsFilled, IsCellSlot}
-use Rattle.vlt_acts.specs.Values.Shown.{ShowObjects, ShowsFrame, var_at, IsKept}
+use Rattle.vlt_acts.specs.Values.Shown.{ShowObjects, var_at, IsKept}
 use Rattle.vlt_acts.proofs.OfValues.Fronts.{behind}
 use Rattle.vlt_acts.proofs.OfValues.Writing.{value_moved}
 use Rattle.vlt_acts.proofs.OfActs.Keeping.{frame_kept, value_kept, assigned}
-use Rattle.vlt_acts.specs.Objects.Owned.{AreParts, owned_in, Sees, ShowsAll, IsHeldAt, taken_out, CanFree, FreesAll}
+use Rattle.vlt_acts.specs.Objects.Owned.{AreParts, Sees, taken_out, CanFree, FreesAll}
 use Rattle.vlt_acts.specs.Objects.Taken.{Holder, owned_from, CanTake, CanTakeOne, Taken, TakesOne, IsTaken, TakesAll}
-use Rattle.vlt_acts.proofs.OfObjects.Chains.{parts_known, moves_join, same_objects}
+use Rattle.vlt_acts.proofs.OfObjects.Chains.{moves_join, same_objects}
 use Rattle.vlt_acts.proofs.OfObjects.Hanging.{moved_others}
 use Rattle.vlt_acts.proofs.OfObjects.Rows.{owned_padded, row_value, drop_get}
 

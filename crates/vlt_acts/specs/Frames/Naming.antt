@@ -1,5 +1,5 @@
 -- Keys of a caller that were named. This serves the proof alone.
-use Rattle.std.specs.Prelude.{◌≡◌, ◌<◌, ◌≤◌, ℕ, ◌+◌, List, length, Option, None, Some, slice_get, vec_capacity}
+use Rattle.std.specs.Prelude.{◌≡◌, ◌<◌, ◌≤◌, ℕ, List, length, Option, None, Some, slice_get, vec_capacity}
 use Rattle.vlt_base.specs.declared.ids.VarId.{VarId}
 use Rattle.vlt_core.specs.Core.{Entry}
 use Rattle.vlt_heap.specs.Items.{Items}

@@ -5,11 +5,10 @@ use Rattle.std.specs.Option.{option_map}
 use Rattle.vlt_ops.specs.declared.TrapKind.{TrapKind}
 use Rattle.vlt_core.specs.Core.{CaseKey, CaseDecl, Simple, Func, Program}
 use Rattle.vlt_core.specs.Lookups.{KeyIn, variant_of, case_at}
-use Rattle.vlt_meaning.specs.World.{Part, reference, owned, Value, one, of_case, World, Frame, is_fault}
+use Rattle.vlt_meaning.specs.World.{Part, reference, owned, one, of_case, World, Frame, is_fault}
 use Rattle.vlt_meaning.specs.Run.{does_simple}
 use Rattle.vlt_meaning.specs.Operands.{Case, case_in, with_empty_variable}
 use Rattle.vlt_meaning_laws.specs.Machine.Got.{Got, got, stopped, then_got, opened_got, filled_got}
-use Rattle.vlt_heap.specs.declared.slots.Slot.{Slot}
 use Rattle.vlt_heap.specs.declared.heap.Heap.{Heap}
 use Rattle.vlt_heap.specs.Items.{Items}
 use Rattle.vlt_acts.specs.declared.values.values.Values.{Values}

@@ -6,7 +6,6 @@ use Rattle.vlt_meaning.specs.World.{Value, objects_in, Object, World, Frame, is_
 use Rattle.vlt_meaning.specs.Step.{with_var}
 use Rattle.vlt_meaning.specs.Operands.{owning_cells}
 use Rattle.vlt_meaning_laws.specs.Machine.Got.{Got, got, stopped, filled_got}
-use Rattle.vlt_heap.specs.declared.slots.Obj.{Obj}
 use Rattle.vlt_heap.specs.declared.heap.Heap.{Heap}
 use Rattle.vlt_heap.specs.Items.{Items, IsMadeAt}
 use Rattle.vlt_heap.specs.Shown.{Holds}

@@ -1,6 +1,6 @@
 -- Values of variants that a call gives.
-use Rattle.std.proofs.Common.{◌≡◌, ◌≢◌, ◌⊎◌, inl, inr, ◌<◌, ◌≤◌, ◌==◌, ◌+◌, ◌-◌, ◌*◌, ℕ, zero, suc, ℤ, pos, Bool, true, false, List, [], ◌∷◌, ◌++◌, map, length, Option, None, Some, Result, Ok, Err, refl, sym, ap, ◌∙◌, subst, arith, slice_get}
-use Rattle.std.specs.List.{flat_map, filter_map, cons_option}
+use Rattle.std.proofs.Common.{◌≡◌, ◌≢◌, ◌⊎◌, inl, inr, ◌<◌, ◌≤◌, ◌==◌, ◌+◌, ◌-◌, ℕ, suc, ℤ, pos, true, false, List, [], ◌∷◌, ◌++◌, map, length, Option, None, Some, Result, Ok, Err, refl, sym, ap, ◌∙◌, subst, arith, slice_get}
+use Rattle.std.specs.List.{cons_option}
 use Rattle.std.specs.Option.{option_map, option_to_list, option_and_then}
 use Rattle.std.specs.Result.{is_ok}
 use Rattle.std.proofs.lemmas.Bool.{false≢true}
@@ -9,34 +9,33 @@ use Rattle.std.proofs.lemmas.Option.{none-some, same_Some}
 use Rattle.std.proofs.lemmas.List.{length-append, length-map}
 use Rattle.vlt_base.specs.declared.HeapEnd.{HeapEnd}
 use Rattle.vlt_core.specs.Core.{Ty, CaseKey, CaseDecl, Program}
-use Rattle.vlt_core.specs.Lookups.{KeyIn, VariantOf, keys_in, cases_of, case_at, case_keys}
+use Rattle.vlt_core.specs.Lookups.{VariantOf, keys_in, cases_of, case_at}
 use Rattle.vlt_heap.specs.declared.slots.Obj.{Obj}
 use Rattle.vlt_heap.specs.declared.slots.Slot.{Slot}
 use Rattle.vlt_heap.specs.declared.slots.Slot.TheVariants.{Number, Object, Owned}
 use Rattle.vlt_heap.specs.declared.heap.Heap.{Heap}
 use Rattle.vlt_heap.specs.Items.{Items}
-use Rattle.vlt_heap.specs.Shown.{Holds, heap_of}
+use Rattle.vlt_heap.specs.Shown.{heap_of}
 use Rattle.vlt_heap.proofs.Listed.{KeepMade}
-use Rattle.vlt_meaning.specs.World.{Part, number, reference, owned, Value, of_case, Object as Thing, Frame, Outcome, missing}
+use Rattle.vlt_meaning.specs.World.{Part, reference, owned, of_case, Object as Thing, Frame}
 use Rattle.vlt_meaning.specs.Found.{Found, ◌>>=◌}
-use Rattle.vlt_meaning.specs.HostAnswers.{Piece, Result as Given, then_reads, each, piece_of, key_state, case_read, variant_read}
+use Rattle.vlt_meaning.specs.HostAnswers.{Piece, then_reads, each, piece_of, key_state, case_read}
 use Rattle.vlt_meaning.specs.Externals.{type_in, payload_in, objects_of_keys}
 use Rattle.vlt_meaning_laws.proofs.Keeping.{bound}
 use Rattle.vlt_acts.specs.declared.values.values.Values.{Values}
-use Rattle.vlt_acts.specs.Values.Parts.{flat, padded_parts, IsObject, HasPartAt, HaveParts, HaveValue}
+use Rattle.vlt_acts.specs.Values.Parts.{IsObject, HaveParts, HaveValue}
 use Rattle.vlt_acts.specs.Values.Filled.{IsFilled, IsSingleSlot}
-use Rattle.vlt_acts.specs.Values.Shown.{ShowObjects, ShowsFrame, key_at, IsTable, IsKept, IsRowSet, IsSlotSet}
+use Rattle.vlt_acts.specs.Values.Shown.{ShowObjects, key_at, IsKept, IsRowSet, IsSlotSet}
 use Rattle.vlt_acts.proofs.OfValues.Fronts.{packed_object}
 use Rattle.vlt_acts.proofs.OfValues.Padding.{have_zeros}
 use Rattle.vlt_acts.proofs.OfActs.Keeping.{part_kept}
 use Rattle.vlt_acts.specs.Objects.Cases.{keys_for, ShowsKeys}
 use Rattle.vlt_acts.proofs.OfObjects.NewCells.{parts_both}
-use Rattle.vlt_externals.specs.Sent.{ShowsAll}
 use Rattle.vlt_externals.specs.HostAnswers.Read.{rest_of}
 use Rattle.vlt_externals.specs.HostAnswers.Whole.{case_number}
-use Rattle.vlt_externals.proofs.OfResults.Readings.{each_long, CaseIs, case_is}
+use Rattle.vlt_externals.proofs.OfResults.Readings.{each_long, case_is}
 use Rattle.vlt_externals.specs.Results.Stated.{key_for, AreCaseObjects}
-use Rattle.vlt_externals.specs.Results.Results.{part_made, pieces_made, HavePartsMade, ArePartsMade, PutsPieces, AreBefore, PutsKeys, case_made, HasValueMade, IsValueMade, PutsCase, HasCaseObjects, NameCases, FitCases, variant_made, PutsVariant}
+use Rattle.vlt_externals.specs.Results.Results.{part_made, pieces_made, ArePartsMade, PutsPieces, AreBefore, PutsKeys, case_made, IsValueMade, PutsCase, variant_made, PutsVariant}
 
 -- ---- the keys of a case
 

@@ -19,24 +19,23 @@ use Rattle.vlt_heap.specs.declared.slots.Obj.{Obj}
 use Rattle.vlt_heap.specs.declared.slots.Slot.{Slot}
 use Rattle.vlt_heap.specs.declared.slots.Slot.TheVariants.{Object}
 use Rattle.vlt_heap.specs.declared.heap.Heap.{Heap}
-use Rattle.vlt_heap.specs.Items.{Items, IsMadeAt}
-use Rattle.vlt_heap.specs.Shown.{Holds, heap_of}
-use Rattle.vlt_meaning.specs.World.{Part, reference, Value, one, held, Object as Thing, is_full, Frame, Outcome, heap_end, fault, missing, is_fault}
+use Rattle.vlt_heap.specs.Items.{Items}
+use Rattle.vlt_heap.specs.Shown.{heap_of}
+use Rattle.vlt_meaning.specs.World.{Part, reference, Value, one, held, Object as Thing, Frame, Outcome, heap_end, fault, missing, is_fault}
 use Rattle.vlt_meaning.specs.Found.{Found, ◌>>=◌, or_fault}
 use Rattle.vlt_meaning.specs.Step.{with_key}
-use Rattle.vlt_meaning.specs.Calls.{entries_after, Binding, binding}
-use Rattle.vlt_meaning.specs.HostAnswers.{Piece, Result as Given, nothing, piece, case_with, Answer, then_reads, reads, each, state_in, piece_of, piece_read, variant_read, result_read}
+use Rattle.vlt_meaning.specs.Calls.{binding}
+use Rattle.vlt_meaning.specs.HostAnswers.{Piece, Result as Given, nothing, piece, case_with, then_reads, reads, each, state_in, piece_of, piece_read, variant_read, result_read}
 use Rattle.vlt_meaning.specs.Externals.{from_host, type_in, new_key}
 use Rattle.vlt_acts.specs.declared.values.values.Values.{Values}
 use Rattle.vlt_acts.specs.Values.Parts.{HasPart, IsObject, HaveValue}
 use Rattle.vlt_acts.specs.Values.Filled.{IsFilled, IsSingleSlot}
-use Rattle.vlt_acts.specs.Values.Shown.{ShowObjects, ShowsFrame, var_at, key_at, Seen, IsTable, IsKept, IsKeySet}
-use Rattle.vlt_acts.specs.Acts.Acts.{IsSameFrame, Shows}
+use Rattle.vlt_acts.specs.Values.Shown.{ShowObjects, ShowsFrame, var_at, key_at, Seen, IsKept, IsKeySet}
+use Rattle.vlt_acts.specs.Acts.Acts.{IsSameFrame}
 use Rattle.vlt_acts.proofs.OfActs.Keeping.{value_same, frame_kept, single_at}
 use Rattle.vlt_acts.proofs.OfActs.Naming.{named_shown}
-use Rattle.vlt_externals.specs.Sent.{ShowsAll}
 use Rattle.vlt_externals.proofs.OfHostAnswers.Reading.{each_none, each_some}
-use Rattle.vlt_externals.specs.Results.Results.{part_made, HasPartMade, IsPartMade, MakesPart, MakesIn, AreBefore, HasValueMade, IsValueMade, single_made, PutsPiece, variant_made, PutsVariant, Made, fresh_made, result_made, binding_of, NamesNew, HasResultMade, IsResultMade, PutsNew, PutsFresh, NamesCases, PutsResult}
+use Rattle.vlt_externals.specs.Results.Results.{part_made, IsPartMade, MakesPart, MakesIn, AreBefore, IsValueMade, single_made, PutsPiece, variant_made, PutsVariant, Made, fresh_made, result_made, binding_of, NamesNew, IsResultMade, PutsNew, PutsFresh, PutsResult}
 use Rattle.vlt_externals.specs.declared.results.results.NewKey.{NewKey}
 
 -- ---- what was put behind the frame leaves it as it is

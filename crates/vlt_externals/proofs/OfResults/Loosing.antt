@@ -1,5 +1,5 @@
 -- Objects of a case that come back to its value.
-use Rattle.std.proofs.Common.{◌≡◌, ℕ, Bool, true, false, List, [], ◌∷◌, Option, None, Some, Ok, Err, refl, sym, ap, ◌∙◌, subst, slice_get}
+use Rattle.std.proofs.Common.{◌≡◌, ℕ, Bool, true, false, List, [], ◌∷◌, None, Some, Ok, Err, refl, sym, ap, ◌∙◌, subst}
 use Rattle.std.specs.Option.{option_and_then}
 use Rattle.std.proofs.lemmas.Bool.{false≢true}
 use Rattle.std.proofs.lemmas.Option.{none-some}
@@ -10,7 +10,7 @@ use Rattle.vlt_heap.specs.declared.slots.Slot.TheVariants.{Object}
 use Rattle.vlt_heap.specs.declared.heap.Heap.{Heap}
 use Rattle.vlt_heap.specs.Items.{IsMadeAt}
 use Rattle.vlt_heap.specs.Shown.{TakesBack}
-use Rattle.vlt_meaning.specs.World.{Object as Thing, Frame, Outcome, is_out, loose, not_owned}
+use Rattle.vlt_meaning.specs.World.{Object as Thing, is_out, loose}
 use Rattle.vlt_meaning.specs.Found.{Found, ◌>>=◌}
 use Rattle.vlt_meaning.specs.Objects.{owned_at, with_owner, with_changed_object, objects_after_move}
 use Rattle.vlt_acts.specs.declared.values.values.Values.{Values}

@@ -1,5 +1,5 @@
 -- Objects that a host made, and slots for what is read.
-use Rattle.std.proofs.Common.{◌≡◌, ◌≢◌, ◌⊎◌, inl, inr, ◌<◌, ◌≤◌, ◌+◌, ◌*◌, ℕ, zero, suc, ℤ, Bool, true, false, if◌then◌else◌, List, [], ◌∷◌, ◌++◌, take, drop, length, map, Option, None, Some, Result, Ok, Err, refl, sym, ap, ◌∙◌, subst, arith, slice_get}
+use Rattle.std.proofs.Common.{◌≡◌, ◌≢◌, inl, ◌+◌, ◌*◌, ℕ, suc, ℤ, true, false, if◌then◌else◌, List, [], ◌∷◌, ◌++◌, take, drop, length, Option, None, Some, Result, Ok, Err, refl, sym, ap, ◌∙◌, subst, arith, slice_get}
 use Rattle.std.specs.Result.{is_ok}
 use Rattle.std.proofs.lemmas.Bool.{false≢true}
 use Rattle.std.proofs.lemmas.Option.{none-some, same_Some}
@@ -9,29 +9,29 @@ use Rattle.vlt_core.specs.Lookups.{Reference}
 use Rattle.vlt_rings.proofs.Lists.{get_last}
 use Rattle.vlt_heap.specs.declared.slots.Obj.{Obj}
 use Rattle.vlt_heap.specs.declared.slots.Slot.{Slot}
-use Rattle.vlt_heap.specs.declared.slots.Slot.TheVariants.{Number, Object, Owned}
+use Rattle.vlt_heap.specs.declared.slots.Slot.TheVariants.{Number, Owned}
 use Rattle.vlt_heap.specs.declared.heap.Heap.{Heap}
-use Rattle.vlt_heap.specs.Items.{Item, Items, IsMadeAt, with_item, with_state}
+use Rattle.vlt_heap.specs.Items.{Items, with_item, with_state}
 use Rattle.vlt_heap.specs.Shown.{Holds, heap_of, slots_of, ForObject, Makes, Changes}
 use Rattle.vlt_heap.proofs.Listed.{KeepMade, kept_with}
-use Rattle.vlt_meaning.specs.World.{Part, number, owned, Owner, held, loose, Object as Thing, is_full, Frame, Outcome, heap_end}
+use Rattle.vlt_meaning.specs.World.{Part, number, owned, loose, Object as Thing, Frame, heap_end}
 use Rattle.vlt_meaning.specs.Found.{Found, ◌>>=◌}
 use Rattle.vlt_meaning.specs.Objects.{with_changed_object, changed_in}
 use Rattle.vlt_meaning.specs.Run.{new_object}
 use Rattle.vlt_meaning.specs.HostAnswers.{Piece, plain, new_in, then_reads, reads, each, piece_of}
 use Rattle.vlt_meaning.specs.Externals.{from_host, type_in}
 use Rattle.vlt_acts.specs.declared.values.values.Values.{Values}
-use Rattle.vlt_acts.specs.Values.Parts.{HasPart, HasPartAt, HaveParts}
+use Rattle.vlt_acts.specs.Values.Parts.{HasPart, HaveParts}
 use Rattle.vlt_acts.specs.Values.Shown.{ShowObjects, IsRowSet, IsSlotSet}
 use Rattle.vlt_acts.proofs.OfValues.Fronts.{Behind, behind}
 use Rattle.vlt_acts.proofs.OfActs.Keeping.{part_kept}
 use Rattle.vlt_acts.proofs.OfActs.Showing.{one_shown}
-use Rattle.vlt_acts.specs.Objects.Made.{SeesCells, objects_with}
+use Rattle.vlt_acts.specs.Objects.Made.{SeesCells}
 use Rattle.vlt_acts.proofs.OfObjects.Storing.{none_stored}
 use Rattle.vlt_acts.proofs.OfObjects.NewCells.{Stored, stored, full_made, full_same}
 use Rattle.vlt_externals.specs.Sent.{ShowsAll}
 use Rattle.vlt_externals.proofs.OfHostAnswers.Reading.{each_none, each_some}
-use Rattle.vlt_externals.specs.Results.Results.{part_made, pieces_made, IsKeeper, ShowsNew, IsNewOrFull, MakesIn, HasPartMade, IsPartMade, MakesPart, HavePartsMade, ArePartsMade, PutsPieces}
+use Rattle.vlt_externals.specs.Results.Results.{part_made, pieces_made, IsKeeper, MakesIn, HasPartMade, IsPartMade, MakesPart, ArePartsMade, PutsPieces}
 
 -- ---- the new object
 

@@ -2,7 +2,6 @@
 use Rattle.std.proofs.Common.{◌≡◌, ℕ, ℤ, Bool, true, false, if◌then◌else◌, List, [], ◌∷◌, ◌++◌, filter, Option, None, Some, refl, sym, ap, ◌∙◌, subst, slice_get}
 use Rattle.std.specs.List.{zip}
 use Rattle.std.specs.Option.{option_map, option_to_list, option_and_then}
-use Rattle.std.proofs.lemmas.Bool.{false≢true}
 use Rattle.std.proofs.lemmas.Option.{none-some}
 use Rattle.vlt_core.specs.Core.{CaseKey, Entry, Func, Program}
 use Rattle.vlt_core.specs.Lookups.{is_held_after, is_new, after_set}
@@ -12,15 +11,13 @@ use Rattle.vlt_meaning.specs.Objects.{with_state, with_changed_object}
 use Rattle.vlt_meaning.specs.Calls.{caller_object}
 use Rattle.vlt_meaning.specs.HostAnswers.{Reading, reads, then_reads, ◌>>=◌, each, state_in, key_state}
 use Rattle.vlt_meaning.specs.Externals.{entry_states, with_states}
-use Rattle.vlt_externals.specs.HostAnswers.Read.{AreSets}
 use Rattle.vlt_externals.proofs.OfHostAnswers.Reading.{each_none, each_some}
 use Rattle.vlt_acts.specs.declared.values.values.Values.{Values}
 use Rattle.vlt_acts.specs.Values.Shown.{Seen}
 use Rattle.vlt_acts.specs.Acts.Acts.{Shows}
-use Rattle.vlt_externals.specs.Sent.{IsNamed}
 use Rattle.vlt_externals.specs.Back.{Becomes}
 use Rattle.vlt_externals.proofs.Going.{seen_after, shows_twice, shows_same}
-use Rattle.vlt_externals.specs.Results.Stated.{state_of_entry, Sets, AreOldNamed, SetsEntry, SetsEntries, key_for, AreCaseObjects, SetsCase}
+use Rattle.vlt_externals.specs.Results.Stated.{state_of_entry, Sets, SetsEntry, SetsEntries, key_for, AreCaseObjects, SetsCase}
 
 pub states_append : (qs rs : List (ℕ × ℕ)) (objects : List Thing) → with_states (qs ++ rs) objects ≡ with_states rs (with_states qs objects)
 states_append [] rs objects = refl

@@ -22,7 +22,6 @@ use Rattle.vlt_acts.specs.Values.Shown.{ShowObjects, key_at, Seen}
 use Rattle.vlt_acts.specs.Acts.Acts.{Shows}
 use Rattle.vlt_acts.specs.Objects.Cases.{ShowsKeys}
 use Rattle.vlt_externals.specs.Sent.{ShowsAll}
-use Rattle.vlt_externals.specs.HostAnswers.Read.{AreSets}
 use Rattle.vlt_externals.specs.declared.results.results.NewKey.{NewKey}
 use Rattle.vlt_externals.specs.Results.Stated.{AreCaseObjects}
 

@@ -1,10 +1,10 @@
 -- States that an answer gives, and objects of a case's keys that come back.
-use Rattle.std.specs.Prelude.{◌≡◌, ℕ, ℤ, Bool, true, false, if◌then◌else◌, List, [], ◌∷◌, filter, Option, None, Some, slice_get}
+use Rattle.std.specs.Prelude.{◌≡◌, ℕ, ℤ, Bool, true, false, if◌then◌else◌, List, [], ◌∷◌, filter, Option, Some, slice_get}
 use Rattle.std.specs.List.{zip}
 use Rattle.std.specs.Option.{option_map, option_to_list, option_and_then}
 use Rattle.vlt_core.specs.Core.{CaseKey, Entry, Func, Program}
 use Rattle.vlt_core.specs.Lookups.{is_held_after, is_new, after_set}
-use Rattle.vlt_meaning.specs.World.{Object, Frame, is_out, loose}
+use Rattle.vlt_meaning.specs.World.{Frame, is_out, loose}
 use Rattle.vlt_meaning.specs.Objects.{objects_after_move}
 use Rattle.vlt_meaning.specs.Calls.{caller_object}
 use Rattle.vlt_meaning.specs.HostAnswers.{each, state_in, key_state}

@@ -3,7 +3,7 @@ use Rattle.std.proofs.Common.{◌≡◌, ◌<◌, ◌≤◌, ◌+◌, ℕ, List,
 use Rattle.std.proofs.lemmas.List.{drop_all}
 use Rattle.vlt_core.specs.Flow as s
 use Rattle.vlt_core.specs.Core.{Tok}
-use Rattle.vlt_core.specs.Flow.{Stmts, done, next, Arms, no_arms, size, size_block, size_stmts, size_arms}
+use Rattle.vlt_core.specs.Flow.{next, size, size_block, size_stmts, size_arms}
 use Rattle.vlt_core.specs.Found.{Ones}
 use Rattle.vlt_rows.specs.declared.tree.FlowStmt.{FlowStmt}
 use Rattle.vlt_rows.specs.declared.tree.FlowArm.{FlowArm, out-FlowArm}

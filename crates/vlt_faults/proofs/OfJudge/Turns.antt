@@ -4,7 +4,7 @@ use Rattle.std.proofs.lemmas.List.{drop_all}
 use Rattle.vlt_core.specs.Core.{Tok}
 use Rattle.vlt_core.specs.Maps.{Row}
 use Rattle.vlt_core.specs.Flow as s
-use Rattle.vlt_core.specs.Flow.{Flow, Block, Stmts, done, next, Arms, no_arms, arm, size, size_block, size_stmts, size_arms}
+use Rattle.vlt_core.specs.Flow.{Flow, Block, Stmts, next, Arms, arm, size, size_block, size_stmts, size_arms}
 use Rattle.vlt_core.specs.Found.{Ones, images, out, out_stmts, to_next}
 use Rattle.vlt_core.specs.Faults.{SpotAtStmts, SpotAtArms, spots, spots_block, spots_stmts, spots_arms, IsMixed, IsUnwanted}
 use Rattle.vlt_rows.specs.declared.tree.FlowStmt.{FlowStmt}

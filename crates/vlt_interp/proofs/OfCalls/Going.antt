@@ -1,5 +1,5 @@
 -- A unit of fuel for a call.
-use Rattle.std.proofs.Common.{◌≡◌, None, inl, inr, ◌<◌, ◌-◌, ◌==◌, ℕ, true, false, if◌then◌else◌, List, Option, Some, refl, sym, ap, ◌∙◌, subst, arith}
+use Rattle.std.proofs.Common.{◌≡◌, inl, inr, ◌<◌, ◌-◌, ◌==◌, ℕ, true, false, if◌then◌else◌, List, Option, Some, refl, sym, ap, ◌∙◌, subst, arith}
 use Rattle.std.proofs.lemmas.Bool.Decides.{nat_tests}
 use Rattle.vlt_core.specs.Core.{Func, Program}
 use Rattle.vlt_core.specs.View.{program_of}

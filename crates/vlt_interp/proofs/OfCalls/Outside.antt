@@ -1,5 +1,5 @@
 -- Where a call of an external comes to.
-use Rattle.std.proofs.Common.{◌≡◌, ◌⊎◌, ⊎_elim, inl, inr, ◌<◌, ◌≤◌, ◌+◌, ◌*◌, ℕ, true, List, [], length, Option, None, Some, Result, Ok, Err, refl, sym, ap, ◌∙◌, subst, arith, slice_get, reverse}
+use Rattle.std.proofs.Common.{◌≡◌, ◌⊎◌, ⊎_elim, inl, inr, ◌<◌, ◌≤◌, ◌+◌, ◌*◌, ℕ, true, List, length, Option, None, Some, Result, Ok, Err, refl, sym, ap, ◌∙◌, subst, arith, slice_get, reverse}
 use Rattle.std.specs.Prelude.{IfSome, IfOk}
 use Rattle.std.specs.Vec.{vec_capacity}
 use Rattle.std.specs.Option.{option_map}

@@ -1,5 +1,5 @@
 -- Room that is counted.
-use Rattle.std.proofs.Common.{◌≡◌, ◌≤◌, ◌<◌, ◌+◌, ◌*◌, ℕ, max, [], length, Option, Some, None, Result, Ok, Err, IfSome, ◌^◌, sym, ap, ◌∙◌, subst, arith}
+use Rattle.std.proofs.Common.{◌≡◌, ◌≤◌, ◌<◌, ◌+◌, ◌*◌, ℕ, max, length, Option, Some, None, Result, Ok, Err, IfSome, ◌^◌, sym, ap, ◌∙◌, subst, arith}
 use Rattle.std.specs.Result.{OkIff, result_ok}
 use Rattle.std.specs.Option.{SomeIff}
 use Rattle.std.proofs.lemmas.Option.{same_Some, none-some}

@@ -1,6 +1,6 @@
 -- Statements that fill and name variables and keys of their own function alone, as those of programs that break no rule on names
 -- and types do.
-use Rattle.std.specs.Prelude.{◌≡◌, ◌<◌, ◌≤◌, ◌^◌, ℕ, List, [], ◌∷◌, length, Option, Some, slice_get, IfSome, None}
+use Rattle.std.specs.Prelude.{◌≡◌, ◌<◌, ◌≤◌, ◌^◌, ℕ, List, [], ◌∷◌, length, Option, Some, slice_get, IfSome}
 use Rattle.vlt_core.specs.Core.{Simple, set, input, make, drop, own, unpack, build, swap, open_into, adopt, Form, simple, call, choose, loop, switch, focus, scope, return, jump, Func, Block, block, Stmts, done, next, Arms, no_arms, arm, Program}
 use Rattle.vlt_core.specs.Lookups.{Reference, reference_of}
 use Rattle.vlt_acts.specs.Frames.Frames.{IsLike}

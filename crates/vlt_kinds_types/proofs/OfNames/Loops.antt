@@ -1,5 +1,5 @@
 -- One more turn of a loop over a list of the code.
-use Rattle.std.proofs.Common.{◌≡◌, ◌∙◌, ◌<◌, ◌+◌, ℕ, List, [], ◌∷◌, ◌++◌, map, length, drop, get_or, Option, refl, ap, sym}
+use Rattle.std.proofs.Common.{◌≡◌, ◌∙◌, ◌<◌, ◌+◌, ℕ, List, [], ◌∷◌, ◌++◌, map, length, drop, get_or, Option, ap, sym}
 use Rattle.std.proofs.lemmas.List.{at_drop_more, map-append, append_assoc}
 use Rattle.vlt_kinds_types.specs.declared.names.found.Refusal.{Refusal}
 use Rattle.vlt_kinds_types.specs.Names.Refusals.{least_from, found_each}

@@ -1,6 +1,5 @@
 -- The names that a whole file knows.
 use Rattle.std.specs.Prelude.{ℕ, Bool, suc, if◌then◌else◌, is_some, List, [], ◌∷◌, ◌++◌, map, Option}
-use Rattle.std.specs.Borrow.{Bor}
 use Rattle.std.specs.Map.{lookup}
 use Rattle.std.specs.Str.{bytes_eq}
 use Rattle.vlt_syntax.specs.Tree as s

@@ -4,10 +4,10 @@ use Rattle.std.specs.List.{flat_map}
 use Rattle.std.proofs.lemmas.Bool.{eq-eqb}
 use Rattle.std.proofs.lemmas.Option.{none-some, same_Some}
 use Rattle.vlt_syntax.specs.Tree as s
-use Rattle.vlt_syntax.specs.Tree.{Name, Named, Entry, Head, Parameter, ResultType}
+use Rattle.vlt_syntax.specs.Tree.{Entry, Head, Parameter, ResultType}
 use Rattle.vlt_syntax.specs.Lists.{Each}
 use Rattle.vlt_core.specs.Core as core
-use Rattle.vlt_core.specs.Core.{KeyDecl, VarDecl, TypeDecl, Func, Program}
+use Rattle.vlt_core.specs.Core.{KeyDecl, Func, Program}
 use Rattle.vlt_core.specs.Types.{decl_of}
 use Rattle.vlt_core.specs.KindedHeads.{Rules, unless, when_some, has, are_apart, Typing, own_typings, typings, given_types, are_all, is_only_type, argument_broken, reference_broken, type_broken, key_broken, listed_broken}
 use Rattle.vlt_core.specs.declared.rules.TheConstants as rule

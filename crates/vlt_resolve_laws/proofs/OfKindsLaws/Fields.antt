@@ -5,7 +5,7 @@ use Rattle.vlt_syntax.specs.Tree as s
 use Rattle.vlt_syntax.specs.Tree.{Name, Named, HeaderKey, Field}
 use Rattle.vlt_syntax.specs.Lists.{Each}
 use Rattle.vlt_core.specs.Core as core
-use Rattle.vlt_core.specs.Core.{Header, TypeDecl, an_abstract, a_struct, a_variant, Program}
+use Rattle.vlt_core.specs.Core.{TypeDecl, an_abstract, a_struct, a_variant, Program}
 use Rattle.vlt_core.specs.Lookups.{cases_in}
 use Rattle.vlt_core.specs.Types as c
 use Rattle.vlt_core.specs.Types.{decl_of}

@@ -20,7 +20,7 @@ use Rattle.vlt_kinds_types.specs.Names.Refusals.{refuse_if, of_each}
 use Rattle.vlt_kinds_types.specs.Names.Along.{along}
 use Rattle.vlt_kinds_types.specs.Files.{File, type_named, shape_named, state_names, variant_sort}
 use Rattle.vlt_kinds_types.specs.Types as k
-use Rattle.vlt_kinds_types.specs.Types.{KeyUse, named_uses, ty_uses, ty_refused, ty_place, sort_in, shape_in, is_variant, is_variant_in, type_number, key_numbers, owned_refused, owned_ty, core_ty, states_listed}
+use Rattle.vlt_kinds_types.specs.Types.{named_uses, ty_uses, ty_refused, ty_place, sort_in, shape_in, is_variant, is_variant_in, type_number, key_numbers, owned_refused, owned_ty, core_ty, states_listed}
 use Rattle.vlt_kinds_heads.specs.Places.{parameter_uses, clause_in, entry_key}
 use Rattle.vlt_kinds_heads.specs.Keys.{Keys, facts_of}
 use Rattle.vlt_kinds_heads.specs.Heads.{result_type_refused, parameter_refused, is_main_clause, has_none, main_refused}

@@ -8,7 +8,7 @@ use Rattle.vlt_syntax.specs.Tree.{Name, SetState, HeaderKey, Field, Case, States
 use Rattle.vlt_syntax.specs.Lists.{Each, IsFilled}
 use Rattle.vlt_syntax.specs.Grammar.{IsDecl, language}
 use Rattle.vlt_core.specs.Core as core
-use Rattle.vlt_core.specs.Core.{SetDecl, TypeDecl, Program}
+use Rattle.vlt_core.specs.Core.{TypeDecl, Program}
 use Rattle.vlt_core.specs.Lookups.{set_in}
 use Rattle.vlt_core.specs.Types.{decl_of}
 use Rattle.vlt_core.specs.KindedHeads.{Rules, unless, has_set, type_rows, field_broken, case_broken}

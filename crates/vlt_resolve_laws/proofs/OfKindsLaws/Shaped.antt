@@ -5,10 +5,9 @@ use Rattle.std.proofs.lemmas.Bool.{or_from}
 use Rattle.std.proofs.lemmas.List.{map-append}
 use Rattle.vlt_base.specs.declared.places.Span.{Span}
 use Rattle.vlt_syntax.specs.Tree as s
-use Rattle.vlt_syntax.specs.Tree.{Name, Named, HeaderKey, Case, Decl}
+use Rattle.vlt_syntax.specs.Tree.{Named, HeaderKey, Case, Decl}
 use Rattle.vlt_syntax.specs.Lists.{Each}
 use Rattle.vlt_core.specs.Core as core
-use Rattle.vlt_core.specs.Core.{CaseDecl, TypeDecl}
 use Rattle.vlt_core.specs.Lookups.{is_owning}
 use Rattle.vlt_core.specs.Types as c
 use Rattle.vlt_core.specs.declared.rules.TheConstants as rule
@@ -20,7 +19,7 @@ use Rattle.vlt_kinds_decls.specs.declared.parts.Part.TheVariants as part
 use Rattle.vlt_kinds_decls.specs.Decls.{header_refused, typed_refused, case_keys_refused, case_refused, struct_refused, variant_refused, type_refused}
 use Rattle.vlt_kinds_decls.specs.Made.{header_number, core_case_key, core_case, core_variant, core_struct, core_types_in, core_types}
 use Rattle.vlt_resolve_laws.specs.KindsLaws.Shapes as shapes
-use Rattle.vlt_resolve_laws.specs.KindsLaws.Shapes.{has_owners, core_sort, core_shape, header_wanted}
+use Rattle.vlt_resolve_laws.specs.KindsLaws.Shapes.{has_owners, core_sort, core_shape}
 use Rattle.vlt_resolve_laws.proofs.OfKindsLaws.Empty.{cons_not_nil, no_left, no_right}
 use Rattle.vlt_resolve_laws.proofs.OfKindsLaws.Fields.{header_clear}
 

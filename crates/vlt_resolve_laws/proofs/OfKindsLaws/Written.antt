@@ -8,7 +8,7 @@ use Rattle.vlt_core.specs.Core.{TypeDecl, an_abstract, a_struct, a_variant, Prog
 use Rattle.vlt_core.specs.Lookups.{cases_in}
 use Rattle.vlt_base.specs.declared.places.Span.{Span}
 use Rattle.vlt_core.specs.Types as c
-use Rattle.vlt_core.specs.Types.{decl_of, header_in, header_of, args_of, type_in, is_owning_type}
+use Rattle.vlt_core.specs.Types.{header_in}
 use Rattle.vlt_core.specs.declared.rules.TheConstants as rule
 use Rattle.vlt_kinds_types.specs.Names.Refusals.{refusal, refuse_if}
 use Rattle.vlt_kinds_types.specs.declared.shapes.Shape.{Shape}

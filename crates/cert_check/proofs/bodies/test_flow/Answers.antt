@@ -1,4 +1,3 @@
-use Rattle.std.proofs.Common.{refl}
 use Rattle.cert_check.proofs.Causes.{not_true}
 use Rattle.cert_check.specs.Bodies.{disordered, many_statements, lost_jump}
 use Rattle.cert_check.proofs.Causes.{error_is}

@@ -1,5 +1,4 @@
-use Rattle.std.proofs.Common.{arith, subst, sym, ◌≡◌, ◌-◌, drop, length, ap}
-use Rattle.vlt_keyset.specs.Pairs.{map_of_pairs}
+use Rattle.std.proofs.Common.{arith, ◌-◌}
 use Rattle.cert_check.proofs.Filling.{filled_first, filled_all, next_absent, next_present, next_filled}
 use Rattle.cert_check.proofs.dense.dense.Goals as goal
 

@@ -1,8 +1,8 @@
-use Rattle.std.proofs.Common.{arith, refl, map, length, ap, sym, ◌≡◌, ◌≤◌, ◌+◌, ◌<◌, ◌∙◌, subst}
+use Rattle.std.proofs.Common.{arith, ◌+◌}
 use Rattle.vlt_core.specs.View.{program_of, func_of}
-use Rattle.cert_check.specs.Unfit.{other_count, many_statements}
-use Rattle.cert_check.specs.Notes.{plain_notes, notes_of_all}
-use Rattle.cert_check.proofs.Telling.{all_stopped, hold_more, all_hold, same_lengths, as_many}
+use Rattle.cert_check.specs.Unfit.{many_statements}
+use Rattle.cert_check.specs.Notes.{notes_of_all}
+use Rattle.cert_check.proofs.Telling.{all_stopped, all_hold, as_many}
 use Rattle.cert_check.proofs.whole.test_all.Goals as goal
 
 pub returns-in_err-count : goal.returns-in_err-count

@@ -1,4 +1,4 @@
-use Rattle.std.proofs.Common.{◌≡◌, ◌∙◌}
+use Rattle.std.proofs.Common.{◌∙◌}
 use Rattle.vlt_core.specs.View.{program_of, header_of, case_of}
 use Rattle.vlt_core.specs.KindedHeads.{case_broken}
 use Rattle.cert_kinds.specs.Tallies.{tally_of}

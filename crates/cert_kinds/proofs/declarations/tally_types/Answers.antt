@@ -1,4 +1,4 @@
-use Rattle.std.proofs.Common.{◌≡◌, ◌∙◌}
+use Rattle.std.proofs.Common.{◌∙◌}
 use Rattle.vlt_core.specs.View.{program_of, type_of}
 use Rattle.cert_kinds.specs.Tallies.{tally_of}
 use Rattle.cert_kinds.specs.Whole.{numbered_type_rows}

@@ -1,4 +1,4 @@
-use Rattle.std.proofs.Common.{◌≡◌, ◌∙◌, ap, ◌<◌, length, arith}
+use Rattle.std.proofs.Common.{◌∙◌, ap, ◌<◌, length, arith}
 use Rattle.vlt_core.specs.Core.{Func, Program}
 use Rattle.vlt_core.specs.View.{form_of, block_of}
 use Rattle.vlt_core.specs.KindedScopes.{Ids, Around}

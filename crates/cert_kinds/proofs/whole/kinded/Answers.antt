@@ -1,4 +1,3 @@
-use Rattle.std.proofs.Common.{◌≡◌}
 use Rattle.vlt_core.specs.View.{program_of}
 use Rattle.cert_kinds.proofs.Answered.{nothing_found, row_found}
 use Rattle.cert_kinds.proofs.whole.kinded.Goals as goal

@@ -1,4 +1,3 @@
-use Rattle.std.proofs.Common.{◌≡◌}
 use Rattle.vlt_core.specs.View.{program_of}
 use Rattle.cert_kinds.specs.Tallies.{tally_of}
 use Rattle.cert_kinds.proofs.Declared.{program_rows}

@@ -1,4 +1,4 @@
-use Rattle.std.proofs.Common.{◌≡◌, map}
+use Rattle.std.proofs.Common.{map}
 use Rattle.vlt_core.specs.View.{tok_of}
 use Rattle.cert_kinds_blocks.proofs.Made.{pushed, keys_next}
 use Rattle.cert_kinds_blocks.proofs.tokens.push_keys.Goals as goal

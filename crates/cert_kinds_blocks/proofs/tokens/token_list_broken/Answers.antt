@@ -1,4 +1,4 @@
-use Rattle.std.proofs.Common.{rules, ◌≡◌, ◌∙◌}
+use Rattle.std.proofs.Common.{◌∙◌}
 use Rattle.vlt_core.specs.View.{tok_of}
 use Rattle.cert_kinds_types.proofs.Smallest.{each_next}
 use Rattle.cert_kinds_blocks.proofs.tokens.token_list_broken.Goals as goal

@@ -1,4 +1,4 @@
-use Rattle.std.proofs.Common.{rules, ◌≡◌, ◌∙◌, map}
+use Rattle.std.proofs.Common.{◌∙◌, map}
 use Rattle.vlt_core.specs.View.{program_of, func_of, keys_of}
 use Rattle.vlt_core.specs.KindedHeads.{parameters_of}
 use Rattle.vlt_core.specs.KindedCalls.{caller_type}

@@ -1,4 +1,4 @@
-use Rattle.std.proofs.Common.{◌≡◌, ◌∙◌}
+use Rattle.std.proofs.Common.{◌∙◌}
 use Rattle.vlt_core.specs.View.{keys_of, var_of}
 use Rattle.vlt_core.specs.KindedCalls.{caller_type}
 use Rattle.cert_kinds_calls.proofs.Operands.{wanted_here}

@@ -1,4 +1,4 @@
-use Rattle.std.proofs.Common.{◌≡◌, ◌&&◌, ◌||◌, ◌==◌, not, nat_lt, map, drop}
+use Rattle.std.proofs.Common.{◌≡◌, map, drop}
 use Rattle.std.specs.List.{list_any}
 use Rattle.vlt_core.specs.View.{entry_of, keys_of}
 use Rattle.cert_kinds_calls.specs.Fitting.{gives_key}

@@ -1,4 +1,4 @@
-use Rattle.std.proofs.Common.{rules, ◌≡◌, ◌∙◌}
+use Rattle.std.proofs.Common.{◌∙◌}
 use Rattle.vlt_core.specs.View.{func_of}
 use Rattle.cert_kinds_exprs.specs.Scopes.{ids_of}
 use Rattle.cert_kinds_calls.proofs.Keys.{callers_next}

@@ -1,4 +1,4 @@
-use Rattle.std.proofs.Common.{◌≡◌, ◌∙◌, sym, ap, map}
+use Rattle.std.proofs.Common.{◌∙◌, sym, ap, map}
 use Rattle.vlt_core.specs.View.{keys_of, entry_of}
 use Rattle.cert_kinds_calls.specs.Fitting.{stay_apart}
 use Rattle.cert_kinds_calls.proofs.Keys.{apart_by_entries}

@@ -1,4 +1,4 @@
-use Rattle.std.proofs.Common.{◌≡◌, ◌&&◌, ◌||◌, ◌==◌, not, nat_lt, map, drop}
+use Rattle.std.proofs.Common.{◌≡◌, nat_lt, drop}
 use Rattle.std.specs.List.{list_all}
 use Rattle.vlt_core.specs.View.{keys_of}
 use Rattle.cert_kinds_calls.proofs.fitting.are_below.Given as goal

@@ -1,4 +1,4 @@
-use Rattle.std.proofs.Common.{◌≡◌, ◌∙◌, sym}
+use Rattle.std.proofs.Common.{◌∙◌, sym}
 use Rattle.vlt_core.specs.View.{func_of}
 use Rattle.vlt_core.specs.KindedHeads.{has}
 use Rattle.cert_kinds_calls.specs.Fitting.{callee_keys}

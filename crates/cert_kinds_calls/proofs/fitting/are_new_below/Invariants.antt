@@ -1,4 +1,4 @@
-use Rattle.std.proofs.Common.{◌≡◌, ◌&&◌, ◌||◌, ◌==◌, not, nat_lt, map, drop}
+use Rattle.std.proofs.Common.{◌≡◌, ◌||◌, not, nat_lt, map, drop}
 use Rattle.std.specs.List.{list_all}
 use Rattle.vlt_core.specs.View.{entry_of}
 use Rattle.vlt_core.specs.Lookups.{is_new}

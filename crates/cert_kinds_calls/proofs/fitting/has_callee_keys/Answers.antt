@@ -1,4 +1,4 @@
-use Rattle.std.proofs.Common.{◌≡◌, ◌∙◌, ap, map, ◌||◌, not, nat_lt}
+use Rattle.std.proofs.Common.{◌∙◌, ap, map, ◌||◌, not, nat_lt}
 use Rattle.std.specs.List.{list_all}
 use Rattle.vlt_core.specs.View.{func_of, entry_of}
 use Rattle.vlt_core.specs.Lookups.{is_new}

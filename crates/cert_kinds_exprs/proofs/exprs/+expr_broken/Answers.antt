@@ -1,4 +1,3 @@
-use Rattle.std.proofs.Common.{rules, ◌≡◌, ◌∙◌, sym}
 use Rattle.vlt_core.specs.View.{program_of, func_of, expr_of}
 use Rattle.vlt_core.proofs.Views.{unary_expr, binary_expr}
 use Rattle.cert_kinds_exprs.specs.Scopes.{ids_of}

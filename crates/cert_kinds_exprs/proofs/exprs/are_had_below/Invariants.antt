@@ -1,4 +1,4 @@
-use Rattle.std.proofs.Common.{◌≡◌, ◌&&◌, ◌||◌, ◌==◌, not, map, drop}
+use Rattle.std.proofs.Common.{◌≡◌, ◌||◌, not, drop}
 use Rattle.std.specs.List.{list_all}
 use Rattle.std.proofs.Common.{nat_lt}
 use Rattle.vlt_base.specs.States.{has_state}

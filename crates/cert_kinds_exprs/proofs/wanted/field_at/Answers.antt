@@ -1,4 +1,4 @@
-use Rattle.std.proofs.Common.{◌≡◌, ◌∙◌, ap, Some}
+use Rattle.std.proofs.Common.{◌∙◌, ap, Some}
 use Rattle.vlt_core.specs.Types.{with_keys}
 use Rattle.vlt_core.specs.View.{keys_of, field_of}
 use Rattle.cert_kinds_exprs.proofs.Found.{at_two}

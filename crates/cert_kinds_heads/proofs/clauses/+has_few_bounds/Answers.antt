@@ -1,4 +1,4 @@
-use Rattle.std.proofs.Common.{rules, ◌≡◌, ◌∙◌, sym, ap, not}
+use Rattle.std.proofs.Common.{◌∙◌, sym, ap, not}
 use Rattle.vlt_core.specs.KindedHeads.{is_bound_entry}
 use Rattle.cert_kinds_heads.proofs.Entries.{few_where}
 use Rattle.cert_kinds_heads.proofs.clauses.+has_few_bounds.Goals as goal

@@ -1,6 +1,6 @@
-use Rattle.std.proofs.Common.{rules, ◌≡◌, ◌∙◌}
+use Rattle.std.proofs.Common.{◌∙◌}
 use Rattle.cert_kinds_types.proofs.Smallest.{each_item}
-use Rattle.vlt_core.specs.View.{func_of, keys_of, case_key_of}
+use Rattle.vlt_core.specs.View.{case_key_of}
 use Rattle.cert_kinds_heads.proofs.externals.case_keys_broken.Goals as goal
 
 pub loop-key-preserved : goal.loop-key-preserved

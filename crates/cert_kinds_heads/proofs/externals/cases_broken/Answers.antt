@@ -1,6 +1,6 @@
-use Rattle.std.proofs.Common.{rules, ◌≡◌, ◌∙◌}
+use Rattle.std.proofs.Common.{◌∙◌}
 use Rattle.cert_kinds_types.proofs.Smallest.{each_item}
-use Rattle.vlt_core.specs.View.{program_of, func_of, keys_of, case_of}
+use Rattle.vlt_core.specs.View.{case_of}
 use Rattle.cert_kinds_heads.proofs.externals.cases_broken.Goals as goal
 
 pub loop-d-preserved : goal.loop-d-preserved

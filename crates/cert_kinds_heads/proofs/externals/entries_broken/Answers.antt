@@ -1,6 +1,6 @@
-use Rattle.std.proofs.Common.{rules, ◌≡◌, ◌∙◌}
+use Rattle.std.proofs.Common.{◌∙◌}
 use Rattle.cert_kinds_types.proofs.Smallest.{each_item}
-use Rattle.vlt_core.specs.View.{func_of, entry_of}
+use Rattle.vlt_core.specs.View.{entry_of}
 use Rattle.cert_kinds_heads.proofs.externals.entries_broken.Goals as goal
 
 pub loop-e-preserved : goal.loop-e-preserved

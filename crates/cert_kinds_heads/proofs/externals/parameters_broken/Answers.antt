@@ -1,4 +1,4 @@
-use Rattle.std.proofs.Common.{rules, ◌≡◌, ◌∙◌}
+use Rattle.std.proofs.Common.{◌∙◌}
 use Rattle.cert_kinds_types.proofs.Smallest.{each_item_of}
 use Rattle.vlt_core.specs.View.{var_of}
 use Rattle.cert_kinds_heads.proofs.externals.parameters_broken.Goals as goal

@@ -1,6 +1,6 @@
-use Rattle.std.proofs.Common.{rules, ◌≡◌, ◌∙◌}
+use Rattle.std.proofs.Common.{◌∙◌}
 use Rattle.cert_kinds_types.proofs.Smallest.{each_item}
-use Rattle.vlt_core.specs.View.{program_of, ty_of}
+use Rattle.vlt_core.specs.View.{ty_of}
 use Rattle.cert_kinds_heads.proofs.externals.payloads_broken.Goals as goal
 
 pub loop-ty-preserved : goal.loop-ty-preserved

@@ -1,4 +1,4 @@
-use Rattle.std.proofs.Common.{rules, ◌≡◌, sym, None}
+use Rattle.std.proofs.Common.{sym, None}
 use Rattle.cert_kinds_heads.proofs.Summaries.{summary_zip}
 use Rattle.cert_kinds_heads.proofs.given.+args_give.Goals as goal
 

@@ -1,4 +1,4 @@
-use Rattle.std.proofs.Common.{rules, ◌≡◌, ◌∙◌, map}
+use Rattle.std.proofs.Common.{◌∙◌}
 use Rattle.vlt_core.specs.View.{var_of}
 use Rattle.cert_kinds_heads.specs.Summaries.{summary_of}
 use Rattle.cert_kinds_heads.proofs.Summaries.{summary_next_of}

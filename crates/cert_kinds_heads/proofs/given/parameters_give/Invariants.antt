@@ -1,7 +1,7 @@
 use Rattle.std.proofs.Common.{◌≡◌, map, drop}
 use Rattle.std.specs.List.{flat_map}
 use Rattle.vlt_core.specs.View.{program_of, var_of}
-use Rattle.vlt_core.specs.KindedHeads.{types_at, typings, own_typings}
+use Rattle.vlt_core.specs.KindedHeads.{types_at, typings}
 use Rattle.cert_kinds_heads.specs.Summaries.{summary, both, summary_of}
 use Rattle.cert_kinds_heads.proofs.given.parameters_give.Given as goal
 

@@ -1,4 +1,4 @@
-use Rattle.std.proofs.Common.{rules, ◌≡◌, ◌∙◌, sym, None}
+use Rattle.std.proofs.Common.{sym, None}
 use Rattle.cert_kinds_types.proofs.Zips.{zip_next}
 use Rattle.cert_kinds_heads.proofs.heads.+args_broken.Goals as goal
 

@@ -1,6 +1,5 @@
-use Rattle.std.proofs.Common.{rules, ◌≡◌, ◌∙◌}
+use Rattle.std.proofs.Common.{◌∙◌}
 use Rattle.cert_kinds_types.proofs.Smallest.{each_next}
-use Rattle.vlt_core.specs.View.{keys_of, func_of}
 use Rattle.cert_kinds_heads.proofs.heads.key_list_broken.Goals as goal
 
 pub loop-k-preserved : goal.loop-k-preserved

@@ -1,4 +1,4 @@
-use Rattle.std.proofs.Common.{◌≡◌, map, drop}
+use Rattle.std.proofs.Common.{◌≡◌, drop}
 use Rattle.std.specs.List.{flat_map}
 use Rattle.cert_kinds_types.specs.Least.{least, lesser}
 use Rattle.vlt_core.specs.View.{keys_of, func_of}

@@ -1,4 +1,4 @@
-use Rattle.std.proofs.Common.{◌≡◌, ◌∙◌, sym}
+use Rattle.std.proofs.Common.{◌∙◌, sym}
 use Rattle.vlt_core.specs.View.{keys_of}
 use Rattle.cert_kinds_stmts.proofs.Owned.{next_owned, other_owned}
 use Rattle.cert_kinds_stmts.proofs.opened.+owning_at.Goals as goal

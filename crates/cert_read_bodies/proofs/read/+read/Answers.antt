@@ -2,7 +2,7 @@ use Rattle.std.proofs.Common.{refl, sym, ap, ◌∙◌, subst, ◌+◌, ◌==◌
 use Rattle.vlt_core.specs.View.{expr_of}
 use Rattle.cert_rows.specs.Rows as row
 use Rattle.cert_format.specs.Drafts as s
-use Rattle.cert_format.specs.Drafts.{head, arm_heads, may_arm}
+use Rattle.cert_format.specs.Drafts.{head, may_arm}
 use Rattle.cert_read_rows.specs.Maps.{maps_of}
 use Rattle.cert_read_rows.specs.Heads.{head_of, arm_of}
 use Rattle.cert_read_rows.specs.Statements.{plain_of, stmt_of}

@@ -1,4 +1,4 @@
-use Rattle.std.proofs.Common.{◌≡◌, List, ℕ, None, Some, Ok, Err, sym, subst, rules, arith}
+use Rattle.std.proofs.Common.{◌≡◌, Ok, Err, sym, subst, rules, arith}
 use Rattle.std.proofs.lemmas.Grind.{common_steps}
 use Rattle.c_syntax.specs.Reading.{IsCProgramOf}
 use Rattle.c_syntax.specs.View.{program_of}

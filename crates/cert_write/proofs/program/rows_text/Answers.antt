@@ -1,4 +1,4 @@
-use Rattle.std.proofs.Common.{[], ap, ◌∙◌, subst}
+use Rattle.std.proofs.Common.{ap, ◌∙◌, subst}
 use Rattle.json.specs.Print.{print}
 use Rattle.vlt_core.specs.View.{program_of}
 use Rattle.cert_rows.specs.Parts.{list}

@@ -1,4 +1,4 @@
-use Rattle.std.proofs.Common.{◌≡◌, inl, inr, true, false, refl, subst}
+use Rattle.std.proofs.Common.{inl, inr, true, false, refl, subst}
 use Rattle.vlt_heap.specs.Shown.{Tells}
 use Rattle.vlt_externals.proofs.backs.set_if_held.Goals as goal
 

@@ -1,7 +1,7 @@
-use Rattle.std.proofs.Common.{rules, sym, ap, subst, ◌∙◌, map}
+use Rattle.std.proofs.Common.{rules, sym, subst, ◌∙◌, map}
 use Rattle.vlt_core.specs.View.{entry_of, keys_of}
 use Rattle.vlt_externals.specs.Sent.{CanTake, Takes}
-use Rattle.vlt_externals.proofs.Going.{can_first, can_rest, can_skip, takes_both, takes_skip, takes_none}
+use Rattle.vlt_externals.proofs.Going.{can_first, can_rest, can_skip, takes_both}
 use Rattle.vlt_externals.proofs.sending.+send_taken.Goals as goal
 
 pub send_key-requires-clause-can : goal.send_key-requires-clause-can

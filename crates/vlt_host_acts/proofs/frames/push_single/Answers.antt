@@ -1,4 +1,4 @@
-use Rattle.std.proofs.Common.{sym, length, rules, arith}
+use Rattle.std.proofs.Common.{sym, length, arith}
 use Rattle.vlt_acts.proofs.OfActs.Keeping.{single_at}
 use Rattle.vlt_host_acts.proofs.frames.push_single.Goals as goal
 

@@ -1,4 +1,4 @@
-use Rattle.std.proofs.Common.{◌≡◌, ◌-◌, Some, slice_get, subst, ap, ◌∙◌, length}
+use Rattle.std.proofs.Common.{◌≡◌, ◌-◌, slice_get, subst, ap, ◌∙◌, length}
 use Rattle.std.specs.Option.{option_map}
 use Rattle.vlt_core.specs.View.{ty_of}
 use Rattle.vlt_acts.specs.Frames.Left.{value_at}

@@ -1,9 +1,8 @@
-use Rattle.std.proofs.Common.{◌≡◌, ◌∙◌, ◌≤◌, ◌&&◌, not, map, length, refl, sym, ap, subst, arith}
+use Rattle.std.proofs.Common.{◌∙◌, ◌&&◌, not, map, refl, sym, ap, subst, arith}
 use Rattle.std.specs.List.{list_any}
 use Rattle.vlt_io.specs.Outside.{Grew, GrewByPart}
 use Rattle.vlt_core.specs.KindedHeads.{has}
 use Rattle.vlt_core.specs.View.{func_of, entry_of}
-use Rattle.vlt_steps.specs.Writing.{Outside}
 use Rattle.vlt_host_meaning.specs.Lines.{result_line}
 use Rattle.vlt_permits.specs.Arguments.{types_in, bindings_in}
 use Rattle.vlt_permits.specs.Held.{numbers_in, room_in}

@@ -1,4 +1,4 @@
-use Rattle.std.proofs.Common.{◌≡◌, ◌<◌, ◌∙◌, [], None, Some, refl, arith, length}
+use Rattle.std.proofs.Common.{◌≡◌, ◌∙◌, [], None, Some, refl, arith}
 use Rattle.vlt_steps.specs.Writing.{Outside}
 use Rattle.vlt_interp.specs.Tasks.Shown.{tasks_left}
 use Rattle.vlt_interp.proofs.Running.{can_move, goes_on, ends_so, same_heap, some_left, none_left, come_so}

@@ -1,8 +1,8 @@
 use Rattle.std.proofs.Common.{◌∙◌, map}
 use Rattle.vlt_syntax.specs.View as view
 use Rattle.vlt_core.specs.View as core_view
-use Rattle.vlt_kinds_types.proofs.OfNames.Loops.{found_next, along_next, made_next}
-use Rattle.vlt_kinds_types.specs.Seen.{file_seen, states_seen}
+use Rattle.vlt_kinds_types.proofs.OfNames.Loops.{made_next}
+use Rattle.vlt_kinds_types.specs.Seen.{file_seen}
 use Rattle.vlt_kinds_decls.specs.Decls as d
 use Rattle.vlt_kinds_decls.specs.Made as m
 use Rattle.vlt_kinds_decls.proofs.made.core_case_keys.Goals as goal

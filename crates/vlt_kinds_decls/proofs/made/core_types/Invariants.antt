@@ -1,15 +1,11 @@
-use Rattle.std.proofs.Common.{◌≡◌, ◌++◌, ◌<◌, ◌≤◌, ℕ, [], ◌∷◌, drop, take, map, option_map, length, All}
-use Rattle.std.specs.List.{position_from}
-use Rattle.std.specs.Str.{bytes_eq}
+use Rattle.std.proofs.Common.{◌≡◌, ◌++◌, drop, map, length, All}
 use Rattle.vlt_syntax.specs.View as view
 use Rattle.vlt_syntax.specs.Lists.{Each}
 use Rattle.vlt_syntax.specs.Grammar.{IsDecl, language}
 use Rattle.vlt_core.specs.View as core_view
-use Rattle.vlt_kinds_types.specs.Names.Refusals.{of_each, least_from, found_each}
-use Rattle.vlt_kinds_types.specs.Names.Along.{found_along}
-use Rattle.vlt_kinds_types.specs.Names.Globals.{names_seen}
+use Rattle.vlt_kinds_types.specs.Names.Refusals.{of_each}
 use Rattle.vlt_kinds_types.specs.Types as t
-use Rattle.vlt_kinds_types.specs.Seen.{file_seen, states_seen, use_seen}
+use Rattle.vlt_kinds_types.specs.Seen.{file_seen}
 use Rattle.vlt_kinds_decls.specs.Decls as d
 use Rattle.vlt_kinds_decls.specs.Made as m
 use Rattle.vlt_kinds_decls.specs.Known.{HasKnownSet}

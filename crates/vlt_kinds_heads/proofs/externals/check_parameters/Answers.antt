@@ -1,4 +1,4 @@
-use Rattle.std.proofs.Common.{◌∙◌, map}
+use Rattle.std.proofs.Common.{◌∙◌}
 use Rattle.vlt_syntax.specs.View as view
 use Rattle.vlt_kinds_types.proofs.OfNames.Loops.{found_next}
 use Rattle.vlt_kinds_types.specs.Seen.{file_seen}

@@ -1,7 +1,6 @@
-use Rattle.std.proofs.Common.{◌≡◌, ◌++◌, drop, take, map, length}
+use Rattle.std.proofs.Common.{◌≡◌, drop, map}
 use Rattle.std.specs.List.{list_any}
 use Rattle.vlt_syntax.specs.View as view
-use Rattle.vlt_kinds_types.specs.Names.Refusals.{of_each}
 use Rattle.vlt_kinds_types.specs.Names.Globals.{names_seen}
 use Rattle.vlt_kinds_types.specs.Files as f
 use Rattle.vlt_kinds_types.proofs.shapes.leaves_some_open.Given as goal

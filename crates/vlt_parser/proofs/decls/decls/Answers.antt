@@ -5,7 +5,6 @@ use Rattle.vlt_syntax.specs.Grammar.{IsDecl, language}
 use Rattle.vlt_syntax.specs.View.{decl_of}
 use Rattle.std.proofs.lemmas.Grind.{common_steps}
 use Rattle.vlt_automaton.specs.Language as m
-use Rattle.vlt_automaton.specs.Language.{Symbol, run}
 use Rattle.vlt_parser_exprs.specs.Ahead.{lexemes_from}
 use Rattle.vlt_parser.specs.Declarations.{can_begin, decls_left}
 use Rattle.vlt_parser.proofs.Declarations.{decls_one, decl_can, decls_stop, some_ahead}

@@ -4,7 +4,7 @@ use Rattle.std.proofs.lemmas.Result.{err_from_is_err_and}
 use Rattle.vlt_lexer.specs.declared.token.Mark.TheVariants as mark
 use Rattle.vlt_syntax.specs.Grammar.{language}
 use Rattle.vlt_automaton.specs.Language as m
-use Rattle.vlt_automaton.specs.Language.{Symbol, Left, run}
+use Rattle.vlt_automaton.specs.Language.{run}
 use Rattle.vlt_parser_exprs.specs.Ahead.{lexemes_from, left_of}
 use Rattle.vlt_parser_exprs.proofs.Runs.{bounded_below}
 use Rattle.vlt_parser.proofs.decls.variant.Goals as goal

@@ -1,4 +1,4 @@
-use Rattle.std.proofs.Common.{◌≡◌, ◌∙◌, ap, sym, map, not, take}
+use Rattle.std.proofs.Common.{◌∙◌, ap, sym, map, not, take}
 use Rattle.std.proofs.lemmas.List.{get_or_default}
 use Rattle.c_syntax.specs.Kinds as k
 use Rattle.c_parser.specs.View.{head_of}

@@ -1,7 +1,6 @@
-use Rattle.std.proofs.Common.{◌≡◌, ◌≤◌, ◌∙◌, ◌+◌, ◌-◌, ◌*◌, max, sym, ap, subst, arith, length, rules}
+use Rattle.std.proofs.Common.{◌≡◌, ◌∙◌, ◌+◌, ◌-◌, ◌*◌, max, sym, ap, subst, arith, length}
 use Rattle.std.proofs.lemmas.List.{length-map}
 use Rattle.vlt_core.specs.View.{func_of, keys_of, var_of}
-use Rattle.vlt_acts.specs.Frames.Entered.{HasEntered}
 use Rattle.vlt_acts.proofs.OfFrames.Callees.{IsEntered, entered, entered_like, entered_so}
 use Rattle.vlt_acts.proofs.frames.entering.enter.Goals as goal
 

@@ -1,4 +1,4 @@
-use Rattle.std.proofs.Common.{◌≡◌, ◌∙◌, sym, ap, subst, arith, None, Some, Ok}
+use Rattle.std.proofs.Common.{sym, subst, arith, Ok}
 use Rattle.std.specs.Option.{option_map, option_copied}
 use Rattle.vlt_core.specs.View.{operand_of}
 use Rattle.vlt_meaning.specs.Calls.{with_returned}

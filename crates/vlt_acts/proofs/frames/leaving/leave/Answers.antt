@@ -1,5 +1,5 @@
-use Rattle.std.proofs.Common.{◌≡◌, ◌∙◌, ap, subst, arith, map}
-use Rattle.vlt_core.specs.View.{func_of, keys_of, entry_of}
+use Rattle.std.proofs.Common.{◌∙◌, ap, subst, arith, map}
+use Rattle.vlt_core.specs.View.{func_of, entry_of}
 use Rattle.vlt_acts.specs.Values.Shown.{IsCut}
 use Rattle.vlt_acts.proofs.OfFrames.Callers.{named_so, named_like, mid_table, mid_target, has_gone, goes_back, back_of}
 use Rattle.vlt_acts.proofs.frames.leaving.leave.Goals as goal

@@ -1,4 +1,4 @@
-use Rattle.std.proofs.Common.{rules, sym, ap, subst, arith, length, ◌+◌, ◌≤◌, ◌<◌, ◌*◌, ◌≡◌, ◌∷◌, map}
+use Rattle.std.proofs.Common.{rules, sym, ap, subst, arith, length, ◌<◌, map}
 use Rattle.vlt_acts.specs.Objects.Cases.{FillsParts}
 use Rattle.vlt_acts.proofs.OfObjects.Rows.{is_empty}
 use Rattle.vlt_acts.proofs.OfObjects.Filling.{all_rest, all_first, none_filled, one_filled, frame_joined}

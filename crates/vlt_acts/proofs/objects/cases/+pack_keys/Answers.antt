@@ -1,4 +1,4 @@
-use Rattle.std.proofs.Common.{rules, sym, ap, subst, arith, ◌≡◌, ◌∷◌, ◌∙◌, ◌+◌, ◌*◌, ◌<◌, map, length, suc, slice_get, Some, None}
+use Rattle.std.proofs.Common.{sym, ap, subst, arith, ◌∙◌, map, length}
 use Rattle.std.specs.Option.{option_map}
 use Rattle.vlt_base.specs.States.{has_state}
 use Rattle.vlt_core.specs.Lookups.{KeyIn}

@@ -1,8 +1,7 @@
-use Rattle.std.proofs.Common.{sym, ap, subst, arith, ◌∙◌, ◌≡◌, ◌+◌, ◌*◌, ◌≤◌, map, length, None, Some}
+use Rattle.std.proofs.Common.{sym, ap, subst, arith, ◌∙◌, ◌+◌, ◌*◌, ◌≤◌, map, length}
 use Rattle.std.specs.Option.{option_map}
 use Rattle.std.proofs.lemmas.List.{length-map}
 use Rattle.vlt_core.specs.View.{program_of, func_of, operand_of, keys_of, case_key_of}
-use Rattle.vlt_core.specs.Lookups.{variant_of}
 use Rattle.vlt_core.specs.LookupViews.{variant_view}
 use Rattle.vlt_acts.specs.Objects.Cases.{keys_for}
 use Rattle.vlt_acts.proofs.OfObjects.Tables.{grown_long}

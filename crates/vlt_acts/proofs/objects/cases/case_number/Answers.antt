@@ -1,4 +1,4 @@
-use Rattle.std.proofs.Common.{rules, refl, sym, ap, ◌∙◌, SFits, w64}
+use Rattle.std.proofs.Common.{rules, ap, ◌∙◌, SFits, w64}
 use Rattle.std.proofs.lemmas.Int.{to_z-of_z}
 use Rattle.vlt_acts.proofs.OfObjects.Arms.{slot_number, number_reads, other_reads, tells_case}
 use Rattle.vlt_acts.proofs.objects.cases.case_number.Goals as goal

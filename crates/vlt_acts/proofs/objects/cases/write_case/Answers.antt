@@ -1,4 +1,4 @@
-use Rattle.std.proofs.Common.{rules, SFits, arith, subst, sym, ap, ◌∙◌, ◌≡◌, ◌+◌, ◌≤◌, length, map, pos, w64}
+use Rattle.std.proofs.Common.{rules, SFits, arith, subst, ◌∙◌, map, w64}
 use Rattle.std.proofs.lemmas.Int.{to_z-of_z}
 use Rattle.std.proofs.lemmas.List.{length-map}
 use Rattle.vlt_core.specs.View.{keys_of, case_key_of}

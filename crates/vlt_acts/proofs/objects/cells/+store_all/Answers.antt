@@ -1,4 +1,4 @@
-use Rattle.std.proofs.Common.{sym, ap, subst, arith, ◌≡◌, ◌∷◌}
+use Rattle.std.proofs.Common.{sym, subst, arith}
 use Rattle.vlt_acts.specs.Objects.Cells.{StoresAll}
 use Rattle.vlt_acts.proofs.OfObjects.Rows.{is_empty}
 use Rattle.vlt_acts.proofs.OfObjects.Storing.{none_stored, more_stored}

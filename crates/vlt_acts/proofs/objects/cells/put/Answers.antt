@@ -1,8 +1,8 @@
-use Rattle.std.proofs.Common.{inl, inr, sym, ap, subst, ◌∙◌, refl, Ok}
+use Rattle.std.proofs.Common.{inr}
 use Rattle.vlt_core.specs.View.{expr_of}
-use Rattle.vlt_acts.specs.Values.Shown.{IsPlace, IsGrown}
+use Rattle.vlt_acts.specs.Values.Shown.{IsPlace}
 use Rattle.vlt_acts.proofs.OfValues.Pushing.{grown_kept, seen_grown}
-use Rattle.vlt_acts.proofs.OfObjects.Tables.{grown_cut, cut_frame}
+use Rattle.vlt_acts.proofs.OfObjects.Tables.{grown_cut}
 use Rattle.vlt_acts.proofs.OfObjects.Putting.{put_does, put_traps}
 use Rattle.vlt_acts.proofs.objects.cells.put.Goals as goal
 

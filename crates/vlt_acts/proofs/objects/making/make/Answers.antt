@@ -1,11 +1,10 @@
-use Rattle.std.proofs.Common.{sym, ap, subst, ◌∙◌, ◌≡◌, ◌≤◌, ◌+◌, ◌*◌, arith, map, length, ℕ, None, Some, Ok}
+use Rattle.std.proofs.Common.{sym, ap, subst, ◌∙◌, ◌≤◌, ◌+◌, ◌*◌, arith, map, length}
 use Rattle.std.specs.Option.{option_map}
 use Rattle.std.proofs.lemmas.List.{length-map}
 use Rattle.vlt_core.specs.View.{func_of, operand_of}
-use Rattle.vlt_core.specs.Lookups.{reference_of}
 use Rattle.vlt_core.specs.LookupViews.{reference_view}
 use Rattle.vlt_acts.specs.Objects.Made.{CanMake}
-use Rattle.vlt_acts.proofs.OfObjects.Tables.{grown_cut, grown_long, cut_frame}
+use Rattle.vlt_acts.proofs.OfObjects.Tables.{grown_cut, grown_long}
 use Rattle.vlt_acts.proofs.OfObjects.NewObject.{has_reference, makes_at, pushed_within, can_make, make_traps, make_full, make_does}
 use Rattle.vlt_acts.proofs.objects.making.make.Goals as goal
 

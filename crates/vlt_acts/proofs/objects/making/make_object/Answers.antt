@@ -1,4 +1,4 @@
-use Rattle.std.proofs.Common.{subst, ap, ◌∙◌, ◌≡◌, Ok, Err, OnErr}
+use Rattle.std.proofs.Common.{subst, ◌≡◌, OnErr}
 use Rattle.vlt_heap.specs.Shown.{Makes}
 use Rattle.vlt_acts.proofs.OfObjects.NewCells.{hang_new, new_made, full_made}
 use Rattle.vlt_acts.proofs.objects.making.make_object.Goals as goal

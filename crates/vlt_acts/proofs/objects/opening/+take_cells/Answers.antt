@@ -1,4 +1,4 @@
-use Rattle.std.proofs.Common.{rules, sym, ap, subst, arith, ◌∙◌, ◌≡◌, ◌∷◌, ◌+◌, ◌<◌, map, length, suc}
+use Rattle.std.proofs.Common.{rules, sym, ap, subst, arith, ◌∙◌, ◌∷◌, ◌+◌, ◌<◌, map, length, suc}
 use Rattle.std.proofs.lemmas.List.{length-map}
 use Rattle.vlt_core.specs.View.{field_of}
 use Rattle.vlt_acts.specs.Objects.Taken.{CanTake, TakesAll}

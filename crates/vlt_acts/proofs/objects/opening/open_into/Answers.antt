@@ -1,7 +1,7 @@
-use Rattle.std.proofs.Common.{sym, ap, subst, ◌∙◌, ◌≡◌, map, length, None, Some}
+use Rattle.std.proofs.Common.{sym, ap, subst, ◌∙◌, map, length}
 use Rattle.std.specs.Option.{option_map}
 use Rattle.std.proofs.lemmas.List.{length-map}
-use Rattle.vlt_core.specs.View.{program_of, func_of, field_of}
+use Rattle.vlt_core.specs.View.{program_of, func_of}
 use Rattle.vlt_core.specs.LookupViews.{reference_view}
 use Rattle.vlt_acts.proofs.OfValues.Fronts.{number_object, owned_object}
 use Rattle.vlt_acts.specs.Objects.Taken.{CanTake, TakesAll}

@@ -1,4 +1,4 @@
-use Rattle.std.proofs.Common.{rules, refl, sym, ap, subst, ◌≡◌, ◌∷◌}
+use Rattle.std.proofs.Common.{rules, refl, sym, subst}
 use Rattle.vlt_acts.specs.Objects.Owned.{objects_after_drop, CanDrop, DropsAll, AreParts}
 use Rattle.vlt_acts.proofs.OfObjects.Rows.{is_empty}
 use Rattle.vlt_acts.proofs.OfObjects.Chains.{idle, no_parts, drops_join, can_first, can_rest, makes_both}

@@ -1,4 +1,4 @@
-use Rattle.std.proofs.Common.{rules, refl, sym, ap, subst, ◌≡◌, ◌∷◌}
+use Rattle.std.proofs.Common.{rules, refl, sym, subst}
 use Rattle.vlt_meaning.specs.World.{is_inside, loose}
 use Rattle.vlt_acts.specs.Objects.Owned.{taken_out, CanFree, FreesAll, AreParts}
 use Rattle.vlt_acts.proofs.OfObjects.Rows.{is_empty}

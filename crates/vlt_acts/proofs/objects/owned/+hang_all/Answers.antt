@@ -1,4 +1,4 @@
-use Rattle.std.proofs.Common.{rules, refl, sym, ap, subst, ◌≡◌, ◌∷◌}
+use Rattle.std.proofs.Common.{rules, refl, sym, subst}
 use Rattle.vlt_acts.specs.Objects.Owned.{put_in, CanHang, HangsAll, AreParts}
 use Rattle.vlt_acts.proofs.OfObjects.Rows.{is_empty}
 use Rattle.vlt_acts.proofs.OfObjects.Chains.{idle, no_parts}

@@ -1,5 +1,4 @@
 use Rattle.std.proofs.Common.{refl}
-use Rattle.vlt_meaning.specs.World.{is_loose, inside}
 use Rattle.vlt_acts.specs.Objects.Owned.{put_in}
 use Rattle.vlt_acts.proofs.OfObjects.Chains.{idle, number_owns, object_owns}
 use Rattle.vlt_acts.proofs.OfObjects.Owning.{hang_needs, hang_does}

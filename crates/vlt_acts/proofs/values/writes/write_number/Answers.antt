@@ -1,4 +1,4 @@
-use Rattle.std.proofs.Common.{rules, sym, ap, subst, ◌≡◌, ◌≤◌, Ok, SFits, w64}
+use Rattle.std.proofs.Common.{rules, sym, subst, ◌≤◌, SFits, w64}
 use Rattle.std.proofs.lemmas.Int.{to_z-of_z}
 use Rattle.vlt_heap.specs.declared.slots.Slot.TheVariants.{Number}
 use Rattle.vlt_meaning.specs.Found.{◌>>=◌}

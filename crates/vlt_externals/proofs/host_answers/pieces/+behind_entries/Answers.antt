@@ -1,4 +1,4 @@
-use Rattle.std.proofs.Common.{rules, map, sym, ap, ◌∙◌, refl}
+use Rattle.std.proofs.Common.{rules, map, sym, ap, ◌∙◌}
 use Rattle.vlt_core.specs.View.{program_of, func_of, entry_of}
 use Rattle.vlt_externals.specs.HostAnswers.Read.{same, entries_in}
 use Rattle.vlt_externals.proofs.OfHostAnswers.Reading.{as_some, as_none}

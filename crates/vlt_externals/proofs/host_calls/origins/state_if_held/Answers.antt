@@ -1,4 +1,4 @@
-use Rattle.std.proofs.Common.{◌≡◌, None, Some, sym, ◌∙◌, subst}
+use Rattle.std.proofs.Common.{None, Some, sym, ◌∙◌, subst}
 use Rattle.std.proofs.lemmas.Option.{none-some, same_Some}
 use Rattle.vlt_heap.specs.Shown.{Tells}
 use Rattle.vlt_externals.proofs.host_calls.origins.state_if_held.Goals as goal

@@ -1,4 +1,4 @@
-use Rattle.std.proofs.Common.{map, sym, ap, ◌∙◌, subst, None, Some, Ok}
+use Rattle.std.proofs.Common.{map, sym, ap, ◌∙◌, subst, Ok}
 use Rattle.vlt_core.specs.Instances.{instance}
 use Rattle.vlt_core.specs.View.{program_of, func_of, entry_of, keys_of}
 use Rattle.vlt_externals.specs.HostAnswers.Read.{AreSets, entries_in, AreWithin}

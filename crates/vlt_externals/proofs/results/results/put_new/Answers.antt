@@ -1,4 +1,4 @@
-use Rattle.std.proofs.Common.{Ok, Err, subst}
+use Rattle.std.proofs.Common.{subst}
 use Rattle.vlt_externals.specs.Results.Results.{MakesIn}
 use Rattle.vlt_externals.proofs.OfResults.Giving.{new_put, new_full}
 use Rattle.vlt_externals.proofs.results.results.put_new.Goals as goal

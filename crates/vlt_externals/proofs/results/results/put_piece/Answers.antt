@@ -1,6 +1,5 @@
-use Rattle.std.proofs.Common.{Ok, Err, subst}
+use Rattle.std.proofs.Common.{subst}
 use Rattle.vlt_core.specs.View.{ty_of}
-use Rattle.vlt_meaning.specs.Externals.{type_in}
 use Rattle.vlt_externals.specs.HostAnswers.Read.{piece_view}
 use Rattle.vlt_externals.proofs.OfHostAnswers.Reading.{as_some}
 use Rattle.vlt_externals.specs.Results.Results.{MakesPart}

@@ -1,7 +1,6 @@
-use Rattle.std.proofs.Common.{◌≡◌, ◌<◌, ◌∙◌, sym, ap, subst, arith, length}
+use Rattle.std.proofs.Common.{◌∙◌, sym, ap, subst, arith, length}
 use Rattle.std.specs.Vec.{vec_capacity}
 use Rattle.vlt_io.specs.Outside.{Grew, GrewByPart}
-use Rattle.vlt_steps.specs.Writing.{Outside}
 use Rattle.vlt_host_meaning.specs.Lines.{call_line}
 use Rattle.vlt_host_machine.specs.Calling.{args_in}
 use Rattle.vlt_host_machine.proofs.Making.{line_room, ends_without_fuel, ends_at_line, ends_without_depth}

@@ -1,4 +1,4 @@
-use Rattle.std.proofs.Common.{refl, arith}
+use Rattle.std.proofs.Common.{refl}
 use Rattle.vlt_interp.specs.declared.tasks.task.At.TheVariants.{Goes as GoesOn}
 use Rattle.vlt_host_machine.proofs.Begun.{few_vars, count, wide, frame_room, task_room, is_hosted, begins}
 use Rattle.vlt_host_machine.proofs.calling.Calling.begin.Goals as goal

@@ -1,5 +1,4 @@
-use Rattle.std.proofs.Common.{◌≡◌, ◌<◌, refl, sym, ap, subst, arith, ◌∙◌}
-use Rattle.vlt_steps.specs.Writing.{Outside}
+use Rattle.std.proofs.Common.{refl}
 use Rattle.vlt_host_machine.proofs.Begun.{of_program}
 use Rattle.vlt_host_machine.proofs.Making.{can_still, call_made, spent_now}
 use Rattle.vlt_host_machine.proofs.calling.Calling.make.Goals as goal

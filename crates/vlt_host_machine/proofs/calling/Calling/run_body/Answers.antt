@@ -1,4 +1,4 @@
-use Rattle.std.proofs.Common.{◌<◌, ◌+◌, ◌∙◌, refl, sym, ap, subst, arith}
+use Rattle.std.proofs.Common.{◌∙◌, refl, arith}
 use Rattle.vlt_steps.specs.Writing.{Outside}
 use Rattle.vlt_host_meaning.specs.OneCall.{body_does, world_inside, spent}
 use Rattle.vlt_host_machine.specs.Calling.{setup_for, func_in, args_in}

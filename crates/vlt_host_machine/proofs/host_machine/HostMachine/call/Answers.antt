@@ -1,8 +1,7 @@
-use Rattle.std.proofs.Common.{◌≡◌, ◌∙◌, ◌≤◌, true, List, Some, None, map, refl, sym, ap, subst, arith, slice_get}
+use Rattle.std.proofs.Common.{◌≡◌, ◌∙◌, Some, None, map, refl, sym, ap, subst, arith}
 use Rattle.std.specs.Prelude.{IfSome}
 use Rattle.std.proofs.lemmas.Option.{same_Some}
-use Rattle.vlt_core.specs.View.{func_of, program_of}
-use Rattle.vlt_meaning.specs.World.{Object}
+use Rattle.vlt_core.specs.View.{func_of}
 use Rattle.vlt_steps.specs.Stops.{stop_unless}
 use Rattle.vlt_steps.specs.Writing.{Outside}
 use Rattle.vlt_host_meaning.specs.Tables.{argument_of}
@@ -10,10 +9,9 @@ use Rattle.vlt_host_meaning.specs.OneCall.{host_calls}
 use Rattle.vlt_host_machine.specs.declared.called.Called.TheVariants.{Back, Ended}
 use Rattle.vlt_host_machine.specs.declared.calling.Calling.{Calling}
 use Rattle.vlt_host_machine.specs.declared.host_machine.HostMachine.{HostMachine}
-use Rattle.vlt_host_machine.specs.Callable.{may_call}
 use Rattle.vlt_host_machine.specs.Called.{EndsIn, ComesBack}
-use Rattle.vlt_host_machine.specs.HostMachine.{setup_in, program_in, HaveObjects}
-use Rattle.vlt_host_machine.specs.Room.{TablesHave, IsReady}
+use Rattle.vlt_host_machine.specs.HostMachine.{setup_in, HaveObjects}
+use Rattle.vlt_host_machine.specs.Room.{IsReady}
 use Rattle.vlt_host_machine.proofs.Between.{found_func, none_shown}
 use Rattle.vlt_host_machine.proofs.Calls.{can_make, no_such, made_ready, made_counted, made_back, ends_counted, shows_now, first_world, shows_first}
 use Rattle.vlt_host_machine.proofs.host_machine.HostMachine.call.Goals as goal

@@ -1,4 +1,4 @@
-use Rattle.std.proofs.Common.{arith, rules}
+use Rattle.std.proofs.Common.{arith}
 use Rattle.vlt_core.specs.View.{program_of}
 use Rattle.vlt_host_machine.proofs.Between.{first_objects, first_ready}
 use Rattle.vlt_host_machine.proofs.host_machine.HostMachine.open.Goals as goal

@@ -1,4 +1,4 @@
-use Rattle.std.proofs.Common.{◌≡◌, ◌∙◌, Some, None, map, sym, ap, subst}
+use Rattle.std.proofs.Common.{◌∙◌, Some, None, map, sym, ap, subst}
 use Rattle.vlt_core.specs.View.{func_of, program_of}
 use Rattle.vlt_host_meaning.specs.Tables.{argument_of}
 use Rattle.vlt_host_meaning.specs.Permitted.{is_permitted}

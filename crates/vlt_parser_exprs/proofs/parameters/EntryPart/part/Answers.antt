@@ -1,7 +1,7 @@
 use Rattle.std.proofs.Common.{◌≡◌, List, [], ◌∷◌, rules, arith}
 use Rattle.std.proofs.lemmas.Grind.{common_steps}
 use Rattle.vlt_automaton.specs.Language as m
-use Rattle.vlt_automaton.specs.Language.{Symbol, Left, run}
+use Rattle.vlt_automaton.specs.Language.{Symbol, run}
 use Rattle.vlt_parser_exprs.specs.Ahead.{lexemes_from}
 use Rattle.vlt_parser_exprs.proofs.Runs.{instead}
 use Rattle.vlt_parser_exprs.proofs.parameters.EntryPart.part.Goals as goal

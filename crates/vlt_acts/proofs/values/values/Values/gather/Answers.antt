@@ -1,6 +1,5 @@
-use Rattle.std.proofs.Common.{sym, ap, subst, ◌∙◌, ◌+◌, ◌*◌, ◌≡◌, ◌<◌, ◌≤◌, inl, inr, arith, length, slice_get, Some}
+use Rattle.std.proofs.Common.{sym, ap, subst, ◌∙◌, ◌+◌, arith, length, slice_get}
 use Rattle.std.proofs.lemmas.List.{length-set}
-use Rattle.std.proofs.lemmas.Option.{same_Some}
 use Rattle.vlt_rings.proofs.Rows.{row_fits}
 use Rattle.vlt_acts.specs.Values.Filled.{IsFilled}
 use Rattle.vlt_acts.specs.Values.Shown.{IsFrontOf}
