@@ -18,7 +18,7 @@ use Rattle.c_syntax.specs.View.{stmt_of, stmts_of}
 use Rattle.c_syntax.specs.C as c
 use Rattle.c_syntax.specs.C.{Expr, Arg, Call, Stmt, Stmts, Func, Program}
 use Rattle.c_syntax.specs.Tokens as t
-use Rattle.c_syntax.specs.Tokens.{Token, token_text, prim_text, variable_letter, name_letter}
+use Rattle.c_syntax.specs.Tokens.{Token, prim_text, variable_letter, name_letter}
 use Rattle.c_syntax.specs.Spelling.{prefix_sign, expr_then, cell_then, arg_token, args_then, more_args_then, call_then, stmt_then, stmts_then, type_then, declaration_then, result_then, more_params_then, params_then, head_then, heads_then, vars_then, body_then, bodies_then}
 use Rattle.c_syntax.specs.Canonical.{text_of_tokens, begins_else, space, line_feed, declaration_of, head_of, body_of, unit_of, canonical_text}
 use Rattle.c_printer.specs.Layout.{variable_laid, name_laid, block_laid, cell_laid, operator_laid, expr_laid, arg_laid, args_laid, more_args_laid, call_laid, stmt_laid, stmts_laid, type_laid, result_laid, declaration_laid, more_params_laid, params_laid, head_laid, vars_laid, body_laid, heads_laid, bodies_laid, first_lines_laid, program_laid}

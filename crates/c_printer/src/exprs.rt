@@ -5,7 +5,7 @@ ghost use Rattle.c_syntax.specs.Spelling.{prefix_sign};
 ghost use Rattle.c_syntax.specs.View.{arg_of, call_of, expr_of};
 ghost use Rattle.c_printer.specs.Layout.{arg_laid, args_laid, call_laid, cell_laid, expr_laid, more_args_laid, operator_laid};
 
-use crate::write::{write_name, write_number, write_text, write_value, write_variable};
+use crate::write::{write_byte, write_name, write_number, write_text, write_value, write_variable};
 use c_syntax::{CArg, CCall, CCell, CExpr, CVar};
 use vlt_base::Memory;
 use vlt_ops::{Op, row};
@@ -38,7 +38,7 @@ fn write_operator(out: &mut Vec<u8>, op: Op) -> Result<(), Memory>
     ensures { OnOk result (out.new.items ≡ operator_laid op out.old.items) }
 {
     write_text(out, row(op).sign.as_bytes())?;
-    write_text(out, b" ")
+    write_byte(out, b' ')
 }
 
 /// Writes the sign of an operator before its operand.
@@ -58,11 +58,11 @@ pub fn write_expr(out: &mut Vec<u8>, expr: &CExpr) -> Result<(), Memory>
     match expr {
         CExpr::Number(value) => {
             write_value(out, *value)?;
-            write_text(out, b" ")
+            write_byte(out, b' ')
         }
         CExpr::Var(variable) => {
             write_variable(out, *variable)?;
-            write_text(out, b" ")
+            write_byte(out, b' ')
         }
         CExpr::Cell(cell) => write_cell(out, *cell),
         CExpr::Null => write_text(out, b"vr_null "),
@@ -89,22 +89,22 @@ fn write_arg(out: &mut Vec<u8>, arg: &CArg) -> Result<(), Memory>
     match arg {
         CArg::Number(value) => {
             write_value(out, *value)?;
-            write_text(out, b" ")
+            write_byte(out, b' ')
         }
         CArg::Var(variable) => {
             write_variable(out, *variable)?;
-            write_text(out, b" ")
+            write_byte(out, b' ')
         }
         CArg::Null => write_text(out, b"vr_null "),
         CArg::Text(name) => {
-            write_text(out, b"\"")?;
+            write_byte(out, b'"')?;
             write_text(out, name.as_slice())?;
             write_text(out, b"\" ")
         }
     }
 }
 
-/// Writes the arguments behind the first, and the closing parenthesis.
+/// Writes the arguments after the first, and the closing parenthesis.
 fn write_more_args(out: &mut Vec<u8>, args: &[CArg]) -> Result<(), Memory>
     ensures { OnOk result (out.new.items ≡ more_args_laid (map arg_of args.now) out.old.items) }
 {

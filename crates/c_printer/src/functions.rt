@@ -5,7 +5,7 @@ ghost use Rattle.c_syntax.specs.View.{func_of, program_of};
 ghost use Rattle.c_printer.specs.Layout.{bodies_laid, body_laid, declaration_laid, head_laid, heads_laid, more_params_laid, params_laid, program_laid, result_laid, type_laid, vars_laid};
 
 use crate::stmts::write_stmts;
-use crate::write::{write_name, write_number, write_text, write_variable};
+use crate::write::{write_byte, write_name, write_number, write_text, write_variable};
 use c_syntax::{CFunc, CName, CProgram, CResult, CVar};
 use vlt_base::Memory;
 
@@ -37,10 +37,10 @@ fn write_declaration(out: &mut Vec<u8>, variable: CVar) -> Result<(), Memory>
 {
     write_type(out, variable.reference)?;
     write_variable(out, variable)?;
-    write_text(out, b" ")
+    write_byte(out, b' ')
 }
 
-/// Writes the parameters behind the first, and the closing parenthesis.
+/// Writes the parameters after the first, and the closing parenthesis.
 fn write_more_params(out: &mut Vec<u8>, params: &[CVar]) -> Result<(), Memory>
     ensures { OnOk result (out.new.items ≡ more_params_laid params.now out.old.items) }
 {
@@ -133,7 +133,7 @@ pub fn write_program(out: &mut Vec<u8>, program: &CProgram) -> Result<(), Memory
     };
     write_text(out, b"#include \"vault_rt.h\"\n#define VR_MAIN f")?;
     write_number(out, main)?;
-    write_text(out, b"\n")?;
+    write_byte(out, b'\n')?;
     write_heads(out, true, program.glue.as_slice())?;
     write_heads(out, false, program.fns.as_slice())?;
     write_bodies(out, true, program.glue.as_slice())?;

@@ -10,8 +10,6 @@ ghost use Rattle.c_syntax.specs.View.{program_of};
 mod exprs;
 mod functions;
 mod stmts;
-#[cfg(test)]
-mod tests;
 mod write;
 
 use c_syntax::CProgram;
