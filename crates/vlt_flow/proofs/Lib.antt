@@ -1,6 +1,7 @@
 pub mod Passing
 pub mod Joining
 pub mod Framing
+pub mod Keeping
 pub mod Parts
 pub mod Turning
 pub mod Starting

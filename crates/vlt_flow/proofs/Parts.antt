@@ -9,7 +9,8 @@ use Rattle.vlt_core.specs.Local.{Notes, When, only_if, rows_passed, leads_block,
 use Rattle.vlt_core.proofs.Maps.{map_refl, map_trans, can_below, passed_below}
 use Rattle.vlt_core_laws.proofs.Changes.{IsSameOn, IsGrownAt, when_same, meets_below, leads_block_same, local_block_grown, leads_block_some}
 use Rattle.vlt_keyset.specs.Held.{Statuses, map_of}
-use Rattle.vlt_flow.specs.Walks.{Marks, slot, map_in, maybe_map, notes_of, Above, IsUnder, Grown, IsInto, HasRoom, HasRoomFor, Passes, IsWalked, HasNone, Lies, form_part, block_part, stmts_part, IsWay, IsJoinedWay, HasNoWay, IsPlace, IsLeft, NoLeft, IsJump, HasNoJump, IsJoinedArms, HasNoArms, IsLeastLocal}
+use Rattle.vlt_flow.specs.Walks.{Marks, slot, map_in, maybe_map, notes_of, Above, IsUnder, Grown, IsInto, KeepsBlock, HasRoom, HasRoomFor, Passes, IsWalked, HasNone, Lies, form_part, block_part, stmts_part, IsWay, IsJoinedWay, HasNoWay, IsPlace, IsLeft, NoLeft, IsJump, HasNoJump, IsJoinedArms, HasNoArms, IsLeastLocal}
+use Rattle.vlt_flow.proofs.Keeping.{StayIn, keeps_block_on, frame_stays}
 use Rattle.vlt_flow.proofs.Framing.{no_some, grown_below, grown_some, frame_refl, frame_trans, frame_wider, frame_choice, frame_before, frame_meets, loop_frame, IsPutAround, IsPutBehind, put_around_frame, put_behind_frame, put_choice_frame, frame_also}
 
 -- ---- maps below
@@ -55,6 +56,7 @@ pub step_walked : (l : Option ℕ) (n : ℕ) (rs : List Row) (h : HeldMap) (xs :
 step_walked l n rs h xs x p = record {
   leads = ap Some p.after;
   local = p.can;
+  keeps = tt;
   frame = frame_refl l None n (n + 1) x;
   least = λ a k below loc u. (u, inside_below rs h (map_of xs) k p below);
 }
@@ -66,6 +68,7 @@ pub return_walked : (l : Option ℕ) (n : ℕ) (rs : List Row) (h i : HeldMap) (
 return_walked l n rs h i x p = record {
   leads = refl;
   local = p.can;
+  keeps = tt;
   frame = frame_refl l None n (n + 1) x;
   least = λ a k below loc u. (u, tt);
 }
@@ -77,6 +80,7 @@ pub jump_walked : (l : Option ℕ) (n : ℕ) (c : Bool) (left : List Tok) (h : H
 jump_walked l n c left h x y p = record {
   leads = refl;
   local = (p.can, p.into);
+  keeps = tt;
   frame = p.frame n (n + 1);
   least = λ a k below loc u. (p.least a (meets_below a l c _ _ (passed_below (map away_row left) h k below) loc.1) u, tt);
 }
@@ -142,6 +146,7 @@ focus_walked l n rs s es h xs x y o r p w q =
     record {
       leads = left_leads es o r _ e q;
       local = (p.can, subst (λ g. IsLocalBlock (notes_of y) l (n + 1) g s) p.after w.local, left_can es o r _ e q);
+      keeps = w.keeps;
       frame = frame_wider l None (n + 1) (n + 1 + size_block s) n (n + (1 + size_block s)) x y (omega arith) (omega arith) w.frame;
       least = λ a k below loc u.
           let v = w.least a (map_after rs k) (inside_below rs h (map_of xs) k p below) loc.1 u in
@@ -163,6 +168,7 @@ pub scope_walked : (l : Option ℕ) (n : ℕ) (s : Block) (h : HeldMap) (x y : M
 scope_walked l n s h x y r w = record {
   leads = w.leads;
   local = w.local;
+  keeps = w.keeps;
   frame = frame_wider l None (n + 1) (n + 1 + size_block s) n (n + (1 + size_block s)) x y (omega arith) (omega arith) w.frame;
   least = w.least;
 }
@@ -175,6 +181,7 @@ pub block_walked : (l : Option ℕ) (n : ℕ) (ss : Stmts) (bound : List Tok) (e
 block_walked l n ss bound end h x y o r w q = record {
   leads = left_leads (map away_row bound) o r _ w.leads q;
   local = (w.local, left_can (map away_row bound) o r _ w.leads q);
+  keeps = w.keeps;
   frame = w.frame;
   least = λ a k below loc u. let v = w.least a k below loc.0 u in (v.0, left_lies (map away_row bound) o r _ q v.1);
 }
@@ -210,7 +217,7 @@ way_passes_some l n m s h x y e w = passes_some (passes_block s) _ (map_of e) (l
 
 pub way_none : (l : Option ℕ) (k n : ℕ) (s : Block) (h : HeldMap) (x y : Marks) → HasRoomFor x l k n (n + size_block s) → IsWalked (block_part l n s) l n (n + size_block s) h x y None → IsJoinedWay l k n s h x y
 way_none l k n s h x y room w = record {
-  way = record { into = subst (λ o. When o (λ m. IsSome (slot y.behind k) × IsBelow m (map_in (slot y.behind k)))) w.leads tt; local = w.local };
+  way = record { into = subst (λ o. When o (λ m. IsSome (slot y.behind k) × IsBelow m (map_in (slot y.behind k)))) w.leads tt; local = w.local; keeps = w.keeps };
   frame = frame_also l k n (n + size_block s) x y room.choice room.other w.frame;
   least = λ a j below loc t u. (w.least a j below loc u).0;
 }
@@ -220,12 +227,14 @@ way_some l k n s h x y z e room w p =
     let lt = room.choice in
     let f = put_choice_frame l k n (n + size_block s) e y z room.other p in
     let f' = put_choice_frame l k (n + size_block s) (n + size_block s) e y z room.other p in
+    let stay = frame_stays l (Some k) (n + size_block s) (n + size_block s) n (n + size_block s) y z f' (omega arith) (λ i u v. room.room.apart i u v) (λ i u v. omega arith) in
     let same = frame_before l (Some k) (n + size_block s) (n + size_block s) n (n + size_block s) y z f' (omega arith) (λ i u v. room.room.apart i u v) (λ i u v. omega arith) in
     let grown = frame_meets l (Some k) n (n + size_block s) y z f (loop_frame l None n (n + size_block s) x y w.frame room.room.loop) in
     record {
       way = record {
         into = subst (λ o. When o (λ m. IsSome (slot z.behind k) × IsBelow m (map_in (slot z.behind k)))) (w.leads ∙ leads_block_same s (notes_of y) (notes_of z) n h same) (p.into.some, into_in _ _ _ p.into);
         local = local_block_grown s (notes_of y) (notes_of z) l n h same grown w.local;
+        keeps = keeps_block_on s y z n stay w.keeps;
       };
       frame = frame_trans l (Some k) n (n + size_block s) x y z (frame_also l k n (n + size_block s) x y room.choice room.other w.frame) f;
       least = λ a j below loc t u.
@@ -241,11 +250,12 @@ way_join_none l k n m s h x y e w never a j below loc t u =
     let v = w.least a j below loc u in
     never (a.behind k) (v.0.behind k) (lies_when (map_of e) (a.behind k) _ v.1 t)
 
-pub way_same : (l : Option ℕ) (k n : ℕ) (s : Block) (h : HeldMap) (y z : Marks) → IsWay l k n s h y → IsSameOn (notes_of y) (notes_of z) n (n + size_block s) → IsGrownAt (notes_of y) (notes_of z) l → Grown (slot y.behind k) (slot z.behind k) → IsWay l k n s h z
-way_same l k n s h y z w e g grown = record {
+pub way_same : (l : Option ℕ) (k n : ℕ) (s : Block) (h : HeldMap) (y z : Marks) → IsWay l k n s h y → IsSameOn (notes_of y) (notes_of z) n (n + size_block s) → IsGrownAt (notes_of y) (notes_of z) l → StayIn y z n (n + size_block s) → Grown (slot y.behind k) (slot z.behind k) → IsWay l k n s h z
+way_same l k n s h y z w e g stay grown = record {
   into = when_same _ _ _ (λ m. IsSome (slot z.behind k) × IsBelow m (map_in (slot z.behind k))) (leads_block_same s (notes_of y) (notes_of z) n h e)
       (λ m q. (grown_some (slot y.behind k) (slot z.behind k) q.0 grown, map_trans m (map_in (slot y.behind k)) (map_in (slot z.behind k)) q.1 (grown_below _ _ q.0 grown))) w.into;
   local = local_block_grown s (notes_of y) (notes_of z) l n h e g w.local;
+  keeps = keeps_block_on s y z n stay w.keeps;
 }
 
 -- where a way can be passed, a map is kept behind its choice
@@ -294,11 +304,13 @@ choose_walked l n rs s t h xs x y z r room p first second place =
     let f2 = frame_wider l (Some n) (n + 1 + size_block s) (n + 1 + size_block s + size_block t) (n + 1) (n + (1 + (size_block s + size_block t))) y z (omega arith) (omega arith) second.frame in
     let same = frame_before l (Some n) (n + 1 + size_block s) (n + 1 + size_block s + size_block t) (n + 1) (n + 1 + size_block s) y z second.frame (omega arith) (λ i u v. room.apart i (omega arith) (omega arith)) (λ i u v. omega arith) in
     let grown = frame_meets l (Some n) _ _ y z second.frame (loop_frame l (Some n) _ _ x y first.frame room.loop) in
-    let w1 = subst (λ g. IsWay l n (n + 1) s g z) p.after (way_same l n (n + 1) s (map_of xs) y z first.way same grown second.frame.join.behind) in
+    let stay = frame_stays l (Some n) (n + 1 + size_block s) (n + 1 + size_block s + size_block t) (n + 1) (n + 1 + size_block s) y z second.frame (omega arith) (λ i u v. room.apart i (omega arith) (omega arith)) (λ i u v. omega arith) in
+    let w1 = subst (λ g. IsWay l n (n + 1) s g z) p.after (way_same l n (n + 1) s (map_of xs) y z first.way same grown stay second.frame.join.behind) in
     let w2 = subst (λ g. IsWay l n (n + 1 + size_block s) t g z) p.after second.way in
     record {
       leads = place_leads z n (passes_block s || passes_block t) r place;
       local = (p.can, w1.local, w2.local, when_second _ _ (λ m. IsBelow m (map_in (slot z.behind n))) w1.into, when_second _ _ (λ m. IsBelow m (map_in (slot z.behind n))) w2.into);
+      keeps = (λ e. ways_there l n (n + 1) (n + 1 + size_block s) s t (map_of xs) (map_of xs) x y z first second e, w1.keeps, w2.keeps);
       frame = frame_choice l n (n + 1) (n + (1 + (size_block s + size_block t))) n x z (omega arith) (omega arith) (omega arith) (frame_trans l (Some n) _ _ x y z f1 f2);
       least = λ a k below loc u.
           let b = inside_below rs h (map_of xs) k p below in
@@ -324,6 +336,7 @@ pub switch_walked : (l : Option ℕ) (n : ℕ) (rs : List Row) (arms : Arms) (en
 switch_walked l n rs arms end h xs x z r p w place = record {
   leads = place_leads z n (passes_arms arms) r place;
   local = (p.can, subst (λ g. IsLocalArms (notes_of z) l (n + 1) g arms (map_in (slot z.behind n))) p.after w.local);
+  keeps = (w.there, w.keeps);
   frame = frame_choice l n (n + 1) (n + (1 + size_arms arms)) n x z (omega arith) (omega arith) (omega arith) (frame_wider l (Some n) _ _ (n + 1) (n + (1 + size_arms arms)) x z (omega arith) (omega arith) w.frame);
   least = λ a k below loc u.
       let v = w.least a (map_after rs k) (inside_below rs h (map_of xs) k p below) loc.1 u in
@@ -349,6 +362,9 @@ body_least s h x y r p q w = record {
   local = w.local;
   least = λ a loc. (w.least a h (map_refl h) loc (under_nothing x a p q)).0;
 }
+
+pub body_keeps : (s : Block) (h : HeldMap) (x y : Marks) (r : Option Statuses) → IsWalked (block_part None 0 s) None 0 (0 + size_block s) h x y r → KeepsBlock y 0 s
+body_keeps s h x y r w = w.keeps
 
 pub body_none : (s : Block) (h : HeldMap) (x : Marks) → ((i : ℕ) → slot x.around i ≡ None) → ((i : ℕ) → slot x.behind i ≡ None) → HasNone (block_part None 0 s) h x → (a : Notes) → IsLocalBlock a None 0 h s → ⊥
 body_none s h x p q never a loc = never a h (map_refl h) loc (under_nothing x a p q)

@@ -3,17 +3,18 @@ use Rattle.std.proofs.Common.{◌≡◌, ◌<◌, ◌≤◌, ◌+◌, ◌^◌, �
 use Rattle.std.specs.Prelude.{IsSome}
 use Rattle.std.proofs.lemmas.List.{drop_all}
 use Rattle.vlt_core.specs.Maps.{Row, HeldMap, IsBelow, CanPass, map_after}
-use Rattle.vlt_core.specs.Flow.{loop, arm, next, Block, Stmts, size, size_block, size_stmts, size_arms, passes_block, passes_arms}
+use Rattle.vlt_core.specs.Flow.{loop, arm, next, Block, Stmts, size, size_block, size_stmts, size_arms, passes, passes_block, passes_arms}
 use Rattle.vlt_core.specs.Local.{Notes, When, Then, leads, leads_block, leads_stmts, IsLocal, IsLocalBlock, IsLocalStmts, IsLocalArms}
 use Rattle.vlt_rows.specs.FlowView.{flow_view, block_view, arms_view, stmts_view, rows_view}
 use Rattle.vlt_rows.specs.declared.tree.FlowArm.{FlowArm, out-FlowArm}
 use Rattle.vlt_rows.specs.declared.tree.FlowStmt.{FlowStmt}
 use Rattle.vlt_core.proofs.Maps.{map_refl, map_trans, can_below}
 use Rattle.vlt_rows.proofs.Views.{arm_parts, stmt_parts}
-use Rattle.vlt_core_laws.proofs.Changes.{IsSameOn, IsGrownAt, same_part, when_same, leads_block_same, leads_same, local_grown, local_block_grown}
+use Rattle.vlt_core_laws.proofs.Changes.{IsSameOn, IsGrownAt, same_part, when_same, leads_block_same, leads_same, local_grown, local_block_grown, leads_some}
 use Rattle.vlt_keyset.specs.Held.{Statuses, map_of, gap}
-use Rattle.vlt_flow.specs.Walks.{Marks, slot, map_in, maybe_map, notes_of, Above, IsUnder, Grown, IsFrame, IsLoop, HasRoom, HasRoomFor, Passes, IsWalked, HasNone, Lies, form_part, block_part, stmts_part, IsJoinedWay, HasNoWay, IsTurn, HasNoTurn, IsTurned, IsJoinedArms, HasNoArms, IsWalkedOn, HasNoneOn}
+use Rattle.vlt_flow.specs.Walks.{Marks, slot, map_in, maybe_map, notes_of, Above, IsUnder, Grown, KeepsStmts, KeepsArms, IsFrame, IsLoop, HasRoom, HasRoomFor, Passes, IsWalked, HasNone, Lies, form_part, block_part, stmts_part, IsJoinedWay, HasNoWay, IsTurn, HasNoTurn, IsTurned, IsJoinedArms, HasNoArms, IsWalkedOn, HasNoneOn}
 use Rattle.vlt_flow.proofs.Framing.{grown_below, grown_some, frame_refl, frame_trans, frame_wider, frame_loop, frame_before, frame_meets, loop_frame, room_frame, IsPutAround, IsPutBehind, put_around_frame, put_behind_frame}
+use Rattle.vlt_flow.proofs.Keeping.{StayIn, keeps_on, keeps_block_on, come_to, stay_part, stay_chain, stay_self, frame_stays}
 use Rattle.vlt_flow.proofs.Parts.{or_true, way_there, inside_below, lies_when, under_around, under_behind, into_in}
 
 -- ---- turns
@@ -57,6 +58,7 @@ turn_none rs s n m before inside x y z e p put w = record {
   exit = turn_exit rs n m before inside x y z p put w.frame;
   some = grown_some _ _ put.into.some w.frame.loop.behind;
   local = subst (λ g. IsLocalBlock (notes_of z) (Some n) (n + 1) g s) p.after w.local;
+  keeps = w.keeps;
   back = subst (λ o. When o (λ m. IsBelow m (map_in (slot z.around n)))) (w.leads ∙ ap (λ g. leads_block (notes_of z) (n + 1) g s) p.after) tt;
   frame = frame_trans (Some n) None (n + 1) m x y z (put_behind_frame n (n + 1) m inside x y put) w.frame;
   least = λ a l h loc u. (turn_under rs s n m before inside x y z None e p put w a l h loc u).0;
@@ -68,6 +70,7 @@ turn_some rs s n before inside back x y z v room e p put w put' =
     let same = frame_before (Some n) None (n + 1 + size_block s) (n + 1 + size_block s) (n + 1) (n + 1 + size_block s) z v f (omega arith) (λ i u w. omega arith) (λ i u w. tt) in
     let there = loop_frame (Some n) None (n + 1) (n + 1 + size_block s) y z w.frame (loop_there n (n + 1 + size_block s) x y before inside room (omega arith) e put) in
     let grown = frame_meets (Some n) None (n + 1 + size_block s) (n + 1 + size_block s) z v f there in
+    let stay = frame_stays (Some n) None (n + 1 + size_block s) (n + 1 + size_block s) (n + 1) (n + 1 + size_block s) z v f (omega arith) (λ i u w. omega arith) (λ i u w. tt) in
     let g = put_around_frame n (n + 1) (n + 1 + size_block s) back z v put' in
     let whole = frame_trans (Some n) None (n + 1) (n + 1 + size_block s) y z v w.frame g in
     record {
@@ -75,6 +78,7 @@ turn_some rs s n before inside back x y z v room e p put w put' =
       exit = turn_exit rs n (n + 1 + size_block s) before inside x y v p put whole;
       some = grown_some _ _ put.into.some whole.loop.behind;
       local = subst (λ g. IsLocalBlock (notes_of v) (Some n) (n + 1) g s) p.after (local_block_grown s (notes_of z) (notes_of v) (Some n) (n + 1) (map_of inside) same grown w.local);
+      keeps = keeps_block_on s z v (n + 1) stay w.keeps;
       back = subst (λ o. When o (λ m. IsBelow m (map_in (slot v.around n)))) (w.leads ∙ leads_block_same s (notes_of z) (notes_of v) (n + 1) (map_of inside) same ∙ ap (λ g. leads_block (notes_of v) (n + 1) g s) p.after) (into_in _ _ _ put'.into);
       frame = frame_trans (Some n) None (n + 1) (n + 1 + size_block s) x y v (put_behind_frame n (n + 1) (n + 1 + size_block s) inside x y put) whole;
       least = λ a l h loc u.
@@ -140,6 +144,7 @@ turned rs s n before x cur new some t p e =
       can = subst (CanPass rs) same p.can;
       exit = subst (λ g. IsBelow (map_after rs g) (map_in (slot new.behind n))) same p.exit;
       local = subst (λ g. IsLocalBlock (notes_of new) (Some n) (n + 1) (map_after rs g) s) same p.local;
+      keeps = p.keeps;
       back = subst (λ g. When (leads_block (notes_of new) (n + 1) (map_after rs g) s) (λ m. IsBelow m (map_in (slot new.around n)))) same p.back;
       frame = whole.frame;
       least = whole.least;
@@ -164,6 +169,7 @@ loop_walked l n rs s held exit x y z room put t e =
     record {
       leads = ap (λ o. Some (map_in o)) (sym e);
       local = (map_trans (map_of held) _ _ (into_in _ _ _ put.into) t.grown, t.can, t.exit, t.local, t.back);
+      keeps = (grown_some _ _ put.into.some t.frame.loop.around, t.some, t.keeps);
       frame = frame_loop l n (n + 1) (n + (1 + size_block s)) n x z (omega arith) (omega arith) (omega arith) room.apart f';
       least = λ a k below loc u.
           let v = t.least a l k loc (under_around n held x y a put (map_trans (map_of held) k (a.around n) below loc.0) u) in
@@ -196,6 +202,7 @@ pub record Arming (l : Option ℕ) (n : ℕ) (arms : List FlowArm) (h : HeldMap)
   pub frame : IsFrame l (Some n) (n + 1) at x cur
   pub local : (b : Notes) → IsSameOn (notes_of cur) b (n + 1) at → IsGrownAt (notes_of cur) b l → (IsSome (slot cur.behind n) → IsBelow (map_in (slot cur.behind n)) (b.behind n)) →
       IsLocalArms b l at h (arms_view (drop i arms)) (b.behind n) → IsLocalArms b l (n + 1) h (arms_view arms) (b.behind n)
+  pub keeps : (b : Marks) → StayIn cur b (n + 1) at → KeepsArms b at (arms_view (drop i arms)) → KeepsArms b (n + 1) (arms_view arms)
   pub least : (a : Notes) (j : HeldMap) → IsBelow h j → IsLocalArms a l (n + 1) j (arms_view arms) (a.behind n) → IsUnder x a → IsUnder cur a × IsLocalArms a l at j (arms_view (drop i arms)) (a.behind n)
 
 pub arming_first : (l : Option ℕ) (n : ℕ) (arms : List FlowArm) (h : HeldMap) (x : Marks) → Arming l n arms h x 0 (n + 1) x false
@@ -206,6 +213,7 @@ arming_first l n arms h x = record {
   there = λ e. absurd (true≢false (sym e));
   frame = frame_refl l (Some n) (n + 1) (n + 1) x;
   local = λ b same grown more loc. loc;
+  keeps = λ b stay rest. rest;
   least = λ a j below loc u. (u, loc);
 }
 
@@ -239,6 +247,7 @@ arming_more l n arms h x i at cur new p a inside e room g pass way =
     let r = room_frame l (Some n) (n + 1) (n + 1 + size_arms (arms_view arms)) (n + 1) at x cur room.room g.frame in
     let before = frame_before l (Some n) at (at + size_block (block_view (out-FlowArm a).body)) (n + 1) at cur new way.frame (omega arith) (λ j u v. r.apart j u (omega (arith, g.size, sizes))) (λ j u v. omega arith) in
     let meets = frame_meets l (Some n) at (at + size_block (block_view (out-FlowArm a).body)) cur new way.frame r.loop in
+    let stays = frame_stays l (Some n) at (at + size_block (block_view (out-FlowArm a).body)) (n + 1) at cur new way.frame (omega arith) (λ j u v. r.apart j u (omega (arith, g.size, sizes))) (λ j u v. omega arith) in
     record {
       size = omega (arith, g.size, sizes);
       low = omega (arith, g.low);
@@ -260,6 +269,10 @@ arming_more l n arms h x i at cur new p a inside e room g pass way =
             subst (λ k. When (leads_block b at k (block_view (out-FlowArm a).body)) (λ m. IsBelow m (b.behind n))) pass.after into,
             loc,
           ));
+      keeps = λ b stay more.
+          let end = at + size_block (block_view (out-FlowArm a).body) in
+          let inner = keeps_block_on (block_view (out-FlowArm a).body) new b at (stay_part new b (n + 1) end at end stay g.low (omega arith)) way.way.keeps in
+          g.keeps b (stay_chain cur new b (n + 1) at stays (stay_part new b (n + 1) end (n + 1) at stay (omega arith) (omega arith))) (subst (KeepsArms b at) (sym split) (inner, more));
       least = λ b j below loc u.
           let v = g.least b j below loc u in
           let w = subst (λ t. IsLocalArms b l at j t (b.behind n)) split v.1 in
@@ -286,6 +299,7 @@ arming_ends l n arms h x i at cur p past g =
     record {
       local = g.local (notes_of cur) (same_self (notes_of cur) (n + 1) at) (record { each = λ k h m. m }) (λ some. map_refl (map_in (slot cur.behind n)))
           (subst (λ t. IsLocalArms (notes_of cur) l at h (arms_view t) (map_in (slot cur.behind n))) (sym all) tt);
+      keeps = g.keeps cur (stay_self cur (n + 1) at) (subst (λ t. KeepsArms cur at (arms_view t)) (sym all) tt);
       there = λ e. g.there (arming_passes l n arms h x i at cur p past g ∙ e);
       frame = subst (λ t. IsFrame l (Some n) (n + 1) t x cur) size g.frame;
       least = λ a j below loc u. (g.least a j below loc u).0;
@@ -319,6 +333,7 @@ pub record Listing (l : Option ℕ) (n : ℕ) (stmts : List FlowStmt) (h : HeldM
   pub low : n ≤ at
   pub frame : IsFrame l None n at x cur
   pub local : (b : Notes) → IsSameOn (notes_of cur) b n at → IsGrownAt (notes_of cur) b l → When (maybe_map flow) (λ m. IsLocalStmts b l at m (stmts_view (drop i stmts))) → IsLocalStmts b l n h (stmts_view stmts)
+  pub keeps : (b : Marks) → StayIn cur b n at → When (maybe_map flow) (λ m. KeepsStmts b at (stmts_view (drop i stmts))) → KeepsStmts b n (stmts_view stmts)
   pub leads : (b : Notes) → IsSameOn (notes_of cur) b n at → leads_stmts b n h (stmts_view stmts) ≡ Then (maybe_map flow) (λ m. leads_stmts b at m (stmts_view (drop i stmts)))
   pub least : (a : Notes) (j : HeldMap) → IsBelow h j → IsLocalStmts a l n j (stmts_view stmts) → IsUnder x a → IsUnder cur a × Rest l flow at (stmts_view (drop i stmts)) a (leads_stmts a n j (stmts_view stmts))
 
@@ -328,6 +343,7 @@ listing_first l n stmts xs x = record {
   low = omega arith;
   frame = frame_refl l None n n x;
   local = λ b same grown loc. loc;
+  keeps = λ b stay rest. rest;
   leads = λ b same. refl;
   least = λ a j below loc u. (u, (j, below, loc, refl));
 }
@@ -362,6 +378,7 @@ listing_more l n stmts h x i at cur new None r s e room g on =
       low = omega (arith, g.low);
       frame = frame_wider l None n at n (at + size (flow_view s.flow)) x cur (omega arith) (omega arith) g.frame;
       local = λ b same grown loc. g.local b (same_part (notes_of cur) b n (at + size (flow_view s.flow)) n at same (omega arith) (omega arith)) grown tt;
+      keeps = λ b stay more. g.keeps b (stay_part cur b n (at + size (flow_view s.flow)) n at stay (omega arith) (omega arith)) tt;
       leads = λ b same. g.leads b (same_part (notes_of cur) b n (at + size (flow_view s.flow)) n at same (omega arith) (omega arith));
       least = λ a j below loc u. ((g.least a j below loc u).0, tt);
     }
@@ -373,6 +390,7 @@ listing_more l n stmts h x i at cur new (Some xs) r s e room g w =
     let room' = room_frame l None n (n + size_stmts (stmts_view stmts)) n at x cur room g.frame in
     let before = frame_before l None at (at + size (flow_view s.flow)) n at cur new w.frame (omega arith) (λ j u v. room'.apart j u (omega (arith, g.size, sizes))) (λ j u v. tt) in
     let meets = frame_meets l None at (at + size (flow_view s.flow)) cur new w.frame room'.loop in
+    let stays = frame_stays l None at (at + size (flow_view s.flow)) n at cur new w.frame (omega arith) (λ j u v. room'.apart j u (omega (arith, g.size, sizes))) (λ j u v. tt) in
     record {
       size = omega (arith, g.size, sizes);
       low = omega (arith, g.low);
@@ -387,6 +405,11 @@ listing_more l n stmts h x i at cur new (Some xs) r s e room g w =
             local_grown (flow_view s.flow) (notes_of new) b l at (map_of xs) part grown w.local,
             subst (λ o. When o (λ m. IsLocalStmts b l (at + size (flow_view s.flow)) m (stmts_view (drop (i + 1) stmts)))) lead loc,
           ));
+      keeps = λ b stay more.
+          let end = at + size (flow_view s.flow) in
+          let inner = keeps_on (flow_view s.flow) new b at (stay_part new b n end at end stay g.low (omega arith)) w.keeps in
+          let after = come_to (passes (flow_view s.flow)) _ (KeepsStmts b end rest) (leads_some (flow_view s.flow) (notes_of new) at (map_of xs)) (subst (λ o. When o (λ m. KeepsStmts b end rest)) w.leads more) in
+          g.keeps b (stay_chain cur new b n at stays (stay_part new b n end n at stay (omega arith) (omega arith))) (subst (KeepsStmts b at) (sym split) (inner, after));
       leads = λ b same.
           let part = same_part (notes_of new) b n (at + size (flow_view s.flow)) at (at + size (flow_view s.flow)) same g.low (omega arith) in
           let lead = w.leads ∙ leads_same (flow_view s.flow) (notes_of new) b at (map_of xs) part in
@@ -408,6 +431,7 @@ listing_ends l n stmts h x i at cur flow past g =
       leads = sym (g.leads (notes_of cur) (same_self (notes_of cur) n at) ∙ ap (λ t. Then (maybe_map flow) (λ m. leads_stmts (notes_of cur) at m (stmts_view t))) all ∙ then_same flow);
       local = g.local (notes_of cur) (same_self (notes_of cur) n at) (record { each = λ k h m. m })
           (subst (λ t. When (maybe_map flow) (λ m. IsLocalStmts (notes_of cur) l at m (stmts_view t))) (sym all) (when_unit (maybe_map flow)));
+      keeps = g.keeps cur (stay_self cur n at) (subst (λ t. When (maybe_map flow) (λ m. KeepsStmts cur at (stmts_view t))) (sym all) (when_unit (maybe_map flow)));
       frame = subst (λ t. IsFrame l None n t x cur) size g.frame;
       least = λ a j below loc u. let v = g.least a j below loc u in (v.0, ended flow a _ (subst (λ t. Rest l flow at (stmts_view t) a (leads_stmts a n j (stmts_view stmts))) all v.1));
     }

@@ -1,8 +1,8 @@
 -- What a walk keeps, and what it gives.
-use Rattle.std.specs.Prelude.{◌≡◌, ◌≢◌, ◌<◌, ◌≤◌, ◌+◌, ◌^◌, ℕ, Bool, true, false, List, Option, Some, None, IsSome, ◌⊎◌, length, map, slice_index_or, Result, Err}
+use Rattle.std.specs.Prelude.{◌≡◌, ◌≢◌, ◌<◌, ◌≤◌, ◌+◌, ◌^◌, ℕ, Bool, true, false, ◌||◌, List, Option, Some, None, IsSome, ◌⊎◌, length, map, slice_index_or, Result, Err}
 use Rattle.vlt_core.specs.Core.{Tok, Func, Program}
 use Rattle.vlt_core.specs.Maps.{Row, HeldMap, IsBelow, CanPass, map_after, away_row}
-use Rattle.vlt_core.specs.Flow.{loop as while_form, choose, Flow, Block, Stmts, Arms, size, size_block, size_arms, passes_arms}
+use Rattle.vlt_core.specs.Flow.{Flow, choose, loop as while_form, switch, scope, focus, Block, block, Stmts, done, next, Arms, no_arms, arm, size, size_block, size_arms, passes, passes_block, passes_arms}
 use Rattle.vlt_core.specs.Local.{Notes, When, Meets, leads, leads_block, leads_stmts, IsLocal, IsLocalBlock, IsLocalStmts, IsLocalArms, IsLocalIn}
 use Rattle.vlt_core.specs.Maps as maps
 use Rattle.vlt_core.specs.declared.held.Row as code
@@ -61,6 +61,35 @@ maybe_map (Some h) = Some (map_of h)
 
 abbrev pub notes_of : Marks → Notes
 notes_of k = record { around = λ i. map_in (slot k.around i); behind = λ i. map_in (slot k.behind i) }
+
+-- The maps of the statement of this number, and of those inside it, are kept wherever something
+-- comes to them: both of a loop, and that after a choice that can be passed. Nothing comes to a
+-- statement after one that can't be passed.
+abbrev mutual
+  pub Keeps : Marks → ℕ → Flow → Type 0
+  Keeps k n (choose rs s t) =
+      ((passes_block s || passes_block t) ≡ true → IsSome (slot k.behind n)) ×
+      KeepsBlock k (n + 1) s ×
+      KeepsBlock k (n + 1 + size_block s) t
+  Keeps k n (while_form rs s) =
+      IsSome (slot k.around n) × IsSome (slot k.behind n) × KeepsBlock k (n + 1) s
+  Keeps k n (switch rs arms end) =
+      (passes_arms arms ≡ true → IsSome (slot k.behind n)) × KeepsArms k (n + 1) arms
+  Keeps k n (scope s) = KeepsBlock k (n + 1) s
+  Keeps k n (focus rs s es) = KeepsBlock k (n + 1) s
+  Keeps k n _ = Unit {0}
+
+  pub KeepsBlock : Marks → ℕ → Block → Type 0
+  KeepsBlock k n (block ss bound end) = KeepsStmts k n ss
+
+  pub KeepsStmts : Marks → ℕ → Stmts → Type 0
+  KeepsStmts k n done = Unit {0}
+  KeepsStmts k n (next at s rest) =
+      Keeps k n s × (passes s ≡ true → KeepsStmts k (n + size s) rest)
+
+  pub KeepsArms : Marks → ℕ → Arms → Type 0
+  KeepsArms k n no_arms = Unit {0}
+  KeepsArms k n (arm rs s rest) = KeepsBlock k n s × KeepsArms k (n + size_block s) rest
 
 -- a map lies above what came to a point, if anything came
 abbrev pub Above : Option Statuses → HeldMap → Type 0
@@ -124,29 +153,44 @@ pub record HasRoom (k : Marks) (l : Option ℕ) (n m : ℕ) : Type 0 where
   pub fits : m ≤ length k.around
   pub apart : (i : ℕ) → n ≤ i → i < m → IsOther i l
 
--- a part of a body, by what an annotation says of it
+-- a part of a body, by what an annotation says of it, and by whether its maps are kept
 pub record Part : Type 1 where
   pub leads : Notes → HeldMap → Option HeldMap
   pub local : Notes → HeldMap → Type 0
+  pub keeps : Marks → Type 0
 
 abbrev pub form_part : (l : Option ℕ) (n : ℕ) → Flow → Part
-form_part l n s = record { leads = λ a h. leads a n h s; local = λ a h. IsLocal a l n h s }
+form_part l n s = record {
+  leads = λ a h. leads a n h s;
+  local = λ a h. IsLocal a l n h s;
+  keeps = λ k. Keeps k n s;
+}
 
 abbrev pub block_part : (l : Option ℕ) (n : ℕ) → Block → Part
-block_part l n s = record { leads = λ a h. leads_block a n h s; local = λ a h. IsLocalBlock a l n h s }
+block_part l n s = record {
+  leads = λ a h. leads_block a n h s;
+  local = λ a h. IsLocalBlock a l n h s;
+  keeps = λ k. KeepsBlock k n s;
+}
 
 abbrev pub stmts_part : (l : Option ℕ) (n : ℕ) → Stmts → Part
-stmts_part l n ss = record { leads = λ a h. leads_stmts a n h ss; local = λ a h. IsLocalStmts a l n h ss }
+stmts_part l n ss = record {
+  leads = λ a h. leads_stmts a n h ss;
+  local = λ a h. IsLocalStmts a l n h ss;
+  keeps = λ k. KeepsStmts k n ss;
+}
 
 abbrev pub Lies : Option HeldMap → Option HeldMap → Type 0
 Lies None o = Unit {0}
 Lies (Some m) None = ⊥
 Lies (Some m) (Some k) = IsBelow m k
 
--- The maps kept are now local from the map h on, and lie below those of each annotation that is, from a map above h.
+-- The maps kept are now local from the map h on, one wherever something comes, and lie below those
+-- of each annotation that is, from a map above h.
 pub record IsWalked (p : Part) (l : Option ℕ) (n m : ℕ) (h : HeldMap) (old new : Marks) (r : Option Statuses) : Type 0 where
   pub leads : maybe_map r ≡ p.leads (notes_of new) h
   pub local : p.local (notes_of new) h
+  pub keeps : p.keeps new
   pub frame : IsFrame l None n m old new
   pub least : (a : Notes) (k : HeldMap) → IsBelow h k → p.local a k → IsUnder old a → IsUnder new a × Lies (maybe_map r) (p.leads a k)
 
@@ -158,6 +202,7 @@ HasNone p h old = (a : Notes) (k : HeldMap) → IsBelow h k → p.local a k → 
 pub record IsWay (l : Option ℕ) (k n : ℕ) (s : Block) (h : HeldMap) (new : Marks) : Type 0 where
   pub into : When (leads_block (notes_of new) n h s) (λ m. IsSome (slot new.behind k) × IsBelow m (map_in (slot new.behind k)))
   pub local : IsLocalBlock (notes_of new) l n h s
+  pub keeps : KeepsBlock new n s
 
 pub record IsJoinedWay (l : Option ℕ) (k n : ℕ) (s : Block) (h : HeldMap) (old new : Marks) : Type 0 where
   pub way : IsWay l k n s h new
@@ -204,6 +249,7 @@ pub record IsTurn (rs : List Row) (s : Block) (n m : ℕ) (before : Statuses) (o
   pub exit : IsBelow (map_after rs (map_of before)) (map_in (slot new.behind n))
   pub some : IsSome (slot new.behind n)
   pub local : IsLocalBlock (notes_of new) (Some n) (n + 1) (map_after rs (map_of before)) s
+  pub keeps : KeepsBlock new (n + 1) s
   pub back : When (leads_block (notes_of new) (n + 1) (map_after rs (map_of before)) s) (λ m. IsBelow m (map_in (slot new.around n)))
   pub frame : IsFrame (Some n) None (n + 1) m old new
   pub least : (a : Notes) (l : Option ℕ) (h : HeldMap) → IsLocal a l n h (while_form rs s) → IsUnder old a → IsUnder new a
@@ -218,6 +264,7 @@ pub record IsTurned (rs : List Row) (s : Block) (n : ℕ) (old new : Marks) : Ty
   pub can : CanPass rs (map_in (slot new.around n))
   pub exit : IsBelow (map_after rs (map_in (slot new.around n))) (map_in (slot new.behind n))
   pub local : IsLocalBlock (notes_of new) (Some n) (n + 1) (map_after rs (map_in (slot new.around n))) s
+  pub keeps : KeepsBlock new (n + 1) s
   pub back : When (leads_block (notes_of new) (n + 1) (map_after rs (map_in (slot new.around n))) s) (λ m. IsBelow m (map_in (slot new.around n)))
   pub frame : IsFrame (Some n) None (n + 1) (n + 1 + size_block s) old new
   pub least : (a : Notes) (l : Option ℕ) (h : HeldMap) → IsLocal a l n h (while_form rs s) → IsUnder old a → IsUnder new a
@@ -225,6 +272,7 @@ pub record IsTurned (rs : List Row) (s : Block) (n : ℕ) (old new : Marks) : Ty
 -- the arms of the choice n
 pub record IsJoinedArms (l : Option ℕ) (n : ℕ) (arms : Arms) (h : HeldMap) (old new : Marks) : Type 0 where
   pub local : IsLocalArms (notes_of new) l (n + 1) h arms (map_in (slot new.behind n))
+  pub keeps : KeepsArms new (n + 1) arms
   pub there : passes_arms arms ≡ true → IsSome (slot new.behind n)
   pub frame : IsFrame l (Some n) (n + 1) (n + 1 + size_arms arms) old new
   pub least : (a : Notes) (j : HeldMap) → IsBelow h j → IsLocalArms a l (n + 1) j arms (a.behind n) → IsUnder old a → IsUnder new a

@@ -5,7 +5,7 @@ ghost use Rattle.vlt_core.specs.Flow.{size_block};
 ghost use Rattle.vlt_rows.specs.FlowView.{block_view};
 ghost use Rattle.vlt_core.specs.Local.{Notes, IsLocalBlock};
 ghost use Rattle.vlt_keyset.specs.Held.{map_of};
-ghost use Rattle.vlt_flow.specs.Walks.{IfRefused, IsLeastLocal};
+ghost use Rattle.vlt_flow.specs.Walks.{IfRefused, IsLeastLocal, KeepsBlock};
 ghost use Rattle.vlt_flow.specs.Unfit.{IfUnfit};
 
 use crate::count::count_block;
@@ -19,6 +19,7 @@ use vlt_rows::FlowBlock;
 /// The least annotation of a body from the start map, or a refusal where none is local.
 pub fn least_maps(alloc: Global, start: Held, body: &FlowBlock) -> Result<Kept, Stop>
     ensures ok { IfOk result (λ k. IsLeastLocal (block_view body.now) (map_of start) k) }
+    ensures keeps { IfOk result (λ k. KeepsBlock k 0 (block_view body.now)) }
     ensures around { IfOk result (λ k. length k.around ≡ size_block (block_view body.now)) }
     ensures behind { IfOk result (λ k. length k.behind ≡ size_block (block_view body.now)) }
     ensures few { IfOk result (λ k. length k.around < 2 ^ 63) }

@@ -19,8 +19,6 @@ ghost use Rattle.vlt_core.specs.Derives.{start_map};
 mod listing;
 mod passing;
 mod statuses;
-#[cfg(test)]
-mod tests;
 
 use crate::notes::listing::note_block;
 use crate::{Stop, least_maps, start_map_of};

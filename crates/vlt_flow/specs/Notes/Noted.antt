@@ -6,7 +6,7 @@ use Rattle.vlt_core.specs.Flow.{Block, size_block}
 use Rattle.vlt_core.specs.declared.notes.Note as DN
 use Rattle.vlt_keyset.specs.Held.{Statuses, map_of}
 use Rattle.vlt_keyset.specs.Pairs.{HasOnly}
-use Rattle.vlt_flow.specs.Walks.{Marks, slot, IsLeastLocal}
+use Rattle.vlt_flow.specs.Walks.{Marks, slot, KeepsBlock, IsLeastLocal}
 use Rattle.vlt_flow.specs.Notes.Listed.{note_of}
 use Rattle.vlt_flow.specs.declared.errors.NoteError.{NoteError}
 use Rattle.vlt_flow.specs.declared.errors.NoteError.TheVariants.{Unfit}
@@ -53,11 +53,13 @@ abbrev pub LacksNote : (keys vars : ℕ) → Marks → List Noted → Type 0
 LacksNote keys vars k [] = ⊥
 LacksNote keys vars k (x ∷ xs) = HasNoNote keys vars k x ⊎ LacksNote keys vars k xs
 
--- Why a body that begins with the map has no notes for so many keys and variables: it has so many statements; or the least
--- maps that are kept have no note of some loop or choice, as where no path comes to it.
+-- Why a body that begins with the map has no notes for so many keys and variables: it has so many
+-- statements; or the least maps that are kept have no note of some loop or choice. Wherever something
+-- comes a map is kept, so a map is missing only of a statement that nothing comes to.
 pub data IsUnnoted (keys vars : ℕ) (s : Block) (h : HeldMap) : Type 0 where
   many_statements : 2 ^ 62 ≤ size_block s → IsUnnoted keys vars s h
-  no_note : (k : Marks) → IsLeastLocal s h k → LacksNote keys vars k (noted_block 0 s) → IsUnnoted keys vars s h
+  no_note : (k : Marks) → IsLeastLocal s h k → KeepsBlock k 0 s →
+      LacksNote keys vars k (noted_block 0 s) → IsUnnoted keys vars s h
 
 -- ---- private contracts alone cite these
 

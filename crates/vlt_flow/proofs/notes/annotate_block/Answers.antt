@@ -28,4 +28,4 @@ pub returns-in_err-_end-in-Ok-clause-refused : goal.returns-in_err-_end-in-Ok-cl
 returns-in_err-_end-in-Ok-clause-refused c = notes_refuse _ _ c.from_residual.ensures.1
 
 pub returns-in_err-_end-in-Ok-clause-unfit : goal.returns-in_err-_end-in-Ok-clause-unfit
-returns-in_err-_end-in-Ok-clause-unfit c = notes_unfit _ _ _ c.from_residual.ensures.1 c.in_err-_end-in-Ok.was (λ l. no_note c.in-Ok.kept c.in-Ok.ensures.ok l) c.note_block.ensures.unfit
+returns-in_err-_end-in-Ok-clause-unfit c = notes_unfit _ _ _ c.from_residual.ensures.1 c.in_err-_end-in-Ok.was (λ l. no_note c.in-Ok.kept c.in-Ok.ensures.ok c.in-Ok.ensures.keeps l) c.note_block.ensures.unfit

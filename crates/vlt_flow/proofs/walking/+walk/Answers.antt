@@ -9,7 +9,7 @@ use Rattle.vlt_flow.specs.declared.walking.Walked.{Walked}
 use Rattle.vlt_flow.specs.Walks.{Marks, slot, Passes, IsWalked, IsLeft, form_part, block_part, stmts_part}
 use Rattle.vlt_core.specs.HeldView.{toks_of}
 use Rattle.vlt_rows.specs.FlowView.{block_view, arms_view, stmts_view, rows_view}
-use Rattle.vlt_rows.proofs.Views.{block_parts, step_form, while_form, switch_form, scope_form, focus_form, return_form, jump_form}
+use Rattle.vlt_rows.proofs.Views.{block_parts, step_form, if_form, while_form, switch_form, scope_form, focus_form, return_form, jump_form}
 use Rattle.vlt_flow.specs.declared.errors.Halt.{Halt}
 use Rattle.vlt_keyset.specs.Held.{Statuses, map_of}
 use Rattle.vlt_flow.proofs.Passing.{handed, refused_through, split_at}
@@ -288,6 +288,11 @@ pub walk_form-returns-in_ok-held-in-Step-clause-ok : goal.walk_form-returns-in_o
 walk_form-returns-in_ok-held-in-Step-clause-ok t c =
     let p = rw c.as_slice.ensures at c.in_ok-held-in-Step.ensures.ok in
     rw (step_form _ _ c.in-Step.is, c.comes.ensures.held) (step_walked _ _ _ _ _ _ p)
+
+pub walk_form-returns-in-If-clause-ok : goal.walk_form-returns-in-If-clause-ok
+walk_form-returns-in-If-clause-ok t c =
+    let q = rw c.as_slice-rows.ensures at c.walk_if.ensures.ok in
+    rw (if_form _ _ _ _ c.in-If.is) q
 
 pub walk_form-walk_turns-requires : goal.walk_form-walk_turns-requires
 walk_form-walk_turns-requires t c =
