@@ -5,7 +5,7 @@ use Rattle.std.specs.Option.{option_map}
 use Rattle.std.proofs.lemmas.List.{length-map}
 use Rattle.std.proofs.lemmas.Option.{slice_get-map}
 use Rattle.vlt_core.specs.Core as core
-use Rattle.vlt_core.specs.Core.{Tok, VariantDecl, a_variant, Program}
+use Rattle.vlt_core.specs.Core.{Tok, VariantDecl, a_variant}
 use Rattle.vlt_core.specs.Maps.{is_tok}
 use Rattle.vlt_core.specs.Bodies.{body_flow}
 use Rattle.vlt_core.specs.Instances.{instance, origins}
@@ -133,15 +133,19 @@ module _ (kept : NotesAreKept) (p : CodeProgram) (kinded : IsKinded (program_of 
     written_is : (list : List Annotation) → fn_notes (func_of f) list ≡ map (read (maps_in list)) (noted_block 0 (body_flow (program_of p) (func_of f)))
     written_is list = listed_noted (program_of p) g (func_of f) kinded limits.blank there arms (maps_in list)
 
-    -- of one annotation its notes are written as they are
-    alone : (o : Option ℕ) (a : Annotation) → IsAnnotatedIn p f o a → fn_notes (func_of f) (a ∷ []) ≡ map written.note_of a.maps
-    alone o a one =
-        kept (func_of f) a (listed_by_names (program_of p) g (func_of f) kinded limits.blank there arms (map written.note_of a.maps)
-        (names_written a.maps ∙ one.least.complete ∙ same_noted (program_of p) g (func_of f) kinded limits.blank there arms o))
+    -- the annotation has a note of each statement that has one
+    abbrev IsWhole : Option ℕ → Annotation → Type 0
+    IsWhole o a = map noted_by (map note_of a.maps) ≡ noted_block 0 (body_flow (program_of p) (instance (program_of p) (func_of f) o))
 
-    read_again : (list : List Annotation) (i : ℕ) (o : Option ℕ) (a : Annotation) → slice_get list i ≡ Some a → IsAnnotatedIn p f o a → map (note_at i) (fn_notes (func_of f) list) ≡ map note_of a.maps
-    read_again list i o a at one =
-        ap (map (note_at i)) (written_is list) ∙ (picked list i a at xs ∙ (sym (ap (map (note_at 0)) (written_is (a ∷ []))) ∙ (ap (map (note_at 0)) (alone o a one) ∙ same_notes a.maps)))
+    -- of one annotation its notes are written as they are
+    alone : (o : Option ℕ) (a : Annotation) → IsWhole o a → fn_notes (func_of f) (a ∷ []) ≡ map written.note_of a.maps
+    alone o a whole =
+        kept (func_of f) a (listed_by_names (program_of p) g (func_of f) kinded limits.blank there arms (map written.note_of a.maps)
+        (names_written a.maps ∙ whole ∙ same_noted (program_of p) g (func_of f) kinded limits.blank there arms o))
+
+    pub read_again : (list : List Annotation) (i : ℕ) (o : Option ℕ) (a : Annotation) → slice_get list i ≡ Some a → IsWhole o a → map (note_at i) (fn_notes (func_of f) list) ≡ map note_of a.maps
+    read_again list i o a at whole =
+        ap (map (note_at i)) (written_is list) ∙ (picked list i a at xs ∙ (sym (ap (map (note_at 0)) (written_is (a ∷ []))) ∙ (ap (map (note_at 0)) (alone o a whole) ∙ same_notes a.maps)))
 
     own_least : (list : List Annotation) → AreAnnotatedIn p f (origins (program_of p) (func_of f)) list → AreLeastNotes (program_of p) (func_of f) (fn_notes (func_of f) list)
     own_least list are = record {
@@ -152,7 +156,7 @@ module _ (kept : NotesAreKept) (p : CodeProgram) (kinded : IsKinded (program_of 
           (all_listed p f (origins (program_of p) (func_of f)) list are) xs);
       least = λ i o at.
           let x = annotated_at p f (origins (program_of p) (func_of f)) list are i o at in
-          subst (IsLeast (program_of p) (instance (program_of p) (func_of f) o)) (sym (read_again list i o x.0 x.1 x.2)) x.2.least;
+          subst (IsLeast (program_of p) (instance (program_of p) (func_of f) o)) (sym (read_again list i o x.0 x.1 x.2.least.complete)) x.2.least;
     }
 
     one_least : (list : List Annotation) → IsAnnotatedBy p f list → HasLeastNotes (program_of p) (func_of f) (fn_notes (func_of f) list)

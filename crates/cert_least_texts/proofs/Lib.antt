@@ -1,4 +1,5 @@
 pub mod Readings
 pub mod ListedMaps
 pub mod Annotating
+pub mod Holding
 pub mod Narrow

@@ -1,2 +1,3 @@
 pub mod Annotated
+pub mod Held
 pub mod Texts

@@ -1,11 +1,14 @@
 -- An accepted program of a text surely has a least certificate, which fits, verifies and is read back.
 use Rattle.std.specs.Prelude.{◌≡◌, ℕ, List}
 use Rattle.vlt_base.specs.Sure.{Surely}
+use Rattle.vlt_syntax.specs.Tree.{Tree}
 use Rattle.vlt_core.specs.Core.{Program}
 use Rattle.vlt_core.specs.Derives.{IsAccepted}
 use Rattle.vlt_core.specs.View.{program_of}
 use Rattle.vlt_core.specs.declared.notes.Annotation.{Annotation}
 use Rattle.vlt_core.specs.declared.program.Program.{Program as CodeProgram}
+use Rattle.vlt_kinds.specs.Kinds.{Kinds}
+use Rattle.vlt_resolve_laws.specs.Elaborated.{IsElaborated}
 use Rattle.c_lower.specs.Lowering.{lowered}
 use Rattle.cert_rows.specs.Parts.{list}
 use Rattle.cert_format.specs.Places.{unplaced_program}
@@ -26,13 +29,23 @@ AcceptedTextsHaveOne =
     (p : Program) → IsProgramOfTexts p → IsAccepted p →
     Surely ((all : List (List Note)) × IsLeastCertificate p all)
 
--- Without its places the program has a certificate with these notes, in the version that is written:
--- 1 without links and bound entries, else 2. The program breaks no rule on names and types, the notes
--- hold in its bodies, and it has the same C program as with its places.
-pub record IsCertified (p : Program) (all : List (List Note)) : Type 0 where
-  pub fits : FitsCertificate (is_ordered (unplaced_program p)) (unplaced_program p) all
+-- Without its places the program breaks no rule on names and types, and the notes hold in its bodies.
+-- It has the same C program as with its places.
+pub record Verifies (p : Program) (all : List (List Note)) : Type 0 where
   pub verified : IsVerified (unplaced_program p) all
   pub same_c : lowered (unplaced_program p) ≡ lowered p
+
+-- The least certificate of any elaborated program.
+abbrev pub ElaboratedProgramsVerify : Type 0
+ElaboratedProgramsVerify =
+    (t : Tree) (kinds : Kinds) (p : Program) (all : List (List Note)) →
+    IsElaborated t kinds p → IsLeastCertificate p all → Verifies p all
+
+-- It verifies, and without its places the program has a certificate with these notes, in the version
+-- that is written: 1 without links and bound entries, else 2.
+pub record IsCertified (p : Program) (all : List (List Note)) : Type 0 where
+  pub fits : FitsCertificate (is_ordered (unplaced_program p)) (unplaced_program p) all
+  pub verifies : Verifies p all
 
 -- The least certificate of the program that the code makes of texts.
 abbrev pub LeastCertificatesVerify : Type 0

@@ -1,6 +1,6 @@
 //! The least certificates of texts' programs.
 
-ghost use Rattle.cert_least_texts.specs.Texts.{AcceptedTextsHaveOne, LeastCertificatesVerify, LeastCertificatesAreReadBack};
+ghost use Rattle.cert_least_texts.specs.Texts.{AcceptedTextsHaveOne, ElaboratedProgramsVerify, LeastCertificatesVerify, LeastCertificatesAreReadBack};
 
 use cert_fit_laws::limited_programs_fit;
 use cert_format_laws::{certificates_are_written, places_dont_count, texts_have_one_reading};
@@ -27,17 +27,25 @@ pub fn accepted_texts_have_one()
     accepted_programs_have_one();
 }
 
+/// The least certificate of an elaborated program verifies.
+pub fn elaborated_programs_verify()
+    ensures { ElaboratedProgramsVerify }
+{
+    elaborated_programs_are_kinded();
+    least_certificates_are_local();
+    least_certificates_have_no_places();
+    places_dont_count();
+}
+
 /// The least certificate of a text's program fits the format and verifies.
 pub fn least_certificates_verify()
     ensures { LeastCertificatesVerify }
 {
     texts_are_limited();
     elaborated_programs_are_kinded();
+    elaborated_programs_verify();
     least_certificates_are_complete();
-    least_certificates_are_local();
-    least_certificates_have_no_places();
     limited_programs_fit();
-    places_dont_count();
 }
 
 /// What is written of it is read as this program, without its places, and these notes.
