@@ -1,15 +1,16 @@
--- Lists of statements are no longer than the tokens that spell them.
+-- Lists of statements are no longer than the tokens that spell them, and no function has more than two statements for each.
 use Rattle.std.proofs.Common.{◌≤◌, ◌+◌, ℕ, suc, List, [], ◌∷◌, length, arith}
 use Rattle.vlt_base.specs.Limits.{limit_of}
 use Rattle.vlt_lexer.specs.declared.token.Mark.TheVariants as mark
 use Rattle.vlt_syntax.specs.Tokens.{Token, sign}
 use Rattle.vlt_syntax.specs.Tree as s
-use Rattle.vlt_syntax.specs.Tree.{Stmt, Block, If, Else, Stmts, Arms, Decl}
+use Rattle.vlt_syntax.specs.Tree.{Stmts, Decl}
 use Rattle.vlt_syntax.specs.Lists.{Each}
 use Rattle.vlt_syntax.specs.Spelling.{name_then, stmt_then, block_then, if_then, else_then, stmts_then, arms_then, decl_then}
 use Rattle.cert_text_laws.specs.Texts.{IsShort}
 use Rattle.cert_text_laws.proofs.Few.{count_of, StmtIsFew, BlockIsFew, IfIsFew, ElseIsFew, StmtsAreFew, ArmsAreFew, DeclIsFew}
 use Rattle.cert_text_laws.proofs.Shorter.{over, one, after_enclosed, after_name, after_condition, past_stmt, past_block, after_head}
+use Rattle.cert_text_laws.proofs.Totals.{few_in_all}
 
 counted : (ss : Stmts) (rest : List Token) → count_of ss + length rest ≤ length (stmts_then ss rest)
 counted s.done rest = none (length rest)
@@ -81,7 +82,9 @@ module _ (most : ℕ) where
   in_decl (s.struct n ps ss fs r at) rest h = tt
   in_decl (s.variant n ps cs at) rest h = tt
   in_decl (s.extern x at) rest h = tt
-  in_decl (s.function x b at) rest h = in_block b rest (less (after_head x _) h)
+  in_decl (s.function x b at) rest h =
+      let body = less (after_head x _) h in
+      (in_block b rest body, few_in_all b rest most body)
 
 pub few_statements : (ds : List Decl) → Each IsShort ds → Each (DeclIsFew (limit_of 3)) ds
 few_statements [] h = tt

@@ -1,7 +1,9 @@
--- A tool of the proof: trees in which each list of statements is no longer than a number.
-use Rattle.std.specs.Prelude.{◌≤◌, ℕ, suc}
+-- A tool of the proof: trees in which each list of statements is no longer than a number, and no function has more than twice as
+-- many in all.
+use Rattle.std.specs.Prelude.{◌≤◌, ◌*◌, ℕ, suc}
 use Rattle.vlt_syntax.specs.Tree as s
-use Rattle.vlt_syntax.specs.Tree.{Stmt, Block, If, Else, Stmts, Arms, Decl, Tree}
+use Rattle.vlt_syntax.specs.Tree.{Stmt, Block, If, Else, Stmts, Arms, Decl}
+use Rattle.cert_text_laws.proofs.Totals.{total_block}
 
 -- how many statements a list has itself
 abbrev pub count_of : Stmts → ℕ
@@ -38,5 +40,5 @@ module _ (most : ℕ) where
     ArmsAreFew (s.arm c vs body at more) = BlockIsFew body × ArmsAreFew more
 
   abbrev pub DeclIsFew : Decl → Type 0
-  DeclIsFew (s.function h body at) = BlockIsFew body
+  DeclIsFew (s.function h body at) = BlockIsFew body × (total_block body ≤ 2 * most)
   DeclIsFew d = Unit {0}

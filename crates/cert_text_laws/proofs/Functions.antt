@@ -5,11 +5,11 @@ use Rattle.std.specs.Char.{is_ascii}
 use Rattle.std.proofs.lemmas.Bool.{not-false}
 use Rattle.std.proofs.lemmas.List.{length-append}
 use Rattle.vlt_syntax.specs.Tree as s
-use Rattle.vlt_syntax.specs.Tree.{Name, States, Entry, Block, Head, Decl}
+use Rattle.vlt_syntax.specs.Tree.{States, Entry, Block, Head, Decl}
 use Rattle.vlt_syntax.specs.Lists.{Each}
 use Rattle.vlt_syntax.specs.Grammar.{IsBlock, IsDecl, language}
 use Rattle.vlt_core.specs.Core as core
-use Rattle.vlt_core.specs.Core.{KeyDecl, VarDecl, Form, Func}
+use Rattle.vlt_core.specs.Core.{Func}
 use Rattle.vlt_core.specs.declared.rules.TheConstants as rule
 use Rattle.vlt_kinds_types.specs.Names.Names.{decl_refused, name_beyond_ascii}
 use Rattle.vlt_kinds_types.specs.Names.Globals.{Globals}
@@ -22,15 +22,18 @@ use Rattle.vlt_kinds.specs.Kinds.{Kinds}
 use Rattle.vlt_resolve_laws.proofs.OfKindsLaws.Empty.{no_left, no_right, not_broken}
 use Rattle.vlt_resolve.specs.Walk.Walk.{then_do, walk_stmts}
 use Rattle.vlt_resolve.specs.Elaboration as elab
-use Rattle.vlt_resolve.specs.Elaboration.{is_fresh_key, with_key_names, with_var_names, nameless_scope, body_scope, body_around, stmts_in, end_refused, last_return, func_made, walk_body, is_function, walk_function, walk_decls, is_main}
+use Rattle.vlt_resolve.specs.Elaboration.{body_scope, body_around, stmts_in, end_refused, last_return, func_made, walk_body, is_function, walk_function, walk_decls, is_main}
 use Rattle.vlt_resolve_laws.proofs.Results.{same_ok, then_ok, unless_ok}
 use Rattle.cert_rows.specs.Rows.{is_c_name}
 use Rattle.cert_fit_laws.specs.Limits.{IsRuled, IsRuledEntry, most_statements, AreLimited}
 use Rattle.cert_rows.specs.Parts.{All}
-use Rattle.cert_format.specs.Bodies.{length_of}
+use Rattle.cert_format.specs.Bodies.{length_of, count_list}
+use Rattle.cert_text_laws.specs.Texts.{most_of_function}
 use Rattle.cert_text_laws.proofs.CNames.{IsNamed}
 use Rattle.cert_text_laws.proofs.Few.{count_of, BlockIsFew, DeclIsFew}
 use Rattle.cert_text_laws.proofs.Bodies.{most, length_made, joined_limited, stmts_limited, last_limited}
+use Rattle.cert_text_laws.proofs.Totals.{total_block}
+use Rattle.cert_text_laws.proofs.Whole.{stmts_few, body_few}
 
 -- ---- entries
 
@@ -75,15 +78,16 @@ pub record IsSmallFunc (f : Func) : Type 0 where
   pub name : f.external ≡ true → is_c_name f.name ≡ true
   pub few : length_of f.body ≤ most_statements
   pub body : AreLimited 1 f.body
+  pub total : count_list f.body ≤ most_of_function
 
 -- what a function has of its head
 pub record IsOfHead (h f : Func) : Type 0 where
   pub name : f.name ≡ h.name
   pub external : f.external ≡ h.external
 
-body_limited : (kinds : Kinds) (head : Head) (h : Func) (b : Block) (f : Func) → IsLimitedHead false head h → IsBlock language language.depth b → BlockIsFew most b → walk_body kinds h b ≡ Ok f
+body_limited : (kinds : Kinds) (head : Head) (h : Func) (b : Block) (f : Func) → IsLimitedHead false head h → IsBlock language language.depth b → BlockIsFew most b → total_block b ≤ 2 * most → walk_body kinds h b ≡ Ok f
     → IsSmallFunc f × IsOfHead h f
-body_limited kinds head h (s.braced ss at) f is g few e =
+body_limited kinds head h (s.braced ss at) f is g few total e =
     let b = s.braced ss at in
     let y = then_ok (walk_stmts kinds (body_around h) (body_scope h) false (stmts_in b)) _ f e in
     let u = unless_ok (least (end_refused h b)) (Ok (func_made h b y.first)) f y.rest in
@@ -97,6 +101,7 @@ body_limited kinds head h (s.braced ss at) f is g few e =
         few = subst (λ m. m ≤ most_statements) (sym (length_made (y.first.0 ++ last_return b)))
             (sum (count_of ss) (length (y.first.0 ++ last_return b)) (length y.first.0) (length (last_return b)) (length-append y.first.0 (last_return b)) few.0 q.few last.1);
         body = joined_limited 1 y.first.0 (last_return b) q.limited last.0;
+        total = body_few ss b y.first.0 (2 * most) (stmts_few kinds (body_around h) (body_scope h) false ss y.first y.one) total;
       },
       record { name = refl; external = refl },
     )
@@ -113,12 +118,16 @@ extern_limited head h f is named e =
         name = λ e. ap is_c_name is.named ∙ named;
         few = none;
         body = tt;
+        total = none_at_all;
       },
       record { name = refl; external = refl },
     )
   where
     none : 0 ≤ 4294967295
     none = omega arith
+
+    none_at_all : 0 ≤ 524289
+    none_at_all = omega arith
 
 -- ---- all of them
 
@@ -165,7 +174,7 @@ module _ (kinds : Kinds) (known : Globals) where
       let w = unless_ok (least (elab.head_refused h at.from)) (walk_body kinds h b) f.first f.one in
       subst (AreOfHeads (h ∷ Heads ds)) (same_ok (f.first ∷ rest.first) fs rest.rest)
       (with_one h f.first (Heads ds) rest.first
-      (body_limited kinds head h b f.first (head_limited kinds.file false head (keys_of kinds.file head) is.0.0.few) is.0.1 few.0 w.1)
+      (body_limited kinds head h b f.first (head_limited kinds.file false head (keys_of kinds.file head) is.0.0.few) is.0.1 few.0.0 few.0.1 w.1)
       (all_limited ds rest.first is.1 few.1 named.1 none rest.one))
   all_limited (s.extern head at ∷ ds) fs is few named none e =
       let h = core_head kinds.file true head (keys_of kinds.file head) in

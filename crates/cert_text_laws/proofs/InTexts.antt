@@ -1,5 +1,5 @@
 -- What all tokens of texts have, each token has that is one of a text; and the tree of one text is spelled with those of texts.
-use Rattle.std.proofs.Common.{◌≡◌, ◌≤◌, ◌⊎◌, inl, inr, ℕ, List, [], ◌∷◌, length, refl, sym, subst}
+use Rattle.std.proofs.Common.{◌≡◌, ◌≤◌, inl, inr, ℕ, List, [], ◌∷◌, length, refl, sym, subst}
 use Rattle.std.proofs.lemmas.List.{length-map}
 use Rattle.vlt_base.specs.Limits.{limit_of}
 use Rattle.vlt_lexer.specs.Reading.{Lexeme}

@@ -1,11 +1,13 @@
-pub mod Few
 pub mod Shorter
+pub mod Totals
+pub mod Few
 pub mod InTexts
 pub mod CNames
 pub mod Counting
 pub mod Shallow
 pub mod Simple
 pub mod Bodies
+pub mod Whole
 pub mod Declarations
 pub mod Objects
 pub mod Bounds

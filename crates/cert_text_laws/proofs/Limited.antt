@@ -33,14 +33,14 @@ few_all : (a b c d n : ℕ) → a + b + c ≤ n → n ≤ 4096 → d ≡ c → a
 few_all a b c d n x y e = omega arith
 
 -- what declarations give
-record IsSmallProgram (p : Program) : Type 0 where
+pub record IsSmallProgram (p : Program) : Type 0 where
   few : length p.sets + length p.types + length p.fns ≤ 4096
   sets : All IsLimitedSet p.sets
   types : All IsLimitedType p.types
-  fns : All IsSmallFunc p.fns
+  pub fns : All IsSmallFunc p.fns
   main : p.main ≡ main_from 0 p.fns
 
-small : (t : Tree) (kinds : Kinds) (p : Program) → Each IsNamed t.decls → Each (DeclIsFew most) t.decls → IsElaborated t kinds p → IsSmallProgram p
+pub small : (t : Tree) (kinds : Kinds) (p : Program) → Each IsNamed t.decls → Each (DeclIsFew most) t.decls → IsElaborated t kinds p → IsSmallProgram p
 small t kinds p named few e =
     let x = told t.decls kinds e.told in
     let k = kinds_of t.decls in

@@ -1,5 +1,5 @@
--- Programs of texts keep the limits of certificates.
-use Rattle.std.specs.Prelude.{◌≡◌, ◌≤◌, ◌⊎◌, ℕ, List, [], ◌∷◌, length}
+-- Programs of texts keep the limits of certificates, and their functions have few statements.
+use Rattle.std.specs.Prelude.{◌≡◌, ◌≤◌, ◌⊎◌, ℕ, List, [], ◌∷◌, length, Some, slice_get}
 use Rattle.vlt_base.specs.Limits.{limit_of}
 use Rattle.vlt_lexer.specs.Reading.{Lexeme}
 use Rattle.vlt_lexer.specs.Text.{IsTokensOf}
@@ -8,9 +8,10 @@ use Rattle.vlt_syntax.specs.Tree.{Decl, Tree}
 use Rattle.vlt_syntax.specs.Lists.{Each}
 use Rattle.vlt_syntax.specs.Spelling.{decl_then, spelling}
 use Rattle.vlt_syntax_laws.specs.Numbers.{HasNumbers}
-use Rattle.vlt_core.specs.Core.{Program}
+use Rattle.vlt_core.specs.Core.{Func, Program}
 use Rattle.vlt_kinds.specs.Kinds.{Kinds}
 use Rattle.vlt_resolve_laws.specs.Elaborated.{IsElaborated}
+use Rattle.cert_format.specs.Bodies.{count_list}
 use Rattle.cert_fit_laws.specs.Limits.{IsLimitedProgram}
 
 -- one of these tokens
@@ -42,3 +43,13 @@ pub record IsProgramOfTexts (p : Program) : Type 0 where
 -- the program of texts keeps the limits of certificates
 abbrev pub TextsAreLimited : Type 0
 TextsAreLimited = (p : Program) → IsProgramOfTexts p → IsLimitedProgram p
+
+-- so many statements a function of texts has at most, with those inside others: two for each token
+-- of the longest text, and one at its end
+abbrev pub most_of_function : ℕ
+most_of_function = 524289
+
+abbrev pub TextsHaveFewStatements : Type 0
+TextsHaveFewStatements =
+    (p : Program) → IsProgramOfTexts p → (g : ℕ) (f : Func) →
+    slice_get p.fns g ≡ Some f → count_list f.body ≤ most_of_function

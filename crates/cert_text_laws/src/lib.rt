@@ -7,4 +7,4 @@ mod fit;
 mod texts;
 
 pub use fit::{certificates_are_fit, verified_are_accepted_programs, verified_programs_run_alike};
-pub use texts::texts_are_limited;
+pub use texts::{texts_are_limited, texts_have_few_statements};

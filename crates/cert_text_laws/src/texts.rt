@@ -1,6 +1,6 @@
-//! Programs of texts keep the limits of certificates.
+//! Programs of texts keep the limits of certificates, and their functions have few statements.
 
-ghost use Rattle.cert_text_laws.specs.Texts.{TextsAreLimited};
+ghost use Rattle.cert_text_laws.specs.Texts.{TextsAreLimited, TextsHaveFewStatements};
 
 use vlt_resolve_laws::{
     elaborated_programs_are_kinded, elaborated_programs_have_blank_externals,
@@ -18,3 +18,8 @@ pub fn texts_are_limited()
     elaborated_programs_have_blank_externals();
     elaborated_programs_are_kinded();
 }
+
+/// Each function of the program of texts has few statements in all.
+pub fn texts_have_few_statements()
+    ensures { TextsHaveFewStatements }
+{}
