@@ -11,7 +11,7 @@ use Rattle.vlt_core.specs.Least.{Noted, a_loop, a_join, noted_block, LieBelow, I
 use Rattle.vlt_core_laws.specs.Fit.{IsFitBody}
 use Rattle.vlt_core_laws.specs.Faulted.{HasFaultBlock}
 use Rattle.vlt_core_laws.specs.Scoped.{IsScopedBlock}
-use Rattle.vlt_core_laws.specs.Shown.{one_kind, IsJust, IsOneKind, IsFit, IsStart}
+use Rattle.vlt_core_laws.specs.Shown.{one_kind, IsJust, IsOneKind}
 use Rattle.vlt_core_laws.specs.Sweep.{found_head_block, found_exit_block}
 use Rattle.vlt_core_laws.proofs.Deriving.{annotated}
 use Rattle.vlt_core_laws.proofs.Faultless.{map_below}

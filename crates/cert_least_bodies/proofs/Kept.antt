@@ -3,7 +3,7 @@ use Rattle.std.proofs.Common.{◌≡◌, ◌+◌, ℕ, zero, suc, Bool, true, fa
 use Rattle.vlt_core.specs.Core.{Tok}
 use Rattle.vlt_core.specs.Maps.{Row, is_tok, away_row}
 use Rattle.vlt_core.specs.Flow.{Flow, step, choose, loop, switch, scope, focus, return, jump, Block, block, Stmts, done, next, Arms, no_arms, arm, size, size_block}
-use Rattle.vlt_core.specs.Found.{One, one_absent, Ones, WantsOne, LeftBy, image_if, image, images, both, turns, Exit, to_next, to_break, to_continue, jumps, out, out_block, out_stmts, out_arms, head_of}
+use Rattle.vlt_core.specs.Found.{One, one_absent, Ones, WantsOne, LeftBy, image_if, image, images, turns, Exit, to_next, to_break, to_continue, jumps, out, out_block, out_stmts, out_arms, head_of}
 use Rattle.vlt_core_laws.specs.Sweep.{found_head, found_head_block, found_head_stmts, found_head_arms, found_exit, found_exit_block, found_exit_stmts, found_exit_arms}
 use Rattle.vlt_core_laws.proofs.Good.{AllRows}
 

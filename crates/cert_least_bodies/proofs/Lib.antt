@@ -11,3 +11,5 @@ pub mod Listed
 pub mod Making
 pub mod Typed
 pub mod Programs
+pub mod Slots
+pub mod Noting

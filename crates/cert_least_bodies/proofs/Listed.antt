@@ -1,5 +1,5 @@
 -- A held map of a function as a certificate lists it.
-use Rattle.std.proofs.Common.{◌≡◌, ◌<◌, ◌≤◌, ◌+◌, ◌-◌, ◌==◌, ℕ, zero, suc, nat_lt, nat_le, Bool, true, false, true≢false, IsTrue, if◌then◌else◌, List, [], ◌∷◌, length, Option, Some, None, slice_get, refl, sym, ap, subst, ◌∙◌, arith}
+use Rattle.std.proofs.Common.{◌≡◌, ◌<◌, ◌≤◌, ◌+◌, ◌-◌, ◌==◌, ℕ, zero, suc, nat_lt, nat_le, Bool, true, false, true≢false, if◌then◌else◌, [], ◌∷◌, length, Option, Some, None, slice_get, refl, sym, ap, subst, ◌∙◌, arith}
 use Rattle.std.specs.Option.{option_map}
 use Rattle.std.proofs.Math.Path.{fun_ext}
 use Rattle.std.proofs.lemmas.Bool.{and_from, le-leb}
@@ -16,7 +16,6 @@ use Rattle.cert_rows.specs.Values.{mask, number_of_tok, tok_of_number, token, to
 use Rattle.cert_fit_laws.specs.Annotation.{held_map}
 use Rattle.cert_least_laws.proofs.Listing.{is_itself}
 use Rattle.cert_least_bodies.proofs.Masking.{narrow_mask}
-use Rattle.cert_least_bodies.specs.Narrow.{IsNarrow}
 use Rattle.cert_least_bodies.proofs.Tidy.{IsTidyOne}
 
 -- ---- tokens by number
@@ -190,7 +189,7 @@ has_no_absent (held s) h here = h
 has_no_absent (lent s) h here = h
 has_no_absent full h here = h
 
-owning_below : (f : Func) (v : ℕ) → is_owning_var f v ≡ true → v < length f.vars
+pub owning_below : (f : Func) (v : ℕ) → is_owning_var f v ≡ true → v < length f.vars
 owning_below f v e = by (slice_get f.vars v) refl e
   where
     by : (o : Option VarDecl) → slice_get f.vars v ≡ o → owns (option_map (λ d. d.ty) o) ≡ true → v < length f.vars

@@ -1,14 +1,14 @@
 -- The notes that show just what is found in a body, as a certificate lists them.
-use Rattle.std.proofs.Common.{◌≡◌, ◌≤◌, ℕ, zero, suc, nat_lt, ◌==◌, Bool, true, false, List, [], ◌∷◌, map, length, Option, Some, None, slice_get, refl, sym, ap, subst, ◌∙◌, arith}
+use Rattle.std.proofs.Common.{◌≡◌, ◌≤◌, ℕ, zero, suc, nat_lt, ◌==◌, true, false, List, [], ◌∷◌, map, length, Option, Some, None, slice_get, refl, sym, ap, subst, ◌∙◌, arith}
 use Rattle.std.specs.Option.{option_map}
 use Rattle.std.proofs.lemmas.Bool.Decides.{nat_tests}
 use Rattle.std.proofs.lemmas.List.{length-map}
 use Rattle.std.proofs.lemmas.Option.{slice_get-map}
 use Rattle.vlt_core.specs.Core.{Tok, Func, Program}
-use Rattle.vlt_core.specs.Maps.{HeldMap, is_tok}
+use Rattle.vlt_core.specs.Maps.{HeldMap}
 use Rattle.vlt_core.specs.Bodies.{body_flow}
 use Rattle.vlt_core.specs.Instances.{instance, origins}
-use Rattle.vlt_core.specs.Local.{Notes}
+use Rattle.vlt_core.specs.Local.{Notes, IsLocalIn}
 use Rattle.vlt_core.specs.Found.{One, Has}
 use Rattle.vlt_core.specs.Least as least
 use Rattle.vlt_core.specs.Least.{Noted, a_loop, a_join, noted_block, IsLeast}
@@ -50,7 +50,7 @@ names_made n list (a_loop i ∷ xs) = ap (λ ys. a_loop i ∷ ys) (names_made n 
 names_made n list (a_join i ∷ xs) = ap (λ ys. a_join i ∷ ys) (names_made n list xs)
 
 -- the maps of the statements are tidy
-abbrev AreTidyMaps : Func → List Noted → Notes → Type 0
+abbrev pub AreTidyMaps : Func → List Noted → Notes → Type 0
 AreTidyMaps f [] a = Unit {0}
 AreTidyMaps f (a_loop i ∷ xs) a = IsTidyMap f (a.around i) × IsTidyMap f (a.behind i) × AreTidyMaps f xs a
 AreTidyMaps f (a_join i ∷ xs) a = IsTidyMap f (a.behind i) × AreTidyMaps f xs a
@@ -108,11 +108,12 @@ module _ (f : Func) (few_keys : length f.keys ≤ 256) (few_vars : length f.vars
 
 -- ---- the annotation of one instance, and those of all
 
-abbrev noted_in : Program → Func → List Noted
+abbrev pub noted_in : Program → Func → List Noted
 noted_in p f = noted_block 0 (body_flow p f)
 
 pub record IsMade (p : Program) (f : Func) (o : Option ℕ) : Type 0 where
   pub notes : Notes
+  pub local : IsLocalIn p (instance p f o) notes
   pub tidy : AreTidyMaps f (noted_in p f) notes
   pub least : IsLeast p (instance p f o) (map (read notes) (noted_in p f))
 
@@ -185,6 +186,7 @@ module _ (p : Program) (g : ℕ) (f : Func) (there : slice_get p.fns g ≡ Some 
   pub made_one : IsMade p f o
   made_one = record {
     notes = is.notes;
+    local = is.local;
     tidy = subst (λ xs. AreTidyMaps f xs is.notes) same (all_tidy (noted_in p f') (some_found p f' fit is.notes is.local));
     least = subst (λ xs. IsLeast p f' (map (read is.notes) xs)) same (shown_least p f' fit is.notes is.shows is.local);
   }

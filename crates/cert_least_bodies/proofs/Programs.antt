@@ -36,7 +36,7 @@ module _ (p : Program) (is : IsLimitedProgram p) where
       by None at = omega arith
       by (Some d) at = (all_at IsLimitedSet p.sets i d is.sets at).few
 
-  few_fields : (t : ℕ) → length (fields_of p t) ≤ 32
+  pub few_fields : (t : ℕ) → length (fields_of p t) ≤ 32
   few_fields t = by (slice_get p.types t) refl
     where
       by : (o : Option TypeDecl) → slice_get p.types t ≡ o → length (fields_in o) ≤ 32
@@ -45,7 +45,7 @@ module _ (p : Program) (is : IsLimitedProgram p) where
       by (Some (a_struct d)) at = (all_at IsLimitedType p.types t (a_struct d) is.types at).1
       by (Some (a_variant d)) at = omega arith
 
-  few_cases : (t : ℕ) → length (cases_of p t) ≤ 32
+  pub few_cases : (t : ℕ) → length (cases_of p t) ≤ 32
   few_cases t = by (slice_get p.types t) refl
     where
       by : (o : Option TypeDecl) → slice_get p.types t ≡ o → length (cases_in o) ≤ 32
@@ -54,7 +54,7 @@ module _ (p : Program) (is : IsLimitedProgram p) where
       by (Some (a_struct d)) at = omega arith
       by (Some (a_variant d)) at = (all_at IsLimitedType p.types t (a_variant d) is.types at).2
 
-  few_functions : length p.fns ≤ 4096
+  pub few_functions : length p.fns ≤ 4096
   few_functions = low (length p.sets) (length p.types) (length p.fns) is.few
     where
       low : (a b c : ℕ) → a + b + c ≤ 4096 → c ≤ 4096
@@ -88,7 +88,7 @@ module _ (p : Program) (kinded : IsKinded p) (is : IsLimitedProgram p) (well : I
     rows : EachEmpty (stmts_rows p f (record { jumps = false; returns = true }) (first_ids p f) false f.body)
     rows = subst (λ x. EachEmpty (if x then [] else stmts_rows p f (record { jumps = false; returns = true }) (first_ids p f) false f.body)) own (function_empty p g f parts there).1.1
 
-    instance_sure : (o : Option ℕ) → IsOrigin p f o → Surely (IsMade p f o)
+    pub instance_sure : (o : Option ℕ) → IsOrigin p f o → Surely (IsMade p f o)
     instance_sure o origin =
         let fit = formed_bodies p g f o well there own origin in
         so (surely_shown p (instance p f o) fit (accepted g f o there own origin)) (λ shown.

@@ -1,14 +1,14 @@
 -- What rows leave in a function: keys of the function in states below 32, and owning variables.
-use Rattle.std.proofs.Common.{◌≡◌, ◌<◌, ◌≤◌, ◌==◌, ◌&&◌, ℕ, zero, suc, nat_lt, Bool, true, false, IsTrue, if◌then◌else◌, List, [], ◌∷◌, ◌++◌, map, length, Option, Some, None, IfSome, slice_get, refl, sym, ap, subst, ◌∙◌, ◌⊎◌, inl, inr, ⊎_elim, true≢false, arith}
+use Rattle.std.proofs.Common.{◌≡◌, ◌<◌, ◌≤◌, ◌==◌, ℕ, suc, nat_lt, Bool, true, false, if◌then◌else◌, List, [], ◌∷◌, ◌++◌, length, Option, Some, None, IfSome, slice_get, refl, sym, subst, ◌⊎◌, inl, inr, ⊎_elim, arith}
 use Rattle.std.specs.List.{flat_map}
 use Rattle.std.proofs.lemmas.Bool.Decides.{nat_tests}
 use Rattle.std.proofs.lemmas.List.Concat.{flat_map-cons}
 use Rattle.vlt_core.specs.Core as core
-use Rattle.vlt_core.specs.Core.{States, Tok, a_key, a_var, Expr, Operand, pure, move, pack, CaseDecl, CaseKey, Mode, Entry, Func, Program}
-use Rattle.vlt_core.specs.Lookups.{every_state, first_state, state_count, all_states, release_set, case_at, owning_states, states_of_type, key_type, states_or_all, before_set, is_held_before, is_held_after, is_owning_var, reference_of, guarded_of, variant_of}
-use Rattle.vlt_core.specs.Maps.{Wanted, wants_absent, wants_held, wants_in, wants_lent, wants_full, After, becomes_absent, becomes_held, stays, becomes_full, becomes_lent, comes_back, Row, is_tok}
+use Rattle.vlt_core.specs.Core.{States, Tok, a_key, a_var, Expr, Operand, pure, move, pack, Mode, Entry, Func, Program}
+use Rattle.vlt_core.specs.Lookups.{every_state, first_state, state_count, all_states, owning_states, states_of_type, key_type, states_or_all, is_held_after, is_owning_var, reference_of, guarded_of, variant_of}
+use Rattle.vlt_core.specs.Maps.{Wanted, wants_absent, wants_held, wants_in, wants_full, After, becomes_absent, becomes_held, stays, becomes_full, becomes_lent, comes_back, Row, is_tok}
 use Rattle.vlt_core.specs.Found.{One, one_absent, one_held, one_lent, one_full, WantsOne, LeftBy}
-use Rattle.vlt_core.specs.Rows.{row, on_option, on_key, end_row, empty_row, fill_rows, touch_rows, expr_rows, operand_rows, operands_rows, key_row, simple_rows, entry_wanted, entry_row, called_row, called_rows, target_rows, rows_of, arm_rows, focus_end_rows}
+use Rattle.vlt_core.specs.Rows.{end_row, empty_row, fill_rows, touch_rows, expr_rows, operand_rows, operands_rows, key_row, simple_rows, entry_wanted, entry_row, called_row, called_rows, target_rows, rows_of, arm_rows, focus_end_rows}
 use Rattle.vlt_core.specs.KindedHeads.{unless, has, state_broken}
 use Rattle.vlt_core.specs.KindedScopes.{Ids}
 use Rattle.vlt_core.specs.KindedStatements.{tracked_broken, struct_broken, simple_broken}
@@ -18,7 +18,7 @@ use Rattle.vlt_core_laws.proofs.Founds.{same_is}
 use Rattle.vlt_core_laws.proofs.Good.{AllRows, all_both, all_key, all_filled, reference_in, guard_in}
 use Rattle.vlt_core_laws.proofs.Ids.{type_keys}
 use Rattle.vlt_core_laws.proofs.Simple.{option_rows, case_keys_rows, variant_keys}
-use Rattle.vlt_core_laws.proofs.Unbroken.{left_empty, right_empty, unless_holds, some_not_none}
+use Rattle.vlt_core_laws.proofs.Unbroken.{left_empty, right_empty, unless_holds}
 use Rattle.cert_rows.specs.Parts.{All}
 use Rattle.cert_fit_laws.proofs.Listed.{all_at}
 use Rattle.cert_fit_laws.proofs.NarrowNumbers.{Bounds, all_flat}

@@ -1,5 +1,5 @@
 -- The rows of a body that breaks no rule are tidy, and so is what it begins with.
-use Rattle.std.proofs.Common.{◌≡◌, ◌==◌, ◌&&◌, ◌<◌, ℕ, zero, suc, nat_lt, not, Bool, true, false, IsTrue, if◌then◌else◌, List, [], ◌∷◌, ◌++◌, map, length, Option, Some, None, IfSome, slice_get, refl, sym, ap, subst, ◌∙◌, true≢false, arith}
+use Rattle.std.proofs.Common.{◌≡◌, ◌==◌, ◌&&◌, ◌<◌, ℕ, suc, nat_lt, not, Bool, true, false, if◌then◌else◌, List, [], ◌∷◌, ◌++◌, length, Option, Some, None, IfSome, slice_get, refl, sym, subst, true≢false, arith}
 use Rattle.std.specs.List.{flat_map}
 use Rattle.std.proofs.lemmas.Bool.{and_parts}
 use Rattle.std.proofs.lemmas.Bool.Decides.{nat_tests}
@@ -10,7 +10,7 @@ use Rattle.vlt_core.specs.Lookups.{all_states, links_of_type, leads_up, key_type
 use Rattle.vlt_core.specs.Maps.{absent, held, full}
 use Rattle.vlt_core.specs.Found.{One, one_absent, one_held, one_lent, one_full, Has}
 use Rattle.vlt_core.specs.Flow.{Block}
-use Rattle.vlt_core.specs.Bodies.{flow_of, flow_of_block, flow_of_stmts, flow_of_arms, body_flow}
+use Rattle.vlt_core.specs.Bodies.{flow_of, flow_of_block, flow_of_stmts, flow_of_arms}
 use Rattle.vlt_core.specs.Derives.{status_at_start, start_map}
 use Rattle.vlt_core.specs.KindedHeads.{unless, has, entry_broken}
 use Rattle.vlt_core.specs.KindedScopes.{Ids, Around, at_block_start, left_behind}
@@ -20,7 +20,7 @@ use Rattle.vlt_core_laws.proofs.Binding.{in_range}
 use Rattle.vlt_core_laws.proofs.Headed.{each_at}
 use Rattle.vlt_core_laws.proofs.Ids.{type_keys}
 use Rattle.vlt_core_laws.proofs.Starting.{made_at}
-use Rattle.vlt_core_laws.proofs.Unbroken.{EachEmpty, left_empty, right_empty, each_left, each_right}
+use Rattle.vlt_core_laws.proofs.Unbroken.{EachEmpty, right_empty, each_left, each_right}
 use Rattle.cert_fit_laws.proofs.NarrowNumbers.{Bounds}
 use Rattle.cert_least_bodies.proofs.Kept.{EachRow, EachRowBlock, EachRowStmts, EachRowArms}
 use Rattle.cert_least_bodies.specs.Narrow.{IsNarrow, HasNarrow}

@@ -1,5 +1,5 @@
 -- The types of a function's variables break no rule.
-use Rattle.std.proofs.Common.{◌≡◌, ℕ, List, [], ◌++◌}
+use Rattle.std.proofs.Common.{◌≡◌, ℕ, []}
 use Rattle.std.specs.List.{flat_map}
 use Rattle.vlt_core.specs.Core.{Func, Program}
 use Rattle.vlt_core.specs.KindedHeads.{unless, type_broken, head_broken}

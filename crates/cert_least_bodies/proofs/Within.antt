@@ -1,11 +1,11 @@
 -- What is found at a statement lies in the maps of each annotation that holds.
-use Rattle.std.proofs.Common.{◌≡◌, ◌+◌, ◌||◌, ℕ, zero, suc, Bool, true, false, List, map, Option, Some, None, refl, sym, subst, ⊎_elim, true≢false, MatchBool}
+use Rattle.std.proofs.Common.{◌≡◌, ◌+◌, ◌||◌, ℕ, zero, suc, Bool, true, false, List, Option, Some, None, refl, sym, subst, ⊎_elim, true≢false, MatchBool}
 use Rattle.std.specs.Prelude.{IsSome}
 use Rattle.vlt_core.specs.Core.{Tok}
 use Rattle.vlt_core.specs.Maps.{Row, Status, HeldMap, map_after, IsBelow}
 use Rattle.vlt_core.specs.Flow.{Flow, step, choose, loop, switch, scope, focus, return, jump, Block, block, Stmts, done, next, Arms, no_arms, arm, size, size_block, passes, passes_block, passes_arms}
-use Rattle.vlt_core.specs.Local.{Notes, When, only_if, leads, leads_block, IsLocal, IsLocalBlock, IsLocalStmts, IsLocalArms}
-use Rattle.vlt_core.specs.Found.{One, Ones, Has, images, both, turns, to_next, to_continue, out, out_block, out_stmts, out_arms, head_of}
+use Rattle.vlt_core.specs.Local.{Notes, When, only_if, leads, IsLocal, IsLocalBlock, IsLocalStmts, IsLocalArms}
+use Rattle.vlt_core.specs.Found.{One, Ones, Has, images, both, turns, to_next, to_continue, out, out_block, head_of}
 use Rattle.vlt_core_laws.specs.Scoped.{IsScoped, IsScopedBlock, IsScopedStmts, IsScopedArms}
 use Rattle.vlt_core_laws.specs.Sweep.{found_head, found_head_block, found_head_stmts, found_head_arms, found_exit, found_exit_block, found_exit_stmts, found_exit_arms}
 use Rattle.vlt_core_laws.proofs.Changes.{leads_some}

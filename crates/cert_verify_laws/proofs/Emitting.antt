@@ -84,6 +84,6 @@ emitted written p all fit text again = record {
     reads = read p all fit again;
     certificate = certificate p all fit written text;
   };
-  verified = fit.verified;
-  lowered = sym fit.same_c;
+  verified = fit.verifies.verified;
+  lowered = sym fit.verifies.same_c;
 }

@@ -5,3 +5,4 @@ mod Masking
 mod Emitting
 mod Annotated
 mod Answered
+mod Flows

@@ -3,7 +3,7 @@ use Rattle.std.proofs.Common.{◌≡◌, false, ℕ, suc, List, [], ◌∷◌, O
 use Rattle.vlt_syntax.specs.Tree.{Tree, Block, Head}
 use Rattle.vlt_syntax.specs.Lists.{Each}
 use Rattle.vlt_core.specs.Core as core
-use Rattle.vlt_core.specs.Core.{States, Ty, owning, VarDecl, FieldDecl, CaseKey, CaseDecl, TypeDecl, a_struct, a_variant, Entry, Func, Program}
+use Rattle.vlt_core.specs.Core.{States, Ty, owning, VarDecl, FieldDecl, CaseDecl, TypeDecl, a_struct, a_variant, Entry, Func, Program}
 use Rattle.vlt_core.specs.Lookups.{owning_states_in, release_in, fields_in, cases_in}
 use Rattle.vlt_kinds.specs.Kinds.{Kinds}
 use Rattle.vlt_resolve_exprs.specs.Scopes.{Scope}

@@ -8,7 +8,7 @@ use Rattle.vlt_core.specs.Core.{States, Ty, FieldDecl, CaseKey, CaseDecl, TypeDe
 use Rattle.cert_rows.specs.Parts.{All}
 use Rattle.cert_rows.specs.Values.{Shape, mask_of, mask, side_states, FitsTy, field, case_key, var_decl, entry}
 use Rattle.cert_rows.specs.Expressions.{FitsOperand}
-use Rattle.cert_rows.specs.Rows.{Row, FitsRow, FitsResult, return_stmt}
+use Rattle.cert_rows.specs.Rows.{FitsRow, FitsResult, return_stmt}
 use Rattle.cert_rows.specs.Rows as row
 use Rattle.cert_format.specs.Drafts.{draft_rows, block_rows, list_rows, arms_rows}
 use Rattle.cert_format.specs.Notes.{MapNotes, Note, maps_of}

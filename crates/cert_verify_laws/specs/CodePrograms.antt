@@ -1,5 +1,5 @@
 -- Programs of certificates and of texts are programs of the code.
-use Rattle.std.specs.Prelude.{◌≡◌, ℕ, Bool, List}
+use Rattle.std.specs.Prelude.{◌≡◌, Bool, List}
 use Rattle.vlt_core.specs.Core.{Program}
 use Rattle.vlt_core.specs.View.{program_of}
 use Rattle.vlt_core.specs.declared.program.Program.{Program as CodeProgram}

@@ -8,16 +8,10 @@ use Rattle.vlt_base.specs.Limits.{limit_of}
 use Rattle.vlt_base.specs.declared.limits.TheConstants.{SOURCE_BYTES, C_BYTES}
 use Rattle.vlt_core.specs.Core.{Ty, int, bool, tracked, owning, guarded, variant, owning_variant, Func, Program}
 use Rattle.vlt_core.specs.Lookups.{cases_of}
-use Rattle.vlt_core.specs.Bodies.{body_flow}
-use Rattle.vlt_core.specs.Derives.{start_map}
-use Rattle.vlt_core.specs.Instances.{instance}
-use Rattle.vlt_core_laws.proofs.Formed.{formed_bodies}
-use Rattle.vlt_core_laws.proofs.Deriving.{annotated}
 use Rattle.vlt_io.specs.Outside.{Files, IsRead, Grew}
 use Rattle.vlt_io.specs.declared.sink.Sink as sink
 use Rattle.vlt_io.specs.declared.store.Store.{Ghosts}
 use Rattle.vlt_resolve.specs.Elaboration.{broken, exceeded}
-use Rattle.vlt_resolve.specs.Programs.{program_told}
 use Rattle.vlt_syntax.specs.Tree.{Tree}
 use Rattle.vlt_verdict.specs.FitLaws.Fit.{IsTextTree, ProgramsAreFit}
 use Rattle.vlt_verdict.specs.FitLaws.Texts.{TextsHaveTextTrees}
@@ -46,16 +40,13 @@ use Rattle.cert_format_laws.specs.Versions.{is_ordered}
 use Rattle.cert_verify_laws.specs.Emitted.{EmittedFilesVerify}
 use Rattle.cert_text_laws.proofs.InTexts.{spelled_in}
 use Rattle.vaultc_core.proofs.OfTexts.{program_of_text}
-use Rattle.vlt_verdict.proofs.Single.{fit_program}
-use Rattle.cert_emit.specs.Causes.{HasRefused}
 use Rattle.cert_emit.specs.Certificates.{certificate_of, IsLeastText}
 use Rattle.vaultc_core.specs.declared.status.TheConstants.{DONE}
 use Rattle.vaultc_core.specs.Commands.{Command, emit}
 use Rattle.vaultc_core.specs.Finishes.{Finishes}
-use Rattle.vaultc_core.specs.Lines.{Reply, reply, over_reply}
+use Rattle.vaultc_core.specs.Lines.{reply, over_reply}
 use Rattle.vaultc_core.specs.Texts.{IsTooLong, IsTextOf}
 use Rattle.vaultc_core.specs.Emitted.{c_text, c_file, file_reply, IsEmitted, IsReplyToCompiled}
-use Rattle.vaultc_core.specs.Compilable.{IsCompilable}
 use Rattle.vaultc_core.specs.Compiled.{IsCompiled}
 use Rattle.vaultc_core.specs.Shown.{shown_reply}
 use Rattle.vaultc_core.specs.declared.reply.Reply.{Reply as CodeReply}
@@ -137,15 +128,6 @@ pub with_certificate : (p : Program) (text : List ℕ) (r : Result CodeReply All
     IfOk r (λ q. shown_reply q ≡ file_reply (c_text p ++ text)) → IfOk r (λ q. IsEmitted p (shown_reply q))
 with_certificate p text (Ok q) least said = (least.notes, least.least, said ∙ ap (λ t. file_reply (c_text p ++ t)) least.is)
 with_certificate p text (Err e) least said = tt
-
--- of an accepted program no body is refused
-pub not_refused : (p : Program) → IsCompilable p → HasRefused p → ⊥
-not_refused p h r =
-    let o = r.in_some.origin in
-    let f = instance p r.func o in
-    let fit = formed_bodies p r.number r.func o h.well_formed r.there r.with_body r.in_some.is in
-    let some = annotated (body_flow p f) (start_map p f) fit.fit.jumping (h.accepted r.number r.func o r.there r.with_body r.in_some.is) in
-    r.in_some.holds some.0 some.1
 
 -- a program without a variant of many cases isn't refused for one
 pub not_cases : (p : Program) (e : LowerError) → e ≡ error.Cases → Refuses p e → gives_many_cases p ≡ false → ⊥

@@ -1,5 +1,5 @@
--- What stands behind the statuses of a run for a host.
-use Rattle.std.proofs.Common.{◌≡◌, ◌⊎◌, inl, inr, ℕ, ℤ, ◌≤◌, List, [], ◌∷◌, Option, Some, None, Result, Ok, Err, refl, sym, ap, ◌∙◌, subst, arith}
+-- What stands after the statuses of a run for a host.
+use Rattle.std.proofs.Common.{◌≡◌, inl, inr, ℕ, ◌≤◌, List, [], ◌∷◌, Option, Some, Result, Ok, Err, refl, sym, ap, subst, arith}
 use Rattle.std.specs.Option.{option_map}
 use Rattle.vlt_core.specs.Core.{Program}
 use Rattle.vlt_io.specs.Outside.{Files, Grew}
@@ -21,7 +21,6 @@ use Rattle.vaultc_core.specs.Commands.{Command, Taken, host}
 use Rattle.vaultc_core.specs.Finishes.{Finishes}
 use Rattle.vaultc_core.specs.Lines.{Reply, reply}
 use Rattle.vaultc_core.specs.Texts.{IsTooLong, IsTextOf, Refusal, unlexed, unparsed, refusal_reply}
-use Rattle.vaultc_core.specs.Verdicts.{check_reply}
 use Rattle.vaultc_core.specs.Sources.{Source, IsOver, Read, had, unread, too_long, with_bytes, text_in, numbers_in, sources_of, read_in, MayRead, bytes_at}
 use Rattle.vaultc_core.specs.HostRuns.{IsReplyToCalls, IsReplyToHost}
 use Rattle.vaultc_core.specs.Replies.{IsReplyToVerdict, IsReplyToRunText, IsReplyToContents, MayReply}

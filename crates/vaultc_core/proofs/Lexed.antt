@@ -31,7 +31,7 @@ option_cases : {X : Type 0} (o : Option X) → (o ≡ None) ⊎ ((x : X) × (o �
 option_cases None = inl refl
 option_cases (Some x) = inr (x, refl)
 
--- ---- what stands behind a comment is a part of the text
+-- ---- what stands after a comment is a part of the text
 
 line_at : (c : ℕ) (cs : List ℕ) (b : Bool) → (c == 10) ≡ b → (front : List ℕ) × (cs ≡ front ++ after_line cs) → (front : List ℕ) × (c ∷ cs ≡ front ++ after_line (c ∷ cs))
 line_at c cs true is rest = (c ∷ [], ap (λ l. c ∷ l) (rw is refl))

@@ -34,7 +34,7 @@ use Rattle.vaultc_core.specs.Emitted.{c_file, file_reply, IsEmitted}
 use Rattle.vaultc_core.specs.Finishes.{Finishes}
 use Rattle.vaultc_core.specs.Lines.{Reply, reply, over_reply, trap_line, bad_answer_line}
 use Rattle.vaultc_core.specs.Loading.{is_done, is_cut}
-use Rattle.vaultc_core.specs.Loads.{load_reply, Then, IsReplyAfterRun, default_budgets, run_alone, IsReplyAfterEmit, IsLoaded, IsReplyToLoaded, IsReplyToLoad}
+use Rattle.vaultc_core.specs.Loads.{load_reply, Then, IsReplyAfterRun, default_budgets, run_alone, IsReplyAfterEmit, IsLoaded, IsReplyToLoaded}
 use Rattle.vaultc_core.specs.Replies.{IsReplyToMade}
 use Rattle.vaultc_core.specs.Runs.{last_of}
 use Rattle.vaultc_core.specs.Shown.{EndsRun, IsJudged, is_accepted, shown_reply}

@@ -46,7 +46,7 @@ pub told_in : (o : Option Refusal) (bytes name : List ℕ) (x y : Reply) → IfS
 told_in None bytes name x y why same said = absurd (none_some x same)
 told_in (Some e) bytes name x y why same said = (e, why, said ∙ ap (in_file name) (sym (some_is (refusal_reply bytes e) x same)))
 
--- no place of a text's tree is behind the text's end
+-- no place of a text's tree is after the text's end
 pub within_text : ((bytes : List ℕ) (ls : List Lexeme) (t : Tree) (end : ℕ) → IsTokensOf bytes ls → StandsIn ls t → length bytes ≤ end → AreWithin end t) → (bytes : List ℕ) (t : Tree) →
     IsTextOf t bytes → (IsTooLong bytes → ⊥) → AreWithin (limit_of SOURCE_BYTES) t
 within_text law bytes t (ls, tokens, placed) short = law bytes ls t (limit_of SOURCE_BYTES) tokens.tokens placed.2 (fits SOURCE_BYTES bytes short)

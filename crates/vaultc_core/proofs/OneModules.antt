@@ -1,9 +1,8 @@
 -- `module` and `link` have one reply to what they read.
-use Rattle.std.proofs.Common.{◌≡◌, inl, inr, ℕ, Bool, true, false, List, Result, Ok, Err, refl, sym, ap, ◌∙◌, subst}
+use Rattle.std.proofs.Common.{◌≡◌, inl, inr, Bool, true, false, Result, Ok, Err, refl, sym, ap, ◌∙◌, subst}
 use Rattle.vlt_syntax.specs.Tree.{Tree}
 use Rattle.vlt_core.specs.Core.{Program}
 use Rattle.vlt_resolve.specs.Elaboration as elab
-use Rattle.vlt_resolve.specs.Programs.{program_told}
 use Rattle.vlt_iface.specs.View.{View}
 use Rattle.vlt_iface.specs.Told.{Told, broken, clash, exceeded, view_told, joined_told}
 use Rattle.vlt_verdict.specs.FitLaws.Fit.{IsTextTree}
@@ -11,12 +10,11 @@ use Rattle.vlt_verdict.specs.FitLaws.Texts.{TextsHaveTextTrees}
 use Rattle.vlt_verdict.specs.Verdicts as verdict
 use Rattle.vlt_verdict.specs.Verdicts.{Verdict}
 use Rattle.vlt_view_verdict.specs.Laws.{ViewsHaveOneVerdict}
-use Rattle.vlt_view_verdict.specs.Verdicts.{IsVerdictOfView}
 use Rattle.vlt_view_verdict.specs.Views.{IsViewOfTexts}
 use Rattle.cert_least_laws.specs.Laws.{LeastCertificatesAreOne}
 use Rattle.vaultc_core.specs.declared.status.TheConstants.{DONE}
 use Rattle.vaultc_core.specs.Lines.{Reply, reply, in_file}
-use Rattle.vaultc_core.specs.Texts.{Refusal, IsTextOf, refusal_reply}
+use Rattle.vaultc_core.specs.Texts.{IsTextOf, refusal_reply}
 use Rattle.vaultc_core.specs.Emitted.{IsEmitted}
 use Rattle.vaultc_core.specs.Modules.{File, IsReplyByTreeIn, IsReplyToNoView, IsReplyToViewVerdict, IsReplyToView, module_line, IsReplyToModule, IsReplyToJoined, IsReplyToLink}
 use Rattle.vaultc_core.proofs.Loads.{one_emitted}

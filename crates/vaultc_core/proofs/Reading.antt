@@ -28,7 +28,7 @@ had_cut (too_long name n) contents cut e = cc
 one_had : (x rest : Read) (bytes : List ℕ) → rest ≡ had [] → x ≡ with_bytes bytes rest → x ≡ had (bytes ∷ [])
 one_had x rest bytes empty e = e ∙ ap (with_bytes bytes) empty
 
--- where a file isn't had, those behind it aren't read
+-- where a file isn't had, those after it aren't read
 pub cut_first : {S : Type 0} (g : Ghosts S) (old new : S) (o : Option Source) (fs : List (Option Source)) (x : Read) → IsCut x → MayRead g old new (o ∷ []) x → MayRead g old new (o ∷ fs) x
 cut_first g old new None fs x cut (rest, (same, empty), e) = absurd (had_cut x ([] ∷ []) cut (one_had x rest [] empty e))
 cut_first g old new (Some f) fs x cut (inl fails) = inl fails
@@ -44,7 +44,7 @@ had_unread cs name e = cc
 had_long : (cs : List (List ℕ)) (name : List ℕ) (n : ℕ) → had cs ≡ too_long name n → ⊥
 had_long cs name n e = cc
 
--- a file is had, and those behind it are read
+-- a file is had, and those after it are read
 pub read_then : {S : Type 0} (g : Ghosts S) (old mid new : S) (o : Option Source) (fs : List (Option Source)) (bytes : List ℕ) (x : Read)
     → MayRead g old mid (o ∷ []) (had (bytes ∷ [])) → MayRead g mid new fs x → MayRead g old new (o ∷ fs) (with_bytes bytes x)
 read_then g old mid new None fs bytes x (rest, (same, empty), e) more =

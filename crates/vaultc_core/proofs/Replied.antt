@@ -37,7 +37,7 @@ first_fails g old new o fs (Unread name) may = cut_first g old new o fs (unread 
 first_fails g old new o fs (TooLong name n) may = cut_first g old new o fs (too_long name.now n) tt may
 first_fails g old new o fs Memory may = tt
 
--- the first is had, and one behind it isn't
+-- the first is had, and one after it isn't
 pub later_fails : {S : Type 0} (g : Ghosts S) (old mid new : S) (o : Option Source) (fs : List (Option Source)) (bytes : List ℕ) (e : FileError) → MayRead g old mid (o ∷ []) (had (bytes ∷ []))
     → IfSome (error_seen e) (MayRead g mid new fs) → IfSome (error_seen e) (MayRead g old new (o ∷ fs))
 later_fails g old mid new o fs bytes (Unread name) first may = read_then g old mid new o fs bytes (unread name.now) first may

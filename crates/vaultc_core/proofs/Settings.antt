@@ -16,7 +16,7 @@ no_value [] s some few = absurd (omega (arith, some))
 no_value (w ∷ []) s some few = refl
 no_value (w ∷ v ∷ ws) s some few = absurd (omega (arith, few))
 
--- an option and its value, and then what the words behind them set
+-- an option and its value, and then what the words after them set
 pub one_more : {T : Type 0} (f : T → List ℕ) (ws rest : List T) (s next : Settings) (o v : T) (option value : List ℕ) (r : Option Settings) → 2 ≤ length ws
     → o ≡ get_or ws 0 o → v ≡ get_or ws 1 v → option ≡ f o → value ≡ f v → option_and_then (with_setting s) (setting_of option value) ≡ Some next
     → rest ≡ take (length ws - 2) (drop 2 ws) → r ≡ settings_of (map f rest) next → r ≡ settings_of (map f ws) s

@@ -1,7 +1,6 @@
 -- It can't be that a command has no reply to what it read.
-use Rattle.std.proofs.Common.{◌≡◌, ◌<◌, ℕ, ℤ, List, ◌++◌, ◌⊎◌, inl, inr, ⊎_elim, Result, Ok, Err, refl, arith}
+use Rattle.std.proofs.Common.{◌≡◌, ℕ, ℤ, List, ◌⊎◌, inl, inr, ⊎_elim, Result, Ok, Err, refl}
 use Rattle.std.specs.Prelude.{false, codes}
-use Rattle.std.proofs.lemmas.Bool.{cases_lt}
 use Rattle.vlt_base.specs.declared.Budgets.{Budgets}
 use Rattle.vlt_base.specs.declared.limits.TheConstants.{VALUE_SLOTS}
 use Rattle.vlt_base.specs.Limits.{limit_of}

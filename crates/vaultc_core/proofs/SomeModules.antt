@@ -21,7 +21,7 @@ use Rattle.vlt_reports.specs.Reports.{fault_line}
 use Rattle.vaultc_core.specs.declared.status.TheConstants.{DONE, NO_PROGRAM, NOT_ACCEPTED}
 use Rattle.vaultc_core.specs.Lines.{Reply, reply, over_reply, in_file}
 use Rattle.vaultc_core.specs.Texts.{IsTextOf, refusal_reply}
-use Rattle.vaultc_core.specs.Modules.{File, IsReplyByTreeIn, rule_reply, refused_reply, IsReplyToViewVerdict, IsReplyToView, module_line, IsReplyToModule, clash_line, IsReplyToJoined, IsReplyToLink}
+use Rattle.vaultc_core.specs.Modules.{File, IsReplyByTreeIn, rule_reply, refused_reply, IsReplyToView, module_line, IsReplyToModule, clash_line, IsReplyToJoined, IsReplyToLink}
 use Rattle.vaultc_core.proofs.Read.{read_in_one_way, text_tree}
 
 -- no view has names that clash, and no joined tree breaks a rule on what is given

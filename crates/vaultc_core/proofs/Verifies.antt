@@ -1,5 +1,5 @@
 -- What status 0 of `verify` promises.
-use Rattle.std.proofs.Common.{◌≡◌, ◌⊎◌, inl, inr, ⊎_elim, ℕ, List, Option, Some, refl, sym, ap, ◌∙◌, subst, arith}
+use Rattle.std.proofs.Common.{◌≡◌, inl, inr, ℕ, List, Option, Some, ap, subst, arith}
 use Rattle.vlt_base.specs.Limits.{limit_of}
 use Rattle.vlt_base.specs.declared.limits.TheConstants.{C_BYTES}
 use Rattle.vlt_io.specs.Outside.{Files, IsRead, Grew}
@@ -12,10 +12,10 @@ use Rattle.cert_verify_laws.specs.Promises.{VerifiedFilesKeepTheirPromise}
 use Rattle.vaultc_core.specs.declared.status.TheConstants.{DONE}
 use Rattle.vaultc_core.specs.Commands.{Command, verify}
 use Rattle.vaultc_core.specs.Finishes.{Finishes}
-use Rattle.vaultc_core.specs.Lines.{Reply, reply}
+use Rattle.vaultc_core.specs.Lines.{reply}
 use Rattle.vaultc_core.specs.Sources.{had, unread as not_had, too_long, c_text_in, IsOneRead, IsOver, bytes_at}
 use Rattle.vaultc_core.specs.Replies.{MayReply}
-use Rattle.vaultc_core.specs.Verifying.{verified_line, unread_reply, unverified_reply, IsReplyToVerify}
+use Rattle.vaultc_core.specs.Verifying.{unread_reply, unverified_reply, IsReplyToVerify}
 use Rattle.vaultc_core.specs.Verified.{IsVerified}
 use Rattle.vaultc_core.proofs.Promises.{not_zero, status_of}
 use Rattle.vaultc_core.proofs.Reading.{one_read, read_there}

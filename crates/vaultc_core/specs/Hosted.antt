@@ -11,7 +11,7 @@ use Rattle.vlt_host_laws.specs.Promise.{NeverGoesWrongForHosts, KeepsClauses, Le
 use Rattle.vaultc_core.specs.declared.status.TheConstants.{DONE, TRAPPED, OUT_OF_BUDGET, OUT_OF_NUMBERS}
 use Rattle.vaultc_core.specs.Commands.{Taken, host}
 use Rattle.vaultc_core.specs.Sources.{had, sources_of, read_in, bytes_at}
-use Rattle.vaultc_core.specs.Lines.{Reply, reply}
+use Rattle.vaultc_core.specs.Lines.{reply}
 use Rattle.vaultc_core.specs.Programs.{IsProgramOf}
 use Rattle.vaultc_core.specs.HostRuns.{IsReplyToHostRan}
 

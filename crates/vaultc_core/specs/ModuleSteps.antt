@@ -1,5 +1,5 @@
 -- What the steps of `module` and `link` give or reply.
-use Rattle.std.specs.Prelude.{◌≡◌, ℕ, Bool, Ok, Err}
+use Rattle.std.specs.Prelude.{◌≡◌, Bool, Ok, Err}
 use Rattle.vlt_base.specs.Limits.{limit_of}
 use Rattle.vlt_base.specs.declared.limits.TheConstants.{SOURCE_BYTES}
 use Rattle.vlt_syntax.specs.View.{tree_of}

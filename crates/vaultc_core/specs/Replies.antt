@@ -1,5 +1,5 @@
 -- What each command replies, in the order in which commands refuse: the words, the files with their sizes, the text, the program, the run.
-use Rattle.std.specs.Prelude.{◌≡◌, ◌≢◌, ℕ, Bool, List, [], ◌++◌, Option, Some, None, ◌⊎◌}
+use Rattle.std.specs.Prelude.{◌≡◌, ◌≢◌, ℕ, Bool, List, ◌++◌, Option, Some, None, ◌⊎◌}
 use Rattle.vlt_io.specs.Outside.{Files, MayFail}
 use Rattle.vlt_io.specs.declared.store.Store.{Ghosts}
 use Rattle.vlt_syntax.specs.Tree.{Tree}
@@ -102,11 +102,11 @@ IsReplyToRead command x r = IsReplyOver (names_files command) (IsReplyToContents
 
 -- ---- one reply
 
--- the reply goes on behind the text of this one
+-- the reply goes on after the text of this one
 abbrev pub GoesOn : Reply → Reply → Type 0
 GoesOn front r = (r.status ≡ front.status) × ((more : List ℕ) × (r.text ≡ front.text ++ more))
 
--- the same; but two of `explain` may tell other paths, behind the line of a fault that `check` replies
+-- the same; but two of `explain` may tell other paths, after the line of a fault that `check` replies
 abbrev pub AreAlike : Command → Read → Reply → Reply → Type 0
 AreAlike (explain file) x r q =
     (r ≡ q) ⊎ ((line : Reply) × IsReplyToRead (check file) x line × (line.status ≡ NOT_ACCEPTED) × GoesOn line r × GoesOn line q)

@@ -50,7 +50,7 @@ pub data Read : Type 0 where
   unread : (name : List ℕ) → Read
   too_long : (name : List ℕ) → (limit : ℕ) → Read
 
--- a file's bytes before those of the files behind it
+-- a file's bytes before those of the files after it
 abbrev pub with_bytes : List ℕ → Read → Read
 with_bytes bytes (had contents) = had (bytes ∷ contents)
 with_bytes bytes x = x
@@ -61,7 +61,7 @@ bytes_at contents n = slice_index_or contents n []
 
 -- ---- files that are told
 
--- a file, which may be there, and what reading those behind it comes to
+-- a file, which may be there, and what reading those after it comes to
 abbrev pub read_before : Source → Option (List ℕ) → Read → Read
 read_before f None rest = unread f.name
 read_before f (Some bytes) rest = if nat_lt (limit_of f.limit) (length bytes) then too_long f.name f.limit else with_bytes bytes rest
@@ -82,7 +82,7 @@ pub record IsOneRead {S : Type 0} (g : Ghosts S) (old new : S) (f : Source) (byt
   pub kept : g.files new ≡ g.files old
   pub counted : g.faults old ≤ g.faults new
 
--- the bytes are too many, and no file behind them is read; or they aren't, and those behind are read
+-- the bytes are too many, and no file after them is read; or they aren't, and those after are read
 abbrev pub GoesOn : Source → (bytes : List ℕ) → (unmoved : Type 0) → (Rest : Read → Type 0) → Read → Type 0
 GoesOn f bytes unmoved Rest x =
     (IsOver f.limit bytes × unmoved × (x ≡ too_long f.name f.limit)) ⊎ ((IsOver f.limit bytes → ⊥) × ((rest : Read) × Rest rest × (x ≡ with_bytes bytes rest)))

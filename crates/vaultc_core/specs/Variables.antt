@@ -10,14 +10,14 @@ head_in (s.extern h at) = Some h
 head_in (s.function h b at) = Some h
 head_in _ = None
 
-abbrev pub behind_head : Option Head → List Head → List Head
-behind_head None hs = hs
-behind_head (Some h) hs = h ∷ hs
+abbrev pub with_head : Option Head → List Head → List Head
+with_head None hs = hs
+with_head (Some h) hs = h ∷ hs
 
 -- the heads of a tree's functions, in their order
 abbrev pub heads_in : List Decl → List Head
 heads_in [] = []
-heads_in (d ∷ ds) = behind_head (head_in d) (heads_in ds)
+heads_in (d ∷ ds) = with_head (head_in d) (heads_in ds)
 
 abbrev pub head_variable : Option Head → List ℕ
 head_variable None = []

@@ -22,7 +22,7 @@ check_reply text (refused r) = told_reply text r
 check_reply text (faulty p f x) = reply NOT_ACCEPTED (fault_line text p f x.at x.tok x.kind)
 check_reply text (accepted p) = reply DONE (accepted_line p)
 
--- `explain` says the same, and behind the line of a fault the paths of one of its witnesses. A variable stands for the state of a
+-- `explain` says the same, and after the line of a fault the paths of one of its witnesses. A variable stands for the state of a
 -- bound entry's object.
 abbrev pub explained_reply : (text variable : List ℕ) → Program → Func → FlowFault → (first : List Choice) → (second : Option (List Choice)) → Reply
 explained_reply text variable p f x first second = reply NOT_ACCEPTED

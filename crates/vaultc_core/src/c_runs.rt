@@ -1,4 +1,4 @@
-//! Runs of C texts, and the lines behind their events.
+//! Runs of C texts, and the lines after their events.
 
 ghost use Rattle.std.specs.Prelude.{◌≡◌, ◌<◌, ◌-◌, ◌^◌, length, IfOk, Some};
 ghost use Rattle.vaultc_core.specs.CRuns.{IsReplyToC, at_statement, c_refusal, undefined_line};
@@ -61,7 +61,7 @@ fn undefined(alloc: Global, rule: u8, statement: u32) -> Result<Reply, AllocErro
     came_to(alloc, what.as_str(), statement)
 }
 
-/// Writes the line behind the events of a run that stopped so, and gives the status.
+/// Writes the line after the events of a run that stopped so, and gives the status.
 fn finish_stop<K: Sink>(alloc: Global, out: &mut K, stop: CStop) -> u8
     ensures { StopsC K.Sink stop out.old out.new result }
 {

@@ -27,7 +27,7 @@ use c_lower_program::{LowerError, lower};
 use c_printer::print_c;
 use c_syntax::CProgram;
 use cert_emit::{CertificateError, certificate_text};
-use cert_json_names::texts_have_text_names;
+use cert_verify_laws::accepted_texts_can_be_certified;
 use std::alloc::{AllocError, Global};
 use vlt_base::{C_BYTES, Memory, limit};
 use vlt_core::Program;
@@ -87,17 +87,18 @@ fn c_file(alloc: Global, program: &Program, certificate: &[u8]) -> Result<Reply,
     }
 }
 
-/// The certificate of the program of a text. Where a function of it has no notes, that counts as out of memory.
+/// The certificate of the program of a text.
 fn certificate(alloc: Global, program: &Program) -> Result<Vec<u8>, AllocError>
     requires { IsCompilable (program_of program.now) }
     ensures { IfOk result (λ text. IsLeastText (program_of program.now) text.items) }
 {
-    texts_have_text_names();
+    accepted_texts_can_be_certified();
     match certificate_text(alloc, program) {
         Ok(text) => Ok(text),
         Err(CertificateError::Refused) => unreachable!(),
+        Err(CertificateError::Unfit) => unreachable!(),
         Err(CertificateError::Name) => unreachable!(),
-        Err(CertificateError::Unfit | CertificateError::Memory) => Err(AllocError),
+        Err(CertificateError::Memory) => Err(AllocError),
     }
 }
 

@@ -40,7 +40,7 @@ fn paths_of(alloc: Global, program: &Program, fault: &FlowFault) -> Result<Witne
     }
 }
 
-/// The line of the first fault, with the paths that show it behind it.
+/// The line of the first fault, with the paths that show it after it.
 fn shown_fault(
     alloc: Global,
     text: &[u8],

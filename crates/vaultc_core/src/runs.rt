@@ -1,4 +1,4 @@
-//! Runs of accepted programs, and the lines behind their events.
+//! Runs of accepted programs, and the lines after their events.
 
 ghost use Rattle.std.specs.Prelude.{◌≡◌};
 ghost use Rattle.vlt_base.specs.declared.limits.TheConstants.{SOURCE_BYTES};
@@ -30,7 +30,7 @@ pub enum Caller<'a> {
     Host(&'a [u8]),
 }
 
-/// Writes the line behind the events of a run that stopped so, and gives the status.
+/// Writes the line after the events of a run that stopped so, and gives the status.
 pub fn finish_stop<K: Sink>(alloc: Global, out: &mut K, stop: Stop) -> u8
     ensures { StopsRun K.Sink stop out.old out.new result }
 {

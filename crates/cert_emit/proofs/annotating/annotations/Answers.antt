@@ -1,6 +1,6 @@
-use Rattle.std.proofs.Common.{◌≡◌, ◌<◌, ◌+◌, Err, arith, ap, length, refl, rules}
+use Rattle.std.proofs.Common.{◌≡◌, ◌<◌, Err, arith, ap, length, refl, rules}
 use Rattle.std.proofs.lemmas.Grind.{common_steps}
-use Rattle.vlt_core.specs.View.{program_of, func_of}
+use Rattle.vlt_core.specs.View.{program_of}
 use Rattle.cert_emit.specs.Causes.{IsRefused, IsUnfit}
 use Rattle.cert_emit.specs.declared.errors.CertificateError.TheVariants.{Refused, Unfit, Name}
 use Rattle.cert_emit.proofs.EachFunction.{begins, goes_on, ends, found_at, handed_on}

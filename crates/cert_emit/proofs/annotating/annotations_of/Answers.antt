@@ -1,4 +1,3 @@
-use Rattle.std.proofs.Common.{subst, sym}
 use Rattle.cert_emit.proofs.EachFunction.{body_annotated, with_body}
 use Rattle.cert_emit.proofs.annotating.annotations_of.Goals as goal
 

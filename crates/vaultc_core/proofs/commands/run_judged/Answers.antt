@@ -1,4 +1,3 @@
-use Rattle.std.proofs.Common.{◌≡◌}
 use Rattle.vlt_core.specs.View.{program_of}
 use Rattle.vlt_core.specs.Core.{Program}
 use Rattle.vlt_numbers.specs.Given.Given.{given_by}

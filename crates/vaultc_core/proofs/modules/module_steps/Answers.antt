@@ -1,4 +1,4 @@
-use Rattle.std.proofs.Common.{◌≡◌, Err, false, sym, subst, rules, arith}
+use Rattle.std.proofs.Common.{◌≡◌, Err, sym, subst, rules, arith}
 use Rattle.std.proofs.lemmas.Grind.{common_steps}
 use Rattle.std.specs.Prelude.{IfErr}
 use Rattle.vlt_core.specs.View.{program_of}
