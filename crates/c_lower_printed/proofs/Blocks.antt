@@ -27,7 +27,7 @@ use Rattle.vlt_resolve_laws.proofs.Results.{same_ok, then_ok, unless_ok}
 use Rattle.cert_rows.specs.Parts.{All}
 use Rattle.cert_fit_laws.specs.Limits.{IsLimited}
 use Rattle.cert_text_laws.proofs.Simple.{plain_limited}
-use Rattle.c_lower_texts.specs.Printable.{nested_in, nested_block, nested, nested_arms}
+use Rattle.c_lower_runs.specs.Texts.Printable.{nested_in, nested_block, nested, nested_arms}
 
 -- ---- lists
 

@@ -9,7 +9,7 @@ use Rattle.vlt_resolve_laws.specs.Elaborated.{IsElaborated}
 use Rattle.cert_rows.specs.Expressions as row
 use Rattle.cert_fit_laws.specs.Limits as limits
 use Rattle.cert_text_laws.proofs.Shallow.{all_shallow}
-use Rattle.c_lower_texts.specs.Printable.{depth, is_shallow}
+use Rattle.c_lower_runs.specs.Texts.Printable.{depth, is_shallow}
 
 -- the depth that certificates have a limit on is the same
 same_depth : (e : Expr) → row.depth e ≡ depth e

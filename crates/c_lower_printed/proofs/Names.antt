@@ -25,7 +25,7 @@ use Rattle.cert_rows.specs.Rows.{is_letter, is_c_character, is_c_name}
 use Rattle.cert_text_laws.proofs.CNames.{IsNamed}
 use Rattle.c_syntax.specs.Text.{is_digit, is_run_byte}
 use Rattle.c_syntax.specs.Canonical.{EachIs}
-use Rattle.c_lower_texts.specs.Printable.{IsCName}
+use Rattle.c_lower_runs.specs.Texts.Printable.{IsCName}
 
 -- ---- a name of C can be a string
 

@@ -13,7 +13,7 @@ use Rattle.vlt_resolve_laws.proofs.Whole.{Facts, facts_of}
 use Rattle.vlt_verdict.specs.FitLaws.Fit.{ProgramsAreFit}
 use Rattle.c_reader_laws.specs.PrinterLaws.ReadAgain.{AreReadAgain}
 use Rattle.c_lower.specs.Lowering.{lowered}
-use Rattle.c_lower_texts.specs.Laws.{AreCPrograms}
+use Rattle.c_lower_runs.specs.Texts.Laws.{AreCPrograms}
 use Rattle.c_lower_accepted.proofs.Lowerable.{lowerable}
 use Rattle.c_lower_accepted.proofs.Texts.{accepted_program}
 use Rattle.cert_text_laws.proofs.CNames.{text_names}

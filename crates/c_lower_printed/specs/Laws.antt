@@ -8,7 +8,7 @@ use Rattle.vlt_core.specs.Core.{Program}
 use Rattle.c_syntax.specs.Canonical.{canonical_text}
 use Rattle.c_reader_laws.specs.PrinterLaws.ReadAgain.{ReadsAs}
 use Rattle.c_lower.specs.Lowering.{lowered}
-use Rattle.c_lower_texts.specs.Printable.{IsPrintable}
+use Rattle.c_lower_runs.specs.Texts.Printable.{IsPrintable}
 use Rattle.c_lower_accepted.specs.Texts.{IsAcceptedTree}
 use Rattle.cert_text_laws.specs.Texts.{IsInText}
 

@@ -1,11 +1,11 @@
 //! Laws on the C texts of accepted texts' programs: nothing goes in and nothing comes out.
-//! Read `specs/Laws.antt` first, then `c_lower_texts/specs/Printable.antt`, the conditions that hold of them.
+//! Read `specs/Laws.antt` first, then `c_lower_runs/specs/Texts/Printable.antt`, the conditions that hold of them.
 //! Used by: the command `emit`, which promises them.
 #![tactic(auto)]
 
 ghost use Rattle.c_lower_printed.specs.Laws.{TextsArePrintable, AcceptedTextsAreReadAgain};
 
-use c_lower_texts::lowered_programs_are_c_programs;
+use c_lower_runs::lowered_programs_are_c_programs;
 use c_reader_laws::canonical_texts_are_read_again;
 use vlt_verdict::programs_are_fit;
 

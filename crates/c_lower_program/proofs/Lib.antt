@@ -1,2 +1,4 @@
 pub mod Numbers
 pub mod Lengths
+pub mod OfCode
+pub mod OfGlue

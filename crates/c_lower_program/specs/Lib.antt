@@ -1,2 +1,4 @@
 pub mod Counts
 pub mod Refusals
+pub mod Code
+pub mod Glue

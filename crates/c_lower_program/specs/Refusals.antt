@@ -7,7 +7,7 @@ use Rattle.c_syntax.specs.View.{program_of}
 use Rattle.c_syntax.specs.Canonical.{canonical_text}
 use Rattle.c_syntax.specs.declared.program.CProgram.{CProgram}
 use Rattle.c_lower.specs.Lowering.{lowered}
-use Rattle.c_lower_glue.specs.ManyCases.{gives_many_cases}
+use Rattle.c_lower_program.specs.Glue.ManyCases.{gives_many_cases}
 use Rattle.c_lower_program.specs.declared.error.LowerError.{LowerError}
 use Rattle.c_lower_program.specs.declared.error.LowerError.TheVariants as error
 

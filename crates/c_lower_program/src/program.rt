@@ -7,14 +7,14 @@ ghost use Rattle.c_syntax.specs.View.{program_of};
 ghost use Rattle.c_lower.specs.Statements as s;
 ghost use Rattle.c_lower.specs.Lowering.{lowered};
 ghost use Rattle.c_lower_exprs.specs.Scopes.{AreTables};
-ghost use Rattle.c_lower_glue.specs.ManyCases.{gives_many_cases};
+ghost use Rattle.c_lower_program.specs.Glue.ManyCases.{gives_many_cases};
 ghost use Rattle.c_lower_program.specs.Refusals.{IsLowered, Refuses, length_of};
 
+use crate::code::lower_bodies;
 use crate::error::LowerError;
 use crate::functions::program_size;
-use c_lower_code::lower_bodies;
+use crate::glue::{gives_many_cases, lower_externals};
 use c_lower_exprs::{ProgramTables, name_of, program_tables};
-use c_lower_glue::{gives_many_cases, lower_externals};
 use c_syntax::CProgram;
 use std::alloc::Global;
 use vlt_base::{C_BYTES, FnId, Memory, limit};

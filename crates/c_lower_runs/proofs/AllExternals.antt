@@ -25,22 +25,22 @@ use Rattle.c_lower_worlds.specs.Shapes.{types_of}
 use Rattle.c_lower_worlds.specs.Same.{Same}
 use Rattle.c_lower_runs.specs.Lowerable.{IsLowerable}
 use Rattle.c_lower_worlds.specs.Operands.{RegistersSuffice}
-use Rattle.c_lower_names.specs.Lists.{Each}
+use Rattle.c_lower_worlds.specs.Naming.Lists.{Each}
 use Rattle.c_lower_runs.proofs.CalleeFrames.{ArgsFit, decl_values}
 use Rattle.c_lower_runs.proofs.Calls.{ExternalsAreRight, call_of_instance}
 use Rattle.c_lower_runs.proofs.ExternalCalls.{c_setup, glue_frame}
 use Rattle.c_lower_runs.proofs.ExternalHeads.{external_head}
 use Rattle.c_lower_runs.proofs.ClauseKeys.{KeysNamed, key_at, keys_fit as keys_are_fit}
-use Rattle.c_lower_names.proofs.KnownScopes.{param_keys}
+use Rattle.c_lower_worlds.proofs.OfNaming.KnownScopes.{param_keys}
 use Rattle.c_lower_runs.proofs.InstanceClauses.{proper_instance, plain_instance, parameters_instance, named_instance}
-use Rattle.c_lower_names.proofs.RunningInstances.{runs_unbound}
+use Rattle.c_lower_worlds.proofs.OfNaming.RunningInstances.{runs_unbound}
 use Rattle.c_lower_runs.proofs.LowerableVariants.{given_variant, given_owning_variant}
-use Rattle.c_lower_names.proofs.NamedCalls.{IsKnownCall, param_of}
-use Rattle.c_lower_names.proofs.KnownCalls.{known_call}
-use Rattle.c_lower_names.proofs.NamedOperands.{AreOfTys}
+use Rattle.c_lower_worlds.proofs.OfNaming.NamedCalls.{IsKnownCall, param_of}
+use Rattle.c_lower_worlds.proofs.OfNaming.KnownCalls.{known_call}
+use Rattle.c_lower_worlds.proofs.OfNaming.NamedOperands.{AreOfTys}
 use Rattle.c_lower_runs.proofs.GlueResults.{ResultParts}
 use Rattle.c_lower_runs.proofs.LowerableSingles.{proper_entries, single_external}
-use Rattle.c_lower_names.proofs.RuleFacts.{both_empty}
+use Rattle.c_lower_worlds.proofs.OfNaming.RuleFacts.{both_empty}
 use Rattle.vlt_core_laws.proofs.Unbroken.{unless_holds}
 use Rattle.vlt_core_laws.proofs.Ids.{and_right}
 use Rattle.c_lower_runs.proofs.VariantResults.{IsGivenKey, IsVariantResult, KeysThere, variant_parts, owning_variant_parts}

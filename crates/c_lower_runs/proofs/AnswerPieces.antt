@@ -20,7 +20,7 @@ use Rattle.c_lower.specs.Glue.{new_object}
 use Rattle.c_lower_worlds.specs.Worlds.{Registers, c_world, c_part}
 use Rattle.c_lower_worlds.specs.Given.{IsFed}
 use Rattle.c_lower_worlds.specs.Shapes.{types_of, AreShaped, HavePayloadShapes}
-use Rattle.c_lower_names.specs.Lists.{Each}
+use Rattle.c_lower_worlds.specs.Naming.Lists.{Each}
 use Rattle.c_lower_runs.proofs.HostObjects.{more_later, last_type, host_shaped, new_goes, new_stops}
 use Rattle.c_lower_worlds.proofs.FrameChanges.{var_kept, var_set}
 use Rattle.c_lower_worlds.proofs.MovedObjects.{loose_free}

@@ -5,15 +5,15 @@ use Rattle.vlt_core.specs.Types.{with_keys}
 use Rattle.vlt_core.specs.KindedHeads.{parameters_of}
 use Rattle.vlt_core.specs.KindedScopes.{Ids}
 use Rattle.vlt_meaning.specs.World as source
-use Rattle.c_lower_names.proofs.CallOperands.{OperandsFit}
+use Rattle.c_lower_worlds.proofs.OfNaming.CallOperands.{OperandsFit}
 use Rattle.c_lower_worlds.proofs.OperandLists.{HaveShapes, flat_values}
 use Rattle.c_lower_runs.proofs.CalleeFrames.{ArgsFit, decl_values}
 use Rattle.c_lower_runs.proofs.Calls.{IsTarget, CallsFit}
 use Rattle.c_lower_worlds.proofs.SameLayouts.{keys_laid, laid_to}
 use Rattle.c_lower_worlds.proofs.LaterShapes.{shape_keys, values_keys}
 use Rattle.vlt_core.specs.Kinded.{IsKinded}
-use Rattle.c_lower_names.proofs.KnownCalls.{known_call}
-use Rattle.c_lower_names.proofs.NamedCalls.{TargetSo}
+use Rattle.c_lower_worlds.proofs.OfNaming.KnownCalls.{known_call}
+use Rattle.c_lower_worlds.proofs.OfNaming.NamedCalls.{TargetSo}
 
 module _ (p : Program) (f : Func) (ids : Ids) (keys : List ℕ) where
   shapes_fit : (ts : List ℕ) (ds : List VarDecl) (n : ℕ) (values : List source.Value) → HaveShapes p ts (map (with_keys keys) (map (λ (d : VarDecl). d.ty) (take n ds))) values → ArgsFit p ts ds values

@@ -16,9 +16,9 @@ use Rattle.c_lower_worlds.specs.Worlds.{slot_values}
 use Rattle.c_lower_worlds.specs.Shapes.{HasShape}
 use Rattle.c_lower_worlds.specs.Frames.{HaveValues, HoldsTyped, HoldsVar, StandsFor}
 use Rattle.c_lower_worlds.specs.Sorts.{AreOfSorts}
-use Rattle.c_lower_names.specs.Lists.{Each}
+use Rattle.c_lower_worlds.specs.Naming.Lists.{Each}
 use Rattle.c_lower_worlds.proofs.VariableSlots.{Apart, each_map, slots_apart, vars_apart, apart_back, same_self}
-use Rattle.c_lower_laws.proofs.Slots.{past_all_append}
+use Rattle.c_lower_worlds.proofs.OfOperators.Slots.{past_all_append}
 use Rattle.c_lower_worlds.proofs.FrameChanges.{have_same, holds_same}
 use Rattle.c_lower_worlds.proofs.VariantSlots.{shape_sorts, sorts_append}
 

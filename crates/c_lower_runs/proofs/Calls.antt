@@ -34,41 +34,41 @@ use Rattle.c_lower.specs.Slots.{Numbers, first_temps, param_slots, slot_of, slot
 use Rattle.c_lower.specs.Expressions.{Atom, atom_arg, operand_codes}
 use Rattle.c_lower.specs.Statements.{is_variant, call_stmts, results, behind_first, name_of, is_external_at, list_code, body_of, form_code}
 use Rattle.c_lower.specs.Lowering.{lowered, result_of}
-use Rattle.c_lower_laws.specs.Codes.{AreUpTo, IsBelow}
-use Rattle.c_lower_laws.proofs.Codes.{up_self, alike_self}
+use Rattle.c_lower_worlds.specs.Operators.Codes.{AreUpTo, IsBelow}
+use Rattle.c_lower_worlds.proofs.OfOperators.Codes.{up_self, alike_self}
 use Rattle.c_lower_worlds.specs.Worlds.{c_part, Registers, AreRegisters, c_world, blocks_of, slot_values}
 use Rattle.c_lower_worlds.specs.Given.{IsFed}
 use Rattle.c_lower_worlds.specs.Shapes.{types_of, HasShape, AreShaped}
 use Rattle.c_lower_worlds.specs.Frames.{HaveValues, StandsFor, Spares, IsBetween}
 use Rattle.c_lower_worlds.specs.Same.{Same, Gives, IsGiven, first_value, InRegisters}
 use Rattle.c_lower_worlds.specs.SameStatements.{Begins, IsSameFormIn, RestIsSame}
-use Rattle.c_lower_names.specs.Functions.{IsFunction}
+use Rattle.c_lower_worlds.specs.Naming.Functions.{IsFunction}
 use Rattle.vlt_core.specs.Kinded.{IsKinded}
 use Rattle.vlt_core.specs.KindedHeads.{parameters_of}
 use Rattle.vlt_core.specs.Types.{with_keys}
-use Rattle.c_lower_names.specs.Types.{TypesFit}
-use Rattle.c_lower_names.proofs.NamedCalls.{IsKnownCall, callee_in_scope}
-use Rattle.c_lower_names.proofs.HeadKeys.{IsHeaded, headed}
-use Rattle.c_lower_names.proofs.NamedInstances.{headed_instance, known_instance}
-use Rattle.c_lower_names.proofs.NamedOperands.{AreOfTys, are_of_tys, tys_passed, operands_tested}
-use Rattle.c_lower_names.specs.KindedParts.{HasKindedBodies}
+use Rattle.c_lower_worlds.specs.Naming.Types.{TypesFit}
+use Rattle.c_lower_worlds.proofs.OfNaming.NamedCalls.{IsKnownCall, callee_in_scope}
+use Rattle.c_lower_worlds.proofs.OfNaming.HeadKeys.{IsHeaded, headed}
+use Rattle.c_lower_worlds.proofs.OfNaming.NamedInstances.{headed_instance, known_instance}
+use Rattle.c_lower_worlds.proofs.OfNaming.NamedOperands.{AreOfTys, are_of_tys, tys_passed, operands_tested}
+use Rattle.c_lower_worlds.specs.Naming.KindedParts.{HasKindedBodies}
 use Rattle.c_lower_worlds.specs.Operands.{OperandsAreRight, HaveAtoms}
-use Rattle.c_lower_names.specs.Lists.{Each}
-use Rattle.c_lower_names.proofs.CallOperands.{OperandsFit}
+use Rattle.c_lower_worlds.specs.Naming.Lists.{Each}
+use Rattle.c_lower_worlds.proofs.OfNaming.CallOperands.{OperandsFit}
 use Rattle.c_lower_worlds.proofs.OperandLists.{HaveShapes, HaveEach, flat_values, arguments_then, args_are}
 use Rattle.c_lower_runs.proofs.CalleeFrames.{ArgsFit, decl_values, called_frame, callee_stands, stands_have, decl_sorts}
 use Rattle.c_lower_worlds.proofs.FrameChanges.{var_kept, var_set}
 use Rattle.c_lower_runs.proofs.LoweredFunctions.{Found, external_of, body_found, body_func}
 use Rattle.c_lower_runs.proofs.HandedObjects.{passed_faults, handed_same, holders_same}
-use Rattle.c_lower_names.proofs.RunningInstances.{instance_for}
+use Rattle.c_lower_worlds.proofs.OfNaming.RunningInstances.{instance_for}
 use Rattle.c_lower_worlds.proofs.VariantSlots.{shape_sorts}
-use Rattle.c_lower_forms.proofs.VariantRegisters.{FitKinds, slots_fit, result_got}
+use Rattle.c_lower_runs.proofs.OfForms.VariantRegisters.{FitKinds, slots_fit, result_got}
 use Rattle.c_lower_worlds.proofs.StatementLists.{then_stops}
 use Rattle.c_lower_worlds.proofs.LaterShapes.{Later, stands_later}
 use Rattle.c_lower_worlds.proofs.VariableSlots.{Apart, each_map, slots_apart, below_temps, starts, AllApart}
 use Rattle.c_lower_worlds.proofs.SameSteps.{found_same, where_same, spend_same, spares_self, spent_less, ended_through}
-use Rattle.c_lower_names.proofs.FoundObjects.{or_faults, or_fault_ok}
-use Rattle.c_lower_forms.proofs.SetAndOwn.{slots_count}
+use Rattle.c_lower_worlds.proofs.OfNaming.FoundObjects.{or_faults, or_fault_ok}
+use Rattle.c_lower_runs.proofs.OfForms.SetAndOwn.{slots_count}
 
 -- what the rules say of calls
 abbrev pub CallsKnown : Program → Type 0

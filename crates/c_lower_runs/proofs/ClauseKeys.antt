@@ -21,9 +21,9 @@ use Rattle.c_meaning.specs.Run as crun
 use Rattle.c_lower.specs.Slots.{slot_of, param_slots, first_temps}
 use Rattle.c_lower.specs.Glue.{key_slot, is_tracked_by, first_or_0}
 use Rattle.c_lower.specs.Glue as glue
-use Rattle.c_lower_laws.specs.Codes.{IsBelow}
+use Rattle.c_lower_worlds.specs.Operators.Codes.{IsBelow}
 use Rattle.c_lower_worlds.specs.Operands.{RegistersSuffice}
-use Rattle.c_lower_names.specs.Lists.{Each}
+use Rattle.c_lower_worlds.specs.Naming.Lists.{Each}
 use Rattle.c_lower_runs.proofs.CalleeFrames.{ArgsFit, decl_values, called_frame, callee_stands}
 use Rattle.c_lower_runs.proofs.ExternalCalls.{glue_frame}
 use Rattle.c_lower_worlds.proofs.MovedObjects.{Refer}
@@ -41,7 +41,7 @@ pub record KeyParameter (gf : Func) (k : ℕ) : Type 0 where
 abbrev pub HaveParameters : Func → List Entry → Type 0
 HaveParameters gf = Each (λ (e : Entry). is_new e ≡ false → KeyParameter gf e.key)
 
--- a reference that is handed over refers to what the caller's key names, as `c_lower_names` says of those in scope
+-- a reference that is handed over refers to what the caller's key names, as `c_lower_worlds::naming` says of those in scope
 pub record IsNamed (keys : List ℕ) (s : source.Frame) (values : List source.Value) (v k : ℕ) : Type 0 where
   pub number : ℕ
   pub value : slice_get values v ≡ Some (one (reference number))

@@ -10,10 +10,10 @@ use Rattle.c_meaning.specs.Run.{goes}
 use Rattle.c_lower.specs.Slots.{Sort, of_number, of_reference, of_owner, Numbers, past, var_at, vars_at}
 use Rattle.c_lower.specs.Guards.{whole}
 use Rattle.c_lower.specs.Glue.{clear}
-use Rattle.c_lower_laws.specs.Codes.{AreUpTo, AreAlike, IsBelow}
-use Rattle.c_lower_laws.proofs.Codes.{up_past, more_more}
+use Rattle.c_lower_worlds.specs.Operators.Codes.{AreUpTo, AreAlike, IsBelow}
+use Rattle.c_lower_worlds.proofs.OfOperators.Codes.{up_past, more_more}
 use Rattle.c_lower_worlds.specs.Worlds.{unused}
-use Rattle.c_lower_names.specs.Lists.{Each}
+use Rattle.c_lower_worlds.specs.Naming.Lists.{Each}
 use Rattle.c_lower_worlds.proofs.FrameChanges.{var_kept, var_set}
 use Rattle.c_lower_worlds.proofs.StatementLists.{Runs, runs_then, set_runs}
 use Rattle.c_lower_worlds.proofs.VariableSlots.{Apart, slots_apart, temp_apart}

@@ -6,13 +6,13 @@ use Rattle.vlt_core.specs.Core.{States, Ty, CaseDecl, TypeDecl, Func, Program}
 use Rattle.vlt_core.specs.Lookups.{cases_of}
 use Rattle.vlt_core.specs.Types.{decl_of, type_in}
 use Rattle.vlt_core.specs.KindedHeads.{external_result_broken, is_declared_result}
-use Rattle.c_lower_names.specs.Lists.{Each}
+use Rattle.c_lower_worlds.specs.Naming.Lists.{Each}
 use Rattle.c_lower_runs.specs.Lowerable.{IsAnswerSet, IsLowerable}
-use Rattle.c_lower_names.proofs.KindedBodies.{bodies_are}
+use Rattle.c_lower_worlds.proofs.OfNaming.KindedBodies.{bodies_are}
 use Rattle.c_lower_runs.proofs.EnoughRegisters.{FewPayloads, registers_suffice}
 use Rattle.c_lower_runs.proofs.ExternalHeads.{result_row}
 use Rattle.c_lower_runs.proofs.AnswerReading.{IsProper}
-use Rattle.c_lower_names.specs.KindedParts.{HasKindedBodies}
+use Rattle.c_lower_worlds.specs.Naming.KindedParts.{HasKindedBodies}
 use Rattle.c_lower_worlds.specs.Operands.{RegistersSuffice}
 use Rattle.c_lower_runs.proofs.Calls.{CallsFit}
 use Rattle.c_lower_runs.proofs.CallTypes.{calls_fit}

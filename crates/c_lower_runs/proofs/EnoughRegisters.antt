@@ -13,7 +13,7 @@ use Rattle.c_lower_worlds.specs.Shapes.{HasShape}
 use Rattle.c_lower_worlds.specs.Same.{rest_values}
 use Rattle.c_lower_worlds.specs.Operands.{RegistersSuffice}
 use Rattle.c_lower_worlds.specs.Sorts.{AreOfSorts}
-use Rattle.c_lower_names.specs.Lists.{Each}
+use Rattle.c_lower_worlds.specs.Naming.Lists.{Each}
 use Rattle.c_lower.specs.Statements.{behind_first}
 use Rattle.c_lower_worlds.proofs.VariantSlots.{shape_sorts, counted, counted_is}
 

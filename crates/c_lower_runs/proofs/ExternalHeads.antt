@@ -14,10 +14,10 @@ use Rattle.vlt_core.specs.declared.rules.TheConstants as rule
 use Rattle.vlt_core.specs.Kinded.{IsKinded}
 use Rattle.c_lower.specs.Statements.{is_variant}
 use Rattle.c_lower.specs.Glue.{is_tracked_by}
-use Rattle.c_lower_names.proofs.KindedBodies.{function_kinded}
+use Rattle.c_lower_worlds.proofs.OfNaming.KindedBodies.{function_kinded}
 use Rattle.c_lower_runs.proofs.ClauseKeys.{KeyParameter, HaveParameters}
 use Rattle.c_lower_runs.proofs.GlueParameters.{PlainParameters}
-use Rattle.c_lower_names.proofs.RuleFacts.{both_empty}
+use Rattle.c_lower_worlds.proofs.OfNaming.RuleFacts.{both_empty}
 use Rattle.vlt_core_laws.proofs.Unbroken.{unless_holds}
 use Rattle.vlt_core_laws.proofs.Ids.{and_left}
 

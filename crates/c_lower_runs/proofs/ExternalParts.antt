@@ -16,7 +16,7 @@ use Rattle.c_lower.specs.Statements.{call_stmts, name_of}
 use Rattle.c_lower_worlds.specs.Worlds.{Registers, c_world}
 use Rattle.c_lower_worlds.specs.Shapes.{types_of}
 use Rattle.c_lower_worlds.specs.Same.{Same}
-use Rattle.c_lower_names.specs.Lists.{Each}
+use Rattle.c_lower_worlds.specs.Naming.Lists.{Each}
 use Rattle.c_lower_worlds.specs.SameStatements.{Begins}
 use Rattle.vlt_core.specs.Instances.{IsInstanceOf}
 use Rattle.c_lower_worlds.specs.Operands.{RegistersSuffice}
@@ -24,7 +24,7 @@ use Rattle.c_lower_worlds.proofs.OperandLists.{HaveShapes, flat_values}
 use Rattle.c_lower_runs.proofs.CalleeFrames.{ArgsFit, decl_values}
 use Rattle.c_lower_runs.proofs.Calls.{IsKindedCall}
 use Rattle.c_lower_runs.proofs.ExternalCalls.{c_setup, glue_frame, external_same}
-use Rattle.c_lower_names.proofs.RunningInstances.{HasNoBound}
+use Rattle.c_lower_worlds.proofs.OfNaming.RunningInstances.{HasNoBound}
 use Rattle.c_lower_runs.proofs.GlueParameters.{PlainParameters, tells, told_long, owners}
 use Rattle.c_lower_runs.proofs.AnswerReading.{IsProper}
 use Rattle.c_lower_runs.proofs.GlueResults.{KeysFit, ResultParts, parts_are}

@@ -10,7 +10,7 @@ use Rattle.vlt_core.specs.Lookups.{after_set, is_held_after, is_after}
 use Rattle.c_syntax.specs.declared.program.CPrim.TheVariants as prim
 use Rattle.c_lower.specs.Statements.{runtime_call}
 use Rattle.c_lower.specs.Glue.{var_arg, key_slot, is_taken, is_given, pick_state, pick_clause, states_in, glue_code}
-use Rattle.c_lower_names.proofs.RunningInstances.{HasNoBound}
+use Rattle.c_lower_worlds.proofs.OfNaming.RunningInstances.{HasNoBound}
 
 -- ---- one state is no choice
 

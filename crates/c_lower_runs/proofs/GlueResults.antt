@@ -29,23 +29,23 @@ use Rattle.c_lower.specs.Expressions.{variable}
 use Rattle.c_lower.specs.Statements.{runtime_call, return_stmts}
 use Rattle.c_lower.specs.Glue.{params_of, ResultCode, result_code, give_back, key_slot}
 use Rattle.c_lower.specs.Glue as glue
-use Rattle.c_lower_laws.specs.Codes.{AreAlike, IsBelow}
-use Rattle.c_lower_laws.proofs.Codes.{alike_self}
+use Rattle.c_lower_worlds.specs.Operators.Codes.{AreAlike, IsBelow}
+use Rattle.c_lower_worlds.proofs.OfOperators.Codes.{alike_self}
 use Rattle.c_lower_worlds.specs.Worlds.{Registers, AreRegisters, c_world, slot_values}
 use Rattle.c_lower_worlds.specs.Given.{IsFed}
 use Rattle.c_lower_worlds.specs.Shapes.{types_of, AreShaped, HasShape}
 use Rattle.c_lower_worlds.specs.Frames.{HaveValues}
 use Rattle.c_lower_worlds.specs.Same.{Gives}
 use Rattle.c_lower_worlds.specs.Operands.{RegistersSuffice}
-use Rattle.c_lower_names.specs.Lists.{Each}
+use Rattle.c_lower_worlds.specs.Naming.Lists.{Each}
 use Rattle.c_lower_runs.proofs.GlueSteps.{Glued, Gave, GlueParts, AreWords}
-use Rattle.c_lower_names.proofs.RunningInstances.{HasNoBound}
+use Rattle.c_lower_worlds.proofs.OfNaming.RunningInstances.{HasNoBound}
 use Rattle.c_lower_worlds.proofs.MovedObjects.{with_blocks, Refer, at_free, loose_free}
 use Rattle.c_lower_runs.proofs.HostMoves.{outs_run, backs_run}
 use Rattle.c_lower_runs.proofs.HostMoves as moving
 use Rattle.c_lower_runs.proofs.AnswerReading as reading
 use Rattle.c_lower_runs.proofs.AnswerReading.{left_to_read, IsProper}
-use Rattle.c_lower_forms.proofs.Return.{given_back}
+use Rattle.c_lower_runs.proofs.OfForms.Return.{given_back}
 use Rattle.c_lower_worlds.proofs.StatementLists.{Runs, runs_then, stops_there}
 use Rattle.c_lower_worlds.proofs.LaterShapes.{Later, later_self}
 use Rattle.c_lower_worlds.proofs.VariableValues.{slot_below}

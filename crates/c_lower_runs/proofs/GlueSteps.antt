@@ -32,9 +32,9 @@ use Rattle.c_lower_worlds.specs.Worlds.{Registers, AreRegisters, c_world, c_even
 use Rattle.c_lower_worlds.specs.Given.{IsFed, AreNumbers, AreAnswers}
 use Rattle.c_lower_worlds.specs.Shapes.{types_of, AreShaped}
 use Rattle.c_lower_worlds.specs.Same.{Gives, EndedAs}
-use Rattle.c_lower_names.specs.Lists.{Each}
+use Rattle.c_lower_worlds.specs.Naming.Lists.{Each}
 use Rattle.c_lower_runs.proofs.HandedObjects.{passed_faults, named_faults}
-use Rattle.c_lower_names.proofs.RunningInstances.{HasNoBound}
+use Rattle.c_lower_worlds.proofs.OfNaming.RunningInstances.{HasNoBound}
 use Rattle.c_lower_runs.proofs.GlueInstances.{picks_all}
 use Rattle.c_lower_runs.proofs.KeptShapes.{KeepsShapes, KeepsBlocks, keeps_more, moved_keeps, back_keeps, states_keep}
 use Rattle.c_lower_worlds.proofs.MovedObjects.{with_blocks}
@@ -44,9 +44,9 @@ use Rattle.c_lower_runs.proofs.AnswerReading as reading
 use Rattle.c_lower_runs.proofs.AnswerReading.{left_to_read, IsProper}
 use Rattle.c_lower_worlds.proofs.StatementLists.{Runs, runs_then, stops_there, call_runs, call_stops, goes_on}
 use Rattle.c_lower_worlds.proofs.LaterShapes.{Later}
-use Rattle.c_lower_names.proofs.FoundObjects.{OnlyFaults, then_ok, err_ok}
+use Rattle.c_lower_worlds.proofs.OfNaming.FoundObjects.{OnlyFaults, then_ok, err_ok}
 use Rattle.c_lower_worlds.proofs.SameSteps.{fault_same}
-use Rattle.c_lower_forms.proofs.OpenSlots.{moved_faults}
+use Rattle.c_lower_runs.proofs.OfForms.OpenSlots.{moved_faults}
 
 -- what follows the call
 abbrev pub Cont : Type 0

@@ -14,7 +14,7 @@ use Rattle.vlt_meaning.specs.Externals.{named_objects}
 use Rattle.c_lower_worlds.specs.Worlds.{blocks_of}
 use Rattle.c_lower_worlds.specs.Shapes.{types_of, AreShaped}
 use Rattle.c_lower_worlds.specs.Same.{HangsOnNothing, HangOnNothing}
-use Rattle.c_lower_names.proofs.FoundObjects.{IsFree, OnlyFaults, then_ok, or_fault_ok, held_ok, held_free, held_faults, then_faults, or_faults, if_so_faults}
+use Rattle.c_lower_worlds.proofs.OfNaming.FoundObjects.{IsFree, OnlyFaults, then_ok, or_fault_ok, held_ok, held_free, held_faults, then_faults, or_faults, if_so_faults}
 use Rattle.c_lower_worlds.proofs.BlockChanges.{held_alike}
 use Rattle.c_lower_worlds.proofs.VariableValues.{owner_shaped, owner_types, get_set}
 

@@ -14,7 +14,7 @@ use Rattle.c_meaning.specs.Primitives as effect
 use Rattle.c_meaning.specs.Primitives.{or_broken, on_reference}
 use Rattle.c_meaning.specs.Run.{Setup, Meaning, Frame, goes, stops}
 use Rattle.c_lower.specs.Statements.{runtime_call}
-use Rattle.c_lower_names.proofs.FoundObjects.{IsFree, err_ok, ok_same}
+use Rattle.c_lower_worlds.proofs.OfNaming.FoundObjects.{IsFree, err_ok, ok_same}
 use Rattle.c_lower_worlds.proofs.BlockChanges.{out_is, back_is, not_back}
 use Rattle.c_lower_worlds.proofs.StatementLists.{Runs, runs_then, stops_there, call_runs, call_stops}
 use Rattle.c_lower_runs.proofs.AnswerReading.{left_to_read, BreaksOff}

@@ -19,7 +19,7 @@ use Rattle.c_lower.specs.Statements.{count_arg}
 use Rattle.c_lower.specs.Glue.{new_object}
 use Rattle.c_lower_worlds.specs.Worlds.{Registers, c_world, block_of, blocks_of, cell_values, numbers_in, references_in}
 use Rattle.c_lower_worlds.specs.Shapes.{types_of, HaveCellShapes, AreShaped}
-use Rattle.c_lower_names.proofs.FoundObjects.{IsFree}
+use Rattle.c_lower_worlds.proofs.OfNaming.FoundObjects.{IsFree}
 use Rattle.c_lower_worlds.proofs.BlockChanges.{full_alike, live_block_is}
 use Rattle.c_lower_worlds.proofs.StatementLists.{Runs, value_runs, value_stops}
 use Rattle.c_lower_worlds.proofs.LaterShapes.{Later, cells_later}

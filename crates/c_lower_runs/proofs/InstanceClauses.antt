@@ -15,12 +15,12 @@ use Rattle.vlt_meaning.specs.Found.{◌>>=◌, or_fault, Named}
 use Rattle.vlt_meaning.specs.Objects.{in_states}
 use Rattle.vlt_meaning.specs.Values.{held_object}
 use Rattle.vlt_meaning.specs.Calls.{passed_object, passed_objects, entries_after}
-use Rattle.c_lower_names.specs.Lists.{Each}
-use Rattle.c_lower_names.proofs.RunningInstances.{instance_for, new_of}
+use Rattle.c_lower_worlds.specs.Naming.Lists.{Each}
+use Rattle.c_lower_worlds.proofs.OfNaming.RunningInstances.{instance_for, new_of}
 use Rattle.c_lower_runs.proofs.ClauseKeys.{KeyParameter, HaveParameters, KeysNamed}
 use Rattle.c_lower_runs.proofs.GlueParameters.{PlainParameters}
 use Rattle.c_lower_runs.proofs.AnswerReading.{IsProper}
-use Rattle.c_lower_names.proofs.FoundObjects.{then_ok, if_so_ok}
+use Rattle.c_lower_worlds.proofs.OfNaming.FoundObjects.{then_ok, if_so_ok}
 use Rattle.vlt_core_laws.proofs.Ids.{and_right}
 
 -- What is asked of the states that an entry's object may have after a call: where an answer picks one, there is one, and all

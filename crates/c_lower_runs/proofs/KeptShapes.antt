@@ -10,7 +10,7 @@ use Rattle.c_lower_worlds.specs.Worlds.{blocks_of}
 use Rattle.c_lower_worlds.specs.Shapes.{types_of, AreShaped}
 use Rattle.c_lower_worlds.proofs.BlockChanges.{state_alike}
 use Rattle.c_lower_worlds.proofs.MovedObjects.{first_moved}
-use Rattle.c_lower_names.proofs.FoundObjects.{then_ok, ok_same}
+use Rattle.c_lower_worlds.proofs.OfNaming.FoundObjects.{then_ok, ok_same}
 use Rattle.c_lower_worlds.proofs.VariableValues.{owner_shaped, owner_types, shaped_kept, types_kept}
 
 pub record KeepsShapes (p : Program) (before after : List Object) : Type 0 where

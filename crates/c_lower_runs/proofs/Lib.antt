@@ -37,3 +37,5 @@ pub mod Theorem
 pub mod SwapExample
 pub mod HostExample
 pub mod Counterexamples
+pub mod OfForms
+pub mod OfTexts

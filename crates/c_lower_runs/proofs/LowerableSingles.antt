@@ -10,17 +10,17 @@ use Rattle.vlt_core.specs.KindedHeads.{has, unless, new_keys, new_key_broken, is
 use Rattle.vlt_core.specs.declared.rules.TheConstants as rule
 use Rattle.c_lower.specs.Statements.{is_variant}
 use Rattle.c_lower_runs.specs.Lowerable.{IsAnswerSet, IsAskable, IsLowerable}
-use Rattle.c_lower_names.specs.Lists.{Each}
-use Rattle.c_lower_names.proofs.KindedBodies.{new_rows}
-use Rattle.c_lower_names.proofs.DeclaredTypes.{result_names}
+use Rattle.c_lower_worlds.specs.Naming.Lists.{Each}
+use Rattle.c_lower_worlds.proofs.OfNaming.KindedBodies.{new_rows}
+use Rattle.c_lower_worlds.proofs.OfNaming.DeclaredTypes.{result_names}
 use Rattle.c_lower_runs.proofs.ExternalHeads.{external_head, owning_fields, tracked_fields}
 use Rattle.c_lower_runs.proofs.Conditions.{proper_set, declared_row}
 use Rattle.c_lower_runs.proofs.InstanceClauses.{IsProperEntry, AreProper}
-use Rattle.c_lower_names.proofs.RuleFacts.{both_empty}
+use Rattle.c_lower_worlds.proofs.OfNaming.RuleFacts.{both_empty}
 use Rattle.vlt_core_laws.proofs.Unbroken.{unless_holds, filled_not_empty}
 use Rattle.vlt_core_laws.proofs.Ids.{and_left, and_right}
 use Rattle.c_lower_runs.proofs.SingleExternals.{SingleResult, IsSingleExternal}
-use Rattle.c_lower_names.proofs.HeadKeys.{some_new}
+use Rattle.c_lower_worlds.proofs.OfNaming.HeadKeys.{some_new}
 
 -- a function without a result makes nothing new
 none_new : (gf : Func) → gf.result ≡ None → (es : List Entry) → flat_map (new_key_broken gf) (map (λ (e : Entry). e.key) (filter is_new es)) ≡ [] → list_any is_new es ≡ false

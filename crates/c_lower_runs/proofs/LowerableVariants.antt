@@ -10,13 +10,13 @@ use Rattle.vlt_core.specs.Types.{decl_of, is_struct}
 use Rattle.vlt_core.specs.Types as types
 use Rattle.vlt_core.specs.KindedHeads.{has, unless, when_some, tracked_keys, external_case_broken, is_external_payload}
 use Rattle.vlt_core.specs.declared.rules.TheConstants as rule
-use Rattle.c_lower_names.specs.Lists.{Each}
+use Rattle.c_lower_worlds.specs.Naming.Lists.{Each}
 use Rattle.c_lower_runs.specs.Lowerable.{IsLowerable}
-use Rattle.c_lower_names.proofs.DeclaredTypes.{IsOfVariant, result_variant, result_owning_variant, key_in_header}
+use Rattle.c_lower_worlds.proofs.OfNaming.DeclaredTypes.{IsOfVariant, result_variant, result_owning_variant, key_in_header}
 use Rattle.vlt_core_laws.proofs.Headed.{each_at}
 use Rattle.c_lower_runs.proofs.ExternalHeads.{key_parameter}
 use Rattle.c_lower_runs.proofs.Conditions.{proper_set, declared_row}
-use Rattle.c_lower_names.proofs.RuleFacts.{both_empty}
+use Rattle.c_lower_worlds.proofs.OfNaming.RuleFacts.{both_empty}
 use Rattle.vlt_core_laws.proofs.Unbroken.{unless_holds}
 use Rattle.c_lower_runs.proofs.VariantResults.{IsGivenPayload, IsGivenKey, IsVariantResult}
 

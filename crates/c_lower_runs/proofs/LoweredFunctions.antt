@@ -12,7 +12,7 @@ use Rattle.c_lower.specs.Slots.{first_temps}
 use Rattle.c_lower.specs.Statements.{list_code, name_of, is_alike, is_external_at}
 use Rattle.c_lower.specs.Glue.{glue_code}
 use Rattle.c_lower.specs.Lowering.{func_with, with_body, externals, lowered}
-use Rattle.c_lower_laws.proofs.Instanced.{list_same}
+use Rattle.c_lower_worlds.proofs.OfOperators.Instanced.{list_same}
 use Rattle.vlt_core.specs.Instances.{IsInstanceOf}
 use Rattle.c_lower_runs.proofs.GlueInstances.{glue_same}
 

@@ -13,7 +13,7 @@ use Rattle.c_lower.specs.Slots.{Sort, Starts, start_of, behind_start, payload_so
 use Rattle.c_lower.specs.Glue.{slot_at}
 use Rattle.c_lower_worlds.specs.Worlds.{c_part, case_value, case_values, unused}
 use Rattle.c_lower_worlds.specs.Frames.{HaveValues}
-use Rattle.c_lower_names.specs.Lists.{Each}
+use Rattle.c_lower_worlds.specs.Naming.Lists.{Each}
 use Rattle.c_lower_worlds.proofs.VariantSlots.{Inside}
 use Rattle.c_lower_worlds.proofs.VariableSlots.{Apart, AllApart, each_map, apart_back}
 

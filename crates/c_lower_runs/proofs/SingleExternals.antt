@@ -31,7 +31,7 @@ use Rattle.c_lower_runs.proofs.CalleeFrames.{decl_values}
 use Rattle.c_lower_runs.proofs.Calls.{IsKindedCall, call_of_instance}
 use Rattle.c_lower_runs.proofs.ExternalCalls.{c_setup, glue_frame}
 use Rattle.c_lower_runs.proofs.InstanceClauses.{AreProper, proper_instance, plain_instance, parameters_instance, named_instance}
-use Rattle.c_lower_names.proofs.RunningInstances.{instance_for, runs_unbound, any_new_instance}
+use Rattle.c_lower_worlds.proofs.OfNaming.RunningInstances.{instance_for, runs_unbound, any_new_instance}
 use Rattle.c_lower_runs.proofs.ClauseKeys.{HaveParameters, KeysNamed, keys_fit}
 use Rattle.c_lower_runs.proofs.GlueParameters.{PlainParameters}
 use Rattle.c_lower_runs.proofs.AnswerReading.{IsProper}

@@ -25,8 +25,8 @@ use Rattle.c_lower.specs.Slots.{Numbers, of_number, of_owner, of_reference, firs
 use Rattle.c_lower.specs.Expressions.{variable}
 use Rattle.c_lower.specs.Statements.{return_stmts}
 use Rattle.c_lower.specs.Glue.{payload_number, new_object}
-use Rattle.c_lower_laws.specs.Codes.{AreAlike}
-use Rattle.c_lower_laws.proofs.Codes.{alike_self, up_self}
+use Rattle.c_lower_worlds.specs.Operators.Codes.{AreAlike}
+use Rattle.c_lower_worlds.proofs.OfOperators.Codes.{alike_self, up_self}
 use Rattle.c_lower_worlds.specs.Worlds.{Registers, AreRegisters, c_world}
 use Rattle.c_lower_worlds.specs.Shapes.{types_of, AreShaped, HasShape}
 use Rattle.c_lower_worlds.specs.Operands.{RegistersSuffice}

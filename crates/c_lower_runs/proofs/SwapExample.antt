@@ -16,7 +16,7 @@ use Rattle.c_meaning.specs.Run as crun
 use Rattle.c_lower.specs.Lowering.{lowered}
 use Rattle.c_lower_runs.specs.SameRuns.{c_outcome, AreTheSame}
 use Rattle.c_lower_runs.specs.Lowerable.{IsAskable, IsLowerable}
-use Rattle.c_lower_names.specs.KindedParts.{are_proper}
+use Rattle.c_lower_worlds.specs.Naming.KindedParts.{are_proper}
 use Rattle.c_lower_runs.proofs.Theorem.{lowered_same}
 
 -- struct leaf { int value; }

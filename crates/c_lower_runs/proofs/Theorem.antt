@@ -1,15 +1,15 @@
 -- The law of the lowering, from the conditions on programs (specs/Lowerable), and that no run is undefined then.
 use Rattle.std.proofs.Common.{◌≡◌, inl, inr, ℕ, false, ℤ, List, Option, Some, None, refl, sym, ap, ◌∙◌}
 use Rattle.std.proofs.lemmas.Bool.{false≢true}
-use Rattle.c_lower_forms.proofs.SimpleStatements.{simple_forms_same}
-use Rattle.c_lower_forms.proofs.Switch.{switch_same}
-use Rattle.c_lower_names.specs.Types.{TypesFit}
-use Rattle.c_lower_names.proofs.KnownCalls.{known_call}
+use Rattle.c_lower_runs.proofs.OfForms.SimpleStatements.{simple_forms_same}
+use Rattle.c_lower_runs.proofs.OfForms.Switch.{switch_same}
+use Rattle.c_lower_worlds.specs.Naming.Types.{TypesFit}
+use Rattle.c_lower_worlds.proofs.OfNaming.KnownCalls.{known_call}
 use Rattle.c_lower_worlds.proofs.OperandCode.{operands_are_right}
 use Rattle.c_lower_worlds.proofs.NumberCode.{numbers_are_right}
 use Rattle.c_lower_runs.proofs.AllExternals.{externals_are_right}
 use Rattle.c_lower_runs.proofs.Conditions.{program_parts}
-use Rattle.c_lower_names.proofs.DeclaredTypes.{types_fit}
+use Rattle.c_lower_worlds.proofs.OfNaming.DeclaredTypes.{types_fit}
 use Rattle.c_lower_runs.specs.Lowerable.{IsLowerable}
 use Rattle.c_lower_runs.specs.Laws.{LoweringIsRight, LoweredIsSame, LoweredIsDefined}
 use Rattle.vlt_core.specs.Core.{Program}
@@ -23,10 +23,10 @@ use Rattle.c_meaning.specs.Run as crun
 use Rattle.c_lower.specs.Lowering.{lowered}
 use Rattle.c_lower_worlds.specs.Given.{IsFed}
 use Rattle.c_lower_runs.specs.SameRuns.{c_outcome, is_undefined, AreTheSame, IsSameRun}
-use Rattle.c_lower_names.specs.KindedParts.{HasKindedBodies}
+use Rattle.c_lower_worlds.specs.Naming.KindedParts.{HasKindedBodies}
 use Rattle.c_lower_worlds.specs.Operands.{RegistersSuffice, OperandsAreRight}
 use Rattle.c_lower_runs.proofs.Calls.{CallsFit, KeepsTypes, calls_same}
-use Rattle.c_lower_forms.proofs.Return.{returns_same}
+use Rattle.c_lower_runs.proofs.OfForms.Return.{returns_same}
 use Rattle.c_lower_runs.proofs.WholeRuns.{runs_are_same}
 
 module _ (p : Program) (heap depth : ℕ) (h : IsLowerable p) where

@@ -15,7 +15,7 @@ use Rattle.c_meaning.specs.Run as crun
 use Rattle.c_meaning.specs.Run.{goes, stops}
 use Rattle.c_lower.specs.Statements.{runtime_value, case_positions}
 use Rattle.c_lower.specs.Glue.{mask, per_case, case_numbers, payloads, slot_at, payload_number, pick_state}
-use Rattle.c_lower_names.specs.Lists.{Each}
+use Rattle.c_lower_worlds.specs.Naming.Lists.{Each}
 use Rattle.c_lower_worlds.proofs.FrameChanges.{var_set}
 use Rattle.c_lower_runs.proofs.StateMasks.{is_among}
 use Rattle.c_lower_runs.proofs.PerCase.{per_case_goes, per_case_stops}

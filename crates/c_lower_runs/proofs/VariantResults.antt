@@ -33,14 +33,14 @@ use Rattle.c_lower.specs.Expressions.{variable}
 use Rattle.c_lower.specs.Statements.{runtime_call, case_positions, payload_in, behind_first, return_stmts}
 use Rattle.c_lower.specs.Glue.{per_case, slot_at, payloads, case_keys_back, key_in, key_slot, variant_code}
 use Rattle.c_lower.specs.Glue as glue
-use Rattle.c_lower_laws.specs.Codes.{AreAlike, IsBelow}
-use Rattle.c_lower_laws.proofs.Codes.{up_self}
+use Rattle.c_lower_worlds.specs.Operators.Codes.{AreAlike, IsBelow}
+use Rattle.c_lower_worlds.proofs.OfOperators.Codes.{up_self}
 use Rattle.c_lower_worlds.specs.Worlds.{Registers, AreRegisters, c_world, variant_values, unused}
 use Rattle.c_lower_worlds.specs.Given.{IsFed}
 use Rattle.c_lower_worlds.specs.Shapes.{types_of, AreShaped, IsCase}
 use Rattle.c_lower_worlds.specs.Frames.{HaveValues}
 use Rattle.c_lower_worlds.specs.Operands.{RegistersSuffice}
-use Rattle.c_lower_names.specs.Lists.{Each}
+use Rattle.c_lower_worlds.specs.Naming.Lists.{Each}
 use Rattle.c_lower_runs.proofs.ClearedSlots.{clear_all, clears_run, clear_kept, clear_depth, clear_glue, cleared_at, temps_alike}
 use Rattle.c_lower_worlds.proofs.FrameChanges.{var_kept, var_set}
 use Rattle.c_lower_runs.proofs.GlueSteps.{Glued, Gave, AreWords, parted, natural_left, states_left}

@@ -12,7 +12,7 @@ use Rattle.c_meaning.specs.World as cw
 use Rattle.c_meaning.specs.Run as crun
 use Rattle.c_lower.specs.Slots.{Numbers, first_temps}
 use Rattle.c_lower.specs.Lowering.{lowered, result_of}
-use Rattle.c_lower_laws.proofs.Codes.{up_self}
+use Rattle.c_lower_worlds.proofs.OfOperators.Codes.{up_self}
 use Rattle.c_lower_worlds.specs.Worlds.{Registers, c_world}
 use Rattle.c_lower_worlds.specs.Given.{IsFed}
 use Rattle.c_lower_worlds.specs.Same.{Same, EndedAs, Ended}
@@ -20,12 +20,12 @@ use Rattle.c_lower_worlds.specs.SameStatements.{Begins, RestIsSame}
 use Rattle.vlt_core.specs.Instances.{IsInstanceOf}
 use Rattle.c_lower_worlds.specs.Parts.{NumbersAreRight, Parts}
 use Rattle.c_lower_runs.specs.SameRuns.{AreTheSame, IsSameRun}
-use Rattle.c_lower_names.specs.KindedParts.{HasKindedBodies}
+use Rattle.c_lower_worlds.specs.Naming.KindedParts.{HasKindedBodies}
 use Rattle.vlt_core.specs.Kinded.{IsKinded}
-use Rattle.c_lower_names.specs.Types.{TypesFit}
-use Rattle.c_lower_names.proofs.KnownScopes.{first_known}
-use Rattle.c_lower_names.proofs.NamedStatements.{less_named}
-use Rattle.c_lower_forms.proofs.Statements.{lists_are_same}
+use Rattle.c_lower_worlds.specs.Naming.Types.{TypesFit}
+use Rattle.c_lower_worlds.proofs.OfNaming.KnownScopes.{first_known}
+use Rattle.c_lower_worlds.proofs.OfNaming.NamedStatements.{less_named}
+use Rattle.c_lower_runs.proofs.OfForms.Statements.{lists_are_same}
 use Rattle.c_lower_runs.proofs.EventText.{text_told}
 use Rattle.c_lower_runs.proofs.LoweredFunctions.{Found, main_found, body_func}
 use Rattle.c_lower.specs.Statements.{list_code, body_of}

@@ -1,6 +1,6 @@
 //! Statements of a core program in; C statements, added to those that are there, out.
 //! Read `c_lower/specs/Statements.antt` first, then `specs/Written.antt` (Writes).
-//! Used by: `c_lower_code`, which lowers functions and programs.
+//! Used by: `c_lower_program::code`, which lowers functions and programs.
 #![tactic(auto)]
 
 mod blocks;

@@ -14,7 +14,7 @@ use Rattle.c_meaning.specs.Blocks as c
 use Rattle.c_meaning.specs.Blocks.{Block, Blocks, live_block, with_changed_block, blocks_after_own, blocks_after_disown, blocks_after_release, gone_out, come_back, option_join, without_from}
 use Rattle.c_lower_worlds.specs.Worlds.{block_with, block_of, blocks_of, cell_values, numbers_in, references_in}
 use Rattle.vlt_core.specs.Lookups.{fields_of}
-use Rattle.c_lower_names.proofs.FoundObjects.{IsFree}
+use Rattle.c_lower_worlds.proofs.OfNaming.FoundObjects.{IsFree}
 
 -- a live object
 pub record IsLive (os : List Object) (n : ℕ) (o : Object) : Type 0 where

@@ -21,15 +21,15 @@ use Rattle.c_meaning.specs.Values as cvalues
 use Rattle.c_meaning.specs.Run as crun
 use Rattle.c_lower.specs.Slots.{Numbers, first_temps}
 use Rattle.c_lower.specs.Expressions.{Code, value_of}
-use Rattle.c_lower_laws.specs.Codes.{AreUpTo, AreAlike}
-use Rattle.c_lower_laws.specs.Expressions.{Follows}
-use Rattle.c_lower_laws.proofs.Codes.{alike_more, alike_self}
+use Rattle.c_lower_worlds.specs.Operators.Codes.{AreUpTo, AreAlike}
+use Rattle.c_lower_worlds.specs.Operators.Expressions.{Follows}
+use Rattle.c_lower_worlds.proofs.OfOperators.Codes.{alike_more, alike_self}
 use Rattle.c_lower_worlds.specs.Worlds.{Registers, c_world}
 use Rattle.c_lower_worlds.specs.Shapes.{types_of}
 use Rattle.c_lower_worlds.specs.Same.{Same}
 use Rattle.c_lower_worlds.specs.SameStatements.{Begins}
 use Rattle.c_lower_worlds.proofs.StatementLists.{both_run, then_goes, then_stops}
-use Rattle.c_lower_names.proofs.FoundObjects.{OnlyFaults, or_faults, behind_faults}
+use Rattle.c_lower_worlds.proofs.OfNaming.FoundObjects.{OnlyFaults, or_faults, behind_faults}
 use Rattle.c_lower_worlds.proofs.FrameChanges.{stands_alike}
 
 -- in a trap or a fault

@@ -25,8 +25,8 @@ use Rattle.c_lower_worlds.specs.SameStatements.{Begins}
 use Rattle.vlt_core.specs.Proper.{has_literals}
 use Rattle.c_lower_worlds.proofs.SameLayouts.{same_laid, keys_laid}
 use Rattle.c_lower_worlds.proofs.NumberCode.{in_range, then_is, touched}
-use Rattle.c_lower_names.proofs.FoundObjects.{then_ok, ok_same, err_ok, or_fault_ok, behind_ok}
-use Rattle.c_lower_names.proofs.RuleFacts.{both_empty}
+use Rattle.c_lower_worlds.proofs.OfNaming.FoundObjects.{then_ok, ok_same, err_ok, or_fault_ok, behind_ok}
+use Rattle.c_lower_worlds.proofs.OfNaming.RuleFacts.{both_empty}
 use Rattle.vlt_core_laws.proofs.Unbroken.{unless_holds}
 use Rattle.vlt_core_laws.proofs.Ids.{and_right}
 use Rattle.c_lower_worlds.proofs.VariableValues.{typed}

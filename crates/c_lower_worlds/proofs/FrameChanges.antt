@@ -11,12 +11,12 @@ use Rattle.c_syntax.specs.declared.program.CVar.{CVar}
 use Rattle.c_meaning.specs.World.{Value}
 use Rattle.c_meaning.specs.Run.{Frame, with_var}
 use Rattle.c_lower.specs.Slots.{Sort, Numbers, past, var_at, vars_at, slot_vars, slot_of, first_slot, sorts_of, first_temps}
-use Rattle.c_lower_laws.specs.Codes.{IsBelow, AreAlike}
+use Rattle.c_lower_worlds.specs.Operators.Codes.{IsBelow, AreAlike}
 use Rattle.c_lower_worlds.specs.Worlds.{c_part, slot_values}
 use Rattle.c_lower_worlds.specs.Shapes.{HasShape}
 use Rattle.c_lower_worlds.specs.Frames.{HaveValues, HoldsTyped, HoldsVar, StandsFor}
 use Rattle.c_lower_worlds.specs.Sorts.{AreOfSorts}
-use Rattle.c_lower_names.specs.Lists.{Each}
+use Rattle.c_lower_worlds.specs.Naming.Lists.{Each}
 use Rattle.c_lower_worlds.proofs.VariableSlots.{Apart, each_map, slots_apart, vars_apart, below_temps, apart_back, same_self, starts}
 use Rattle.c_lower_worlds.proofs.VariantSlots.{shape_sorts}
 

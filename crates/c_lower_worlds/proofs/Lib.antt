@@ -21,3 +21,5 @@ pub mod ValueCode
 pub mod ExpressionFailures
 pub mod OperandCode
 pub mod OperandLists
+pub mod OfOperators
+pub mod OfNaming

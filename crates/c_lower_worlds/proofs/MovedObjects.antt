@@ -17,7 +17,7 @@ use Rattle.c_meaning.specs.Primitives.{or_broken, on_references}
 use Rattle.c_meaning.specs.Run.{Setup, Meaning, Frame, goes}
 use Rattle.c_lower.specs.Statements.{runtime_call}
 use Rattle.c_lower_worlds.specs.Worlds.{blocks_of}
-use Rattle.c_lower_names.proofs.FoundObjects.{IsFree, then_ok, if_so_ok, object_at_ok, ok_same}
+use Rattle.c_lower_worlds.proofs.OfNaming.FoundObjects.{IsFree, then_ok, if_so_ok, object_at_ok, ok_same}
 use Rattle.c_lower_worlds.proofs.BlockChanges.{own_is}
 use Rattle.c_lower_worlds.proofs.StatementLists.{Runs, runs_then, call_runs}
 use Rattle.c_lower_worlds.proofs.VariableValues.{get_other}

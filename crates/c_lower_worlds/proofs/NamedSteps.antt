@@ -11,7 +11,7 @@ use Rattle.c_lower_worlds.specs.Worlds.{Registers, c_world}
 use Rattle.c_lower_worlds.specs.Frames.{Spares}
 use Rattle.c_lower_worlds.specs.SameStatements.{Begins}
 use Rattle.c_lower_worlds.specs.Same.{Same}
-use Rattle.c_lower_names.specs.Naming.{Arrives, Promise}
+use Rattle.c_lower_worlds.specs.Naming.Naming.{Arrives, Promise}
 use Rattle.c_lower_worlds.proofs.SameSteps.{begins, earlier, then_same, turn_same}
 
 a_fault : source.Frame → source.World → step.Step

@@ -22,12 +22,12 @@ use Rattle.c_meaning.specs.World as cw
 use Rattle.c_meaning.specs.Values.{p_variable}
 use Rattle.c_meaning.specs.Run as crun
 use Rattle.c_lower.specs.Slots.{Numbers, of_number, vars_at, first_slot, slot_of, slot_sorts, sorts_of, sorts_at, sorts_of_field, field_sorts, past_all, first_numbers, cells_at, object_type, object_type_of, first_temps}
-use Rattle.c_lower_laws.specs.Expressions.{LeavesStand, IsInRange, AreOperandsInRange}
+use Rattle.c_lower_worlds.specs.Operators.Expressions.{LeavesStand, IsInRange, AreOperandsInRange}
 use Rattle.vlt_core.specs.Proper.{has_arities, has_literals}
-use Rattle.c_lower_laws.specs.Slots.{NumbersStand, FieldsStand}
-use Rattle.c_lower_laws.proofs.Codes.{alike_self}
-use Rattle.c_lower_laws.proofs.Expressions.{expressions_are_right}
-use Rattle.c_lower_laws.proofs.Slots.{leaves_stand}
+use Rattle.c_lower_worlds.specs.Operators.Slots.{NumbersStand, FieldsStand}
+use Rattle.c_lower_worlds.proofs.OfOperators.Codes.{alike_self}
+use Rattle.c_lower_worlds.proofs.OfOperators.Expressions.{expressions_are_right}
+use Rattle.c_lower_worlds.proofs.OfOperators.Slots.{leaves_stand}
 use Rattle.c_lower_worlds.specs.Worlds.{Registers, c_world, blocks_of, slot_values}
 use Rattle.c_lower_worlds.specs.Shapes.{types_of, HasShape}
 use Rattle.c_lower_worlds.specs.SameStatements.{Begins}
@@ -35,7 +35,7 @@ use Rattle.c_lower_worlds.specs.Parts.{NumbersAreRight}
 use Rattle.c_lower_worlds.proofs.BlockChanges.{block_there}
 use Rattle.c_lower_worlds.proofs.FieldCells.{HaveCells, of_field}
 use Rattle.c_lower_worlds.proofs.VariableSlots.{starts}
-use Rattle.c_lower_names.proofs.FoundObjects.{then_ok, ok_same, err_ok, or_fault_ok, behind_ok, Refers}
+use Rattle.c_lower_worlds.proofs.OfNaming.FoundObjects.{then_ok, ok_same, err_ok, or_fault_ok, behind_ok, Refers}
 use Rattle.vlt_core_laws.proofs.Ids.{and_left, and_right}
 use Rattle.c_lower_worlds.proofs.VariableValues.{slot_holds, typed, part_same, object_same}
 use Rattle.c_lower_worlds.proofs.WordRanges.{word_results}

@@ -2,7 +2,7 @@
 use Rattle.std.proofs.Common.{◌≡◌, ℕ, ◌&&◌, Bool, true, false, if◌then◌else◌, ℤ, List, [], ◌∷◌, ◌++◌, map, Option, Some, None, slice_get, Ok, Err, refl, sym, ap, ◌∙◌, subst, ◌+◌}
 use Rattle.std.proofs.lemmas.Bool.{false≢true}
 use Rattle.std.proofs.lemmas.Option.{same_Some}
-use Rattle.c_lower_laws.specs.Operators.{Does}
+use Rattle.c_lower_worlds.specs.Operators.Operators.{Does}
 use Rattle.vlt_ops.specs.declared.TrapKind.{TrapKind}
 use Rattle.vlt_ops.specs.declared.Op.TheVariants as op
 use Rattle.vlt_ops.specs.declared.Op.{Op}
@@ -31,18 +31,18 @@ use Rattle.c_meaning.specs.Run as crun
 use Rattle.c_lower.specs.Slots.{Numbers, slot_vars, slot_sorts, vars_at, sorts_of, first_temps, object_type, sorts_of_field}
 use Rattle.c_lower.specs.Expressions.{Atom, Code, expr_code, operand_code, variable}
 use Rattle.c_lower.specs.Statements.{is_variant}
-use Rattle.c_lower_laws.specs.Codes.{AreUpTo}
-use Rattle.c_lower_laws.specs.Expressions.{Follows}
+use Rattle.c_lower_worlds.specs.Operators.Codes.{AreUpTo}
+use Rattle.c_lower_worlds.specs.Operators.Expressions.{Follows}
 use Rattle.vlt_core.specs.Proper.{has_arities, is_proper, has_literals}
-use Rattle.c_lower_laws.proofs.Codes.{alike_self, more_more, alike_more}
+use Rattle.c_lower_worlds.proofs.OfOperators.Codes.{alike_self, more_more, alike_more}
 use Rattle.c_lower_worlds.specs.Worlds.{Registers, c_world, blocks_of, slot_values}
 use Rattle.c_lower_worlds.specs.Shapes.{types_of, HasShape}
 use Rattle.c_lower_worlds.specs.Frames.{StandsFor}
 use Rattle.c_lower_worlds.specs.SameStatements.{Begins}
-use Rattle.c_lower_names.specs.Functions.{IsFunction}
+use Rattle.c_lower_worlds.specs.Naming.Functions.{IsFunction}
 use Rattle.c_lower_worlds.specs.Operands.{HaveAtoms, AreVariables, IsHanded, OperandsAreRight}
 use Rattle.c_lower_worlds.specs.Same.{Same}
-use Rattle.c_lower_names.proofs.FoundObjects.{IsFree, OnlyFaults, then_ok, or_faults, or_fault_ok, behind_ok, behind_faults, object_of_ok, object_of_faults, then_faults}
+use Rattle.c_lower_worlds.proofs.OfNaming.FoundObjects.{IsFree, OnlyFaults, then_ok, or_faults, or_fault_ok, behind_ok, behind_faults, object_of_ok, object_of_faults, then_faults}
 use Rattle.c_lower_worlds.proofs.BlockChanges.{held_alike}
 use Rattle.c_lower_worlds.proofs.ValueCode.{Comes, slots_have, var_comes, field_comes, number_comes, one_atom, unless_is, var_has}
 use Rattle.c_lower_worlds.proofs.SameLayouts.{same_laid, fits_laid, keys_laid}
@@ -51,7 +51,7 @@ use Rattle.c_lower_worlds.proofs.StatementLists.{both_run, then_goes, then_stops
 use Rattle.c_lower_worlds.proofs.VariableSlots.{starts}
 use Rattle.c_lower_worlds.proofs.ExpressionFailures.{EndsPlainly, value_plainly, alike_begins}
 use Rattle.c_lower_worlds.proofs.SameSteps.{found_same, earlier}
-use Rattle.c_lower_names.proofs.RuleFacts.{both_empty, tracked_is, none_of_both}
+use Rattle.c_lower_worlds.proofs.OfNaming.RuleFacts.{both_empty, tracked_is, none_of_both}
 use Rattle.vlt_core_laws.proofs.Unbroken.{unless_holds}
 use Rattle.vlt_core_laws.proofs.Ids.{and_left, and_right}
 use Rattle.c_lower_worlds.proofs.ExpressionValues.{valued, Valued}

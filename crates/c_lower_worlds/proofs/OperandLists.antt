@@ -2,7 +2,7 @@
 use Rattle.std.proofs.Common.{◌≡◌, ℕ, List, [], ◌∷◌, ◌++◌, map, Ok, refl, sym, ◌∙◌, subst, append_assoc, true}
 use Rattle.std.specs.List.{flat_map}
 use Rattle.vlt_core_laws.proofs.Ids.{and_left, and_right}
-use Rattle.c_lower_names.specs.KindedParts.{is_proper_operand, are_proper_operands}
+use Rattle.c_lower_worlds.specs.Naming.KindedParts.{is_proper_operand, are_proper_operands}
 use Rattle.vlt_core.specs.Core.{Ty, Operand, pure, move, pack, Func, Program}
 use Rattle.vlt_core.specs.KindedScopes.{Ids}
 use Rattle.vlt_meaning.specs.World as source
@@ -16,16 +16,16 @@ use Rattle.c_meaning.specs.Values.{value_of, arg_value, arg_values}
 use Rattle.c_meaning.specs.Run as crun
 use Rattle.c_lower.specs.Slots.{Numbers, first_temps}
 use Rattle.c_lower.specs.Expressions.{Atom, number, variable, null, atom_expr, atom_arg, Code, operand_code, operand_codes, Codes}
-use Rattle.c_lower_laws.specs.Codes.{AreUpTo, AreAlike}
-use Rattle.c_lower_laws.proofs.Codes.{up_self, more_more, alike_self, alike_more}
-use Rattle.c_lower_laws.proofs.Expressions.{expr_up}
+use Rattle.c_lower_worlds.specs.Operators.Codes.{AreUpTo, AreAlike}
+use Rattle.c_lower_worlds.proofs.OfOperators.Codes.{up_self, more_more, alike_self, alike_more}
+use Rattle.c_lower_worlds.proofs.OfOperators.Expressions.{expr_up}
 use Rattle.c_lower_worlds.specs.Worlds.{Registers, c_world, slot_values}
 use Rattle.c_lower_worlds.specs.Shapes.{types_of, HasShape}
 use Rattle.c_lower_worlds.specs.SameStatements.{Begins}
-use Rattle.c_lower_names.specs.Functions.{IsFunction}
+use Rattle.c_lower_worlds.specs.Naming.Functions.{IsFunction}
 use Rattle.c_lower_worlds.specs.Same.{Same}
 use Rattle.c_lower_worlds.specs.Operands.{HaveAtoms, OperandsAreRight}
-use Rattle.c_lower_names.proofs.CallOperands.{OperandsFit}
+use Rattle.c_lower_worlds.proofs.OfNaming.CallOperands.{OperandsFit}
 
 abbrev pub HaveShapes : Program → List ℕ → List Ty → List source.Value → Type 0
 HaveShapes p ts [] [] = Unit {0}

@@ -13,7 +13,7 @@ use Rattle.c_lower_worlds.specs.Worlds.{Registers, c_world}
 use Rattle.c_lower_worlds.specs.Frames.{Spares}
 use Rattle.c_lower_worlds.specs.SameStatements.{Begins}
 use Rattle.c_lower_worlds.specs.Same.{Comes, Ended, EndedAs, Same}
-use Rattle.c_lower_names.proofs.FoundObjects.{OnlyFaults}
+use Rattle.c_lower_worlds.proofs.OfNaming.FoundObjects.{OnlyFaults}
 
 -- ---- temps that are spared
 

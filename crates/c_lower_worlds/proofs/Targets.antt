@@ -9,7 +9,7 @@ use Rattle.c_syntax.specs.Kinds.{same_bool}
 use Rattle.c_meaning.specs.World as cw
 use Rattle.c_meaning.specs.Run as crun
 use Rattle.c_lower.specs.Slots.{Numbers, slot_vars, first_temps}
-use Rattle.c_lower_laws.specs.Codes.{IsBelow}
+use Rattle.c_lower_worlds.specs.Operators.Codes.{IsBelow}
 use Rattle.c_lower_worlds.specs.Worlds.{Registers, c_world}
 use Rattle.c_lower_worlds.specs.Given.{IsFed}
 use Rattle.c_lower_worlds.specs.Shapes.{types_of, AreShaped}

@@ -19,10 +19,10 @@ use Rattle.c_meaning.specs.Values as cvalues
 use Rattle.c_meaning.specs.Run.{Frame, goes, with_var}
 use Rattle.c_lower.specs.Slots.{Sort, of_number, of_reference, of_owner, Numbers, past, past_all, var_at, vars_at, cell_at, cells_at, slot_vars, slot_of, slot_sorts, sorts_of_field, field_sorts, first_numbers, first_temps, cell_sorts, object_type}
 use Rattle.c_lower.specs.Expressions.{Atom, number, variable, null, atom_expr, first_atom, Code, expr_code, binary_code, reads}
-use Rattle.c_lower_laws.specs.Operators.{Does}
-use Rattle.c_lower_laws.specs.Codes.{IsBelow, AreAlike, AreUpTo, Gives}
-use Rattle.c_lower_laws.proofs.Codes.{up_self, up_past, alike_self, alike_more, below_more, goes_then}
-use Rattle.c_lower_laws.proofs.Doing.{set_goes}
+use Rattle.c_lower_worlds.specs.Operators.Operators.{Does}
+use Rattle.c_lower_worlds.specs.Operators.Codes.{IsBelow, AreAlike, AreUpTo, Gives}
+use Rattle.c_lower_worlds.proofs.OfOperators.Codes.{up_self, up_past, alike_self, alike_more, below_more, goes_then}
+use Rattle.c_lower_worlds.proofs.OfOperators.Doing.{set_goes}
 use Rattle.c_lower_worlds.specs.Worlds.{Registers, c_world, slot_values}
 use Rattle.c_lower_worlds.specs.Shapes.{types_of}
 use Rattle.c_lower_worlds.specs.Frames.{HaveValues, HoldsTyped, HoldsVar, IsBetween}

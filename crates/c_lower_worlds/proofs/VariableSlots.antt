@@ -7,12 +7,12 @@ use Rattle.vlt_core.specs.Lookups.{var_type}
 use Rattle.c_syntax.specs.declared.program.CVar.{CVar}
 use Rattle.c_syntax.specs.Kinds.{same_variable, same_bool}
 use Rattle.c_lower.specs.Slots.{Sort, of_number, of_reference, of_owner, Numbers, first_numbers, past, past_all, var_at, vars_at, slot_sorts, sorts_of, var_sorts, slot_vars, first_temps}
-use Rattle.c_lower_laws.specs.Codes.{IsBelow, AreUpTo}
-use Rattle.c_lower_laws.proofs.Codes.{up_self, up_past}
-use Rattle.c_lower_laws.proofs.Expressions.{up_all}
+use Rattle.c_lower_worlds.specs.Operators.Codes.{IsBelow, AreUpTo}
+use Rattle.c_lower_worlds.proofs.OfOperators.Codes.{up_self, up_past}
+use Rattle.c_lower_worlds.proofs.OfOperators.Expressions.{up_all}
 use Rattle.c_lower_worlds.specs.Frames.{IsBetween}
-use Rattle.c_lower_names.specs.Lists.{Each}
-use Rattle.c_lower_laws.proofs.Slots.{past_all_append}
+use Rattle.c_lower_worlds.specs.Naming.Lists.{Each}
+use Rattle.c_lower_worlds.proofs.OfOperators.Slots.{past_all_append}
 
 pub each_map : {A : Type 0} (P Q : A → Type 0) (xs : List A) → ((x : A) → P x → Q x) → Each P xs → Each Q xs
 each_map P Q [] go h = tt

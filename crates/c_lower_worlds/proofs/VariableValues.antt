@@ -13,14 +13,14 @@ use Rattle.c_syntax.specs.Kinds.{same_bool}
 use Rattle.c_meaning.specs.World.{Value}
 use Rattle.c_meaning.specs.Run.{Frame, with_var}
 use Rattle.c_lower.specs.Slots.{Sort, of_number, of_reference, of_owner, Numbers, var_at, vars_at, slot_vars, slot_of, first_slot, sorts_of, first_temps}
-use Rattle.c_lower_laws.specs.Codes.{IsBelow, AreUpTo, AreAlike}
+use Rattle.c_lower_worlds.specs.Operators.Codes.{IsBelow, AreUpTo, AreAlike}
 use Rattle.c_lower_worlds.specs.Worlds.{c_part}
 use Rattle.c_lower_worlds.specs.Shapes.{HasShape, types_of, AreShaped, HaveCellShapes}
 use Rattle.c_lower_worlds.specs.Frames.{HaveValues, HoldsTyped, HoldsVar, StandsFor, IsBetween, Spares}
-use Rattle.c_lower_names.specs.Lists.{Each}
+use Rattle.c_lower_worlds.specs.Naming.Lists.{Each}
 use Rattle.c_lower_worlds.proofs.VariableSlots.{Apart, below_temps, starts}
 use Rattle.c_lower_worlds.proofs.FrameChanges.{var_kept}
-use Rattle.c_lower_names.proofs.TouchedFields.{referred}
+use Rattle.c_lower_worlds.proofs.OfNaming.TouchedFields.{referred}
 
 -- ---- variables with one slot
 

@@ -8,3 +8,5 @@ pub mod SameStatements
 pub mod Operands
 pub mod Parts
 pub mod Laws
+pub mod Operators
+pub mod Naming

@@ -1,6 +1,6 @@
 -- What the code of an operand does: what laws on statements with operands take as given.
 use Rattle.std.specs.Prelude.{◌≡◌, ◌≤◌, length, ℕ, true, List, [], ◌∷◌, ◌++◌, map, Some, Ok}
-use Rattle.c_lower_names.specs.KindedParts.{is_proper_operand}
+use Rattle.c_lower_worlds.specs.Naming.KindedParts.{is_proper_operand}
 use Rattle.vlt_core.specs.Core.{Ty, Operand, Func, Program}
 use Rattle.vlt_core.specs.KindedScopes.{Ids}
 use Rattle.vlt_core.specs.KindedOperands.{operand_broken}
@@ -16,11 +16,11 @@ use Rattle.c_meaning.specs.Run as crun
 use Rattle.c_lower.specs.Slots.{Numbers, vars_at, slot_sorts, first_temps}
 use Rattle.c_lower.specs.Expressions.{Atom, variable, atom_expr, Code, operand_code}
 use Rattle.c_lower.specs.Statements.{is_variant}
-use Rattle.c_lower_laws.specs.Codes.{AreUpTo, AreAlike}
+use Rattle.c_lower_worlds.specs.Operators.Codes.{AreUpTo, AreAlike}
 use Rattle.c_lower_worlds.specs.Worlds.{Registers, c_world, slot_values, numbers_in, references_in}
 use Rattle.c_lower_worlds.specs.Shapes.{types_of, HasShape}
 use Rattle.c_lower_worlds.specs.SameStatements.{Begins}
-use Rattle.c_lower_names.specs.Functions.{IsFunction}
+use Rattle.c_lower_worlds.specs.Naming.Functions.{IsFunction}
 use Rattle.c_lower_worlds.specs.Same.{Same, rest_values}
 
 -- an atom is no cell, so the blocks are no matter

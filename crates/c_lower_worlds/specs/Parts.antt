@@ -11,11 +11,11 @@ use Rattle.vlt_meaning.specs.Run as run
 use Rattle.c_meaning.specs.Run as crun
 use Rattle.c_lower.specs.Slots.{Numbers, first_temps}
 use Rattle.c_lower.specs.Expressions.{expr_code}
-use Rattle.c_lower_laws.specs.Codes.{AreUpTo}
-use Rattle.c_lower_laws.specs.Expressions.{Follows}
+use Rattle.c_lower_worlds.specs.Operators.Codes.{AreUpTo}
+use Rattle.c_lower_worlds.specs.Operators.Expressions.{Follows}
 use Rattle.c_lower_worlds.specs.Worlds.{Registers, c_world}
 use Rattle.c_lower_worlds.specs.SameStatements.{Begins, IsSameForm, IsSameFormIn, AreSameArms}
-use Rattle.c_lower_names.specs.Functions.{IsFunction}
+use Rattle.c_lower_worlds.specs.Naming.Functions.{IsFunction}
 
 -- the code of an expression of this type gives the number that the source finds, or traps as it
 -- does

@@ -10,15 +10,15 @@ use Rattle.c_syntax.specs.View.{stmts_made}
 use Rattle.c_meaning.specs.Run as crun
 use Rattle.c_lower.specs.Slots.{Numbers, first_temps}
 use Rattle.c_lower.specs.Statements.{form_code, block_code, list_code, body_of}
-use Rattle.c_lower_laws.specs.Codes.{AreUpTo}
+use Rattle.c_lower_worlds.specs.Operators.Codes.{AreUpTo}
 use Rattle.c_lower_worlds.specs.Worlds.{Registers, AreRegisters, c_world}
 use Rattle.c_lower_worlds.specs.Given.{IsFed}
 use Rattle.c_lower_worlds.specs.Shapes.{AreShaped, types_of}
 use Rattle.c_lower_worlds.specs.Frames.{StandsFor}
 use Rattle.c_lower_worlds.specs.Same.{Same}
-use Rattle.c_lower_names.specs.KindedParts.{IsKindedForm, IsKindedBlock, AreKinded}
-use Rattle.c_lower_names.specs.Naming.{IsInScope}
-use Rattle.c_lower_names.specs.Functions.{IsFunction}
+use Rattle.c_lower_worlds.specs.Naming.KindedParts.{IsKindedForm, IsKindedBlock, AreKinded}
+use Rattle.c_lower_worlds.specs.Naming.Naming.{IsInScope}
+use Rattle.c_lower_worlds.specs.Naming.Functions.{IsFunction}
 
 -- all that a statement is begun with
 pub record Begins (p : Program) (f : Func) (fuel : ℕ) (s : source.Frame) (w : source.World)

@@ -5,13 +5,12 @@ ghost use Rattle.vlt_core.specs.View as view;
 ghost use Rattle.c_syntax.specs.View.{program_of};
 ghost use Rattle.c_lower.specs.Lowering.{lowered};
 ghost use Rattle.c_lower_exprs.specs.Scopes.{AreTables};
-ghost use Rattle.c_lower_glue.specs.ManyCases.{gives_many_cases};
+ghost use Rattle.c_lower_program.specs.Glue.ManyCases.{gives_many_cases};
 ghost use Rattle.c_match.specs.Whole.{whole_of};
 
 use crate::same::same_funcs;
-use c_lower_code::lower_bodies;
 use c_lower_exprs::{ProgramTables, name_of};
-use c_lower_glue::lower_externals;
+use c_lower_program::{lower_bodies, lower_externals};
 use c_syntax::{CFunc, CProgram};
 use std::alloc::Global;
 use vlt_base::{Items, Memory};

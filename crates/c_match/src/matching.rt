@@ -5,7 +5,7 @@ ghost use Rattle.vlt_core.specs.View as view;
 ghost use Rattle.c_syntax.specs.View.{program_of};
 ghost use Rattle.c_lower.specs.Lowering.{lowered};
 ghost use Rattle.c_lower_exprs.specs.Scopes.{AreTables};
-ghost use Rattle.c_lower_glue.specs.ManyCases.{gives_many_cases};
+ghost use Rattle.c_lower_program.specs.Glue.ManyCases.{gives_many_cases};
 ghost use Rattle.c_match.specs.Apart.{IsApartAt};
 ghost use Rattle.c_match.specs.Refusals.{Refuses};
 ghost use Rattle.c_match.specs.Whole.{whole_of};

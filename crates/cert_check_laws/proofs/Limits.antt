@@ -16,7 +16,7 @@ use Rattle.cert_fit_laws.specs.Formed.{IsFormed}
 use Rattle.cert_fit_laws.proofs.Masked.{AreMasked}
 use Rattle.cert_fit_laws.proofs.NarrowNumbers.{Bounds}
 use Rattle.cert_fit_laws.proofs.Tables.{sets_there}
-use Rattle.cert_least_bodies.proofs.Typed.{types_of_vars}
+use Rattle.cert_least_laws.proofs.OfBodies.Typed.{types_of_vars}
 use Rattle.cert_check_laws.proofs.Sets.{few_states, HasSaid}
 use Rattle.cert_check_laws.proofs.Entries.{said_entry}
 use Rattle.cert_check_laws.proofs.KnownRows.{side_said}

@@ -16,7 +16,7 @@ use Rattle.vlt_core.specs.View.{program_of}
 use Rattle.vlt_core.specs.declared.program.Program.{Program as CodeProgram}
 use Rattle.vlt_core_laws.proofs.Unbroken.{some_not_none, some_same}
 use Rattle.cert_format.specs.Bounds.{is_state_of, is_bound_known, are_bounds_known}
-use Rattle.cert_least_bodies.proofs.Masking.{narrow_mask}
+use Rattle.cert_least_laws.proofs.OfBodies.Masking.{narrow_mask}
 use Rattle.cert_rows.specs.Values.{mask_of, mask}
 use Rattle.cert_fit_laws.specs.Formed.{IsFormed}
 use Rattle.cert_fit_laws.proofs.CodeSets.{owned_has, after_has, before_has, listed_has}

@@ -9,8 +9,8 @@ use Rattle.vlt_flow.specs.Unfit as walk
 use Rattle.vlt_flow.specs.Notes.Noted.{IsUnnoted}
 use Rattle.vlt_flow.specs.declared.errors.Stop.{Stop}
 use Rattle.vlt_flow.specs.declared.errors.Stop.TheVariants as stop
-use Rattle.cert_decl_values.specs.declared.names.Unwritten.{Unwritten}
-use Rattle.cert_decl_values.specs.declared.names.Unwritten.TheVariants as unwritten
+use Rattle.cert_values.specs.declared.declarations.names.Unwritten.{Unwritten}
+use Rattle.cert_values.specs.declared.declarations.names.Unwritten.TheVariants as unwritten
 use Rattle.cert_emit.specs.declared.errors.CertificateError.{CertificateError}
 use Rattle.cert_emit.specs.declared.errors.CertificateError.TheVariants.{Refused, Unfit, Name, Memory}
 

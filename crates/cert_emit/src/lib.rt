@@ -5,7 +5,7 @@
 
 ghost use Rattle.std.specs.Prelude.{IfOk};
 ghost use Rattle.vlt_core.specs.View.{program_of};
-ghost use Rattle.cert_decl_values.specs.Names.{HasTextNames};
+ghost use Rattle.cert_values.specs.Declarations.Names.{HasTextNames};
 ghost use Rattle.cert_text_laws.specs.Texts.{IsProgramOfTexts};
 ghost use Rattle.cert_emit.specs.Causes.{IfError, HasRefused, HasUnfit};
 ghost use Rattle.cert_emit.specs.Certificates.{IsLeastText};

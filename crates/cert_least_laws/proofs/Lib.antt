@@ -7,3 +7,4 @@ pub mod OneCertificate
 pub mod Holding
 pub mod Completing
 pub mod Unplaced
+pub mod OfBodies

@@ -1,2 +1,3 @@
 pub mod LeastNotes
 pub mod Laws
+pub mod Bodies

@@ -23,7 +23,7 @@ use Rattle.cert_fit_laws.proofs.Named.{read}
 use Rattle.cert_values.specs.Heads.{token_status_of, listed_map}
 use Rattle.cert_write.specs.Notes.{number_of, note_at, around_in, behind_in, maps_in}
 use Rattle.cert_least_laws.proofs.Origins.{IsCount}
-use Rattle.cert_least_bodies.proofs.Making.{maps_fit}
+use Rattle.cert_least_laws.proofs.OfBodies.Making.{maps_fit}
 use Rattle.vlt_core.specs.Least.{Noted, a_loop, a_join}
 use Rattle.vlt_core.specs.declared.notes.Annotation.{Annotation}
 

@@ -2,7 +2,7 @@
 use Rattle.std.proofs.Common.{Option, Some, None, IfSome}
 use Rattle.vlt_core.specs.Core.{States, Program}
 use Rattle.vlt_resolve_laws.specs.Narrow.{IsNarrowSet, HasNarrowStates}
-use Rattle.cert_least_bodies.specs.Narrow.{IsNarrow, HasNarrow}
+use Rattle.cert_least_laws.specs.Bodies.Narrow.{IsNarrow, HasNarrow}
 
 side : (o : Option States) → IfSome o IsNarrowSet → IfSome o IsNarrow
 side None h = tt

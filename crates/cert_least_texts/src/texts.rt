@@ -4,9 +4,8 @@ ghost use Rattle.cert_least_texts.specs.Texts.{AcceptedTextsHaveOne, ElaboratedP
 
 use cert_fit_laws::limited_programs_fit;
 use cert_format_laws::{certificates_are_written, places_dont_count, texts_have_one_reading};
-use cert_least_bodies::accepted_programs_have_one;
 use cert_least_laws::{
-    least_certificates_are_complete, least_certificates_are_local,
+    accepted_programs_have_one, least_certificates_are_complete, least_certificates_are_local,
     least_certificates_have_no_places,
 };
 use cert_text_laws::texts_are_limited;

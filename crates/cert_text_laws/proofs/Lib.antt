@@ -15,3 +15,5 @@ pub mod Functions
 pub mod Main
 pub mod Limited
 pub mod NarrowHeads
+pub mod OfLinked
+pub mod OfJsonNames

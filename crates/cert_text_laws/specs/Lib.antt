@@ -1,2 +1,4 @@
 pub mod Texts
 pub mod Fit
+pub mod Linked
+pub mod JsonNames

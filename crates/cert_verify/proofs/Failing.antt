@@ -16,7 +16,7 @@ use Rattle.c_syntax.specs.Reading.{IsCProgramOf}
 use Rattle.c_reader.specs.Reads as c_reads
 use Rattle.c_reader.specs.declared.error.CError.{CError}
 use Rattle.c_reader.specs.declared.error.CError.TheVariants as c_error
-use Rattle.c_lower_glue.specs.ManyCases.{has_many_cases, gives_many_cases}
+use Rattle.c_lower_program.specs.Glue.ManyCases.{has_many_cases, gives_many_cases}
 use Rattle.c_match.specs.Refusals as match_refusals
 use Rattle.c_match.specs.declared.error.MatchError.{MatchError}
 use Rattle.c_match.specs.declared.error.MatchError.TheVariants as match_error

@@ -13,7 +13,7 @@ use Rattle.cert_fit_laws.specs.Limits.{IsLimitedSet, IsLimitedCase, IsLimitedTyp
 use Rattle.cert_fit_laws.proofs.Listed.{all_at}
 use Rattle.cert_fit_laws.proofs.Masked.{IsMaskedFunc}
 use Rattle.cert_fit_laws.proofs.MaskedCode.{code_masked}
-use Rattle.cert_least_bodies.proofs.Programs.{few_fields, few_cases, few_functions}
+use Rattle.cert_least_laws.proofs.OfBodies.Programs.{few_fields, few_cases, few_functions}
 use Rattle.cert_check_laws.proofs.Limits.{has_flow, has_start}
 use Rattle.cert_check_laws.proofs.Sets.{said}
 use Rattle.cert_verify_laws.specs.Causes.{HasFlows}

@@ -5,7 +5,7 @@ use Rattle.vlt_core.specs.Derives.{IsAccepted}
 use Rattle.vlt_core.specs.Instances.{instance, IsOrigin}
 use Rattle.vlt_rows.specs.Unfit.{HasNoFlow}
 use Rattle.vlt_flow.specs.Unfit.{HasNoStart}
-use Rattle.cert_decl_values.specs.Names.{HasTextNames}
+use Rattle.cert_values.specs.Declarations.Names.{HasTextNames}
 use Rattle.cert_text_laws.specs.Texts.{IsProgramOfTexts}
 use Rattle.cert_emit.specs.Causes.{HasRefused, HasUnfit}
 

@@ -3,9 +3,8 @@
 ghost use Rattle.cert_verify_laws.specs.Causes.{AcceptedTextsCanBeCertified, TextsHaveFlows};
 
 use crate::codes::texts_are_of_code;
-use cert_json_names::texts_have_text_names;
-use cert_least_bodies::accepted_bodies_have_notes;
-use cert_text_laws::{texts_are_limited, texts_have_few_statements};
+use cert_least_laws::accepted_bodies_have_notes;
+use cert_text_laws::{texts_are_limited, texts_have_few_statements, texts_have_text_names};
 use vlt_resolve_laws::elaborated_programs_have_narrow_states;
 use vlt_verdict::programs_are_fit;
 

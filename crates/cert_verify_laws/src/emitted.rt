@@ -5,9 +5,9 @@ ghost use Rattle.cert_verify_laws.specs.Emitted.{LeastCertificatesFit, EmittedFi
 use crate::codes::texts_are_of_code;
 use c_lower_printed::accepted_texts_are_read_again;
 use cert_format_laws::certificates_are_written;
-use cert_json_laws::{compact_texts_are_read_back, names_stay_without_places};
-use cert_json_names::texts_have_text_names;
 use cert_least_texts::least_certificates_verify;
+use cert_text_laws::texts_have_text_names;
+use cert_write::{compact_texts_are_read_back, names_stay_without_places};
 
 /// The least certificate of each text's program fits the format and verifies.
 pub fn least_certificates_fit()

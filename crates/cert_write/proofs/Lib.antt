@@ -11,3 +11,4 @@ pub mod Tables
 pub mod Certified
 pub mod Same
 pub mod Whole
+pub mod OfJsonLaws

@@ -20,7 +20,7 @@ use Rattle.cert_values.specs.Laid.{natural_token, below_token, laid, items_laid,
 use Rattle.cert_values.specs.Texts.{AreFine}
 use Rattle.cert_values.proofs.Fine.{fine_parts, natural_small, natural_is, below_small, below_is}
 use Rattle.cert_values.proofs.Each.{each_append, each_closed}
-use Rattle.cert_json_laws.proofs.Readable.{IsReadable, AreReadable, order, reads_back, utf8}
+use Rattle.cert_write.proofs.OfJsonLaws.Readable.{IsReadable, AreReadable, order, reads_back, utf8}
 use Rattle.cert_write.specs.Texts.{IsTextOfRows}
 use Rattle.cert_write.specs.Rows.{sets_data, types_data, fns_data, rows_data, AreExact}
 use Rattle.cert_write.proofs.ExactRows.{shallow}

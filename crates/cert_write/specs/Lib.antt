@@ -1,3 +1,4 @@
 pub mod Notes
 pub mod Texts
 pub mod Rows
+pub mod JsonLaws

@@ -19,7 +19,7 @@ use Rattle.vlt_verdict.specs.Verdicts.{Verdict, refused, faulty, accepted, IsVer
 use Rattle.c_syntax.specs.C as c
 use Rattle.c_syntax.specs.Canonical.{canonical_text}
 use Rattle.c_lower.specs.Lowering.{lowered}
-use Rattle.c_lower_glue.specs.ManyCases.{has_many_cases, gives_many_cases}
+use Rattle.c_lower_program.specs.Glue.ManyCases.{has_many_cases, gives_many_cases}
 use Rattle.c_lower_program.specs.Refusals.{Refuses}
 use Rattle.c_lower_program.specs.declared.error.LowerError.{LowerError}
 use Rattle.c_lower_program.specs.declared.error.LowerError.TheVariants as error

@@ -19,10 +19,10 @@ use Rattle.vlt_host_meaning.specs.HostRun.{HostOutcome, ended, bad_call, HostRan
 use Rattle.vlt_host_laws.specs.Promise.{is_host_fault, NeverGoesWrongForHosts}
 use Rattle.vlt_host.specs.declared.error.CallsError.{CallsError}
 use Rattle.vlt_host.specs.declared.error.CallsError.TheVariants as calls_error
-use Rattle.vlt_host_runs.specs.Ends as ends
-use Rattle.vlt_host_runs.specs.Ends.{IsTooWideForHost, host_outcome_of, EndsGiven, EndsAs}
-use Rattle.vlt_host_runs.specs.declared.stop.HostStop.{HostStop}
-use Rattle.vlt_host_runs.specs.declared.stop.HostStop.TheVariants as host
+use Rattle.vlt_host.specs.Runs.Ends as ends
+use Rattle.vlt_host.specs.Runs.Ends.{IsTooWideForHost, host_outcome_of, EndsGiven, EndsAs}
+use Rattle.vlt_host.specs.declared.runs.stop.HostStop.{HostStop}
+use Rattle.vlt_host.specs.declared.runs.stop.HostStop.TheVariants as host
 use Rattle.vaultc_core.specs.declared.status.TheConstants.{UNREAD, SINK_FAILED, NO_MEMORY}
 use Rattle.vaultc_core.specs.Finishes.{Finishes}
 use Rattle.vaultc_core.specs.Lines.{Reply, over_reply, numbers_reply, behind}

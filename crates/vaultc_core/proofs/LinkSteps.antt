@@ -9,7 +9,7 @@ use Rattle.vlt_verdict.specs.FitLaws.Fit.{ProgramsAreFit}
 use Rattle.vlt_verdict.proofs.Single.{fit_program}
 use Rattle.vlt_link_laws.specs.Link.{IsAcceptedText}
 use Rattle.vlt_view_verdict.specs.Link.{AcceptedModulesLink}
-use Rattle.cert_link_laws.specs.Link.{JoinedProgramsAreOfTexts}
+use Rattle.cert_text_laws.specs.Linked.Link.{JoinedProgramsAreOfTexts}
 use Rattle.vaultc_core.specs.declared.modules.Parsed.{Parsed}
 use Rattle.vaultc_core.specs.Compilable.{IsCompilable}
 use Rattle.vaultc_core.specs.Emitted.{IsEmitted}

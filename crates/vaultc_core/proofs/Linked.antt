@@ -10,7 +10,7 @@ use Rattle.vlt_verdict.specs.FitLaws.Texts.{TextsHaveTextTrees}
 use Rattle.vlt_view_verdict.specs.Link.{IsAcceptedWith, AcceptedModulesLink}
 use Rattle.c_lower_accepted.specs.Texts.{IsAcceptedTree}
 use Rattle.cert_text_laws.specs.Texts.{IsProgramOfTexts}
-use Rattle.cert_link_laws.specs.Link.{IsTreeOfText, JoinedProgramsAreOfTexts}
+use Rattle.cert_text_laws.specs.Linked.Link.{IsTreeOfText, JoinedProgramsAreOfTexts}
 use Rattle.vaultc_core.specs.Texts.{IsTextOf}
 use Rattle.vaultc_core.proofs.Read.{text_tree}
 

@@ -13,7 +13,7 @@ use Rattle.vlt_sound.specs.Promise.{NeverGoesWrong}
 use Rattle.vlt_sound.specs.Narrow.{HasNarrowHeads}
 use Rattle.vlt_sound.specs.Sizes.{HasSizes}
 use Rattle.vlt_syntax.specs.Tree.{Tree}
-use Rattle.vlt_host_machine.specs.Callable.{IsCallable}
+use Rattle.vlt_host.specs.Machine.Callable.{IsCallable}
 use Rattle.vlt_host_laws.specs.Promise.{NeverGoesWrongForHosts}
 use Rattle.vaultc_core.specs.Callable.{IsRunnableForHosts}
 use Rattle.vlt_interp.specs.Tasks.Own.{HasOwn}

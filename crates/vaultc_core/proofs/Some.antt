@@ -18,8 +18,8 @@ use Rattle.vlt_host_meaning.specs.Calls.{HostCall}
 use Rattle.vlt_host_meaning.specs.HostRun.{HostRan, host_run}
 use Rattle.vlt_host.specs.CallsFile.{calls_of}
 use Rattle.vlt_host_laws.specs.Promise.{is_host_fault, NeverGoesWrongForHosts}
-use Rattle.vlt_host_machine.specs.Callable.{slots_needed_by_host}
-use Rattle.vlt_host_runs.specs.Ends.{IsTooWideForHost}
+use Rattle.vlt_host.specs.Machine.Callable.{slots_needed_by_host}
+use Rattle.vlt_host.specs.Runs.Ends.{IsTooWideForHost}
 use Rattle.vlt_meaning.specs.World.{Ran, is_fault, event_text}
 use Rattle.vlt_interp.specs.Runs.Ends.{IsTooWide}
 use Rattle.vlt_sound.specs.Promise.{NeverGoesWrong}

@@ -3,7 +3,7 @@ use Rattle.std.specs.Prelude.{◌≡◌, false}
 use Rattle.vlt_core.specs.Core.{Program}
 use Rattle.vlt_core.specs.Derives.{IsAccepted}
 use Rattle.vlt_core_laws.specs.Fit.{IsWellFormed}
-use Rattle.c_lower_glue.specs.ManyCases.{gives_many_cases}
+use Rattle.c_lower_program.specs.Glue.ManyCases.{gives_many_cases}
 use Rattle.cert_text_laws.specs.Texts.{IsProgramOfTexts}
 
 -- The program is that of texts and follows all rules; what else is asked of it follows.

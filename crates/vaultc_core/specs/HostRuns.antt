@@ -7,8 +7,8 @@ use Rattle.vlt_core.specs.Core.{Program}
 use Rattle.vlt_numbers.specs.Given.Given.{Given, numbers, bad_input, bad_answers}
 use Rattle.vlt_host_meaning.specs.Calls.{HostCall}
 use Rattle.vlt_host_meaning.specs.HostRun.{HostOutcome, ended, bad_call, HostRan, host_run}
-use Rattle.vlt_host_runs.specs.Ends.{IsTooWideForHost, host_outcome_of}
-use Rattle.vlt_host_runs.specs.declared.stop.HostStop.{HostStop}
+use Rattle.vlt_host.specs.Runs.Ends.{IsTooWideForHost, host_outcome_of}
+use Rattle.vlt_host.specs.declared.runs.stop.HostStop.{HostStop}
 use Rattle.vaultc_core.specs.declared.status.TheConstants.{OUT_OF_NUMBERS}
 use Rattle.vaultc_core.specs.Lines.{Reply, reply, over_reply, numbers_reply, bad_call_line, behind}
 use Rattle.vaultc_core.specs.Runs.{last_of}

@@ -32,8 +32,8 @@ use Rattle.vlt_numbers.specs.Given.Given.{Given}
 use Rattle.vlt_host.specs.CallsFile.{calls_of}
 use Rattle.vlt_host.specs.declared.error.CallsError.{CallsError}
 use Rattle.vlt_host.specs.declared.error.CallsError.TheVariants as calls_error
-use Rattle.vlt_host_runs.specs.declared.stop.HostStop.{HostStop}
-use Rattle.vlt_host_runs.specs.declared.stop.HostStop.TheVariants as host
+use Rattle.vlt_host.specs.declared.runs.stop.HostStop.{HostStop}
+use Rattle.vlt_host.specs.declared.runs.stop.HostStop.TheVariants as host
 use Rattle.c_interp.specs.declared.stop.CStop.{CStop}
 use Rattle.c_interp.specs.declared.stop.CStop.TheVariants.{Stopped}
 use Rattle.c_reader.specs.Reads.{IsUnread, IsWithin}

@@ -41,9 +41,11 @@ use std::alloc::{AllocError, Global};
 use vlt_base::{Budgets, C_BYTES, SOURCE_BYTES};
 use vlt_core::Program;
 use vlt_host_laws::hosts_of_accepted_programs_go_right;
-use vlt_host_run_laws::accepted_programs_are_callable;
 use vlt_io::{Sink, Store};
-use vlt_run_laws::{accepted_programs_know_their_calls, kinded_programs_name_their_own};
+use vlt_run_laws::{
+    accepted_programs_are_callable, accepted_programs_know_their_calls,
+    kinded_programs_name_their_own,
+};
 use vlt_sound::accepted_programs_go_right;
 use vlt_syntax::Tree;
 use vlt_verdict::{Verdict, judge, programs_are_fit};

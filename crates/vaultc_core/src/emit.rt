@@ -10,7 +10,7 @@ ghost use Rattle.vlt_verdict.specs.Seen.{IsSeenAs, IsTellable};
 ghost use Rattle.vlt_verdict.specs.declared.Verdict.TheVariants.{Accepted};
 ghost use Rattle.c_syntax.specs.Canonical.{canonical_text};
 ghost use Rattle.c_syntax.specs.View as c;
-ghost use Rattle.c_lower_glue.specs.ManyCases.{gives_many_cases};
+ghost use Rattle.c_lower_program.specs.Glue.ManyCases.{gives_many_cases};
 ghost use Rattle.c_lower_program.specs.Refusals.{Refuses};
 ghost use Rattle.vaultc_core.specs.declared.status.TheConstants.{DONE};
 ghost use Rattle.vaultc_core.specs.Lines as l;

@@ -19,8 +19,7 @@ use crate::write::finish_reply;
 use std::alloc::Global;
 use vlt_base::{Budgets, VALUE_SLOTS};
 use vlt_core::Program;
-use vlt_host::{CallsError, read_calls};
-use vlt_host_runs::{HostStop, run_for_host};
+use vlt_host::{CallsError, HostStop, read_calls, run_for_host};
 use vlt_io::Sink;
 use vlt_steps::RunEnd;
 

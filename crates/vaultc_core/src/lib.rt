@@ -47,7 +47,7 @@ use c_lower_printed::accepted_texts_are_read_again;
 use c_reader_laws::texts_are_read_in_one_way;
 use cert_least_laws::least_certificates_are_one;
 use cert_least_texts::accepted_texts_have_one;
-use cert_link_laws::joined_programs_are_of_texts;
+use cert_text_laws::joined_programs_are_of_texts;
 use cert_verify::texts_verify_in_one_way;
 use cert_verify_laws::{
     c_files_verify_in_some_way, emitted_files_verify, verified_files_keep_their_promise,

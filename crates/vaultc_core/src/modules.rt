@@ -25,7 +25,7 @@ use crate::lines::{in_file, over_limit, refusal};
 use crate::reply::Reply;
 use crate::source::read_tree;
 use crate::status::{DONE, NO_PROGRAM, NOT_ACCEPTED};
-use cert_link_laws::joined_programs_are_of_texts;
+use cert_text_laws::joined_programs_are_of_texts;
 use std::alloc::{AllocError, Global};
 use vlt_core::{FlowFault, Program};
 use vlt_iface::{IfaceError, RAISE, View, join_modules, view_of};

@@ -1,2 +1,4 @@
 pub mod CallsFile
 pub mod Pushed
+pub mod Machine
+pub mod Runs

@@ -1,6 +1,7 @@
-//! Calls files: bytes go in, a host's calls come out, or the first bad line.
+//! Runs for a host. Calls files: bytes go in, a host's calls come out, or the first bad line.
 //! Read `specs/CallsFile.antt` first: what a file says.
 //! Used by: the command `host` of `vaultc`.
+//! Its parts: `machine` is what a host calls, in any order; `runs` does the calls of a file.
 #![tactic(auto)]
 
 ghost use Rattle.std.specs.Prelude.{◌≡◌, ℕ, ◌-◌, ◌^◌, ◌<◌, length, IfOk, Ok, Err};
@@ -9,10 +10,14 @@ ghost use Rattle.vlt_host.specs.CallsFile.{calls_of};
 
 mod error;
 mod lines;
+mod machine;
+mod runs;
 mod words;
 
 pub use error::CallsError;
 use lines::push_call;
+pub use machine::HostValue;
+pub use runs::{HostStop, run_calls, run_for_host};
 use std::alloc::Global;
 use vlt_host_meaning::Calls;
 use vlt_numbers::cut;

@@ -27,9 +27,9 @@ use Rattle.vlt_acts.proofs.OfFrames.Callees.{value_in}
 use Rattle.vlt_host_meaning.specs.Calls.{Argument, number, object, value_of_argument}
 use Rattle.vlt_host_meaning.specs.HostFrame.{holds_in, host_holds, host_key, host_frame}
 use Rattle.vlt_host_meaning.specs.Permitted.{argument_fits, arguments_fit, argument_binding, argument_bindings, object_of_key, or_unused, host_keys}
-use Rattle.vlt_permits.specs.declared.hosted.Hosted.{Hosted}
-use Rattle.vlt_permits.specs.Hosted.{ShowsHosted}
-use Rattle.vlt_permits.proofs.Seen.{seen}
+use Rattle.vlt_host_acts.specs.declared.permits.hosted.Hosted.{Hosted}
+use Rattle.vlt_host_acts.specs.Permits.Hosted.{ShowsHosted}
+use Rattle.vlt_host_acts.proofs.OfPermits.Seen.{seen}
 use Rattle.vlt_host_acts.specs.Frames.{part_of_argument, AreKeysSet}
 
 pub both : (a b : Bool) → (a && b) ≡ true → (a ≡ true) × (b ≡ true)

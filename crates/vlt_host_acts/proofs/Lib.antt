@@ -1,3 +1,4 @@
 pub mod Called
 pub mod Taking
 pub mod Texts
+pub mod OfPermits

@@ -6,8 +6,8 @@ use Rattle.vlt_core.specs.KindedHeads.{has}
 use Rattle.vlt_meaning.specs.Calls.{Binding}
 use Rattle.vlt_meaning.specs.Externals.{is_taken}
 use Rattle.vlt_host_meaning.specs.Permitted.{object_of_key, is_that_object}
-use Rattle.vlt_permits.specs.Numbers.{without_number}
-use Rattle.vlt_permits.proofs.Numbers.{has_without}
+use Rattle.vlt_host_acts.specs.Permits.Numbers.{without_number}
+use Rattle.vlt_host_acts.proofs.OfPermits.Numbers.{has_without}
 use Rattle.vlt_host_acts.specs.Clause.{takes_object}
 
 keeps_all : (b : Bool) → b ≡ (b && not false)

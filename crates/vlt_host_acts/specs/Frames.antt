@@ -10,8 +10,8 @@ use Rattle.vlt_acts.specs.Values.Shown.{ShowsFrame, key_at}
 use Rattle.vlt_host_meaning.specs.Calls.{Argument, number, object, value_of_argument}
 use Rattle.vlt_host_meaning.specs.HostFrame.{host_frame}
 use Rattle.vlt_host_meaning.specs.Permitted.{arguments_fit, host_keys}
-use Rattle.vlt_permits.specs.declared.hosted.Hosted.{Hosted}
-use Rattle.vlt_permits.specs.Hosted.{ShowsHosted}
+use Rattle.vlt_host_acts.specs.declared.permits.hosted.Hosted.{Hosted}
+use Rattle.vlt_host_acts.specs.Permits.Hosted.{ShowsHosted}
 
 -- the frame of the function is shown, of whatever objects in which the arguments fit
 abbrev pub ShowsCalled : Hosted → Func → List Argument → Values → Type 0

@@ -5,13 +5,13 @@ ghost use Rattle.std.specs.List.{list_any};
 ghost use Rattle.vlt_core.specs.KindedHeads.{has};
 ghost use Rattle.vlt_core.specs.View.{entry_of};
 ghost use Rattle.vlt_meaning.specs.Externals.{is_taken};
-ghost use Rattle.vlt_permits.specs.Arguments.{bindings_in};
-ghost use Rattle.vlt_permits.specs.Held.{IsSound, numbers_in, room_in};
+ghost use Rattle.vlt_host_acts.specs.Permits.Arguments.{bindings_in};
+ghost use Rattle.vlt_host_acts.specs.Permits.Held.{IsSound, numbers_in, room_in};
 ghost use Rattle.vlt_host_acts.specs.Clause.{takes_object};
 
+use crate::permits::{Held, object_of_key};
 use vlt_core::{Entry, Mode, VarDecl};
 use vlt_host_meaning::HostArg;
-use vlt_permits::{Held, object_of_key};
 
 /// Whether the entry's object stays with the function.
 fn is_taken(e: Entry) -> bool

@@ -13,15 +13,15 @@ ghost use Rattle.vlt_host_meaning.specs.Calls.{value_of_argument};
 ghost use Rattle.vlt_host_meaning.specs.Tables.{argument_of};
 ghost use Rattle.vlt_host_meaning.specs.HostFrame.{host_holds};
 ghost use Rattle.vlt_host_meaning.specs.Permitted.{argument_fits, arguments_fit, argument_binding, object_of_key};
-ghost use Rattle.vlt_permits.specs.Arguments.{types_in, bindings_in};
-ghost use Rattle.vlt_permits.specs.Hosted.{ShowsHosted, IsHosted};
+ghost use Rattle.vlt_host_acts.specs.Permits.Arguments.{types_in, bindings_in};
+ghost use Rattle.vlt_host_acts.specs.Permits.Hosted.{ShowsHosted, IsHosted};
 ghost use Rattle.vlt_host_acts.specs.Frames.{ShowsCalled, part_of_argument, AreKeysSet};
 
+use crate::permits::{Hosted, parameters, position};
 use vlt_acts::Values;
 use vlt_core::{Func, Ty, VarDecl};
 use vlt_heap::Slot;
 use vlt_host_meaning::HostArg;
-use vlt_permits::{Hosted, parameters, position};
 
 /// A slot that goes to the object of this number, if the host holds it.
 fn object_slot(hosted: &Hosted, number: u64) -> Slot

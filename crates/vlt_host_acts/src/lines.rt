@@ -10,10 +10,10 @@ ghost use Rattle.vlt_host_meaning.specs.Lines.{call_line, result_line};
 ghost use Rattle.vlt_host_acts.specs.Lines.{begins_with};
 ghost use Rattle.vlt_host_acts.specs.Values.{value_of};
 
+use crate::permits::position;
 use crate::values::HostValue;
 use vlt_host_meaning::HostArg;
 use vlt_io::{Sink, SinkFailed};
-use vlt_permits::position;
 use vlt_steps::lines::end;
 use vlt_steps::{begin, tell_number, tell_object};
 

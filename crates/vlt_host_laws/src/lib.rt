@@ -1,6 +1,6 @@
 //! Laws on hosts that call a program's functions: nothing goes in and nothing comes out.
 //! Read `specs/Promise.antt` first: what is promised of programs that break no rule.
-//! Used by: `vlt_host_machine`, `vlt_host_run_laws` and the command `host`.
+//! Used by: `vlt_host::machine`, `vlt_run_laws::host` and the command `host`.
 #![tactic(auto)]
 
 ghost use Rattle.vlt_core.specs.Core.{Program};

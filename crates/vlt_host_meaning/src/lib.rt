@@ -1,6 +1,6 @@
 //! Hosts that call a program's functions: budgets, input, answers and a list of calls, to a text and an outcome; no code runs.
 //! Read `specs/HostRun.antt` last: the modules of `specs/Lib.antt` are in reading order.
-//! Used by: the law that no host makes an accepted program go wrong, the test of calls (`vlt_permits`), and the reader of calls files.
+//! Used by: the law that no host makes an accepted program go wrong, the test of calls (`vlt_host_acts::permits`), and the reader of calls files.
 #![tactic(auto)]
 
 mod calls;

@@ -15,9 +15,9 @@ use Rattle.vlt_kinds_types.specs.declared.shapes.Sort.TheVariants as sort
 use Rattle.vlt_kinds_types.specs.declared.shapes.Shape.{Shape}
 use Rattle.vlt_kinds_types.specs.Files.{File, shapes_in, variant_sort, sort_of_cases, lists_keys, owns_payload, leaves_payload_open}
 use Rattle.vlt_kinds_decls.specs.Made.{core_types_in}
-use Rattle.vlt_resolve_moves.specs.Joins.{Joins, befores, afters, counted, at_in, is_type}
-use Rattle.vlt_resolve_moves.proofs.Joins.{Gives, GivesBoth, JoinGives, stands}
-use Rattle.vlt_resolve_moves.proofs.Names.{Kind, a_type, kind_of, IsJoin, AreJoined}
+use Rattle.vlt_link_laws.specs.Moves.Joins.{Joins, befores, afters, counted, at_in, is_type}
+use Rattle.vlt_link_laws.proofs.OfMoves.Joins.{Gives, GivesBoth, JoinGives, stands}
+use Rattle.vlt_link_laws.proofs.OfMoves.Names.{Kind, a_type, kind_of, IsJoin, AreJoined}
 use Rattle.vlt_link_laws.proofs.Fits.{IsGiven, FitsIf, Fits}
 use Rattle.vlt_views.specs.Hidden.{type_name, is_hidden}
 use Rattle.vlt_link_laws.proofs.Parts.{IsSame, Covers}

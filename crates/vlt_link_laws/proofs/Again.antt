@@ -13,7 +13,7 @@ use Rattle.vlt_kinds_types.specs.Names.Globals.{Globals, is_global, decl_name, C
 use Rattle.vlt_kinds_types.specs.Names.Names as nam
 use Rattle.vlt_kinds_types.specs.Names.Refusals.{refuse}
 use Rattle.vlt_iface.specs.View.{gives, with_given, others, view_decls}
-use Rattle.vlt_resolve_moves.proofs.Empty.{cons_not_nil}
+use Rattle.vlt_link_laws.proofs.OfMoves.Empty.{cons_not_nil}
 use Rattle.vlt_link_laws.proofs.Sides.{AreApart}
 use Rattle.vlt_link_laws.proofs.Viewing.{found_is}
 use Rattle.vlt_link_laws.proofs.Apart.{gives_name}

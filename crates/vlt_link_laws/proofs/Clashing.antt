@@ -10,7 +10,7 @@ use Rattle.vlt_syntax_copies.specs.Raised.{raised}
 use Rattle.vlt_iface.specs.declared.places.TheConstants.{RAISE}
 use Rattle.vlt_iface.specs.Clash.{is_among, globals_in, names_in, clashing, decl_bound}
 use Rattle.vlt_iface.proofs.Raising.{texts, same_bound}
-use Rattle.vlt_resolve_moves.proofs.Empty.{cons_not_nil, no_left, no_right}
+use Rattle.vlt_link_laws.proofs.OfMoves.Empty.{cons_not_nil, no_left, no_right}
 use Rattle.vlt_link_laws.proofs.Sides.{AreApart}
 use Rattle.vlt_link_laws.proofs.Given.{each_map}
 use Rattle.vlt_link_laws.proofs.Again.{Text, Other, name_texts, turn}

@@ -9,7 +9,7 @@ use Rattle.vlt_core.specs.Core as core
 use Rattle.vlt_core.specs.Core.{CaseDecl}
 use Rattle.vlt_core.specs.Lookups.{cases_in}
 use Rattle.vlt_core.specs.declared.rules.TheConstants as rule
-use Rattle.vlt_core_moves.specs.Moves.{Moves, moved_ty, moved_case}
+use Rattle.vlt_link_laws.specs.CoreMoves.Moves.{Moves, moved_ty, moved_case}
 use Rattle.vlt_kinds_types.specs.Names.Refusals.{refuse_if, of_each}
 use Rattle.vlt_kinds_types.specs.Names.Along.{along}
 use Rattle.vlt_kinds_types.specs.Files.{shape_named}
@@ -20,10 +20,10 @@ use Rattle.vlt_kinds_heads.specs.Keys.{Keys, keys_of}
 use Rattle.vlt_kinds_heads.specs.Heads.{types_refused, result_type_refused, parameter_refused, head_refused}
 use Rattle.vlt_kinds_heads.specs.Phase.{extern_refused, heads_refused_in}
 use Rattle.vlt_kinds_heads.specs.Externals.{is_wrong_parameter, host_parameter_refused, is_host_payload, has_host_payload, variant_cases, cases_named, is_no_abstract, is_struct, is_wrong_variant, is_wrong_result, lists_position, case_argument_refused, next_position, case_arguments_refused, fitting_refused, arguments_refused, result_arguments_refused, host_ty_refused, host_result_refused, host_entry_refused, external_refused}
-use Rattle.vlt_resolve_moves.specs.Sees.{Sees, moved_wanted}
-use Rattle.vlt_resolve_moves.proofs.Empty.{no_left, no_right, none_of_both, not_broken, quiet}
-use Rattle.vlt_resolve_moves.proofs.Named.{Known, named_known, same_variant}
-use Rattle.vlt_resolve_moves.proofs.Heads.{moved_keys, facts_move, head_keys_move}
+use Rattle.vlt_link_laws.specs.Moves.Sees.{Sees, moved_wanted}
+use Rattle.vlt_link_laws.proofs.OfMoves.Empty.{no_left, no_right, none_of_both, not_broken, quiet}
+use Rattle.vlt_link_laws.proofs.OfMoves.Named.{Known, named_known, same_variant}
+use Rattle.vlt_link_laws.proofs.OfMoves.Heads.{moved_keys, facts_move, head_keys_move}
 use Rattle.vlt_link_laws.proofs.Parts.{IsHosted, Stays, PayloadStays, TyStays, ResultStays, HostStays}
 use Rattle.vlt_link_laws.proofs.Headed.{head_types}
 

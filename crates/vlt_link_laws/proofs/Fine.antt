@@ -4,7 +4,7 @@ use Rattle.vlt_syntax.specs.Tree as s
 use Rattle.vlt_syntax.specs.Tree.{Name, HeaderKey, Decl}
 use Rattle.vlt_core.specs.Core.{Func}
 use Rattle.vlt_core.specs.declared.rules.TheConstants as rule
-use Rattle.vlt_core_moves.specs.Moves.{Moves, moved_func}
+use Rattle.vlt_link_laws.specs.CoreMoves.Moves.{Moves, moved_func}
 use Rattle.vlt_kinds_types.specs.Names.Globals.{is_global}
 use Rattle.vlt_kinds_types.specs.Names.Names as nam
 use Rattle.vlt_kinds_types.specs.Names.Refusals.{refuse}
@@ -14,10 +14,10 @@ use Rattle.vlt_kinds_heads.specs.Heads.{head_refused}
 use Rattle.vlt_kinds_heads.specs.Phase.{extern_refused, heads_refused_in, core_head}
 use Rattle.vlt_kinds.specs.Kinds.{Kinds}
 use Rattle.vlt_resolve.specs.Elaboration.{walk_function}
-use Rattle.vlt_resolve_moves.specs.Sees.{Sees, AreFree}
-use Rattle.vlt_resolve_moves.proofs.Empty.{cons_not_nil, no_left, no_right, none_of_both}
-use Rattle.vlt_resolve_moves.proofs.HeadRules.{head_fine}
-use Rattle.vlt_resolve_moves.proofs.Decls.{SameOwn, struct_fine, variant_fine}
+use Rattle.vlt_link_laws.specs.Moves.Sees.{Sees, AreFree}
+use Rattle.vlt_link_laws.proofs.OfMoves.Empty.{cons_not_nil, no_left, no_right, none_of_both}
+use Rattle.vlt_link_laws.proofs.OfMoves.HeadRules.{head_fine}
+use Rattle.vlt_link_laws.proofs.OfMoves.Decls.{SameOwn, struct_fine, variant_fine}
 use Rattle.vlt_link_laws.proofs.Parts.{IsFreeDecl, IsHosted}
 use Rattle.vlt_link_laws.proofs.Known.{set_fine}
 use Rattle.vlt_link_laws.proofs.Headed.{head_types, extern_head, core_head_moves}

@@ -3,7 +3,7 @@ use Rattle.std.specs.Prelude.{◌≡◌, ◌⊎◌, [], Option, Some, None}
 use Rattle.std.specs.Option.{option_map}
 use Rattle.vlt_syntax.specs.Tree as s
 use Rattle.vlt_syntax.specs.Tree.{Decl}
-use Rattle.vlt_resolve_moves.specs.Joins.{Join}
+use Rattle.vlt_link_laws.specs.Moves.Joins.{Join}
 use Rattle.vlt_link_laws.proofs.Placeless.{placeless_head}
 
 abbrev pub IsGiven : Decl → Decl → Type 0

@@ -31,12 +31,12 @@ use Rattle.vlt_iface.specs.View.{others, view_decls}
 use Rattle.vlt_iface.specs.Rules.{body_refused}
 use Rattle.vlt_iface.specs.Clash.{keys_in, bound_names, block_bound, if_bound, else_bound, stmts_bound, arms_bound, entry_key, entry_variables, result_keys, clause_names, head_bound, decl_bound}
 use Rattle.vlt_iface.proofs.Raising.{texts}
-use Rattle.vlt_resolve_moves.specs.Sees.{IsFree, AreFree}
-use Rattle.vlt_resolve_moves.specs.Apt.{HasArm, IsApt, IsAptBlock, IsAptIf, IsAptElse, IsAptStmts, IsAptArms}
-use Rattle.vlt_resolve_moves.proofs.Empty.{cons_not_nil, no_left, no_right, not_broken}
-use Rattle.vlt_resolve_moves.proofs.Names.{first_in, named}
-use Rattle.vlt_resolve_moves.proofs.Rights.{free_left, free_right}
-use Rattle.vlt_resolve_moves.proofs.HeadRules.{IsFreeHead, IsFreeVariable}
+use Rattle.vlt_link_laws.specs.Moves.Sees.{IsFree, AreFree}
+use Rattle.vlt_link_laws.specs.Moves.Apt.{HasArm, IsApt, IsAptBlock, IsAptIf, IsAptElse, IsAptStmts, IsAptArms}
+use Rattle.vlt_link_laws.proofs.OfMoves.Empty.{cons_not_nil, no_left, no_right, not_broken}
+use Rattle.vlt_link_laws.proofs.OfMoves.Names.{first_in, named}
+use Rattle.vlt_link_laws.proofs.OfMoves.Rights.{free_left, free_right}
+use Rattle.vlt_link_laws.proofs.OfMoves.HeadRules.{IsFreeHead, IsFreeVariable}
 use Rattle.vlt_link_laws.proofs.Parts.{AreFreeNames, IsFreeDecl}
 use Rattle.vlt_link_laws.proofs.Viewing.{further, others_both}
 use Rattle.vlt_link_laws.proofs.Again.{Text, Other, name_texts, view_texts}

@@ -9,7 +9,7 @@ use Rattle.vlt_core.specs.Core as core
 use Rattle.vlt_core.specs.Core.{Ty, Tok, a_key, a_var, KeyDecl, VarDecl, Entry, Func, Form}
 use Rattle.vlt_core.specs.View.{stmts_made}
 use Rattle.vlt_core.specs.declared.rules.TheConstants as rule
-use Rattle.vlt_core_moves.specs.Moves.{Moves, moved_ty, moved_form, moved_stmts, moved_key, moved_var, moved_func}
+use Rattle.vlt_link_laws.specs.CoreMoves.Moves.{Moves, moved_ty, moved_form, moved_stmts, moved_key, moved_var, moved_func}
 use Rattle.vlt_kinds_types.specs.declared.names.found.Refusal.{Refusal}
 use Rattle.vlt_kinds_types.specs.Names.Refusals.{refuse_if, least}
 use Rattle.vlt_kinds.specs.Kinds.{Kinds}
@@ -18,11 +18,11 @@ use Rattle.vlt_resolve_exprs.specs.Scopes.{Scope, with_name}
 use Rattle.vlt_resolve.specs.Walk.Blocks.{block_ends, closing}
 use Rattle.vlt_resolve.specs.Walk.Walk.{then_do, unless_refused, walk_stmts}
 use Rattle.vlt_resolve.specs.Elaboration.{is_fresh_key, with_key_names, with_var_names, nameless_scope, body_scope, body_around, stmts_in, head_refused, end_refused, last_return, func_made, walk_body, walk_function}
-use Rattle.vlt_resolve_moves.specs.Sees.{Sees, moved_scope}
-use Rattle.vlt_resolve_moves.specs.Apt.{IsAptStmts}
-use Rattle.vlt_resolve_moves.specs.Whole.{InRange, AreInRange, IsWhole}
-use Rattle.vlt_resolve_moves.specs.Walks.{moved_walked}
-use Rattle.vlt_resolve_moves.proofs.Walk.{walks_move}
+use Rattle.vlt_link_laws.specs.Moves.Sees.{Sees, moved_scope}
+use Rattle.vlt_link_laws.specs.Moves.Apt.{IsAptStmts}
+use Rattle.vlt_link_laws.specs.Moves.Whole.{InRange, AreInRange, IsWhole}
+use Rattle.vlt_link_laws.specs.Moves.Walks.{moved_walked}
+use Rattle.vlt_link_laws.proofs.OfMoves.Walk.{walks_move}
 
 err_not_ok : {A : Type 0} (r : Refusal) (z : A) → ◌≡◌ {A = Result A Refusal} (Err r) (Ok z) → ⊥
 err_not_ok r z e = cc

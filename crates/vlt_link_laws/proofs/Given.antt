@@ -9,10 +9,10 @@ use Rattle.vlt_base.specs.declared.places.Span.{Span}
 use Rattle.vlt_kinds_types.specs.declared.names.globals.Entity.{Entity}
 use Rattle.vlt_kinds_types.specs.Names.Refusals.{of_each}
 use Rattle.vlt_kinds_types.specs.Names.Globals.{decl_name, Counts, global_of, counts_after}
-use Rattle.vlt_resolve_moves.specs.Joins.{Joins, befores}
-use Rattle.vlt_resolve_moves.proofs.Empty.{no_left, no_right, none_of_both}
-use Rattle.vlt_resolve_moves.proofs.Joins.{Gives, GivesBoth, JoinGives}
-use Rattle.vlt_resolve_moves.proofs.Names.{first_in}
+use Rattle.vlt_link_laws.specs.Moves.Joins.{Joins, befores}
+use Rattle.vlt_link_laws.proofs.OfMoves.Empty.{no_left, no_right, none_of_both}
+use Rattle.vlt_link_laws.proofs.OfMoves.Joins.{Gives, GivesBoth, JoinGives}
+use Rattle.vlt_link_laws.proofs.OfMoves.Names.{first_in}
 use Rattle.vlt_link_laws.proofs.Fits.{IsGiven, FitsIf, Fits}
 
 -- ---- facts of lists

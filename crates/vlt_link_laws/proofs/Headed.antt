@@ -5,19 +5,19 @@ use Rattle.vlt_syntax.specs.Tree.{Head, Decl}
 use Rattle.vlt_syntax.specs.Lists.{Each}
 use Rattle.vlt_core.specs.Core as core
 use Rattle.vlt_core.specs.Core.{TypeDecl, Ty, Entry, KeyDecl, VarDecl, Func}
-use Rattle.vlt_core_moves.specs.Moves.{Moves, moved_func}
+use Rattle.vlt_link_laws.specs.CoreMoves.Moves.{Moves, moved_func}
 use Rattle.vlt_kinds_types.specs.Files.{File, file_of}
 use Rattle.vlt_kinds_decls.specs.Made.{core_types}
 use Rattle.vlt_kinds_heads.specs.Keys.{keys_of}
 use Rattle.vlt_kinds_heads.specs.Heads.{types_refused, head_refused_by, head_refused}
 use Rattle.vlt_kinds_heads.specs.Phase.{extern_refused, heads_refused_in, core_head, core_heads_in, core_heads}
 use Rattle.vlt_kinds.specs.Kinds.{Kinds}
-use Rattle.vlt_resolve_moves.specs.Joins.{Joins, befores, afters, is_function, moves_of}
-use Rattle.vlt_resolve_moves.specs.Sees.{Sees, IsHeadIn}
-use Rattle.vlt_resolve_moves.proofs.Empty.{no_left}
-use Rattle.vlt_resolve_moves.proofs.Joins.{Gives, GivesBoth, JoinGives, stands}
-use Rattle.vlt_resolve_moves.proofs.Names.{AreJoined}
-use Rattle.vlt_resolve_moves.proofs.Heads.{IsMovedHead, head_moves}
+use Rattle.vlt_link_laws.specs.Moves.Joins.{Joins, befores, afters, is_function, moves_of}
+use Rattle.vlt_link_laws.specs.Moves.Sees.{Sees, IsHeadIn}
+use Rattle.vlt_link_laws.proofs.OfMoves.Empty.{no_left}
+use Rattle.vlt_link_laws.proofs.OfMoves.Joins.{Gives, GivesBoth, JoinGives, stands}
+use Rattle.vlt_link_laws.proofs.OfMoves.Names.{AreJoined}
+use Rattle.vlt_link_laws.proofs.OfMoves.Heads.{IsMovedHead, head_moves}
 use Rattle.vlt_link_laws.proofs.Fits.{IsGiven, Fits}
 use Rattle.vlt_link_laws.proofs.Given.{IfSome, given_elim, all_give}
 use Rattle.vlt_link_laws.proofs.Known.{FineDecl}

@@ -10,7 +10,7 @@ use Rattle.vlt_core.specs.Core.{CaseDecl}
 use Rattle.vlt_core.specs.Lookups.{cases_in}
 use Rattle.vlt_core.specs.Types.{is_abstract}
 use Rattle.vlt_core.specs.declared.rules.TheConstants as rule
-use Rattle.vlt_core_moves.specs.Moves.{Moves, moved_ty, moved_case}
+use Rattle.vlt_link_laws.specs.CoreMoves.Moves.{Moves, moved_ty, moved_case}
 use Rattle.vlt_kinds_types.specs.Names.Refusals.{refuse_if, of_each}
 use Rattle.vlt_kinds_types.specs.declared.shapes.Sort.{Sort}
 use Rattle.vlt_kinds_types.specs.declared.shapes.Sort.TheVariants as sort
@@ -22,9 +22,9 @@ use Rattle.vlt_kinds_heads.specs.Keys.{Keys, facts_of, keys_of}
 use Rattle.vlt_kinds_heads.specs.Heads.{types_refused, result_type_refused, head_refused}
 use Rattle.vlt_kinds_heads.specs.Phase.{extern_refused, heads_refused_in}
 use Rattle.vlt_kinds_heads.specs.Externals.{host_parameter_refused, is_host_payload, has_host_payload, cases_named, is_no_abstract, is_struct, is_wrong_variant, is_wrong_result, host_ty_refused, host_result_refused, external_refused}
-use Rattle.vlt_resolve_moves.specs.Sees.{Sees, IsSort}
-use Rattle.vlt_resolve_moves.proofs.Empty.{no_left, no_right, not_broken, not_false}
-use Rattle.vlt_resolve_moves.proofs.Named.{Known, named_known}
+use Rattle.vlt_link_laws.specs.Moves.Sees.{Sees, IsSort}
+use Rattle.vlt_link_laws.proofs.OfMoves.Empty.{no_left, no_right, not_broken, not_false}
+use Rattle.vlt_link_laws.proofs.OfMoves.Named.{Known, named_known}
 use Rattle.vlt_link_laws.proofs.Parts.{Stays, SortStays, PayloadStays, TyStays, ResultStays, HostStays}
 use Rattle.vlt_iface.specs.declared.rules.TheConstants.{ABSTRACT_RESULT}
 use Rattle.vlt_views.specs.Hidden.{is_hidden, hides, case_hides, named_hides, ty_hides, result_hides, own_refused_in}

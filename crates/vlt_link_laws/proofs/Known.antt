@@ -7,7 +7,7 @@ use Rattle.vlt_syntax.specs.Tree.{Name, Named, Ty, HeaderKey, Case, Decl}
 use Rattle.vlt_syntax.specs.Lists.{Each}
 use Rattle.vlt_core.specs.Core.{SetDecl}
 use Rattle.vlt_core.specs.declared.rules.TheConstants as rule
-use Rattle.vlt_core_moves.specs.Moves.{Moves}
+use Rattle.vlt_link_laws.specs.CoreMoves.Moves.{Moves}
 use Rattle.vlt_kinds_types.specs.Names.Globals.{global_in, decl_name}
 use Rattle.vlt_kinds_types.specs.declared.names.globals.Entity.{Entity}
 use Rattle.vlt_kinds_types.specs.declared.names.globals.Entity.TheVariants.{ASet, AType, AFunction}
@@ -18,10 +18,10 @@ use Rattle.vlt_kinds_types.specs.Files.{File, as_type, as_set, type_in, set_in, 
 use Rattle.vlt_kinds_types.specs.Types.{sort_in, ty_refused, named_refused, name_refused, owned_refused, form_refused, ty_place}
 use Rattle.vlt_kinds_decls.specs.declared.parts.Part.TheVariants as part
 use Rattle.vlt_kinds_decls.specs.Decls.{object_refused, key_type_refused, header_refused, typed_refused, struct_refused, variant_refused, case_refused, type_refused}
-use Rattle.vlt_resolve_moves.specs.Joins.{Joins, befores, afters, at_in, is_set, is_type}
-use Rattle.vlt_resolve_moves.specs.Sees.{IsSort, moved_global, moved_wanted}
-use Rattle.vlt_resolve_moves.proofs.Empty.{cons_not_nil, no_left, no_right}
-use Rattle.vlt_resolve_moves.proofs.Joins.{Gives, GivesBoth, JoinGives, stands, stays_past}
+use Rattle.vlt_link_laws.specs.Moves.Joins.{Joins, befores, afters, at_in, is_set, is_type}
+use Rattle.vlt_link_laws.specs.Moves.Sees.{IsSort, moved_global, moved_wanted}
+use Rattle.vlt_link_laws.proofs.OfMoves.Empty.{cons_not_nil, no_left, no_right}
+use Rattle.vlt_link_laws.proofs.OfMoves.Joins.{Gives, GivesBoth, JoinGives, stands, stays_past}
 use Rattle.vlt_link_laws.proofs.Fits.{IsGiven, Fits}
 use Rattle.vlt_link_laws.proofs.Given.{IfSome, given_elim, all_give}
 

@@ -32,3 +32,5 @@ pub mod Kinding
 pub mod Judging
 pub mod Passing
 pub mod Asked
+pub mod OfCoreMoves
+pub mod OfMoves

@@ -9,9 +9,9 @@ use Rattle.vlt_core.specs.Instances.{instance, IsOrigin}
 use Rattle.vlt_core.specs.Derives.{IsAcceptedFunc, IsAccepted}
 use Rattle.vlt_core.specs.Kinded.{function_rows}
 use Rattle.vlt_core_laws.proofs.Unbroken.{each_of_first}
-use Rattle.vlt_core_moves.specs.Keeps.{HasClauseOf, Keeps}
-use Rattle.vlt_core_moves.proofs.Rowed.{rows_know}
-use Rattle.vlt_core_moves.proofs.Flows.{still_accepted}
+use Rattle.vlt_link_laws.specs.CoreMoves.Keeps.{HasClauseOf, Keeps}
+use Rattle.vlt_link_laws.proofs.OfCoreMoves.Rowed.{rows_know}
+use Rattle.vlt_link_laws.proofs.OfCoreMoves.Flows.{still_accepted}
 use Rattle.vlt_kinds_types.specs.Names.Globals.{globals_of}
 use Rattle.vlt_kinds_types.specs.Names.Names as nam
 use Rattle.vlt_kinds_types.specs.Names.Refusals.{of_each}
@@ -21,8 +21,8 @@ use Rattle.vlt_kinds_heads.specs.Phase.{heads_refused_in}
 use Rattle.vlt_kinds.specs.Kinds.{Kinds}
 use Rattle.vlt_kinds.specs.Tables.{kinds_of}
 use Rattle.vlt_resolve.specs.Elaboration.{walk_decls}
-use Rattle.vlt_resolve_moves.specs.Joins.{Joins, befores, afters, moves_of}
-use Rattle.vlt_resolve_moves.specs.Sees.{Sees}
+use Rattle.vlt_link_laws.specs.Moves.Joins.{Joins, befores, afters, moves_of}
+use Rattle.vlt_link_laws.specs.Moves.Sees.{Sees}
 use Rattle.vlt_link_laws.proofs.Given.{IfSome, none_each, each_both, each_map, each_before}
 use Rattle.vlt_link_laws.proofs.Known.{FineDecl}
 use Rattle.vlt_link_laws.proofs.Seen.{own, same_cases, keeps_program}

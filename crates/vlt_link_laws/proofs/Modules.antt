@@ -12,8 +12,8 @@ use Rattle.vlt_syntax_copies.specs.Raised.{raised}
 use Rattle.vlt_iface.specs.declared.places.TheConstants.{RAISE}
 use Rattle.vlt_iface.specs.View.{with_given, others, view_decls, joined}
 use Rattle.vlt_iface.specs.Rules.{given_refused}
-use Rattle.vlt_resolve_moves.specs.Joins.{Joins, befores}
-use Rattle.vlt_resolve_moves.proofs.Names.{first_in, kind_of, IsJoin, AreJoined}
+use Rattle.vlt_link_laws.specs.Moves.Joins.{Joins, befores}
+use Rattle.vlt_link_laws.proofs.OfMoves.Names.{first_in, kind_of, IsJoin, AreJoined}
 use Rattle.vlt_link_laws.proofs.Fits.{IsGiven, FitsIf, Fits}
 use Rattle.vlt_link_laws.proofs.Parts.{IsPart, IsLinked}
 use Rattle.vlt_link_laws.proofs.Sides.{given_joins, same_joins, new_joins, first_joins, second_joins, AreApart, IsApart, IsView}

@@ -6,7 +6,7 @@ use Rattle.vlt_syntax.specs.Lists.{Each}
 use Rattle.vlt_core.specs.Core as core
 use Rattle.vlt_core.specs.Core.{Func, Program}
 use Rattle.vlt_core.specs.Types.{is_abstract}
-use Rattle.vlt_core_moves.specs.Moves.{Moves}
+use Rattle.vlt_link_laws.specs.CoreMoves.Moves.{Moves}
 use Rattle.vlt_core.specs.Derives.{IsAccepted}
 use Rattle.vlt_core.specs.Kinded.{first_broken, function_rows}
 use Rattle.vlt_kinds_types.specs.Names.Globals.{globals_of}
@@ -22,11 +22,11 @@ use Rattle.vlt_kinds_heads.specs.Phase.{heads_refused_in}
 use Rattle.vlt_kinds.specs.Kinds.{Kinds}
 use Rattle.vlt_kinds.specs.Tables.{kinds_of, kinds_told}
 use Rattle.vlt_resolve.specs.Elaboration.{stmts_in, walk_decls, elaborated}
-use Rattle.vlt_resolve_moves.specs.Joins.{Join, Joins, befores, afters, moves_of}
-use Rattle.vlt_resolve_moves.specs.Sees.{AreFree}
-use Rattle.vlt_resolve_moves.specs.Apt.{IsAptStmts}
-use Rattle.vlt_resolve_moves.proofs.Names.{AreJoined}
-use Rattle.vlt_resolve_moves.proofs.HeadRules.{IsFreeHead, IsFreeVariable}
+use Rattle.vlt_link_laws.specs.Moves.Joins.{Join, Joins, befores, afters, moves_of}
+use Rattle.vlt_link_laws.specs.Moves.Sees.{AreFree}
+use Rattle.vlt_link_laws.specs.Moves.Apt.{IsAptStmts}
+use Rattle.vlt_link_laws.proofs.OfMoves.Names.{AreJoined}
+use Rattle.vlt_link_laws.proofs.OfMoves.HeadRules.{IsFreeHead, IsFreeVariable}
 use Rattle.vlt_link_laws.proofs.Fits.{Fits}
 
 -- the names that a head binds are free, and so are the state variables of its clause

@@ -12,7 +12,7 @@ use Rattle.vlt_core.specs.Core.{Func}
 use Rattle.vlt_core.specs.Lookups.{cases_in}
 use Rattle.vlt_core.specs.Derives.{IsAccepted}
 use Rattle.vlt_core.specs.Kinded.{first_broken, function_rows, HasKindedParts}
-use Rattle.vlt_core_moves.specs.Moves.{moved_case}
+use Rattle.vlt_link_laws.specs.CoreMoves.Moves.{moved_case}
 use Rattle.vlt_kinds_types.specs.Names.Globals.{globals_of, decl_name}
 use Rattle.vlt_kinds_types.specs.Names.Names as nam
 use Rattle.vlt_kinds_types.specs.Names.Refusals.{of_each}
@@ -27,8 +27,8 @@ use Rattle.vlt_iface.specs.View.{gives, with_given, others, view_decls, origins_
 use Rattle.vlt_iface.specs.Rules.{body_refused}
 use Rattle.vlt_iface.specs.Clash.{clashing, decl_bound}
 use Rattle.vlt_iface.proofs.Raising.{texts}
-use Rattle.vlt_resolve_moves.specs.Joins.{Joins, befores, afters, moves_of}
-use Rattle.vlt_resolve_moves.specs.Sees.{Sees, IsFree}
+use Rattle.vlt_link_laws.specs.Moves.Joins.{Joins, befores, afters, moves_of}
+use Rattle.vlt_link_laws.specs.Moves.Sees.{Sees, IsFree}
 use Rattle.vlt_views.specs.Hidden.{hidden_names, own_refused_in, own_refused}
 use Rattle.vlt_link_laws.proofs.Parts.{IsFreeDecl, HostStays, IsSame, Covers, IsLinked, program_of}
 use Rattle.vlt_link_laws.proofs.Sides.{first_joins, second_joins, IsApart, IsView}

@@ -6,7 +6,7 @@ use Rattle.vlt_syntax.specs.Tree as s
 use Rattle.vlt_syntax.specs.Tree.{Decl}
 use Rattle.vlt_syntax.specs.Lists.{Each}
 use Rattle.vlt_iface.specs.View.{gives}
-use Rattle.vlt_resolve_moves.specs.Joins.{Join}
+use Rattle.vlt_link_laws.specs.Moves.Joins.{Join}
 use Rattle.vlt_link_laws.proofs.Parts.{IsSame}
 use Rattle.vlt_link_laws.proofs.Sides.{or_else, given_joins, same_joins, new_joins, IsGivenOnce}
 use Rattle.vlt_link_laws.proofs.Viewing.{found_is}

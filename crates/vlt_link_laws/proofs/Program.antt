@@ -14,8 +14,8 @@ use Rattle.vlt_kinds_heads.specs.Phase.{heads_refused_in, heads_refused}
 use Rattle.vlt_kinds.specs.Tables.{kinds_of, unless, heads_told, types_told, kinds_told}
 use Rattle.vlt_resolve.specs.Walk.Walk.{then_do}
 use Rattle.vlt_resolve.specs.Elaboration.{main_of, with_told}
-use Rattle.vlt_resolve_moves.specs.Joins.{Joins, befores, afters}
-use Rattle.vlt_resolve_moves.proofs.Empty.{none_of_both, not_broken, not_false}
+use Rattle.vlt_link_laws.specs.Moves.Joins.{Joins, befores, afters}
+use Rattle.vlt_link_laws.proofs.OfMoves.Empty.{none_of_both, not_broken, not_false}
 use Rattle.vlt_link_laws.proofs.Fits.{IsGiven, FitsIf, Fits}
 use Rattle.vlt_link_laws.proofs.Parts.{IsPart, Covers, IsLinked, program_of}
 use Rattle.vlt_link_laws.proofs.Given.{given_elim}

@@ -6,7 +6,7 @@ use Rattle.vlt_syntax.specs.Tree.{Name, States, KeyStates, Named, Ty, Entry, Res
 use Rattle.vlt_iface.specs.View.{gives}
 use Rattle.vlt_iface.specs.declared.rules.TheConstants.{GIVEN_HEAD, GIVEN_STRUCT}
 use Rattle.vlt_iface.specs.Rules.{same_name, same_each, same_if, same_states, same_key_states, same_named, same_ty, same_entry, same_result, same_parameter, same_head, is_filled, given_refused_by}
-use Rattle.vlt_resolve_moves.proofs.Empty.{not_broken, not_false}
+use Rattle.vlt_link_laws.proofs.OfMoves.Empty.{not_broken, not_false}
 use Rattle.vlt_link_laws.proofs.Placeless.{placeless_span, placeless_name, placeless_names, placeless_states, placeless_key_states, placeless_named, placeless_ty, placeless_entry, placeless_result, placeless_parameter, placeless_head}
 use Rattle.vlt_link_laws.proofs.Fits.{IsGiven}
 

@@ -10,9 +10,9 @@ use Rattle.vlt_kinds_types.specs.Files.{file_of}
 use Rattle.vlt_kinds_decls.specs.Decls.{type_refused}
 use Rattle.vlt_kinds_heads.specs.Phase.{heads_refused_in}
 use Rattle.vlt_kinds.specs.Tables.{kinds_of}
-use Rattle.vlt_resolve_moves.specs.Joins.{Joins, befores, afters, moves_of}
-use Rattle.vlt_resolve_moves.specs.Sees.{Sees}
-use Rattle.vlt_resolve_moves.proofs.Names.{AreJoined, first_in, named}
+use Rattle.vlt_link_laws.specs.Moves.Joins.{Joins, befores, afters, moves_of}
+use Rattle.vlt_link_laws.specs.Moves.Sees.{Sees}
+use Rattle.vlt_link_laws.proofs.OfMoves.Names.{AreJoined, first_in, named}
 use Rattle.std.proofs.lemmas.Slice.Eq.{bytes_eq-Decides}
 use Rattle.vlt_link_laws.proofs.Fits.{Fits}
 use Rattle.vlt_link_laws.proofs.Given.{IfSome, each_none, each_both, each_map, each_before, each_named}

@@ -8,8 +8,8 @@ use Rattle.vlt_core.specs.Core.{Ty, int, bool, tracked, owning, guarded, variant
 use Rattle.vlt_core.specs.Lookups as l
 use Rattle.vlt_core.specs.Lookups.{state_count, count_in, links_in, links_of_type}
 use Rattle.vlt_core.specs.Types.{is_droppable}
-use Rattle.vlt_core_moves.specs.Moves.{Moves, moved_ty, moved_struct, moved_case, moved_variant}
-use Rattle.vlt_core_moves.specs.Keeps.{HasClauseOf, Keeps}
+use Rattle.vlt_link_laws.specs.CoreMoves.Moves.{Moves, moved_ty, moved_struct, moved_case, moved_variant}
+use Rattle.vlt_link_laws.specs.CoreMoves.Keeps.{HasClauseOf, Keeps}
 use Rattle.vlt_kinds_types.specs.Names.Globals.{global_in}
 use Rattle.vlt_kinds_types.specs.declared.names.globals.Entity.{Entity}
 use Rattle.vlt_kinds_types.specs.declared.names.globals.Entity.TheVariants.{ASet, AType, AFunction}
@@ -18,14 +18,14 @@ use Rattle.vlt_kinds_types.specs.declared.shapes.Shape.{Shape}
 use Rattle.vlt_kinds_types.specs.Files.{File, file_of, as_type, shapes_in, then_with, states_in, state_names, shape_at, shape_named, set_in}
 use Rattle.vlt_kinds_decls.specs.Made.{core_types_in, core_types, core_struct, core_variant}
 use Rattle.vlt_kinds.specs.Kinds.{Kinds, declared_program}
-use Rattle.vlt_resolve_moves.specs.Joins.{Joins, befores, afters, is_type, moves_of}
-use Rattle.vlt_resolve_moves.specs.Sees.{Sees, IsShapeIn, IsHeadIn, moved_global}
-use Rattle.vlt_resolve_moves.proofs.Empty.{no_left, no_right}
-use Rattle.vlt_resolve_moves.proofs.Joins.{Gives, GivesBoth, JoinGives, apart, Stands, stands, stays_past}
-use Rattle.vlt_resolve_moves.proofs.Names.{AreJoined, names_are_joined}
-use Rattle.vlt_resolve_moves.proofs.Heads.{shape_states}
-use Rattle.vlt_resolve_moves.proofs.Decls.{SameOwn, struct_moves, variant_moves}
-use Rattle.vlt_core_moves.proofs.Drops.{still_drops, still_drops_value}
+use Rattle.vlt_link_laws.specs.Moves.Joins.{Joins, befores, afters, is_type, moves_of}
+use Rattle.vlt_link_laws.specs.Moves.Sees.{Sees, IsShapeIn, IsHeadIn, moved_global}
+use Rattle.vlt_link_laws.proofs.OfMoves.Empty.{no_left, no_right}
+use Rattle.vlt_link_laws.proofs.OfMoves.Joins.{Gives, GivesBoth, JoinGives, apart, Stands, stands, stays_past}
+use Rattle.vlt_link_laws.proofs.OfMoves.Names.{AreJoined, names_are_joined}
+use Rattle.vlt_link_laws.proofs.OfMoves.Heads.{shape_states}
+use Rattle.vlt_link_laws.proofs.OfMoves.Decls.{SameOwn, struct_moves, variant_moves}
+use Rattle.vlt_link_laws.proofs.OfCoreMoves.Drops.{still_drops, still_drops_value}
 use Rattle.vlt_link_laws.proofs.Fits.{IsGiven, Fits}
 use Rattle.vlt_link_laws.proofs.Given.{IfSome, given_elim, all_give}
 use Rattle.vlt_link_laws.proofs.Known.{FineDecl, ShapeFits, set_moves, new_shapes, self_shapes, given_shapes, same_set_name, same_sets}

@@ -23,8 +23,8 @@ use Rattle.vlt_iface.specs.declared.places.TheConstants.{RAISE}
 use Rattle.vlt_iface.specs.View.{View}
 use Rattle.vlt_iface.specs.Rules as rules
 use Rattle.vlt_iface.specs.Rules.{body_refused, given_refused, view_refused}
-use Rattle.vlt_resolve_moves.proofs.Empty.{no_left, no_right, quiet}
-use Rattle.vlt_resolve_moves.proofs.Walk.{then_ok, least_none, same_ok}
+use Rattle.vlt_link_laws.proofs.OfMoves.Empty.{no_left, no_right, quiet}
+use Rattle.vlt_link_laws.proofs.OfMoves.Walk.{then_ok, least_none, same_ok}
 use Rattle.vlt_link_laws.proofs.Parts.{program_of}
 use Rattle.vlt_views.specs.Hidden.{hidden_names, own_refused}
 use Rattle.vlt_views.specs.Views.{view_heads_refused, view_heads_told, view_types_told, view_names_told, lacks_main, view_elaborated}

@@ -10,8 +10,8 @@ use Rattle.vlt_syntax.specs.Lists.{Each}
 use Rattle.vlt_core.specs.Core.{TypeDecl}
 use Rattle.vlt_kinds_types.specs.Files.{File}
 use Rattle.vlt_iface.specs.View.{gives, with_given, others, view_decls, origin_of, origins_in}
-use Rattle.vlt_resolve_moves.specs.Joins.{Join}
-use Rattle.vlt_resolve_moves.proofs.Empty.{no_left, no_right}
+use Rattle.vlt_link_laws.specs.Moves.Joins.{Join}
+use Rattle.vlt_link_laws.proofs.OfMoves.Empty.{no_left, no_right}
 use Rattle.vlt_views.specs.Hidden.{hidden_name, hidden_names, own_refused_in, own_refused}
 use Rattle.vlt_link_laws.proofs.Sides.{or_else, given_joins, same_joins, new_joins, first_joins, second_joins}
 use Rattle.vlt_link_laws.proofs.Viewing.{found_is}

@@ -8,8 +8,8 @@ use Rattle.vlt_syntax.specs.Lists.{Each}
 use Rattle.vlt_kinds_types.specs.Names.Refusals.{of_each}
 use Rattle.vlt_iface.specs.View.{gives, with_given, is_placed, others, view_decls}
 use Rattle.vlt_iface.specs.Rules.{given_refused, given_refused_by}
-use Rattle.vlt_resolve_moves.specs.Joins.{Join, Joins, befores, afters}
-use Rattle.vlt_resolve_moves.proofs.Empty.{no_left, no_right}
+use Rattle.vlt_link_laws.specs.Moves.Joins.{Join, Joins, befores, afters}
+use Rattle.vlt_link_laws.proofs.OfMoves.Empty.{no_left, no_right}
 use Rattle.vlt_link_laws.proofs.Fits.{IsGiven, FitsDecl, Fits}
 use Rattle.vlt_link_laws.proofs.Parts.{IsSame, Covers}
 use Rattle.vlt_link_laws.proofs.Sides.{or_else, given_joins, same_joins, new_joins, first_joins, second_joins, IsGivenOnce}

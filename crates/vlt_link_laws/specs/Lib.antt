@@ -1,1 +1,3 @@
 pub mod Link
+pub mod CoreMoves
+pub mod Moves

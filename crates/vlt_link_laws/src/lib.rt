@@ -1,10 +1,19 @@
 //! Laws of joined modules: nothing goes in and nothing comes out.
 //! Read `specs/Link.antt` first; `vlt_views/specs` has the kinds and the program of a view.
 //! Used by: verdicts on views, and the commands for modules. What is accepted in both views is accepted in the joined program.
+//! Its parts: `core_moves` is about declarations that get other numbers, `moves` about files that know more names.
 #![tactic(auto)]
 
 ghost use Rattle.vlt_link_laws.specs.Link.{AcceptedViewsLink, JoinedTokensAreThoseOfFiles, TestedViewsLink, ToldJoinsAreTextTrees, ToldViewsAreTrees, ViewProgramsAreJudgeable, ViewProgramsAreKinded};
 
+mod core_moves;
+mod moves;
+
+pub use core_moves::{
+    droppable_structs_stay_so, moved_bodies_are_accepted, moved_bodies_flow_alike,
+    moved_functions_have_the_same_instances, unbroken_functions_know,
+};
+pub use moves::{exprs_move, operands_move, walks_move};
 use vlt_iface::{told_joins_are_joined, told_views_are_few, told_views_are_views};
 
 /// Let the view of an interface with one module pass all rules but the one on `main`, that with another module pass all rules,

@@ -19,3 +19,4 @@ pub mod Operands
 pub mod CallsWhole
 pub mod Filled
 pub mod Loose
+pub mod OfHost

@@ -2,3 +2,4 @@ pub mod Blank
 pub mod Named
 pub mod Known
 pub mod Loose
+pub mod Host

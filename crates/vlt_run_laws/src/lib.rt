@@ -1,6 +1,7 @@
 //! Laws on what a run of an accepted program comes to: nothing goes in and nothing comes out.
 //! Read `vlt_interp/specs/Tasks/Own.antt` and `vlt_interp/specs/Calls/Called.antt` first, then `specs/Named.antt`, `Known.antt`, `Loose.antt`.
 //! Used by: the machine, which fills variables, looks up keys and calls externals without a test.
+//! Its part `host` has the same of runs that begin with a host's call.
 #![tactic(auto)]
 
 ghost use Rattle.vlt_core.specs.Core.{Program, Form, Func};
@@ -18,6 +19,13 @@ ghost use Rattle.vlt_run_laws.specs.Known.{IsKnown, KnowsItsSteps};
 ghost use Rattle.vlt_run_laws.specs.Named.{NamesScope};
 ghost use Rattle.vlt_run_laws.specs.Loose.{MovesLooseObjects};
 ghost use Rattle.vlt_interp.specs.Calls.Known.{KnowsItsCalls};
+
+mod host;
+
+pub use host::{
+    accepted_programs_are_callable, accepted_programs_know_started_calls,
+    accepted_programs_know_started_steps,
+};
 
 /// The statements of a program that breaks no rule on names and types name variables and keys of their own functions.
 pub fn kinded_programs_name_their_own()

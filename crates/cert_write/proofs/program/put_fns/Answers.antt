@@ -1,7 +1,7 @@
 use Rattle.std.proofs.Common.{rules, ◌<◌, length, arith}
 use Rattle.vlt_core.specs.View.{func_of}
-use Rattle.cert_decl_values.specs.Names.{HasTextFunc}
-use Rattle.cert_decl_values.proofs.Each.{all_at}
+use Rattle.cert_values.specs.Declarations.Names.{HasTextFunc}
+use Rattle.cert_values.proofs.OfDeclarations.Each.{all_at}
 use Rattle.cert_write.proofs.Tables.{fns_more}
 use Rattle.cert_write.proofs.program.put_fns.Goals as goal
 

@@ -1,7 +1,7 @@
 use Rattle.std.proofs.Common.{rules, ◌<◌, length, arith}
 use Rattle.vlt_core.specs.View.{set_of}
-use Rattle.cert_decl_values.specs.Names.{HasTextSet}
-use Rattle.cert_decl_values.proofs.Each.{all_at}
+use Rattle.cert_values.specs.Declarations.Names.{HasTextSet}
+use Rattle.cert_values.proofs.OfDeclarations.Each.{all_at}
 use Rattle.cert_write.proofs.program.put_sets.Goals as goal
 
 pub returns-in_err-put_set-clause-named : goal.returns-in_err-put_set-clause-named

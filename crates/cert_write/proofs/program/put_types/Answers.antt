@@ -1,7 +1,7 @@
 use Rattle.std.proofs.Common.{rules, ◌<◌, length, arith}
 use Rattle.vlt_core.specs.View.{type_of}
-use Rattle.cert_decl_values.specs.Names.{HasTextType}
-use Rattle.cert_decl_values.proofs.Each.{all_at}
+use Rattle.cert_values.specs.Declarations.Names.{HasTextType}
+use Rattle.cert_values.proofs.OfDeclarations.Each.{all_at}
 use Rattle.cert_write.proofs.Tables.{types_more}
 use Rattle.cert_write.proofs.program.put_types.Goals as goal
 

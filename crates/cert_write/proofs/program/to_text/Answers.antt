@@ -2,7 +2,7 @@ use Rattle.std.proofs.Common.{refl, sym, subst, IfOk}
 use Rattle.vlt_core.specs.View.{program_of}
 use Rattle.cert_format.specs.Places.{unplaced_program}
 use Rattle.cert_format_laws.specs.Versions.{is_ordered}
-use Rattle.cert_decl_values.specs.Names.{IsNamed}
+use Rattle.cert_values.specs.Declarations.Names.{IsNamed}
 use Rattle.cert_write.specs.Notes.{notes_in}
 use Rattle.cert_write.specs.Texts.{IsTextOfRows}
 use Rattle.cert_write.specs.Rows.{AreExact, rows_data}

@@ -1,7 +1,7 @@
 use Rattle.std.proofs.Common.{sym, ◌∙◌}
 use Rattle.vlt_core.specs.View.{entry_of}
-use Rattle.vlt_permits.specs.Arguments.{bindings_in}
-use Rattle.vlt_permits.specs.Held.{numbers_in}
+use Rattle.vlt_host_acts.specs.Permits.Arguments.{bindings_in}
+use Rattle.vlt_host_acts.specs.Permits.Held.{numbers_in}
 use Rattle.vlt_host_acts.proofs.Taking.{one_taken}
 use Rattle.vlt_host_acts.proofs.clause.remove_its.Goals as goal
 

@@ -2,7 +2,7 @@ use Rattle.std.proofs.Common.{◌≡◌, ◌∷◌, Some, true, map, subst}
 use Rattle.vlt_core.specs.View.{ty_of}
 use Rattle.vlt_host_meaning.specs.Tables.{argument_of}
 use Rattle.vlt_host_meaning.specs.Permitted.{arguments_fit, object_of_key}
-use Rattle.vlt_permits.specs.Arguments.{types_in, bindings_in}
+use Rattle.vlt_host_acts.specs.Permits.Arguments.{types_in, bindings_in}
 use Rattle.vlt_host_acts.proofs.Called.{fit_first_at, keys_named}
 use Rattle.vlt_host_acts.proofs.frames.+name_keys.Goals as goal
 

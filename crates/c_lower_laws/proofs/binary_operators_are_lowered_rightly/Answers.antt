@@ -1,5 +1,0 @@
-use Rattle.c_lower_laws.proofs.Operators.{binary_is_right}
-use Rattle.c_lower_laws.proofs.binary_operators_are_lowered_rightly.Goals as goal
-
-pub returns : goal.returns
-returns c = binary_is_right

@@ -1,5 +1,0 @@
-use Rattle.c_lower_laws.proofs.Expressions.{expressions_are_right}
-use Rattle.c_lower_laws.proofs.expressions_are_lowered_rightly.Goals as goal
-
-pub returns : goal.returns
-returns c = expressions_are_right

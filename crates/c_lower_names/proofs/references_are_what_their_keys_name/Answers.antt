@@ -1,5 +1,0 @@
-use Rattle.c_lower_names.proofs.NamedStatements.{names_are_kept}
-use Rattle.c_lower_names.proofs.references_are_what_their_keys_name.Goals as goal
-
-pub returns : goal.returns
-returns c = names_are_kept

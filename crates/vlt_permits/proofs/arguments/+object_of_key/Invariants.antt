@@ -1,5 +1,0 @@
-use Rattle.std.proofs.Common.{length}
-use Rattle.vlt_permits.proofs.arguments.+object_of_key.Given as goal
-
-abbrev pub decreases-object_of_key : goal.decreases-object_of_key
-decreases-object_of_key l = length l.params.now
