@@ -84,7 +84,7 @@ module _ (most : ℕ) where
   in_decl (s.extern x at) rest h = tt
   in_decl (s.function x b at) rest h =
       let body = less (after_head x _) h in
-      (in_block b rest body, few_in_all b rest most body)
+      (in_block b rest body, few_in_all b rest most body, (rest, body))
 
 pub few_statements : (ds : List Decl) → Each IsShort ds → Each (DeclIsFew (limit_of 3)) ds
 few_statements [] h = tt

@@ -1,8 +1,10 @@
 -- A tool of the proof: trees in which each list of statements is no longer than a number, and no function has more than twice as
 -- many in all.
-use Rattle.std.specs.Prelude.{◌≤◌, ◌*◌, ℕ, suc}
+use Rattle.std.specs.Prelude.{◌≤◌, ◌*◌, ℕ, suc, List, length}
+use Rattle.vlt_syntax.specs.Tokens.{Token}
 use Rattle.vlt_syntax.specs.Tree as s
 use Rattle.vlt_syntax.specs.Tree.{Stmt, Block, If, Else, Stmts, Arms, Decl}
+use Rattle.vlt_syntax.specs.Spelling.{block_then}
 use Rattle.cert_text_laws.proofs.Totals.{total_block}
 
 -- how many statements a list has itself
@@ -39,6 +41,10 @@ module _ (most : ℕ) where
     ArmsAreFew s.no_arms = Unit {0}
     ArmsAreFew (s.arm c vs body at more) = BlockIsFew body × ArmsAreFew more
 
+  -- with some tokens after it the block has no more
+  abbrev pub IsShortBlock : Block → Type 0
+  IsShortBlock b = (rest : List Token) × (length (block_then b rest) ≤ most)
+
   abbrev pub DeclIsFew : Decl → Type 0
-  DeclIsFew (s.function h body at) = BlockIsFew body × (total_block body ≤ 2 * most)
+  DeclIsFew (s.function h body at) = BlockIsFew body × (total_block body ≤ 2 * most) × IsShortBlock body
   DeclIsFew d = Unit {0}

@@ -4,6 +4,8 @@ use Rattle.std.specs.List.{list_all}
 use Rattle.std.specs.Char.{is_ascii}
 use Rattle.std.proofs.lemmas.Bool.{not-false}
 use Rattle.std.proofs.lemmas.List.{length-append}
+use Rattle.vlt_lexer.specs.declared.token.Mark.TheVariants as mark
+use Rattle.vlt_syntax.specs.Tokens.{sign}
 use Rattle.vlt_syntax.specs.Tree as s
 use Rattle.vlt_syntax.specs.Tree.{States, Entry, Block, Head, Decl}
 use Rattle.vlt_syntax.specs.Lists.{Each}
@@ -28,11 +30,14 @@ use Rattle.cert_rows.specs.Rows.{is_c_name}
 use Rattle.cert_fit_laws.specs.Limits.{IsRuled, IsRuledEntry, most_statements, AreLimited}
 use Rattle.cert_rows.specs.Parts.{All}
 use Rattle.cert_format.specs.Bodies.{length_of, count_list}
-use Rattle.cert_text_laws.specs.Texts.{most_of_function}
+use Rattle.cert_text_laws.specs.Texts.{most_of_function, most_weight}
+use Rattle.cert_text_laws.specs.Weights.{weight_list}
 use Rattle.cert_text_laws.proofs.CNames.{IsNamed}
-use Rattle.cert_text_laws.proofs.Few.{count_of, BlockIsFew, DeclIsFew}
+use Rattle.cert_text_laws.proofs.Few.{count_of, BlockIsFew, IsShortBlock, DeclIsFew}
 use Rattle.cert_text_laws.proofs.Bodies.{most, length_made, joined_limited, stmts_limited, last_limited}
+use Rattle.cert_text_laws.proofs.Shorter.{one}
 use Rattle.cert_text_laws.proofs.Totals.{total_block}
+use Rattle.cert_text_laws.proofs.Weighing.{stmts_light, body_light}
 use Rattle.cert_text_laws.proofs.Whole.{stmts_few, body_few}
 
 -- ---- entries
@@ -79,15 +84,16 @@ pub record IsSmallFunc (f : Func) : Type 0 where
   pub few : length_of f.body ≤ most_statements
   pub body : AreLimited 1 f.body
   pub total : count_list f.body ≤ most_of_function
+  pub light : weight_list f.body ≤ most_weight
 
 -- what a function has of its head
 pub record IsOfHead (h f : Func) : Type 0 where
   pub name : f.name ≡ h.name
   pub external : f.external ≡ h.external
 
-body_limited : (kinds : Kinds) (head : Head) (h : Func) (b : Block) (f : Func) → IsLimitedHead false head h → IsBlock language language.depth b → BlockIsFew most b → total_block b ≤ 2 * most → walk_body kinds h b ≡ Ok f
+body_limited : (kinds : Kinds) (head : Head) (h : Func) (b : Block) (f : Func) → IsLimitedHead false head h → IsBlock language language.depth b → BlockIsFew most b → total_block b ≤ 2 * most → IsShortBlock most b → walk_body kinds h b ≡ Ok f
     → IsSmallFunc f × IsOfHead h f
-body_limited kinds head h (s.braced ss at) f is g few total e =
+body_limited kinds head h (s.braced ss at) f is g few total short e =
     let b = s.braced ss at in
     let y = then_ok (walk_stmts kinds (body_around h) (body_scope h) false (stmts_in b)) _ f e in
     let u = unless_ok (least (end_refused h b)) (Ok (func_made h b y.first)) f y.rest in
@@ -102,6 +108,7 @@ body_limited kinds head h (s.braced ss at) f is g few total e =
             (sum (count_of ss) (length (y.first.0 ++ last_return b)) (length y.first.0) (length (last_return b)) (length-append y.first.0 (last_return b)) few.0 q.few last.1);
         body = joined_limited 1 y.first.0 (last_return b) q.limited last.0;
         total = body_few ss b y.first.0 (2 * most) (stmts_few kinds (body_around h) (body_scope h) false ss y.first y.one) total;
+        light = body_light ss b y.first.0 most (stmts_light kinds (body_around h) (body_scope h) false ss y.first y.one (sign mark.CloseBrace ∷ short.0)) (one short.1);
       },
       record { name = refl; external = refl },
     )
@@ -119,6 +126,7 @@ extern_limited head h f is named e =
         few = none;
         body = tt;
         total = none_at_all;
+        light = no_weight;
       },
       record { name = refl; external = refl },
     )
@@ -128,6 +136,9 @@ extern_limited head h f is named e =
 
     none_at_all : 0 ≤ 524289
     none_at_all = omega arith
+
+    no_weight : 0 ≤ 786433
+    no_weight = omega arith
 
 -- ---- all of them
 
@@ -174,7 +185,7 @@ module _ (kinds : Kinds) (known : Globals) where
       let w = unless_ok (least (elab.head_refused h at.from)) (walk_body kinds h b) f.first f.one in
       subst (AreOfHeads (h ∷ Heads ds)) (same_ok (f.first ∷ rest.first) fs rest.rest)
       (with_one h f.first (Heads ds) rest.first
-      (body_limited kinds head h b f.first (head_limited kinds.file false head (keys_of kinds.file head) is.0.0.few) is.0.1 few.0.0 few.0.1 w.1)
+      (body_limited kinds head h b f.first (head_limited kinds.file false head (keys_of kinds.file head) is.0.0.few) is.0.1 few.0.0 few.0.1 few.0.2 w.1)
       (all_limited ds rest.first is.1 few.1 named.1 none rest.one))
   all_limited (s.extern head at ∷ ds) fs is few named none e =
       let h = core_head kinds.file true head (keys_of kinds.file head) in

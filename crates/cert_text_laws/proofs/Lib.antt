@@ -6,6 +6,9 @@ pub mod CNames
 pub mod Counting
 pub mod Shallow
 pub mod Simple
+pub mod Loads
+pub mod Light
+pub mod Weighing
 pub mod Bodies
 pub mod Whole
 pub mod Declarations

@@ -13,6 +13,7 @@ use Rattle.vlt_kinds.specs.Kinds.{Kinds}
 use Rattle.vlt_resolve_laws.specs.Elaborated.{IsElaborated}
 use Rattle.cert_format.specs.Bodies.{count_list}
 use Rattle.cert_fit_laws.specs.Limits.{IsLimitedProgram}
+use Rattle.cert_text_laws.specs.Weights.{weight_list}
 
 -- one of these tokens
 abbrev pub IsAmong : Token → List Token → Type 0
@@ -53,3 +54,12 @@ abbrev pub TextsHaveFewStatements : Type 0
 TextsHaveFewStatements =
     (p : Program) → IsProgramOfTexts p → (g : ℕ) (f : Func) →
     slice_get p.fns g ≡ Some f → count_list f.body ≤ most_of_function
+
+-- so much a body of texts weighs at most: three for each token of the longest text, and one at its end
+abbrev pub most_weight : ℕ
+most_weight = 786433
+
+abbrev pub TextsAreLight : Type 0
+TextsAreLight =
+    (p : Program) → IsProgramOfTexts p → (g : ℕ) (f : Func) →
+    slice_get p.fns g ≡ Some f → weight_list f.body ≤ most_weight

@@ -12,4 +12,4 @@ mod texts;
 pub use fit::{certificates_are_fit, verified_are_accepted_programs, verified_programs_run_alike};
 pub use json_names::texts_have_text_names;
 pub use linked::joined_programs_are_of_texts;
-pub use texts::{texts_are_limited, texts_have_few_statements};
+pub use texts::{texts_are_light, texts_are_limited, texts_have_few_statements};

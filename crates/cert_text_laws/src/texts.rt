@@ -1,6 +1,10 @@
 //! Programs of texts keep the limits of certificates, and their functions have few statements.
 
-ghost use Rattle.cert_text_laws.specs.Texts.{TextsAreLimited, TextsHaveFewStatements};
+ghost use Rattle.cert_text_laws.specs.Texts.{
+  TextsAreLight,
+  TextsAreLimited,
+  TextsHaveFewStatements,
+};
 
 use vlt_resolve_laws::{
     elaborated_programs_are_kinded, elaborated_programs_have_blank_externals,
@@ -22,4 +26,9 @@ pub fn texts_are_limited()
 /// Each function of the program of texts has few statements in all.
 pub fn texts_have_few_statements()
     ensures { TextsHaveFewStatements }
+{}
+
+/// No body of the program of texts weighs much: it reads few fields and hands over little.
+pub fn texts_are_light()
+    ensures { TextsAreLight }
 {}

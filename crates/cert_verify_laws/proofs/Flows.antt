@@ -34,7 +34,7 @@ module _ (p : Program) (is : IsLimitedProgram p) where
       by (Some (a_struct s)) at is = absurd (some_not_none d (sym is))
       by (Some (a_variant v)) at one = all_at IsLimitedCase v.cases c d (all_at IsLimitedType p.types t (a_variant v) is.types at).3 one
 
-  limited_formed : IsFormed p
+  pub limited_formed : IsFormed p
   limited_formed = record {
     some_states = λ i d at. some_names d.states (all_at IsLimitedSet p.sets i d is.sets at).filled;
     few_states = λ i d at. (all_at IsLimitedSet p.sets i d is.sets at).few;

@@ -6,3 +6,8 @@ mod Emitting
 mod Annotated
 mod Answered
 mod Flows
+mod Apart
+mod Small
+mod RowCounts
+mod Rooms
+mod Numbers

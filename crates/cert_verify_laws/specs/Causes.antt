@@ -3,8 +3,12 @@ use Rattle.std.specs.Prelude.{◌≡◌, ℕ, false, Option, Some, slice_get}
 use Rattle.vlt_core.specs.Core.{Func, Program}
 use Rattle.vlt_core.specs.Derives.{IsAccepted}
 use Rattle.vlt_core.specs.Instances.{instance, IsOrigin}
+use Rattle.vlt_core.specs.Bodies.{body_flow}
 use Rattle.vlt_rows.specs.Unfit.{HasNoFlow}
 use Rattle.vlt_flow.specs.Unfit.{HasNoStart}
+use Rattle.vlt_faults.specs.Judge.Faulty.{HasNoNumber}
+use Rattle.vlt_verdict.specs.FitLaws.Unfit.{HasUnfitBody}
+use Rattle.vlt_witness.specs.Unfit.{IsUnfit}
 use Rattle.cert_values.specs.Declarations.Names.{HasTextNames}
 use Rattle.cert_text_laws.specs.Texts.{IsProgramOfTexts}
 use Rattle.cert_emit.specs.Causes.{HasRefused, HasUnfit}
@@ -32,3 +36,21 @@ pub record HasFlows (p : Program) : Type 0 where
 
 abbrev pub TextsHaveFlows : Type 0
 TextsHaveFlows = (p : Program) → IsProgramOfTexts p → HasFlows p
+
+-- Whatever instance of a body is refused, all in it has numbers: statements, rows, joins and tokens.
+abbrev pub TextsHaveNumbers : Type 0
+TextsHaveNumbers =
+    (p : Program) → IsProgramOfTexts p → (g : ℕ) (f : Func) (o : Option ℕ) →
+    slice_get p.fns g ≡ Some f → f.external ≡ false → IsOrigin p f o →
+    HasNoNumber (body_flow p (instance p f o)) → ⊥
+
+-- so the check tells of each whether it is accepted
+abbrev pub TextsAreJudged : Type 0
+TextsAreJudged = (p : Program) → IsProgramOfTexts p → HasUnfitBody p → ⊥
+
+-- paths through a body can be searched for
+abbrev pub TextsCanBeSearched : Type 0
+TextsCanBeSearched =
+    (p : Program) → IsProgramOfTexts p → (g : ℕ) (f : Func) (o : Option ℕ) →
+    slice_get p.fns g ≡ Some f → f.external ≡ false → IsOrigin p f o →
+    IsUnfit p (instance p f o) → ⊥

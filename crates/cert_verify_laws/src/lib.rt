@@ -9,7 +9,10 @@ mod emitted;
 mod outcomes;
 mod promises;
 
-pub use causes::{accepted_texts_can_be_certified, texts_have_flows};
+pub use causes::{
+    accepted_texts_can_be_certified, texts_are_judged, texts_can_be_searched, texts_have_flows,
+    texts_have_numbers,
+};
 pub use codes::{certificates_are_of_code, texts_are_of_code};
 pub use emitted::{emitted_files_verify, least_certificates_fit, places_keep_counts};
 pub use outcomes::c_files_verify_in_some_way;
