@@ -1,4 +1,4 @@
--- What the printer leaves behind is what the tokens of the spelling are written as.
+-- What the printer writes is what the tokens of the spelling are written as.
 use Rattle.std.proofs.Common.{◌≡◌, ℕ, Bool, true, false, if◌then◌else◌, List, [], ◌∷◌, ◌++◌, map, Some, None, refl, sym, ap, ◌∙◌, append_assoc, rules}
 use Rattle.std.specs.Prelude.{codes}
 use Rattle.std.specs.Fmt.{decimal, signed_decimal, digits}
@@ -23,7 +23,7 @@ use Rattle.c_syntax.specs.Spelling.{prefix_sign, expr_then, cell_then, arg_token
 use Rattle.c_syntax.specs.Canonical.{text_of_tokens, begins_else, space, line_feed, declaration_of, head_of, body_of, unit_of, canonical_text}
 use Rattle.c_printer.specs.Layout.{variable_laid, name_laid, block_laid, cell_laid, operator_laid, expr_laid, arg_laid, args_laid, more_args_laid, call_laid, stmt_laid, stmts_laid, type_laid, result_laid, declaration_laid, more_params_laid, params_laid, head_laid, vars_laid, body_laid, heads_laid, bodies_laid, first_lines_laid, program_laid}
 
--- one text behind another, and then a third
+-- one text after another, and then a third
 two : (out a b more : List ℕ) → ((out ++ a) ++ b) ++ more ≡ out ++ (a ++ (b ++ more))
 two out a b more = append_assoc (out ++ a) b more ∙ append_assoc out a (b ++ more)
 
@@ -31,7 +31,7 @@ one_is : decimal 1 ≡ codes "1"
 unfolding digits
 one_is = refl
 
--- a token that is put with the space behind it, and then more
+-- a token and the space after it, and then more
 apart : (out a b more : List ℕ) → ((out ++ a) ++ 32 ∷ b) ++ more ≡ out ++ ((a ++ space) ++ (b ++ more))
 apart out a b more = two out a (32 ∷ b) more ∙ ap (λ x. out ++ x) (sym (append_assoc a space (b ++ more)))
 
@@ -278,7 +278,7 @@ program_is p =
     (ap (λ x. heads_then (map (head_of true) p.glue) (heads_then (map (head_of false) p.fns) x)) (sym (bodies_joined (map (body_of true) p.glue) (map (body_of false) p.fns) []))
     ∙ sym (heads_joined (map (head_of true) p.glue) (map (head_of false) p.fns) _))
 
--- ---- what statements of the code stand for
+-- ---- what statements of the code are
 
 pub loop_seen : (xs : List CStmt) → stmt_of (CodeWhile xs) ≡ c.loop (stmts_of xs)
 loop_seen xs = search (rules, the_lemmas)

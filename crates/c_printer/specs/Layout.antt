@@ -1,4 +1,6 @@
--- What each part of the printer leaves behind what was written before. Only private contracts cite this.
+-- The text of each part of a program, in the order of the page: what `.._laid` gives goes from the text before the part to the
+-- text after it. Only private contracts cite this.
+use Prim.Native.String.{String}
 use Rattle.std.specs.Prelude.{ℕ, Bool, true, false, List, [], ◌∷◌, ◌++◌, Some, None, codes}
 use Rattle.std.specs.Fmt.{decimal, signed_decimal}
 use Rattle.vlt_ops.specs.declared.Op.{Op}
@@ -15,108 +17,137 @@ use Rattle.c_syntax.specs.Tokens.{prim_text, variable_letter, name_letter}
 use Rattle.c_syntax.specs.Spelling.{prefix_sign}
 use Rattle.c_syntax.specs.Canonical.{unit_of}
 
-abbrev pub variable_laid : CVar → List ℕ → List ℕ
-variable_laid v out = out ++ variable_letter v ∷ decimal v.number
+-- from the text before a part to the text after it
+abbrev pub Layout : Type 0
+Layout = List ℕ → List ℕ
 
-abbrev pub name_laid : CName → List ℕ → List ℕ
-name_laid f out = out ++ name_letter f ∷ decimal f.number
+-- one layout, then the next
+infixl 10 ◌▹◌
+abbrev pub ◌▹◌ : Layout → Layout → Layout
+first ▹ next = λ before. next (first before)
 
-abbrev pub block_laid : ℕ → List ℕ → List ℕ
-block_laid base out = variable_laid (record { reference = true; number = base }) out
+abbrev pub nothing : Layout
+nothing before = before
 
-abbrev pub cell_laid : CCell → List ℕ → List ℕ
-cell_laid (cell.Number p k) out = ((block_laid p out ++ codes " -> n [ ") ++ decimal k) ++ codes " ] "
-cell_laid (cell.Reference p k) out = ((block_laid p out ++ codes " -> r [ ") ++ decimal k) ++ codes " ] "
+-- these bytes
+abbrev pub written : List ℕ → Layout
+written bytes before = before ++ bytes
 
-abbrev pub operator_laid : Op → List ℕ → List ℕ
-operator_laid o out = (out ++ (row_of o).sign) ++ codes " "
+-- these letters
+abbrev pub text : String → Layout
+text letters = written (codes letters)
 
-abbrev pub expr_laid : Expr → List ℕ → List ℕ
-expr_laid (c.number z) out = (out ++ signed_decimal z) ++ codes " "
-expr_laid (c.variable v) out = variable_laid v out ++ codes " "
-expr_laid (c.cell x) out = cell_laid x out
-expr_laid c.null out = out ++ codes "vr_null "
-expr_laid (c.unary o e) out = expr_laid e (operator_laid (prefix_sign o) (out ++ codes "( ")) ++ codes ") "
-expr_laid (c.binary o a b) out = expr_laid b (operator_laid o (expr_laid a (out ++ codes "( "))) ++ codes ") "
+-- ---- names and expressions
 
-abbrev pub arg_laid : Arg → List ℕ → List ℕ
-arg_laid (c.number z) out = (out ++ signed_decimal z) ++ codes " "
-arg_laid (c.variable v) out = variable_laid v out ++ codes " "
-arg_laid c.null out = out ++ codes "vr_null "
-arg_laid (c.text cs) out = ((out ++ codes "\"") ++ cs) ++ codes "\" "
+abbrev pub variable_laid : CVar → Layout
+variable_laid v = written (variable_letter v ∷ decimal v.number)
 
-abbrev pub more_args_laid : List Arg → List ℕ → List ℕ
-more_args_laid [] out = out ++ codes ") "
-more_args_laid (x ∷ xs) out = more_args_laid xs (arg_laid x (out ++ codes ", "))
+abbrev pub name_laid : CName → Layout
+name_laid f = written (name_letter f ∷ decimal f.number)
 
-abbrev pub args_laid : List Arg → List ℕ → List ℕ
-args_laid [] out = out ++ codes ") "
-args_laid (x ∷ xs) out = more_args_laid xs (arg_laid x out)
+abbrev pub block_laid : ℕ → Layout
+block_laid base = variable_laid (record { reference = true; number = base })
 
-abbrev pub call_laid : Call → List ℕ → List ℕ
-call_laid (c.function f xs) out = args_laid xs (name_laid f out ++ codes " ( ")
-call_laid (c.primitive p xs) out = args_laid xs ((out ++ prim_text p) ++ codes " ( ")
+abbrev pub cell_laid : CCell → Layout
+cell_laid (cell.Number p k) = block_laid p ▹ text " -> n [ " ▹ written (decimal k) ▹ text " ] "
+cell_laid (cell.Reference p k) = block_laid p ▹ text " -> r [ " ▹ written (decimal k) ▹ text " ] "
+
+abbrev pub operator_laid : Op → Layout
+operator_laid o = written (row_of o).sign ▹ text " "
+
+abbrev pub expr_laid : Expr → Layout
+expr_laid (c.number z) = written (signed_decimal z) ▹ text " "
+expr_laid (c.variable v) = variable_laid v ▹ text " "
+expr_laid (c.cell x) = cell_laid x
+expr_laid c.null = text "vr_null "
+expr_laid (c.unary o e) = text "( " ▹ operator_laid (prefix_sign o) ▹ expr_laid e ▹ text ") "
+expr_laid (c.binary o a b) = text "( " ▹ expr_laid a ▹ operator_laid o ▹ expr_laid b ▹ text ") "
+
+-- ---- calls
+
+abbrev pub arg_laid : Arg → Layout
+arg_laid (c.number z) = written (signed_decimal z) ▹ text " "
+arg_laid (c.variable v) = variable_laid v ▹ text " "
+arg_laid c.null = text "vr_null "
+arg_laid (c.text cs) = text "\"" ▹ written cs ▹ text "\" "
+
+abbrev pub more_args_laid : List Arg → Layout
+more_args_laid [] = text ") "
+more_args_laid (x ∷ xs) = text ", " ▹ arg_laid x ▹ more_args_laid xs
+
+abbrev pub args_laid : List Arg → Layout
+args_laid [] = text ") "
+args_laid (x ∷ xs) = arg_laid x ▹ more_args_laid xs
+
+abbrev pub call_laid : Call → Layout
+call_laid (c.function f xs) = name_laid f ▹ text " ( " ▹ args_laid xs
+call_laid (c.primitive p xs) = written (prim_text p) ▹ text " ( " ▹ args_laid xs
+
+-- ---- statements
 
 abbrev mutual
-  pub stmt_laid : Stmt → List ℕ → List ℕ
-  stmt_laid (c.set v e) out = expr_laid e (variable_laid v out ++ codes " = ") ++ codes ";\n"
-  stmt_laid (c.set_call v f) out = call_laid f (variable_laid v out ++ codes " = ") ++ codes ";\n"
-  stmt_laid (c.call f) out = call_laid f out ++ codes ";\n"
-  stmt_laid (c.put x e) out = expr_laid e (cell_laid x out ++ codes "= ") ++ codes ";\n"
-  stmt_laid (c.when e xs) out = stmts_laid xs (expr_laid e (out ++ codes "if ( ") ++ codes ") {\n") ++ codes "}\n"
-  stmt_laid (c.choose e xs ys) out =
-      stmts_laid ys (stmts_laid xs (expr_laid e (out ++ codes "if ( ") ++ codes ") {\n") ++ codes "} else {\n") ++ codes "}\n"
-  stmt_laid (c.loop xs) out = stmts_laid xs (out ++ codes "while ( 1 ) {\n") ++ codes "}\n"
-  stmt_laid c.break out = out ++ codes "break ;\n"
-  stmt_laid c.continue out = out ++ codes "continue ;\n"
-  stmt_laid (c.return None) out = out ++ codes "return ;\n"
-  stmt_laid (c.return (Some e)) out = expr_laid e (out ++ codes "return ") ++ codes ";\n"
+  pub stmt_laid : Stmt → Layout
+  stmt_laid (c.set v e) = variable_laid v ▹ text " = " ▹ expr_laid e ▹ text ";\n"
+  stmt_laid (c.set_call v f) = variable_laid v ▹ text " = " ▹ call_laid f ▹ text ";\n"
+  stmt_laid (c.call f) = call_laid f ▹ text ";\n"
+  stmt_laid (c.put x e) = cell_laid x ▹ text "= " ▹ expr_laid e ▹ text ";\n"
+  stmt_laid (c.when e xs) = text "if ( " ▹ expr_laid e ▹ text ") {\n" ▹ stmts_laid xs ▹ text "}\n"
+  stmt_laid (c.choose e xs ys) = text "if ( " ▹ expr_laid e ▹ text ") {\n" ▹ stmts_laid xs ▹ text "} else {\n" ▹ stmts_laid ys ▹ text "}\n"
+  stmt_laid (c.loop xs) = text "while ( 1 ) {\n" ▹ stmts_laid xs ▹ text "}\n"
+  stmt_laid c.break = text "break ;\n"
+  stmt_laid c.continue = text "continue ;\n"
+  stmt_laid (c.return None) = text "return ;\n"
+  stmt_laid (c.return (Some e)) = text "return " ▹ expr_laid e ▹ text ";\n"
 
-  pub stmts_laid : Stmts → List ℕ → List ℕ
-  stmts_laid c.done out = out
-  stmts_laid (c.next x xs) out = stmts_laid xs (stmt_laid x out)
+  pub stmts_laid : Stmts → Layout
+  stmts_laid c.done = nothing
+  stmts_laid (c.next x xs) = stmt_laid x ▹ stmts_laid xs
 
-abbrev pub type_laid : Bool → List ℕ → List ℕ
-type_laid true out = out ++ codes "vr_ref "
-type_laid false out = out ++ codes "long long "
+-- ---- functions
 
-abbrev pub result_laid : CResult → List ℕ → List ℕ
-result_laid result.Nothing out = out ++ codes "void "
-result_laid result.Number out = type_laid false out
-result_laid result.Reference out = type_laid true out
+abbrev pub type_laid : (reference : Bool) → Layout
+type_laid true = text "vr_ref "
+type_laid false = text "long long "
 
-abbrev pub declaration_laid : CVar → List ℕ → List ℕ
-declaration_laid v out = variable_laid v (type_laid v.reference out) ++ codes " "
+abbrev pub result_laid : CResult → Layout
+result_laid result.Nothing = text "void "
+result_laid result.Number = type_laid false
+result_laid result.Reference = type_laid true
 
-abbrev pub more_params_laid : List CVar → List ℕ → List ℕ
-more_params_laid [] out = out ++ codes ") "
-more_params_laid (v ∷ vs) out = more_params_laid vs (declaration_laid v (out ++ codes ", "))
+abbrev pub declaration_laid : CVar → Layout
+declaration_laid v = type_laid v.reference ▹ variable_laid v ▹ text " "
 
-abbrev pub params_laid : List CVar → List ℕ → List ℕ
-params_laid [] out = out ++ codes "void ) "
-params_laid (v ∷ vs) out = more_params_laid vs (declaration_laid v out)
+abbrev pub more_params_laid : List CVar → Layout
+more_params_laid [] = text ") "
+more_params_laid (v ∷ vs) = text ", " ▹ declaration_laid v ▹ more_params_laid vs
 
-abbrev pub head_laid : Bool → Func → List ℕ → List ℕ
-head_laid glue f out = params_laid f.params (name_laid (record { glue = glue; number = f.number }) (result_laid f.result out) ++ codes " ( ")
+abbrev pub params_laid : List CVar → Layout
+params_laid [] = text "void ) "
+params_laid (v ∷ vs) = declaration_laid v ▹ more_params_laid vs
 
-abbrev pub vars_laid : List CVar → List ℕ → List ℕ
-vars_laid [] out = out
-vars_laid (v ∷ vs) out = vars_laid vs (declaration_laid v out ++ codes ";\n")
+abbrev pub head_laid : (glue : Bool) → Func → Layout
+head_laid glue f = result_laid f.result ▹ name_laid (record { glue = glue; number = f.number }) ▹ text " ( " ▹ params_laid f.params
 
-abbrev pub body_laid : Bool → Func → List ℕ → List ℕ
-body_laid glue f out = stmts_laid f.body (vars_laid f.vars (head_laid glue f out ++ codes "{\n")) ++ codes "}\n"
+abbrev pub vars_laid : List CVar → Layout
+vars_laid [] = nothing
+vars_laid (v ∷ vs) = declaration_laid v ▹ text ";\n" ▹ vars_laid vs
 
-abbrev pub heads_laid : Bool → List Func → List ℕ → List ℕ
-heads_laid glue [] out = out
-heads_laid glue (f ∷ fs) out = heads_laid glue fs (head_laid glue f out ++ codes ";\n")
+abbrev pub body_laid : (glue : Bool) → Func → Layout
+body_laid glue f = head_laid glue f ▹ text "{\n" ▹ vars_laid f.vars ▹ stmts_laid f.body ▹ text "}\n"
 
-abbrev pub bodies_laid : Bool → List Func → List ℕ → List ℕ
-bodies_laid glue [] out = out
-bodies_laid glue (f ∷ fs) out = bodies_laid glue fs (body_laid glue f out)
+abbrev pub heads_laid : (glue : Bool) → List Func → Layout
+heads_laid glue [] = nothing
+heads_laid glue (f ∷ fs) = head_laid glue f ▹ text ";\n" ▹ heads_laid glue fs
 
-abbrev pub first_lines_laid : ℕ → List ℕ → List ℕ
-first_lines_laid main out = ((out ++ codes "#include \"vault_rt.h\"\n#define VR_MAIN f") ++ decimal main) ++ codes "\n"
+abbrev pub bodies_laid : (glue : Bool) → List Func → Layout
+bodies_laid glue [] = nothing
+bodies_laid glue (f ∷ fs) = body_laid glue f ▹ bodies_laid glue fs
 
-abbrev pub program_laid : Program → List ℕ → List ℕ
-program_laid p out =
-    bodies_laid false p.fns (bodies_laid true p.glue (heads_laid false p.fns (heads_laid true p.glue (first_lines_laid (unit_of p).main out))))
+-- ---- the whole program
+
+abbrev pub first_lines_laid : (main : ℕ) → Layout
+first_lines_laid main = text "#include \"vault_rt.h\"\n#define VR_MAIN f" ▹ written (decimal main) ▹ text "\n"
+
+abbrev pub program_laid : Program → Layout
+program_laid p =
+    first_lines_laid (unit_of p).main ▹ heads_laid true p.glue ▹ heads_laid false p.fns ▹ bodies_laid true p.glue ▹ bodies_laid false p.fns

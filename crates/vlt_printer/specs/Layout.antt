@@ -1,87 +1,87 @@
--- The layout of a tree. Each definition takes the text before a thing, and gives that text with the thing behind it.
--- `indent` is what stands before the lines of the block around.
+-- The layout of a tree, in the order of the page: what `.._after` gives for a thing goes from the text before the thing to the
+-- text after it. `indent` is what each line of the block around begins with.
 use Rattle.std.specs.Prelude.{ℕ, Bool, true, false, List, [], ◌∷◌, ◌++◌, Option, Some, None, codes}
 use Rattle.std.specs.Fmt.{signed_decimal}
 use Rattle.vlt_ops.specs.Operator.{row_of}
 use Rattle.vlt_syntax.specs.Tree as s
 use Rattle.vlt_syntax.specs.Tree.{Name, States, KeyStates, Named, Ty, Expr, Build, Call, Init, Right, Returned, Stmt, Block, If, Else, Stmts, Arms, SetState, HeaderKey, Field, Case, Entry, ResultType, Parameter, Head, Decl, Tree}
-use Rattle.vlt_printer.specs.Lists.{each_after, separated_after, listed_after, enclosed_after, braced_after}
+use Rattle.vlt_printer.specs.Lists.{Layout, ◌▹◌, nothing, written, text, each_after, separated_after, listed_after, enclosed_after, braced_after}
 
-abbrev pub name_after : List ℕ → Name → List ℕ
-name_after before n = before ++ n.text
+abbrev pub name_after : Name → Layout
+name_after n = written n.text
 
 -- `@` and a name, or nothing
-abbrev pub at_name_after : List ℕ → Option Name → List ℕ
-at_name_after before None = before
-at_name_after before (Some n) = name_after (before ++ codes "@") n
+abbrev pub at_name_after : Option Name → Layout
+at_name_after None = nothing
+at_name_after (Some n) = text "@" ▹ name_after n
 
-abbrev pub states_after : List ℕ → States → List ℕ
-states_after before (s.one n) = name_after before n
-states_after before (s.several ns at) = braced_after name_after before ns
+abbrev pub states_after : States → Layout
+states_after (s.one n) = name_after n
+states_after (s.several ns at) = braced_after name_after ns
 
 -- `@` and states, or nothing
-abbrev pub at_states_after : List ℕ → Option States → List ℕ
-at_states_after before None = before
-at_states_after before (Some ss) = states_after (before ++ codes "@") ss
+abbrev pub at_states_after : Option States → Layout
+at_states_after None = nothing
+at_states_after (Some ss) = text "@" ▹ states_after ss
 
-abbrev pub key_states_after : List ℕ → KeyStates → List ℕ
-key_states_after before k = at_states_after (name_after before k.key) k.states
+abbrev pub key_states_after : KeyStates → Layout
+key_states_after k = name_after k.key ▹ at_states_after k.states
 
 -- ---- types
 
-abbrev pub named_after : List ℕ → Named → List ℕ
-named_after before n = enclosed_after (codes "<") (codes ">") name_after (name_after before n.name) n.keys
+abbrev pub named_after : Named → Layout
+named_after n = name_after n.name ▹ enclosed_after (text "<") (text ">") name_after n.keys
 
-abbrev pub ty_after : List ℕ → Ty → List ℕ
-ty_after before (s.int at) = before ++ codes "int"
-ty_after before (s.bool at) = before ++ codes "bool"
-ty_after before (s.tracked k n at) = named_after (name_after (before ++ codes "tracked(") k ++ codes ") ") n
-ty_after before (s.owning ss n at) = named_after (at_states_after (before ++ codes "tracked") ss ++ codes " ") n
-ty_after before (s.guarded k n) = named_after (name_after before k ++ codes ":") n
-ty_after before (s.plain n) = named_after before n
+abbrev pub ty_after : Ty → Layout
+ty_after (s.int at) = text "int"
+ty_after (s.bool at) = text "bool"
+ty_after (s.tracked k n at) = text "tracked(" ▹ name_after k ▹ text ") " ▹ named_after n
+ty_after (s.owning ss n at) = text "tracked" ▹ at_states_after ss ▹ text " " ▹ named_after n
+ty_after (s.guarded k n) = name_after k ▹ text ":" ▹ named_after n
+ty_after (s.plain n) = named_after n
 
 -- ---- expressions
 
-abbrev pub expr_after : List ℕ → Expr → List ℕ
-expr_after before (s.number z at) = before ++ signed_decimal z
-expr_after before (s.true at) = before ++ codes "true"
-expr_after before (s.false at) = before ++ codes "false"
-expr_after before (s.variable x) = name_after before x
-expr_after before (s.field x f) = name_after (name_after before x ++ codes ".") f
-expr_after before (s.group e at) = expr_after (before ++ codes "(") e ++ codes ")"
-expr_after before (s.unary o e at) = expr_after (before ++ (row_of o).sign) e
-expr_after before (s.binary o l r at) = expr_after (expr_after before l ++ codes " " ++ (row_of o).sign ++ codes " ") r
+abbrev pub expr_after : Expr → Layout
+expr_after (s.number z at) = written (signed_decimal z)
+expr_after (s.true at) = text "true"
+expr_after (s.false at) = text "false"
+expr_after (s.variable x) = name_after x
+expr_after (s.field x f) = name_after x ▹ text "." ▹ name_after f
+expr_after (s.group e at) = text "(" ▹ expr_after e ▹ text ")"
+expr_after (s.unary o e at) = written (row_of o).sign ▹ expr_after e
+expr_after (s.binary o l r at) = expr_after l ▹ text " " ▹ written (row_of o).sign ▹ text " " ▹ expr_after r
 
 -- ---- right sides
 
-abbrev pub build_after : List ℕ → Build → List ℕ
-build_after before b = enclosed_after (codes "(") (codes ")") expr_after (name_after before b.case) b.payload
+abbrev pub build_after : Build → Layout
+build_after b = name_after b.case ▹ enclosed_after (text "(") (text ")") expr_after b.payload
 
-abbrev pub call_after : List ℕ → Call → List ℕ
-call_after before c = listed_after expr_after (name_after before c.function ++ codes "(") c.arguments ++ codes ")"
+abbrev pub call_after : Call → Layout
+call_after c = name_after c.function ▹ text "(" ▹ listed_after expr_after c.arguments ▹ text ")"
 
-abbrev pub init_after : List ℕ → Init → List ℕ
-init_after before i = expr_after (name_after before i.field ++ codes ": ") i.value
+abbrev pub init_after : Init → Layout
+init_after i = name_after i.field ▹ text ": " ▹ expr_after i.value
 
 -- the variable of an object that adopts, in parentheses, or nothing
-abbrev pub owner_after : List ℕ → Option Name → List ℕ
-owner_after before None = before
-owner_after before (Some r) = name_after (before ++ codes "(") r ++ codes ")"
+abbrev pub owner_after : Option Name → Layout
+owner_after None = nothing
+owner_after (Some r) = text "(" ▹ name_after r ▹ text ")"
 
-abbrev pub right_after : List ℕ → Right → List ℕ
-right_after before (s.value e) = expr_after before e
-right_after before (s.build b) = build_after before b
-right_after before (s.call c) = call_after before c
-right_after before (s.input at) = before ++ codes "input()"
-right_after before (s.more at) = before ++ codes "more()"
-right_after before (s.make r n fs at) = braced_after init_after (named_after (owner_after (before ++ codes "new") r ++ codes " ") n ++ codes " ") fs
-right_after before (s.adopt x r at) = name_after (name_after (before ++ codes "adopt ") x ++ codes " into ") r
+abbrev pub right_after : Right → Layout
+right_after (s.value e) = expr_after e
+right_after (s.build b) = build_after b
+right_after (s.call c) = call_after c
+right_after (s.input at) = text "input()"
+right_after (s.more at) = text "more()"
+right_after (s.make r n fs at) = text "new" ▹ owner_after r ▹ text " " ▹ named_after n ▹ text " " ▹ braced_after init_after fs
+right_after (s.adopt x r at) = text "adopt " ▹ name_after x ▹ text " into " ▹ name_after r
 
--- what is given, after a space, or nothing
-abbrev pub returned_after : List ℕ → Returned → List ℕ
-returned_after before s.nothing = before
-returned_after before (s.value e) = expr_after (before ++ codes " ") e
-returned_after before (s.build b) = build_after (before ++ codes " ") b
+-- a space and what is given, or nothing
+abbrev pub returned_after : Returned → Layout
+returned_after s.nothing = nothing
+returned_after (s.value e) = text " " ▹ expr_after e
+returned_after (s.build b) = text " " ▹ build_after b
 
 -- ---- statements
 
@@ -90,135 +90,140 @@ abbrev pub deeper : List ℕ → List ℕ
 deeper indent = indent ++ codes "    "
 
 abbrev mutual
-  -- the statement, from behind its indentation to before its line feed
-  pub stmt_after : List ℕ → List ℕ → Stmt → List ℕ
-  stmt_after indent before (s.declare t x v at) = right_after (name_after (ty_after before t ++ codes " ") x ++ codes " = ") v ++ codes ";"
-  stmt_after indent before (s.assign x v at) = right_after (name_after before x ++ codes " = ") v ++ codes ";"
-  stmt_after indent before (s.put x f e at) = expr_after (name_after (name_after before x ++ codes ".") f ++ codes " = ") e ++ codes ";"
-  stmt_after indent before (s.call c at) = call_after before c ++ codes ";"
-  stmt_after indent before (s.print e at) = expr_after (before ++ codes "print(") e ++ codes ");"
-  stmt_after indent before (s.block b) = block_after indent before b
-  stmt_after indent before (s.choose i) = if_after indent before i
-  stmt_after indent before (s.loop e b at) = block_after indent (expr_after (before ++ codes "while (") e ++ codes ") ") b
-  stmt_after indent before (s.break at) = before ++ codes "break;"
-  stmt_after indent before (s.continue at) = before ++ codes "continue;"
-  stmt_after indent before (s.return v at) = returned_after (before ++ codes "return") v ++ codes ";"
-  stmt_after indent before (s.switch x s.no_arms at) = name_after (before ++ codes "switch (") x ++ codes ") {}"
-  stmt_after indent before (s.switch x (s.arm c vs b arm_at arms) at) = arms_after (deeper indent) (name_after (before ++ codes "switch (") x ++ codes ") {\n") (s.arm c vs b arm_at arms) ++ indent ++ codes "}"
-  stmt_after indent before (s.release x at) = name_after (before ++ codes "release ") x ++ codes ";"
-  stmt_after indent before (s.become x t at) = name_after (name_after (before ++ codes "become ") x ++ codes "@") t ++ codes ";"
-  stmt_after indent before (s.swap x f v at) = name_after (name_after (name_after (before ++ codes "swap ") x ++ codes ".") f ++ codes ", ") v ++ codes ";"
-  stmt_after indent before (s.open_into x vs at) = listed_after name_after (name_after (before ++ codes "open ") x ++ codes " into (") vs ++ codes ");"
-  stmt_after indent before (s.focus x k z b at) = block_after indent (name_after (name_after (name_after (before ++ codes "focus ") x ++ codes " as tracked(") k ++ codes ") ") z ++ codes " ") b
+  -- the statement, without its indentation and its line feed
+  pub stmt_after : (indent : List ℕ) → Stmt → Layout
+  stmt_after indent (s.declare t x v at) = ty_after t ▹ text " " ▹ name_after x ▹ text " = " ▹ right_after v ▹ text ";"
+  stmt_after indent (s.assign x v at) = name_after x ▹ text " = " ▹ right_after v ▹ text ";"
+  stmt_after indent (s.put x f e at) = name_after x ▹ text "." ▹ name_after f ▹ text " = " ▹ expr_after e ▹ text ";"
+  stmt_after indent (s.call c at) = call_after c ▹ text ";"
+  stmt_after indent (s.print e at) = text "print(" ▹ expr_after e ▹ text ");"
+  stmt_after indent (s.block b) = block_after indent b
+  stmt_after indent (s.choose i) = if_after indent i
+  stmt_after indent (s.loop e b at) = text "while (" ▹ expr_after e ▹ text ") " ▹ block_after indent b
+  stmt_after indent (s.break at) = text "break;"
+  stmt_after indent (s.continue at) = text "continue;"
+  stmt_after indent (s.return v at) = text "return" ▹ returned_after v ▹ text ";"
+  stmt_after indent (s.switch x s.no_arms at) = text "switch (" ▹ name_after x ▹ text ") {}"
+  stmt_after indent (s.switch x (s.arm c vs b arm_at arms) at) =
+      text "switch (" ▹ name_after x ▹ text ") {\n" ▹ arms_after (deeper indent) (s.arm c vs b arm_at arms) ▹ written indent ▹ text "}"
+  stmt_after indent (s.release x at) = text "release " ▹ name_after x ▹ text ";"
+  stmt_after indent (s.become x t at) = text "become " ▹ name_after x ▹ text "@" ▹ name_after t ▹ text ";"
+  stmt_after indent (s.swap x f v at) = text "swap " ▹ name_after x ▹ text "." ▹ name_after f ▹ text ", " ▹ name_after v ▹ text ";"
+  stmt_after indent (s.open_into x vs at) = text "open " ▹ name_after x ▹ text " into (" ▹ listed_after name_after vs ▹ text ");"
+  stmt_after indent (s.focus x k z b at) =
+      text "focus " ▹ name_after x ▹ text " as tracked(" ▹ name_after k ▹ text ") " ▹ name_after z ▹ text " " ▹ block_after indent b
 
-  pub block_after : List ℕ → List ℕ → Block → List ℕ
-  block_after indent before (s.braced s.done at) = before ++ codes "{}"
-  block_after indent before (s.braced (s.next x xs) at) = stmts_after (deeper indent) (before ++ codes "{\n") (s.next x xs) ++ indent ++ codes "}"
+  pub block_after : (indent : List ℕ) → Block → Layout
+  block_after indent (s.braced s.done at) = text "{}"
+  block_after indent (s.braced (s.next x xs) at) = text "{\n" ▹ stmts_after (deeper indent) (s.next x xs) ▹ written indent ▹ text "}"
 
   -- each statement on a line of its own
-  pub stmts_after : List ℕ → List ℕ → Stmts → List ℕ
-  stmts_after indent before s.done = before
-  stmts_after indent before (s.next x xs) = stmts_after indent (stmt_after indent (before ++ indent) x ++ codes "\n") xs
+  pub stmts_after : (indent : List ℕ) → Stmts → Layout
+  stmts_after indent s.done = nothing
+  stmts_after indent (s.next x xs) = written indent ▹ stmt_after indent x ▹ text "\n" ▹ stmts_after indent xs
 
-  pub if_after : List ℕ → List ℕ → If → List ℕ
-  if_after indent before (s.choice e b other at) = else_after indent (block_after indent (expr_after (before ++ codes "if (") e ++ codes ") ") b) other
+  pub if_after : (indent : List ℕ) → If → Layout
+  if_after indent (s.choice e b other at) = text "if (" ▹ expr_after e ▹ text ") " ▹ block_after indent b ▹ else_after indent other
 
-  pub else_after : List ℕ → List ℕ → Else → List ℕ
-  else_after indent before s.nothing = before
-  else_after indent before (s.last b) = block_after indent (before ++ codes " else ") b
-  else_after indent before (s.chained i) = if_after indent (before ++ codes " else ") i
+  pub else_after : (indent : List ℕ) → Else → Layout
+  else_after indent s.nothing = nothing
+  else_after indent (s.last b) = text " else " ▹ block_after indent b
+  else_after indent (s.chained i) = text " else " ▹ if_after indent i
 
   -- each arm on lines of its own
-  pub arms_after : List ℕ → List ℕ → Arms → List ℕ
-  arms_after indent before s.no_arms = before
-  arms_after indent before (s.arm c vs b at arms) =
-      arms_after indent (block_after indent (enclosed_after (codes "(") (codes ")") name_after (name_after (before ++ indent ++ codes "case ") c) vs ++ codes ": ") b ++ codes "\n") arms
+  pub arms_after : (indent : List ℕ) → Arms → Layout
+  arms_after indent s.no_arms = nothing
+  arms_after indent (s.arm c vs b at arms) =
+      written indent ▹ text "case " ▹ name_after c ▹ enclosed_after (text "(") (text ")") name_after vs ▹ text ": " ▹ block_after indent b ▹ text "\n"
+      ▹ arms_after indent arms
 
 -- ---- declarations
 
--- what stands before a further state of a set
-abbrev pub state_separator : (above : Bool) → List ℕ
-state_separator true = codes " < "
-state_separator false = codes ", "
+-- the sign between a state of a set and the one before it
+abbrev pub state_separator : (above : Bool) → Layout
+state_separator true = text " < "
+state_separator false = text ", "
 
-abbrev pub further_states_after : List ℕ → List SetState → List ℕ
-further_states_after before [] = before
-further_states_after before (x ∷ xs) = further_states_after (name_after (before ++ state_separator x.above) x.name) xs
+abbrev pub further_states_after : List SetState → Layout
+further_states_after [] = nothing
+further_states_after (x ∷ xs) = state_separator x.above ▹ name_after x.name ▹ further_states_after xs
 
 -- the states of a set between braces on one line
-abbrev pub set_states_after : List ℕ → List SetState → List ℕ
-set_states_after before [] = before ++ codes "{}"
-set_states_after before (x ∷ xs) = further_states_after (name_after (before ++ codes "{ ") x.name) xs ++ codes " }"
+abbrev pub set_states_after : List SetState → Layout
+set_states_after [] = text "{}"
+set_states_after (x ∷ xs) = text "{ " ▹ name_after x.name ▹ further_states_after xs ▹ text " }"
 
 -- a key, and the type of its object where one is given
-abbrev pub header_key_after : List ℕ → HeaderKey → List ℕ
-header_key_after before p = key_type_after (name_after before p.key) p.key_type
+abbrev pub header_key_after : HeaderKey → Layout
+header_key_after p = name_after p.key ▹ key_type_after p.key_type
   where
-    key_type_after : List ℕ → Option Name → List ℕ
-    key_type_after before None = before
-    key_type_after before (Some t) = name_after (before ++ codes ": ") t
+    key_type_after : Option Name → Layout
+    key_type_after None = nothing
+    key_type_after (Some t) = text ": " ▹ name_after t
 
-abbrev pub header_after : List ℕ → List HeaderKey → List ℕ
-header_after before ps = enclosed_after (codes "<") (codes ">") header_key_after before ps
+abbrev pub header_after : List HeaderKey → Layout
+header_after ps = enclosed_after (text "<") (text ">") header_key_after ps
 
-abbrev pub field_after : List ℕ → Field → List ℕ
-field_after before f = at_states_after (name_after (ty_after before f.ty ++ codes " ") f.name) f.states ++ codes ";"
+abbrev pub field_after : Field → Layout
+field_after f = ty_after f.ty ▹ text " " ▹ name_after f.name ▹ at_states_after f.states ▹ text ";"
 
-abbrev pub field_line_after : List ℕ → Field → List ℕ
-field_line_after before f = field_after (before ++ codes "    ") f ++ codes "\n"
+abbrev pub field_line_after : Field → Layout
+field_line_after f = text "    " ▹ field_after f ▹ text "\n"
 
 -- the line of the states in which an object is released, or nothing
-abbrev pub release_line_after : List ℕ → Option States → List ℕ
-release_line_after before None = before
-release_line_after before (Some ss) = states_after (before ++ codes "    release ") ss ++ codes ";\n"
+abbrev pub release_line_after : Option States → Layout
+release_line_after None = nothing
+release_line_after (Some ss) = text "    release " ▹ states_after ss ▹ text ";\n"
 
 -- the body of a struct
-abbrev pub fields_after : List ℕ → List Field → Option States → List ℕ
-fields_after before [] None = before ++ codes "{}"
-fields_after before fs r = release_line_after (each_after field_line_after (before ++ codes "{\n") fs) r ++ codes "}"
+abbrev pub fields_after : List Field → Option States → Layout
+fields_after [] None = text "{}"
+fields_after fs r = text "{\n" ▹ each_after field_line_after fs ▹ release_line_after r ▹ text "}"
 
-abbrev pub case_after : List ℕ → Case → List ℕ
-case_after before c = enclosed_after (codes " { ") (codes " }") key_states_after (enclosed_after (codes "(") (codes ")") ty_after (name_after before c.name) c.payload) c.keys
+abbrev pub case_after : Case → Layout
+case_after c =
+    name_after c.name ▹ enclosed_after (text "(") (text ")") ty_after c.payload ▹ enclosed_after (text " { ") (text " }") key_states_after c.keys
 
 -- the body of a variant
-abbrev pub cases_after : List ℕ → List Case → List ℕ
-cases_after before [] = before ++ codes "{}"
-cases_after before (c ∷ cs) = separated_after (codes ",\n    ") case_after (before ++ codes "{\n    ") (c ∷ cs) ++ codes "\n}"
+abbrev pub cases_after : List Case → Layout
+cases_after [] = text "{}"
+cases_after (c ∷ cs) = text "{\n    " ▹ separated_after (text ",\n    ") case_after (c ∷ cs) ▹ text "\n}"
 
-abbrev pub entry_after : List ℕ → Entry → List ℕ
-entry_after before (s.held k) = key_states_after before k
-entry_after before (s.changed k a b) = states_after (states_after (name_after before k ++ codes "@") a ++ codes "->") b
-entry_after before (s.bound k v b) = name_after (name_after (name_after before k ++ codes "@(") v ++ codes " <= ") b ++ codes ")"
-entry_after before (s.taken k at) = key_states_after (before ++ codes "-") k
-entry_after before (s.given k at) = key_states_after (before ++ codes "+") k
-entry_after before (s.fresh k at) = key_states_after (before ++ codes "new ") k
+abbrev pub entry_after : Entry → Layout
+entry_after (s.held k) = key_states_after k
+entry_after (s.changed k a b) = name_after k ▹ text "@" ▹ states_after a ▹ text "->" ▹ states_after b
+entry_after (s.bound k v b) = name_after k ▹ text "@(" ▹ name_after v ▹ text " <= " ▹ name_after b ▹ text ")"
+entry_after (s.taken k at) = text "-" ▹ key_states_after k
+entry_after (s.given k at) = text "+" ▹ key_states_after k
+entry_after (s.fresh k at) = text "new " ▹ key_states_after k
 
-abbrev pub result_type_after : List ℕ → ResultType → List ℕ
-result_type_after before (s.void at) = before ++ codes "void"
-result_type_after before (s.value t) = ty_after before t
+abbrev pub result_type_after : ResultType → Layout
+result_type_after (s.void at) = text "void"
+result_type_after (s.value t) = ty_after t
 
-abbrev pub parameter_after : List ℕ → Parameter → List ℕ
-parameter_after before p = name_after (ty_after before p.ty ++ codes " ") p.name
+abbrev pub parameter_after : Parameter → Layout
+parameter_after p = ty_after p.ty ▹ text " " ▹ name_after p.name
 
 -- the clause of a head, or nothing
-abbrev pub clause_after : List ℕ → Option (List Entry) → List ℕ
-clause_after before None = before
-clause_after before (Some es) = listed_after entry_after (before ++ codes " [") es ++ codes "]"
+abbrev pub clause_after : Option (List Entry) → Layout
+clause_after None = nothing
+clause_after (Some es) = text " [" ▹ listed_after entry_after es ▹ text "]"
 
-abbrev pub head_after : List ℕ → Head → List ℕ
-head_after before h = clause_after (listed_after parameter_after (name_after (result_type_after before h.result_type ++ codes " ") h.name ++ codes "(") h.parameters ++ codes ")") h.clause
+abbrev pub head_after : Head → Layout
+head_after h =
+    result_type_after h.result_type ▹ text " " ▹ name_after h.name ▹ text "(" ▹ listed_after parameter_after h.parameters ▹ text ")" ▹ clause_after h.clause
 
-abbrev pub decl_after : List ℕ → Decl → List ℕ
-decl_after before (s.stateset n ss at) = set_states_after (name_after (before ++ codes "stateset ") n ++ codes " ") ss
-decl_after before (s.abstract n ss at) = at_name_after (name_after (before ++ codes "abstract ") n) ss ++ codes ";"
-decl_after before (s.struct n ps ss fs r at) = fields_after (at_name_after (header_after (name_after (before ++ codes "struct ") n) ps) ss ++ codes " ") fs r
-decl_after before (s.variant n ps cs at) = cases_after (header_after (name_after (before ++ codes "variant ") n) ps ++ codes " ") cs
-decl_after before (s.extern h at) = head_after (before ++ codes "extern ") h ++ codes ";"
-decl_after before (s.function h b at) = block_after [] (head_after before h ++ codes " ") b
+abbrev pub decl_after : Decl → Layout
+decl_after (s.stateset n ss at) = text "stateset " ▹ name_after n ▹ text " " ▹ set_states_after ss
+decl_after (s.abstract n ss at) = text "abstract " ▹ name_after n ▹ at_name_after ss ▹ text ";"
+decl_after (s.struct n ps ss fs r at) = text "struct " ▹ name_after n ▹ header_after ps ▹ at_name_after ss ▹ text " " ▹ fields_after fs r
+decl_after (s.variant n ps cs at) = text "variant " ▹ name_after n ▹ header_after ps ▹ text " " ▹ cases_after cs
+decl_after (s.extern h at) = text "extern " ▹ head_after h ▹ text ";"
+decl_after (s.function h b at) = head_after h ▹ text " " ▹ block_after [] b
 
-abbrev pub decl_line_after : List ℕ → Decl → List ℕ
-decl_line_after before d = decl_after before d ++ codes "\n"
+abbrev pub decl_line_after : Decl → Layout
+decl_line_after d = decl_after d ▹ text "\n"
 
 -- the text of a whole file
 abbrev pub layout : Tree → List ℕ
-layout t = each_after decl_line_after [] t.decls
+layout t = each_after decl_line_after t.decls []

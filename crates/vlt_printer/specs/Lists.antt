@@ -1,31 +1,52 @@
--- How lists of things are laid out. A thing's layout takes the text before it, and gives that text with the thing behind it.
+-- Layouts in the order of the page, and how lists of things are laid out.
+use Prim.Native.String.{String}
 use Rattle.std.specs.Prelude.{ℕ, List, [], ◌∷◌, ◌++◌, codes}
 
--- one thing behind another
-abbrev pub each_after : {X : Type 0} → (List ℕ → X → List ℕ) → List ℕ → List X → List ℕ
-each_after after before [] = before
-each_after after before (x ∷ xs) = each_after after (after before x) xs
+-- from the text before a thing to the text after it
+abbrev pub Layout : Type 0
+Layout = List ℕ → List ℕ
+
+-- one layout, then the next
+infixl 10 ◌▹◌
+abbrev pub ◌▹◌ : Layout → Layout → Layout
+first ▹ next = λ before. next (first before)
+
+abbrev pub nothing : Layout
+nothing before = before
+
+-- these bytes
+abbrev pub written : List ℕ → Layout
+written bytes before = before ++ bytes
+
+-- these letters
+abbrev pub text : String → Layout
+text letters = written (codes letters)
+
+-- each thing in turn
+abbrev pub each_after : {X : Type 0} → (X → Layout) → List X → Layout
+each_after after [] = nothing
+each_after after (x ∷ xs) = after x ▹ each_after after xs
 
 -- further things, the separator before each
-abbrev pub further_after : {X : Type 0} → List ℕ → (List ℕ → X → List ℕ) → List ℕ → List X → List ℕ
-further_after separator after before [] = before
-further_after separator after before (x ∷ xs) = further_after separator after (after (before ++ separator) x) xs
+abbrev pub further_after : {X : Type 0} → Layout → (X → Layout) → List X → Layout
+further_after separator after [] = nothing
+further_after separator after (x ∷ xs) = separator ▹ after x ▹ further_after separator after xs
 
 -- things with the separator between them
-abbrev pub separated_after : {X : Type 0} → List ℕ → (List ℕ → X → List ℕ) → List ℕ → List X → List ℕ
-separated_after separator after before [] = before
-separated_after separator after before (x ∷ xs) = further_after separator after (after before x) xs
+abbrev pub separated_after : {X : Type 0} → Layout → (X → Layout) → List X → Layout
+separated_after separator after [] = nothing
+separated_after separator after (x ∷ xs) = after x ▹ further_after separator after xs
 
 -- things with commas between them
-abbrev pub listed_after : {X : Type 0} → (List ℕ → X → List ℕ) → List ℕ → List X → List ℕ
-listed_after after before xs = separated_after (codes ", ") after before xs
+abbrev pub listed_after : {X : Type 0} → (X → Layout) → List X → Layout
+listed_after after xs = separated_after (text ", ") after xs
 
--- such a list between two texts, or nothing where there is no thing
-abbrev pub enclosed_after : {X : Type 0} → List ℕ → List ℕ → (List ℕ → X → List ℕ) → List ℕ → List X → List ℕ
-enclosed_after opening closing after before [] = before
-enclosed_after opening closing after before (x ∷ xs) = listed_after after (before ++ opening) (x ∷ xs) ++ closing
+-- such a list between two layouts, or nothing where there is no thing
+abbrev pub enclosed_after : {X : Type 0} → Layout → Layout → (X → Layout) → List X → Layout
+enclosed_after opening closing after [] = nothing
+enclosed_after opening closing after (x ∷ xs) = opening ▹ listed_after after (x ∷ xs) ▹ closing
 
 -- such a list between braces on one line
-abbrev pub braced_after : {X : Type 0} → (List ℕ → X → List ℕ) → List ℕ → List X → List ℕ
-braced_after after before [] = before ++ codes "{}"
-braced_after after before (x ∷ xs) = listed_after after (before ++ codes "{ ") (x ∷ xs) ++ codes " }"
+abbrev pub braced_after : {X : Type 0} → (X → Layout) → List X → Layout
+braced_after after [] = text "{}"
+braced_after after (x ∷ xs) = text "{ " ▹ listed_after after (x ∷ xs) ▹ text " }"

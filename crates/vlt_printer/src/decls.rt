@@ -1,6 +1,6 @@
 //! Declarations.
 
-ghost use Rattle.std.specs.Prelude.{◌≡◌, ◌++◌, map, OnOk, option_map};
+ghost use Rattle.std.specs.Prelude.{◌≡◌, map, OnOk, option_map};
 ghost use Rattle.vlt_syntax.specs.Tree.{HeaderKey as SeenHeaderKey, Field as SeenField, Case as SeenCase};
 ghost use Rattle.vlt_syntax.specs.View.{states_of, set_state_of, header_key_of, field_of, case_of, decl_of};
 ghost use Rattle.vlt_printer.specs.Lists.{each_after};
@@ -66,16 +66,16 @@ impl Part for Case {
 }
 
 fn write_header(out: &mut Vec<u8>, params: &[HeaderKey]) -> Result<(), Memory>
-    ensures { OnOk result (out.new.items ≡ header_after out.old.items
-        (map header_key_of params.now)) }
+    ensures { OnOk result (out.new.items ≡ header_after (map header_key_of params.now)
+        out.old.items) }
 {
     write_enclosed(out, b"<", b">", params)
 }
 
 /// Writes the line of the states in which an object is released, or nothing.
 fn write_release_line(out: &mut Vec<u8>, release: &Option<States>) -> Result<(), Memory>
-    ensures { OnOk result (out.new.items ≡ release_line_after out.old.items
-        (option_map states_of release.now)) }
+    ensures { OnOk result (out.new.items ≡ release_line_after (option_map states_of release.now)
+        out.old.items) }
 {
     match release {
         Some(states) => {
@@ -89,8 +89,8 @@ fn write_release_line(out: &mut Vec<u8>, release: &Option<States>) -> Result<(),
 
 /// Writes the body of a struct.
 fn write_fields(out: &mut Vec<u8>, fields: &[Field], release: &Option<States>) -> Result<(), Memory>
-    ensures { OnOk result (out.new.items ≡ fields_after out.old.items (map field_of fields.now)
-        (option_map states_of release.now)) }
+    ensures { OnOk result (out.new.items ≡ fields_after (map field_of fields.now)
+        (option_map states_of release.now) out.old.items) }
 {
     if fields.is_empty() && release.is_none() {
         return write_text(out, b"{}");
@@ -103,7 +103,7 @@ fn write_fields(out: &mut Vec<u8>, fields: &[Field], release: &Option<States>) -
 
 /// Writes the body of a variant.
 fn write_cases(out: &mut Vec<u8>, cases: &[Case]) -> Result<(), Memory>
-    ensures { OnOk result (out.new.items ≡ cases_after out.old.items (map case_of cases.now)) }
+    ensures { OnOk result (out.new.items ≡ cases_after (map case_of cases.now) out.old.items) }
 {
     if cases.is_empty() {
         return write_text(out, b"{}");
@@ -113,9 +113,9 @@ fn write_cases(out: &mut Vec<u8>, cases: &[Case]) -> Result<(), Memory>
     write_text(out, b"\n}")
 }
 
-/// Writes what stands before a further state of a set.
+/// Writes the sign between a state of a set and the one before it.
 fn write_state_separator(out: &mut Vec<u8>, above: bool) -> Result<(), Memory>
-    ensures { OnOk result (out.new.items ≡ out.old.items ++ state_separator above) }
+    ensures { OnOk result (out.new.items ≡ state_separator above out.old.items) }
 {
     if above {
         write_text(out, b" < ")
@@ -125,8 +125,8 @@ fn write_state_separator(out: &mut Vec<u8>, above: bool) -> Result<(), Memory>
 }
 
 fn write_further_states(out: &mut Vec<u8>, states: &[SetState]) -> Result<(), Memory>
-    ensures { OnOk result (out.new.items ≡ further_states_after out.old.items
-        (map set_state_of states.now)) }
+    ensures { OnOk result (out.new.items ≡ further_states_after (map set_state_of states.now)
+        out.old.items) }
 {
     for state in states {
         write_state_separator(out, state.above)?;
@@ -137,8 +137,8 @@ fn write_further_states(out: &mut Vec<u8>, states: &[SetState]) -> Result<(), Me
 
 /// Writes the states of a set between braces.
 fn write_set_states(out: &mut Vec<u8>, states: &[SetState]) -> Result<(), Memory>
-    ensures { OnOk result (out.new.items ≡ set_states_after out.old.items
-        (map set_state_of states.now)) }
+    ensures { OnOk result (out.new.items ≡ set_states_after (map set_state_of states.now)
+        out.old.items) }
 {
     let Some((first, further)) = states.split_first() else {
         return write_text(out, b"{}");
@@ -150,7 +150,7 @@ fn write_set_states(out: &mut Vec<u8>, states: &[SetState]) -> Result<(), Memory
 }
 
 fn write_decl(alloc: Global, out: &mut Vec<u8>, decl: &Decl) -> Result<(), Memory>
-    ensures { OnOk result (out.new.items ≡ decl_after out.old.items (decl_of decl.now)) }
+    ensures { OnOk result (out.new.items ≡ decl_after (decl_of decl.now) out.old.items) }
 {
     match decl {
         Decl::StateSet { name, states, .. } => {
@@ -207,8 +207,8 @@ fn write_decl(alloc: Global, out: &mut Vec<u8>, decl: &Decl) -> Result<(), Memor
 
 /// Writes each declaration, its last line ended.
 pub fn write_decls(alloc: Global, out: &mut Vec<u8>, decls: &[Decl]) -> Result<(), Memory>
-    ensures { OnOk result (out.new.items ≡ each_after decl_line_after out.old.items
-        (map decl_of decls.now)) }
+    ensures { OnOk result (out.new.items ≡ each_after decl_line_after (map decl_of decls.now)
+        out.old.items) }
 {
     for decl in decls {
         write_decl(alloc, out, decl)?;

@@ -25,7 +25,7 @@ impl Part for Expr {
 }
 
 pub fn write_expr(out: &mut Vec<u8>, expr: &Expr) -> Result<(), Memory>
-    ensures { OnOk result (out.new.items ≡ expr_after out.old.items (expr_of expr.now)) }
+    ensures { OnOk result (out.new.items ≡ expr_after (expr_of expr.now) out.old.items) }
 {
     match expr {
         Expr::Number(value, _) => {

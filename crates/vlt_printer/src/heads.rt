@@ -70,8 +70,8 @@ impl Part for Entry {
 }
 
 fn write_result_type(out: &mut Vec<u8>, result_type: &ResultType) -> Result<(), Memory>
-    ensures { OnOk result (out.new.items ≡ result_type_after out.old.items
-        (result_type_of result_type.now)) }
+    ensures { OnOk result (out.new.items ≡ result_type_after (result_type_of result_type.now)
+        out.old.items) }
 {
     match result_type {
         ResultType::Void(_) => write_text(out, b"void"),
@@ -81,8 +81,8 @@ fn write_result_type(out: &mut Vec<u8>, result_type: &ResultType) -> Result<(), 
 
 /// Writes the clause of a head, or nothing.
 fn write_clause(out: &mut Vec<u8>, clause: &Option<Items<Entry>>) -> Result<(), Memory>
-    ensures { OnOk result (out.new.items ≡ clause_after out.old.items
-        (option_map (map entry_of) clause.now)) }
+    ensures { OnOk result (out.new.items ≡ clause_after (option_map (map entry_of) clause.now)
+        out.old.items) }
 {
     match clause {
         Some(entries) => {
@@ -95,7 +95,7 @@ fn write_clause(out: &mut Vec<u8>, clause: &Option<Items<Entry>>) -> Result<(), 
 }
 
 pub fn write_head(out: &mut Vec<u8>, head: &Head) -> Result<(), Memory>
-    ensures { OnOk result (out.new.items ≡ head_after out.old.items (head_of head.now)) }
+    ensures { OnOk result (out.new.items ≡ head_after (head_of head.now) out.old.items) }
 {
     write_result_type(out, &head.result_type)?;
     write_text(out, b" ")?;

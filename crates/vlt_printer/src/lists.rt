@@ -1,21 +1,21 @@
 //! Lists of things.
 
-ghost use Rattle.std.specs.Prelude.{◌≡◌, ◌++◌, ℕ, List, map, OnOk};
-ghost use Rattle.vlt_printer.specs.Lists.{each_after, separated_after, listed_after, enclosed_after, braced_after};
+ghost use Rattle.std.specs.Prelude.{◌≡◌, ◌++◌, map, OnOk};
+ghost use Rattle.vlt_printer.specs.Lists.{Layout, written, each_after, separated_after, listed_after, enclosed_after, braced_after};
 
 use vlt_base::Memory;
 
-/// A thing that stands in lists.
+/// A thing that is in lists.
 pub trait Part: Sized {
     ghost Seen: { Type 0 };
 
     ghost view: { Self → Seen };
 
-    ghost after: { List ℕ → Seen → List ℕ };
+    ghost after: { Seen → Layout };
 
-    /// Writes it behind what was written before.
+    /// Writes it after what was written before.
     fn write(&self, out: &mut Vec<u8>) -> Result<(), Memory>
-        ensures { OnOk result (out.new.items ≡ after out.old.items (view self.now)) };
+        ensures { OnOk result (out.new.items ≡ after (view self.now) out.old.items) };
 }
 
 /// Writes a text.
@@ -26,10 +26,10 @@ pub fn write_text(out: &mut Vec<u8>, text: &[u8]) -> Result<(), Memory>
     Ok(())
 }
 
-/// Writes one thing behind another.
+/// Writes each thing in turn.
 pub fn write_each<T: Part>(out: &mut Vec<u8>, items: &[T]) -> Result<(), Memory>
-    ensures { OnOk result (out.new.items ≡ each_after T.after out.old.items
-        (map T.view items.now)) }
+    ensures { OnOk result (out.new.items ≡ each_after T.after (map T.view items.now)
+        out.old.items) }
 {
     for item in items {
         item.write(out)?;
@@ -43,8 +43,8 @@ pub fn write_separated<T: Part>(
     separator: &[u8],
     items: &[T],
 ) -> Result<(), Memory>
-    ensures { OnOk result (out.new.items ≡ separated_after separator.now T.after out.old.items
-        (map T.view items.now)) }
+    ensures { OnOk result (out.new.items ≡ separated_after (written separator.now) T.after
+        (map T.view items.now) out.old.items) }
 {
     let Some((first, rest)) = items.split_first() else {
         return Ok(());
@@ -59,8 +59,8 @@ pub fn write_separated<T: Part>(
 
 /// Writes things with commas between them.
 pub fn write_listed<T: Part>(out: &mut Vec<u8>, items: &[T]) -> Result<(), Memory>
-    ensures { OnOk result (out.new.items ≡ listed_after T.after out.old.items
-        (map T.view items.now)) }
+    ensures { OnOk result (out.new.items ≡ listed_after T.after (map T.view items.now)
+        out.old.items) }
 {
     write_separated(out, b", ", items)
 }
@@ -72,8 +72,8 @@ pub fn write_enclosed<T: Part>(
     closing: &[u8],
     items: &[T],
 ) -> Result<(), Memory>
-    ensures { OnOk result (out.new.items ≡ enclosed_after opening.now closing.now T.after
-        out.old.items (map T.view items.now)) }
+    ensures { OnOk result (out.new.items ≡ enclosed_after (written opening.now)
+        (written closing.now) T.after (map T.view items.now) out.old.items) }
 {
     if items.is_empty() {
         return Ok(());
@@ -85,8 +85,8 @@ pub fn write_enclosed<T: Part>(
 
 /// Writes such a list between braces on one line.
 pub fn write_braced<T: Part>(out: &mut Vec<u8>, items: &[T]) -> Result<(), Memory>
-    ensures { OnOk result (out.new.items ≡ braced_after T.after out.old.items
-        (map T.view items.now)) }
+    ensures { OnOk result (out.new.items ≡ braced_after T.after (map T.view items.now)
+        out.old.items) }
 {
     if items.is_empty() {
         return write_text(out, b"{}");

@@ -26,14 +26,14 @@ impl Part for Init {
 }
 
 pub fn write_build(out: &mut Vec<u8>, build: &Build) -> Result<(), Memory>
-    ensures { OnOk result (out.new.items ≡ build_after out.old.items (build_of build.now)) }
+    ensures { OnOk result (out.new.items ≡ build_after (build_of build.now) out.old.items) }
 {
     write_name(out, &build.case)?;
     write_enclosed(out, b"(", b")", build.payload.as_slice())
 }
 
 pub fn write_call(out: &mut Vec<u8>, call: &Call) -> Result<(), Memory>
-    ensures { OnOk result (out.new.items ≡ call_after out.old.items (call_of call.now)) }
+    ensures { OnOk result (out.new.items ≡ call_after (call_of call.now) out.old.items) }
 {
     write_name(out, &call.function)?;
     write_text(out, b"(")?;
@@ -43,8 +43,8 @@ pub fn write_call(out: &mut Vec<u8>, call: &Call) -> Result<(), Memory>
 
 /// Writes the variable of an object that adopts, or nothing.
 fn write_owner(out: &mut Vec<u8>, owner: &Option<Name>) -> Result<(), Memory>
-    ensures { OnOk result (out.new.items ≡ owner_after out.old.items
-        (option_map name_of owner.now)) }
+    ensures { OnOk result (out.new.items ≡ owner_after (option_map name_of owner.now)
+        out.old.items) }
 {
     match owner {
         Some(owner) => {
@@ -57,7 +57,7 @@ fn write_owner(out: &mut Vec<u8>, owner: &Option<Name>) -> Result<(), Memory>
 }
 
 pub fn write_right(out: &mut Vec<u8>, right: &Right) -> Result<(), Memory>
-    ensures { OnOk result (out.new.items ≡ right_after out.old.items (right_of right.now)) }
+    ensures { OnOk result (out.new.items ≡ right_after (right_of right.now) out.old.items) }
 {
     match right {
         Right::Value(value) => write_expr(out, value),
@@ -93,8 +93,8 @@ pub fn write_right(out: &mut Vec<u8>, right: &Right) -> Result<(), Memory>
 
 /// Writes what is returned with a space before it, or nothing.
 pub fn write_returned(out: &mut Vec<u8>, returned: &Returned) -> Result<(), Memory>
-    ensures { OnOk result (out.new.items ≡ returned_after out.old.items
-        (returned_of returned.now)) }
+    ensures { OnOk result (out.new.items ≡ returned_after (returned_of returned.now)
+        out.old.items) }
 {
     match returned {
         Returned::Nothing => Ok(()),

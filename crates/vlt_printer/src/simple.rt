@@ -1,8 +1,8 @@
 //! Statements without blocks.
 
-ghost use Rattle.std.specs.Prelude.{◌≡◌, ◌++◌, codes, OnOk};
+ghost use Rattle.std.specs.Prelude.{◌≡◌, OnOk};
 ghost use Rattle.vlt_syntax.specs.View.{name_of, names_of, ty_of, expr_of, right_of};
-ghost use Rattle.vlt_printer.specs.Lists.{listed_after};
+ghost use Rattle.vlt_printer.specs.Lists.{◌▹◌, text, listed_after};
 ghost use Rattle.vlt_printer.specs.Layout.{name_after, ty_after, expr_after, right_after};
 
 use crate::exprs::write_expr;
@@ -14,9 +14,9 @@ use vlt_syntax::{Expr, Name, Right, Ty};
 
 /// `x = 1;`
 pub fn write_assign(out: &mut Vec<u8>, name: &Name, value: &Right) -> Result<(), Memory>
-    ensures { OnOk result (out.new.items ≡ right_after
-        (name_after out.old.items (name_of name.now) ++ codes " = ")
-        (right_of value.now) ++ codes ";") }
+    ensures { OnOk result (out.new.items
+        ≡ (name_after (name_of name.now) ▹ text " = "
+        ▹ right_after (right_of value.now) ▹ text ";") out.old.items) }
 {
     write_name(out, name)?;
     write_text(out, b" = ")?;
@@ -26,9 +26,9 @@ pub fn write_assign(out: &mut Vec<u8>, name: &Name, value: &Right) -> Result<(),
 
 /// `int x = 1;`
 pub fn write_declare(out: &mut Vec<u8>, ty: &Ty, name: &Name, value: &Right) -> Result<(), Memory>
-    ensures { OnOk result (out.new.items ≡ right_after
-        (name_after (ty_after out.old.items (ty_of ty.now) ++ codes " ")
-        (name_of name.now) ++ codes " = ") (right_of value.now) ++ codes ";") }
+    ensures { OnOk result (out.new.items
+        ≡ (ty_after (ty_of ty.now) ▹ text " " ▹ name_after (name_of name.now)
+        ▹ text " = " ▹ right_after (right_of value.now) ▹ text ";") out.old.items) }
 {
     write_ty(out, ty)?;
     write_text(out, b" ")?;
@@ -37,9 +37,9 @@ pub fn write_declare(out: &mut Vec<u8>, ty: &Ty, name: &Name, value: &Right) -> 
 
 /// `x.f = 1;`
 pub fn write_put(out: &mut Vec<u8>, base: &Name, field: &Name, value: &Expr) -> Result<(), Memory>
-    ensures { OnOk result (out.new.items ≡ expr_after
-        (name_after (name_after out.old.items (name_of base.now) ++ codes ".")
-        (name_of field.now) ++ codes " = ") (expr_of value.now) ++ codes ";") }
+    ensures { OnOk result (out.new.items
+        ≡ (name_after (name_of base.now) ▹ text "." ▹ name_after (name_of field.now)
+        ▹ text " = " ▹ expr_after (expr_of value.now) ▹ text ";") out.old.items) }
 {
     write_name(out, base)?;
     write_text(out, b".")?;
@@ -51,8 +51,8 @@ pub fn write_put(out: &mut Vec<u8>, base: &Name, field: &Name, value: &Expr) -> 
 
 /// `print(1);`
 pub fn write_print(out: &mut Vec<u8>, value: &Expr) -> Result<(), Memory>
-    ensures { OnOk result (out.new.items ≡ expr_after
-        (out.old.items ++ codes "print(") (expr_of value.now) ++ codes ");") }
+    ensures { OnOk result (out.new.items
+        ≡ (text "print(" ▹ expr_after (expr_of value.now) ▹ text ");") out.old.items) }
 {
     write_text(out, b"print(")?;
     write_expr(out, value)?;
@@ -61,8 +61,8 @@ pub fn write_print(out: &mut Vec<u8>, value: &Expr) -> Result<(), Memory>
 
 /// `release x;`
 pub fn write_release(out: &mut Vec<u8>, name: &Name) -> Result<(), Memory>
-    ensures { OnOk result (out.new.items ≡ name_after (out.old.items ++ codes "release ")
-        (name_of name.now) ++ codes ";") }
+    ensures { OnOk result (out.new.items
+        ≡ (text "release " ▹ name_after (name_of name.now) ▹ text ";") out.old.items) }
 {
     write_text(out, b"release ")?;
     write_name(out, name)?;
@@ -71,9 +71,9 @@ pub fn write_release(out: &mut Vec<u8>, name: &Name) -> Result<(), Memory>
 
 /// `become x@s;`
 pub fn write_become(out: &mut Vec<u8>, variable: &Name, state: &Name) -> Result<(), Memory>
-    ensures { OnOk result (out.new.items ≡ name_after
-        (name_after (out.old.items ++ codes "become ") (name_of variable.now) ++ codes "@")
-        (name_of state.now) ++ codes ";") }
+    ensures { OnOk result (out.new.items
+        ≡ (text "become " ▹ name_after (name_of variable.now)
+        ▹ text "@" ▹ name_after (name_of state.now) ▹ text ";") out.old.items) }
 {
     write_text(out, b"become ")?;
     write_name(out, variable)?;
@@ -89,10 +89,10 @@ pub fn write_swap(
     field: &Name,
     variable: &Name,
 ) -> Result<(), Memory>
-    ensures { OnOk result (out.new.items ≡ name_after
-        (name_after (name_after (out.old.items ++ codes "swap ")
-        (name_of base.now) ++ codes ".") (name_of field.now) ++ codes ", ")
-        (name_of variable.now) ++ codes ";") }
+    ensures { OnOk result (out.new.items
+        ≡ (text "swap " ▹ name_after (name_of base.now)
+        ▹ text "." ▹ name_after (name_of field.now)
+        ▹ text ", " ▹ name_after (name_of variable.now) ▹ text ";") out.old.items) }
 {
     write_text(out, b"swap ")?;
     write_name(out, base)?;
@@ -105,9 +105,10 @@ pub fn write_swap(
 
 /// `open x into (v, w);`
 pub fn write_open(out: &mut Vec<u8>, variable: &Name, parts: &[Name]) -> Result<(), Memory>
-    ensures { OnOk result (out.new.items ≡ listed_after name_after
-        (name_after (out.old.items ++ codes "open ") (name_of variable.now) ++ codes " into (")
-        (names_of parts.now) ++ codes ");") }
+    ensures { OnOk result (out.new.items
+        ≡ (text "open " ▹ name_after (name_of variable.now)
+        ▹ text " into (" ▹ listed_after name_after (names_of parts.now)
+        ▹ text ");") out.old.items) }
 {
     write_text(out, b"open ")?;
     write_name(out, variable)?;
@@ -116,17 +117,17 @@ pub fn write_open(out: &mut Vec<u8>, variable: &Name, parts: &[Name]) -> Result<
     write_text(out, b");")
 }
 
-/// `focus y as tracked(K) z`, with a space behind it.
+/// `focus y as tracked(K) z`, with a space after it.
 pub fn write_focus(
     out: &mut Vec<u8>,
     variable: &Name,
     key: &Name,
     alias: &Name,
 ) -> Result<(), Memory>
-    ensures { OnOk result (out.new.items ≡ name_after
-        (name_after (name_after (out.old.items ++ codes "focus ")
-        (name_of variable.now) ++ codes " as tracked(") (name_of key.now) ++ codes ") ")
-        (name_of alias.now) ++ codes " ") }
+    ensures { OnOk result (out.new.items
+        ≡ (text "focus " ▹ name_after (name_of variable.now)
+        ▹ text " as tracked(" ▹ name_after (name_of key.now)
+        ▹ text ") " ▹ name_after (name_of alias.now) ▹ text " ") out.old.items) }
 {
     write_text(out, b"focus ")?;
     write_name(out, variable)?;

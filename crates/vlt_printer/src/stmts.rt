@@ -1,4 +1,4 @@
-//! Statements. `indent` is what stands before the lines of the block around.
+//! Statements. `indent` is what each line of the block around begins with.
 
 ghost use Rattle.std.specs.Prelude.{◌≡◌, OnOk, IfOk};
 ghost use Rattle.vlt_syntax.specs.View.{stmt_of, stmts_of, block_of, if_of, else_of, arms_of, name_of};
@@ -18,7 +18,7 @@ use std::alloc::Global;
 use vlt_base::Memory;
 use vlt_syntax::{Arm, Block, Else, If, Name, Stmt};
 
-/// What stands before the lines of a block in this one.
+/// What each line of a block in this one begins with.
 fn deeper(alloc: Global, indent: &[u8]) -> Result<Vec<u8>, Memory>
     ensures { IfOk result (λ d. d.items ≡ one_deeper indent.now) }
 {
@@ -35,8 +35,8 @@ pub fn write_block(
     indent: &[u8],
     block: &Block,
 ) -> Result<(), Memory>
-    ensures { OnOk result (out.new.items ≡ block_after indent.now out.old.items
-        (block_of block.now)) }
+    ensures { OnOk result (out.new.items ≡ block_after indent.now (block_of block.now)
+        out.old.items) }
 {
     if block.stmts.as_slice().is_empty() {
         return write_text(out, b"{}");
@@ -56,8 +56,8 @@ fn write_stmts(
     indent: &[u8],
     stmts: &[Stmt],
 ) -> Result<(), Memory>
-    ensures { OnOk result (out.new.items ≡ stmts_after indent.now out.old.items
-        (stmts_of stmts.now)) }
+    ensures { OnOk result (out.new.items ≡ stmts_after indent.now (stmts_of stmts.now)
+        out.old.items) }
 {
     for stmt in stmts {
         write_text(out, indent)?;
@@ -67,11 +67,11 @@ fn write_stmts(
     Ok(())
 }
 
-/// Writes a statement, from behind its indentation to before its line feed.
+/// Writes a statement, without its indentation and its line feed.
 #[cycle(statements)]
 fn write_stmt(alloc: Global, out: &mut Vec<u8>, indent: &[u8], stmt: &Stmt) -> Result<(), Memory>
-    ensures { OnOk result (out.new.items ≡ stmt_after indent.now out.old.items
-        (stmt_of stmt.now)) }
+    ensures { OnOk result (out.new.items ≡ stmt_after indent.now (stmt_of stmt.now)
+        out.old.items) }
 {
     match stmt {
         Stmt::Declare {
@@ -146,7 +146,7 @@ fn write_stmt(alloc: Global, out: &mut Vec<u8>, indent: &[u8], stmt: &Stmt) -> R
 
 #[cycle(statements)]
 fn write_if(alloc: Global, out: &mut Vec<u8>, indent: &[u8], choice: &If) -> Result<(), Memory>
-    ensures { OnOk result (out.new.items ≡ if_after indent.now out.old.items (if_of choice.now)) }
+    ensures { OnOk result (out.new.items ≡ if_after indent.now (if_of choice.now) out.old.items) }
 {
     write_text(out, b"if (")?;
     write_expr(out, &choice.condition)?;
@@ -162,8 +162,8 @@ fn write_else(
     indent: &[u8],
     otherwise: &Else,
 ) -> Result<(), Memory>
-    ensures { OnOk result (out.new.items ≡ else_after indent.now out.old.items
-        (else_of otherwise.now)) }
+    ensures { OnOk result (out.new.items ≡ else_after indent.now (else_of otherwise.now)
+        out.old.items) }
 {
     match otherwise {
         Else::Nothing => Ok(()),
@@ -188,8 +188,8 @@ fn write_switch(
     arms: &[Arm],
 ) -> Result<(), Memory>
     ensures { (at : Span) → OnOk result (out.new.items
-        ≡ stmt_after indent.now out.old.items
-        (a_switch (name_of variable.now) (arms_of arms.now) at)) }
+        ≡ stmt_after indent.now (a_switch (name_of variable.now) (arms_of arms.now) at)
+        out.old.items) }
 {
     write_text(out, b"switch (")?;
     write_name(out, variable)?;
@@ -206,8 +206,8 @@ fn write_switch(
 /// Writes each arm on lines of its own.
 #[cycle(statements)]
 fn write_arms(alloc: Global, out: &mut Vec<u8>, indent: &[u8], arms: &[Arm]) -> Result<(), Memory>
-    ensures { OnOk result (out.new.items ≡ arms_after indent.now out.old.items
-        (arms_of arms.now)) }
+    ensures { OnOk result (out.new.items ≡ arms_after indent.now (arms_of arms.now)
+        out.old.items) }
 {
     for arm in arms {
         write_text(out, indent)?;

@@ -47,15 +47,15 @@ impl Part for Ty {
 }
 
 pub fn write_name(out: &mut Vec<u8>, name: &Name) -> Result<(), Memory>
-    ensures { OnOk result (out.new.items ≡ name_after out.old.items (name_of name.now)) }
+    ensures { OnOk result (out.new.items ≡ name_after (name_of name.now) out.old.items) }
 {
     write_text(out, name.text.as_slice())
 }
 
 /// Writes `@` and a name, or nothing.
 pub fn write_at_name(out: &mut Vec<u8>, name: &Option<Name>) -> Result<(), Memory>
-    ensures { OnOk result (out.new.items ≡ at_name_after out.old.items
-        (option_map name_of name.now)) }
+    ensures { OnOk result (out.new.items ≡ at_name_after (option_map name_of name.now)
+        out.old.items) }
 {
     match name {
         Some(name) => {
@@ -67,7 +67,7 @@ pub fn write_at_name(out: &mut Vec<u8>, name: &Option<Name>) -> Result<(), Memor
 }
 
 pub fn write_states(out: &mut Vec<u8>, states: &States) -> Result<(), Memory>
-    ensures { OnOk result (out.new.items ≡ states_after out.old.items (states_of states.now)) }
+    ensures { OnOk result (out.new.items ≡ states_after (states_of states.now) out.old.items) }
 {
     match states {
         States::One(name) => write_name(out, name),
@@ -77,8 +77,8 @@ pub fn write_states(out: &mut Vec<u8>, states: &States) -> Result<(), Memory>
 
 /// Writes `@` and states, or nothing.
 pub fn write_at_states(out: &mut Vec<u8>, states: &Option<States>) -> Result<(), Memory>
-    ensures { OnOk result (out.new.items ≡ at_states_after out.old.items
-        (option_map states_of states.now)) }
+    ensures { OnOk result (out.new.items ≡ at_states_after (option_map states_of states.now)
+        out.old.items) }
 {
     match states {
         Some(states) => {
@@ -90,14 +90,14 @@ pub fn write_at_states(out: &mut Vec<u8>, states: &Option<States>) -> Result<(),
 }
 
 pub fn write_named(out: &mut Vec<u8>, named: &Named) -> Result<(), Memory>
-    ensures { OnOk result (out.new.items ≡ named_after out.old.items (named_of named.now)) }
+    ensures { OnOk result (out.new.items ≡ named_after (named_of named.now) out.old.items) }
 {
     write_name(out, &named.name)?;
     write_enclosed(out, b"<", b">", named.keys.as_slice())
 }
 
 pub fn write_ty(out: &mut Vec<u8>, ty: &Ty) -> Result<(), Memory>
-    ensures { OnOk result (out.new.items ≡ ty_after out.old.items (ty_of ty.now)) }
+    ensures { OnOk result (out.new.items ≡ ty_after (ty_of ty.now) out.old.items) }
 {
     match ty {
         Ty::Int(_) => write_text(out, b"int"),

@@ -23,7 +23,7 @@ row_sign : (o : Op) → sign_text (sign_of o) ≡ (row_of o).sign
 row_sign op.Negate = refl
 row_sign _ = refl
 
--- what stands before one operand is no second character of a sign
+-- the sign before one operand is no second character of a sign
 prefix_may : (o : Op) → (row_of o).arity ≡ 1 → sign_may signed (sign_of o) ≡ true
 prefix_may op.Negate one = refl
 prefix_may op.Not one = refl
@@ -33,7 +33,7 @@ module _ {all : List Token} {before : List ℕ} {rest : List Token} (o : Op) whe
   operator_printed : (last : Last) → sign_may last (sign_of o) ≡ true → Begins all before (sign (sign_of o) ∷ rest) last → Begins all (before ++ (row_of o).sign) rest signed
   operator_printed last may b = subst (λ x. Begins all (before ++ x) rest signed) (row_sign o) (sign_begins (sign_of o) last may b)
 
-pub expr_printed : {all : List Token} (least : ℕ) (e : Expr) {before : List ℕ} {rest : List Token} → BindsFrom least e → Begins all before (expr_then e rest) signed → Begins all (expr_after before e) rest either
+pub expr_printed : {all : List Token} (least : ℕ) (e : Expr) {before : List ℕ} {rest : List Token} → BindsFrom least e → Begins all before (expr_then e rest) signed → Begins all (expr_after e before) rest either
 expr_printed least (s.number z at) is b = weaker wordy either refl (number_begins z b)
 expr_printed least (s.true at) is b = text_begins (word words.True ∷ []) refl b
 expr_printed least (s.false at) is b = text_begins (word words.False ∷ []) refl b
@@ -53,25 +53,25 @@ module _ {all : List Token} (b : Bounds) where
   each_init i before rest is h = expr_printed 0 i.value is.0 (text_begins (mark marks.Colon ∷ space ∷ []) refl (name_printed i.field h))
 
 module _ {all : List Token} {before : List ℕ} {rest : List Token} (b : Bounds) where
-  pub build_printed : (c : Build) → IsBuild b c → Begins all before (build_then c rest) signed → Begins all (build_after before c) rest either
+  pub build_printed : (c : Build) → IsBuild b c → Begins all before (build_then c rest) signed → Begins all (build_after c before) rest either
   build_printed c is h =
       enclosed_printed expr_then expr_after (IsExpr b) either (each_expr b)
       marks.OpenParen marks.CloseParen (codes "(") (codes ")") wordy refl (sign_stands wordy marks.OpenParen refl) (sign_stands either marks.CloseParen refl)
-      c.payload (name_after before c.case) rest is (case_name_printed c.case h)
+      c.payload (name_after c.case before) rest is (case_name_printed c.case h)
 
-  pub call_printed : (c : Call) → IsCall b c → Begins all before (call_then c rest) signed → Begins all (call_after before c) rest signed
+  pub call_printed : (c : Call) → IsCall b c → Begins all before (call_then c rest) signed → Begins all (call_after c before) rest signed
   call_printed c is h =
       let opened = text_begins (mark marks.OpenParen ∷ []) refl (name_printed c.function h) in
       text_begins (mark marks.CloseParen ∷ []) refl
-      (listed_printed expr_then expr_after (IsExpr b) either (each_expr b) refl marks.CloseParen c.arguments (name_after before c.function ++ codes "(") rest is opened)
+      (listed_printed expr_then expr_after (IsExpr b) either (each_expr b) refl marks.CloseParen c.arguments (name_after c.function before ++ codes "(") rest is opened)
 
-  -- behind the word `new`
-  owner_printed : (r : Option Name) → Begins all before (owner_then r rest) wordy → Begins all (owner_after before r) rest either
+  -- after the word `new`
+  owner_printed : (r : Option Name) → Begins all before (owner_then r rest) wordy → Begins all (owner_after r before) rest either
   owner_printed None h = weaker wordy either refl h
   owner_printed (Some r) h = text_begins (mark marks.CloseParen ∷ []) refl (name_printed r (text_begins (mark marks.OpenParen ∷ []) refl h))
 
 module _ {all : List Token} {before : List ℕ} {rest : List Token} (b : Bounds) where
-  pub right_printed : (v : Right) → IsRight b v → Begins all before (right_then v rest) signed → Begins all (right_after before v) rest either
+  pub right_printed : (v : Right) → IsRight b v → Begins all before (right_then v rest) signed → Begins all (right_after v before) rest either
   right_printed (s.value e) is h = expr_printed 0 e is.0 h
   right_printed (s.build c) is h = build_printed b c is h
   right_printed (s.call c) is h = weaker signed either refl (call_printed b c is h)
@@ -83,8 +83,8 @@ module _ {all : List Token} {before : List ℕ} {rest : List Token} (b : Bounds)
   right_printed (s.adopt x r at) is h =
       weaker wordy either refl (name_printed r (text_begins (space ∷ word words.Into ∷ space ∷ []) refl (name_printed x (text_begins (word words.Adopt ∷ space ∷ []) refl h))))
 
-  -- behind the word `return`
-  pub returned_printed : (v : Returned) → IsReturned b v → Begins all before (returned_then v rest) wordy → Begins all (returned_after before v) rest either
+  -- after the word `return`
+  pub returned_printed : (v : Returned) → IsReturned b v → Begins all before (returned_then v rest) wordy → Begins all (returned_after v before) rest either
   returned_printed s.nothing is h = weaker wordy either refl h
   returned_printed (s.value e) is h = expr_printed 0 e is.0 (text_begins (space ∷ []) refl h)
   returned_printed (s.build c) is h = build_printed b c is (text_begins (space ∷ []) refl h)

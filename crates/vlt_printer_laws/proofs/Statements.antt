@@ -30,7 +30,7 @@ indent_printed {all} (c ∷ indent) {before} {rest} is h =
 
 module _ {all : List Token} (b : Bounds) where
   mutual
-    pub stmt_printed : (room : ℕ) (x : Stmt) (indent : List ℕ) {before : List ℕ} {rest : List Token} → IsStmt b room x → AreBlanks indent → Begins all before (stmt_then x rest) signed → Begins all (stmt_after indent before x) rest signed
+    pub stmt_printed : (room : ℕ) (x : Stmt) (indent : List ℕ) {before : List ℕ} {rest : List Token} → IsStmt b room x → AreBlanks indent → Begins all before (stmt_then x rest) signed → Begins all (stmt_after indent x before) rest signed
     stmt_printed room (s.declare t x v at) indent is blanks h =
         let named = name_printed x (text_begins (space ∷ []) refl (ty_printed t h)) in
         text_begins (mark marks.Semicolon ∷ []) refl (right_printed b v is.1 (text_begins (space ∷ mark marks.Assign ∷ space ∷ []) refl named))
@@ -77,30 +77,30 @@ module _ {all : List Token} (b : Bounds) where
         let whole = name_printed z (text_begins (mark marks.CloseParen ∷ space ∷ []) refl keyed) in
         block_printed room body indent is blanks (text_begins (space ∷ []) refl whole)
 
-    pub block_printed : (room : ℕ) (x : Block) (indent : List ℕ) {before : List ℕ} {rest : List Token} → IsBlock b room x → AreBlanks indent → Begins all before (block_then x rest) signed → Begins all (block_after indent before x) rest signed
+    pub block_printed : (room : ℕ) (x : Block) (indent : List ℕ) {before : List ℕ} {rest : List Token} → IsBlock b room x → AreBlanks indent → Begins all before (block_then x rest) signed → Begins all (block_after indent x before) rest signed
     block_printed room (s.braced s.done at) indent is blanks h = text_begins (mark marks.OpenBrace ∷ mark marks.CloseBrace ∷ []) refl h
     block_printed room (s.braced (s.next x xs) at) indent is blanks h =
         let opened = text_begins (mark marks.OpenBrace ∷ line_end ∷ []) refl h in
         text_begins (mark marks.CloseBrace ∷ []) refl
         (indent_printed indent blanks (stmts_printed (room - 1) (s.next x xs) (deeper indent) is.1 (deeper_blanks indent blanks) opened))
 
-    stmts_printed : (room : ℕ) (xs : Stmts) (indent : List ℕ) {before : List ℕ} {rest : List Token} → AreStmts b room xs → AreBlanks indent → Begins all before (stmts_then xs rest) clear → Begins all (stmts_after indent before xs) rest clear
+    stmts_printed : (room : ℕ) (xs : Stmts) (indent : List ℕ) {before : List ℕ} {rest : List Token} → AreStmts b room xs → AreBlanks indent → Begins all before (stmts_then xs rest) clear → Begins all (stmts_after indent xs before) rest clear
     stmts_printed room s.done indent is blanks h = h
     stmts_printed room (s.next x xs) indent is blanks h =
         let done = stmt_printed room x indent is.0 blanks (weaker clear signed refl (indent_printed indent blanks h)) in
         stmts_printed room xs indent is.1 blanks (text_begins (line_end ∷ []) refl done)
 
-    if_printed : (room : ℕ) (x : If) (indent : List ℕ) {before : List ℕ} {rest : List Token} → IsIf b room x → AreBlanks indent → Begins all before (if_then x rest) signed → Begins all (if_after indent before x) rest signed
+    if_printed : (room : ℕ) (x : If) (indent : List ℕ) {before : List ℕ} {rest : List Token} → IsIf b room x → AreBlanks indent → Begins all before (if_then x rest) signed → Begins all (if_after indent x before) rest signed
     if_printed room (s.choice e body other at) indent is blanks h =
         let tested = expr_printed 0 e is.0.0 (text_begins (word words.If ∷ space ∷ mark marks.OpenParen ∷ []) refl h) in
         else_printed room other indent is.2 blanks (block_printed room body indent is.1 blanks (text_begins (mark marks.CloseParen ∷ space ∷ []) refl tested))
 
-    else_printed : (room : ℕ) (x : Else) (indent : List ℕ) {before : List ℕ} {rest : List Token} → IsElse b room x → AreBlanks indent → Begins all before (else_then x rest) signed → Begins all (else_after indent before x) rest signed
+    else_printed : (room : ℕ) (x : Else) (indent : List ℕ) {before : List ℕ} {rest : List Token} → IsElse b room x → AreBlanks indent → Begins all before (else_then x rest) signed → Begins all (else_after indent x before) rest signed
     else_printed room s.nothing indent is blanks h = h
     else_printed room (s.last body) indent is blanks h = block_printed room body indent is blanks (text_begins (space ∷ word words.Else ∷ space ∷ []) refl h)
     else_printed room (s.chained i) indent is blanks h = if_printed (room - 1) i indent is.1 blanks (text_begins (space ∷ word words.Else ∷ space ∷ []) refl h)
 
-    arms_printed : (room : ℕ) (xs : Arms) (indent : List ℕ) {before : List ℕ} {rest : List Token} → AreArms b room xs → AreBlanks indent → Begins all before (arms_then xs rest) clear → Begins all (arms_after indent before xs) rest clear
+    arms_printed : (room : ℕ) (xs : Arms) (indent : List ℕ) {before : List ℕ} {rest : List Token} → AreArms b room xs → AreBlanks indent → Begins all before (arms_then xs rest) clear → Begins all (arms_after indent xs before) rest clear
     arms_printed room s.no_arms indent is blanks h = h
     arms_printed room (s.arm c vs body at arms) indent is blanks h =
         let named = case_name_printed c (text_begins (word words.Case ∷ space ∷ []) refl (indent_printed indent blanks h)) in

@@ -3,7 +3,7 @@ use Rattle.c_printer.specs.Layout.{bodies_laid}
 use Rattle.c_syntax.specs.View.{func_of}
 use Rattle.c_printer.proofs.functions.write_bodies.Given as goal
 
--- what is left, behind what was written, is the whole
+-- what is left, after what was written, is the whole
 abbrev pub invariant-loop-func : goal.invariant-loop-func
 invariant-loop-func l =
     bodies_laid l.glue (map func_of (drop l.func-index l.fns)) l.out.items ≡ bodies_laid l.glue (map func_of l.fns) l.initial.out.items

@@ -4,8 +4,8 @@ use Rattle.vlt_printer.specs.Lists.{each_after}
 use Rattle.vlt_printer.specs.Layout.{decl_line_after}
 use Rattle.vlt_printer.proofs.decls.write_decls.Given as goal
 
--- what is left, behind what was written, is the whole
+-- what is left, after what was written, is the whole
 abbrev pub invariant-loop-decl : goal.invariant-loop-decl
 invariant-loop-decl l =
-    each_after decl_line_after l.out.items (map decl_of (drop l.decl-index l.decls))
-    ≡ each_after decl_line_after l.initial.out.items (map decl_of l.decls)
+    each_after decl_line_after (map decl_of (drop l.decl-index l.decls)) l.out.items
+    ≡ each_after decl_line_after (map decl_of l.decls) l.initial.out.items

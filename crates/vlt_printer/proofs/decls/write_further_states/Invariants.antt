@@ -3,8 +3,8 @@ use Rattle.vlt_syntax.specs.View.{set_state_of}
 use Rattle.vlt_printer.specs.Layout.{further_states_after}
 use Rattle.vlt_printer.proofs.decls.write_further_states.Given as goal
 
--- what is left, behind what was written, is the whole
+-- what is left, after what was written, is the whole
 abbrev pub invariant-loop-state : goal.invariant-loop-state
 invariant-loop-state l =
-    further_states_after l.out.items (map set_state_of (drop l.state-index l.states))
-    ≡ further_states_after l.initial.out.items (map set_state_of l.states)
+    further_states_after (map set_state_of (drop l.state-index l.states)) l.out.items
+    ≡ further_states_after (map set_state_of l.states) l.initial.out.items

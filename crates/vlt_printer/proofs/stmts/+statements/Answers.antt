@@ -15,7 +15,7 @@ write_block-returns t c =
     let before = c.args.out.now.items in
     let some : length (out-Block block).stmts ≡ 0 → ⊥ = first_of (search rules, grind (arith, common_steps)) in
     let whole = some_block indent before block some in
-    let lines : c.write_stmts.new.out.items ≡ stmts_after (deeper indent) (before ++ codes "{\n") (stmts_of (out-Block block).stmts) = first_of (search rules, grind (arith, common_steps)) in
+    let lines : c.write_stmts.new.out.items ≡ stmts_after (deeper indent) (stmts_of (out-Block block).stmts) (before ++ codes "{\n") = first_of (search rules, grind (arith, common_steps)) in
     first_of (search rules, grind (arith, common_steps))
 
 pub write_stmt-returns-in-Switch : goal.write_stmt-returns-in-Switch
@@ -33,5 +33,5 @@ write_switch-returns t c = λ at.
     let name = name_of c.args.variable.now in
     let some : length arms ≡ 0 → ⊥ = first_of (search rules, grind (arith, common_steps)) in
     let whole = some_arms indent before name arms at some in
-    let lines : c.write_arms.new.out.items ≡ arms_after (deeper indent) (name_after (before ++ codes "switch (") name ++ codes ") {\n") (arms_of arms) = first_of (search rules, grind (arith, common_steps)) in
+    let lines : c.write_arms.new.out.items ≡ arms_after (deeper indent) (arms_of arms) (name_after name (before ++ codes "switch (") ++ codes ") {\n") = first_of (search rules, grind (arith, common_steps)) in
     first_of (search rules, grind (arith, common_steps))
