@@ -1,4 +1,5 @@
--- What a program of the code that the check may be asked of may still be unfit for it by: no law excludes these.
+-- What a program of the code that the check may be asked of may still be unfit for it by. No program of a text is so, by a law on
+-- texts (`texts_are_judged`).
 use Rattle.std.specs.Prelude.{◌≡◌, ◌≤◌, ◌^◌, ℕ, false, Option, Some, slice_get}
 use Rattle.vlt_core.specs.Core.{Func, Program}
 use Rattle.vlt_core.specs.Instances.{instance, IsOrigin}
